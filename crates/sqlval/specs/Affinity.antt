@@ -1,5 +1,5 @@
 -- The affinity of a declared type and the conversion of each affinity (Datatypes in SQLite, 3 "Type Affinity").
-use Rattle.std.specs.Prelude.{Option, Some, None, take, codes, ◌≡◌, ◌⊎◌, ℕ, ℤ, pos, ◌+◌, ◌-◌, Bool, true, false, ◌&&◌, ◌||◌, List, [], ◌∷◌, length, ◌==◌, nat_lt, if◌then◌else◌, ⊤}
+use Rattle.std.specs.Prelude.{Option, Some, None, take, codes, ◌≡◌, ℕ, ℤ, ◌+◌, ◌-◌, Bool, true, false, ◌&&◌, ◌||◌, List, [], ◌∷◌, length, ◌==◌, nat_lt, if◌then◌else◌, ⊤}
 use Rattle.std.specs.Char.{is_ascii_digit}
 use Rattle.std.specs.Int.{w64}
 use Rattle.std.specs.Int.RustNames.{FitsSigned}
@@ -11,7 +11,7 @@ use Rattle.sqlval.specs.declared.affinity.Affinity.TheVariants as to
 use Rattle.sqlval.specs.declared.fault.Fault.{Fault}
 use Rattle.sqlval.specs.declared.fault.Fault.TheVariants.{Memory, RealRefused}
 use Rattle.sqlval.specs.declared.value.Value.{Value}
-use Rattle.sqlval.specs.declared.value.Value.TheVariants.{Null, Int, Text, Blob}
+use Rattle.sqlval.specs.declared.value.Value.TheVariants.{Int, Text}
 
 -- whether a text begins with a word, in letters of either case
 abbrev pub begins : List ℕ → List ℕ → Bool
