@@ -1,0 +1,3 @@
+pub mod SizeLemmas
+pub mod HeaderLemmas
+pub mod SpellingLemmas

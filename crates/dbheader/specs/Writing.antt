@@ -1,0 +1,11 @@
+-- The spelling of a header (Database File Format, 1.3 "The Database Header").
+use Rattle.std.specs.Prelude.{◌≡◌, ◌≤◌, ◌<◌, ℕ, List, length, take, slice_index}
+use Rattle.byteorder.specs.Endian.{big_number}
+
+-- each number is a byte
+abbrev pub IsBytes : List ℕ → Type 0
+IsBytes bytes = (i : ℕ) → slice_index bytes i < 256
+
+-- so many bytes that spell a number, big-endian, are these
+abbrev pub IsOnlySpelling : ℕ → ℕ → List ℕ → Type 0
+IsOnlySpelling size n spelling = (bytes : List ℕ) → size ≤ length bytes → IsBytes bytes → big_number size bytes ≡ n → take size bytes ≡ spelling

@@ -1,0 +1,6 @@
+pub mod VarintLemmas
+pub mod ColumnLemmas
+pub mod RecordLemmas
+pub mod WritingLemmas
+pub mod ShortestLemmas
+pub mod Vectors
