@@ -42,6 +42,7 @@ fn rows(rt: HostRuntime) -> Result<(), Fail> {
     let back = Record::over(rt.alloc(), &bytes)?;
     assert_eq!(rt; back.len(), 4);
     assert!(rt; matches!(back.column(3), Field::Int(300)));
+    one_row();
     Ok(())
 }
 

@@ -1,0 +1,10 @@
+pub mod Calls
+pub mod File
+pub mod Kept
+pub mod Left
+pub mod More
+pub mod Moments
+pub mod Current
+pub mod Invented
+pub mod Replay
+pub mod Memory

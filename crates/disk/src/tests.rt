@@ -1,0 +1,50 @@
+use super::*;
+use std::alloc::Global;
+use std::test::*;
+
+fn filled(alloc: Global, byte: u8, size: usize) -> Result<Vec<u8>, Fail> {
+    Ok(vec![in alloc; byte; size]?)
+}
+
+#[test]
+fn a_stop_leaves_each_sector_of_one_version(rt: HostRuntime) -> Result<(), Fail> {
+    let alloc = rt.alloc();
+    let mut disk = MemDisk::new(alloc, filled(alloc, 0, 512)?, None, None)?;
+    disk.write_at(0, &filled(alloc, 1, 1024)?)?;
+    let mut grown = filled(alloc, 0, 512)?;
+    grown.extend_from_slice(&filled(alloc, 1, 512)?)?;
+    assert_eq!(rt; disk.crash(alloc, &[1, 0, 1])?.as_slice(), grown.as_slice());
+    let mut first = filled(alloc, 1, 512)?;
+    first.extend_from_slice(&filled(alloc, 0, 512)?)?;
+    assert_eq!(rt; disk.crash(alloc, &[1, 1, 0])?.as_slice(), first.as_slice());
+    Ok(())
+}
+
+#[test]
+fn a_cut_lands_whole(rt: HostRuntime) -> Result<(), Fail> {
+    let alloc = rt.alloc();
+    let old = filled(alloc, 1, 1024)?;
+    let mut disk = MemDisk::new(alloc, old.clone()?, None, None)?;
+    disk.cut(0)?;
+    disk.write_at(0, &filled(alloc, 2, 512)?)?;
+    assert_eq!(rt; disk.crash(alloc, &[0, 2, 2])?.as_slice(), old.as_slice());
+    assert_eq!(rt; disk.content(), filled(alloc, 2, 512)?.as_slice());
+    Ok(())
+}
+
+#[test]
+fn calls_fail_as_told(rt: HostRuntime) -> Result<(), Fail> {
+    let alloc = rt.alloc();
+    let mut disk = MemDisk::new(alloc, filled(alloc, 7, 600)?, Some(2), None)?;
+    assert_eq!(rt; disk.len()?, 600);
+    assert_eq!(rt; disk.sync().is_err(), true);
+    disk.write_at(600, &[8])?;
+    disk.sync()?;
+    let len = disk.len()?;
+    assert_eq!(rt; len, 601);
+    let mut last = [0; 2];
+    disk.read_at(599, &mut last)?;
+    assert_eq!(rt; last, [7, 8]);
+    assert_eq!(rt; disk.crash(alloc, &[])?.len(), 601);
+    Ok(())
+}

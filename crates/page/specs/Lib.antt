@@ -1,0 +1,3 @@
+pub mod Leaf
+pub mod Reading
+pub mod Writing
