@@ -1,9 +1,9 @@
 -- Where the content is what a stop may leave.
-use Rattle.std.proofs.Common.{◌≡◌, ◌⊎◌, inl, inr, ⊎_elim, ◌<◌, ◌≤◌, ◌+◌, ℕ, zero, suc, Bool, true, false, List, [], ◌∷◌, ◌++◌, length, take, refl, sym, ◌∙◌, ap, subst, arith, length-append}
+use Rattle.std.proofs.Common.{◌≡◌, ◌⊎◌, inl, inr, ⊎_elim, ◌+◌, ℕ, List, [], ◌∷◌, length, refl, sym, ◌∙◌, ap, subst, arith, length-append}
 use Rattle.std.proofs.lemmas.List.{get_or_append_left, get_or_at}
 use Rattle.disk.specs.File.{Version, File, whole, versions, version_at, blank_version, IsLeft, IsSynced, IsCurrent, IsContentLeft}
-use Rattle.disk.specs.Calls.{overwritten, Gains, write_version, cut_version, Writes, FailsToWrite, Cuts, FailsToCut, Syncs}
-use Rattle.disk.specs.Moments.{alone, gains_versions, syncs_synced}
+use Rattle.disk.specs.Calls.{Gains, write_version, cut_version, Writes, FailsToWrite, Cuts, FailsToCut, Syncs}
+use Rattle.disk.specs.Moments.{gains_versions, syncs_synced}
 use Rattle.disk.specs.More.{version_left, torn_left}
 
 pub current_left : (file : File) → IsCurrent file → IsContentLeft file

@@ -1,7 +1,7 @@
 -- Why the files in the middle of a run must be real ones: without `grows`, invented files would make each run good.
-use Rattle.std.proofs.Common.{◌≡◌, ◌⊎◌, inl, inr, ⊎_elim, ◌<◌, ◌≤◌, ◌+◌, ℕ, zero, suc, List, [], ◌∷◌, ◌++◌, length, refl, sym, ◌∙◌, ap, subst, arith}
+use Rattle.std.proofs.Common.{◌≡◌, ◌⊎◌, inl, inr, ⊎_elim, ◌≤◌, ℕ, List, [], ◌∷◌, ◌++◌, length, refl, sym, ◌∙◌, ap, subst, arith}
 use Rattle.std.proofs.lemmas.List.{append-nil}
-use Rattle.disk.specs.File.{Version, File, whole, versions, version_at, moment, versions_in, Phase, OnDb, OnLog, Throughout, IsLeft, IsMoment}
+use Rattle.disk.specs.File.{Version, File, whole, versions, moment, versions_in, Phase, OnDb, OnLog, Throughout, IsLeft}
 use Rattle.disk.specs.Left.{left_synced}
 use Rattle.disk.specs.More.{version_left}
 use Rattle.disk.specs.Moments.{versions_now, throughout_meets_db}

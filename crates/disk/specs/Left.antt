@@ -1,8 +1,7 @@
 -- What follows from the definitions of what a stop may leave.
-use Rattle.std.proofs.Common.{◌≡◌, ◌⊎◌, inl, inr, ⊎_elim, ◌<◌, ◌≤◌, ◌+◌, ◌*◌, ◌/◌, ◌%◌, ℕ, zero, suc, Bool, true, false, List, [], ◌∷◌, ◌++◌, length, take, drop, get_or, refl, sym, ◌∙◌, ap, subst, arith, length-append, length-take}
-use Rattle.std.specs.Prelude.{slice_index, slice_index_or}
-use Rattle.std.proofs.lemmas.List.{ext_get_or, get_or_append_left, get_or-append_right, get_or_at, get_or-take, take_all, append-nil, append_assoc}
-use Rattle.disk.specs.File.{Version, File, version_at, IsLeft, IsSectorLeft, SameSector, NoCutBetween}
+use Rattle.std.proofs.Common.{◌≡◌, ◌⊎◌, inl, inr, ◌<◌, ◌≤◌, ◌/◌, ℕ, zero, suc, true, false, List, [], ◌∷◌, ◌++◌, length, take, get_or, refl, sym, ◌∙◌, ap, subst, arith, length-append, length-take}
+use Rattle.std.proofs.lemmas.List.{ext_get_or, get_or_append_left, get_or_at, get_or-take, take_all}
+use Rattle.disk.specs.File.{Version, version_at, IsLeft, SameSector, NoCutBetween}
 use Rattle.std.proofs.lemmas.Bool.{cases_lt}
 
 -- a list begins with another

@@ -1,10 +1,10 @@
 -- What follows from the definitions of the moments of a run.
-use Rattle.std.proofs.Common.{◌≡◌, ◌⊎◌, inl, inr, ⊎_elim, ◌<◌, ◌≤◌, ◌+◌, ◌^◌, ◌-◌, ℕ, zero, suc, Bool, true, false, List, [], ◌∷◌, ◌++◌, length, refl, sym, ◌∙◌, ap, subst, arith, length-append}
+use Rattle.std.proofs.Common.{◌≡◌, inl, inr, ⊎_elim, ◌<◌, ◌≤◌, ◌+◌, ℕ, List, [], ◌∷◌, ◌++◌, length, refl, sym, ◌∙◌, ap, subst, arith, length-append}
 use Rattle.std.specs.Prelude.{slice_index_or, Result, Ok, Err, OnErr}
 use Rattle.std.proofs.lemmas.List.{get_or_append_left, get_or_at, append-nil, append_assoc}
 use Rattle.std.proofs.lemmas.Bool.{cases_lt}
-use Rattle.disk.specs.File.{Version, File, whole, versions, version_at, times, moment, versions_in, Elapses, Always, Phase, OnDb, OnLog, IsRun, Throughout, IsMoment, IsSynced, IsLeft, WasLeft}
-use Rattle.disk.specs.Calls.{Gains, Writes, FailsToWrite, Cuts, FailsToCut, Syncs, CountsFailure, Rose}
+use Rattle.disk.specs.File.{Version, File, whole, versions, moment, versions_in, Elapses, Always, Phase, OnDb, OnLog, IsRun, Throughout, IsMoment, IsSynced, IsLeft, WasLeft}
+use Rattle.disk.specs.Calls.{Gains, Syncs, CountsFailure, Rose}
 use Rattle.disk.specs.Left.{left_grows}
 
 -- the present versions

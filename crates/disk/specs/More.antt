@@ -1,8 +1,8 @@
 -- More on what a stop may leave.
-use Rattle.std.proofs.Common.{◌≡◌, ◌⊎◌, inl, inr, ⊎_elim, ◌<◌, ◌≤◌, ◌+◌, ◌*◌, ◌/◌, ℕ, zero, suc, Bool, true, false, List, [], ◌∷◌, ◌++◌, length, take, get_or, refl, sym, ◌∙◌, ap, subst, arith, length-append}
+use Rattle.std.proofs.Common.{◌≡◌, ◌⊎◌, inl, inr, ⊎_elim, ◌<◌, ◌≤◌, ◌+◌, ◌/◌, ℕ, zero, suc, true, false, List, [], ◌∷◌, ◌++◌, length, get_or, refl, sym, ◌∙◌, ap, subst, arith, length-append}
 use Rattle.std.proofs.lemmas.List.{ext_get_or, get_or_append_left, get_or_at}
-use Rattle.disk.specs.File.{Version, File, version_at, blank_version, IsLeft, IsSectorLeft, SameSector, NoCutBetween}
-use Rattle.disk.specs.Calls.{overwritten, IsTorn, FailsToWrite, write_version}
+use Rattle.disk.specs.File.{Version, version_at, blank_version, IsLeft, SameSector, NoCutBetween}
+use Rattle.disk.specs.Calls.{IsTorn}
 
 -- each version may be left whole
 pub version_left : (vs : List Version) (i : ℕ) → i < length vs → IsLeft vs (version_at vs i).bytes

@@ -1,4 +1,4 @@
-use Rattle.std.proofs.Common.{◌≡◌, ◌⊎◌, inl, inr, ⊎_elim, ◌∙◌, ap}
+use Rattle.std.proofs.Common.{inl, inr, ⊎_elim, ◌∙◌, ap}
 use Rattle.disk.specs.Calls.{overwritten}
 use Rattle.disk.proofs.changed.overwrite.Goals as goal
 

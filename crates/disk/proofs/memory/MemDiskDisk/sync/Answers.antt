@@ -1,9 +1,9 @@
-use Rattle.std.proofs.Common.{◌≡◌, ◌⊎◌, refl, sym, ap, subst, ◌∙◌}
+use Rattle.std.proofs.Common.{refl, sym, ap, subst}
 use Rattle.disk.specs.File.{File, Elapses}
 use Rattle.disk.specs.Calls.{Syncs}
 use Rattle.disk.specs.Replay.{file_of}
 use Rattle.disk.specs.declared.memory.MemDisk.{MemDisk}
-use Rattle.disk.proofs.Growing.{does_sync, on_ok, on_err}
+use Rattle.disk.proofs.Growing.{does_sync, on_ok}
 use Rattle.disk.proofs.memory.MemDiskDisk.sync.Goals as goal
 
 pub invariant_of-self : goal.invariant_of-self

@@ -1,4 +1,4 @@
-use Rattle.std.proofs.Common.{◌≡◌, ◌⊎◌, refl, sym, ap, subst, ◌∙◌}
+use Rattle.std.proofs.Common.{◌≡◌, ◌⊎◌, sym, ap, subst}
 use Rattle.disk.specs.File.{File, Elapses}
 use Rattle.disk.specs.Calls.{Writes, FailsToWrite}
 use Rattle.disk.specs.Replay.{file_of}

@@ -1,0 +1,43 @@
+-- What creating a database leaves, and why it is refused.
+use Rattle.std.specs.Prelude.{◌≡◌, ℕ, Bool, false, IsTrue, List, [], length, nat_lt, ◌==◌, if◌then◌else◌}
+use Rattle.std.specs.List.{list_all}
+use Rattle.disk.specs.File.{File, IsSynced}
+use Rattle.dbheader.specs.Header.{IsHeader, IsPageSize, empty_of}
+use Rattle.page.specs.Writing.{leaf_of}
+use Rattle.sqlval.specs.declared.fault.Fault.{Fault}
+use Rattle.sqlval.specs.declared.fault.Fault.TheVariants.{Memory, Io, Unsupported, Misuse}
+use Rattle.sqlval.specs.declared.fault.Feature.TheVariants.{PageSize}
+use Rattle.sqlval.specs.declared.fault.Misuse.TheVariants.{NotBlank}
+
+-- a disk that tells its content still does, and the file is as it was
+pub record Stays {D : Type 0} (tells : D → Bool) (file : D → File) (old new : D) : Type 0 where
+  pub told : tells new ≡ tells old
+  pub same : IsTrue (tells old) → file new ≡ file old
+
+-- The bytes are page 1 of the empty database: a header that says so, and behind it a table leaf without cells (Database
+-- File Format, 1.3 "The Database Header", 1.6 "B-tree Pages").
+pub record IsEmptyDatabase (page_size : ℕ) (bytes : List ℕ) : Type 0 where
+  pub header : List ℕ
+  pub says : IsHeader header (empty_of page_size)
+  pub page : bytes ≡ leaf_of header page_size []
+
+-- the file's content is these bytes, and a stop leaves them and nothing else
+pub record IsSyncedAs (bytes : List ℕ) (file : File) : Type 0 where
+  pub content : file.content ≡ bytes
+  pub synced : IsSynced file
+
+abbrev pub is_zero_byte : ℕ → Bool
+is_zero_byte byte = byte == 0
+
+-- a blank file: at most 65,536 bytes, all of them zero
+abbrev pub is_blank_content : List ℕ → Bool
+is_blank_content bytes = if nat_lt 65536 (length bytes) then false else list_all is_zero_byte bytes
+
+-- Why no database of this page size is made: memory, a disk's failure, a page size that isn't served, or a file that is
+-- not blank.
+abbrev pub IsCreateRefusal : ℕ → Type 0 → Fault → Type 0
+IsCreateRefusal page_size IsNotBlank Memory = Unit {0}
+IsCreateRefusal page_size IsNotBlank Io = Unit {0}
+IsCreateRefusal page_size IsNotBlank (Unsupported PageSize) = IsPageSize page_size → ⊥
+IsCreateRefusal page_size IsNotBlank (Misuse NotBlank) = IsNotBlank
+IsCreateRefusal page_size IsNotBlank fault = ⊥

@@ -1,0 +1,276 @@
+//! The objects of the schema: the tables, as page 1 lists them.
+
+use crate::tabletree::{Leaf, next_rowid, with_rows};
+use page::Cell;
+use parser::{
+    ColumnDefinition, Create, DeclaredType, NewObject, Statement, TableDefinition, parse,
+};
+use record::{Record, encode, is_storable};
+use sqlval::{Affinity, Damage, Fault, Feature, Field, Misuse, Name, R, Text, Value, affinity_of};
+use std::alloc::Global;
+
+/// A column of a table.
+#[derive(Drop)]
+pub struct Column {
+    pub name: Name,
+    pub affinity: Affinity,
+}
+
+/// A table, and the page that its tree begins at.
+#[derive(Drop)]
+pub struct Table {
+    pub name: Name,
+    pub columns: Vec<Column>,
+    pub root: u32,
+}
+
+impl Table {
+    /// The place of a column.
+    pub fn place_of(&self, name: &str) -> Option<usize> {
+        self.columns
+            .as_slice()
+            .iter()
+            .position(|column| column.name.is_same(name))
+    }
+}
+
+/// The tables of a database: those that are committed, and behind them those that a transaction has made.
+#[derive(Drop)]
+pub struct Catalog {
+    tables: Vec<Table>,
+    committed: usize,
+}
+
+impl Catalog {
+    fn empty(alloc: Global) -> Catalog {
+        Catalog {
+            tables: Vec::new(alloc),
+            committed: 0,
+        }
+    }
+
+    /// The table of a name.
+    pub fn table(&self, name: &str) -> Option<&Table> {
+        self.tables
+            .as_slice()
+            .iter()
+            .find(|table| table.name.is_same(name))
+    }
+
+    /// Makes room for one more table.
+    pub fn reserve(&mut self) -> R<()> {
+        self.tables.reserve(1)?;
+        Ok(())
+    }
+
+    /// Adds a table that isn't committed yet.
+    pub fn add(&mut self, table: Table) -> R<()> {
+        self.tables.push(table)?;
+        Ok(())
+    }
+
+    /// The tables so far are committed.
+    pub fn keep(&mut self) {
+        self.committed = self.tables.len();
+    }
+
+    /// Drops the tables that aren't committed.
+    pub fn forget(&mut self) {
+        self.tables.truncate(self.committed);
+    }
+}
+
+/// The words of a type, joined by spaces.
+fn joined(alloc: Global, declared: &DeclaredType) -> R<String> {
+    let mut text = String::new(alloc);
+    for word in declared.words.as_slice() {
+        if !text.is_empty() {
+            text.push(' ')?;
+        }
+        text.push_str(word.as_str())?;
+    }
+    Ok(text)
+}
+
+fn column_of(alloc: Global, definition: &ColumnDefinition) -> R<Column> {
+    let declared = joined(alloc, &definition.declared)?;
+    let Some(affinity) = affinity_of(declared.as_str()) else {
+        return Err(Fault::Unsupported(Feature::RealColumn));
+    };
+    Ok(Column {
+        name: definition.name.copy(alloc)?,
+        affinity,
+    })
+}
+
+/// The columns that a definition gives a table.
+pub fn columns_of(alloc: Global, definition: &TableDefinition) -> R<Vec<Column>> {
+    let mut columns: Vec<Column> = Vec::new(alloc);
+    for definition in definition.columns.as_slice() {
+        let name = definition.name.as_str();
+        if columns
+            .as_slice()
+            .iter()
+            .any(|column| column.name.is_same(name))
+        {
+            return Err(Fault::Misuse(Misuse::DoubledColumn));
+        }
+        columns.push(column_of(alloc, definition)?)?;
+    }
+    Ok(columns)
+}
+
+/// Whether an object may not be named so.
+pub fn is_reserved(name: &str) -> bool {
+    let name = name.as_bytes();
+    name.len() >= 7 && name[..7].eq_ignore_ascii_case(b"sqlite_")
+}
+
+/// A row of the schema table.
+#[derive(Clone, Copy)]
+struct SchemaRow<'a> {
+    name: &'a str,
+    table_name: &'a str,
+    root: u32,
+    sql: &'a str,
+}
+
+/// A row of the schema table breaks the format.
+fn damaged() -> Fault {
+    Fault::Damaged(Damage::Schema, 1)
+}
+
+/// The schema's texts are outside the profile, but for the want of memory.
+fn outside(fault: Fault) -> Fault {
+    match fault {
+        Fault::Memory => Fault::Memory,
+        _ => Fault::Unsupported(Feature::SchemaObject),
+    }
+}
+
+fn row_of<'a>(row: &Record<'a>, size: u32) -> R<SchemaRow<'a>> {
+    if row.len() != 5 {
+        return Err(Fault::Unsupported(Feature::ColumnCount));
+    }
+    match row.column(0) {
+        Field::Text("table") => {}
+        Field::Text("index") | Field::Text("view") | Field::Text("trigger") => {
+            return Err(Fault::Unsupported(Feature::NotBuilt));
+        }
+        _ => return Err(damaged()),
+    }
+    let (Field::Text(name), Field::Text(table_name)) = (row.column(1), row.column(2)) else {
+        return Err(damaged());
+    };
+    let (Field::Int(root), Field::Text(sql)) = (row.column(3), row.column(4)) else {
+        return Err(damaged());
+    };
+    match u32::try_from(root) {
+        Ok(root) if root > 1 && root <= size => Ok(SchemaRow {
+            name,
+            table_name,
+            root,
+            sql,
+        }),
+        _ => Err(damaged()),
+    }
+}
+
+fn definition_of(alloc: Global, sql: &str) -> R<TableDefinition> {
+    let Statement::Create(create) = parse(alloc, sql).map_err(outside)? else {
+        return Err(Fault::Unsupported(Feature::SchemaObject));
+    };
+    let Create { sql: _, object } = create;
+    match object {
+        NewObject::Table(definition) => Ok(definition),
+        _ => Err(Fault::Unsupported(Feature::NotBuilt)),
+    }
+}
+
+fn table_of(alloc: Global, row: &SchemaRow<'_>) -> R<Table> {
+    let definition = definition_of(alloc, row.sql)?;
+    if !crate::built::is_table_built(&definition) {
+        return Err(Fault::Unsupported(Feature::NotBuilt));
+    }
+    if !definition.name.is_same(row.name) || !definition.name.is_same(row.table_name) {
+        return Err(damaged());
+    }
+    if is_reserved(row.name) {
+        return Err(outside(damaged()));
+    }
+    let columns = columns_of(alloc, &definition).map_err(outside)?;
+    Ok(Table {
+        name: Name::from_str(alloc, row.name)?,
+        columns,
+        root: row.root,
+    })
+}
+
+/// The tables that page 1 of a database of this many pages lists.
+pub fn load(alloc: Global, page: &[u8], size: u32) -> R<Catalog> {
+    let mut catalog = Catalog::empty(alloc);
+    let leaf = Leaf::over(alloc, page, 1)?;
+    for index in 0..leaf.len() {
+        let record = Record::over(alloc, leaf.cell(index).payload)?;
+        let table = table_of(alloc, &row_of(&record, size)?)?;
+        if catalog.table(table.name.as_str()).is_some() {
+            return Err(Fault::Unsupported(Feature::SchemaObject));
+        }
+        catalog.add(table)?;
+    }
+    catalog.keep();
+    Ok(catalog)
+}
+
+/// The record of a table's row in the schema table.
+fn schema_record(alloc: Global, name: &Name, root: u32, sql: &Text) -> R<Vec<u8>> {
+    let mut values = Vec::new(alloc);
+    values.push(Value::Text(Text::from_str(alloc, "table")?))?;
+    values.push(Value::Text(Text::from_str(alloc, name.as_str())?))?;
+    values.push(Value::Text(Text::from_str(alloc, name.as_str())?))?;
+    values.push(Value::Int(i64::from(root)))?;
+    values.push(Value::Text(sql.copy(alloc)?))?;
+    if !is_storable(&values) {
+        return Err(Fault::TooLong);
+    }
+    encode(alloc, &values)
+}
+
+/// A table that is to be made, and page 1 with its row.
+#[derive(Drop)]
+pub struct NewTable {
+    pub table: Table,
+    pub schema: Vec<u8>,
+}
+
+/// Makes a table whose tree is to begin at page `root`, beside those of the catalog, which `page`, page 1, lists.
+pub fn new_table(
+    alloc: Global,
+    catalog: &Catalog,
+    page: &[u8],
+    root: u32,
+    sql: &Text,
+    definition: &TableDefinition,
+) -> R<NewTable> {
+    let name = &definition.name;
+    if is_reserved(name.as_str()) {
+        return Err(Fault::Misuse(Misuse::ReservedName));
+    }
+    if catalog.table(name.as_str()).is_some() {
+        return Err(Fault::Exists(name.copy(alloc)?));
+    }
+    let columns = columns_of(alloc, definition)?;
+    let record = schema_record(alloc, name, root, sql)?;
+    let last = Leaf::over(alloc, page, 1)?.last();
+    let cell = Cell {
+        rowid: next_rowid(last)?,
+        payload: &record,
+    };
+    let schema = with_rows(alloc, page, 1, &[cell])?;
+    let table = Table {
+        name: name.copy(alloc)?,
+        columns,
+        root,
+    };
+    Ok(NewTable { table, schema })
+}

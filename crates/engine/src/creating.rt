@@ -1,0 +1,106 @@
+//! Blank files, and the empty database.
+
+ghost use Rattle.std.specs.Prelude.{◌≡◌, ◌≢◌, ℕ, List, [], true, false, IsTrue, IfOk, IfErr, OnOk, length};
+ghost use Rattle.std.specs.List.{list_all};
+ghost use Rattle.dbheader.specs.Header.{IsPageSize};
+ghost use Rattle.sqlval.specs.declared.fault.Fault.TheVariants.{Io, Memory};
+ghost use Rattle.engine.specs.Creating.{is_blank_content, is_zero_byte, IsCreateRefusal, IsEmptyDatabase, IsSyncedAs, Stays};
+
+use dbheader::{Header, is_page_size};
+use disk::Disk;
+use page::build;
+use sqlval::{Fault, Feature, Misuse, R};
+use std::alloc::Global;
+
+/// The most bytes of a blank file.
+const MAX_BLANK: u64 = 65_536;
+
+/// How many bytes are looked at together.
+const PIECE: usize = 4096;
+
+/// Whether these bytes are zero.
+fn are_zero(bytes: &[u8]) -> bool
+    ensures { result ≡ list_all is_zero_byte bytes.now }
+{
+    bytes.iter().all(|byte| *byte == 0)
+}
+
+/// Whether all bytes of a file of this length are zero.
+fn is_zero<D: Disk>(db: &mut D, len: u64) -> R<bool>
+    requires { IsTrue (D.tells db.old) → len ≡ length (D.file db.old).content }
+    ensures zero { IsTrue (D.tells db.old) → IfOk result (λ zero. zero ≡ list_all is_zero_byte (D.file db.old).content) }
+    ensures kept { Stays D.tells D.file db.old db.new }
+    ensures refused { IfErr result (λ fault. fault ≡ Io) }
+{
+    let mut piece = [0u8; PIECE];
+    let mut at = 0;
+    'pieces: while at < len {
+        let count = (len - at).min(PIECE as u64);
+        let part = &mut piece[..count as usize];
+        db.read_at(at, part)?;
+        if !are_zero(part) {
+            return Ok(false);
+        }
+        at += count;
+    }
+    Ok(true)
+}
+
+/// Whether a database file is blank: at most 65,536 bytes, all of them zero.
+pub fn is_blank<D: Disk>(db: &mut D) -> R<bool>
+    ensures blank { IsTrue (D.tells db.old) → IfOk result (λ blank. blank ≡ is_blank_content (D.file db.old).content) }
+    ensures kept { Stays D.tells D.file db.old db.new }
+    ensures refused { IfErr result (λ fault. fault ≡ Io) }
+{
+    let len = db.len()?;
+    if len > MAX_BLANK {
+        return Ok(false);
+    }
+    is_zero(db, len)
+}
+
+/// Page 1 of the empty database.
+fn empty_page(alloc: Global, page_size: u32) -> R<Vec<u8>>
+    requires { IsPageSize page_size }
+    ensures made { IfOk result (λ page. IsEmptyDatabase page_size page.items) }
+    ensures refused { IfErr result (λ fault. fault ≡ Memory) }
+{
+    let header = dbheader::write(&Header::empty(page_size));
+    build(alloc, &header, page_size as usize, &[])
+}
+
+/// Writes page 1 of the empty database in the place of what the two files have.
+fn put_empty<D: Disk>(db: &mut D, log: &mut D, page: &[u8]) -> R<()>
+    ensures made { IsTrue (D.tells db.old) → OnOk result (IsSyncedAs page.now (D.file db.new)) }
+    ensures emptied { IsTrue (D.tells log.old) → OnOk result (IsSyncedAs [] (D.file log.new)) }
+    ensures refused { IfErr result (λ fault. fault ≡ Io) }
+{
+    log.cut(0)?;
+    log.sync()?;
+    db.cut(0)?;
+    db.write_at(0, page)?;
+    db.sync()
+}
+
+/// Makes the empty database of a blank file: the log is cut to nothing, then page 1 is written. Refusals: `Misuse` where
+/// the file isn't blank, `Unsupported` where the page size is no power of two from 512 to 32768, `Memory`; then nothing
+/// has changed. `Io`: the database file is blank or the empty database, where it was blank before.
+pub fn create<D: Disk>(alloc: Global, db: &mut D, log: &mut D, page_size: u32) -> R<()>
+    ensures made { IsTrue (D.tells db.old) → OnOk result ((page : List ℕ) × IsEmptyDatabase page_size page × IsSyncedAs page (D.file db.new)) }
+    ensures emptied { IsTrue (D.tells log.old) → OnOk result (IsSyncedAs [] (D.file log.new)) }
+    // Nothing but a blank file is written over, and a blank one isn't refused for what it holds.
+    ensures blank { IsTrue (D.tells db.old) → OnOk result (is_blank_content (D.file db.old).content ≡ true) }
+    ensures refused { IfErr result (λ fault. IsCreateRefusal page_size (IsTrue (D.tells db.old) → is_blank_content (D.file db.old).content ≡ false) fault) }
+    // A refusal but for a disk's failure changes nothing.
+    ensures db_kept { IfErr result (λ fault. fault ≢ Io → Stays D.tells D.file db.old db.new) }
+    ensures log_kept { IfErr result (λ fault. fault ≢ Io → Stays D.tells D.file log.old log.new) }
+{
+    if !is_page_size(page_size) {
+        return Err(Fault::Unsupported(Feature::PageSize));
+    }
+    if !is_blank(db)? {
+        return Err(Fault::Misuse(Misuse::NotBlank));
+    }
+    let page = empty_page(alloc, page_size)?;
+    put_empty(db, log, &page)
+}

@@ -1,0 +1,28 @@
+//! The engine: files opened and created, statements executed, and lines of text served.
+#![tactic(auto)]
+
+mod bind;
+mod built;
+mod catalog;
+mod creating;
+mod dml;
+mod lines;
+mod literals;
+mod opening;
+mod output;
+mod pager;
+mod plan;
+mod refusals;
+mod rowprog;
+mod serving;
+mod session;
+mod tabletree;
+
+pub use creating::create;
+pub use opening::Engine;
+pub use output::{Rows, put_reply};
+pub use wal::Refused;
+pub use walframe::Salts;
+
+#[cfg(test)]
+mod tests;

@@ -1,0 +1,109 @@
+//! Opening a database file with its log.
+
+use crate::catalog::{Catalog, load};
+use crate::creating::is_blank;
+use crate::output::Rows;
+use crate::pager::{HEADER_LEN, header_of, read_page};
+use crate::session::Connections;
+use dbheader::Header;
+use disk::Disk;
+use parser::parse;
+use sqlval::{Damage, Fault, R};
+use std::alloc::Global;
+use wal::{Log, Refused};
+use walframe::Salts;
+
+/// An open database.
+#[derive(Drop)]
+pub struct Engine<D: Disk + Drop> {
+    alloc: Global,
+    connections: Connections<D>,
+}
+
+/// The header of a database file.
+fn file_header<D: Disk>(db: &mut D) -> R<Header> {
+    if is_blank(db)? {
+        return Err(Fault::Blank);
+    }
+    if db.len()? < HEADER_LEN as u64 {
+        return Err(Fault::NotADatabase);
+    }
+    let mut front = [0u8; HEADER_LEN];
+    db.read_at(0, &mut front)?;
+    dbheader::read(&front)
+}
+
+/// The schema of the newest view, whose page 1 has to say the view's size and page size.
+fn newest_schema<D: Disk + Drop>(alloc: Global, log: &mut Log<D>) -> R<Catalog> {
+    let snapshot = log.begin();
+    let page = read_page(alloc, log, snapshot, 1)?;
+    let header = header_of(&page)?;
+    if header.page_size != log.page_size() {
+        return Err(Fault::Damaged(Damage::Header, 1));
+    }
+    match header.counted_size() {
+        Some(size) if size != log.size(snapshot) => Err(Fault::Damaged(Damage::Size, 1)),
+        _ => load(alloc, &page, log.size(snapshot)),
+    }
+}
+
+impl<D: Disk + Drop> Engine<D> {
+    /// Opens a database. A log that has no valid header gets one with these salts at the first commit. Refusals give the
+    /// files back: `Blank`, `NotADatabase`, `Unsupported`, `Damaged`, `Io`, `Memory`.
+    pub fn open(alloc: Global, db: D, log: D, salts: Salts) -> Result<Engine<D>, Refused<D>> {
+        let mut db = db;
+        let header = match file_header(&mut db) {
+            Ok(header) => header,
+            Err(fault) => return Err(Refused { fault, db, log }),
+        };
+        let mut log = Log::open(
+            alloc,
+            db,
+            log,
+            header.page_size,
+            header.counted_size(),
+            salts,
+        )?;
+        match newest_schema(alloc, &mut log) {
+            Ok(catalog) => Ok(Engine {
+                alloc,
+                connections: Connections::new(alloc, log, catalog),
+            }),
+            Err(fault) => {
+                let (db, log) = log.into_disks();
+                Err(Refused { fault, db, log })
+            }
+        }
+    }
+
+    /// Gives the files back. Open transactions are given up.
+    pub fn into_disks(self) -> (D, D) {
+        let Engine {
+            alloc: _,
+            connections,
+        } = self;
+        connections.into_disks()
+    }
+
+    /// Executes a statement on a connection, 1 to 16. A refused one changes nothing, but for `Io` in a commit, after which
+    /// every statement answers `Failed`.
+    pub fn execute(&mut self, connection: u32, text: &str) -> R<Rows> {
+        self.connections.check(connection)?;
+        let statement = parse(self.alloc, text)?;
+        self.connections.execute(connection, &statement)
+    }
+
+    /// Whether a commit has failed, so that the files are to be opened anew.
+    pub(crate) fn has_failed(&self) -> bool {
+        self.connections.has_failed()
+    }
+
+    /// Gives up the transactions that are open.
+    pub(crate) fn give_up(&mut self) {
+        self.connections.give_up();
+    }
+
+    pub(crate) fn allocator(&self) -> Global {
+        self.alloc
+    }
+}

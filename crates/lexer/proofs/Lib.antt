@@ -1,0 +1,10 @@
+pub mod Cuts
+pub mod Gaps
+pub mod Lengths
+pub mod Parted
+pub mod Sound
+pub mod Spelled
+pub mod Standing
+pub mod Stands
+pub mod Turns
+pub mod Whole

@@ -1,0 +1,16 @@
+//! Tokens of SQL, with where they stand.
+#![tactic(auto)]
+
+mod class;
+mod cutting;
+mod gap;
+mod keyword;
+mod spelling;
+mod token;
+
+pub use cutting::tokens;
+pub use keyword::Keyword;
+pub use token::{Kind, Token};
+
+#[cfg(test)]
+mod tests;

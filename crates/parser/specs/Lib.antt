@@ -1,0 +1,5 @@
+pub mod Code
+pub mod Falls
+pub mod Refusals
+pub mod Tree
+pub mod View

@@ -1,0 +1,20 @@
+-- Why a text is refused.
+use Rattle.std.specs.Prelude.{ℕ, ◌≤◌, Result, Ok, Err}
+use Rattle.sqlval.specs.Gives.{Gives}
+use Rattle.sqlval.specs.declared.fault.Fault.{Fault}
+use Rattle.sqlval.specs.declared.fault.Fault.TheVariants.{Memory, Unsupported, Syntax, RealRefused, TooLong}
+use Rattle.sqlval.specs.declared.fault.Feature.TheVariants.{Statement}
+
+-- why a text of this length is refused
+abbrev pub IsParsingFault : ℕ → Fault → Type 0
+IsParsingFault total Memory = Unit {0}
+IsParsingFault total (Unsupported Statement) = Unit {0}
+IsParsingFault total (Syntax at) = at ≤ total
+IsParsingFault total RealRefused = Unit {0}
+IsParsingFault total TooLong = Unit {0}
+IsParsingFault total _ = ⊥
+
+-- where the tokens of a text are refused, its statement is refused for the same, unless memory runs out
+abbrev pub RefusesAs : {X Y : Type 0} → Result X Fault → Result Y Fault → Type 0
+RefusesAs (Ok found) result = Unit {0}
+RefusesAs (Err fault) result = Gives (λ s. s) result (Err fault)

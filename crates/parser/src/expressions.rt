@@ -1,0 +1,513 @@
+//! Expressions, a function for each kind of rule.
+
+ghost use Rattle.std.specs.Prelude.{◌<◌, ◌≤◌};
+
+use crate::expr::{Expr, Node, Operator, RaiseAction};
+use crate::literals::{blob_of, name_of, text_of};
+use crate::names::name;
+use crate::patterns::{mark, word};
+use crate::refusal::{Read, Refusal, unexpected};
+use crate::token::{Spelled, Tok, Tokens, spelling};
+use crate::words::{after_word, mark, word};
+use lexer::{Keyword, Kind};
+use sqlval::{Many, Name};
+use std::alloc::Global;
+
+/// The greatest depth of an expression.
+const DEEPEST: usize = 100;
+
+/// The loosest level. The levels, from the tightest: 0 atom, 1 unary, 2 coll, 3 cat, 4 prod, 5 sum, 6 rel, 7 eq, 8 not,
+/// 9 and, 10 or.
+const OR: u8 = 10;
+
+/// An expression with its depth.
+#[derive(Drop)]
+struct Deep {
+    tree: Expr,
+    depth: usize,
+}
+
+/// Expressions with the greatest of their depths.
+#[derive(Drop)]
+struct Deeps {
+    trees: Vec<Expr>,
+    depth: usize,
+}
+
+/// An expression.
+pub fn expression<'a>(alloc: Global, spelled: Spelled<'_>, tokens: Tokens<'a>) -> Read<'a, Expr> {
+    let (found, rest) = level(alloc, spelled, DEEPEST, OR, tokens)?;
+    Ok((found.tree, rest))
+}
+
+/// One or more expressions with commas between.
+pub fn expressions<'a>(
+    alloc: Global,
+    spelled: Spelled<'_>,
+    tokens: Tokens<'a>,
+) -> Read<'a, Many<Expr>> {
+    let (found, rest) = items_from(alloc, spelled, DEEPEST + 1, tokens)?;
+    Ok((Many::from_vec(found.trees), rest))
+}
+
+/// Expressions in parentheses.
+pub fn row<'a>(alloc: Global, spelled: Spelled<'_>, tokens: Tokens<'a>) -> Read<'a, Many<Expr>> {
+    let rest = mark(Kind::LeftParen, tokens)?;
+    let (found, rest) = items(alloc, spelled, DEEPEST + 1, rest)?;
+    Ok((Many::from_vec(found.trees), rest))
+}
+
+/// An expression in parentheses that are none of its own.
+pub fn enclosed<'a>(alloc: Global, spelled: Spelled<'_>, tokens: Tokens<'a>) -> Read<'a, Expr> {
+    let rest = mark(Kind::LeftParen, tokens)?;
+    let (found, rest) = expression(alloc, spelled, rest)?;
+    Ok((found, mark(Kind::RightParen, rest)?))
+}
+
+/// An expression behind a word, where the word comes next.
+pub fn maybe_behind<'a>(
+    alloc: Global,
+    spelled: Spelled<'_>,
+    keyword: Keyword,
+    tokens: Tokens<'a>,
+) -> Read<'a, Option<Expr>> {
+    match after_word(keyword, tokens) {
+        Some(rest) => {
+            let (found, rest) = expression(alloc, spelled, rest)?;
+            Ok((Some(found), rest))
+        }
+        None => Ok((None, tokens)),
+    }
+}
+
+fn leaf(node: Node) -> Deep {
+    Deep {
+        tree: Expr { node },
+        depth: 1,
+    }
+}
+
+/// A tree over others, of which the deepest has this depth.
+fn over<'a>(room: usize, node: Node, depth: usize, rest: Tokens<'a>) -> Read<'a, Deep> {
+    if depth < room {
+        let tree = Expr { node };
+        Ok((
+            Deep {
+                tree,
+                depth: depth + 1,
+            },
+            rest,
+        ))
+    } else {
+        Err(Refusal::TooLong)
+    }
+}
+
+/// The level whose chain a token goes on, and 0 where it goes on none.
+fn binds(kind: Kind) -> u8 {
+    match kind {
+        Kind::Word(Keyword::Or) => 10,
+        Kind::Word(Keyword::And) => 9,
+        Kind::Word(Keyword::Not | Keyword::Is | Keyword::In | Keyword::Between) => 7,
+        Kind::Equal | Kind::DoubleEqual | Kind::NotEqual => 7,
+        Kind::Less | Kind::LessOrEqual | Kind::Greater | Kind::GreaterOrEqual => 6,
+        Kind::Plus | Kind::Minus => 5,
+        Kind::Star | Kind::Slash | Kind::Percent => 4,
+        Kind::Bars => 3,
+        Kind::Word(Keyword::Collate) => 2,
+        _ => 0,
+    }
+}
+
+/// The operator that stands between two operands.
+fn operator(kind: Kind) -> Option<Operator> {
+    match kind {
+        Kind::Word(Keyword::Or) => Some(Operator::Or),
+        Kind::Word(Keyword::And) => Some(Operator::And),
+        Kind::Equal | Kind::DoubleEqual => Some(Operator::Equal),
+        Kind::NotEqual => Some(Operator::NotEqual),
+        Kind::Less => Some(Operator::Less),
+        Kind::LessOrEqual => Some(Operator::LessOrEqual),
+        Kind::Greater => Some(Operator::Greater),
+        Kind::GreaterOrEqual => Some(Operator::GreaterOrEqual),
+        Kind::Plus => Some(Operator::Add),
+        Kind::Minus => Some(Operator::Subtract),
+        Kind::Star => Some(Operator::Multiply),
+        Kind::Slash => Some(Operator::Divide),
+        Kind::Percent => Some(Operator::Remainder),
+        Kind::Bars => Some(Operator::Concatenate),
+        _ => None,
+    }
+}
+
+/// The level that a token before its operand belongs to, and 0 where it is no such token.
+fn prefixes(kind: Kind) -> u8 {
+    match kind {
+        Kind::Minus => 1,
+        Kind::Word(Keyword::Not) => 8,
+        _ => 0,
+    }
+}
+
+fn goes_on(rank: u8, tokens: Tokens<'_>) -> bool {
+    match tokens {
+        [token, ..] => binds(token.kind) == rank,
+        [] => false,
+    }
+}
+
+fn is_prefixed(rank: u8, tokens: Tokens<'_>) -> bool {
+    match tokens {
+        [token, ..] => prefixes(token.kind) == rank,
+        [] => false,
+    }
+}
+
+/// An expression of the level, with at most this depth.
+#[cycle(expression)]
+fn level<'a>(
+    alloc: Global,
+    spelled: Spelled<'_>,
+    room: usize,
+    rank: u8,
+    tokens: Tokens<'a>,
+) -> Read<'a, Deep>
+    requires { rank ≤ 10 }
+{
+    if room == 0 {
+        return Err(Refusal::TooLong);
+    }
+    ladder(alloc, spelled, room, rank, tokens)
+}
+
+/// An expression of the level, where the room is for its outermost form.
+#[cycle(expression)]
+fn ladder<'a>(
+    alloc: Global,
+    spelled: Spelled<'_>,
+    room: usize,
+    rank: u8,
+    tokens: Tokens<'a>,
+) -> Read<'a, Deep>
+    requires some { 0 < room }
+    requires rank { rank ≤ 10 }
+{
+    if rank == 0 {
+        return atom(alloc, spelled, room, tokens);
+    }
+    if is_prefixed(rank, tokens) {
+        return prefix(alloc, spelled, room, rank, tokens);
+    }
+    let (left, rest) = ladder(alloc, spelled, room, rank - 1, tokens)?;
+    tails(alloc, spelled, room, rank - 1, left, rest)
+}
+
+/// A minus or NOT and its operand.
+#[cycle(expression)]
+fn prefix<'a>(
+    alloc: Global,
+    spelled: Spelled<'_>,
+    room: usize,
+    rank: u8,
+    tokens: Tokens<'a>,
+) -> Read<'a, Deep>
+    requires some { 0 < room }
+    requires rank { rank ≤ 10 }
+{
+    match tokens {
+        [] => Err(Refusal::Syntax(0)),
+        [mark!(Minus), rest @ ..] => {
+            let (inner, rest) = level(alloc, spelled, room - 1, rank, rest)?;
+            let node = Node::Negated(Box::new(alloc, inner.tree)?);
+            over(room, node, inner.depth, rest)
+        }
+        [_, rest @ ..] => {
+            let (inner, rest) = level(alloc, spelled, room - 1, rank, rest)?;
+            let node = Node::Not(Box::new(alloc, inner.tree)?);
+            over(room, node, inner.depth, rest)
+        }
+    }
+}
+
+/// What goes on after a left operand, as long as anything does.
+#[cycle(expression)]
+fn tails<'a>(
+    alloc: Global,
+    spelled: Spelled<'_>,
+    room: usize,
+    rank: u8,
+    first: Deep,
+    tokens: Tokens<'a>,
+) -> Read<'a, Deep>
+    requires some { 0 < room }
+    requires rank { rank < 10 }
+{
+    let mut left = first;
+    let mut rest = tokens;
+    'tails: for _ in 0..room {
+        if !goes_on(rank + 1, rest) {
+            return Ok((left, rest));
+        }
+        let (longer, after) = tail(alloc, spelled, room, rank, left, rest)?;
+        left = longer;
+        rest = after;
+    }
+    if goes_on(rank + 1, rest) {
+        return Err(Refusal::TooLong);
+    }
+    Ok((left, rest))
+}
+
+/// What goes on after a left operand of the level above the rank, once.
+#[cycle(expression)]
+fn tail<'a>(
+    alloc: Global,
+    spelled: Spelled<'_>,
+    room: usize,
+    rank: u8,
+    left: Deep,
+    tokens: Tokens<'a>,
+) -> Read<'a, Deep>
+    requires some { 0 < room }
+    requires rank { rank < 10 }
+{
+    match tokens {
+        [word!(Collate), rest @ ..] => collate(alloc, spelled, room, left, rest),
+        [word!(Is), word!(Not), rest @ ..] => {
+            operand(alloc, spelled, room, rank, Operator::IsNot, left, rest)
+        }
+        [word!(Is), rest @ ..] => operand(alloc, spelled, room, rank, Operator::Is, left, rest),
+        [word!(Between), rest @ ..] => between(alloc, spelled, room, rank, false, left, rest),
+        [word!(In), rest @ ..] => among(alloc, spelled, room, false, left, rest),
+        [word!(Not), word!(Between), rest @ ..] => between(
+            alloc, spelled, room, rank, true, left, rest,
+        ),
+        [word!(Not), word!(In), rest @ ..] => among(alloc, spelled, room, true, left, rest),
+        [word!(Not), rest @ ..] => Err(unexpected(rest)),
+        [token, rest @ ..] => match operator(token.kind) {
+            Some(op) => operand(alloc, spelled, room, rank, op, left, rest),
+            None => Err(unexpected(tokens)),
+        },
+        [] => Err(Refusal::Syntax(0)),
+    }
+}
+
+fn collate<'a>(
+    alloc: Global,
+    spelled: Spelled<'_>,
+    room: usize,
+    left: Deep,
+    tokens: Tokens<'a>,
+) -> Read<'a, Deep> {
+    let (collation, rest) = name(alloc, spelled, tokens)?;
+    let node = Node::Collate(Box::new(alloc, left.tree)?, collation);
+    over(room, node, left.depth, rest)
+}
+
+#[cycle(expression)]
+fn operand<'a>(
+    alloc: Global,
+    spelled: Spelled<'_>,
+    room: usize,
+    rank: u8,
+    op: Operator,
+    left: Deep,
+    tokens: Tokens<'a>,
+) -> Read<'a, Deep>
+    requires some { 0 < room }
+    requires rank { rank < 10 }
+{
+    let (right, rest) = level(alloc, spelled, room - 1, rank, tokens)?;
+    let depth = left.depth.max(right.depth);
+    let left = Box::new(alloc, left.tree)?;
+    let node = Node::Binary(op, left, Box::new(alloc, right.tree)?);
+    over(room, node, depth, rest)
+}
+
+#[cycle(expression)]
+fn between<'a>(
+    alloc: Global,
+    spelled: Spelled<'_>,
+    room: usize,
+    rank: u8,
+    is_negated: bool,
+    left: Deep,
+    tokens: Tokens<'a>,
+) -> Read<'a, Deep>
+    requires some { 0 < room }
+    requires rank { rank < 10 }
+{
+    let (low, rest) = level(alloc, spelled, room - 1, rank, tokens)?;
+    let rest = word(Keyword::And, rest)?;
+    let (high, rest) = level(alloc, spelled, room - 1, rank, rest)?;
+    let depth = left.depth.max(low.depth.max(high.depth));
+    let left = Box::new(alloc, left.tree)?;
+    let low = Box::new(alloc, low.tree)?;
+    let node = Node::Between(is_negated, left, low, Box::new(alloc, high.tree)?);
+    over(room, node, depth, rest)
+}
+
+#[cycle(expression)]
+fn among<'a>(
+    alloc: Global,
+    spelled: Spelled<'_>,
+    room: usize,
+    is_negated: bool,
+    left: Deep,
+    tokens: Tokens<'a>,
+) -> Read<'a, Deep>
+    requires some { 0 < room }
+{
+    let rest = mark(Kind::LeftParen, tokens)?;
+    let (found, rest) = items(alloc, spelled, room, rest)?;
+    let depth = left.depth.max(found.depth);
+    let node = Node::In(is_negated, Box::new(alloc, left.tree)?, found.trees);
+    over(room, node, depth, rest)
+}
+
+/// Expressions up to a closing parenthesis.
+#[cycle(expression)]
+fn items<'a>(
+    alloc: Global,
+    spelled: Spelled<'_>,
+    room: usize,
+    tokens: Tokens<'a>,
+) -> Read<'a, Deeps>
+    requires some { 0 < room }
+{
+    let (found, rest) = items_from(alloc, spelled, room, tokens)?;
+    Ok((found, mark(Kind::RightParen, rest)?))
+}
+
+/// One or more expressions with commas between, each with less depth than the room.
+#[cycle(expression)]
+fn items_from<'a>(
+    alloc: Global,
+    spelled: Spelled<'_>,
+    room: usize,
+    tokens: Tokens<'a>,
+) -> Read<'a, Deeps>
+    requires some { 0 < room }
+{
+    let mut trees = Vec::new(alloc);
+    let mut depth = 0;
+    let mut rest = tokens;
+    'items: for _ in 0..tokens.len() {
+        let (item, after) = level(alloc, spelled, room - 1, OR, rest)?;
+        trees.push(item.tree)?;
+        depth = depth.max(item.depth);
+        match after {
+            [mark!(Comma), next @ ..] => rest = next,
+            _ => return Ok((Deeps { trees, depth }, after)),
+        }
+    }
+    Err(unexpected(rest))
+}
+
+#[cycle(expression)]
+fn atom<'a>(alloc: Global, spelled: Spelled<'_>, room: usize, tokens: Tokens<'a>) -> Read<'a, Deep>
+    requires some { 0 < room }
+{
+    match tokens {
+        [mark!(LeftParen), rest @ ..] => paren(alloc, spelled, room, rest),
+        [word!(Raise), rest @ ..] => raise(alloc, spelled, rest),
+        [token @ (mark!(Name) | mark!(QuotedName)), rest @ ..] => {
+            named(
+                alloc,
+                spelled,
+                room,
+                name_of(alloc, spelling(spelled, *token))?,
+                rest,
+            )
+        }
+        [token, rest @ ..] => match literal(alloc, spelled, *token)? {
+            Some(node) => Ok((leaf(node), rest)),
+            None => Err(unexpected(tokens)),
+        },
+        [] => Err(Refusal::Syntax(0)),
+    }
+}
+
+/// An integer, a text, a blob or NULL.
+fn literal(alloc: Global, spelled: Spelled<'_>, token: Tok) -> Result<Option<Node>, Refusal> {
+    Ok(match token.kind {
+        Kind::Word(Keyword::Null) => Some(Node::Null),
+        Kind::Integer(n) => Some(Node::Integer(n)),
+        Kind::Text => Some(Node::Text(text_of(alloc, spelling(spelled, token))?)),
+        Kind::Blob => Some(Node::Blob(blob_of(alloc, spelling(spelled, token))?)),
+        _ => None,
+    })
+}
+
+#[cycle(expression)]
+fn paren<'a>(alloc: Global, spelled: Spelled<'_>, room: usize, tokens: Tokens<'a>) -> Read<'a, Deep>
+    requires some { 0 < room }
+{
+    let (inner, rest) = level(alloc, spelled, room - 1, OR, tokens)?;
+    let rest = mark(Kind::RightParen, rest)?;
+    let node = Node::Paren(Box::new(alloc, inner.tree)?);
+    over(room, node, inner.depth, rest)
+}
+
+/// What goes on behind a name: a column of a source, a function's arguments, or nothing.
+#[cycle(expression)]
+fn named<'a>(
+    alloc: Global,
+    spelled: Spelled<'_>,
+    room: usize,
+    first: Name,
+    tokens: Tokens<'a>,
+) -> Read<'a, Deep>
+    requires some { 0 < room }
+{
+    match tokens {
+        [mark!(Dot), rest @ ..] => {
+            let (column, rest) = name(alloc, spelled, rest)?;
+            Ok((leaf(Node::Column(Some(first), column)), rest))
+        }
+        [mark!(LeftParen), rest @ ..] => call(alloc, spelled, room, first, rest),
+        _ => Ok((leaf(Node::Column(None, first)), tokens)),
+    }
+}
+
+/// What a function is called with, behind the parenthesis.
+#[cycle(expression)]
+fn call<'a>(
+    alloc: Global,
+    spelled: Spelled<'_>,
+    room: usize,
+    function: Name,
+    tokens: Tokens<'a>,
+) -> Read<'a, Deep>
+    requires some { 0 < room }
+{
+    match tokens {
+        [mark!(RightParen), rest @ ..] => {
+            over(room, Node::Call(function, Vec::new(alloc)), 0, rest)
+        }
+        [mark!(Star), rest @ ..] => {
+            let rest = mark(Kind::RightParen, rest)?;
+            Ok((leaf(Node::CallAll(function)), rest))
+        }
+        _ => {
+            let (found, rest) = items(alloc, spelled, room, tokens)?;
+            over(room, Node::Call(function, found.trees), found.depth, rest)
+        }
+    }
+}
+
+/// What stands behind RAISE.
+fn raise<'a>(alloc: Global, spelled: Spelled<'_>, tokens: Tokens<'a>) -> Read<'a, Deep> {
+    let rest = mark(Kind::LeftParen, tokens)?;
+    let (action, rest) = match rest {
+        [word!(Abort), rest @ ..] => (RaiseAction::Abort, rest),
+        [word!(Rollback), rest @ ..] => (RaiseAction::Rollback, rest),
+        _ => return Err(unexpected(rest)),
+    };
+    let rest = mark(Kind::Comma, rest)?;
+    let [token @ mark!(Text), rest @ ..] = rest else {
+        return Err(unexpected(rest));
+    };
+    let node = Node::Raise(action, text_of(alloc, spelling(spelled, *token))?);
+    Ok((leaf(node), mark(Kind::RightParen, rest)?))
+}

@@ -1,0 +1,52 @@
+//! Why tokens are refused.
+
+ghost use Rattle.std.specs.Prelude.{◌≡◌};
+ghost use Rattle.parser.specs.declared.refusal.Refusal.TheVariants.{Memory};
+
+use crate::token::Tokens;
+use std::alloc::{AllocError, AllocFailed};
+
+/// What was read, and the tokens behind it.
+pub type Read<'a, T> = Result<(T, Tokens<'a>), Refusal>;
+
+/// Why tokens are refused: the first reason from left to right.
+#[derive(Clone, Copy, Debug)]
+pub enum Refusal {
+    Memory,
+    /// No statement goes on so, with this many tokens left.
+    Syntax(usize),
+    /// Past a limit of depth or number.
+    TooLong,
+    /// A statement that isn't served.
+    Unsupported,
+}
+
+impl From<AllocError> for Refusal {
+    ghost from_gives = { λ _ e. e ≡ Memory };
+
+    fn from(_e: AllocError) -> Refusal {
+        Refusal::Memory
+    }
+}
+
+impl<T: Drop> From<AllocFailed<T>> for Refusal {
+    ghost from_gives = { λ _ e. e ≡ Memory };
+
+    fn from(_e: AllocFailed<T>) -> Refusal {
+        Refusal::Memory
+    }
+}
+
+/// What is next goes on with no statement.
+pub fn unexpected(tokens: Tokens<'_>) -> Refusal {
+    Refusal::Syntax(tokens.len())
+}
+
+/// Refuses more than the limit.
+pub fn within(count: usize, limit: usize) -> Result<(), Refusal> {
+    if count <= limit {
+        Ok(())
+    } else {
+        Err(Refusal::TooLong)
+    }
+}

@@ -1,0 +1,3 @@
+pub mod Indexing
+pub mod CommitLemmas
+pub mod Opened

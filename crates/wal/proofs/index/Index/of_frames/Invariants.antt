@@ -1,0 +1,8 @@
+use Rattle.wal.specs.Index.{IsIndexTo, EachFrame, IsOfHead}
+use Rattle.wal.proofs.index.Index.of_frames.Given as goal
+
+abbrev pub invariant-frames : goal.invariant-frames
+invariant-frames l = record {
+  indexed : IsIndexTo l.i l.index;
+  pages : EachFrame (IsOfHead l.frames) l.index;
+}

@@ -1,0 +1,6 @@
+pub mod Index
+pub mod Pages
+pub mod Stands
+pub mod State
+pub mod Opening
+pub mod Refusals

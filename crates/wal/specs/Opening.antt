@@ -1,0 +1,21 @@
+-- What opening makes of what was read of a log.
+use Rattle.std.specs.Prelude.{◌≡◌, ◌*◌, ℕ, List, [], ◌∷◌, length, slice_index_or, Option, Some, None, MatchOption}
+use Rattle.walframe.specs.declared.framing.FrameHeader.{FrameHeader}
+use Rattle.walframe.specs.declared.heading.LogHeader.{LogHeader}
+use Rattle.walframe.specs.declared.progress.Scan.{Scan}
+use Rattle.walframe.specs.declared.sums.Sum.{Sum}
+use Rattle.walframe.specs.Log.{header_sum}
+
+-- the header is the log's, where it has one
+abbrev pub IsHeaderOf : Scan → LogHeader → Type 0
+IsHeaderOf scanned header = MatchOption scanned.header (Unit {0}) (λ found. header ≡ found)
+
+-- the sums are those that were read, or those of the header that the log is to get
+abbrev pub IsSumOf : Scan → LogHeader → Sum → Type 0
+IsSumOf scanned header sum = MatchOption scanned.header (sum ≡ header_sum header) (λ found. sum ≡ scanned.sum)
+
+-- The size of the newest view, in pages: that of the last commit, else what the header counts, else that of the database file, which has whole pages.
+abbrev pub IsViewSize : List FrameHeader → Option ℕ → ℕ → ℕ → ℕ → Type 0
+IsViewSize [] (Some counted) db_len page_size size = size ≡ counted
+IsViewSize [] None db_len page_size size = size * page_size ≡ db_len
+IsViewSize (f ∷ fs) counted db_len page_size size = size ≡ (slice_index_or (f ∷ fs) (length fs) f).size

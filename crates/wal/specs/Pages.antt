@@ -1,0 +1,23 @@
+-- The pages of a commit.
+use Rattle.std.specs.Prelude.{◌≡◌, ◌<◌, ◌≤◌, ◌==◌, ◌||◌, ℕ, Bool, List, [], ◌∷◌, length}
+use Rattle.walframe.specs.Written.{Framed}
+use Rattle.wal.specs.declared.pages.PageImage.{PageImage}
+
+-- whether pages may have this size: a power of two from 512 to 32768
+abbrev pub is_size : ℕ → Bool
+is_size n = n == 512 || (n == 1024 || (n == 2048 || (n == 4096 || (n == 8192 || (n == 16384 || n == 32768)))))
+
+-- pages by rising number, above one number and up to another, each of so many bytes
+abbrev pub ArePages : ℕ → ℕ → ℕ → List PageImage → Type 0
+ArePages last size bytes [] = Unit {0}
+ArePages last size bytes (p ∷ ps) = (last < p.number) × (p.number ≤ size) × (length p.bytes.items ≡ bytes) × ArePages p.number size bytes ps
+
+-- the size that the frame before these pages has: only the last frame has one
+abbrev pub size_before : List PageImage → ℕ → ℕ
+size_before [] size = size
+size_before (p ∷ ps) size = 0
+
+-- the frames of a commit of these pages (Database File Format, 4.1 "WAL File Format": the size stands in the last frame)
+abbrev pub framed : List PageImage → ℕ → List Framed
+framed [] size = []
+framed (p ∷ ps) size = record { head = record { page = p.number; size = size_before ps size }; page = p.bytes.items } ∷ framed ps size

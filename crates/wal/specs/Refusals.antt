@@ -1,0 +1,33 @@
+-- Why calls are refused.
+use Rattle.std.specs.Prelude.{◌≡◌, ℕ}
+use Rattle.disk.specs.Calls.{Rose}
+use Rattle.sqlval.specs.declared.fault.Fault.{Fault}
+use Rattle.sqlval.specs.declared.fault.Fault.TheVariants.{Memory, Io, Failed, Full, Damaged, Unsupported}
+use Rattle.sqlval.specs.declared.fault.Damage.TheVariants.{Page, Log, Size}
+use Rattle.sqlval.specs.declared.fault.Feature.TheVariants.{PageSize, LogFormat, Limit}
+
+-- pages that can't be committed
+abbrev pub IsPagesRefusal : Fault → Type 0
+IsPagesRefusal (Damaged Page number) = Unit {0}
+IsPagesRefusal _ = ⊥
+
+-- A commit that was refused, between these two logs and their counts of failed calls: `Io` comes only where a call of the disk
+-- failed, and at any other refusal the log is as it was.
+abbrev pub IsCommitRefusal : {D : Type 0} → D → D → ℕ → ℕ → Fault → Type 0
+IsCommitRefusal old new failed fails Io = Rose failed fails
+IsCommitRefusal old new failed fails Memory = new ≡ old
+IsCommitRefusal old new failed fails Failed = new ≡ old
+IsCommitRefusal old new failed fails Full = new ≡ old
+IsCommitRefusal old new failed fails (Damaged Page number) = new ≡ old
+IsCommitRefusal old new failed fails _ = ⊥
+
+-- why files can't be opened
+abbrev pub IsOpenRefusal : Fault → Type 0
+IsOpenRefusal Memory = Unit {0}
+IsOpenRefusal Io = Unit {0}
+IsOpenRefusal (Damaged Log number) = number ≡ 0
+IsOpenRefusal (Damaged Size number) = number ≡ 0
+IsOpenRefusal (Unsupported PageSize) = Unit {0}
+IsOpenRefusal (Unsupported LogFormat) = Unit {0}
+IsOpenRefusal (Unsupported Limit) = Unit {0}
+IsOpenRefusal _ = ⊥

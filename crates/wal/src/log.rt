@@ -1,0 +1,97 @@
+//! The log and the database file, as readers see them.
+
+ghost use Rattle.std.specs.Prelude.{◌≡◌, ◌≤◌, length, IsTrue, IsFalse, OnOk, IfErr};
+ghost use Rattle.walframe.specs.Accepted.{Leaves};
+ghost use Rattle.wal.specs.Stands.{LogStands, IsPageOf, IsPageRefusal};
+
+use crate::state::State;
+use disk::Disk;
+use sqlval::{Damage, Fault, R};
+use walframe::FrameHeader;
+
+/// What a reader sees: the frames up to a mark.
+#[derive(Clone, Copy, Debug, PartialEq, Eq)]
+pub struct Snapshot {
+    mark: u32,
+    size: u32,
+}
+
+/// Files that can't be opened, and why.
+#[derive(Drop)]
+pub struct Refused<D: Disk> {
+    pub fault: Fault,
+    pub db: D,
+    pub log: D,
+}
+
+/// A database file and its log.
+#[derive(Drop)]
+pub struct Log<D: Disk> {
+    pub(crate) db: D,
+    pub(crate) log: D,
+    pub(crate) state: State,
+    ghost db_there: { IsTrue (D.tells db) → state.db_len ≤ length (D.file db).content },
+    ghost log_there: { IsFalse state.is_failed → IsTrue (D.tells log) → LogStands state.header state.is_begun state.mark state.sum state.index (D.file log).content },
+}
+
+impl<D: Disk> Log<D> {
+    /// The size of a page, in bytes.
+    pub fn page_size(&self) -> u32
+        ensures { result ≡ self.now.state.page_size }
+    {
+        self.state.page_size
+    }
+
+    /// What the newest commit left.
+    pub fn begin(&self) -> Snapshot
+        ensures mark { result.mark ≡ self.now.state.mark }
+        ensures size { result.size ≡ self.now.state.size }
+    {
+        Snapshot {
+            mark: self.state.mark,
+            size: self.state.size,
+        }
+    }
+
+    /// The size of a snapshot, in pages.
+    pub fn size(&self, snapshot: Snapshot) -> u32
+        ensures { result ≡ snapshot.size }
+    {
+        snapshot.size
+    }
+
+    /// Reads a page of a snapshot: the newest frame of the page up to the snapshot's mark, or what the database file has.
+    /// (`Io`, `Failed` after it; `Damaged(MissingPage)` where the number isn't one of 1 to the size, neither file has the page, or `out` has
+    /// another length than a page.)
+    pub fn page(&mut self, snapshot: Snapshot, number: u32, out: &mut [u8]) -> R<()>
+        ensures read { IsTrue (D.tells self.old.db) → IsTrue (D.tells self.old.log) → OnOk result (IsPageOf self.old.state.header snapshot.mark (D.file self.old.db).content (D.file self.old.log).content number out.new) }
+        ensures db_kept { Leaves D.tells D.file self.old.db self.new.db }
+        ensures log_kept { Leaves D.tells D.file self.old.log self.new.log }
+        ensures refusal { IfErr result (λ e. IsPageRefusal number e) }
+    {
+        if number == 0 || number > snapshot.size || out.len() != self.state.page_size as usize {
+            return Err(Fault::Damaged(Damage::MissingPage, number));
+        }
+        if self.state.is_failed {
+            return Err(Fault::Failed);
+        }
+        if let Some(frame) = self.state.index.find(number, snapshot.mark) {
+            let at = self.state.offset(frame) + FrameHeader::LEN as u64;
+            return self.log.read_at(at, out);
+        }
+        let size = self.state.page_size as u64;
+        if number as u64 * size > self.state.db_len {
+            return Err(Fault::Damaged(Damage::MissingPage, number));
+        }
+        self.db.read_at((number as u64 - 1) * size, out)
+    }
+
+    /// Gives the files back.
+    pub fn into_disks(self) -> (D, D)
+        ensures db { result.0 ≡ self.db }
+        ensures log { result.1 ≡ self.log }
+    {
+        let Log { db, log, state: _ } = self;
+        (db, log)
+    }
+}

@@ -1,0 +1,38 @@
+//! The pages of a commit.
+
+ghost use Rattle.std.specs.Prelude.{◌≡◌, ◌<◌, OnOk, IfErr, ℕ, length};
+ghost use Rattle.wal.specs.Pages.{ArePages};
+ghost use Rattle.wal.specs.Refusals.{IsPagesRefusal};
+
+use sqlval::{Damage, Fault, R};
+
+/// A page as it is to be.
+#[derive(Drop)]
+pub struct PageImage {
+    /// The page's number, from 1.
+    pub number: u32,
+    /// As many as a page has.
+    pub bytes: Vec<u8>,
+}
+
+/// Whether these may be the pages of a commit: at least one, by rising number from 1 to the size, each of so many bytes.
+/// (`Damaged(Page)` with the number of the first that isn't so, or 0 where there is none.)
+pub fn check_pages(pages: &[PageImage], size: u32, page_size: u32) -> R<()>
+    ensures pages { OnOk result (ArePages 0 size page_size pages.now) }
+    ensures refusal { IfErr result (λ e. IsPagesRefusal e) }
+    ensures some { OnOk result (0 < length pages.now) }
+{
+    if pages.is_empty() {
+        return Err(Fault::Damaged(Damage::Page, 0));
+    }
+    let mut last = 0;
+    let mut left = pages;
+    'pages: while let [page, rest @ ..] = left {
+        if page.number <= last || page.number > size || page.bytes.len() != page_size as usize {
+            return Err(Fault::Damaged(Damage::Page, page.number));
+        }
+        last = page.number;
+        left = rest;
+    }
+    Ok(())
+}

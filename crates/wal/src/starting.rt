@@ -1,0 +1,141 @@
+//! Opening the two files.
+
+ghost use Rattle.std.specs.Prelude.{◌≡◌, ◌<◌, ◌≤◌, ◌-◌, ℕ, length, IsTrue, IfOk, IfErr, IsFalse};
+ghost use Rattle.walframe.specs.Accepted.{Leaves};
+ghost use Rattle.wal.specs.Opening.{IsHeaderOf, IsSumOf, IsViewSize};
+ghost use Rattle.wal.specs.Pages.{is_size};
+ghost use Rattle.wal.specs.Refusals.{IsOpenRefusal};
+ghost use Rattle.wal.specs.Stands.{LogStands};
+
+use crate::index::Index;
+use crate::log::{Log, Refused};
+use crate::state::{State, is_within_limits};
+use disk::Disk;
+use sqlval::{Damage, Fault, Feature, R};
+use std::alloc::Global;
+use walframe::{FrameHeader, LogHeader, Salts, Scan, Sum, WordOrder, scan};
+
+/// Whether pages may have this size.
+fn is_page_size(size: u32) -> bool
+    ensures { result ≡ is_size size }
+{
+    matches!(size, 512 | 1024 | 2048 | 4096 | 8192 | 16384 | 32768)
+}
+
+// The size of the newest view, in pages.
+fn view_size(
+    frames: &[FrameHeader],
+    counted_size: Option<u32>,
+    db_len: u64,
+    page_size: u32,
+) -> R<u32>
+    requires { 0 < page_size }
+    ensures size { IfOk result (λ size. IsViewSize frames.now counted_size db_len page_size size) }
+    ensures refusal { IfErr result (λ e. IsOpenRefusal e) }
+{
+    if let Some(last) = frames.last() {
+        return Ok(last.size);
+    }
+    if let Some(size) = counted_size {
+        return Ok(size);
+    }
+    if db_len % page_size as u64 != 0 {
+        return Err(Fault::Damaged(Damage::Size, 0));
+    }
+    u32::try_from(db_len / page_size as u64).map_err(|_| Fault::Unsupported(Feature::Limit))
+}
+
+fn header_of(scanned: &Scan, page_size: u32, salts: Salts) -> R<LogHeader>
+    ensures size { IfOk result (λ header. header.page_size ≡ page_size) }
+    ensures found { IfOk result (λ header. IsHeaderOf scanned.now header) }
+    ensures refusal { IfErr result (λ e. IsOpenRefusal e) }
+{
+    match scanned.header {
+        Some(header) if header.page_size != page_size => Err(Fault::Damaged(Damage::Log, 0)),
+        Some(header) => Ok(header),
+        None => Ok(LogHeader {
+            order: WordOrder::Big,
+            page_size,
+            sequence: 0,
+            salts,
+        }),
+    }
+}
+
+// The sums after the last committed frame, or those of the header.
+fn sum_of(scanned: &Scan, header: &LogHeader) -> Sum
+    ensures { IsSumOf scanned.now header.now result }
+{
+    match scanned.header {
+        Some(_) => scanned.sum,
+        None => header.sum(),
+    }
+}
+
+fn survey<D: Disk>(
+    alloc: Global,
+    db: &mut D,
+    log: &mut D,
+    page_size: u32,
+    counted_size: Option<u32>,
+    salts: Salts,
+) -> R<State>
+    ensures db { IsTrue (D.tells db.new) → IfOk result (λ state. state.db_len ≤ length (D.file db.new).content) }
+    ensures log { IsTrue (D.tells log.new) → IfOk result (λ state. LogStands state.header state.is_begun state.mark state.sum state.index (D.file log.new).content) }
+    ensures size { IfOk result (λ state. (state.page_size ≡ page_size) × IsFalse state.is_failed) }
+    ensures refusal { IfErr result (λ e. IsOpenRefusal e) }
+    ensures db_kept { Leaves D.tells D.file db.old db.new }
+    ensures log_kept { Leaves D.tells D.file log.old log.new }
+{
+    if !is_page_size(page_size) {
+        return Err(Fault::Unsupported(Feature::PageSize));
+    }
+    let db_len = db.len()?;
+    let scanned = scan(alloc, log)?;
+    let header = header_of(&scanned, page_size, salts)?;
+    let size = view_size(&scanned.frames, counted_size, db_len, page_size)?;
+    if !is_within_limits(size, page_size) {
+        return Err(Fault::Unsupported(Feature::Limit));
+    }
+    let is_begun = scanned.header.is_some();
+    Ok(State {
+        page_size,
+        db_len,
+        header,
+        is_begun,
+        is_failed: false,
+        mark: scanned.frames.len() as u32,
+        sum: sum_of(&scanned, &header),
+        size,
+        index: Index::of_frames(alloc, &scanned.frames)?,
+    })
+}
+
+impl<D: Disk> Log<D> {
+    /// Opens a database file, whose pages have `page_size` bytes and whose header counts `counted_size` pages, with its log. A
+    /// log without a valid header gets one with these salts at the first commit. (`Memory`, `Io`; `Damaged(Log)` where the log
+    /// is of another page size, `Damaged(Size)` where nothing counts the pages and the file isn't of whole ones;
+    /// `Unsupported` of `PageSize`, `LogFormat`, or `Limit` where there are more than 65,536 pages, 1,073,741,824 bytes or
+    /// 1,000,000 committed frames.)
+    pub fn open(
+        alloc: Global,
+        db: D,
+        log: D,
+        page_size: u32,
+        counted_size: Option<u32>,
+        salts: Salts,
+    ) -> Result<Log<D>, Refused<D>>
+        ensures opened { IfOk result (λ files. Leaves D.tells D.file db files.db × Leaves D.tells D.file log files.log) }
+        ensures refused { IfErr result (λ refused. Leaves D.tells D.file db refused.db × Leaves D.tells D.file log refused.log) }
+        ensures refusal { IfErr result (λ refused. IsOpenRefusal refused.fault) }
+        ensures size { IfOk result (λ files. files.state.page_size ≡ page_size) }
+        ensures whole { IfOk result (λ files. IsFalse files.state.is_failed) }
+    {
+        let mut db = db;
+        let mut log = log;
+        match survey(alloc, &mut db, &mut log, page_size, counted_size, salts) {
+            Ok(state) => Ok(Log { db, log, state }),
+            Err(fault) => Err(Refused { fault, db, log }),
+        }
+    }
+}

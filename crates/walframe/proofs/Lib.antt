@@ -1,0 +1,4 @@
+pub mod Carrying
+pub mod Fronts
+pub mod Reading
+pub mod Laws

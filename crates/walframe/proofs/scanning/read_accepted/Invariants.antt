@@ -1,0 +1,20 @@
+use Rattle.std.proofs.Common.{◌≡◌, ◌+◌, ◌-◌, ◌≤◌, length}
+use Rattle.std.specs.Prelude.{IsTrue}
+use Rattle.walframe.specs.Accepted.{Leaves, IsPageSize}
+use Rattle.walframe.specs.Progress.{IsMeasured, IsRead}
+use Rattle.walframe.proofs.scanning.read_accepted.Given as goal
+
+abbrev pub invariant-frames : goal.invariant-frames
+invariant-frames g l = record {
+  kept : Leaves g.D.Disk.tells g.D.Disk.file l.fn.disk l.disk;
+  counts : g.D.Disk.failures l.fn.disk ≤ g.D.Disk.failures l.disk;
+  size : l.size ≡ 24 + l.header.page_size;
+  page : IsPageSize l.header.page_size;
+  frame : length l.frame.items ≡ l.size;
+  inside : l.so_far.at ≤ l.len;
+  measured : IsMeasured l.header l.so_far;
+  read : IsTrue (g.D.Disk.tells l.fn.disk) → IsRead l.header (g.D.Disk.file l.fn.disk).content l.so_far;
+}
+
+abbrev pub decreases-frames : goal.decreases-frames
+decreases-frames g l = l.len - l.so_far.at

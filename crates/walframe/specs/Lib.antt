@@ -1,0 +1,5 @@
+pub mod Sums
+pub mod Log
+pub mod Accepted
+pub mod Progress
+pub mod Written

@@ -1,0 +1,17 @@
+//! The bytes of a write-ahead log: its sums, its header, its frames, and which of them count.
+#![tactic(auto)]
+
+mod framing;
+mod heading;
+mod progress;
+mod scanning;
+mod sums;
+
+pub use framing::FrameHeader;
+pub use heading::{LogHeader, Salts};
+pub use progress::Scan;
+pub use scanning::scan;
+pub use sums::{Sum, WordOrder};
+
+#[cfg(test)]
+mod tests;

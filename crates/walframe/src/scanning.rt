@@ -1,0 +1,99 @@
+//! Reading a log.
+
+ghost use Rattle.std.specs.Prelude.{◌≡◌, ◌≤◌, ◌+◌, ◌↔◌, length, IsTrue, IfOk, IfErr, IsSome};
+ghost use Rattle.walframe.specs.Log.{header_in};
+ghost use Rattle.walframe.specs.Progress.{IsMeasured, IsReadWhole};
+ghost use Rattle.walframe.specs.Accepted.{IsPageSize, Leaves, Reads, IsScan, IsRefusal};
+
+use crate::framing::{FrameHeader, read_frame, stands, sum_of};
+use crate::heading::LogHeader;
+use crate::progress::{Progress, Scan};
+use crate::sums::Sum;
+use disk::Disk;
+use sqlval::R;
+use std::alloc::Global;
+
+/// Whether pages may have this size.
+fn is_page_size(size: u32) -> bool
+    ensures { IsTrue result ↔ IsPageSize size }
+{
+    matches!(size, 512 | 1024 | 2048 | 4096 | 8192 | 16384 | 32768)
+}
+
+fn read_header<D: Disk>(disk: &mut D, len: u64) -> R<Option<LogHeader>>
+    requires { IsTrue (D.tells disk.old) → len ≡ length (D.file disk.old).content }
+    ensures found { IsTrue (D.tells disk.old) → IfOk result (λ header. header_in (D.file disk.old).content ≡ Ok header) }
+    ensures some { IfOk result (λ header. IsSome header → 32 ≤ len) }
+    ensures kept { Leaves D.tells D.file disk.old disk.new }
+    ensures refusal { IfErr result (λ e. IsRefusal e (D.failures disk.old) (D.failures disk.new)) }
+    ensures counts { D.failures disk.old ≤ D.failures disk.new }
+{
+    if len < 32 {
+        return Ok(None);
+    }
+    let mut bytes = [0; 32];
+    disk.read_at(0, &mut bytes)?;
+    LogHeader::read(&bytes)
+}
+
+// Reads frames up to one that isn't accepted.
+fn read_accepted<D: Disk>(alloc: Global, disk: &mut D, header: &LogHeader, len: u64) -> R<Progress>
+    requires told { IsTrue (D.tells disk.old) → len ≡ length (D.file disk.old).content }
+    requires some { 32 ≤ len }
+    ensures found { IsTrue (D.tells disk.old) → IfOk result (λ progress. IsReadWhole header.now (D.file disk.old).content progress) }
+    ensures measured { IfOk result (λ progress. IsMeasured header.now progress) }
+    ensures kept { Leaves D.tells D.file disk.old disk.new }
+    ensures refusal { IfErr result (λ e. IsRefusal e (D.failures disk.old) (D.failures disk.new)) }
+    ensures counts { D.failures disk.old ≤ D.failures disk.new }
+{
+    let mut so_far = Progress::start(alloc, header);
+    if !is_page_size(header.page_size) {
+        return Ok(so_far);
+    }
+    let size = FrameHeader::LEN + header.page_size as usize;
+    let mut frame = vec![in alloc; 0; size]?;
+    'frames: while size as u64 <= len - so_far.at {
+        disk.read_at(so_far.at, &mut frame)?;
+        let sum = sum_of(header, so_far.sum, &frame);
+        if !stands(header, sum, &frame) {
+            return Ok(so_far);
+        }
+        so_far.accept(read_frame(&frame), sum, size as u64)?;
+    }
+    Ok(so_far)
+}
+
+// Reads the committed frames.
+fn read_frames<D: Disk>(alloc: Global, disk: &mut D, header: &LogHeader, len: u64) -> R<Scan>
+    requires told { IsTrue (D.tells disk.old) → len ≡ length (D.file disk.old).content }
+    requires some { 32 ≤ len }
+    ensures found { IsTrue (D.tells disk.old) → IfOk result (λ scan. Reads header.now (D.file disk.old).content scan) }
+    ensures header { IfOk result (λ scan. (scan.header ≡ Some header.now) × (length scan.frames.items ≤ 1000000)) }
+    ensures kept { Leaves D.tells D.file disk.old disk.new }
+    ensures refusal { IfErr result (λ e. IsRefusal e (D.failures disk.old) (D.failures disk.new)) }
+    ensures counts { D.failures disk.old ≤ D.failures disk.new }
+{
+    let so_far = read_accepted(alloc, disk, header, len)?;
+    Ok(so_far.finish(header))
+}
+
+/// Reads a log, frame by frame, up to the first frame that isn't accepted. (`Memory`, `Io`, `Unsupported(LogFormat)`, and
+/// `Unsupported(Limit)` where more than 1,000,000 frames are committed.)
+pub fn scan<D: Disk>(alloc: Global, disk: &mut D) -> R<Scan>
+    ensures found { IsTrue (D.tells disk.old) → IfOk result (λ scan. IsScan (D.file disk.old).content scan) }
+    ensures few { IfOk result (λ scan. length scan.frames.items ≤ 1000000) }
+    ensures kept { Leaves D.tells D.file disk.old disk.new }
+    ensures refusal { IfErr result (λ e. IsRefusal e (D.failures disk.old) (D.failures disk.new)) }
+    ensures counts { D.failures disk.old ≤ D.failures disk.new }
+{
+    let len = disk.len()?;
+    match read_header(disk, len)? {
+        Some(header) => read_frames(alloc, disk, &header, len),
+        None => Ok(Scan {
+            header: None,
+            frames: Vec::new(alloc),
+            sum: Sum::ZERO,
+            end: 0,
+        }),
+    }
+}

@@ -1,0 +1,112 @@
+//! A disk over a file of the operating system.
+
+ghost use Rattle.std.specs.Prelude.{◌≡◌, IfErr};
+ghost use Rattle.disk.specs.Calls.{CountsFailure};
+
+use disk::Disk;
+use sqlval::{Fault, R};
+use std::fs::{File, OpenOptions};
+use std::io;
+use std::os::unix::fs::FileExt;
+use std::rt::Files;
+
+/// The greatest offset that the operating system takes.
+const MAX_OFFSET: u64 = (1 << 63) - 1;
+
+/// A file. It tells nothing of its content.
+#[derive(Drop)]
+pub struct FileDisk {
+    file: File,
+    /// How many calls have failed.
+    failures: u64,
+}
+
+impl FileDisk {
+    /// Opens a file, and makes it where it is missing. The refusal is `Io`.
+    pub fn open<F: Files<File = File>>(files: &F, name: &str) -> R<FileDisk> {
+        let opened = OpenOptions::new()
+            .read(true)
+            .write(true)
+            .create(true)
+            .open(files, name);
+        match opened {
+            Ok(file) => Ok(FileDisk { file, failures: 0 }),
+            Err(_) => Err(Fault::Io),
+        }
+    }
+
+    /// The call's answer, counted where it failed.
+    fn counted<T: Drop>(&mut self, answer: io::Result<T>) -> R<T>
+        ensures refusal { IfErr result (λ fault. fault ≡ Fault.Io) }
+        ensures count { CountsFailure result self.old.failures self.new.failures }
+    {
+        match answer {
+            Ok(value) => Ok(value),
+            Err(_) => {
+                self.failures = self.failures.saturating_add(1);
+                Err(Fault::Io)
+            }
+        }
+    }
+}
+
+fn length(file: &File) -> io::Result<u64> {
+    Ok(file.metadata()?.len())
+}
+
+fn read(file: &File, at: u64, buf: &mut [u8]) -> io::Result<()> {
+    if at > MAX_OFFSET {
+        return Err(io::ErrorKind::InvalidInput.into());
+    }
+    file.read_exact_at(buf, at)
+}
+
+fn write(file: &File, at: u64, bytes: &[u8]) -> io::Result<()> {
+    if at > length(file)? {
+        return Err(io::ErrorKind::InvalidInput.into());
+    }
+    file.write_all_at(bytes, at)
+}
+
+fn cut(file: &File, len: u64) -> io::Result<()> {
+    if len > length(file)? {
+        return Err(io::ErrorKind::InvalidInput.into());
+    }
+    file.set_len(len)
+}
+
+impl Disk for FileDisk {
+    ghost use Rattle.std.specs.Prelude.{[], false};
+    ghost use Rattle.disk.specs.Replay.{fresh};
+
+    ghost tells = { λ _. false };
+
+    ghost file = { λ _. fresh [] };
+
+    ghost failures = { λ disk. disk.failures };
+
+    fn len(&mut self) -> R<u64> {
+        let answer = length(&self.file);
+        self.counted(answer)
+    }
+
+    fn read_at(&mut self, at: u64, buf: &mut [u8]) -> R<()> {
+        let answer = read(&self.file, at, buf);
+        self.counted(answer)
+    }
+
+    fn write_at(&mut self, at: u64, bytes: &[u8]) -> R<()> {
+        let answer = write(&self.file, at, bytes);
+        self.counted(answer)
+    }
+
+    fn cut(&mut self, len: u64) -> R<()> {
+        let answer = cut(&self.file, len);
+        self.counted(answer)
+    }
+
+    fn sync(&mut self) -> R<()> {
+        let answer = self.file.sync_data();
+        self.counted(answer)
+    }
+}
