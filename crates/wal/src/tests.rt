@@ -13,6 +13,11 @@ fn filled(alloc: Global, byte: u8, size: usize) -> Result<Vec<u8>, Fail> {
     Ok(vec![in alloc; byte; size]?)
 }
 
+/// The first byte of a page that is filled with it.
+fn first_byte(page: &[u8]) -> u8 {
+    page.first().copied().unwrap_or(u8::MAX)
+}
+
 fn image(alloc: Global, number: u32, byte: u8) -> Result<PageImage, Fail> {
     Ok(PageImage {
         number,
@@ -42,23 +47,23 @@ fn commits_are_read_by_snapshots(rt: HostRuntime) -> Result<(), Fail> {
     assert_eq!(rt; files.size(second), 3);
     let mut out = filled(alloc, 0, 512)?;
     files.page(first, 1, &mut out)?;
-    assert_eq!(rt; out[0], 9);
+    assert_eq!(rt; first_byte(&out), 9);
     assert_eq!(rt; files.page(first, 3, &mut out).is_err(), true);
     files.page(second, 3, &mut out)?;
-    assert_eq!(rt; out[511], 3);
+    assert_eq!(rt; first_byte(&out), 3);
     files.page(second, 2, &mut out)?;
-    assert_eq!(rt; out[0], 9);
+    assert_eq!(rt; first_byte(&out), 9);
     let (db, log) = files.into_disks();
     assert_eq!(rt; log.content().len(), 32 + 2 * 536);
     let mut again = opened(alloc, db, log)?;
     let third = again.begin();
     assert_eq!(rt; again.size(third), 3);
     again.page(third, 1, &mut out)?;
-    assert_eq!(rt; out[0], 1);
+    assert_eq!(rt; first_byte(&out), 1);
     again.commit(alloc, &vec![in alloc; image(alloc, 1, 4)?]?, 3)?;
     again.page(third, 1, &mut out)?;
-    assert_eq!(rt; out[0], 1);
+    assert_eq!(rt; first_byte(&out), 1);
     again.page(again.begin(), 1, &mut out)?;
-    assert_eq!(rt; out[0], 4);
+    assert_eq!(rt; first_byte(&out), 4);
     Ok(())
 }
