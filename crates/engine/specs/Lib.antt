@@ -1,3 +1,4 @@
 pub mod Creating
+pub mod Lines
 pub mod Output
 pub mod Replies

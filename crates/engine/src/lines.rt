@@ -1,5 +1,8 @@
 //! Lines of input.
 
+ghost use Rattle.std.specs.Prelude.{◌≡◌, ◌≤◌, IfOk, IfErr, length, option_map};
+ghost use Rattle.engine.specs.Lines.{IsLineRefusal, Says, number_at};
+
 use sqlval::{Fault, Misuse, R};
 use std::io;
 use std::io::{BufRead, ErrorKind, Read};
@@ -38,17 +41,25 @@ pub fn read_line<I: BufRead>(input: &mut I, line: &mut Vec<u8>) -> R<bool> {
 }
 
 /// The connection's number and the statement's bytes.
-fn split_number(line: &[u8]) -> R<(u32, &[u8])> {
+#[tactic(auto, unfolding(crate::specs::Lines::number_at))]
+fn split_number(line: &[u8]) -> Option<(u32, &[u8])>
+    ensures { option_map (λ found. (found.0, found.1.now)) result ≡ number_at line.now }
+{
     match line {
-        [digit @ b'1'..=b'9', b' ', rest @ ..] => Ok((u32::from(*digit - b'0'), rest)),
-        [b'1', digit @ b'0'..=b'6', b' ', rest @ ..] => Ok((10 + u32::from(*digit - b'0'), rest)),
-        _ => Err(Fault::Misuse(Misuse::InputLine)),
+        [digit @ b'1'..=b'9', b' ', rest @ ..] => Some((u32::from(*digit - b'0'), rest)),
+        [b'1', digit @ b'0'..=b'6', b' ', rest @ ..] => Some((10 + u32::from(*digit - b'0'), rest)),
+        _ => None,
     }
 }
 
 /// The connection's number and the statement of a line.
-pub fn split_line(line: &[u8]) -> R<(u32, &str)> {
-    let (connection, statement) = split_number(line)?;
+pub fn split_line(line: &[u8]) -> R<(u32, &str)>
+    ensures found { IfOk result (λ found. Says line.now found.0 found.1.now × (length found.1.now ≤ 65536)) }
+    ensures refused { IfErr result (IsLineRefusal line.now) }
+{
+    let Some((connection, statement)) = split_number(line) else {
+        return Err(Fault::Misuse(Misuse::InputLine));
+    };
     if statement.len() > MAX_STATEMENT {
         return Err(Fault::TooLong);
     }
