@@ -1,6 +1,7 @@
 pub mod Calls
 pub mod File
 pub mod Kept
+pub mod Picked
 pub mod Left
 pub mod More
 pub mod Moments

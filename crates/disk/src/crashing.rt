@@ -1,9 +1,10 @@
 //! What a stop may leave of a file in memory.
 
-ghost use Rattle.std.specs.Prelude.{◌≡◌, ◌++◌, ◌+◌, drop, take, ◌≤◌, ◌<◌, length, IfOk, OnOk, slice_index};
-ghost use Rattle.disk.specs.File.{File, IsLeft, version_at, versions};
+ghost use Rattle.std.specs.Prelude.{◌≡◌, ◌++◌, ◌+◌, drop, take, ◌^◌, ◌≤◌, ◌<◌, ℕ, List, length, IfOk, OnOk, slice_index};
+ghost use Rattle.disk.specs.File.{File, Version, IsLeft, version_at, versions};
 ghost use Rattle.disk.specs.Calls.{overwritten};
-ghost use Rattle.disk.specs.Kept.{versions_of, picked, Stands};
+ghost use Rattle.disk.specs.Kept.{versions_of, Stands};
+ghost use Rattle.disk.specs.Picked.{picked, choices, left_by, IsPicked};
 ghost use Rattle.disk.specs.Replay.{file_of, step};
 
 use crate::change::Change;
@@ -105,20 +106,31 @@ impl Time {
         }
     }
 
-    // What a stop may leave, by these picks.
-    pub fn left(&self, alloc: Global, picks: &[u32]) -> Result<Vec<u8>, AllocError>
-        ensures { IfOk result (λ c. IsLeft (versions_of self.now) c.items) }
+    // How many versions a sector may come from, where this one gives the length.
+    fn count_choices(&self, from: usize) -> usize
+        requires { from ≤ length self.now.later.items }
+        ensures exact { result ≡ choices (versions_of self.now) from }
+        ensures within { result ≤ length self.now.later.items + 1 }
     {
         let count = self.later.len();
-        let from = pick(picks, 0, count + 1);
-        let mut end = from + 1;
-        while end <= count && !self.is_cut_at(end) {
-            end += 1;
+        'behind: for at in from + 1..count + 1 {
+            if self.is_cut_at(at) {
+                return at;
+            }
         }
-        let size = self.bytes_at(from).len();
+        count + 1
+    }
+
+    // What a stop may leave, by these picks.
+    pub fn left(&self, alloc: Global, picks: &[u32]) -> Result<Vec<u8>, AllocError>
+        ensures exact { IfOk result (λ c. c.items ≡ left_by (versions_of self.now) picks.now) }
+        ensures left { IfOk result (λ c. IsLeft (versions_of self.now) c.items) }
+    {
+        let from = pick(picks, 0, self.later.len() + 1);
+        let choices = self.count_choices(from);
         let mut left = Vec::new(alloc);
-        for at in 0..size {
-            let source = pick(picks, 1 + at / 512, end);
+        'bytes: for at in 0..self.bytes_at(from).len() {
+            let source = pick(picks, 1 + at / 512, choices);
             left.push(byte_at(self.bytes_at(source), at))?;
         }
         Ok(left)
@@ -141,3 +153,9 @@ fn pick(picks: &[u32], at: usize, count: usize) -> usize
         None => 0,
     }
 }
+
+/// The picks of `MemDisk::crash` reach each file that a stop may leave, and no other. (`Picked`.)
+pub fn every_left_file_is_picked()
+    ensures reached { (versions : List Version) (c : List ℕ) → length versions < 2 ^ 32 → IsLeft versions c → IsPicked versions c }
+    ensures no_other { (versions : List Version) (picks : List ℕ) → 0 < length versions → IsLeft versions (left_by versions picks) }
+{}

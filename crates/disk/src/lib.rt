@@ -8,6 +8,7 @@ mod device;
 mod kept;
 mod memory;
 
+pub use crashing::every_left_file_is_picked;
 pub use device::Disk;
 pub use memory::MemDisk;
 

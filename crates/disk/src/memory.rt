@@ -3,6 +3,7 @@
 ghost use Rattle.std.specs.Prelude.{◌≡◌, ◌+◌, ◌-◌, ◌^◌, [], ◌∷◌, ◌++◌, ℕ, true, false, is_ok, length, take, drop, IfOk, OnOk, OnErr, IfErr, IsOk, IsTrue, IsFalse, ◌⊎◌, ◌≤◌, ◌<◌, slice_index};
 ghost use Rattle.disk.specs.Calls.{overwritten};
 ghost use Rattle.disk.specs.File.{IsLeft, version_at, versions};
+ghost use Rattle.disk.specs.Picked.{left_by};
 ghost use Rattle.disk.specs.Replay.{file_of};
 
 use crate::change::Change;
@@ -91,8 +92,9 @@ impl MemDisk {
 
     /// What a stop may leave: the first pick chooses the version that gives the length, and each further one that of
     /// a sector of 512 bytes, among those before the next cut. A pick is taken modulo the number of versions that it chooses
-    /// from, and one that is missing counts as 0. (`Memory`.)
+    /// from, and one that is missing counts as 0. (`Memory`, `Picked`.)
     pub fn crash(&self, alloc: Global, picks: &[u32]) -> R<Vec<u8>>
+        ensures exact { IfOk result (λ c. c.items ≡ left_by (versions (memory_file self.now)) picks.now) }
         ensures left { IfOk result (λ c. IsLeft (versions (memory_file self.now)) c.items) }
         ensures refusal { IfErr result (λ e. e ≡ Fault.Memory) }
     {

@@ -17,6 +17,8 @@ fn a_stop_leaves_each_sector_of_one_version(rt: HostRuntime) -> Result<(), Fail>
     let mut first = filled(alloc, 1, 512)?;
     first.extend_from_slice(&filled(alloc, 0, 512)?)?;
     assert_eq!(rt; disk.crash(alloc, &[1, 1, 0])?.as_slice(), first.as_slice());
+    let blank = filled(alloc, 0, 1024)?;
+    assert_eq!(rt; disk.crash(alloc, &[1])?.as_slice(), blank.as_slice());
     Ok(())
 }
 

@@ -1,5 +1,10 @@
 pub mod Affinity
+pub mod Conversion
 pub mod Fields
+pub mod Flow
 pub mod Gives
+pub mod Lists
 pub mod Names
 pub mod Order
+pub mod Refusals
+pub mod Sameness

@@ -1,0 +1,7 @@
+mod BindingRows
+pub mod CalmConditions
+mod FormRows
+pub mod PlainFlows
+mod QueryRows
+mod ViewRows
+pub mod Written

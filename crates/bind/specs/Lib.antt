@@ -1,0 +1,16 @@
+pub mod Calm
+pub mod Expressions
+pub mod Grouping
+pub mod Keys
+pub mod Known
+pub mod Laws
+pub mod Limits
+pub mod Queries
+pub mod Readings
+pub mod Schema
+pub mod Scopes
+pub mod Tables
+pub mod Terms
+pub mod Values
+pub mod Views
+pub mod WellFormed

@@ -1,0 +1,97 @@
+-- The sources that an expression sees, and which column a name means (SQL As Understood By SQLite, "SELECT", 2.1 "Determination of input data").
+use Rattle.std.specs.Prelude.{ℕ, suc, Bool, true, false, not, ◌&&◌, List, [], ◌∷◌, ◌++◌, map, length, Option, Some, None, if◌then◌else◌, ◌==◌, codes}
+use Rattle.std.specs.List.{list_any}
+use Rattle.sqlval.specs.Lists.{any_twice}
+use Rattle.sqlval.specs.Names.{folded, is_same_name}
+use Rattle.sqlval.specs.Refusals.{Misuse}
+use Rattle.sqlval.specs.declared.affinity.Affinity.{Affinity}
+use Rattle.sqlval.specs.declared.affinity.Affinity.TheVariants as kind
+use Rattle.sqlval.specs.declared.collation.Collation.{Collation}
+use Rattle.sqlval.specs.declared.collation.Collation.TheVariants.{Binary}
+use Rattle.sqlval.specs.declared.value.Value.TheVariants.{Null}
+use Rattle.catalog.specs.Database.{Name, Table}
+use Rattle.bind.specs.Known.{Known, good, meant, is_good, known_all, unless, the_one}
+use Rattle.bind.specs.Terms.{Term, Const, Cell, At, RowId}
+
+-- a column that a name may mean
+pub record ScopeColumn : Type 0 where
+  -- folded; a view's column may have none
+  pub name : Option Name
+  pub affinity : Option Affinity
+  pub collation : Collation
+
+-- a source that an expression sees
+pub record ScopeSource : Type 0 where
+  -- folded
+  pub name : Name
+  pub columns : List ScopeColumn
+  pub has_rowid : Bool
+  -- NEW and OLD are found by their names alone
+  pub needs_name : Bool
+  -- false where its table or view is refused: what hangs on it has no refusal of its own
+  pub is_known : Bool
+
+-- a source as its table or view gives it: its columns, and whether it has a rowid
+abbrev pub source_of : Name → Known (List ScopeColumn × Bool) → ScopeSource
+source_of n k = record { name = n; columns = (meant k).0; has_rowid = (meant k).1; needs_name = false; is_known = is_good k }
+
+-- NEW and OLD can't be reached where a source of the statement has that name
+abbrev pub beside : List ScopeSource → List Name → List ScopeSource
+beside outer names = map shown outer
+  where
+    shown : ScopeSource → ScopeSource
+    shown s = if list_any (is_same_name s.name) names then record s { columns = []; has_rowid = false } else s
+
+abbrev is_named : Name → Option Name → Bool
+is_named n None = false
+is_named n (Some m) = is_same_name n m
+
+abbrev named_from : ℕ → ℕ → Name → List ScopeColumn → List Term
+named_from s i n [] = []
+named_from s i n (c ∷ cs) =
+    let rest = named_from s (suc i) n cs in
+    if is_named n c.name then (Cell s (At i) c.affinity c.collation ∷ rest) else rest
+
+-- the columns of that name, or else the rowid
+abbrev named_in : ℕ → Name → ScopeSource → List Term
+named_in s n source =
+    let columns = named_from s 0 n source.columns in
+    if length columns == 0 && source.has_rowid && is_same_name n (codes "rowid") then (Cell s RowId (Some kind.Integer) Binary ∷ []) else columns
+
+abbrev fits : Option Name → ScopeSource → Bool
+fits None source = not source.needs_name
+fits (Some q) source = is_same_name q source.name
+
+abbrev found : ℕ → Option Name → Name → List ScopeSource → List Term
+found s q n [] = []
+found s q n (source ∷ sources) = (if fits q source then named_in s n source else []) ++ found (suc s) q n sources
+
+-- the column that a name means, with the source that is written before it or none
+abbrev pub resolve_column : List ScopeSource → Option Name → Name → Known Term
+resolve_column scope q n = the_one (list_any (λ s. fits q s && not s.is_known) scope) (Const Null) (found 0 q n scope)
+
+-- a table's columns
+abbrev pub table_scope : Table → List ScopeColumn
+table_scope t = map (λ c. record { name = Some c.name; affinity = Some c.affinity; collation = c.collation }) t.columns
+
+-- a table as a source
+abbrev pub table_source : Name → Table → ScopeSource
+table_source n t = source_of (folded n) (good (table_scope t, true))
+
+abbrev places_from : ℕ → Name → List ScopeColumn → List ℕ
+places_from i n [] = []
+places_from i n (c ∷ cs) =
+    let rest = places_from (suc i) n cs in
+    elim c.name [ None ↦ rest | Some m ↦ (if is_same_name n m then (i ∷ rest) else rest) ]
+
+-- the place of a column by name
+abbrev pub place_of : ScopeSource → Name → Known ℕ
+place_of s n = the_one (not s.is_known) 0 (places_from 0 n s.columns)
+
+-- one name twice
+abbrev pub is_doubled : List Name → Bool
+is_doubled = any_twice is_same_name
+
+-- the places of a list of columns, none of them twice
+abbrev pub resolve_places : ScopeSource → List Name → Known (List ℕ)
+resolve_places s ns = unless (is_doubled ns) Misuse (known_all (map (place_of s) ns))

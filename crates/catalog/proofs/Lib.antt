@@ -1,0 +1,3 @@
+pub mod Conversions
+mod DatabaseRows
+mod ValueRows

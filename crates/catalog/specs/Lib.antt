@@ -1,0 +1,3 @@
+pub mod Database
+pub mod Laws
+pub mod Rows

@@ -1,0 +1,127 @@
+-- Worked examples of connections.
+use Rattle.std.specs.Prelude.{◌≡◌, refl, ℕ, pos, codes, None, Some, List, [], ◌∷◌}
+use Rattle.std.proofs.Common.{inl, inr, arith, sym, subst, ◌⊎◌}
+use mathlib.Core.Bool.{true≢false}
+use Rattle.sqlval.specs.Refusals.{Busy, StaleSnapshot, NoTransaction, NoSavepoint, InTransaction, Misuse, NoSuch, Raised, Unsupported}
+use Rattle.sqlval.specs.declared.value.Value.{Value}
+use Rattle.parser.specs.Tree.{Binary, Raise}
+use Rattle.parser.specs.declared.create.NewObject.TheVariants as new
+use Rattle.parser.specs.declared.create.TriggerEvent.TheVariants.{Insert, Delete}
+use Rattle.parser.specs.declared.create.TriggerStatement.TheVariants as program
+use Rattle.parser.specs.declared.create.TriggerTime.TheVariants.{After}
+use Rattle.parser.specs.declared.expr.Operator.TheVariants as op
+use Rattle.parser.specs.declared.expr.RaiseAction.TheVariants.{Rollback}
+use Rattle.parser.specs.declared.statement.BeginMode.TheVariants as begins
+use Rattle.parser.specs.declared.statement.CheckpointMode.TheVariants as checkpoint
+use Rattle.parser.specs.declared.statement.Statement.{Statement}
+use Rattle.parser.specs.declared.statement.Statement.TheVariants as statement
+use Rattle.catalog.specs.Database.{Name, Database, ATrigger, with_object}
+use Rattle.bind.proofs.Written.{number, named, named_of, select, result, delete, column_with, col, table, int, insert}
+use Rattle.trigger.specs.Binding.{IsFault}
+use Rattle.trigger.proofs.BindingRows.{no_faults_behind}
+use Rattle.session.specs.Built.{StepSoFar}
+use Rattle.session.specs.Machine.{Machine, Reply, Rows, Refused, fresh}
+use Rattle.session.specs.Outcomes.{outcome}
+use Rattle.session.specs.Steps.{Step, Allowed, after_commit}
+use Rattle.session.proofs.Replies.{replies, ok, creating, create_table, inserting, selecting, begin}
+
+abbrev t : Name
+t = codes "t"
+
+abbrev a : Name
+a = codes "a"
+
+abbrev create : Statement
+create = create_table t (column_with a [] [] ∷ [])
+
+abbrev add : ℕ → Statement
+add n = inserting t (number n ∷ [])
+
+abbrev read : Statement
+read = selecting (named a ∷ []) t
+
+abbrev i : ℕ → List Value
+i n = int n ∷ []
+
+pub snapshots : replies (fresh []) ((1, create) ∷ (1, add 1) ∷ (1, begin) ∷ (1, read) ∷ (2, add 2) ∷ (1, read) ∷ (1, add 3) ∷ (1, statement.Commit) ∷ (1, add 3) ∷ (1, read) ∷ [])
+    ≡ ok ∷ ok ∷ ok ∷ Rows (i 1 ∷ []) ∷ ok ∷ Rows (i 1 ∷ []) ∷ Refused StaleSnapshot ∷ ok ∷ ok ∷ Rows (i 1 ∷ i 2 ∷ i 3 ∷ []) ∷ []
+unfolding outcome
+snapshots = refl
+
+pub busy : replies (fresh []) ((1, create) ∷ (1, statement.Begin begins.Immediate) ∷ (2, add 1) ∷ (1, statement.Rollback) ∷ (2, add 1) ∷ (2, statement.Rollback) ∷ [])
+    ≡ ok ∷ ok ∷ Refused Busy ∷ ok ∷ ok ∷ Refused NoTransaction ∷ []
+unfolding outcome
+busy = refl
+
+pub begun_twice : replies (fresh []) ((1, begin) ∷ (1, begin) ∷ (1, statement.Checkpoint checkpoint.Passive) ∷ (1, statement.Commit) ∷ (1, statement.Commit) ∷ [])
+    ≡ ok ∷ Refused InTransaction ∷ Refused InTransaction ∷ ok ∷ Refused NoTransaction ∷ []
+unfolding outcome
+begun_twice = refl
+
+pub savepoints : replies (fresh []) ((1, create) ∷ (1, statement.Savepoint a) ∷ (1, add 1) ∷ (1, statement.Savepoint a) ∷ (1, add 2) ∷ (1, statement.RollbackTo a) ∷ (1, statement.Release a) ∷ (1, statement.Release a) ∷ (2, read) ∷ (1, statement.Release a) ∷ [])
+    ≡ ok ∷ ok ∷ ok ∷ ok ∷ ok ∷ ok ∷ ok ∷ ok ∷ Rows (i 1 ∷ []) ∷ Refused NoSavepoint ∷ []
+unfolding outcome
+savepoints = refl
+
+pub keeps_write_right : replies (fresh []) ((1, create) ∷ (1, begin) ∷ (1, statement.Savepoint a) ∷ (1, add 1) ∷ (1, statement.RollbackTo a) ∷ (2, add 2) ∷ (1, statement.Commit) ∷ (2, add 2) ∷ (2, read) ∷ [])
+    ≡ ok ∷ ok ∷ ok ∷ ok ∷ ok ∷ Refused Busy ∷ ok ∷ ok ∷ Rows (i 2 ∷ []) ∷ []
+unfolding outcome
+keeps_write_right = refl
+
+-- CREATE TRIGGER g AFTER INSERT ON t WHEN NEW.a = 2 BEGIN SELECT RAISE(ROLLBACK, 'x'); END
+abbrev undoing : Statement
+undoing = creating (new.Trigger (record { name = codes "g"; time = After; event = Insert; target = t; condition = Some (Binary op.Equal (named_of (codes "NEW") a) (number 2)); body = program.Select (select (result (Raise Rollback (codes "x")) ∷ []) []) ∷ [] }))
+
+pub undone : replies (fresh []) ((1, create) ∷ (1, undoing) ∷ (1, begin) ∷ (1, add 1) ∷ (1, add 2) ∷ (1, statement.Commit) ∷ (1, read) ∷ [])
+    ≡ ok ∷ ok ∷ ok ∷ ok ∷ Refused (Raised (codes "x")) ∷ Refused NoTransaction ∷ ok ∷ []
+unfolding outcome
+undone = refl
+
+-- SELECT RAISE(ROLLBACK, 'x')
+pub raise_rollback_outside : replies (fresh []) ((1, statement.Select (select (result (Raise Rollback (codes "x")) ∷ []) [])) ∷ []) ≡ Refused Misuse ∷ []
+unfolding outcome
+raise_rollback_outside = refl
+
+-- ---- steps
+
+abbrev one : Database
+one = with_object [] t (table (col a ∷ []) [])
+
+-- INSERT INTO t VALUES (1) => ok
+pub inserted : Step (fresh one) 1 (add 1) (Rows []) (after_commit (fresh one) 1 (with_object one t (table (col a ∷ []) ((pos 1, i 1) ∷ []))))
+unfolding outcome
+inserted = inr (inr (refl, refl, inl (inr (no_faults_behind one (insert t (number 1 ∷ [])) refl refl, (refl, inl refl)))))
+
+-- so it is while not all is built; a form that isn't is refused
+pub inserted_so_far : StepSoFar (fresh one) 1 (add 1) (Rows []) (after_commit (fresh one) 1 (with_object one t (table (col a ∷ []) ((pos 1, i 1) ∷ []))))
+inserted_so_far = inl (refl, inserted)
+
+pub not_built : StepSoFar (fresh one) 1 (statement.Change (delete t None)) (Refused Unsupported) (fresh one)
+not_built = inr (refl, refl, inr (inr (refl, refl, inl refl)))
+
+-- g AFTER DELETE ON t WHEN OLD.a = 99: DELETE FROM nosuch. DELETE FROM t, where t has no row
+abbrev with_g : Database
+with_g = with_object one (codes "g") (ATrigger (record { name = codes "g"; time = After; event = Delete; target = t; condition = Some (Binary op.Equal (named_of (codes "OLD") a) (number 99)); body = program.Change (delete (codes "nosuch") None) ∷ [] }))
+
+-- the reply is that there is no such table, and nothing else but want of memory, of room, or a failed disk
+pub trigger_refused : (r : Reply) (m : Machine) → r ≡ Refused NoSuch → m ≡ fresh with_g → Step (fresh with_g) 1 (statement.Change (delete t None)) r m
+unfolding outcome
+trigger_refused r m h k = inr (inr (refl, refl, inl (inl (NoSuch, (1, (0, omega arith, refl)), h, k))))
+
+pub trigger_not_served : (rows : List (List Value)) (m : Machine) → Step (fresh with_g) 1 (statement.Change (delete t None)) (Rows rows) m → ⊥
+unfolding outcome
+trigger_not_served rows m (inl h) = absurd (true≢false (sym h.0))
+trigger_not_served rows m (inr (inl h)) = absurd (true≢false h.1)
+trigger_not_served rows m (inr (inr h)) = served h.2
+  where
+    fault : IsFault with_g (delete t None) NoSuch
+    fault = (1, (0, omega arith, refl))
+
+    is_rows : Reply → Type 0
+    is_rows (Rows rows) = Unit {0}
+    is_rows (Refused r) = ⊥
+
+    served : Allowed (fresh with_g) 1 (outcome (fresh with_g) 1 (statement.Change (delete t None))) (Rows rows) m ⊎ ⊥ → ⊥
+    served (inl (inl x)) = subst is_rows x.2 tt
+    served (inl (inr x)) = x.0 NoSuch fault
+    served (inr x) = x

@@ -1,0 +1,4 @@
+mod ConnectionRows
+pub mod Refusals
+pub mod Replies
+mod SchemaRows

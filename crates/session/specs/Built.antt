@@ -1,0 +1,90 @@
+-- The forms of the grammar that are built so far, and a step while not all are. It only grows, and goes away when all are.
+use Rattle.std.specs.Prelude.{◌≡◌, Bool, true, false, not, ◌&&◌, ◌||◌, ◌⊎◌, ℕ, length, Option, Some, None, is_none, ◌==◌}
+use Rattle.std.specs.List.{list_all}
+use Rattle.sqlval.specs.Refusals.{Memory, Misuse, Unsupported, Failed}
+use Rattle.parser.specs.Tree as tree
+use Rattle.parser.specs.Tree.{Tree}
+use Rattle.parser.specs.declared.change.Change.{Change}
+use Rattle.parser.specs.declared.change.Change.TheVariants as change
+use Rattle.parser.specs.declared.change.InsertSource.{InsertSource}
+use Rattle.parser.specs.declared.change.InsertSource.TheVariants as source
+use Rattle.parser.specs.declared.create.NewObject.{NewObject}
+use Rattle.parser.specs.declared.create.NewObject.TheVariants as new
+use Rattle.parser.specs.declared.create.TableDefinition.{TableDefinition}
+use Rattle.parser.specs.declared.query.FromClause.{FromClause}
+use Rattle.parser.specs.declared.query.Query.{Query}
+use Rattle.parser.specs.declared.query.ResultItem.{ResultItem}
+use Rattle.parser.specs.declared.query.ResultItem.TheVariants.{All, AllOf, Of}
+use Rattle.parser.specs.declared.statement.Statement.{Statement}
+use Rattle.parser.specs.declared.statement.Statement.TheVariants as statement
+use Rattle.session.specs.Machine.{Machine, Reply, Refused}
+use Rattle.session.specs.Steps.{Step, is_connection}
+
+-- NULL, a number with or without a minus, a text or a blob
+abbrev pub is_literal_built : Tree → Bool
+is_literal_built tree.Null = true
+is_literal_built (tree.Integer n) = true
+is_literal_built (tree.Text t) = true
+is_literal_built (tree.Blob b) = true
+is_literal_built (tree.Negated (tree.Integer n)) = true
+is_literal_built _ = false
+
+abbrev is_column : Tree → Bool
+is_column (tree.Column q n) = true
+is_column _ = false
+
+-- `*`, a column or a literal
+abbrev pub is_result_built : ResultItem → Bool
+is_result_built All = true
+is_result_built (AllOf n) = true
+is_result_built (Of e n) = is_column e || is_literal_built e
+
+abbrev has_one_source : Option FromClause → Bool
+has_one_source None = true
+has_one_source (Some f) = length f.joins == 0
+
+-- results of one source or none, without more clauses
+abbrev pub is_query_built : Query → Bool
+is_query_built q =
+    not q.is_distinct && is_none q.condition && length q.groups == 0 && length q.order == 0 && is_none q.limit
+    && has_one_source q.from && list_all is_result_built q.results
+
+-- rows of literals
+abbrev pub is_source_built : InsertSource → Bool
+is_source_built (source.Rows rows) = list_all (list_all is_literal_built) rows
+is_source_built (source.Query q) = false
+
+-- columns of names and types alone
+abbrev pub is_table_built : TableDefinition → Bool
+is_table_built d = length d.rules == 0 && list_all (λ c. length c.rules == 0) d.columns
+
+abbrev is_object_built : NewObject → Bool
+is_object_built (new.Table d) = is_table_built d
+is_object_built _ = false
+
+abbrev is_change_built : Change → Bool
+is_change_built (change.Insert i) = is_source_built i.source
+is_change_built _ = false
+
+-- tables, inserted rows, queries of one source, and transactions
+abbrev pub is_built : Statement → Bool
+is_built (statement.Create c) = is_object_built c.object
+is_built (statement.Change c) = is_change_built c
+is_built (statement.Select q) = is_query_built q
+is_built (statement.Begin mode) = true
+is_built statement.Commit = true
+is_built statement.Rollback = true
+is_built _ = false
+
+-- the connections that are served so far
+abbrev pub is_served : ℕ → Bool
+is_served c = c == 1
+
+-- What isn't built or served is refused as unsupported, behind the engine's failure and the connection's number; want of memory may stand in its place.
+abbrev pub StepSoFar : Machine → ℕ → Statement → Reply → Machine → Type 0
+StepSoFar m c s reply new =
+    ((is_built s && is_served c) ≡ true) × Step m c s reply new
+    ⊎ ((is_built s && is_served c) ≡ false) × (new ≡ m) × (
+    (m.failed ≡ true) × (reply ≡ Refused Failed)
+    ⊎ (m.failed ≡ false) × (is_connection c ≡ false) × (reply ≡ Refused Misuse)
+    ⊎ (m.failed ≡ false) × (is_connection c ≡ true) × ((reply ≡ Refused Unsupported) ⊎ (reply ≡ Refused Memory)))

@@ -1,0 +1,2 @@
+pub mod BindingRows
+mod EffectRows

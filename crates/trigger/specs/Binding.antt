@@ -1,0 +1,72 @@
+-- The refusals of binding a change: its own, and those of the programs of all triggers that it can set off.
+use Rattle.std.specs.Prelude.{ℕ, zero, suc, false, List, [], ◌∷◌, ◌++◌, map, Option, Some, None, flat_map, Contains}
+use Rattle.sqlval.specs.Names.{folded}
+use Rattle.sqlval.specs.Refusals.{Refusal}
+use Rattle.sqlval.specs.declared.value.Value.TheVariants.{Null}
+use Rattle.parser.specs.Tree.{Tree}
+use Rattle.parser.specs.declared.change.Change.{Change}
+use Rattle.parser.specs.declared.change.Change.TheVariants.{Insert, Update, Delete}
+use Rattle.parser.specs.declared.create.TriggerDefinition.{TriggerDefinition}
+use Rattle.parser.specs.declared.create.TriggerStatement.{TriggerStatement}
+use Rattle.parser.specs.declared.create.TriggerStatement.TheVariants as program
+use Rattle.parser.specs.declared.create.TriggerTime.TheVariants.{Before, After, InsteadOf}
+use Rattle.catalog.specs.Database.{Name, Database}
+use Rattle.bind.specs.Expressions.{resolve}
+use Rattle.bind.specs.Known.{meant, faults}
+use Rattle.bind.specs.Queries.{resolve_query}
+use Rattle.bind.specs.Values.{Row}
+use Rattle.bind.specs.Views.{look_up}
+use Rattle.dml.specs.Changes.{Outer, no_outer, resolve_change}
+use Rattle.dml.specs.RowChanges.{Event, Inserting, Deleting, Updating}
+use Rattle.trigger.specs.Triggers.{outer_of, triggers_at}
+
+-- whose rows change, and by which event
+pub record Aim : Type 0 where
+  pub target : Name
+  pub event : Event
+
+-- what a change aims at
+abbrev pub aim_of : Change → Aim
+aim_of (Insert i) = record { target = folded i.table; event = Inserting }
+aim_of (Update u) = record { target = folded u.table; event = Updating (map (λ a. folded a.column) u.assignments) }
+aim_of (Delete d) = record { target = folded d.table; event = Deleting }
+
+-- the triggers that it can set off
+abbrev pub triggers_for : Database → Aim → List (Name × TriggerDefinition)
+triggers_for db a = flat_map (λ time. triggers_at time a.event db a.target) (Before ∷ InsteadOf ∷ After ∷ [])
+
+-- what their programs see, whatever NEW and OLD hold
+abbrev pub program_scope : Database → Aim → Outer
+program_scope db a = outer_of (record { target = a.target; event = a.event; columns = (meant (look_up db a.target)).0; has_rowid = (meant (look_up db a.target)).1; new = new a.event; old = old a.event })
+  where
+    nothing : Row
+    nothing = record { rowid = Null; values = [] }
+
+    new : Event → Option Row
+    new Deleting = None
+    new _ = Some nothing
+
+    old : Event → Option Row
+    old Inserting = None
+    old _ = Some nothing
+
+abbrev when_faults : Outer → Option Tree → List Refusal
+when_faults outer None = []
+when_faults outer (Some e) = faults (resolve false outer.scope e)
+
+abbrev statement_faults : (Outer → Change → List Refusal) → Database → Outer → TriggerStatement → List Refusal
+statement_faults f db outer (program.Change c) = f outer c
+statement_faults f db outer (program.Select q) = faults (resolve_query (look_up db) outer.scope q)
+
+-- of WHEN and of each statement, where f gives those of its changes
+abbrev pub program_faults : (Outer → Change → List Refusal) → Database → Outer → TriggerDefinition → List Refusal
+program_faults f db outer t = when_faults outer t.condition ++ flat_map (statement_faults f db outer) t.body
+
+-- the refusals behind a chain of so many triggers, each set off by a program of the one before
+abbrev pub faults_behind : ℕ → Database → Outer → Change → List Refusal
+faults_behind zero db outer c = faults (resolve_change db outer c)
+faults_behind (suc n) db outer c = flat_map (λ t. program_faults (faults_behind n db) db (program_scope db (aim_of c)) t.1) (triggers_for db (aim_of c))
+
+-- binding the change may be refused so
+abbrev pub IsFault : Database → Change → Refusal → Type 0
+IsFault db c r = (n : ℕ) × Contains (faults_behind n db no_outer c) r

@@ -1,0 +1,74 @@
+-- Which triggers an event sets off, and how their programs run (SQL As Understood By SQLite, "CREATE TRIGGER").
+use Rattle.std.specs.Prelude.{Bool, true, false, ◌&&◌, List, [], ◌∷◌, ◌++◌, map, Option, Some, None, Ok, if◌then◌else◌, codes, filter}
+use Rattle.std.specs.List.{list_any}
+use Rattle.sqlval.specs.Names.{is_same_name}
+use Rattle.sqlval.specs.Refusals.{Answer, ◌then◌, fold_answer}
+use Rattle.parser.specs.Tree.{Tree}
+use Rattle.parser.specs.declared.create.TriggerDefinition.{TriggerDefinition}
+use Rattle.parser.specs.declared.create.TriggerEvent.{TriggerEvent}
+use Rattle.parser.specs.declared.create.TriggerEvent.TheVariants.{Insert, Delete, Update}
+use Rattle.parser.specs.declared.create.TriggerStatement.{TriggerStatement}
+use Rattle.parser.specs.declared.create.TriggerTime.{TriggerTime}
+use Rattle.parser.specs.declared.create.TriggerTime.TheVariants.{Before, After, InsteadOf}
+use Rattle.catalog.specs.Database.{Name, Database, triggers_of}
+use Rattle.bind.specs.Expressions.{resolve}
+use Rattle.bind.specs.Known.{known_then}
+use Rattle.bind.specs.Readings.{holds}
+use Rattle.bind.specs.Scopes.{ScopeColumn, ScopeSource}
+use Rattle.bind.specs.Values.{Row}
+use Rattle.dml.specs.Changes.{Outer}
+use Rattle.dml.specs.RowChanges.{Event, Inserting, Deleting, Updating, Firing}
+
+-- ---- what a program sees
+
+abbrev one_of : Name → Bool → List ScopeColumn → Option Row → List (ScopeSource × Row)
+one_of n has_rowid cs None = []
+one_of n has_rowid cs (Some r) = (record { name = n; columns = cs; has_rowid = has_rowid; needs_name = true; is_known = true }, r) ∷ []
+
+-- NEW and OLD, as far as the event has them
+abbrev pub outer_of : Firing → Outer
+outer_of f =
+    let both : List (ScopeSource × Row) = one_of (codes "new") f.has_rowid f.columns f.new ++ one_of (codes "old") f.has_rowid f.columns f.old in
+    record { scope = map (λ p. p.0) both; rows = map (λ p. p.1) both }
+
+-- ---- which triggers
+
+-- UPDATE OF is set off where SET names one of its columns
+abbrev is_set_off : TriggerEvent → Event → Bool
+is_set_off Insert Inserting = true
+is_set_off Delete Deleting = true
+is_set_off (Update None) (Updating set) = true
+is_set_off (Update (Some ns)) (Updating set) = list_any (λ n. list_any (is_same_name n) set) ns
+is_set_off _ _ = false
+
+abbrev is_same_time : TriggerTime → TriggerTime → Bool
+is_same_time Before Before = true
+is_same_time After After = true
+is_same_time InsteadOf InsteadOf = true
+is_same_time _ _ = false
+
+-- the triggers of a time that an event on a table or view sets off, by name
+abbrev pub triggers_at : TriggerTime → Event → Database → Name → List (Name × TriggerDefinition)
+triggers_at time event db target = filter (λ t. is_same_time t.1.time time && is_set_off t.1.event event) (triggers_of db target)
+
+-- ---- how they run
+
+-- how a program runs: beside the names of the running triggers, over NEW and OLD
+abbrev pub Runner : Type 0
+Runner = List Name → Outer → Database → List TriggerStatement → Answer Database
+
+-- WHEN, where it is written, is true
+abbrev when_holds : Outer → Option Tree → Answer Bool
+when_holds outer None = Ok true
+when_holds outer (Some e) = known_then (resolve false outer.scope e) λ t. holds t outer.rows then elim [ Some true ↦ Ok true | _ ↦ Ok false ]
+
+-- a trigger that is running isn't set off again
+abbrev run_trigger : Runner → List Name → Outer → Database → Name × TriggerDefinition → Answer Database
+run_trigger run running outer db t =
+    if list_any (is_same_name t.0) running then Ok db
+    else (when_holds outer t.1.condition then λ b.
+    if b then run (t.0 ∷ running) outer db t.1.body else Ok db)
+
+-- the triggers that an event sets off, one after another by name; the first may change what the next finds, but not which there are
+abbrev pub fired : Runner → List Name → TriggerTime → Firing → Database → Answer Database
+fired run running time f db = fold_answer (run_trigger run running (outer_of f)) db (triggers_at time f.event db f.target)
