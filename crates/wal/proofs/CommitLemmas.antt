@@ -11,7 +11,8 @@ use Rattle.walframe.specs.Log.{frame_sum, frame_bytes, frame_of, salts_at, sum_a
 use Rattle.walframe.specs.Accepted.{IsPageSize, IsFrame, frame_start, frame_at, head_at, heads_to, sum_to, summed_to}
 use Rattle.walframe.specs.Written.{Framed, sum_of_framed, written, sum_behind, SaltsFit, AllFit}
 use Rattle.walframe.proofs.Fronts.{start_rises, frame_front_same, sum_to_front}
-use Rattle.walframe.proofs.Laws.{all_written, AreWritten, carried_fits}
+use Rattle.walframe.proofs.Laws.{all_written, carried_fits}
+use Rattle.walframe.specs.Appended.{AreWritten}
 use Rattle.walframe.specs.Sums.{words, zero_sum}
 use Rattle.walframe.proofs.Reading.{heads_len}
 use Rattle.wal.proofs.Opened.{heads_get, inside_log}

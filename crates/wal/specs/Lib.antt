@@ -4,3 +4,5 @@ pub mod Stands
 pub mod State
 pub mod Opening
 pub mod Refusals
+pub mod View
+pub mod Chains

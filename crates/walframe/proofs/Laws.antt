@@ -18,6 +18,7 @@ use Rattle.walframe.specs.Sums.{words, carried, zero_sum, next}
 use Rattle.walframe.specs.Log.{number_at, sum_at, salts_at, magic_told, order_told, fields_in, is_summed, header_of_format, header_by, header_in, header_front, header_sum, header_bytes, sum_bytes, frame_front, frame_head, frame_bytes, frame_of, sum_over}
 use Rattle.walframe.specs.Accepted.{IsPageSize, IsFrame, frame_start, frame_at, sum_to, head_at, heads_to}
 use Rattle.walframe.specs.Written.{Framed, sum_of_framed, written, sum_behind, SaltsFit, HeaderFits, FramedFits, AllFit}
+use Rattle.walframe.specs.Appended.{AreWritten}
 use Rattle.walframe.proofs.Fronts.{start_more, sum_to_front, is_frame_front, heads_to_front}
 use Rattle.walframe.proofs.Reading.{sum_more, sum_same}
 
@@ -38,7 +39,7 @@ carried_fits s (x ∷ y ∷ ws) fits = carried_fits (next s x y) ws (next_fits s
 carried_fits s (x ∷ []) fits = fits
 carried_fits s [] fits = fits
 
-zero_fits : SumFits zero_sum
+pub zero_fits : SumFits zero_sum
 zero_fits = record { first = omega arith; second = omega arith }
 
 -- two sums
@@ -147,12 +148,6 @@ one_written h front rest n f size salts fits sum_fits start = record {
         sum_more h log n size (omega (arith, start, length-append front (frame ++ rest)))
         ∙ ap (λ (s : Sum). sum_over h s (frame_at h log n)) (sum_to_front h front (frame ++ rest) n (omega (arith, start)))
         ∙ ap (sum_over h (sum_to h front n)) there
-
--- frames that were written behind n others: all of them are accepted
-pub record AreWritten (h : LogHeader) (log front : List ℕ) (n : ℕ) (fs : List Framed) : Type 0 where
-  pub each : (k : ℕ) → k < n + length fs → IsFrame h log k
-  pub heads : heads_to h log (n + length fs) ≡ heads_to h front n ++ map (λ (f : Framed). f.head) fs
-  pub sum_is : sum_to h log (n + length fs) ≡ sum_behind h (sum_to h front n) fs
 
 -- what stands before the next frame
 abbrev pub next_front : LogHeader → List ℕ → ℕ → Framed → List ℕ

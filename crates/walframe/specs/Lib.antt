@@ -3,3 +3,4 @@ pub mod Log
 pub mod Accepted
 pub mod Progress
 pub mod Written
+pub mod Appended

@@ -1,12 +1,14 @@
 //! The bytes of a write-ahead log: its sums, its header, its frames, and which of them count.
 #![tactic(auto)]
 
+mod appending;
 mod framing;
 mod heading;
 mod progress;
 mod scanning;
 mod sums;
 
+pub use appending::written_frames_are_accepted;
 pub use framing::FrameHeader;
 pub use heading::{LogHeader, Salts};
 pub use progress::Scan;

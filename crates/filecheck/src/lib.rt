@@ -1,0 +1,2 @@
+//! Which database the pages of a file stand for, as definitions.
+#![tactic(auto)]

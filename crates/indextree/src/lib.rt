@@ -1,0 +1,2 @@
+//! What an index's tree is, as definitions: pages that hold entries in rising order, on leaves and between them.
+#![tactic(auto)]

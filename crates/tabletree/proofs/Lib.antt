@@ -1,0 +1,2 @@
+pub mod PayloadRows
+pub mod WholeLeaf

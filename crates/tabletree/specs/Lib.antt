@@ -1,0 +1,4 @@
+pub mod Map
+pub mod Payload
+pub mod Cells
+pub mod Tree

@@ -1,0 +1,58 @@
+-- Which frames the log of a header is meant to have, and that a stop leaves no others (Database File Format, 4.1 "WAL File
+-- Format" and 4.3 "Checkpoint Algorithm").
+use Rattle.std.specs.Prelude.{◌≡◌, ◌<◌, ℕ, zero, suc, List, [], ◌∷◌, ◌++◌, length, drop, slice_get, Some, Ok}
+use Rattle.disk.specs.File.{File, Version, IsLeft, versions, version_at}
+use Rattle.walframe.specs.declared.heading.LogHeader.{LogHeader}
+use Rattle.walframe.specs.Log.{header_in}
+use Rattle.walframe.specs.Accepted.{IsAccepted, frame_at, head_at}
+use Rattle.walframe.specs.Written.{Framed}
+
+-- frame k of a log: its page's number, the size of the database, and the page
+abbrev pub framed_at : LogHeader → List ℕ → ℕ → Framed
+framed_at h log k = record { head = head_at h log k; page = drop 24 (frame_at h log k) }
+
+-- the first n frames
+abbrev pub framed_to : LogHeader → List ℕ → ℕ → List Framed
+framed_to h log zero = []
+framed_to h log (suc n) = framed_to h log n ++ framed_at h log n ∷ []
+
+-- a header, and how many frames there are under it
+pub record Chained : Type 0 where
+  pub header : LogHeader
+  pub count : ℕ
+
+-- this content begins with this valid header
+abbrev pub BeginsWith : LogHeader → List ℕ → Type 0
+BeginsWith h content = header_in content ≡ Ok (Some h)
+
+-- the newest version that begins with the header
+pub record IsNewestOf (versions : List Version) (h : LogHeader) (i : ℕ) : Type 0 where
+  pub within : i < length versions
+  pub has : BeginsWith h (version_at versions i).bytes
+  pub newest : (j : ℕ) → i < j → j < length versions → BeginsWith h (version_at versions j).bytes → ⊥
+
+-- The chain of a header: that many first frames of the newest version that begins with it.
+pub record IsChainOf (versions : List Version) (chained : Chained) (chain : List Framed) : Type 0 where
+  pub version : ℕ
+  pub is : IsNewestOf versions chained.header version
+  pub frames : chain ≡ framed_to chained.header (version_at versions version).bytes chained.count
+
+-- an accepted frame is the one at its place in the chain of one of these headers
+pub record IsChained (versions : List Version) (headers : List Chained) (h : LogHeader) (k : ℕ) (frame : Framed) : Type 0 where
+  pub place : ℕ
+  pub count : ℕ
+  pub chain : List Framed
+  pub known : slice_get headers place ≡ Some (record { header = h; count = count })
+  pub is : IsChainOf versions (record { header = h; count = count }) chain
+  pub same : slice_get chain k ≡ Some frame
+
+-- No chance match: in each log that a stop may leave of these versions, each accepted frame is the one at its place in its
+-- header's chain.
+abbrev pub NoChanceMatchIn : List Version → List Chained → Type 0
+NoChanceMatchIn versions headers =
+    (log : List ℕ) (h : LogHeader) (accepted k : ℕ) → IsLeft versions log → BeginsWith h log → IsAccepted h log accepted → k < accepted
+    → IsChained versions headers h k (framed_at h log k)
+
+-- and of a file as it is now
+abbrev pub NoChanceMatch : File → List Chained → Type 0
+NoChanceMatch log headers = NoChanceMatchIn (versions log) headers
