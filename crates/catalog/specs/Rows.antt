@@ -1,4 +1,4 @@
--- Which rows a table may hold, and in which order (Database File Format, 1.5 "B-tree Pages", and Implementation Limits For SQLite).
+-- Which rows a table may hold, and in which order (Database File Format, 1.6 "B-tree Pages", and Implementation Limits For SQLite).
 use Rattle.std.specs.Prelude.{ℕ, Bool, true, false, ◌&&◌, List, map, length, ℤ, Option, Some, None, nat_le, nat_lt, ◌==◌, slice_get}
 use Rattle.std.specs.List.{list_all}
 use Rattle.std.specs.Str.Lossy.{utf8_valid_len}
