@@ -4,15 +4,15 @@ use Rattle.sqlval.specs.Conversion.{word}
 use Rattle.sqlval.specs.Refusals.{NoSuch, Misuse, Ambiguous, Exists}
 use Rattle.sqlval.specs.declared.collation.Collation.{Collation}
 use Rattle.sqlval.specs.declared.value.Value.{Value}
-use Rattle.parser.specs.Tree.{Tree, Call, CallAll, Paren, Binary, Collate, Raise, End, More}
-use Rattle.parser.specs.declared.create.ColumnRule.TheVariants as column
-use Rattle.parser.specs.declared.create.TableRule.TheVariants as rule
-use Rattle.parser.specs.declared.create.TriggerEvent.TheVariants.{Update}
-use Rattle.parser.specs.declared.create.TriggerTime.TheVariants.{After}
-use Rattle.parser.specs.declared.expr.Operator.TheVariants as op
-use Rattle.parser.specs.declared.expr.RaiseAction.TheVariants.{Abort}
-use Rattle.parser.specs.declared.query.JoinKind.TheVariants.{Inner}
-use Rattle.parser.specs.declared.query.ResultItem.TheVariants.{All, AllOf}
+use Rattle.syntax.specs.Tree.{Tree, Call, CallAll, Paren, Binary, Collate, Raise, End, More}
+use Rattle.syntax.specs.declared.create.ColumnRule.TheVariants as column
+use Rattle.syntax.specs.declared.create.TableRule.TheVariants as rule
+use Rattle.syntax.specs.declared.create.TriggerEvent.TheVariants.{Update}
+use Rattle.syntax.specs.declared.create.TriggerTime.TheVariants.{After}
+use Rattle.syntax.specs.declared.expr.Operator.TheVariants as op
+use Rattle.syntax.specs.declared.expr.RaiseAction.TheVariants.{Abort}
+use Rattle.syntax.specs.declared.query.JoinKind.TheVariants.{Inner}
+use Rattle.syntax.specs.declared.query.ResultItem.TheVariants.{All, AllOf}
 use Rattle.catalog.specs.Database.{Name, Database, AView, with_object}
 use Rattle.bind.specs.Known.{faults}
 use Rattle.bind.specs.Queries.{resolve_query}

@@ -7,11 +7,11 @@ use Rattle.sqlval.specs.declared.affinity.Affinity.{Affinity}
 use Rattle.sqlval.specs.declared.affinity.Affinity.TheVariants as kind
 use Rattle.sqlval.specs.declared.collation.Collation.TheVariants.{Binary}
 use Rattle.sqlval.specs.declared.value.Value.TheVariants.{Text}
-use Rattle.parser.specs.Tree.{Tree, Paren}
-use Rattle.parser.specs.declared.create.ColumnDefinition.{ColumnDefinition}
-use Rattle.parser.specs.declared.create.ColumnRule.TheVariants as column
-use Rattle.parser.specs.declared.create.NewObject.TheVariants as new
-use Rattle.parser.specs.declared.create.TableRule.TheVariants as rule
+use Rattle.syntax.specs.Tree.{Tree, Paren}
+use Rattle.syntax.specs.declared.create.ColumnDefinition.{ColumnDefinition}
+use Rattle.syntax.specs.declared.create.ColumnRule.TheVariants as column
+use Rattle.syntax.specs.declared.create.NewObject.TheVariants as new
+use Rattle.syntax.specs.declared.create.TableRule.TheVariants as rule
 use Rattle.catalog.specs.Database.{Name, Database}
 use Rattle.bind.specs.Calm.{is_calm, is_search}
 use Rattle.bind.specs.Known.{meant}

@@ -6,10 +6,10 @@ use Rattle.sqlval.specs.Refusals.{NoSuch, Misuse}
 use Rattle.sqlval.specs.declared.collation.Collation.{Collation}
 use Rattle.sqlval.specs.declared.collation.Collation.TheVariants.{Binary, NoCase, RTrim}
 use Rattle.sqlval.specs.declared.value.Value.TheVariants.{Null, Text, Blob}
-use Rattle.parser.specs.Tree as tree
-use Rattle.parser.specs.Tree.{Tree, Trees}
-use Rattle.parser.specs.declared.expr.Operator.{Operator}
-use Rattle.parser.specs.declared.expr.Operator.TheVariants as op
+use Rattle.syntax.specs.Tree as tree
+use Rattle.syntax.specs.Tree.{Tree, Trees}
+use Rattle.syntax.specs.declared.expr.Operator.{Operator}
+use Rattle.syntax.specs.declared.expr.Operator.TheVariants as op
 use Rattle.catalog.specs.Database.{Name}
 use Rattle.bind.specs.Known.{Known, good, bad, both, all_three, known_map, unless}
 use Rattle.bind.specs.Scopes.{ScopeSource, resolve_column}

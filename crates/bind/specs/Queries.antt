@@ -5,16 +5,16 @@ use Rattle.std.specs.Option.{option_or}
 use Rattle.sqlval.specs.Names.{folded, is_same_name}
 use Rattle.sqlval.specs.Refusals.{NoSuch, Misuse, TooLong}
 use Rattle.sqlval.specs.declared.value.Value.TheVariants.{Null}
-use Rattle.parser.specs.Tree as tree
-use Rattle.parser.specs.Tree.{Tree}
-use Rattle.parser.specs.declared.query.Join.{Join}
-use Rattle.parser.specs.declared.query.JoinKind.{JoinKind}
-use Rattle.parser.specs.declared.query.JoinKind.TheVariants as join
-use Rattle.parser.specs.declared.query.Limit.{Limit}
-use Rattle.parser.specs.declared.query.Query.{Query}
-use Rattle.parser.specs.declared.query.ResultItem.{ResultItem}
-use Rattle.parser.specs.declared.query.ResultItem.TheVariants.{All, AllOf, Of}
-use Rattle.parser.specs.declared.query.Source.{Source}
+use Rattle.syntax.specs.Tree as tree
+use Rattle.syntax.specs.Tree.{Tree}
+use Rattle.syntax.specs.declared.query.Join.{Join}
+use Rattle.syntax.specs.declared.query.JoinKind.{JoinKind}
+use Rattle.syntax.specs.declared.query.JoinKind.TheVariants as join
+use Rattle.syntax.specs.declared.query.Limit.{Limit}
+use Rattle.syntax.specs.declared.query.Query.{Query}
+use Rattle.syntax.specs.declared.query.ResultItem.{ResultItem}
+use Rattle.syntax.specs.declared.query.ResultItem.TheVariants.{All, AllOf, Of}
+use Rattle.syntax.specs.declared.query.Source.{Source}
 use Rattle.catalog.specs.Database.{Name}
 use Rattle.bind.specs.Expressions.{resolve}
 use Rattle.bind.specs.Grouping.{has, has_total, is_own_cell, keyed}

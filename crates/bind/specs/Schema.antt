@@ -5,19 +5,19 @@ use Rattle.std.specs.FinMap.Entries.{put}
 use Rattle.sqlval.specs.Names.{folded, is_same_name}
 use Rattle.sqlval.specs.Refusals.{NoSuch, Exists, Misuse}
 use Rattle.sqlval.specs.declared.collation.Collation.{Collation}
-use Rattle.parser.specs.declared.create.IndexColumn.{IndexColumn}
-use Rattle.parser.specs.declared.create.IndexDefinition.{IndexDefinition}
-use Rattle.parser.specs.declared.create.NewObject.{NewObject}
-use Rattle.parser.specs.declared.create.NewObject.TheVariants as new
-use Rattle.parser.specs.declared.create.TableDefinition.{TableDefinition}
-use Rattle.parser.specs.declared.create.TriggerDefinition.{TriggerDefinition}
-use Rattle.parser.specs.declared.create.TriggerEvent.{TriggerEvent}
-use Rattle.parser.specs.declared.create.TriggerEvent.TheVariants.{Update}
-use Rattle.parser.specs.declared.create.TriggerTime.{TriggerTime}
-use Rattle.parser.specs.declared.create.TriggerTime.TheVariants.{InsteadOf}
-use Rattle.parser.specs.declared.create.ViewDefinition.{ViewDefinition}
-use Rattle.parser.specs.declared.statement.ObjectKind.{ObjectKind}
-use Rattle.parser.specs.declared.statement.ObjectKind.TheVariants as kind
+use Rattle.syntax.specs.declared.create.IndexColumn.{IndexColumn}
+use Rattle.syntax.specs.declared.create.IndexDefinition.{IndexDefinition}
+use Rattle.syntax.specs.declared.create.NewObject.{NewObject}
+use Rattle.syntax.specs.declared.create.NewObject.TheVariants as new
+use Rattle.syntax.specs.declared.create.TableDefinition.{TableDefinition}
+use Rattle.syntax.specs.declared.create.TriggerDefinition.{TriggerDefinition}
+use Rattle.syntax.specs.declared.create.TriggerEvent.{TriggerEvent}
+use Rattle.syntax.specs.declared.create.TriggerEvent.TheVariants.{Update}
+use Rattle.syntax.specs.declared.create.TriggerTime.{TriggerTime}
+use Rattle.syntax.specs.declared.create.TriggerTime.TheVariants.{InsteadOf}
+use Rattle.syntax.specs.declared.create.ViewDefinition.{ViewDefinition}
+use Rattle.syntax.specs.declared.statement.ObjectKind.{ObjectKind}
+use Rattle.syntax.specs.declared.statement.ObjectKind.TheVariants as kind
 use Rattle.catalog.specs.Database.{Name, Database, object, with_object, Object, ATable, AnIndex, AView, ATrigger, Table, Index, name_order}
 use Rattle.bind.specs.Expressions.{resolve_collation}
 use Rattle.bind.specs.Keys.{has_clash}

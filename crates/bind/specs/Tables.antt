@@ -12,13 +12,13 @@ use Rattle.sqlval.specs.declared.collation.Collation.{Collation}
 use Rattle.sqlval.specs.declared.collation.Collation.TheVariants.{Binary}
 use Rattle.sqlval.specs.declared.value.Value.{Value}
 use Rattle.sqlval.specs.declared.value.Value.TheVariants.{Null}
-use Rattle.parser.specs.Tree.{Tree}
-use Rattle.parser.specs.declared.create.ColumnDefinition.{ColumnDefinition}
-use Rattle.parser.specs.declared.create.ColumnRule.{ColumnRule}
-use Rattle.parser.specs.declared.create.ColumnRule.TheVariants as column
-use Rattle.parser.specs.declared.create.TableDefinition.{TableDefinition}
-use Rattle.parser.specs.declared.create.TableRule.{TableRule}
-use Rattle.parser.specs.declared.create.TableRule.TheVariants as rule
+use Rattle.syntax.specs.Tree.{Tree}
+use Rattle.syntax.specs.declared.create.ColumnDefinition.{ColumnDefinition}
+use Rattle.syntax.specs.declared.create.ColumnRule.{ColumnRule}
+use Rattle.syntax.specs.declared.create.ColumnRule.TheVariants as column
+use Rattle.syntax.specs.declared.create.TableDefinition.{TableDefinition}
+use Rattle.syntax.specs.declared.create.TableRule.{TableRule}
+use Rattle.syntax.specs.declared.create.TableRule.TheVariants as rule
 use Rattle.catalog.specs.Database.{Name, Table, TableColumn}
 use Rattle.bind.specs.Expressions.{resolve, resolve_collation}
 use Rattle.bind.specs.Known.{Known, good, bad, both, known_map, known_all, ◌and_then◌, unless}

@@ -7,8 +7,8 @@ use Rattle.sqlval.specs.declared.affinity.Affinity.{Affinity}
 use Rattle.sqlval.specs.declared.collation.Collation.{Collation}
 use Rattle.sqlval.specs.declared.collation.Collation.TheVariants.{Binary, NoCase, RTrim}
 use Rattle.sqlval.specs.declared.value.Value.{Value}
-use Rattle.parser.specs.declared.expr.RaiseAction.{RaiseAction}
-use Rattle.parser.specs.declared.expr.RaiseAction.TheVariants.{Abort, Rollback}
+use Rattle.syntax.specs.declared.expr.RaiseAction.{RaiseAction}
+use Rattle.syntax.specs.declared.expr.RaiseAction.TheVariants.{Abort, Rollback}
 
 -- ---- operators
 

@@ -14,8 +14,8 @@ use Rattle.sqlval.specs.declared.collation.Collation.{Collation}
 use Rattle.sqlval.specs.declared.collation.Collation.TheVariants.{Binary}
 use Rattle.sqlval.specs.declared.value.Value.{Value}
 use Rattle.sqlval.specs.declared.value.Value.TheVariants.{Null, Int, Text, Blob}
-use Rattle.parser.specs.declared.expr.RaiseAction.{RaiseAction}
-use Rattle.parser.specs.declared.expr.RaiseAction.TheVariants.{Abort, Rollback}
+use Rattle.syntax.specs.declared.expr.RaiseAction.{RaiseAction}
+use Rattle.syntax.specs.declared.expr.RaiseAction.TheVariants.{Abort, Rollback}
 use Rattle.bind.specs.Terms.{Term, Terms, Place, RowId, At, Function, Abs, Coalesce, Length, Lower, Upper, TypeOf, Aggregate, CountAll, Count, Sum, Min, Max, Const, Digits, Cell, Key, Apply, Total, One, Two, Collate, In, Between, Raise, End, More, Comparison, Equal, NotEqual, Less, LessOrEqual, Greater, GreaterOrEqual, Arithmetic, Add, Subtract, Multiply, Divide, Remainder, OneSided, Negated, Not, TwoSided, Compare, Calculate, Is, IsNot, And, Or, Concatenate, affinity, collation, collation_of_two}
 
 -- ---- comparison (Datatypes In SQLite, 4 "Comparison Expressions")

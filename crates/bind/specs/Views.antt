@@ -5,7 +5,7 @@ use Rattle.sqlval.specs.Names.{folded, is_same_name}
 use Rattle.sqlval.specs.Refusals.{Answer, ◌then◌, NoSuch, Misuse, TooLong}
 use Rattle.sqlval.specs.declared.value.Value.{Value}
 use Rattle.sqlval.specs.declared.value.Value.TheVariants.{Null, Int}
-use Rattle.parser.specs.declared.query.Query.{Query}
+use Rattle.syntax.specs.declared.query.Query.{Query}
 use Rattle.catalog.specs.Database.{Name, Database, object, Object, ATable, AView, Table, View}
 use Rattle.bind.specs.Known.{Known, good, bad, unless, ◌and_then◌, known_then}
 use Rattle.bind.specs.Queries.{Lookup, resolve_query}

@@ -2,10 +2,10 @@
 use Rattle.std.specs.Prelude.{◌≡◌, ℕ, Bool, true, false, ◌&&◌, ◌⊎◌, List, [], ◌∷◌, Some, filter, Contains, ⊤}
 use Rattle.sqlval.specs.Names.{folded, is_same_name}
 use Rattle.sqlval.specs.declared.collation.Collation.{Collation}
-use Rattle.parser.specs.declared.create.IndexDefinition.{IndexDefinition}
-use Rattle.parser.specs.declared.create.NewObject.TheVariants as new
-use Rattle.parser.specs.declared.create.TableDefinition.{TableDefinition}
-use Rattle.parser.specs.declared.create.ViewDefinition.{ViewDefinition}
+use Rattle.syntax.specs.declared.create.IndexDefinition.{IndexDefinition}
+use Rattle.syntax.specs.declared.create.NewObject.TheVariants as new
+use Rattle.syntax.specs.declared.create.TableDefinition.{TableDefinition}
+use Rattle.syntax.specs.declared.create.ViewDefinition.{ViewDefinition}
 use Rattle.catalog.specs.Database.{Name, Database, object, Object, ATable, AnIndex, AView, ATrigger, Table}
 use Rattle.catalog.specs.Rows.{is_in_order}
 use Rattle.bind.specs.Known.{good}

@@ -8,9 +8,9 @@ use Rattle.sqlval.specs.Names.{folded, is_same_name}
 use Rattle.sqlval.specs.declared.affinity.Affinity.{Affinity}
 use Rattle.sqlval.specs.declared.collation.Collation.{Collation}
 use Rattle.sqlval.specs.declared.value.Value.{Value}
-use Rattle.parser.specs.Tree.{Tree}
-use Rattle.parser.specs.declared.query.Query.{Query}
-use Rattle.parser.specs.declared.create.TriggerDefinition.{TriggerDefinition}
+use Rattle.syntax.specs.Tree.{Tree}
+use Rattle.syntax.specs.declared.query.Query.{Query}
+use Rattle.syntax.specs.declared.create.TriggerDefinition.{TriggerDefinition}
 
 -- as it is written, or folded
 abbrev pub Name : Type 0

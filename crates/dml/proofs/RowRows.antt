@@ -6,10 +6,10 @@ use Rattle.sqlval.specs.declared.affinity.Affinity.TheVariants as kind
 use Rattle.sqlval.specs.declared.collation.Collation.TheVariants.{Binary}
 use Rattle.sqlval.specs.declared.value.Value.{Value}
 use Rattle.sqlval.specs.declared.value.Value.TheVariants.{Null, Text}
-use Rattle.parser.specs.Tree.{CallAll, Binary}
-use Rattle.parser.specs.declared.change.Change.TheVariants as change
-use Rattle.parser.specs.declared.change.InsertSource.TheVariants as source
-use Rattle.parser.specs.declared.expr.Operator.TheVariants as op
+use Rattle.syntax.specs.Tree.{CallAll, Binary}
+use Rattle.syntax.specs.declared.change.Change.TheVariants as change
+use Rattle.syntax.specs.declared.change.InsertSource.TheVariants as source
+use Rattle.syntax.specs.declared.expr.Operator.TheVariants as op
 use Rattle.catalog.specs.Database.{Name, Database, ATable, AnIndex, with_object}
 use Rattle.bind.specs.Known.{faults}
 use Rattle.bind.specs.Terms.{Digits}

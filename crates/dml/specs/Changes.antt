@@ -3,11 +3,11 @@ use Rattle.std.specs.Prelude.{ℕ, suc, Bool, false, not, ◌&&◌, List, [], �
 use Rattle.std.specs.List.{list_any}
 use Rattle.sqlval.specs.Names.{folded}
 use Rattle.sqlval.specs.Refusals.{Misuse}
-use Rattle.parser.specs.declared.change.Assignment.{Assignment}
-use Rattle.parser.specs.declared.change.Change.{Change}
-use Rattle.parser.specs.declared.change.Change.TheVariants.{Insert, Update, Delete}
-use Rattle.parser.specs.declared.change.InsertSource.{InsertSource}
-use Rattle.parser.specs.declared.change.InsertSource.TheVariants as source
+use Rattle.syntax.specs.declared.change.Assignment.{Assignment}
+use Rattle.syntax.specs.declared.change.Change.{Change}
+use Rattle.syntax.specs.declared.change.Change.TheVariants.{Insert, Update, Delete}
+use Rattle.syntax.specs.declared.change.InsertSource.{InsertSource}
+use Rattle.syntax.specs.declared.change.InsertSource.TheVariants as source
 use Rattle.catalog.specs.Database.{Name, Database}
 use Rattle.bind.specs.Expressions.{resolve}
 use Rattle.bind.specs.Known.{Known, good, noted, both, known_map, known_all, ◌and_then◌, unless}

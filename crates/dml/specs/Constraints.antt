@@ -5,7 +5,7 @@ use Rattle.sqlval.specs.Conversion.{converted}
 use Rattle.sqlval.specs.Refusals.{Answer, ◌then◌, Refusal, NoSuch, RowidFull, RowidMismatch, NotNull, Check, Unique, fold_answer}
 use Rattle.sqlval.specs.declared.value.Value.{Value}
 use Rattle.sqlval.specs.declared.value.Value.TheVariants.{Null, Int}
-use Rattle.parser.specs.Tree.{Tree}
+use Rattle.syntax.specs.Tree.{Tree}
 use Rattle.catalog.specs.Database.{Name, Database, object, with_object, ATable, Table, TableColumn, Index, row, with_row, indexes_of}
 use Rattle.bind.specs.Expressions.{resolve}
 use Rattle.bind.specs.Keys.{is_null, clash}

@@ -4,8 +4,8 @@ use Rattle.std.specs.Cmp.Lexicographic.{pointwise}
 use Rattle.sqlval.specs.Refusals.{Answer, ◌then◌, RowChangedBefore}
 use Rattle.sqlval.specs.Sameness.{is_same_value}
 use Rattle.sqlval.specs.declared.value.Value.{Value}
-use Rattle.parser.specs.declared.create.TriggerTime.{TriggerTime}
-use Rattle.parser.specs.declared.create.TriggerTime.TheVariants.{Before, After}
+use Rattle.syntax.specs.declared.create.TriggerTime.{TriggerTime}
+use Rattle.syntax.specs.declared.create.TriggerTime.TheVariants.{Before, After}
 use Rattle.catalog.specs.Database.{Name, Database, with_object, ATable, Table, row, without_row}
 use Rattle.bind.specs.Readings.{env_of, values}
 use Rattle.bind.specs.Scopes.{ScopeColumn, table_scope}

@@ -1,7 +1,7 @@
 //! The names of a statement, looked up in the schema.
 
 use crate::catalog::{Catalog, Table};
-use parser::{Expr, FromClause, Insert, InsertSource, Node, Query, ResultItem};
+use syntax::{Expr, FromClause, Insert, InsertSource, Node, Query, ResultItem};
 use sqlval::{Fault, Feature, Many, Misuse, Name, Object, R, Value};
 use std::alloc::Global;
 

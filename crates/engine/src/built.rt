@@ -1,6 +1,6 @@
 //! The forms of the grammar that are built so far. It only grows, and goes away when all are.
 
-use parser::{
+use syntax::{
     Change, Create, Expr, Insert, InsertSource, NewObject, Node, Query, ResultItem, Statement,
     TableDefinition,
 };

@@ -2,7 +2,7 @@
 
 use crate::tabletree::{Leaf, next_rowid, with_rows};
 use page::Cell;
-use parser::{
+use syntax::{
     ColumnDefinition, Create, DeclaredType, NewObject, Statement, TableDefinition, parse,
 };
 use record::{Record, encode, is_storable};

@@ -8,7 +8,7 @@ use crate::pager::{Writer, read_page};
 use crate::plan::{Plan, Scan, plan_of};
 use crate::{dml, rowprog, tabletree};
 use disk::Disk;
-use parser::{BeginMode, Change, Create, Insert, NewObject, Query, Statement, TableDefinition};
+use syntax::{BeginMode, Change, Create, Insert, NewObject, Query, Statement, TableDefinition};
 use sqlval::{Damage, Fault, Feature, Misuse, R, Text};
 use std::alloc::Global;
 use std::mem;

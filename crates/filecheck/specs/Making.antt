@@ -8,17 +8,17 @@ use Rattle.sqlval.specs.declared.collation.Collation.{Collation}
 use Rattle.sqlval.specs.declared.collation.Collation.TheVariants.{Binary, NoCase, RTrim}
 use Rattle.sqlval.specs.declared.value.Value.{Value}
 use Rattle.sqlval.specs.declared.value.Value.TheVariants.{Null}
-use Rattle.parser.specs.Tree.{Tree}
-use Rattle.parser.specs.declared.create.TableDefinition.{TableDefinition}
-use Rattle.parser.specs.declared.create.ColumnDefinition.{ColumnDefinition}
-use Rattle.parser.specs.declared.create.DeclaredType.{DeclaredType}
-use Rattle.parser.specs.declared.create.ColumnRule.{ColumnRule}
-use Rattle.parser.specs.declared.create.ColumnRule.TheVariants as column
-use Rattle.parser.specs.declared.create.TableRule.{TableRule}
-use Rattle.parser.specs.declared.create.TableRule.TheVariants as rule
-use Rattle.parser.specs.declared.create.IndexDefinition.{IndexDefinition}
-use Rattle.parser.specs.declared.create.IndexColumn.{IndexColumn}
-use Rattle.parser.specs.declared.create.ViewDefinition.{ViewDefinition}
+use Rattle.syntax.specs.Tree.{Tree}
+use Rattle.syntax.specs.declared.create.TableDefinition.{TableDefinition}
+use Rattle.syntax.specs.declared.create.ColumnDefinition.{ColumnDefinition}
+use Rattle.syntax.specs.declared.create.DeclaredType.{DeclaredType}
+use Rattle.syntax.specs.declared.create.ColumnRule.{ColumnRule}
+use Rattle.syntax.specs.declared.create.ColumnRule.TheVariants as column
+use Rattle.syntax.specs.declared.create.TableRule.{TableRule}
+use Rattle.syntax.specs.declared.create.TableRule.TheVariants as rule
+use Rattle.syntax.specs.declared.create.IndexDefinition.{IndexDefinition}
+use Rattle.syntax.specs.declared.create.IndexColumn.{IndexColumn}
+use Rattle.syntax.specs.declared.create.ViewDefinition.{ViewDefinition}
 use Rattle.tabletree.specs.Cells.{Pairwise}
 use Rattle.catalog.specs.Database.{Name, TableColumn, Table, Index, View}
 

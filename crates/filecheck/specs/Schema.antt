@@ -7,12 +7,12 @@ use Rattle.sqlval.specs.declared.value.Value.{Value}
 use Rattle.sqlval.specs.declared.value.Value.TheVariants.{Null, Int, Text}
 use Rattle.record.specs.Record.{IsRecord}
 use Rattle.page.specs.Leaf.{Entry}
-use Rattle.parser.specs.declared.create.NewObject.{NewObject}
-use Rattle.parser.specs.declared.create.NewObject.TheVariants as new
-use Rattle.parser.specs.declared.create.TableDefinition.{TableDefinition}
-use Rattle.parser.specs.declared.create.IndexDefinition.{IndexDefinition}
-use Rattle.parser.specs.declared.create.ViewDefinition.{ViewDefinition}
-use Rattle.parser.specs.declared.create.TriggerDefinition.{TriggerDefinition}
+use Rattle.syntax.specs.declared.create.NewObject.{NewObject}
+use Rattle.syntax.specs.declared.create.NewObject.TheVariants as new
+use Rattle.syntax.specs.declared.create.TableDefinition.{TableDefinition}
+use Rattle.syntax.specs.declared.create.IndexDefinition.{IndexDefinition}
+use Rattle.syntax.specs.declared.create.ViewDefinition.{ViewDefinition}
+use Rattle.syntax.specs.declared.create.TriggerDefinition.{TriggerDefinition}
 use Rattle.catalog.specs.Database.{Name, Database, Object, ATable, AnIndex, AView, ATrigger, Table, Index, View, name_order, object, indexes_of}
 use Rattle.filecheck.specs.Making.{IsTableOf, IsIndexOf, IsViewOf, automatic_of}
 

@@ -1,5 +1,1 @@
-pub mod Code
-pub mod Falls
 pub mod Refusals
-pub mod Tree
-pub mod View

@@ -1,26 +1,20 @@
 //! Changes of rows.
 
-use crate::change::{Assignment, Change, Delete, Insert, InsertSource, Update};
-use crate::expr::Expr;
-use crate::expressions::{expression, maybe_behind, row};
-use crate::names::{maybe_name_row, name};
-use crate::patterns::{mark, word};
 use crate::queries::query;
-use crate::refusal::{Read, Refusal, unexpected};
-use crate::token::{Spelled, Tokens};
-use crate::words::{after_word, mark, word};
+use expressions::{Read, Refusal, Spelled, Tokens, after_word, expression, keyword, kind, mark, maybe_behind, maybe_name_row, name, row, unexpected, word};
 use lexer::{Keyword, Kind};
 use sqlval::Many;
+use syntax::{Assignment, Change, Delete, Expr, Insert, InsertSource, Update};
 use std::alloc::Global;
 
 /// An INSERT, UPDATE or DELETE.
 pub fn change<'a>(alloc: Global, spelled: Spelled<'_>, tokens: Tokens<'a>) -> Read<'a, Change> {
     match tokens {
-        [word!(Insert), rest @ ..] => {
+        [keyword!(Insert), rest @ ..] => {
             let (insert, rest) = insert(alloc, spelled, rest)?;
             Ok((Change::Insert(insert), rest))
         }
-        [word!(Update), rest @ ..] => {
+        [keyword!(Update), rest @ ..] => {
             let (update, rest) = update(alloc, spelled, rest)?;
             Ok((Change::Update(update), rest))
         }
@@ -69,7 +63,7 @@ fn rows<'a>(alloc: Global, spelled: Spelled<'_>, tokens: Tokens<'a>) -> Read<'a,
         let (next, after) = row(alloc, spelled, rest)?;
         rows.push(next)?;
         match after {
-            [mark!(Comma), behind @ ..] => rest = behind,
+            [kind!(Comma), behind @ ..] => rest = behind,
             _ => return Ok((rows, after)),
         }
     }
@@ -101,7 +95,7 @@ fn assignments<'a>(
         let (next, after) = assignment(alloc, spelled, rest)?;
         assignments.push(next)?;
         match after {
-            [mark!(Comma), behind @ ..] => rest = behind,
+            [kind!(Comma), behind @ ..] => rest = behind,
             _ => return Ok((assignments, after)),
         }
     }

@@ -1,16 +1,12 @@
 //! What CREATE makes.
 
-use crate::create::{IndexColumn, IndexDefinition, NewObject, ViewDefinition};
-use crate::names::{maybe_name_row, name};
-use crate::patterns::{mark, word};
 use crate::queries::{MOST_COLUMNS, query};
-use crate::refusal::{Read, Refusal, unexpected, within};
 use crate::tables::table;
-use crate::token::{Spelled, Tokens};
 use crate::triggers::trigger;
-use crate::words::{after_word, mark, word};
+use expressions::{Read, Refusal, Spelled, Tokens, after_word, keyword, kind, mark, maybe_name_row, name, unexpected, within, word};
 use lexer::{Keyword, Kind};
 use sqlval::Many;
+use syntax::{IndexColumn, IndexDefinition, NewObject, ViewDefinition};
 use std::alloc::Global;
 
 /// A new object, behind CREATE.
@@ -20,15 +16,15 @@ pub fn new_object<'a>(
     tokens: Tokens<'a>,
 ) -> Read<'a, NewObject> {
     match tokens {
-        [word!(Table), rest @ ..] => {
+        [keyword!(Table), rest @ ..] => {
             let (table, rest) = table(alloc, spelled, rest)?;
             Ok((NewObject::Table(table), rest))
         }
-        [word!(View), rest @ ..] => {
+        [keyword!(View), rest @ ..] => {
             let (view, rest) = view(alloc, spelled, rest)?;
             Ok((NewObject::View(view), rest))
         }
-        [word!(Trigger), rest @ ..] => {
+        [keyword!(Trigger), rest @ ..] => {
             let (trigger, rest) = trigger(alloc, spelled, rest)?;
             Ok((NewObject::Trigger(trigger), rest))
         }
@@ -58,7 +54,7 @@ fn view<'a>(alloc: Global, spelled: Spelled<'_>, tokens: Tokens<'a>) -> Read<'a,
 
 fn index<'a>(alloc: Global, spelled: Spelled<'_>, tokens: Tokens<'a>) -> Read<'a, IndexDefinition> {
     let (is_unique, rest) = match tokens {
-        [word!(Unique), rest @ ..] => (true, rest),
+        [keyword!(Unique), rest @ ..] => (true, rest),
         _ => (false, tokens),
     };
     let (own, rest) = name(alloc, spelled, word(Keyword::Index, rest)?)?;
@@ -88,7 +84,7 @@ fn index_columns<'a>(
         columns.push(next)?;
         within(columns.len(), MOST_COLUMNS)?;
         match after {
-            [mark!(Comma), behind @ ..] => rest = behind,
+            [kind!(Comma), behind @ ..] => rest = behind,
             _ => return Ok((columns, after)),
         }
     }

@@ -5,13 +5,12 @@ ghost use Rattle.lexer.specs.Lex as lex;
 ghost use Rattle.lexer.specs.Spans.{Stand};
 ghost use Rattle.parser.specs.Refusals.{IsParsingFault, RefusesAs};
 
-use crate::refusal::Refusal;
-use crate::statement::Statement;
 use crate::statements::whole;
-use crate::token::Spelled;
+use expressions::{Refusal, Spelled};
 use lexer::tokens;
 use sqlval::{Fault, Feature, R};
 use std::alloc::Global;
+use syntax::Statement;
 
 /// The statement that a text is. A text of more than 65,536 bytes is `TooLong`; else the first token that isn't one is
 /// refused as `tokens` does; then a first word of a statement that isn't served is `Unsupported`; then a text outside the

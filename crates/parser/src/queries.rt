@@ -1,15 +1,9 @@
 //! Queries.
 
-use crate::expr::Expr;
-use crate::expressions::{expression, expressions, maybe_behind};
-use crate::names::{maybe_name, name};
-use crate::patterns::{mark, word};
-use crate::query::{FromClause, Join, JoinKind, Limit, OrderTerm, Query, ResultItem, Source};
-use crate::refusal::{Read, Refusal, unexpected, within};
-use crate::token::{Spelled, Tokens};
-use crate::words::{after_word, optional, word};
+use expressions::{Read, Refusal, Spelled, Tokens, after_word, expression, expressions, keyword, kind, maybe_behind, maybe_name, name, optional, unexpected, within, word};
 use lexer::{Keyword, Kind};
 use sqlval::{Many, Name};
+use syntax::{Expr, FromClause, Join, JoinKind, Limit, OrderTerm, Query, ResultItem, Source};
 use std::alloc::Global;
 
 /// The greatest number of results, and of columns in a list.
@@ -44,7 +38,7 @@ pub fn query<'a>(alloc: Global, spelled: Spelled<'_>, tokens: Tokens<'a>) -> Rea
 
 fn distinct<'a>(tokens: Tokens<'a>) -> (bool, Tokens<'a>) {
     match tokens {
-        [word!(Distinct), rest @ ..] => (true, rest),
+        [keyword!(Distinct), rest @ ..] => (true, rest),
         _ => (false, tokens),
     }
 }
@@ -61,7 +55,7 @@ fn results<'a>(
         results.push(item)?;
         within(results.len(), MOST_COLUMNS)?;
         match after {
-            [mark!(Comma), next @ ..] => rest = next,
+            [kind!(Comma), next @ ..] => rest = next,
             _ => return Ok((results, after)),
         }
     }
@@ -74,11 +68,11 @@ fn result_item<'a>(
     tokens: Tokens<'a>,
 ) -> Read<'a, ResultItem> {
     match tokens {
-        [mark!(Star), rest @ ..] => Ok((ResultItem::All, rest)),
+        [kind!(Star), rest @ ..] => Ok((ResultItem::All, rest)),
         [
-            mark!(Name) | mark!(QuotedName),
-            mark!(Dot),
-            mark!(Star),
+            kind!(Name) | kind!(QuotedName),
+            kind!(Dot),
+            kind!(Star),
             rest @ ..,
         ] => {
             let (source, _) = name(alloc, spelled, tokens)?;
@@ -119,7 +113,7 @@ fn from<'a>(
 fn source<'a>(alloc: Global, spelled: Spelled<'_>, tokens: Tokens<'a>) -> Read<'a, Source> {
     let (table, rest) = name(alloc, spelled, tokens)?;
     let (alias, rest) = match rest {
-        [word!(As), ..] => maybe_as(alloc, spelled, rest)?,
+        [keyword!(As), ..] => maybe_as(alloc, spelled, rest)?,
         _ => maybe_name(alloc, spelled, rest)?,
     };
     Ok((Source { name: table, alias }, rest))
@@ -144,10 +138,10 @@ fn joins<'a>(alloc: Global, spelled: Spelled<'_>, tokens: Tokens<'a>) -> Read<'a
 /// How a further source is joined, where one comes next.
 fn join_kind<'a>(tokens: Tokens<'a>) -> Read<'a, Option<JoinKind>> {
     match tokens {
-        [mark!(Comma), rest @ ..] => Ok((Some(JoinKind::Comma), rest)),
-        [word!(Join), rest @ ..] => Ok((Some(JoinKind::Inner), rest)),
-        [word!(Inner), rest @ ..] => Ok((Some(JoinKind::Inner), word(Keyword::Join, rest)?)),
-        [word!(Left), rest @ ..] => {
+        [kind!(Comma), rest @ ..] => Ok((Some(JoinKind::Comma), rest)),
+        [keyword!(Join), rest @ ..] => Ok((Some(JoinKind::Inner), rest)),
+        [keyword!(Inner), rest @ ..] => Ok((Some(JoinKind::Inner), word(Keyword::Join, rest)?)),
+        [keyword!(Left), rest @ ..] => {
             let rest = word(Keyword::Join, optional(Keyword::Outer, rest))?;
             Ok((Some(JoinKind::Left), rest))
         }
@@ -204,7 +198,7 @@ fn order_terms<'a>(
         let (term, after) = order_term(alloc, spelled, rest)?;
         terms.push(term)?;
         match after {
-            [mark!(Comma), next @ ..] => rest = next,
+            [kind!(Comma), next @ ..] => rest = next,
             _ => return Ok((terms, after)),
         }
     }
@@ -214,8 +208,8 @@ fn order_terms<'a>(
 fn order_term<'a>(alloc: Global, spelled: Spelled<'_>, tokens: Tokens<'a>) -> Read<'a, OrderTerm> {
     let (expression, rest) = expression(alloc, spelled, tokens)?;
     let (is_descending, rest) = match rest {
-        [word!(Desc), rest @ ..] => (true, rest),
-        [word!(Asc), rest @ ..] => (false, rest),
+        [keyword!(Desc), rest @ ..] => (true, rest),
+        [keyword!(Asc), rest @ ..] => (false, rest),
         _ => (false, rest),
     };
     Ok((

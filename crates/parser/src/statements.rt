@@ -4,17 +4,12 @@ ghost use Rattle.std.specs.Prelude.{◌≤◌, length};
 ghost use Rattle.lexer.specs.Spans.{Stand};
 
 use crate::changes::change;
-use crate::create::Create;
-use crate::names::{maybe_name, name};
 use crate::objects::new_object;
-use crate::patterns::{mark, word};
 use crate::queries::query;
-use crate::refusal::{Read, Refusal, unexpected};
-use crate::statement::{BeginMode, CheckpointMode, ObjectKind, Statement};
-use crate::token::{Spelled, Tokens, all};
-use crate::words::{after_word, mark, optional, word};
+use expressions::{Read, Refusal, Spelled, Tokens, after_word, all, keyword, kind, mark, maybe_name, name, optional, unexpected};
 use lexer::{Keyword, Kind};
 use sqlval::{Name, Text};
+use syntax::{BeginMode, CheckpointMode, Create, ObjectKind, Statement};
 use std::alloc::{AllocError, Global};
 
 /// A whole statement, with a closing semicolon or without.
@@ -30,8 +25,8 @@ pub fn whole(alloc: Global, text: &str, spelled: Spelled<'_>) -> Result<Statemen
 /// Nothing but a closing semicolon may be left.
 fn end(tokens: Tokens<'_>) -> Result<(), Refusal> {
     match tokens {
-        [] | [mark!(Semicolon)] => Ok(()),
-        [mark!(Semicolon), rest @ ..] => Err(unexpected(rest)),
+        [] | [kind!(Semicolon)] => Ok(()),
+        [kind!(Semicolon), rest @ ..] => Err(unexpected(rest)),
         _ => Err(unexpected(tokens)),
     }
 }
@@ -45,17 +40,17 @@ fn statement<'a>(
     requires { Stand 0 text.now spelled.now }
 {
     match tokens {
-        [word!(Create), rest @ ..] => create(alloc, text, spelled, rest),
-        [word!(Drop), rest @ ..] => drop_object(alloc, spelled, rest),
-        [word!(Insert) | word!(Update) | word!(Delete), ..] => {
+        [keyword!(Create), rest @ ..] => create(alloc, text, spelled, rest),
+        [keyword!(Drop), rest @ ..] => drop_object(alloc, spelled, rest),
+        [keyword!(Insert) | keyword!(Update) | keyword!(Delete), ..] => {
             let (change, rest) = change(alloc, spelled, tokens)?;
             Ok((Statement::Change(change), rest))
         }
-        [word!(Select), ..] => {
+        [keyword!(Select), ..] => {
             let (query, rest) = query(alloc, spelled, tokens)?;
             Ok((Statement::Select(query), rest))
         }
-        [word!(Pragma), rest @ ..] => pragma(alloc, spelled, rest),
+        [keyword!(Pragma), rest @ ..] => pragma(alloc, spelled, rest),
         [token, ..] if is_refused(token.kind) => Err(Refusal::Unsupported),
         _ => transaction(alloc, spelled, tokens),
     }
@@ -119,10 +114,10 @@ fn body_text(alloc: Global, text: &str, spelled: Spelled<'_>) -> Result<Text, Al
 
 fn drop_object<'a>(alloc: Global, spelled: Spelled<'_>, tokens: Tokens<'a>) -> Read<'a, Statement> {
     let (kind, rest) = match tokens {
-        [word!(Table), rest @ ..] => (ObjectKind::Table, rest),
-        [word!(Index), rest @ ..] => (ObjectKind::Index, rest),
-        [word!(View), rest @ ..] => (ObjectKind::View, rest),
-        [word!(Trigger), rest @ ..] => (ObjectKind::Trigger, rest),
+        [keyword!(Table), rest @ ..] => (ObjectKind::Table, rest),
+        [keyword!(Index), rest @ ..] => (ObjectKind::Index, rest),
+        [keyword!(View), rest @ ..] => (ObjectKind::View, rest),
+        [keyword!(Trigger), rest @ ..] => (ObjectKind::Trigger, rest),
         _ => return Err(unexpected(tokens)),
     };
     let (name, rest) = name(alloc, spelled, rest)?;
@@ -131,18 +126,18 @@ fn drop_object<'a>(alloc: Global, spelled: Spelled<'_>, tokens: Tokens<'a>) -> R
 
 fn transaction<'a>(alloc: Global, spelled: Spelled<'_>, tokens: Tokens<'a>) -> Read<'a, Statement> {
     match tokens {
-        [word!(Begin), rest @ ..] => Ok(begin(rest)),
-        [word!(Commit), rest @ ..] => {
+        [keyword!(Begin), rest @ ..] => Ok(begin(rest)),
+        [keyword!(Commit), rest @ ..] => {
             Ok((Statement::Commit, optional(Keyword::Transaction, rest)))
         }
-        [word!(Rollback), rest @ ..] => {
+        [keyword!(Rollback), rest @ ..] => {
             rollback(alloc, spelled, optional(Keyword::Transaction, rest))
         }
-        [word!(Savepoint), rest @ ..] => {
+        [keyword!(Savepoint), rest @ ..] => {
             let (name, rest) = name(alloc, spelled, rest)?;
             Ok((Statement::Savepoint(name), rest))
         }
-        [word!(Release), rest @ ..] => {
+        [keyword!(Release), rest @ ..] => {
             let (name, rest) = name(alloc, spelled, optional(Keyword::Savepoint, rest))?;
             Ok((Statement::Release(name), rest))
         }
@@ -152,8 +147,8 @@ fn transaction<'a>(alloc: Global, spelled: Spelled<'_>, tokens: Tokens<'a>) -> R
 
 fn begin<'a>(tokens: Tokens<'a>) -> (Statement, Tokens<'a>) {
     let (mode, rest) = match tokens {
-        [word!(Deferred), rest @ ..] => (BeginMode::Deferred, rest),
-        [word!(Immediate), rest @ ..] => (BeginMode::Immediate, rest),
+        [keyword!(Deferred), rest @ ..] => (BeginMode::Deferred, rest),
+        [keyword!(Immediate), rest @ ..] => (BeginMode::Immediate, rest),
         _ => (BeginMode::Deferred, tokens),
     };
     (Statement::Begin(mode), optional(Keyword::Transaction, rest))
@@ -185,7 +180,7 @@ fn pragma<'a>(alloc: Global, spelled: Spelled<'_>, tokens: Tokens<'a>) -> Read<'
 /// A name in parentheses, where a parenthesis comes next.
 fn argument<'a>(alloc: Global, spelled: Spelled<'_>, tokens: Tokens<'a>) -> Read<'a, Option<Name>> {
     match tokens {
-        [mark!(LeftParen), rest @ ..] => {
+        [kind!(LeftParen), rest @ ..] => {
             let (argument, rest) = name(alloc, spelled, rest)?;
             Ok((Some(argument), mark(Kind::RightParen, rest)?))
         }

@@ -1,16 +1,10 @@
 //! Tables with their columns and rules.
 
-use crate::create::{ColumnDefinition, ColumnRule, DeclaredType, TableDefinition, TableRule};
-use crate::expressions::enclosed;
-use crate::literals::{blob_of, text_of};
-use crate::names::{maybe_name, name, name_row};
-use crate::patterns::{mark, word};
 use crate::queries::{MOST_COLUMNS, integer};
-use crate::refusal::{Read, Refusal, unexpected, within};
-use crate::token::{Spelled, Tok, Tokens, spelling};
-use crate::words::{mark, word};
+use expressions::{Read, Refusal, Spelled, Tok, Tokens, blob_of, enclosed, keyword, kind, mark, maybe_name, name, name_row, spelling, text_of, unexpected, within, word};
 use lexer::{Keyword, Kind};
 use sqlval::{Many, Name, Value};
+use syntax::{ColumnDefinition, ColumnRule, DeclaredType, TableDefinition, TableRule};
 use std::alloc::Global;
 
 /// A table, behind CREATE TABLE.
@@ -46,7 +40,7 @@ fn columns<'a>(
         columns.push(next)?;
         within(columns.len(), MOST_COLUMNS)?;
         match after {
-            [mark!(Comma), behind @ ..] if !begins_rule(behind) => rest = behind,
+            [kind!(Comma), behind @ ..] if !begins_rule(behind) => rest = behind,
             _ => return Ok((columns, after)),
         }
     }
@@ -54,7 +48,7 @@ fn columns<'a>(
 }
 
 fn begins_rule(tokens: Tokens<'_>) -> bool {
-    matches!(tokens, [word!(Primary) | word!(Unique) | word!(Check), ..])
+    matches!(tokens, [keyword!(Primary) | keyword!(Unique) | keyword!(Check), ..])
 }
 
 /// The rules behind the columns, each behind a comma.
@@ -66,7 +60,7 @@ fn table_rules<'a>(
     let mut rules = Many::new(alloc);
     let mut rest = tokens;
     'rules: for _ in 0..tokens.len() {
-        let [mark!(Comma), behind @ ..] = rest else {
+        let [kind!(Comma), behind @ ..] = rest else {
             return Ok((rules, rest));
         };
         let (rule, after) = table_rule(alloc, spelled, behind)?;
@@ -78,11 +72,11 @@ fn table_rules<'a>(
 
 fn table_rule<'a>(alloc: Global, spelled: Spelled<'_>, tokens: Tokens<'a>) -> Read<'a, TableRule> {
     match tokens {
-        [word!(Primary), rest @ ..] => {
+        [keyword!(Primary), rest @ ..] => {
             let (columns, rest) = key_columns(alloc, spelled, word(Keyword::Key, rest)?)?;
             Ok((TableRule::PrimaryKey(columns), rest))
         }
-        [word!(Unique), rest @ ..] => {
+        [keyword!(Unique), rest @ ..] => {
             let (columns, rest) = key_columns(alloc, spelled, rest)?;
             Ok((TableRule::Unique(columns), rest))
         }
@@ -128,7 +122,7 @@ fn declared_type<'a>(
 ) -> Read<'a, DeclaredType> {
     let (words, rest) = type_words(alloc, spelled, tokens)?;
     let (is_sized, rest) = match rest {
-        [mark!(LeftParen), rest @ ..] => (true, sizes(rest)?),
+        [kind!(LeftParen), rest @ ..] => (true, sizes(rest)?),
         _ => (false, rest),
     };
     Ok((DeclaredType { words, is_sized }, rest))
@@ -152,7 +146,7 @@ fn type_words<'a>(alloc: Global, spelled: Spelled<'_>, tokens: Tokens<'a>) -> Re
 fn sizes<'a>(tokens: Tokens<'a>) -> Result<Tokens<'a>, Refusal> {
     let (_, rest) = integer(tokens)?;
     let rest = match rest {
-        [mark!(Comma), rest @ ..] => integer(rest)?.1,
+        [kind!(Comma), rest @ ..] => integer(rest)?.1,
         _ => rest,
     };
     mark(Kind::RightParen, rest)
@@ -183,18 +177,18 @@ fn column_rule<'a>(
     tokens: Tokens<'a>,
 ) -> Read<'a, Option<ColumnRule>> {
     let (rule, rest) = match tokens {
-        [word!(Primary), rest @ ..] => (ColumnRule::PrimaryKey, word(Keyword::Key, rest)?),
-        [word!(Unique), rest @ ..] => (ColumnRule::Unique, rest),
-        [word!(Not), rest @ ..] => (ColumnRule::NotNull, word(Keyword::Null, rest)?),
-        [word!(Default), rest @ ..] => {
+        [keyword!(Primary), rest @ ..] => (ColumnRule::PrimaryKey, word(Keyword::Key, rest)?),
+        [keyword!(Unique), rest @ ..] => (ColumnRule::Unique, rest),
+        [keyword!(Not), rest @ ..] => (ColumnRule::NotNull, word(Keyword::Null, rest)?),
+        [keyword!(Default), rest @ ..] => {
             let (value, rest) = signed(alloc, spelled, rest)?;
             (ColumnRule::Default(value), rest)
         }
-        [word!(Collate), rest @ ..] => {
+        [keyword!(Collate), rest @ ..] => {
             let (collation, rest) = name(alloc, spelled, rest)?;
             (ColumnRule::Collate(collation), rest)
         }
-        [word!(Check), rest @ ..] => {
+        [keyword!(Check), rest @ ..] => {
             let (condition, rest) = enclosed(alloc, spelled, rest)?;
             (ColumnRule::Check(condition), rest)
         }
@@ -206,7 +200,7 @@ fn column_rule<'a>(
 /// A literal, where an integer may have a minus.
 fn signed<'a>(alloc: Global, spelled: Spelled<'_>, tokens: Tokens<'a>) -> Read<'a, Value> {
     match tokens {
-        [mark!(Minus), rest @ ..] => {
+        [kind!(Minus), rest @ ..] => {
             let (n, rest) = integer(rest)?;
             Ok((Value::Int(negative(n)), rest))
         }

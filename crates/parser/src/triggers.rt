@@ -1,16 +1,11 @@
 //! Triggers.
 
 use crate::changes::change;
-use crate::create::{TriggerDefinition, TriggerEvent, TriggerStatement, TriggerTime};
-use crate::expressions::maybe_behind;
-use crate::names::{name, names};
-use crate::patterns::word;
 use crate::queries::query;
-use crate::refusal::{Read, Refusal, unexpected};
-use crate::token::{Spelled, Tokens};
-use crate::words::{after_word, mark, word};
+use expressions::{Read, Refusal, Spelled, Tokens, after_word, keyword, mark, maybe_behind, name, names, unexpected, word};
 use lexer::{Keyword, Kind};
 use sqlval::Many;
+use syntax::{TriggerDefinition, TriggerEvent, TriggerStatement, TriggerTime};
 use std::alloc::Global;
 
 /// A trigger, behind CREATE TRIGGER.
@@ -40,8 +35,8 @@ pub fn trigger<'a>(
 
 fn time<'a>(tokens: Tokens<'a>) -> Read<'a, TriggerTime> {
     match tokens {
-        [word!(Before), rest @ ..] => Ok((TriggerTime::Before, rest)),
-        [word!(After), rest @ ..] => Ok((TriggerTime::After, rest)),
+        [keyword!(Before), rest @ ..] => Ok((TriggerTime::Before, rest)),
+        [keyword!(After), rest @ ..] => Ok((TriggerTime::After, rest)),
         _ => {
             let rest = word(Keyword::Of, word(Keyword::Instead, tokens)?)?;
             Ok((TriggerTime::InsteadOf, rest))
@@ -51,9 +46,9 @@ fn time<'a>(tokens: Tokens<'a>) -> Read<'a, TriggerTime> {
 
 fn event<'a>(alloc: Global, spelled: Spelled<'_>, tokens: Tokens<'a>) -> Read<'a, TriggerEvent> {
     match tokens {
-        [word!(Insert), rest @ ..] => Ok((TriggerEvent::Insert, rest)),
-        [word!(Delete), rest @ ..] => Ok((TriggerEvent::Delete, rest)),
-        [word!(Update), word!(Of), rest @ ..] => {
+        [keyword!(Insert), rest @ ..] => Ok((TriggerEvent::Insert, rest)),
+        [keyword!(Delete), rest @ ..] => Ok((TriggerEvent::Delete, rest)),
+        [keyword!(Update), keyword!(Of), rest @ ..] => {
             let (columns, rest) = names(alloc, spelled, rest)?;
             Ok((TriggerEvent::Update(Some(columns)), rest))
         }
@@ -95,7 +90,7 @@ fn body_statement<'a>(
     tokens: Tokens<'a>,
 ) -> Read<'a, TriggerStatement> {
     match tokens {
-        [word!(Select), ..] => {
+        [keyword!(Select), ..] => {
             let (query, rest) = query(alloc, spelled, tokens)?;
             Ok((TriggerStatement::Select(query), rest))
         }

@@ -4,17 +4,17 @@ use Rattle.std.proofs.Common.{inl, inr, arith, sym, subst, ◌⊎◌}
 use mathlib.Core.Bool.{true≢false}
 use Rattle.sqlval.specs.Refusals.{Busy, StaleSnapshot, NoTransaction, NoSavepoint, InTransaction, Misuse, NoSuch, Raised, Unsupported}
 use Rattle.sqlval.specs.declared.value.Value.{Value}
-use Rattle.parser.specs.Tree.{Binary, Raise}
-use Rattle.parser.specs.declared.create.NewObject.TheVariants as new
-use Rattle.parser.specs.declared.create.TriggerEvent.TheVariants.{Insert, Delete}
-use Rattle.parser.specs.declared.create.TriggerStatement.TheVariants as program
-use Rattle.parser.specs.declared.create.TriggerTime.TheVariants.{After}
-use Rattle.parser.specs.declared.expr.Operator.TheVariants as op
-use Rattle.parser.specs.declared.expr.RaiseAction.TheVariants.{Rollback}
-use Rattle.parser.specs.declared.statement.BeginMode.TheVariants as begins
-use Rattle.parser.specs.declared.statement.CheckpointMode.TheVariants as checkpoint
-use Rattle.parser.specs.declared.statement.Statement.{Statement}
-use Rattle.parser.specs.declared.statement.Statement.TheVariants as statement
+use Rattle.syntax.specs.Tree.{Binary, Raise}
+use Rattle.syntax.specs.declared.create.NewObject.TheVariants as new
+use Rattle.syntax.specs.declared.create.TriggerEvent.TheVariants.{Insert, Delete}
+use Rattle.syntax.specs.declared.create.TriggerStatement.TheVariants as program
+use Rattle.syntax.specs.declared.create.TriggerTime.TheVariants.{After}
+use Rattle.syntax.specs.declared.expr.Operator.TheVariants as op
+use Rattle.syntax.specs.declared.expr.RaiseAction.TheVariants.{Rollback}
+use Rattle.syntax.specs.declared.statement.BeginMode.TheVariants as begins
+use Rattle.syntax.specs.declared.statement.CheckpointMode.TheVariants as checkpoint
+use Rattle.syntax.specs.declared.statement.Statement.{Statement}
+use Rattle.syntax.specs.declared.statement.Statement.TheVariants as statement
 use Rattle.catalog.specs.Database.{Name, Database, ATrigger, with_object}
 use Rattle.bind.proofs.Written.{number, named, named_of, select, result, delete, column_with, col, table, int, insert}
 use Rattle.trigger.specs.Binding.{IsFault}

@@ -2,11 +2,11 @@
 use Rattle.std.proofs.Common.{◌≡◌, refl, sym, ap, ◌∙◌, ℕ, List, Bool, true, false, inl, inr, subst, [], ◌∷◌, length, ◌==◌, Some, Ok, Err, nat_lt, ◌⊎◌, cond}
 use Rattle.sqlval.specs.Refusals.{Answer, Refusal, Busy, StaleSnapshot, TooLong}
 use Rattle.sqlval.specs.declared.value.Value.{Value}
-use Rattle.parser.specs.declared.query.Query.{Query}
-use Rattle.parser.specs.declared.statement.BeginMode.{BeginMode}
-use Rattle.parser.specs.declared.statement.BeginMode.TheVariants as begins
-use Rattle.parser.specs.declared.statement.Statement.{Statement}
-use Rattle.parser.specs.declared.statement.Statement.TheVariants as statement
+use Rattle.syntax.specs.declared.query.Query.{Query}
+use Rattle.syntax.specs.declared.statement.BeginMode.{BeginMode}
+use Rattle.syntax.specs.declared.statement.BeginMode.TheVariants as begins
+use Rattle.syntax.specs.declared.statement.Statement.{Statement}
+use Rattle.syntax.specs.declared.statement.Statement.TheVariants as statement
 use Rattle.catalog.specs.Database.{Database}
 use Rattle.bind.specs.Known.{Known, Meant}
 use Rattle.session.specs.Laws.{RefusalsAddNothing, TextRefusalsAddNothing}

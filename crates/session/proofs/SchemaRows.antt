@@ -3,13 +3,13 @@ use Rattle.std.specs.Prelude.{◌≡◌, refl, true, codes, None, List, [], ◌�
 use Rattle.sqlval.specs.Affinity.{is_number, behind_digits, ends_number, ends_exponent}
 use Rattle.sqlval.specs.Refusals.{NotNull, Check, Unique, Misuse, NoSuch, Exists, Unsupported, RowidFull, RowidMismatch, RealRefused}
 use Rattle.sqlval.specs.declared.value.Value.TheVariants.{Text}
-use Rattle.parser.specs.Tree.{Tree, Call, Binary, End, More}
-use Rattle.parser.specs.declared.create.ColumnRule.TheVariants as column
-use Rattle.parser.specs.declared.create.NewObject.TheVariants as new
-use Rattle.parser.specs.declared.expr.Operator.TheVariants as op
-use Rattle.parser.specs.declared.statement.ObjectKind.TheVariants as kind
-use Rattle.parser.specs.declared.statement.Statement.{Statement}
-use Rattle.parser.specs.declared.statement.Statement.TheVariants as statement
+use Rattle.syntax.specs.Tree.{Tree, Call, Binary, End, More}
+use Rattle.syntax.specs.declared.create.ColumnRule.TheVariants as column
+use Rattle.syntax.specs.declared.create.NewObject.TheVariants as new
+use Rattle.syntax.specs.declared.expr.Operator.TheVariants as op
+use Rattle.syntax.specs.declared.statement.ObjectKind.TheVariants as kind
+use Rattle.syntax.specs.declared.statement.Statement.{Statement}
+use Rattle.syntax.specs.declared.statement.Statement.TheVariants as statement
 use Rattle.catalog.specs.Database.{Name}
 use Rattle.bind.proofs.Written.{null, number, text, named, column_with, int}
 use Rattle.session.specs.Machine.{Rows, Refused, fresh}

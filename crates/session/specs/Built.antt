@@ -2,21 +2,21 @@
 use Rattle.std.specs.Prelude.{◌≡◌, Bool, true, false, not, ◌&&◌, ◌||◌, ◌⊎◌, ℕ, length, Option, Some, None, is_none, ◌==◌}
 use Rattle.std.specs.List.{list_all}
 use Rattle.sqlval.specs.Refusals.{Memory, Misuse, Unsupported, Failed}
-use Rattle.parser.specs.Tree as tree
-use Rattle.parser.specs.Tree.{Tree}
-use Rattle.parser.specs.declared.change.Change.{Change}
-use Rattle.parser.specs.declared.change.Change.TheVariants as change
-use Rattle.parser.specs.declared.change.InsertSource.{InsertSource}
-use Rattle.parser.specs.declared.change.InsertSource.TheVariants as source
-use Rattle.parser.specs.declared.create.NewObject.{NewObject}
-use Rattle.parser.specs.declared.create.NewObject.TheVariants as new
-use Rattle.parser.specs.declared.create.TableDefinition.{TableDefinition}
-use Rattle.parser.specs.declared.query.FromClause.{FromClause}
-use Rattle.parser.specs.declared.query.Query.{Query}
-use Rattle.parser.specs.declared.query.ResultItem.{ResultItem}
-use Rattle.parser.specs.declared.query.ResultItem.TheVariants.{All, AllOf, Of}
-use Rattle.parser.specs.declared.statement.Statement.{Statement}
-use Rattle.parser.specs.declared.statement.Statement.TheVariants as statement
+use Rattle.syntax.specs.Tree as tree
+use Rattle.syntax.specs.Tree.{Tree}
+use Rattle.syntax.specs.declared.change.Change.{Change}
+use Rattle.syntax.specs.declared.change.Change.TheVariants as change
+use Rattle.syntax.specs.declared.change.InsertSource.{InsertSource}
+use Rattle.syntax.specs.declared.change.InsertSource.TheVariants as source
+use Rattle.syntax.specs.declared.create.NewObject.{NewObject}
+use Rattle.syntax.specs.declared.create.NewObject.TheVariants as new
+use Rattle.syntax.specs.declared.create.TableDefinition.{TableDefinition}
+use Rattle.syntax.specs.declared.query.FromClause.{FromClause}
+use Rattle.syntax.specs.declared.query.Query.{Query}
+use Rattle.syntax.specs.declared.query.ResultItem.{ResultItem}
+use Rattle.syntax.specs.declared.query.ResultItem.TheVariants.{All, AllOf, Of}
+use Rattle.syntax.specs.declared.statement.Statement.{Statement}
+use Rattle.syntax.specs.declared.statement.Statement.TheVariants as statement
 use Rattle.session.specs.Machine.{Machine, Reply, Refused}
 use Rattle.session.specs.Steps.{Step, is_connection}
 

@@ -1,7 +1,7 @@
 -- What follows for every statement.
 use Rattle.std.specs.Prelude.{◌≡◌, ℕ, List}
 use Rattle.sqlval.specs.Refusals.{Refusal}
-use Rattle.parser.specs.declared.statement.Statement.{Statement}
+use Rattle.syntax.specs.declared.statement.Statement.{Statement}
 use Rattle.session.specs.Machine.{Machine, Refused}
 use Rattle.session.specs.Steps.{Step}
 use Rattle.session.specs.Texts.{Grammar, TextStep}

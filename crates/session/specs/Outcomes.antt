@@ -3,15 +3,15 @@ use Rattle.std.specs.Prelude.{ℕ, Bool, true, false, List, [], ◌∷◌, lengt
 use Rattle.sqlval.specs.Names.{folded, is_same_name}
 use Rattle.sqlval.specs.Refusals.{Answer, Refusal, Busy, StaleSnapshot, NoTransaction, InTransaction, NoSavepoint, Unique, Raised, RaisedRollback, TooLong}
 use Rattle.sqlval.specs.declared.value.Value.{Value}
-use Rattle.parser.specs.declared.change.Change.{Change}
-use Rattle.parser.specs.declared.create.NewObject.{NewObject}
-use Rattle.parser.specs.declared.create.NewObject.TheVariants as new
-use Rattle.parser.specs.declared.query.Query.{Query}
-use Rattle.parser.specs.declared.statement.BeginMode.{BeginMode}
-use Rattle.parser.specs.declared.statement.BeginMode.TheVariants as begins
-use Rattle.parser.specs.declared.statement.CheckpointMode.{CheckpointMode}
-use Rattle.parser.specs.declared.statement.Statement.{Statement}
-use Rattle.parser.specs.declared.statement.Statement.TheVariants as statement
+use Rattle.syntax.specs.declared.change.Change.{Change}
+use Rattle.syntax.specs.declared.create.NewObject.{NewObject}
+use Rattle.syntax.specs.declared.create.NewObject.TheVariants as new
+use Rattle.syntax.specs.declared.query.Query.{Query}
+use Rattle.syntax.specs.declared.statement.BeginMode.{BeginMode}
+use Rattle.syntax.specs.declared.statement.BeginMode.TheVariants as begins
+use Rattle.syntax.specs.declared.statement.CheckpointMode.{CheckpointMode}
+use Rattle.syntax.specs.declared.statement.Statement.{Statement}
+use Rattle.syntax.specs.declared.statement.Statement.TheVariants as statement
 use Rattle.catalog.specs.Database.{Name, Database}
 use Rattle.bind.specs.Known.{Known, Meant, known_map}
 use Rattle.bind.specs.Queries.{resolve_query}

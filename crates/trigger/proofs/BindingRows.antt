@@ -2,17 +2,17 @@
 use Rattle.std.specs.Prelude.{◌≡◌, refl, ℕ, zero, suc, ◌+◌, ◌<◌, flat_map, true, pos, Err, codes, None, Some, List, [], ◌∷◌, Option, length, is_ok}
 use Rattle.std.proofs.Common.{arith, subst}
 use Rattle.sqlval.specs.Refusals.{Refusal, NoSuch, Misuse, TooLong}
-use Rattle.parser.specs.Tree as tree
-use Rattle.parser.specs.Tree.{Tree, Raise}
-use Rattle.parser.specs.declared.change.Change.{Change}
-use Rattle.parser.specs.declared.create.TriggerEvent.{TriggerEvent}
-use Rattle.parser.specs.declared.create.TriggerEvent.TheVariants.{Insert, Delete}
-use Rattle.parser.specs.declared.create.TriggerStatement.{TriggerStatement}
-use Rattle.parser.specs.declared.create.TriggerStatement.TheVariants as program
-use Rattle.parser.specs.declared.create.TriggerTime.TheVariants.{After}
-use Rattle.parser.specs.declared.expr.Operator.TheVariants as op
-use Rattle.parser.specs.declared.expr.RaiseAction.TheVariants.{Abort}
-use Rattle.parser.specs.declared.query.ResultItem.TheVariants.{All}
+use Rattle.syntax.specs.Tree as tree
+use Rattle.syntax.specs.Tree.{Tree, Raise}
+use Rattle.syntax.specs.declared.change.Change.{Change}
+use Rattle.syntax.specs.declared.create.TriggerEvent.{TriggerEvent}
+use Rattle.syntax.specs.declared.create.TriggerEvent.TheVariants.{Insert, Delete}
+use Rattle.syntax.specs.declared.create.TriggerStatement.{TriggerStatement}
+use Rattle.syntax.specs.declared.create.TriggerStatement.TheVariants as program
+use Rattle.syntax.specs.declared.create.TriggerTime.TheVariants.{After}
+use Rattle.syntax.specs.declared.expr.Operator.TheVariants as op
+use Rattle.syntax.specs.declared.expr.RaiseAction.TheVariants.{Abort}
+use Rattle.syntax.specs.declared.query.ResultItem.TheVariants.{All}
 use Rattle.catalog.specs.Database.{Name, Database, AView, ATrigger, with_object}
 use Rattle.bind.specs.Known.{faults}
 use Rattle.bind.proofs.Written.{number, named_of, from, select, result, insert, delete, col, table, int}

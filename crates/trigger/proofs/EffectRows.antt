@@ -5,19 +5,19 @@ use Rattle.sqlval.specs.declared.affinity.Affinity.TheVariants as kind
 use Rattle.sqlval.specs.declared.collation.Collation.TheVariants.{Binary}
 use Rattle.sqlval.specs.declared.value.Value.{Value}
 use Rattle.sqlval.specs.declared.value.Value.TheVariants.{Null, Text}
-use Rattle.parser.specs.Tree as tree
-use Rattle.parser.specs.Tree.{Tree, CallAll, Negated, Raise}
-use Rattle.parser.specs.declared.change.Change.{Change}
-use Rattle.parser.specs.declared.create.TriggerEvent.{TriggerEvent}
-use Rattle.parser.specs.declared.create.TriggerEvent.TheVariants.{Insert, Delete, Update}
-use Rattle.parser.specs.declared.create.TriggerStatement.{TriggerStatement}
-use Rattle.parser.specs.declared.create.TriggerStatement.TheVariants as program
-use Rattle.parser.specs.declared.create.TriggerTime.{TriggerTime}
-use Rattle.parser.specs.declared.create.TriggerTime.TheVariants.{Before, After, InsteadOf}
-use Rattle.parser.specs.declared.expr.Operator.TheVariants as op
-use Rattle.parser.specs.declared.expr.RaiseAction.TheVariants.{Abort}
-use Rattle.parser.specs.declared.query.JoinKind.TheVariants.{Inner}
-use Rattle.parser.specs.declared.query.ResultItem.TheVariants.{All}
+use Rattle.syntax.specs.Tree as tree
+use Rattle.syntax.specs.Tree.{Tree, CallAll, Negated, Raise}
+use Rattle.syntax.specs.declared.change.Change.{Change}
+use Rattle.syntax.specs.declared.create.TriggerEvent.{TriggerEvent}
+use Rattle.syntax.specs.declared.create.TriggerEvent.TheVariants.{Insert, Delete, Update}
+use Rattle.syntax.specs.declared.create.TriggerStatement.{TriggerStatement}
+use Rattle.syntax.specs.declared.create.TriggerStatement.TheVariants as program
+use Rattle.syntax.specs.declared.create.TriggerTime.{TriggerTime}
+use Rattle.syntax.specs.declared.create.TriggerTime.TheVariants.{Before, After, InsteadOf}
+use Rattle.syntax.specs.declared.expr.Operator.TheVariants as op
+use Rattle.syntax.specs.declared.expr.RaiseAction.TheVariants.{Abort}
+use Rattle.syntax.specs.declared.query.JoinKind.TheVariants.{Inner}
+use Rattle.syntax.specs.declared.query.ResultItem.TheVariants.{All}
 use Rattle.catalog.specs.Database.{Name, Database, TableColumn, AnIndex, AView, ATrigger, with_object}
 use Rattle.bind.specs.Views.{answer}
 use Rattle.bind.proofs.Written.{null, number, named, named_of, from, from_as, joined, select, result, rising, insert, insert_rows, insert_answer, update, set, delete, col, table, int}

@@ -3,13 +3,13 @@ use Rattle.std.specs.Prelude.{ℕ, zero, suc, false, List, [], ◌∷◌, ◌++�
 use Rattle.sqlval.specs.Names.{folded}
 use Rattle.sqlval.specs.Refusals.{Refusal}
 use Rattle.sqlval.specs.declared.value.Value.TheVariants.{Null}
-use Rattle.parser.specs.Tree.{Tree}
-use Rattle.parser.specs.declared.change.Change.{Change}
-use Rattle.parser.specs.declared.change.Change.TheVariants.{Insert, Update, Delete}
-use Rattle.parser.specs.declared.create.TriggerDefinition.{TriggerDefinition}
-use Rattle.parser.specs.declared.create.TriggerStatement.{TriggerStatement}
-use Rattle.parser.specs.declared.create.TriggerStatement.TheVariants as program
-use Rattle.parser.specs.declared.create.TriggerTime.TheVariants.{Before, After, InsteadOf}
+use Rattle.syntax.specs.Tree.{Tree}
+use Rattle.syntax.specs.declared.change.Change.{Change}
+use Rattle.syntax.specs.declared.change.Change.TheVariants.{Insert, Update, Delete}
+use Rattle.syntax.specs.declared.create.TriggerDefinition.{TriggerDefinition}
+use Rattle.syntax.specs.declared.create.TriggerStatement.{TriggerStatement}
+use Rattle.syntax.specs.declared.create.TriggerStatement.TheVariants as program
+use Rattle.syntax.specs.declared.create.TriggerTime.TheVariants.{Before, After, InsteadOf}
 use Rattle.catalog.specs.Database.{Name, Database}
 use Rattle.bind.specs.Expressions.{resolve}
 use Rattle.bind.specs.Known.{meant, faults}

@@ -3,10 +3,10 @@ use Rattle.std.specs.Prelude.{ℕ, zero, suc, Bool, true, false, List, [], ◌�
 use Rattle.sqlval.specs.Refusals.{Answer, ◌then◌, TooLong, ViewReadOnly, all_answers, fold_answer}
 use Rattle.sqlval.specs.declared.value.Value.{Value}
 use Rattle.sqlval.specs.declared.value.Value.TheVariants.{Null, Int}
-use Rattle.parser.specs.declared.change.Change.{Change}
-use Rattle.parser.specs.declared.create.TriggerStatement.{TriggerStatement}
-use Rattle.parser.specs.declared.create.TriggerStatement.TheVariants as program
-use Rattle.parser.specs.declared.create.TriggerTime.TheVariants.{InsteadOf}
+use Rattle.syntax.specs.declared.change.Change.{Change}
+use Rattle.syntax.specs.declared.create.TriggerStatement.{TriggerStatement}
+use Rattle.syntax.specs.declared.create.TriggerStatement.TheVariants as program
+use Rattle.syntax.specs.declared.create.TriggerTime.TheVariants.{InsteadOf}
 use Rattle.catalog.specs.Database.{Name, Database, object, Object, ATable}
 use Rattle.bind.specs.Known.{meant, known_then}
 use Rattle.bind.specs.Queries.{resolve_query}

@@ -3,13 +3,13 @@ use Rattle.std.specs.Prelude.{Bool, true, false, ◌&&◌, List, [], ◌∷◌, 
 use Rattle.std.specs.List.{list_any}
 use Rattle.sqlval.specs.Names.{is_same_name}
 use Rattle.sqlval.specs.Refusals.{Answer, ◌then◌, fold_answer}
-use Rattle.parser.specs.Tree.{Tree}
-use Rattle.parser.specs.declared.create.TriggerDefinition.{TriggerDefinition}
-use Rattle.parser.specs.declared.create.TriggerEvent.{TriggerEvent}
-use Rattle.parser.specs.declared.create.TriggerEvent.TheVariants.{Insert, Delete, Update}
-use Rattle.parser.specs.declared.create.TriggerStatement.{TriggerStatement}
-use Rattle.parser.specs.declared.create.TriggerTime.{TriggerTime}
-use Rattle.parser.specs.declared.create.TriggerTime.TheVariants.{Before, After, InsteadOf}
+use Rattle.syntax.specs.Tree.{Tree}
+use Rattle.syntax.specs.declared.create.TriggerDefinition.{TriggerDefinition}
+use Rattle.syntax.specs.declared.create.TriggerEvent.{TriggerEvent}
+use Rattle.syntax.specs.declared.create.TriggerEvent.TheVariants.{Insert, Delete, Update}
+use Rattle.syntax.specs.declared.create.TriggerStatement.{TriggerStatement}
+use Rattle.syntax.specs.declared.create.TriggerTime.{TriggerTime}
+use Rattle.syntax.specs.declared.create.TriggerTime.TheVariants.{Before, After, InsteadOf}
 use Rattle.catalog.specs.Database.{Name, Database, triggers_of}
 use Rattle.bind.specs.Expressions.{resolve}
 use Rattle.bind.specs.Known.{known_then}

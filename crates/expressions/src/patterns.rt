@@ -1,9 +1,10 @@
 //! Patterns of tokens.
 
 /// A token that is a reserved word.
-macro_rules! word {
+#[macro_export]
+macro_rules! keyword {
     ($keyword:ident) => {
-        crate::token::Tok {
+        $crate::Tok {
             kind: lexer::Kind::Word(lexer::Keyword::$keyword),
             ..
         }
@@ -11,14 +12,12 @@ macro_rules! word {
 }
 
 /// A token of another kind.
-macro_rules! mark {
+#[macro_export]
+macro_rules! kind {
     ($kind:ident) => {
-        crate::token::Tok {
+        $crate::Tok {
             kind: lexer::Kind::$kind,
             ..
         }
     };
 }
-
-pub(crate) use mark;
-pub(crate) use word;

@@ -2,10 +2,10 @@
 
 ghost use Rattle.std.specs.Prelude.{◌<◌, ◌≤◌};
 
-use crate::expr::{Expr, Node, Operator, RaiseAction};
+use syntax::{Expr, Node, Operator, RaiseAction};
 use crate::literals::{blob_of, name_of, text_of};
-use crate::names::name;
-use crate::patterns::{mark, word};
+use crate::naming::name;
+use crate::{keyword, kind};
 use crate::refusal::{Read, Refusal, unexpected};
 use crate::token::{Spelled, Tok, Tokens, spelling};
 use crate::words::{after_word, mark, word};
@@ -216,7 +216,7 @@ fn prefix<'a>(
 {
     match tokens {
         [] => Err(Refusal::Syntax(0)),
-        [mark!(Minus), rest @ ..] => {
+        [kind!(Minus), rest @ ..] => {
             let (inner, rest) = level(alloc, spelled, room - 1, rank, rest)?;
             let node = Node::Negated(Box::new(alloc, inner.tree)?);
             over(room, node, inner.depth, rest)
@@ -272,18 +272,18 @@ fn tail<'a>(
     requires rank { rank < 10 }
 {
     match tokens {
-        [word!(Collate), rest @ ..] => collate(alloc, spelled, room, left, rest),
-        [word!(Is), word!(Not), rest @ ..] => {
+        [keyword!(Collate), rest @ ..] => collate(alloc, spelled, room, left, rest),
+        [keyword!(Is), keyword!(Not), rest @ ..] => {
             operand(alloc, spelled, room, rank, Operator::IsNot, left, rest)
         }
-        [word!(Is), rest @ ..] => operand(alloc, spelled, room, rank, Operator::Is, left, rest),
-        [word!(Between), rest @ ..] => between(alloc, spelled, room, rank, false, left, rest),
-        [word!(In), rest @ ..] => among(alloc, spelled, room, false, left, rest),
-        [word!(Not), word!(Between), rest @ ..] => between(
+        [keyword!(Is), rest @ ..] => operand(alloc, spelled, room, rank, Operator::Is, left, rest),
+        [keyword!(Between), rest @ ..] => between(alloc, spelled, room, rank, false, left, rest),
+        [keyword!(In), rest @ ..] => among(alloc, spelled, room, false, left, rest),
+        [keyword!(Not), keyword!(Between), rest @ ..] => between(
             alloc, spelled, room, rank, true, left, rest,
         ),
-        [word!(Not), word!(In), rest @ ..] => among(alloc, spelled, room, true, left, rest),
-        [word!(Not), rest @ ..] => Err(unexpected(rest)),
+        [keyword!(Not), keyword!(In), rest @ ..] => among(alloc, spelled, room, true, left, rest),
+        [keyword!(Not), rest @ ..] => Err(unexpected(rest)),
         [token, rest @ ..] => match operator(token.kind) {
             Some(op) => operand(alloc, spelled, room, rank, op, left, rest),
             None => Err(unexpected(tokens)),
@@ -397,7 +397,7 @@ fn items_from<'a>(
         trees.push(item.tree)?;
         depth = depth.max(item.depth);
         match after {
-            [mark!(Comma), next @ ..] => rest = next,
+            [kind!(Comma), next @ ..] => rest = next,
             _ => return Ok((Deeps { trees, depth }, after)),
         }
     }
@@ -409,9 +409,9 @@ fn atom<'a>(alloc: Global, spelled: Spelled<'_>, room: usize, tokens: Tokens<'a>
     requires some { 0 < room }
 {
     match tokens {
-        [mark!(LeftParen), rest @ ..] => paren(alloc, spelled, room, rest),
-        [word!(Raise), rest @ ..] => raise(alloc, spelled, rest),
-        [token @ (mark!(Name) | mark!(QuotedName)), rest @ ..] => {
+        [kind!(LeftParen), rest @ ..] => paren(alloc, spelled, room, rest),
+        [keyword!(Raise), rest @ ..] => raise(alloc, spelled, rest),
+        [token @ (kind!(Name) | kind!(QuotedName)), rest @ ..] => {
             named(
                 alloc,
                 spelled,
@@ -461,11 +461,11 @@ fn named<'a>(
     requires some { 0 < room }
 {
     match tokens {
-        [mark!(Dot), rest @ ..] => {
+        [kind!(Dot), rest @ ..] => {
             let (column, rest) = name(alloc, spelled, rest)?;
             Ok((leaf(Node::Column(Some(first), column)), rest))
         }
-        [mark!(LeftParen), rest @ ..] => call(alloc, spelled, room, first, rest),
+        [kind!(LeftParen), rest @ ..] => call(alloc, spelled, room, first, rest),
         _ => Ok((leaf(Node::Column(None, first)), tokens)),
     }
 }
@@ -482,10 +482,10 @@ fn call<'a>(
     requires some { 0 < room }
 {
     match tokens {
-        [mark!(RightParen), rest @ ..] => {
+        [kind!(RightParen), rest @ ..] => {
             over(room, Node::Call(function, Vec::new(alloc)), 0, rest)
         }
-        [mark!(Star), rest @ ..] => {
+        [kind!(Star), rest @ ..] => {
             let rest = mark(Kind::RightParen, rest)?;
             Ok((leaf(Node::CallAll(function)), rest))
         }
@@ -500,12 +500,12 @@ fn call<'a>(
 fn raise<'a>(alloc: Global, spelled: Spelled<'_>, tokens: Tokens<'a>) -> Read<'a, Deep> {
     let rest = mark(Kind::LeftParen, tokens)?;
     let (action, rest) = match rest {
-        [word!(Abort), rest @ ..] => (RaiseAction::Abort, rest),
-        [word!(Rollback), rest @ ..] => (RaiseAction::Rollback, rest),
+        [keyword!(Abort), rest @ ..] => (RaiseAction::Abort, rest),
+        [keyword!(Rollback), rest @ ..] => (RaiseAction::Rollback, rest),
         _ => return Err(unexpected(rest)),
     };
     let rest = mark(Kind::Comma, rest)?;
-    let [token @ mark!(Text), rest @ ..] = rest else {
+    let [token @ kind!(Text), rest @ ..] = rest else {
         return Err(unexpected(rest));
     };
     let node = Node::Raise(action, text_of(alloc, spelling(spelled, *token))?);

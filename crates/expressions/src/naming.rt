@@ -1,7 +1,7 @@
 //! Names.
 
 use crate::literals::name_of;
-use crate::patterns::mark;
+use crate::kind;
 use crate::refusal::{Read, Refusal, unexpected};
 use crate::token::{Spelled, Tokens, spelling};
 use crate::words::mark;
@@ -16,7 +16,7 @@ pub fn maybe_name<'a>(
     tokens: Tokens<'a>,
 ) -> Read<'a, Option<Name>> {
     match tokens {
-        [token @ (mark!(Name) | mark!(QuotedName)), rest @ ..] => {
+        [token @ (kind!(Name) | kind!(QuotedName)), rest @ ..] => {
             Ok((Some(name_of(alloc, spelling(spelled, *token))?), rest))
         }
         _ => Ok((None, tokens)),
@@ -40,7 +40,7 @@ pub fn names<'a>(alloc: Global, spelled: Spelled<'_>, tokens: Tokens<'a>) -> Rea
         let (next, after) = name(alloc, spelled, rest)?;
         names.push(next)?;
         match after {
-            [mark!(Comma), behind @ ..] => rest = behind,
+            [kind!(Comma), behind @ ..] => rest = behind,
             _ => return Ok((names, after)),
         }
     }
@@ -65,7 +65,7 @@ pub fn maybe_name_row<'a>(
     tokens: Tokens<'a>,
 ) -> Read<'a, Option<Many<Name>>> {
     match tokens {
-        [mark!(LeftParen), ..] => {
+        [kind!(LeftParen), ..] => {
             let (names, rest) = name_row(alloc, spelled, tokens)?;
             Ok((Some(names), rest))
         }

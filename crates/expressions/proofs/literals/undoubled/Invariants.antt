@@ -1,5 +1,5 @@
 use Rattle.std.proofs.Common.{length}
-use Rattle.parser.proofs.literals.undoubled.Given as goal
+use Rattle.expressions.proofs.literals.undoubled.Given as goal
 
 abbrev pub decreases-quotes : goal.decreases-quotes
 decreases-quotes l = length l.rest

@@ -1,6 +1,6 @@
 -- Each form is nested in less room; within one form, rules come one after another.
 use Rattle.std.proofs.Common.{◌+◌, ◌*◌}
-use Rattle.parser.proofs.expressions.+expression.Given as goal
+use Rattle.expressions.proofs.levels.+expression.Given as goal
 
 abbrev pub decreases-among : goal.decreases-among
 decreases-among l = l.room * 64 + 5

@@ -1,7 +1,7 @@
 //! Why tokens are refused.
 
 ghost use Rattle.std.specs.Prelude.{◌≡◌};
-ghost use Rattle.parser.specs.declared.refusal.Refusal.TheVariants.{Memory};
+ghost use Rattle.expressions.specs.declared.refusal.Refusal.TheVariants.{Memory};
 
 use crate::token::Tokens;
 use std::alloc::{AllocError, AllocFailed};
