@@ -5,3 +5,4 @@ pub mod PlainFlows
 mod QueryRows
 mod ViewRows
 pub mod Written
+mod Plain

@@ -17,7 +17,7 @@ use Rattle.bind.specs.Terms.{Term, Terms, Const, Digits, Apply, Total, One, Two,
 
 -- ---- collations and functions
 
--- one of the three by name (Datatypes In SQLite, 7 "Collating Sequences")
+-- one of the three by name (Datatypes In SQLite, "Collating Sequences")
 abbrev pub resolve_collation : Name → Known Collation
 resolve_collation n =
     if is_same_name n (codes "binary") then good Binary

@@ -1,4 +1,5 @@
 pub mod Calm
+pub mod Comprehension
 pub mod Expressions
 pub mod Grouping
 pub mod Keys

@@ -38,7 +38,7 @@ added db n o = unless (is_reserved n) Misuse (unless (is_some (object db n)) Exi
 abbrev automatic_name : Name → ℕ → Name
 automatic_name table n = codes "sqlite_autoindex_" ++ table ++ codes "_" ++ decimal n
 
--- the indexes that a table's keys make, numbered from n (Database File Format, 2.6.1 "Alternative Names For The Schema Table")
+-- the indexes that a table's keys make, numbered from n (Database File Format, "Alternative Names For The Schema Table")
 abbrev pub automatic : Name → ℕ → List (List (ℕ × Collation)) → List (Name × Object)
 automatic table n [] = []
 automatic table n (k ∷ ks) =

@@ -1,4 +1,4 @@
--- The sources that an expression sees, and which column a name means (SQL As Understood By SQLite, "SELECT", 2.1 "Determination of input data").
+-- The sources that an expression sees, and which column a name means (SQL As Understood By SQLite, "SELECT", "Determination of input data").
 use Rattle.std.specs.Prelude.{ℕ, suc, Bool, true, false, not, ◌&&◌, List, [], ◌∷◌, ◌++◌, map, length, Option, Some, None, if◌then◌else◌, ◌==◌, codes}
 use Rattle.std.specs.List.{list_any}
 use Rattle.sqlval.specs.Lists.{any_twice}

@@ -97,7 +97,7 @@ abbrev is_integer : Option ColumnDefinition → Bool
 is_integer None = false
 is_integer (Some c) = pointwise is_same_name c.declared.words (codes "integer" ∷ []) && not c.declared.is_sized
 
--- the one column of a primary key that is another name of the rowid (SQL As Understood By SQLite, "CREATE TABLE", 5 "ROWIDs and the INTEGER PRIMARY KEY")
+-- the one column of a primary key that is another name of the rowid (SQL As Understood By SQLite, "CREATE TABLE", "ROWIDs and the INTEGER PRIMARY KEY")
 abbrev rowid_key : List ColumnDefinition → Bool × List ℕ → Option ℕ
 rowid_key cs (true, i ∷ []) = if is_integer (slice_get cs i) then Some i else None
 rowid_key cs _ = None

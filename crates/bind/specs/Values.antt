@@ -18,7 +18,7 @@ use Rattle.syntax.specs.declared.expr.RaiseAction.{RaiseAction}
 use Rattle.syntax.specs.declared.expr.RaiseAction.TheVariants.{Abort, Rollback}
 use Rattle.bind.specs.Terms.{Term, Terms, Place, RowId, At, Function, Abs, Coalesce, Length, Lower, Upper, TypeOf, Aggregate, CountAll, Count, Sum, Min, Max, Const, Digits, Cell, Key, Apply, Total, One, Two, Collate, In, Between, Raise, End, More, Comparison, Equal, NotEqual, Less, LessOrEqual, Greater, GreaterOrEqual, Arithmetic, Add, Subtract, Multiply, Divide, Remainder, OneSided, Negated, Not, TwoSided, Compare, Calculate, Is, IsNot, And, Or, Concatenate, affinity, collation, collation_of_two}
 
--- ---- comparison (Datatypes In SQLite, 4 "Comparison Expressions")
+-- ---- comparison (Datatypes In SQLite, "Comparison Expressions")
 
 -- INTEGER or NUMERIC
 abbrev pub is_numeric : Option Affinity → Bool

@@ -1,16 +1,16 @@
--- What the first 100 bytes of a database file say (Database File Format, 1.3 "The Database Header").
+-- What the first 100 bytes of a database file say (Database File Format, "The Database Header").
 use Rattle.std.specs.Prelude.{◌≡◌, ◌≤◌, ◌^◌, ◌&&◌, ℕ, List, [], ◌∷◌, ◌++◌, length, take, drop, replicate, codes, not, ◌==◌, Option, Some, None, if◌then◌else◌}
 use Rattle.byteorder.specs.Endian.{big_number}
 use Rattle.dbheader.specs.declared.fields.Header.{Header}
 
--- a page size that is served: a power of two from 512 to 32768 (Database File Format, 1.3.2 "Page Size")
+-- a page size that is served: a power of two from 512 to 32768 (Database File Format, "Page Size")
 pub record IsPageSize (size : ℕ) : Type 0 where
   pub exponent : ℕ
   pub low : 9 ≤ exponent
   pub high : exponent ≤ 15
   pub power : size ≡ 2 ^ exponent
 
--- the text at the front and a zero byte (Database File Format, 1.3.1 "Magic Header String")
+-- the text at the front and a zero byte (Database File Format, "Magic Header String")
 abbrev pub magic : List ℕ
 magic = codes "SQLite format 3" ++ 0 ∷ []
 
@@ -26,7 +26,7 @@ four_at offset bytes = big_number 4 (drop offset bytes)
 abbrev pub part : ℕ → ℕ → List ℕ → List ℕ
 part offset size bytes = take size (drop offset bytes)
 
--- The first 100 bytes are a header that says this (Database File Format, 1.3 "The Database Header", the table of
+-- The first 100 bytes are a header that says this (Database File Format, "The Database Header", the table of
 -- fields): a file in WAL mode with no reserved bytes, schema format 4, UTF-8 and no auto-vacuum.
 pub record IsHeader (bytes : List ℕ) (header : Header) : Type 0 where
   pub long : 100 ≤ length bytes
@@ -69,7 +69,7 @@ empty_of page_size =
       writer_version = 3007000;
     }
 
--- the number of pages, where it isn't 0 and was written at the last change (Database File Format, 1.3.7 "In-header
+-- the number of pages, where it isn't 0 and was written at the last change (Database File Format, "In-header
 -- database size")
 abbrev pub counted_of : Header → Option ℕ
 counted_of header = if not (header.size == 0) && header.change_counter == header.version_valid_for then Some header.size else None

@@ -1,4 +1,4 @@
--- The spelling of a header (Database File Format, 1.3 "The Database Header").
+-- The spelling of a header (Database File Format, "The Database Header").
 use Rattle.std.specs.Prelude.{◌≡◌, ◌≤◌, ◌<◌, ℕ, List, length, take, slice_index}
 use Rattle.byteorder.specs.Endian.{big_number}
 

@@ -1,4 +1,4 @@
--- What a row must be to stand in a table, and the rowid that it gets (SQL As Understood By SQLite, "CREATE TABLE", 3.5 to 3.7, and 5 "ROWIDs and the INTEGER PRIMARY KEY").
+-- What a row must be to stand in a table, and the rowid that it gets (SQL As Understood By SQLite, "CREATE TABLE", "Not Null Constraints" to "CHECK constraints", and "ROWIDs and the INTEGER PRIMARY KEY").
 use Rattle.std.specs.Prelude.{ℕ, ◌-◌, ◌^◌, Bool, true, false, not, ◌&&◌, List, [], ◌∷◌, map, ℤ, pos, ◌+ℤ◌, int_lt, Option, Some, None, is_none, unwrap_or, Ok, Err, if◌then◌else◌, slice_get, slice_set}
 use Rattle.std.specs.List.{list_any}
 use Rattle.sqlval.specs.Conversion.{converted}
@@ -32,7 +32,7 @@ abbrev pub greatest : List ℤ → Option ℤ
 greatest [] = None
 greatest (x ∷ xs) = elim (greatest xs) [ None ↦ Some x | Some y ↦ Some (if int_lt x y then y else x) ]
 
--- one above the greatest (SQLite Autoincrement, 2 "The AUTOINCREMENT Keyword")
+-- one above the greatest (SQLite Autoincrement, "The AUTOINCREMENT Keyword")
 abbrev pub next_rowid : Table → Answer ℤ
 next_rowid t = elim (greatest (map (λ r. r.0) t.rows)) [ None ↦ Ok (pos 1) | Some x ↦ (if int_lt x (pos (2 ^ 63 - 1)) then Ok (x +ℤ pos 1) else Err RowidFull) ]
 

@@ -1,4 +1,4 @@
--- INSERT, UPDATE and DELETE at one row of a table, with the triggers around it (SQL As Understood By SQLite, "CREATE TRIGGER", 2 "Syntax And Examples").
+-- INSERT, UPDATE and DELETE at one row of a table, with the triggers around it (SQL As Understood By SQLite, "CREATE TRIGGER", "Syntax And Examples").
 use Rattle.std.specs.Prelude.{ℕ, Bool, true, false, List, [], ◌∷◌, ◌++◌, map, ℤ, Option, Some, None, Ok, zip}
 use Rattle.std.specs.Cmp.Lexicographic.{pointwise}
 use Rattle.sqlval.specs.Refusals.{Answer, ◌then◌, RowChangedBefore}

@@ -15,7 +15,7 @@ pub record Stays {D : Type 0} (tells : D → Bool) (file : D → File) (old new 
   pub same : IsTrue (tells old) → file new ≡ file old
 
 -- The bytes are page 1 of the empty database: a header that says so, and behind it a table leaf without cells (Database
--- File Format, 1.3 "The Database Header", 1.6 "B-tree Pages").
+-- File Format, "The Database Header", "B-tree Pages").
 pub record IsEmptyDatabase (page_size : ℕ) (bytes : List ℕ) : Type 0 where
   pub header : List ℕ
   pub says : IsHeader header (empty_of page_size)

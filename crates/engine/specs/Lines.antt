@@ -1,9 +1,19 @@
--- What a line of input says.
+-- The lines of an input, and what a line says.
 use Rattle.std.specs.Prelude.{◌≡◌, ◌<◌, ◌≤◌, ◌⊎◌, ◌+◌, ◌-◌, ◌==◌, ◌&&◌, ℕ, nat_le, List, [], ◌∷◌, ◌++◌, length, decimal, Option, Some, None, if◌then◌else◌}
+use Rattle.std.specs.List.{AllByRecursion}
 use Rattle.std.specs.Str.{IsUtf8}
 use Rattle.sqlval.specs.declared.fault.Fault.{Fault}
 use Rattle.sqlval.specs.declared.fault.Fault.TheVariants.{Misuse, TooLong}
 use Rattle.sqlval.specs.declared.fault.Misuse.TheVariants.{InputLine}
+
+abbrev pub IsNoLineFeed : ℕ → Type 0
+IsNoLineFeed byte = byte ≡ 10 → ⊥
+
+-- An input's lines, without the line feeds that end them; a last one without a line feed counts where it isn't empty.
+pub data AreLines : List ℕ → List (List ℕ) → Type 0 where
+  no_lines : AreLines [] []
+  last_line : {byte : ℕ} {line : List ℕ} → AllByRecursion IsNoLineFeed (byte ∷ line) → AreLines (byte ∷ line) ((byte ∷ line) ∷ [])
+  ended_line : {line rest : List ℕ} {lines : List (List ℕ)} → AllByRecursion IsNoLineFeed line → AreLines rest lines → AreLines (line ++ 10 ∷ rest) (line ∷ lines)
 
 -- the line is the number of a connection, 1 to 16 in decimal, a space, and a statement
 pub record Says (line : List ℕ) (connection : ℕ) (statement : List ℕ) : Type 0 where

@@ -78,3 +78,7 @@ refusal_line fault = codes "error " ++ title_of fault ++ detail_of fault ++ 10 �
 abbrev pub reply_text : Result (List (List Value)) Fault → List ℕ
 reply_text (Ok rows) = flat_map row_line rows ++ codes "ok" ++ 10 ∷ []
 reply_text (Err fault) = refusal_line fault
+
+-- the replies to the lines of an input, one behind another
+abbrev pub output_text : List (Result (List (List Value)) Fault) → List ℕ
+output_text replies = flat_map reply_text replies

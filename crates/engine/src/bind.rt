@@ -1,9 +1,9 @@
 //! The names of a statement, looked up in the schema.
 
 use crate::catalog::{Catalog, Table};
-use syntax::{Expr, FromClause, Insert, InsertSource, Node, Query, ResultItem};
 use sqlval::{Fault, Feature, Many, Misuse, Name, Object, R, Value};
 use std::alloc::Global;
+use syntax::{Expr, FromClause, Insert, InsertSource, Node, Query, ResultItem};
 
 /// The most results of a query.
 const MAX_RESULTS: usize = 64;

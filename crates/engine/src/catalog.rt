@@ -2,12 +2,12 @@
 
 use crate::tabletree::{Leaf, next_rowid, with_rows};
 use page::Cell;
-use syntax::{
-    ColumnDefinition, Create, DeclaredType, NewObject, Statement, TableDefinition, parse,
-};
+use parser::parse;
 use record::{Record, encode, is_storable};
+use session::is_table_built;
 use sqlval::{Affinity, Damage, Fault, Feature, Field, Misuse, Name, R, Text, Value, affinity_of};
 use std::alloc::Global;
+use syntax::{ColumnDefinition, Create, DeclaredType, NewObject, Statement, TableDefinition};
 
 /// A column of a table.
 #[derive(Drop)]
@@ -189,7 +189,7 @@ fn definition_of(alloc: Global, sql: &str) -> R<TableDefinition> {
 
 fn table_of(alloc: Global, row: &SchemaRow<'_>) -> R<Table> {
     let definition = definition_of(alloc, row.sql)?;
-    if !crate::built::is_table_built(&definition) {
+    if !is_table_built(&definition) {
         return Err(Fault::Unsupported(Feature::NotBuilt));
     }
     if !definition.name.is_same(row.name) || !definition.name.is_same(row.table_name) {

@@ -2,8 +2,8 @@
 #![tactic(auto)]
 
 mod bind;
-mod built;
 mod catalog;
+mod connections;
 mod creating;
 mod dml;
 mod lines;
@@ -15,7 +15,6 @@ mod plan;
 mod refusals;
 mod rowprog;
 mod serving;
-mod session;
 mod tabletree;
 
 pub use creating::create;

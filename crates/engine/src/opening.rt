@@ -1,10 +1,10 @@
 //! Opening a database file with its log.
 
 use crate::catalog::{Catalog, load};
+use crate::connections::Connections;
 use crate::creating::is_blank;
 use crate::output::Rows;
 use crate::pager::{HEADER_LEN, header_of, read_page};
-use crate::session::Connections;
 use dbheader::Header;
 use disk::Disk;
 use parser::parse;

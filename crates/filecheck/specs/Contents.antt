@@ -1,4 +1,4 @@
--- What the trees of tables and indexes list (Database File Format, 2.3 "Representation Of SQL Tables" and 2.5
+-- What the trees of tables and indexes list (Database File Format, "Representation Of SQL Tables" and 2.5
 -- "Representation Of SQL Indices").
 use Rattle.std.specs.Prelude.{◌≡◌, ℕ, ℤ, List, [], ◌∷◌, ◌++◌, map, Option, Some, None, slice_index_or, slice_set}
 use Rattle.sqlval.specs.Lists.{sorted}

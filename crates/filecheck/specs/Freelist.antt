@@ -1,4 +1,4 @@
--- The pages that nothing uses (Database File Format, 1.5 "The Freelist").
+-- The pages that nothing uses (Database File Format, "The Freelist").
 use Rattle.std.specs.Prelude.{◌≡◌, ◌≤◌, ◌<◌, ◌^◌, ◌+◌, ◌/◌, ℕ, List, [], ◌∷◌, ◌++◌, length, ⊤}
 use Rattle.std.specs.List.{AllByRecursion, flat_map}
 use Rattle.std.specs.Int.{w32, to_be_bytes}

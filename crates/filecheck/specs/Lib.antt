@@ -1,3 +1,4 @@
+pub mod Files
 pub mod Freelist
 pub mod Making
 pub mod Schema

@@ -24,7 +24,7 @@ use Rattle.catalog.specs.Database.{Name, TableColumn, Table, Index, View}
 
 -- ---- columns
 
--- the words of a type with a space between (Datatypes In SQLite, 3.1 "Determination Of Column Affinity")
+-- the words of a type with a space between (Datatypes In SQLite, "Determination Of Column Affinity")
 abbrev pub spaced : List Name → List ℕ
 spaced [] = []
 spaced (word ∷ []) = word
@@ -35,7 +35,7 @@ abbrev pub last_said : {A B : Type 0} → (A → Option B) → B → List A → 
 last_said says other [] = other
 last_said says other (r ∷ rules) = elim (says r) [ None ↦ last_said says other rules | Some b ↦ last_said says b rules ]
 
--- the collation of a name (Datatypes In SQLite, 7 "Collating Sequences")
+-- the collation of a name (Datatypes In SQLite, "Collating Sequences")
 abbrev pub collation_named : Name → Option Collation
 collation_named name =
     if is_same_name name (codes "binary") then Some Binary
@@ -100,7 +100,7 @@ abbrev is_integer_named : Name → ColumnDefinition → Bool
 is_integer_named name c = is_same_name name c.name && is_integer_word c.declared
 
 -- Whether a key is another name of the rowid: the primary key of one column whose type is the one word INTEGER (SQL As
--- Understood By SQLite, "CREATE TABLE", 5 "ROWIDs and the INTEGER PRIMARY KEY").
+-- Understood By SQLite, "CREATE TABLE", "ROWIDs and the INTEGER PRIMARY KEY").
 abbrev pub is_rowid_key : TableDefinition → Key → Bool
 is_rowid_key definition key = key.is_primary && elim key.columns [ [] ↦ false | name ∷ names ↦ length names == 0 && list_any (is_integer_named name) definition.columns ]
 
@@ -147,7 +147,7 @@ pub record IsTableOf (definition : TableDefinition) (made : Table) : Type 0 wher
 abbrev pub with_collation : List TableColumn → ℕ → Option (ℕ × Collation)
 with_collation columns n = elim (slice_get columns n) [ None ↦ None | Some c ↦ Some (n, c.collation) ]
 
--- the name of the index that a table makes of its key with this number (Database File Format, 2.6.2 "Internal Schema Objects")
+-- the name of the index that a table makes of its key with this number (Database File Format, "Internal Schema Objects")
 abbrev pub automatic_name : Name → ℕ → Name
 automatic_name table n = folded (codes "sqlite_autoindex_" ++ (table ++ (codes "_" ++ decimal n)))
 

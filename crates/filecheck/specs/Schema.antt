@@ -1,4 +1,4 @@
--- What the rows of the schema table say (Database File Format, 2.6 "Storage Of The SQL Database Schema").
+-- What the rows of the schema table say (Database File Format, "Storage Of The SQL Database Schema").
 use Rattle.std.specs.Prelude.{◌≡◌, ◌⊎◌, ℕ, true, List, [], ◌∷◌, map, filter, codes, pos, Option, Some, None}
 use Rattle.std.specs.List.{AllByRecursion}
 use Rattle.sqlval.specs.Names.{folded}

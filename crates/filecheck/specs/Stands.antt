@@ -1,4 +1,4 @@
--- Which database pages stand for (Database File Format, 1 "The Database File" and 2 "Schema Layer").
+-- Which database pages stand for (Database File Format, "The Database File" and "Schema Layer").
 use Rattle.std.specs.Prelude.{◌≡◌, ℕ, true, List, ◌++◌, length, MatchOption, ⊤}
 use Rattle.std.specs.List.{AllByRecursion, flat_map}
 use Rattle.dbheader.specs.Header.{IsHeader, counted_of}
@@ -14,7 +14,7 @@ use Rattle.filecheck.specs.Schema.{Language, SchemaRow, IsSchemaEntry, IsSchema}
 use Rattle.filecheck.specs.Contents.{HasTree}
 
 -- Page 1 begins with a header of this page size, each page has that size, and where the header counts the pages, there are
--- so many (Database File Format, 1.3.7 "In-header database size").
+-- so many (Database File Format, "In-header database size").
 pub record IsHeaded (size : ℕ) (map : PageMap) (header : Header) : Type 0 where
   pub header_is : IsHeader (page_at map 1) header
   pub size_is : header.page_size ≡ size

@@ -1,4 +1,4 @@
--- The entries of an index and their order (Database File Format, 2.5 "Representation Of SQL Indices").
+-- The entries of an index and their order (Database File Format, "Representation Of SQL Indices").
 use Rattle.std.specs.Prelude.{◌≡◌, ◌+◌, true, false, List, [], ◌∷◌, ◌++◌, map, length}
 use Rattle.std.specs.declared.cmp.Ordering.{Ordering}
 use Rattle.std.specs.List.{AllByRecursion}
@@ -14,7 +14,7 @@ Entry = List Value
 abbrev pub rising_key : Collation → SortKey
 rising_key c = record { collation = c; descending = false }
 
--- Value by value, under the columns' collations, the rowid last (Database File Format, 2.2 "Record Sort Order").
+-- Value by value, under the columns' collations, the rowid last (Database File Format, "Record Sort Order").
 abbrev pub entry_cmp : List Collation → Entry → Entry → Ordering
 entry_cmp columns = keys_cmp (map rising_key columns ++ rising_key Binary ∷ [])
 

@@ -1,4 +1,4 @@
--- What pages are an index's tree of which entries (Database File Format, 1.6 "B-tree Pages").
+-- What pages are an index's tree of which entries (Database File Format, "B-tree Pages").
 use Rattle.std.specs.Prelude.{◌≡◌, ◌<◌, ◌^◌, ℕ, zero, suc, List, [], ◌∷◌, ◌++◌, length, map}
 use Rattle.std.specs.List.{flat_map}
 use Rattle.std.specs.Int.{w32, to_be_bytes}
@@ -19,7 +19,7 @@ pub record Held : Type 0 where
   pub pages : List ℕ
 
 -- The cell of an entry: the payload's length, and the payload with the number of its first overflow page
--- (Database File Format, 1.6 "B-tree Pages", index leaf cells).
+-- (Database File Format, "B-tree Pages", index leaf cells).
 pub record IsEntryCell (map : PageMap) (usable : ℕ) (cell : List ℕ) (held : Held) : Type 0 where
   pub size : List ℕ
   pub rest : List ℕ
@@ -29,7 +29,7 @@ pub record IsEntryCell (map : PageMap) (usable : ℕ) (cell : List ℕ) (held : 
   pub record_is : IsRecord held.payload held.entry
 
 -- The cell of an entry between two children: the number of the child on its left, then the entry's own cell
--- (Database File Format, 1.6 "B-tree Pages", index interior cells).
+-- (Database File Format, "B-tree Pages", index interior cells).
 pub record IsChildCell (map : PageMap) (usable : ℕ) (cell : List ℕ) (child : ℕ × Held) : Type 0 where
   pub rest : List ℕ
   pub parts : cell ≡ to_be_bytes w32 child.0 ++ rest

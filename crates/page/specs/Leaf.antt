@@ -1,4 +1,4 @@
--- What bytes are a table leaf of which cells (Database File Format, 1.6 "B-tree Pages").
+-- What bytes are a table leaf of which cells (Database File Format, "B-tree Pages").
 use Rattle.std.specs.Prelude.{◌≡◌, ◌⊎◌, ◌≤◌, ◌<◌, ◌+◌, ◌*◌, ◌^◌, ℕ, ℤ, List, [], ◌∷◌, ◌++◌, length, ⊤}
 use Rattle.std.specs.List.{AllByRecursion, flat_map}
 use Rattle.std.specs.Int.{w16, w64, to_be_bytes, cast_signed}
@@ -24,7 +24,7 @@ abbrev pub pointer : Span → List ℕ
 pointer span = to_be_bytes w16 span.from
 
 -- A cell of this row stands there: the payload's length, the row's number in two's complement of 64 bits, and the payload,
--- which is whole where at most 35 bytes less than the page (Database File Format, 1.6 "B-tree Pages", table leaf cells).
+-- which is whole where at most 35 bytes less than the page (Database File Format, "B-tree Pages", table leaf cells).
 pub record IsCell (page : List ℕ) (span : Span) (entry : Entry) : Type 0 where
   pub before : List ℕ
   pub size : List ℕ
@@ -57,7 +57,7 @@ AreApart before [] = ⊤
 AreApart before (span ∷ spans) = AllByRecursion (IsApart span) before × AreApart (span ∷ before) spans
 
 -- The type 13, the first freeblock, the number of cells, the start of the cells and the number of fragmented bytes
--- (Database File Format, 1.6 "B-tree Pages", the page header).
+-- (Database File Format, "B-tree Pages", the page header).
 abbrev pub leaf_header : List ℕ → ℕ → List ℕ → ℕ → List ℕ
 leaf_header freeblock count content fragments = 13 ∷ freeblock ++ (to_be_bytes w16 count ++ (content ++ fragments ∷ []))
 

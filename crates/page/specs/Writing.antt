@@ -1,4 +1,4 @@
--- A table leaf as it is written: the cells from the page's end downwards, in order (Database File Format, 1.6 "B-tree Pages").
+-- A table leaf as it is written: the cells from the page's end downwards, in order (Database File Format, "B-tree Pages").
 use Rattle.std.specs.Prelude.{◌≤◌, ◌+◌, ◌-◌, ◌*◌, ◌%◌, ◌^◌, ℕ, List, [], ◌∷◌, ◌++◌, length, FitsSigned, replicate, reverse, Option, Some, None, sum_by, nat_lt, if◌then◌else◌}
 use Rattle.std.specs.List.{AllByRecursion, flat_map}
 use Rattle.std.specs.Int.{w16, w64, to_be_bytes, cast_unsigned}

@@ -1,5 +1,5 @@
 -- What is read is a record of the values, and a record of values is read as these.
-use Rattle.std.proofs.Common.{◌≡◌, inl, inr, ℕ, zero, suc, ℤ, ◌+◌, ◌*◌, ◌-◌, ◌/◌, ◌%◌, ◌<◌, ◌≤◌, true, false, cond, nat_lt, eqb, List, [], ◌∷◌, ◌++◌, length, take, drop, Some, Ok, Err, refl, sym, ap, subst, ◌∙◌, arith}
+use Rattle.std.proofs.Common.{◌≡◌, inl, inr, ℕ, zero, suc, ℤ, ◌+◌, ◌*◌, ◌-◌, ◌/◌, ◌%◌, ◌<◌, ◌≤◌, true, false, cond, nat_lt, eqb, List, [], ◌∷◌, ◌++◌, length, take, drop, Some, Result, Ok, Err, refl, sym, ap, subst, ◌∙◌, arith}
 use Rattle.std.specs.Str.{is_utf8, IsUtf8}
 use Rattle.std.proofs.lemmas.Bool.{ltb-true, ltb-false, lt-ltb, le-ltb, eqb-true, eqb-false, ne_eqb}
 use Rattle.std.proofs.lemmas.Bool.Decides.{nat_tests}
@@ -7,6 +7,7 @@ use Rattle.std.proofs.lemmas.List.{take_at, drop_at, take-append-drop, length-ap
 use Rattle.std.proofs.lemmas.Str.{IsUtf8-from_is_utf8, is_utf8-from_IsUtf8}
 use Rattle.sqlval.specs.declared.value.Value.{Value}
 use Rattle.sqlval.specs.declared.value.Value.TheVariants.{Null, Int, Text, Blob}
+use Rattle.record.specs.declared.field.Wrong.{Wrong}
 use Rattle.record.specs.declared.field.Wrong.TheVariants.{Broken}
 use Rattle.record.specs.Varint.{IsVarint, varint_at}
 use Rattle.record.specs.Record.{width, IsWide, IsBody, IsColumn, AreColumns, IsRecord}
@@ -226,3 +227,10 @@ record_again bytes values r =
     let rest_len : whole - length r.head ≡ length r.types = omega arith in
     let enough : nat_lt (length rest) (length r.types) ≡ false = le-ltb _ _ (omega (arith, length-append r.types r.bodies)) in
     rw (head, len, long, rest_len, enough, take_at r.types r.bodies (length r.types) refl, drop_at r.types r.bodies (length r.types) refl) (columns_again values (length r.types) r.types r.bodies (omega arith) r.columns)
+
+abbrev list_in : Result (List Value) Wrong → List Value
+list_in (Ok values) = values
+list_in (Err wrong) = []
+
+pub one_list : (bytes : List ℕ) (some others : List Value) → IsRecord bytes some → IsRecord bytes others → some ≡ others
+one_list bytes some others a b = ap list_in (sym (record_again bytes some a) ∙ record_again bytes others b)

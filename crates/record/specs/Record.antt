@@ -1,4 +1,4 @@
--- What bytes are a record of which values (Database File Format, 2.1 "Record Format").
+-- What bytes are a record of which values (Database File Format, "Record Format").
 use Rattle.std.specs.Prelude.{◌≡◌, ◌⊎◌, ◌≤◌, ◌+◌, ◌*◌, ℕ, ℤ, pos, List, [], ◌∷◌, ◌++◌, length, ◌==◌, if◌then◌else◌}
 use Rattle.std.specs.Str.{IsUtf8}
 use Rattle.byteorder.specs.Endian.{big_number, twos_complement}
@@ -17,7 +17,7 @@ pub record IsWide (serial : ℕ) (body : List ℕ) (n : ℤ) : Type 0 where
   pub len : length body ≡ width serial
   pub value : n ≡ twos_complement (width serial) (big_number (width serial) body)
 
--- the body of a value at a serial type (Database File Format, 2.1 "Record Format", table of serial types)
+-- the body of a value at a serial type (Database File Format, "Record Format", table of serial types)
 abbrev pub IsBody : ℕ → List ℕ → Value → Type 0
 IsBody serial body Null = (serial ≡ 0) × (body ≡ [])
 IsBody serial body (Int n) =
@@ -49,3 +49,7 @@ pub record IsRecord (bytes : List ℕ) (values : List Value) : Type 0 where
   pub parts : bytes ≡ head ++ (types ++ bodies)
   pub head_is : IsVarint head (length head + length types)
   pub columns : AreColumns types bodies values
+
+-- bytes are the record of at most one list of values
+abbrev pub DetermineValues : Type 0
+DetermineValues = (bytes : List ℕ) (some others : List Value) → IsRecord bytes some → IsRecord bytes others → some ≡ others

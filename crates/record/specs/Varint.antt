@@ -1,4 +1,4 @@
--- Variable-length integers: one to nine bytes, the high bits first (Database File Format, 1.6 "B-tree Pages").
+-- Variable-length integers: one to nine bytes, the high bits first (Database File Format, "B-tree Pages").
 use Rattle.std.specs.Prelude.{◌≡◌, ◌⊎◌, ◌<◌, ◌≤◌, ◌^◌, ◌+◌, ◌-◌, ◌*◌, ◌/◌, ◌%◌, ℕ, zero, suc, List, [], ◌∷◌, ◌++◌, length, map, fold, Option, Some, None, nat_lt, if◌then◌else◌}
 use Rattle.std.specs.List.{AllByRecursion}
 
@@ -21,7 +21,7 @@ AreDigits digits = AllByRecursion (λ digit. digit < 128) digits
 abbrev pub Ends : ℕ → ℕ → ℕ → ℕ → ℕ → Type 0
 Ends most count high last n = ((count < most) × (last < 128) × (n ≡ 128 * high + last)) ⊎ ((count ≡ most) × (last < 256) × (n ≡ 256 * high + last))
 
--- The bytes are one whole varint of n (Database File Format, 1.6 "B-tree Pages"): bytes with the top bit set, and one last byte.
+-- The bytes are one whole varint of n (Database File Format, "B-tree Pages"): bytes with the top bit set, and one last byte.
 pub record IsVarint (bytes : List ℕ) (n : ℕ) : Type 0 where
   pub high : List ℕ
   pub last : ℕ

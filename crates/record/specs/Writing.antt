@@ -1,4 +1,4 @@
--- The writer's spelling of a record (Database File Format, 2.1 "Record Format").
+-- The writer's spelling of a record (Database File Format, "Record Format").
 use Rattle.std.specs.Prelude.{◌≤◌, ◌<◌, slice_index, All, ◌+◌, ◌*◌, ◌^◌, ℕ, ℤ, pos, negsuc, List, [], ◌++◌, length, nat_lt, ⊤, if◌then◌else◌}
 use Rattle.std.specs.Int.{w64}
 use Rattle.std.specs.Int.RustNames.{FitsSigned}

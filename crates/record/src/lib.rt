@@ -6,7 +6,7 @@ mod row;
 mod varint;
 mod writing;
 
-pub use row::{Record, one_row};
+pub use row::{Record, bytes_determine_values, one_row};
 pub use varint::{get_varint, put_varint, varint_len};
 pub use writing::{encode, is_storable};
 

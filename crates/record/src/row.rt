@@ -5,7 +5,7 @@ ghost use Rattle.sqlval.specs.declared.value.Value.{Value};
 ghost use Rattle.sqlval.specs.declared.value.Value.TheVariants.{Null};
 ghost use Rattle.sqlval.specs.Fields.{value_of};
 ghost use Rattle.sqlval.specs.Gives.{Gives};
-ghost use Rattle.record.specs.Record.{IsRecord};
+ghost use Rattle.record.specs.Record.{DetermineValues, IsRecord};
 ghost use Rattle.record.specs.Reading.{Reads, answer, columns_at, halves_at, record_at};
 
 use crate::field::{Wrong, read_field};
@@ -108,4 +108,9 @@ fn read(alloc: Global, bytes: &[u8]) -> R<Record<'_>>
 /// No bytes are records of two rows.
 pub fn one_row()
     ensures { (bytes : List ℕ) (a b : List Value) → IsRecord bytes a → IsRecord bytes b → a ≡ b }
+{}
+
+/// The bytes of a record determine its values.
+pub fn bytes_determine_values()
+    ensures { DetermineValues }
 {}

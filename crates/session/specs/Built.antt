@@ -17,7 +17,9 @@ use Rattle.syntax.specs.declared.query.ResultItem.{ResultItem}
 use Rattle.syntax.specs.declared.query.ResultItem.TheVariants.{All, AllOf, Of}
 use Rattle.syntax.specs.declared.statement.Statement.{Statement}
 use Rattle.syntax.specs.declared.statement.Statement.TheVariants as statement
-use Rattle.session.specs.Machine.{Machine, Reply, Refused}
+use Rattle.catalog.specs.Database.{Database}
+use Rattle.session.specs.Machine.{Machine, Connection, InTransactionOf, Writes, Reply, Refused, connection}
+use Rattle.session.specs.Outcomes.{Outcome, Gives, Commits, Bound, outcome}
 use Rattle.session.specs.Steps.{Step, is_connection}
 
 -- NULL, a number with or without a minus, a text or a blob
@@ -39,7 +41,7 @@ is_result_built All = true
 is_result_built (AllOf n) = true
 is_result_built (Of e n) = is_column e || is_literal_built e
 
-abbrev has_one_source : Option FromClause → Bool
+abbrev pub has_one_source : Option FromClause → Bool
 has_one_source None = true
 has_one_source (Some f) = length f.joins == 0
 
@@ -80,10 +82,25 @@ is_built _ = false
 abbrev pub is_served : ℕ → Bool
 is_served c = c == 1
 
--- What isn't built or served is refused as unsupported, behind the engine's failure and the connection's number; want of memory may stand in its place.
-abbrev pub StepSoFar : Machine → ℕ → Statement → Reply → Machine → Type 0
-StepSoFar m c s reply new =
-    ((is_built s && is_served c) ≡ true) × Step m c s reply new
+-- the database that a connection has before it, where it writes
+abbrev working : Connection → Option Database
+working (InTransactionOf b ss (Writes i db)) = Some db
+working _ = None
+
+-- the database that this outcome would commit, or leave its connection to work on
+abbrev pub LeavesWith : ℕ → Outcome → Database → Type 0
+LeavesWith c (Commits alone made) db = made ≡ db
+LeavesWith c (Gives rows m) db = working (connection m c) ≡ Some db
+LeavesWith c (Bound over ch o) db = LeavesWith c o db
+LeavesWith c _ db = ⊥
+
+-- The step so far, where `fits` says whether each table of a database has room on the one page that it has so far. What
+-- isn't built or served, and what would leave a database that doesn't fit, is refused as unsupported, behind the engine's
+-- failure and the connection's number; want of memory may stand in its place.
+abbrev pub StepSoFar : (Database → Bool) → Machine → ℕ → Statement → Reply → Machine → Type 0
+StepSoFar fits m c s reply new =
+    ((is_built s && is_served c) ≡ true) × (Step m c s reply new
+    ⊎ (reply ≡ Refused Unsupported) × (new ≡ m) × (m.failed ≡ false) × (db : Database) × LeavesWith c (outcome m c s) db × (fits db ≡ false))
     ⊎ ((is_built s && is_served c) ≡ false) × (new ≡ m) × (
     (m.failed ≡ true) × (reply ≡ Refused Failed)
     ⊎ (m.failed ≡ false) × (is_connection c ≡ false) × (reply ≡ Refused Misuse)

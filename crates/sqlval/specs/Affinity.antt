@@ -1,4 +1,4 @@
--- The affinity of a declared type and the conversion of each affinity (Datatypes in SQLite, 3 "Type Affinity").
+-- The affinity of a declared type and the conversion of each affinity (Datatypes in SQLite, "Type Affinity").
 use Rattle.std.specs.Prelude.{Option, Some, None, take, codes, ◌≡◌, ℕ, ℤ, ◌+◌, ◌-◌, Bool, true, false, ◌&&◌, ◌||◌, List, [], ◌∷◌, length, ◌==◌, nat_lt, if◌then◌else◌, ⊤}
 use Rattle.std.specs.Char.{is_ascii_digit}
 use Rattle.std.specs.Int.{w64}

@@ -1,4 +1,4 @@
--- The value that an affinity makes of another (Datatypes In SQLite, 3 "Type Affinity").
+-- The value that an affinity makes of another (Datatypes In SQLite, "Type Affinity").
 use Rattle.std.specs.Prelude.{ℕ, ◌^◌, ◌-◌, Bool, not, ◌&&◌, List, length, ℤ, pos, negsuc, int_lt, Option, Some, None, Ok, Err, if◌then◌else◌, nat_lt}
 use Rattle.std.specs.List.{list_all}
 use Rattle.std.specs.Char.{is_ascii_digit}

@@ -3,6 +3,7 @@ pub mod Conversion
 pub mod Fields
 pub mod Flow
 pub mod Gives
+pub mod Laws
 pub mod Lists
 pub mod Names
 pub mod Order

@@ -4,6 +4,7 @@ ghost use Rattle.std.specs.Prelude.{◌≡◌};
 ghost use Rattle.std.specs.Ordering.{nat_cmp};
 ghost use Rattle.std.specs.Cmp.Lexicographic.{slice_cmp};
 ghost use Rattle.sqlval.specs.Names.{folded};
+ghost use Rattle.sqlval.specs.Laws.{OrderIsTotal, EqualAreAlike, AlikeAreEqual};
 ghost use Rattle.sqlval.specs.Order.{trimmed, seen_by, kind_of, order};
 
 use crate::value::Value;
@@ -93,3 +94,10 @@ fn kind(value: &Value) -> u8
         Value::Blob(_) => 3,
     }
 }
+
+/// The order of values is total under each collation, and only what the collation can't tell apart has one place in it.
+pub fn order_is_total()
+    ensures total { OrderIsTotal }
+    ensures equal { EqualAreAlike }
+    ensures alike { AlikeAreEqual }
+{}

@@ -10,7 +10,7 @@ mod text;
 mod value;
 
 pub use affinity::{Affinity, affinity_of, apply};
-pub use collation::{Collation, compare};
+pub use collation::{Collation, compare, order_is_total};
 pub use fault::{Damage, Fault, Feature, Misuse, Object, R};
 pub use many::Many;
 pub use name::Name;

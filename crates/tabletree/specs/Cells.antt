@@ -1,4 +1,4 @@
--- The cells of a page of a tree, as bytes (Database File Format, 1.6 "B-tree Pages").
+-- The cells of a page of a tree, as bytes (Database File Format, "B-tree Pages").
 use Rattle.std.specs.Prelude.{◌≡◌, ◌<◌, ◌^◌, ◌+◌, ◌*◌, ◌==◌, ℕ, List, [], ◌∷◌, ◌++◌, length, if◌then◌else◌, ⊤}
 use Rattle.std.specs.List.{flat_map}
 use Rattle.std.specs.Int.{w16, to_be_bytes}
@@ -20,7 +20,7 @@ pub record IsAt (page : List ℕ) (span : Span) (bytes : List ℕ) : Type 0 wher
   pub to_is : span.to ≡ length before + length bytes
   pub near : span.from < 2 ^ 16
 
--- where the page header begins: behind the database header on page 1 (Database File Format, 1.6 "B-tree Pages")
+-- where the page header begins: behind the database header on page 1 (Database File Format, "B-tree Pages")
 abbrev pub start_of : ℕ → ℕ
 start_of number = if number == 1 then 100 else 0
 
@@ -34,7 +34,7 @@ front start right count = record { from = 0; to = start + 8 + right + 2 * count 
 
 -- The page is of this type and has these cells, in order: a header that begins at `start`, the right child where the page is
 -- an interior one, the pointers, and the cells, which overlap neither each other nor what stands before them. Freeblocks,
--- fragments and the start of the cells may be any (Database File Format, 1.6 "B-tree Pages", the page header).
+-- fragments and the start of the cells may be any (Database File Format, "B-tree Pages", the page header).
 pub record IsTreePage (kind : ℕ) (page : List ℕ) (start : ℕ) (right : List ℕ) (cells : List (List ℕ)) : Type 0 where
   pub before : List ℕ
   pub freeblock : List ℕ

@@ -1,7 +1,7 @@
 -- Pages by their numbers, and how often each is used.
 use Rattle.std.specs.Prelude.{◌≤◌, ◌+◌, ◌-◌, ◌==◌, ℕ, List, [], ◌∷◌, length, slice_index_or, if◌then◌else◌}
 
--- the bytes of each page, page 1 first (Database File Format, 1.2 "Pages")
+-- the bytes of each page, page 1 first (Database File Format, "Pages")
 abbrev pub PageMap : Type 0
 PageMap = List (List ℕ)
 

@@ -1,4 +1,4 @@
--- Where the bytes of a payload lie: in its cell, and on overflow pages (Database File Format, 1.6 "B-tree Pages" and 1.7
+-- Where the bytes of a payload lie: in its cell, and on overflow pages (Database File Format, "B-tree Pages" and 1.7
 -- "Cell Payload Overflow Pages").
 use Rattle.std.specs.Prelude.{◌≡◌, ◌≤◌, ◌<◌, ◌^◌, ◌+◌, ◌-◌, ◌*◌, ◌/◌, ◌%◌, ℕ, List, [], ◌∷◌, ◌++◌, length, take, drop, nat_le, if◌then◌else◌}
 use Rattle.std.specs.Int.{w32, to_be_bytes}
@@ -35,7 +35,7 @@ next_of [] = 0
 next_of (page ∷ pages) = page
 
 -- An overflow page: the number of the next, 0 at the last, then bytes, as many as there are or as it can hold
--- (Database File Format, 1.7 "Cell Payload Overflow Pages").
+-- (Database File Format, "Cell Payload Overflow Pages").
 pub record IsLink (map : PageMap) (usable page : ℕ) (bytes : List ℕ) (next : ℕ) : Type 0 where
   pub has : Has map page
   pub near : page < 2 ^ 32

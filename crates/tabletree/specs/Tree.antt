@@ -1,4 +1,4 @@
--- What pages are a table's tree of which rows (Database File Format, 1.6 "B-tree Pages").
+-- What pages are a table's tree of which rows (Database File Format, "B-tree Pages").
 use Rattle.std.specs.Prelude.{◌≡◌, ◌<◌, ◌^◌, ℕ, zero, suc, ℤ, ◌<ℤ◌, ◌≤ℤ◌, List, [], ◌∷◌, ◌++◌, length, map}
 use Rattle.std.specs.List.{flat_map}
 use Rattle.std.specs.Int.{w32, w64, to_be_bytes, cast_signed}
@@ -16,7 +16,7 @@ pub record Held : Type 0 where
   pub pages : List ℕ
 
 -- The cell of a row: the payload's length, the rowid in two's complement of 64 bits, and the payload with the number of its
--- first overflow page (Database File Format, 1.6 "B-tree Pages", table leaf cells).
+-- first overflow page (Database File Format, "B-tree Pages", table leaf cells).
 pub record IsRowCell (map : PageMap) (usable : ℕ) (cell : List ℕ) (held : Held) : Type 0 where
   pub size : List ℕ
   pub rowid : List ℕ
@@ -28,7 +28,7 @@ pub record IsRowCell (map : PageMap) (usable : ℕ) (cell : List ℕ) (held : He
   pub signed : held.row.rowid ≡ cast_signed w64 number
   pub payload : IsPayload map usable (table_most usable) rest held.row.payload held.pages
 
--- The cell of a child: its page's number, and the key (Database File Format, 1.6 "B-tree Pages", table interior cells).
+-- The cell of a child: its page's number, and the key (Database File Format, "B-tree Pages", table interior cells).
 pub record IsChildCell (cell : List ℕ) (child : ℕ × ℤ) : Type 0 where
   pub key : List ℕ
   pub number : ℕ
@@ -93,7 +93,7 @@ Parted P low [] last high = P low last high
 Parted P low (kid ∷ kids) last high = P low kid.0 kid.1 × Parted P kid.1 kids last high
 
 -- The rowids rise from leaf to leaf; those left of a key are at most the key, and those right of it greater
--- (Database File Format, 1.6 "B-tree Pages").
+-- (Database File Format, "B-tree Pages").
 abbrev pub IsSorted : (depth : ℕ) → ℤ → Tree depth → ℤ → Type 0
 IsSorted zero low t high = Rises low t.rows high
 IsSorted (suc depth) low t high = Parted (IsSorted depth) low t.kids t.last high

@@ -1,5 +1,5 @@
 -- What a log's first bytes tell doesn't depend on those behind them.
-use Rattle.std.proofs.Common.{◌≡◌, ◌≤◌, ◌+◌, ◌==◌, nat_lt, if◌then◌else◌, Bool, true, false, ℕ, zero, suc, List, [], ◌∷◌, ◌++◌, length, take, drop, refl, sym, ◌∙◌, ap, subst, arith, length-append, length-drop, inl, inr}
+use Rattle.std.proofs.Common.{◌≡◌, ◌≤◌, ◌<◌, ◌+◌, ◌==◌, nat_lt, if◌then◌else◌, Bool, true, false, ℕ, zero, suc, List, [], ◌∷◌, ◌++◌, length, take, drop, refl, sym, ◌∙◌, ap, subst, arith, length-append, length-drop, inl, inr}
 use Rattle.std.specs.Prelude.{Option, Some, None, Result, Ok, Err}
 use Rattle.std.proofs.lemmas.List.{take-append-le, drop-append-le}
 use Rattle.std.proofs.Math.Nat.{suc-mul}
@@ -15,7 +15,8 @@ use Rattle.walframe.specs.declared.sums.Sum.{Sum}
 use Rattle.walframe.specs.declared.sums.WordOrder.{WordOrder}
 use Rattle.walframe.specs.Sums.{words, carried, zero_sum}
 use Rattle.walframe.specs.Log.{number_at, sum_at, salts_at, same_sum, order_told, fields_in, is_summed, header_of_format, header_by, header_in, summed, frame_of}
-use Rattle.walframe.specs.Accepted.{frame_start, frame_at, summed_to, sum_to, IsFrame, head_at, heads_to}
+use Rattle.walframe.specs.Accepted.{frame_start, frame_at, summed_to, sum_to, IsFrame, IsAccepted, HasAccepted, head_at, heads_to}
+use Rattle.walframe.specs.Appended.{BeginsWithFrames, KeepsAcceptedFrames}
 
 big_front : (xs ys : List ℕ) → 4 ≤ length xs → big_number 4 (xs ++ ys) ≡ big_number 4 xs
 big_front (a ∷ b ∷ c ∷ d ∷ rest) ys long = refl
@@ -128,3 +129,18 @@ is_frame_front h xs ys k is = record {
   salts = ap (salts_at 8) (frame_front_same h xs ys k is.whole) ∙ is.salts;
   sums = ap (sum_at 16) (frame_front_same h xs ys k is.whole) ∙ is.sums ∙ sym (sum_to_front h xs ys (suc k) is.whole);
 }
+
+-- accepted frames stay
+begins_with : (h : LogHeader) (xs ys : List ℕ) (n m : ℕ) → n ≤ m → ((k : ℕ) → k < n → IsFrame h xs k) → BeginsWithFrames h xs (xs ++ ys) n m
+begins_with h xs ys n m enough each = record { enough = enough; same = λ k lt. frame_front_same h xs ys k ((each k lt).whole) }
+
+enough_accepted : (h : LogHeader) (xs ys : List ℕ) (n m : ℕ) → IsAccepted h xs n → IsAccepted h (xs ++ ys) m → n ≤ m
+enough_accepted h xs ys n m old new = elim (cases_lt m n) [
+  | inl fewer ↦ absurd (new.no_more (is_frame_front h xs ys m (old.each m fewer)))
+  | inr le ↦ omega (arith, le)
+]
+
+pub accepted_stay : KeepsAcceptedFrames
+accepted_stay h xs ys n m (inl (size, old)) (inl (again, new)) = begins_with h xs ys n m (enough_accepted h xs ys n m old new) old.each
+accepted_stay h xs ys n m (inl (size, old)) (inr (none, zero_is)) = absurd (none size)
+accepted_stay h xs ys n m (inr (none, zero_is)) new = begins_with h xs ys n m (omega (arith, zero_is)) (λ k lt. absurd (omega (arith, lt, zero_is)))

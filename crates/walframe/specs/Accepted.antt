@@ -1,4 +1,4 @@
--- Which frames of a log count (Database File Format, 4.1 "WAL File Format" and 4.3 "Checkpoint Algorithm").
+-- Which frames of a log count (Database File Format, "WAL File Format" and "Checkpoint Algorithm").
 use Rattle.std.specs.Prelude.{◌≡◌, ◌⊎◌, ◌<◌, ◌≤◌, ◌+◌, ◌*◌, ℕ, zero, suc, Bool, List, [], ◌∷◌, ◌++◌, length, take, drop, MatchOption, Ok, IsTrue}
 use Rattle.disk.specs.Calls.{Rose}
 use Rattle.disk.specs.File.{File}

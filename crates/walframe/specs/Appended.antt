@@ -1,9 +1,9 @@
--- What becomes of headers and frames that are written (Database File Format, 4.1 "WAL File Format").
-use Rattle.std.specs.Prelude.{◌≡◌, ◌<◌, ◌+◌, ℕ, List, ◌++◌, map, length, Some, Ok}
+-- What becomes of headers and frames that are written (Database File Format, "WAL File Format").
+use Rattle.std.specs.Prelude.{◌≡◌, ◌<◌, ◌≤◌, ◌+◌, ℕ, List, ◌++◌, map, length, Some, Ok}
 use Rattle.walframe.specs.declared.framing.FrameHeader.{FrameHeader}
 use Rattle.walframe.specs.declared.heading.LogHeader.{LogHeader}
 use Rattle.walframe.specs.Log.{header_in, header_bytes}
-use Rattle.walframe.specs.Accepted.{IsPageSize, IsFrame, frame_start, sum_to, heads_to}
+use Rattle.walframe.specs.Accepted.{IsPageSize, IsFrame, HasAccepted, frame_start, frame_at, sum_to, heads_to}
 use Rattle.walframe.specs.Written.{Framed, written, sum_behind, SaltsFit, HeaderFits, AllFit}
 
 -- frames that were written behind n others: all of them are accepted
@@ -21,3 +21,12 @@ abbrev pub AcceptsWrittenFrames : Type 0
 AcceptsWrittenFrames = (h : LogHeader) (front : List ℕ) (n : ℕ) (fs : List Framed) (rest : List ℕ)
     → IsPageSize h.page_size → SaltsFit h.salts → AllFit h fs → length front ≡ frame_start h n → ((k : ℕ) → k < n → IsFrame h front k)
     → AreWritten h (front ++ (written h (sum_to h front n) fs ++ rest)) front n fs
+
+-- the m frames of one log begin with the n of another
+pub record BeginsWithFrames (h : LogHeader) (old new : List ℕ) (n m : ℕ) : Type 0 where
+  pub enough : n ≤ m
+  pub same : (k : ℕ) → k < n → frame_at h new k ≡ frame_at h old k
+
+-- Where a log goes on, its accepted frames begin with those that it had.
+abbrev pub KeepsAcceptedFrames : Type 0
+KeepsAcceptedFrames = (h : LogHeader) (log more : List ℕ) (n m : ℕ) → HasAccepted h log n → HasAccepted h (log ++ more) m → BeginsWithFrames h log (log ++ more) n m

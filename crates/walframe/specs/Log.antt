@@ -1,4 +1,4 @@
--- The bytes of a log (Database File Format, 4.1 "WAL File Format").
+-- The bytes of a log (Database File Format, "WAL File Format").
 use Rattle.std.specs.Prelude.{ℕ, Bool, ◌==◌, ◌&&◌, nat_lt, if◌then◌else◌, List, ◌++◌, length, take, drop, Option, Some, None, Result, Ok, Err}
 use Rattle.byteorder.specs.Endian.{big_bytes, big_number}
 use Rattle.sqlval.specs.declared.fault.Fault.{Fault}

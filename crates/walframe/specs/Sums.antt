@@ -1,4 +1,4 @@
--- The sums of a log (Database File Format, 4.2 "Checksum Algorithm").
+-- The sums of a log (Database File Format, "Checksum Algorithm").
 use Rattle.std.specs.Prelude.{ℕ, ◌+◌, ◌%◌, ◌^◌, List, [], ◌∷◌}
 use Rattle.std.specs.Int.{w32, from_be_bytes, from_le_bytes}
 use Rattle.walframe.specs.declared.sums.Sum.{Sum}

@@ -1,4 +1,4 @@
--- The frames that a writer makes (Database File Format, 4.1 "WAL File Format").
+-- The frames that a writer makes (Database File Format, "WAL File Format").
 use Rattle.std.specs.Prelude.{◌≡◌, ◌<◌, ◌^◌, ℕ, List, [], ◌∷◌, ◌++◌, length}
 use Rattle.walframe.specs.declared.framing.FrameHeader.{FrameHeader}
 use Rattle.walframe.specs.declared.heading.LogHeader.{LogHeader}

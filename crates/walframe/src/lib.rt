@@ -8,7 +8,7 @@ mod progress;
 mod scanning;
 mod sums;
 
-pub use appending::written_frames_are_accepted;
+pub use appending::{accepted_frames_stay, written_frames_are_accepted};
 pub use framing::FrameHeader;
 pub use heading::{LogHeader, Salts};
 pub use progress::Scan;

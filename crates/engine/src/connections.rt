@@ -1,17 +1,17 @@
 //! The connections: whose transaction reads what, and what is committed.
 
 use crate::bind::{BoundSource, bind_insert, bind_query};
-use crate::built::is_built;
 use crate::catalog::{Catalog, NewTable, new_table};
 use crate::output::Rows;
 use crate::pager::{Writer, read_page};
 use crate::plan::{Plan, Scan, plan_of};
 use crate::{dml, rowprog, tabletree};
 use disk::Disk;
-use syntax::{BeginMode, Change, Create, Insert, NewObject, Query, Statement, TableDefinition};
+use session::is_built;
 use sqlval::{Damage, Fault, Feature, Misuse, R, Text};
 use std::alloc::Global;
 use std::mem;
+use syntax::{BeginMode, Change, Create, Insert, NewObject, Query, Statement, TableDefinition};
 use wal::{Log, PageImage, Snapshot};
 
 /// How far a transaction has come.
