@@ -1,4 +1,5 @@
 pub mod Creating
+pub mod Known
 pub mod Lines
 pub mod Output
 pub mod Replies

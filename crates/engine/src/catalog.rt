@@ -1,6 +1,5 @@
 //! The objects of the schema: the tables, as page 1 lists them.
 
-use crate::tabletree::{Leaf, next_rowid, with_rows};
 use page::Cell;
 use parser::parse;
 use record::{Record, encode, is_storable};
@@ -8,6 +7,7 @@ use session::is_table_built;
 use sqlval::{Affinity, Damage, Fault, Feature, Field, Misuse, Name, R, Text, Value, affinity_of};
 use std::alloc::Global;
 use syntax::{ColumnDefinition, Create, DeclaredType, NewObject, Statement, TableDefinition};
+use tabletree::{Leaf, next_rowid, with_rows};
 
 /// A column of a table.
 #[derive(Drop)]

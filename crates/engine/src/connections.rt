@@ -1,11 +1,13 @@
 //! The connections: whose transaction reads what, and what is committed.
 
+ghost use Rattle.std.specs.Prelude.{◌≡◌, Err, IsTrue, IsFalse};
+
 use crate::bind::{BoundSource, bind_insert, bind_query};
 use crate::catalog::{Catalog, NewTable, new_table};
 use crate::output::Rows;
 use crate::pager::{Writer, read_page};
 use crate::plan::{Plan, Scan, plan_of};
-use crate::{dml, rowprog, tabletree};
+use crate::{dml, rowprog};
 use disk::Disk;
 use session::is_built;
 use sqlval::{Damage, Fault, Feature, Misuse, R, Text};
@@ -61,6 +63,8 @@ fn write_of(statement: &Statement) -> Option<Write<'_>> {
 }
 
 impl<D: Disk + Drop> Connections<D> {
+    ghost use Rattle.engine.specs.Known.{IsNoConnection, first_refusal, has_failed_in};
+
     /// The connections of a database whose schema is read, all of them idle.
     pub fn new(alloc: Global, log: Log<D>, catalog: Catalog) -> Connections<D> {
         Connections {
@@ -85,12 +89,16 @@ impl<D: Disk + Drop> Connections<D> {
     }
 
     /// Whether a commit has failed, so that the files are to be opened anew.
-    pub fn has_failed(&self) -> bool {
+    pub fn has_failed(&self) -> bool
+        ensures { result ≡ has_failed_in self.now }
+    {
         self.has_failed
     }
 
     /// Refuses what no connection of this number may do.
-    pub fn check(&self, connection: u32) -> R<()> {
+    pub fn check(&self, connection: u32) -> R<()>
+        ensures { result ≡ first_refusal (has_failed_in self.now) connection }
+    {
         if self.has_failed {
             return Err(Fault::Failed);
         }
@@ -101,7 +109,10 @@ impl<D: Disk + Drop> Connections<D> {
     }
 
     /// Executes a statement. A refused one changes nothing, but for `Io` in a commit, after which all is refused.
-    pub fn execute(&mut self, connection: u32, statement: &Statement) -> R<Rows> {
+    pub fn execute(&mut self, connection: u32, statement: &Statement) -> R<Rows>
+        ensures failed { IsTrue (has_failed_in self.old) → (result ≡ Err Fault.Failed) × (self.new ≡ self.old) }
+        ensures numbered { IsFalse (has_failed_in self.old) → IsNoConnection connection → (result ≡ Err (Fault.Misuse Misuse.Connection)) × (self.new ≡ self.old) }
+    {
         self.check(connection)?;
         if !is_built(statement) {
             return not_built();

@@ -2,12 +2,12 @@
 
 use crate::bind::BoundInsert;
 use crate::catalog::Column;
-use crate::tabletree::{Leaf, next_rowid, with_rows};
 use page::Cell;
 use record::{encode, is_storable};
 use sqlval::{Fault, R, Value, apply};
 use std::alloc::Global;
 use std::mem;
+use tabletree::{Leaf, next_rowid, with_rows};
 
 /// The values of a new row, each as its column stores it: NULL where none is given.
 fn stored_values(

@@ -15,7 +15,6 @@ mod plan;
 mod refusals;
 mod rowprog;
 mod serving;
-mod tabletree;
 
 pub use creating::create;
 pub use opening::Engine;
@@ -23,5 +22,7 @@ pub use output::{Rows, put_reply};
 pub use wal::Refused;
 pub use walframe::Salts;
 
+#[cfg(test)]
+mod stops;
 #[cfg(test)]
 mod tests;

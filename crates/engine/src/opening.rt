@@ -1,5 +1,7 @@
 //! Opening a database file with its log.
 
+ghost use Rattle.std.specs.Prelude.{◌≡◌, Err, IsTrue, IsFalse};
+
 use crate::catalog::{Catalog, load};
 use crate::connections::Connections;
 use crate::creating::is_blank;
@@ -8,7 +10,7 @@ use crate::pager::{HEADER_LEN, header_of, read_page};
 use dbheader::Header;
 use disk::Disk;
 use parser::parse;
-use sqlval::{Damage, Fault, R};
+use sqlval::{Damage, Fault, Misuse, R};
 use std::alloc::Global;
 use wal::{Log, Refused};
 use walframe::Salts;
@@ -47,9 +49,19 @@ fn newest_schema<D: Disk + Drop>(alloc: Global, log: &mut Log<D>) -> R<Catalog> 
     }
 }
 
+/// Checks the newest view, and then takes off the log what stands behind its committed frames.
+fn started<D: Disk + Drop>(alloc: Global, log: &mut Log<D>) -> R<Catalog> {
+    let catalog = newest_schema(alloc, log)?;
+    log.cut_tail()?;
+    Ok(catalog)
+}
+
 impl<D: Disk + Drop> Engine<D> {
-    /// Opens a database. A log that has no valid header gets one with these salts at the first commit. Refusals give the
-    /// files back: `Blank`, `NotADatabase`, `Unsupported`, `Damaged`, `Io`, `Memory`.
+    ghost use Rattle.engine.specs.Known.{IsNoConnection, has_failed_of};
+
+    /// Opens a database: syncs both files, checks them, and cuts the log to its committed frames. A log that has no valid
+    /// header gets one with these salts at the first commit. Refusals give the files back, with no byte changed but for `Io`
+    /// in the cut: `Blank`, `NotADatabase`, `Unsupported`, `Damaged`, `Io`, `Memory`.
     pub fn open(alloc: Global, db: D, log: D, salts: Salts) -> Result<Engine<D>, Refused<D>> {
         let mut db = db;
         let header = match file_header(&mut db) {
@@ -64,7 +76,7 @@ impl<D: Disk + Drop> Engine<D> {
             header.counted_size(),
             salts,
         )?;
-        match newest_schema(alloc, &mut log) {
+        match started(alloc, &mut log) {
             Ok(catalog) => Ok(Engine {
                 alloc,
                 connections: Connections::new(alloc, log, catalog),
@@ -87,14 +99,20 @@ impl<D: Disk + Drop> Engine<D> {
 
     /// Executes a statement on a connection, 1 to 16. A refused one changes nothing, but for `Io` in a commit, after which
     /// every statement answers `Failed`.
-    pub fn execute(&mut self, connection: u32, text: &str) -> R<Rows> {
+    pub fn execute(&mut self, connection: u32, text: &str) -> R<Rows>
+        // Behind a failed commit nothing is served, and nothing changes any more.
+        ensures failed { IsTrue (has_failed_of self.old) → (result ≡ Err Fault.Failed) × (self.new ≡ self.old) }
+        ensures numbered { IsFalse (has_failed_of self.old) → IsNoConnection connection → (result ≡ Err (Fault.Misuse Misuse.Connection)) × (self.new ≡ self.old) }
+    {
         self.connections.check(connection)?;
         let statement = parse(self.alloc, text)?;
         self.connections.execute(connection, &statement)
     }
 
     /// Whether a commit has failed, so that the files are to be opened anew.
-    pub(crate) fn has_failed(&self) -> bool {
+    pub(crate) fn has_failed(&self) -> bool
+        ensures { result ≡ has_failed_of self.now }
+    {
         self.connections.has_failed()
     }
 

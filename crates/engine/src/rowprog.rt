@@ -2,12 +2,12 @@
 
 use crate::bind::{BoundSource, Output};
 use crate::output::Rows;
-use crate::tabletree::Leaf;
 use page::Cell;
 use record::Record;
 use smallvec::SmallVec;
 use sqlval::{Fault, Feature, Field, R, Row, Value};
 use std::alloc::Global;
+use tabletree::Leaf;
 
 /// A row that is read.
 #[derive(Drop)]

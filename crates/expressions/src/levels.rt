@@ -1,17 +1,31 @@
 //! Expressions, a function for each kind of rule.
 
-ghost use Rattle.std.specs.Prelude.{◌<◌, ◌≤◌};
+ghost use Rattle.std.specs.Prelude.{◌≡◌, ◌<◌, ◌≤◌, ◌-◌, ◌++◌, List, Ok, Err, IfOk, option_map};
+ghost use Rattle.lexer.specs.declared.token.Token.{Token as Spelling};
+ghost use Rattle.syntax.specs.Tree.{Tree};
+ghost use Rattle.syntax.specs.View.{tree_of};
+ghost use Rattle.expressions.specs.declared.refusal.Refusal.TheVariants.{TooLong};
+ghost use Rattle.expressions.specs.Depth.{deep};
+ghost use Rattle.expressions.specs.Exact.{Used};
+ghost use Rattle.expressions.specs.Follows.{EndsExpression};
+ghost use Rattle.expressions.specs.Grammar as grammar;
+ghost use Rattle.expressions.specs.Grammar.{IsExpression};
+ghost use Rattle.expressions.specs.Limits.{is_shallow};
+ghost use Rattle.expressions.specs.Pieces.{Piece, meant, seen, spelling_at};
+ghost use Rattle.expressions.specs.Reading as spec;
+ghost use Rattle.expressions.specs.Reading.{Gives, level_at};
+ghost use Rattle.expressions.specs.Seen.{seen_all};
 
-use syntax::{Expr, Node, Operator, RaiseAction};
 use crate::literals::{blob_of, name_of, text_of};
 use crate::naming::name;
-use crate::{keyword, kind};
 use crate::refusal::{Read, Refusal, unexpected};
 use crate::token::{Spelled, Tok, Tokens, spelling};
 use crate::words::{after_word, mark, word};
+use crate::{keyword, kind};
 use lexer::{Keyword, Kind};
-use sqlval::{Many, Name};
+use sqlval::{Many, Name, Text};
 use std::alloc::Global;
+use syntax::{Expr, Node, Operator, RaiseAction};
 
 /// The greatest depth of an expression.
 const DEEPEST: usize = 100;
@@ -22,65 +36,96 @@ const OR: u8 = 10;
 
 /// An expression with its depth.
 #[derive(Drop)]
-struct Deep {
-    tree: Expr,
-    depth: usize,
+pub struct Deep {
+    pub tree: Expr,
+    pub depth: usize,
 }
 
 /// Expressions with the greatest of their depths.
 #[derive(Drop)]
-struct Deeps {
-    trees: Vec<Expr>,
-    depth: usize,
+pub struct Deeps {
+    pub trees: Vec<Expr>,
+    pub depth: usize,
 }
 
-/// An expression.
-pub fn expression<'a>(alloc: Global, spelled: Spelled<'_>, tokens: Tokens<'a>) -> Read<'a, Expr> {
+/// An expression, which ends where nothing goes on with it. One deeper than 100 is `TooLong`.
+pub fn expression<'a>(alloc: Global, spelled: Spelled<'_>, tokens: Tokens<'a>) -> Read<'a, Expr>
+    // What is read is an expression within the limit, and what is left follows it.
+    ensures found { IfOk result (λ x. Used IsExpression is_shallow (seen spelled.now tokens.now) (x.0, seen spelled.now x.1.now)) }
+    // An expression within the limit is read, unless memory runs out.
+    ensures only { (us : List Piece) (e : Tree) (rest : List Piece) → IsExpression us e → deep e ≤ 100 → EndsExpression rest → seen spelled.now tokens.now ≡ us ++ rest → Gives {Y = Tree × List Piece} (λ x. (x.0, seen spelled.now x.1.now)) result (Ok (e, rest)) }
+    // An expression past the limit is refused for that.
+    ensures late { (us : List Piece) (e : Tree) (rest : List Piece) → IsExpression us e → 100 < deep e → EndsExpression rest → seen spelled.now tokens.now ≡ us ++ rest → Gives {Y = Tree × List Piece} (λ x. (x.0, seen spelled.now x.1.now)) result (Err TooLong) }
+    // Which refusal it is, and what else is read.
+    ensures exact { Gives (λ x. (x.0, seen spelled.now x.1.now)) result (spec.expression_from (seen spelled.now tokens.now)) }
+{
+    shallow(alloc, spelled, tokens)
+}
+
+/// An expression no deeper than 100.
+#[tactic(auto, unfolding(crate::specs::Reading::expression_from))]
+fn shallow<'a>(alloc: Global, spelled: Spelled<'_>, tokens: Tokens<'a>) -> Read<'a, Expr>
+    ensures { Gives (λ x. (x.0, seen spelled.now x.1.now)) result (spec.expression_from (seen spelled.now tokens.now)) }
+{
     let (found, rest) = level(alloc, spelled, DEEPEST, OR, tokens)?;
     Ok((found.tree, rest))
 }
 
 /// One or more expressions with commas between.
+#[tactic(auto, unfolding(crate::specs::Reading::expressions_from))]
 pub fn expressions<'a>(
     alloc: Global,
     spelled: Spelled<'_>,
     tokens: Tokens<'a>,
-) -> Read<'a, Many<Expr>> {
+) -> Read<'a, Many<Expr>>
+    ensures { Gives (λ x. (x.0, seen spelled.now x.1.now)) result (spec.expressions_from (seen spelled.now tokens.now)) }
+{
     let (found, rest) = items_from(alloc, spelled, DEEPEST + 1, tokens)?;
     Ok((Many::from_vec(found.trees), rest))
 }
 
 /// Expressions in parentheses.
-pub fn row<'a>(alloc: Global, spelled: Spelled<'_>, tokens: Tokens<'a>) -> Read<'a, Many<Expr>> {
+#[tactic(auto, unfolding(crate::specs::Reading::enclosed_by))]
+pub fn row<'a>(alloc: Global, spelled: Spelled<'_>, tokens: Tokens<'a>) -> Read<'a, Many<Expr>>
+    ensures { Gives (λ x. (x.0, seen spelled.now x.1.now)) result (spec.row_from (seen spelled.now tokens.now)) }
+{
     let rest = mark(Kind::LeftParen, tokens)?;
-    let (found, rest) = items(alloc, spelled, DEEPEST + 1, rest)?;
-    Ok((Many::from_vec(found.trees), rest))
+    let (found, rest) = expressions(alloc, spelled, rest)?;
+    Ok((found, mark(Kind::RightParen, rest)?))
 }
 
 /// An expression in parentheses that are none of its own.
-pub fn enclosed<'a>(alloc: Global, spelled: Spelled<'_>, tokens: Tokens<'a>) -> Read<'a, Expr> {
+#[tactic(auto, unfolding(crate::specs::Reading::enclosed_by))]
+pub fn enclosed<'a>(alloc: Global, spelled: Spelled<'_>, tokens: Tokens<'a>) -> Read<'a, Expr>
+    ensures { Gives (λ x. (x.0, seen spelled.now x.1.now)) result (spec.enclosed_from (seen spelled.now tokens.now)) }
+{
     let rest = mark(Kind::LeftParen, tokens)?;
-    let (found, rest) = expression(alloc, spelled, rest)?;
+    let (found, rest) = shallow(alloc, spelled, rest)?;
     Ok((found, mark(Kind::RightParen, rest)?))
 }
 
 /// An expression behind a word, where the word comes next.
+#[tactic(auto, unfolding(crate::specs::Reading::maybe_behind_from))]
 pub fn maybe_behind<'a>(
     alloc: Global,
     spelled: Spelled<'_>,
     keyword: Keyword,
     tokens: Tokens<'a>,
-) -> Read<'a, Option<Expr>> {
+) -> Read<'a, Option<Expr>>
+    ensures { Gives (λ x. (x.0, seen spelled.now x.1.now)) result (spec.maybe_behind_from keyword (seen spelled.now tokens.now)) }
+{
     match after_word(keyword, tokens) {
         Some(rest) => {
-            let (found, rest) = expression(alloc, spelled, rest)?;
+            let (found, rest) = shallow(alloc, spelled, rest)?;
             Ok((Some(found), rest))
         }
         None => Ok((None, tokens)),
     }
 }
 
-fn leaf(node: Node) -> Deep {
+fn leaf(node: Node) -> Deep
+    ensures { result ≡ spec.leaf (tree_of node) }
+{
     Deep {
         tree: Expr { node },
         depth: 1,
@@ -88,7 +133,10 @@ fn leaf(node: Node) -> Deep {
 }
 
 /// A tree over others, of which the deepest has this depth.
-fn over<'a>(room: usize, node: Node, depth: usize, rest: Tokens<'a>) -> Read<'a, Deep> {
+#[tactic(auto, unfolding(crate::specs::Reading::over))]
+fn over<'a>(room: usize, node: Node, depth: usize, rest: Tokens<'a>) -> Read<'a, Deep>
+    ensures { (whole : List Spelling) → Gives (λ x. (x.0, seen whole x.1.now)) result (spec.over room (tree_of node) depth (seen whole rest.now)) }
+{
     if depth < room {
         let tree = Expr { node };
         Ok((
@@ -104,7 +152,9 @@ fn over<'a>(room: usize, node: Node, depth: usize, rest: Tokens<'a>) -> Read<'a,
 }
 
 /// The level whose chain a token goes on, and 0 where it goes on none.
-fn binds(kind: Kind) -> u8 {
+fn binds(kind: Kind) -> u8
+    ensures { result ≡ grammar.level_of kind }
+{
     match kind {
         Kind::Word(Keyword::Or) => 10,
         Kind::Word(Keyword::And) => 9,
@@ -120,7 +170,9 @@ fn binds(kind: Kind) -> u8 {
 }
 
 /// The operator that stands between two operands.
-fn operator(kind: Kind) -> Option<Operator> {
+fn operator(kind: Kind) -> Option<Operator>
+    ensures { result ≡ grammar.operator kind }
+{
     match kind {
         Kind::Word(Keyword::Or) => Some(Operator::Or),
         Kind::Word(Keyword::And) => Some(Operator::And),
@@ -141,7 +193,9 @@ fn operator(kind: Kind) -> Option<Operator> {
 }
 
 /// The level that a token before its operand belongs to, and 0 where it is no such token.
-fn prefixes(kind: Kind) -> u8 {
+fn prefixes(kind: Kind) -> u8
+    ensures { result ≡ spec.prefix_of kind }
+{
     match kind {
         Kind::Minus => 1,
         Kind::Word(Keyword::Not) => 8,
@@ -149,14 +203,20 @@ fn prefixes(kind: Kind) -> u8 {
     }
 }
 
-fn goes_on(rank: u8, tokens: Tokens<'_>) -> bool {
+#[tactic(auto, unfolding(crate::specs::Reading::goes_on))]
+fn goes_on(rank: u8, tokens: Tokens<'_>) -> bool
+    ensures { (whole : List Spelling) → result ≡ spec.goes_on rank (seen whole tokens.now) }
+{
     match tokens {
         [token, ..] => binds(token.kind) == rank,
         [] => false,
     }
 }
 
-fn is_prefixed(rank: u8, tokens: Tokens<'_>) -> bool {
+#[tactic(auto, unfolding(crate::specs::Reading::is_prefixed))]
+fn is_prefixed(rank: u8, tokens: Tokens<'_>) -> bool
+    ensures { (whole : List Spelling) → result ≡ spec.is_prefixed rank (seen whole tokens.now) }
+{
     match tokens {
         [token, ..] => prefixes(token.kind) == rank,
         [] => false,
@@ -164,6 +224,7 @@ fn is_prefixed(rank: u8, tokens: Tokens<'_>) -> bool {
 }
 
 /// An expression of the level, with at most this depth.
+#[tactic(auto, unfolding(crate::specs::Reading::level_at))]
 #[cycle(expression)]
 fn level<'a>(
     alloc: Global,
@@ -173,6 +234,7 @@ fn level<'a>(
     tokens: Tokens<'a>,
 ) -> Read<'a, Deep>
     requires { rank ≤ 10 }
+    ensures { Gives (λ x. (x.0, seen spelled.now x.1.now)) result (level_at room rank (seen spelled.now tokens.now)) }
 {
     if room == 0 {
         return Err(Refusal::TooLong);
@@ -181,6 +243,7 @@ fn level<'a>(
 }
 
 /// An expression of the level, where the room is for its outermost form.
+#[tactic(auto, unfolding(crate::specs::Reading::ladder))]
 #[cycle(expression)]
 fn ladder<'a>(
     alloc: Global,
@@ -191,6 +254,7 @@ fn ladder<'a>(
 ) -> Read<'a, Deep>
     requires some { 0 < room }
     requires rank { rank ≤ 10 }
+    ensures { Gives (λ x. (x.0, seen spelled.now x.1.now)) result (spec.ladder (level_at (room - 1)) room rank (seen spelled.now tokens.now)) }
 {
     if rank == 0 {
         return atom(alloc, spelled, room, tokens);
@@ -203,6 +267,7 @@ fn ladder<'a>(
 }
 
 /// A minus or NOT and its operand.
+#[tactic(auto, unfolding(crate::specs::Reading::prefix))]
 #[cycle(expression)]
 fn prefix<'a>(
     alloc: Global,
@@ -213,6 +278,7 @@ fn prefix<'a>(
 ) -> Read<'a, Deep>
     requires some { 0 < room }
     requires rank { rank ≤ 10 }
+    ensures { Gives (λ x. (x.0, seen spelled.now x.1.now)) result (spec.prefix (level_at (room - 1)) room rank (seen spelled.now tokens.now)) }
 {
     match tokens {
         [] => Err(Refusal::Syntax(0)),
@@ -230,6 +296,7 @@ fn prefix<'a>(
 }
 
 /// What goes on after a left operand, as long as anything does.
+#[tactic(auto, unfolding(crate::specs::Reading::tails))]
 #[cycle(expression)]
 fn tails<'a>(
     alloc: Global,
@@ -241,6 +308,7 @@ fn tails<'a>(
 ) -> Read<'a, Deep>
     requires some { 0 < room }
     requires rank { rank < 10 }
+    ensures { Gives (λ x. (x.0, seen spelled.now x.1.now)) result (spec.tails (level_at (room - 1)) room room rank first (seen spelled.now tokens.now)) }
 {
     let mut left = first;
     let mut rest = tokens;
@@ -259,6 +327,7 @@ fn tails<'a>(
 }
 
 /// What goes on after a left operand of the level above the rank, once.
+#[tactic(auto, unfolding(crate::specs::Reading::tail))]
 #[cycle(expression)]
 fn tail<'a>(
     alloc: Global,
@@ -270,6 +339,7 @@ fn tail<'a>(
 ) -> Read<'a, Deep>
     requires some { 0 < room }
     requires rank { rank < 10 }
+    ensures { Gives (λ x. (x.0, seen spelled.now x.1.now)) result (spec.tail (level_at (room - 1)) room rank left (seen spelled.now tokens.now)) }
 {
     match tokens {
         [keyword!(Collate), rest @ ..] => collate(alloc, spelled, room, left, rest),
@@ -292,18 +362,22 @@ fn tail<'a>(
     }
 }
 
+#[tactic(auto, unfolding(crate::specs::Reading::collate))]
 fn collate<'a>(
     alloc: Global,
     spelled: Spelled<'_>,
     room: usize,
     left: Deep,
     tokens: Tokens<'a>,
-) -> Read<'a, Deep> {
+) -> Read<'a, Deep>
+    ensures { Gives (λ x. (x.0, seen spelled.now x.1.now)) result (spec.collate (level_at (room - 1)) room left (seen spelled.now tokens.now)) }
+{
     let (collation, rest) = name(alloc, spelled, tokens)?;
     let node = Node::Collate(Box::new(alloc, left.tree)?, collation);
     over(room, node, left.depth, rest)
 }
 
+#[tactic(auto, unfolding(crate::specs::Reading::operand))]
 #[cycle(expression)]
 fn operand<'a>(
     alloc: Global,
@@ -316,6 +390,7 @@ fn operand<'a>(
 ) -> Read<'a, Deep>
     requires some { 0 < room }
     requires rank { rank < 10 }
+    ensures { Gives (λ x. (x.0, seen spelled.now x.1.now)) result (spec.operand (level_at (room - 1)) room rank op left (seen spelled.now tokens.now)) }
 {
     let (right, rest) = level(alloc, spelled, room - 1, rank, tokens)?;
     let depth = left.depth.max(right.depth);
@@ -324,6 +399,7 @@ fn operand<'a>(
     over(room, node, depth, rest)
 }
 
+#[tactic(auto, unfolding(crate::specs::Reading::between))]
 #[cycle(expression)]
 fn between<'a>(
     alloc: Global,
@@ -336,6 +412,7 @@ fn between<'a>(
 ) -> Read<'a, Deep>
     requires some { 0 < room }
     requires rank { rank < 10 }
+    ensures { Gives (λ x. (x.0, seen spelled.now x.1.now)) result (spec.between (level_at (room - 1)) room rank is_negated left (seen spelled.now tokens.now)) }
 {
     let (low, rest) = level(alloc, spelled, room - 1, rank, tokens)?;
     let rest = word(Keyword::And, rest)?;
@@ -347,6 +424,7 @@ fn between<'a>(
     over(room, node, depth, rest)
 }
 
+#[tactic(auto, unfolding(crate::specs::Reading::among))]
 #[cycle(expression)]
 fn among<'a>(
     alloc: Global,
@@ -357,6 +435,7 @@ fn among<'a>(
     tokens: Tokens<'a>,
 ) -> Read<'a, Deep>
     requires some { 0 < room }
+    ensures { Gives (λ x. (x.0, seen spelled.now x.1.now)) result (spec.among (level_at (room - 1)) room is_negated left (seen spelled.now tokens.now)) }
 {
     let rest = mark(Kind::LeftParen, tokens)?;
     let (found, rest) = items(alloc, spelled, room, rest)?;
@@ -366,6 +445,7 @@ fn among<'a>(
 }
 
 /// Expressions up to a closing parenthesis.
+#[tactic(auto, unfolding(crate::specs::Reading::items))]
 #[cycle(expression)]
 fn items<'a>(
     alloc: Global,
@@ -374,12 +454,14 @@ fn items<'a>(
     tokens: Tokens<'a>,
 ) -> Read<'a, Deeps>
     requires some { 0 < room }
+    ensures { Gives (λ x. (seen_all x.0, seen spelled.now x.1.now)) result (spec.items (level_at (room - 1)) room (seen spelled.now tokens.now)) }
 {
     let (found, rest) = items_from(alloc, spelled, room, tokens)?;
     Ok((found, mark(Kind::RightParen, rest)?))
 }
 
 /// One or more expressions with commas between, each with less depth than the room.
+#[tactic(auto, unfolding(crate::specs::Reading::items_upto))]
 #[cycle(expression)]
 fn items_from<'a>(
     alloc: Global,
@@ -388,6 +470,7 @@ fn items_from<'a>(
     tokens: Tokens<'a>,
 ) -> Read<'a, Deeps>
     requires some { 0 < room }
+    ensures { Gives (λ x. (seen_all x.0, seen spelled.now x.1.now)) result (spec.items_from (level_at (room - 1)) room (seen spelled.now tokens.now)) }
 {
     let mut trees = Vec::new(alloc);
     let mut depth = 0;
@@ -404,9 +487,11 @@ fn items_from<'a>(
     Err(unexpected(rest))
 }
 
+#[tactic(auto, unfolding(crate::specs::Reading::atom))]
 #[cycle(expression)]
 fn atom<'a>(alloc: Global, spelled: Spelled<'_>, room: usize, tokens: Tokens<'a>) -> Read<'a, Deep>
     requires some { 0 < room }
+    ensures { Gives (λ x. (x.0, seen spelled.now x.1.now)) result (spec.atom (level_at (room - 1)) room (seen spelled.now tokens.now)) }
 {
     match tokens {
         [kind!(LeftParen), rest @ ..] => paren(alloc, spelled, room, rest),
@@ -429,7 +514,9 @@ fn atom<'a>(alloc: Global, spelled: Spelled<'_>, room: usize, tokens: Tokens<'a>
 }
 
 /// An integer, a text, a blob or NULL.
-fn literal(alloc: Global, spelled: Spelled<'_>, token: Tok) -> Result<Option<Node>, Refusal> {
+fn literal(alloc: Global, spelled: Spelled<'_>, token: Tok) -> Result<Option<Node>, Refusal>
+    ensures { Gives (λ node. option_map tree_of node) result (Ok (spec.literal (meant token.kind (spelling_at spelled.now token.place)))) }
+{
     Ok(match token.kind {
         Kind::Word(Keyword::Null) => Some(Node::Null),
         Kind::Integer(n) => Some(Node::Integer(n)),
@@ -439,9 +526,11 @@ fn literal(alloc: Global, spelled: Spelled<'_>, token: Tok) -> Result<Option<Nod
     })
 }
 
+#[tactic(auto, unfolding(crate::specs::Reading::paren))]
 #[cycle(expression)]
 fn paren<'a>(alloc: Global, spelled: Spelled<'_>, room: usize, tokens: Tokens<'a>) -> Read<'a, Deep>
     requires some { 0 < room }
+    ensures { Gives (λ x. (x.0, seen spelled.now x.1.now)) result (spec.paren (level_at (room - 1)) room (seen spelled.now tokens.now)) }
 {
     let (inner, rest) = level(alloc, spelled, room - 1, OR, tokens)?;
     let rest = mark(Kind::RightParen, rest)?;
@@ -450,6 +539,7 @@ fn paren<'a>(alloc: Global, spelled: Spelled<'_>, room: usize, tokens: Tokens<'a
 }
 
 /// What goes on behind a name: a column of a source, a function's arguments, or nothing.
+#[tactic(auto, unfolding(crate::specs::Reading::named))]
 #[cycle(expression)]
 fn named<'a>(
     alloc: Global,
@@ -459,6 +549,7 @@ fn named<'a>(
     tokens: Tokens<'a>,
 ) -> Read<'a, Deep>
     requires some { 0 < room }
+    ensures { Gives (λ x. (x.0, seen spelled.now x.1.now)) result (spec.named (level_at (room - 1)) room first (seen spelled.now tokens.now)) }
 {
     match tokens {
         [kind!(Dot), rest @ ..] => {
@@ -471,6 +562,7 @@ fn named<'a>(
 }
 
 /// What a function is called with, behind the parenthesis.
+#[tactic(auto, unfolding(crate::specs::Reading::call))]
 #[cycle(expression)]
 fn call<'a>(
     alloc: Global,
@@ -480,6 +572,7 @@ fn call<'a>(
     tokens: Tokens<'a>,
 ) -> Read<'a, Deep>
     requires some { 0 < room }
+    ensures { Gives (λ x. (x.0, seen spelled.now x.1.now)) result (spec.call (level_at (room - 1)) room function (seen spelled.now tokens.now)) }
 {
     match tokens {
         [kind!(RightParen), rest @ ..] => {
@@ -496,18 +589,40 @@ fn call<'a>(
     }
 }
 
+/// What RAISE undoes.
+#[tactic(auto, unfolding(crate::specs::Reading::action_from))]
+fn action<'a>(tokens: Tokens<'a>) -> Read<'a, RaiseAction>
+    ensures { (whole : List Spelling) → Gives (λ x. (x.0, seen whole x.1.now)) result (spec.action_from (seen whole tokens.now)) }
+{
+    match tokens {
+        [keyword!(Abort), rest @ ..] => Ok((RaiseAction::Abort, rest)),
+        [keyword!(Rollback), rest @ ..] => Ok((RaiseAction::Rollback, rest)),
+        _ => Err(unexpected(tokens)),
+    }
+}
+
+/// A text.
+#[tactic(auto, unfolding(crate::specs::Reading::text_from))]
+fn text<'a>(alloc: Global, spelled: Spelled<'_>, tokens: Tokens<'a>) -> Read<'a, Text>
+    ensures { Gives (λ x. (x.0, seen spelled.now x.1.now)) result (spec.text_from (seen spelled.now tokens.now)) }
+{
+    match tokens {
+        [token @ kind!(Text), rest @ ..] => {
+            Ok((text_of(alloc, spelling(spelled, *token))?, rest))
+        }
+        _ => Err(unexpected(tokens)),
+    }
+}
+
 /// What stands behind RAISE.
-fn raise<'a>(alloc: Global, spelled: Spelled<'_>, tokens: Tokens<'a>) -> Read<'a, Deep> {
+#[tactic(auto, unfolding(crate::specs::Reading::raise_from))]
+fn raise<'a>(alloc: Global, spelled: Spelled<'_>, tokens: Tokens<'a>) -> Read<'a, Deep>
+    ensures { Gives (λ x. (x.0, seen spelled.now x.1.now)) result (spec.raise_from (seen spelled.now tokens.now)) }
+{
     let rest = mark(Kind::LeftParen, tokens)?;
-    let (action, rest) = match rest {
-        [keyword!(Abort), rest @ ..] => (RaiseAction::Abort, rest),
-        [keyword!(Rollback), rest @ ..] => (RaiseAction::Rollback, rest),
-        _ => return Err(unexpected(rest)),
-    };
+    let (action, rest) = action(rest)?;
     let rest = mark(Kind::Comma, rest)?;
-    let [token @ kind!(Text), rest @ ..] = rest else {
-        return Err(unexpected(rest));
-    };
-    let node = Node::Raise(action, text_of(alloc, spelling(spelled, *token))?);
-    Ok((leaf(node), mark(Kind::RightParen, rest)?))
+    let (message, rest) = text(alloc, spelled, rest)?;
+    let rest = mark(Kind::RightParen, rest)?;
+    Ok((leaf(Node::Raise(action, message)), rest))
 }

@@ -1,6 +1,7 @@
 //! Expressions of SQL, and the words, names and literals that every rule of the grammar has.
 #![tactic(auto)]
 
+mod laws;
 mod levels;
 mod literals;
 mod naming;
@@ -9,9 +10,13 @@ mod refusal;
 mod token;
 mod words;
 
+pub use laws::{exact_parts, exact_reading, one_meaning, one_tree};
 pub use levels::{enclosed, expression, expressions, maybe_behind, row};
 pub use literals::{blob_of, name_of, text_of};
 pub use naming::{maybe_name, maybe_name_row, name, name_row, names};
 pub use refusal::{Read, Refusal, unexpected, within};
 pub use token::{Spelled, Tok, Tokens, all, spelling};
 pub use words::{after_word, mark, optional, word};
+
+#[cfg(test)]
+mod tests;

@@ -1,7 +1,7 @@
 //! Why tokens are refused.
 
-ghost use Rattle.std.specs.Prelude.{◌≡◌};
-ghost use Rattle.expressions.specs.declared.refusal.Refusal.TheVariants.{Memory};
+ghost use Rattle.std.specs.Prelude.{◌≡◌, ◌≤◌, length, nat_le, if◌then◌else◌, Ok, Err};
+ghost use Rattle.expressions.specs.declared.refusal.Refusal.TheVariants.{Memory, Syntax, TooLong};
 
 use crate::token::Tokens;
 use std::alloc::{AllocError, AllocFailed};
@@ -38,12 +38,16 @@ impl<T: Drop> From<AllocFailed<T>> for Refusal {
 }
 
 /// What is next goes on with no statement.
-pub fn unexpected(tokens: Tokens<'_>) -> Refusal {
+pub fn unexpected(tokens: Tokens<'_>) -> Refusal
+    ensures { result ≡ Syntax (length tokens.now) }
+{
     Refusal::Syntax(tokens.len())
 }
 
 /// Refuses more than the limit.
-pub fn within(count: usize, limit: usize) -> Result<(), Refusal> {
+pub fn within(count: usize, limit: usize) -> Result<(), Refusal>
+    ensures { result ≡ (if nat_le count limit then Ok tt else Err TooLong) }
+{
     if count <= limit {
         Ok(())
     } else {

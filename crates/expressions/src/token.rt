@@ -1,5 +1,8 @@
 //! Tokens as the rules take them.
 
+ghost use Rattle.std.specs.Prelude.{◌≡◌, IfOk};
+ghost use Rattle.expressions.specs.Pieces.{pieces, seen, spelling_at};
+
 use lexer::{Kind, Token};
 use std::alloc::{AllocError, Global};
 
@@ -17,7 +20,9 @@ pub struct Tok {
 }
 
 /// All tokens of a statement.
-pub fn all(alloc: Global, spelled: Spelled<'_>) -> Result<Vec<Tok>, AllocError> {
+pub fn all(alloc: Global, spelled: Spelled<'_>) -> Result<Vec<Tok>, AllocError>
+    ensures { IfOk result (λ tokens. seen spelled.now tokens.items ≡ pieces spelled.now) }
+{
     let mut tokens = Vec::new(alloc);
     for (place, token) in spelled.iter().enumerate() {
         let kind = token.kind;
@@ -27,7 +32,9 @@ pub fn all(alloc: Global, spelled: Spelled<'_>) -> Result<Vec<Tok>, AllocError> 
 }
 
 /// The text of a token.
-pub fn spelling<'a>(spelled: Spelled<'a>, token: Tok) -> &'a str {
+pub fn spelling<'a>(spelled: Spelled<'a>, token: Tok) -> &'a str
+    ensures { result.now ≡ spelling_at spelled.now token.place }
+{
     match spelled.get(token.place) {
         Some(found) => found.text,
         None => "",

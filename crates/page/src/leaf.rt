@@ -111,6 +111,13 @@ impl<'a> Node<'a> {
         self.cells.len()
     }
 
+    /// All cells.
+    pub fn cells(&self) -> &[Cell<'a>]
+        ensures { map entry_of result.now ≡ self.now }
+    {
+        self.cells.as_slice()
+    }
+
     /// The cell at a place, counted from 0.
     pub fn cell(&self, index: usize) -> Cell<'a>
         requires { index < length self.now }

@@ -1,1 +1,10 @@
+pub mod ChangeLaws
+pub mod Endings
+pub mod Exact
+pub mod Lists
+pub mod ObjectLaws
 pub mod Places
+pub mod QueryLaws
+pub mod ResultLaws
+pub mod Same
+pub mod Turns

@@ -1,9 +1,11 @@
 -- Where tokens begin and end.
-use Rattle.std.proofs.Common.{ℕ, zero, suc, ◌+◌, ◌<◌, ◌≤◌, List, [], ◌∷◌, length, get_or, arith}
+use Rattle.std.proofs.lemmas.Bool.{ne_eqb}
+use Rattle.std.proofs.Common.{◌≡◌, refl, sym, ap, ◌∙◌, Bool, false, eqb, if◌then◌else◌, slice_range, ◌-◌, ℕ, zero, suc, ◌+◌, ◌<◌, ◌≤◌, List, [], ◌∷◌, length, get_or, arith}
 use Rattle.std.specs.Str.{IsCharBoundary}
 use Rattle.lexer.specs.declared.token.Token.{Token}
 use Rattle.lexer.specs.Spans.{Stand, end_of}
 use Rattle.lexer.proofs.Standing.{token_is_part}
+use Rattle.parser.specs.Spelled.{body_length, start_at, end_at, span, sql_of}
 
 pub starts_within : (z : List ℕ) (ts : List Token) (i : ℕ) (d : Token) → Stand 0 z ts → i < length ts → (get_or ts i d).start ≤ length z
 starts_within z ts i d stand lt = let (part, le) = token_is_part 0 z ts i d stand lt in omega (arith, part.1, le)
@@ -28,3 +30,21 @@ pub in_order : (z : List ℕ) (ts : List Token) (i : ℕ) (d e : Token) → Stan
 in_order z [] i d e stand lt = absurd (omega (arith, lt))
 in_order z (t ∷ ts) zero d e (part, more) lt = omega (arith, part.1)
 in_order z (t ∷ ts) (suc i) d e (part, more) lt = omega (arith, part.1, from_first (end_of t) z ts i d more (omega (arith, lt)))
+
+pub start_is : (ts : List Token) (i : ℕ) (d : Token) → i < length ts → (get_or ts i d).start ≡ start_at i ts
+start_is [] i d lt = absurd (omega (arith, lt))
+start_is (t ∷ ts) zero d lt = refl
+start_is (t ∷ ts) (suc i) d lt = start_is ts i d (omega (arith, lt))
+
+pub end_is : (ts : List Token) (i : ℕ) (d : Token) → i < length ts → end_of (get_or ts i d) ≡ end_at i ts
+end_is [] i d lt = absurd (omega (arith, lt))
+end_is (t ∷ ts) zero d lt = refl
+end_is (t ∷ ts) (suc i) d lt = end_is ts i d (omega (arith, lt))
+
+pub sql_is : (z : List ℕ) (ts : List Token) (n : ℕ) (d e : Token) → n ≡ body_length ts → n ≤ length ts → (n ≡ 0 → ⊥)
+    → slice_range z (get_or ts 0 d).start (end_of (get_or ts (n - 1) e)) ≡ sql_of z ts
+sql_is z ts n d e same le some =
+    let a : (get_or ts 0 d).start ≡ start_at 0 ts = start_is ts 0 d (omega arith) in
+    let b : end_of (get_or ts (n - 1) e) ≡ end_at (n - 1) ts = end_is ts (n - 1) e (omega arith) in
+    let t : eqb n 0 ≡ false = ne_eqb n 0 some in
+    rw (a, b) (sym (ap (span z ts) (sym same) ∙ ap (λ (x : Bool). if x then [] else slice_range z (start_at 0 ts) (end_at (n - 1) ts)) t))

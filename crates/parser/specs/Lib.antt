@@ -1,1 +1,15 @@
+pub mod ChangeReading
+pub mod Changes
+pub mod Limits
+pub mod ObjectReading
+pub mod Objects
+pub mod Parsing
+pub mod Parts
+pub mod Queries
+pub mod QueryReading
+pub mod Readers
 pub mod Refusals
+pub mod Spelled
+pub mod StatementReading
+pub mod TableReading
+pub mod Within

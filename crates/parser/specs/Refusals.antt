@@ -1,5 +1,8 @@
 -- Why a text is refused.
-use Rattle.std.specs.Prelude.{ℕ, ◌≤◌, Result, Ok, Err}
+use Rattle.std.specs.Prelude.{ℕ, ◌≤◌, List, Result, Ok, Err}
+use Rattle.lexer.specs.Lex.{Lexed}
+use Rattle.syntax.specs.declared.statement.Statement.{Statement as Parsed}
+use Rattle.parser.specs.Parsing.{parsed}
 use Rattle.sqlval.specs.Gives.{Gives}
 use Rattle.sqlval.specs.declared.fault.Fault.{Fault}
 use Rattle.sqlval.specs.declared.fault.Fault.TheVariants.{Memory, Unsupported, Syntax, RealRefused, TooLong}
@@ -18,3 +21,8 @@ IsParsingFault total _ = ⊥
 abbrev pub RefusesAs : {X Y : Type 0} → Result X Fault → Result Y Fault → Type 0
 RefusesAs (Ok found) result = Unit {0}
 RefusesAs (Err fault) result = Gives (λ s. s) result (Err fault)
+
+-- what a text is answered whose tokens are these: what reading them gives, unless memory runs out
+abbrev pub Parses : List ℕ → Result (List Lexed) Fault → Result Parsed Fault → Type 0
+Parses z (Err fault) result = Unit {0}
+Parses z (Ok found) result = Gives (λ s. s) result (parsed z found)

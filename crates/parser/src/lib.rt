@@ -2,6 +2,7 @@
 #![tactic(auto)]
 
 mod changes;
+mod laws;
 mod objects;
 mod parsing;
 mod queries;
@@ -9,6 +10,7 @@ mod statements;
 mod tables;
 mod triggers;
 
+pub use laws::{changes_are_exact, indexes_are_exact};
 pub use parsing::parse;
 
 #[cfg(test)]

@@ -1,9 +1,10 @@
 //! From a text to its statement.
 
-ghost use Rattle.std.specs.Prelude.{◌≤◌, length, IfErr};
+ghost use Rattle.std.specs.Prelude.{◌≡◌, ◌≤◌, length, map, IfErr};
 ghost use Rattle.lexer.specs.Lex as lex;
 ghost use Rattle.lexer.specs.Spans.{Stand};
-ghost use Rattle.parser.specs.Refusals.{IsParsingFault, RefusesAs};
+ghost use Rattle.parser.specs.Parsing.{fault_of, place_of};
+ghost use Rattle.parser.specs.Refusals.{IsParsingFault, Parses, RefusesAs};
 
 use crate::statements::whole;
 use expressions::{Refusal, Spelled};
@@ -19,6 +20,8 @@ use syntax::Statement;
 pub fn parse(alloc: Global, text: &str) -> R<Statement>
     // A text whose tokens are refused is refused for the same.
     ensures lexed { RefusesAs (lex.tokens text.now) result }
+    // The statement is what reading the tokens gives, unless memory runs out.
+    ensures exact { Parses text.now (lex.tokens text.now) result }
     ensures refused { IfErr result (λ fault. IsParsingFault (length text.now) fault) }
 {
     let found = tokens(alloc, text)?;
@@ -30,7 +33,8 @@ pub fn parse(alloc: Global, text: &str) -> R<Statement>
 
 fn fault(refusal: Refusal, text: &str, spelled: Spelled<'_>) -> Fault
     requires { Stand 0 text.now spelled.now }
-    ensures { IsParsingFault (length text.now) result }
+    ensures value { result ≡ fault_of (length text.now) (map lex.seen spelled.now) refusal }
+    ensures served { IsParsingFault (length text.now) result }
 {
     match refusal {
         Refusal::Memory => Fault::Memory,
@@ -44,7 +48,8 @@ fn fault(refusal: Refusal, text: &str, spelled: Spelled<'_>) -> Fault
 #[tactic(auto, using(crate::proofs::Places::starts_within))]
 fn place(left: usize, text: &str, spelled: Spelled<'_>) -> usize
     requires { Stand 0 text.now spelled.now }
-    ensures { result ≤ length text.now }
+    ensures value { result ≡ place_of (length text.now) (map lex.seen spelled.now) left }
+    ensures within { result ≤ length text.now }
 {
     let index = spelled.len().saturating_sub(left);
     if index < spelled.len() {

@@ -1,20 +1,34 @@
 //! Tables with their columns and rules.
 
-use crate::queries::{MOST_COLUMNS, integer};
-use expressions::{Read, Refusal, Spelled, Tok, Tokens, blob_of, enclosed, keyword, kind, mark, maybe_name, name, name_row, spelling, text_of, unexpected, within, word};
+ghost use Rattle.std.specs.Prelude.{◌≡◌, List, length, option_map};
+ghost use Rattle.lexer.specs.declared.token.Token.{Token as Spelling};
+ghost use Rattle.expressions.specs.Pieces.{seen};
+ghost use Rattle.expressions.specs.Reading.{Gives, maybe_name_from};
+ghost use Rattle.parser.specs.Readers as readers;
+ghost use Rattle.parser.specs.TableReading as spec;
+
+use crate::queries::{MOST_COLUMNS, after_comma, integer};
+use expressions::{
+    Read, Refusal, Spelled, Tokens, after_word, blob_of, enclosed, keyword, kind, mark, maybe_name,
+    name, name_row, spelling, text_of, unexpected, within, word,
+};
 use lexer::{Keyword, Kind};
 use sqlval::{Many, Name, Value};
-use syntax::{ColumnDefinition, ColumnRule, DeclaredType, TableDefinition, TableRule};
 use std::alloc::Global;
+use syntax::{ColumnDefinition, ColumnRule, DeclaredType, TableDefinition, TableRule};
 
 /// A table, behind CREATE TABLE.
+#[tactic(auto, unfolding(crate::specs::Readers::made, crate::specs::Readers::both, crate::specs::Readers::behind_mark, crate::specs::Readers::before_mark, crate::specs::Readers::limited, crate::specs::TableReading::table_from))]
 pub fn table<'a>(
     alloc: Global,
     spelled: Spelled<'_>,
     tokens: Tokens<'a>,
-) -> Read<'a, TableDefinition> {
+) -> Read<'a, TableDefinition>
+    ensures { Gives (λ x. (x.0, seen spelled.now x.1.now)) result (spec.table_from (seen spelled.now tokens.now)) }
+{
     let (name, rest) = name(alloc, spelled, tokens)?;
     let (columns, rest) = columns(alloc, spelled, mark(Kind::LeftParen, rest)?)?;
+    within(columns.len(), MOST_COLUMNS)?;
     let (rules, rest) = table_rules(alloc, spelled, rest)?;
     let rest = mark(Kind::RightParen, rest)?;
     Ok((
@@ -28,80 +42,142 @@ pub fn table<'a>(
 }
 
 /// One or more columns with commas between, up to a rule or the end.
+#[tactic(auto, unfolding(crate::specs::TableReading::columns_from))]
 fn columns<'a>(
     alloc: Global,
     spelled: Spelled<'_>,
     tokens: Tokens<'a>,
-) -> Read<'a, Many<ColumnDefinition>> {
-    let mut columns = Many::new(alloc);
-    let mut rest = tokens;
-    'columns: for _ in 0..tokens.len() {
-        let (next, after) = column(alloc, spelled, rest)?;
-        columns.push(next)?;
-        within(columns.len(), MOST_COLUMNS)?;
-        match after {
-            [kind!(Comma), behind @ ..] if !begins_rule(behind) => rest = behind,
-            _ => return Ok((columns, after)),
-        }
-    }
-    Err(unexpected(rest))
+) -> Read<'a, Many<ColumnDefinition>>
+    ensures { Gives (λ x. (x.0, seen spelled.now x.1.now)) result (spec.columns_from (seen spelled.now tokens.now)) }
+{
+    let (first, rest) = column(alloc, spelled, tokens)?;
+    let mut found = Many::new(alloc);
+    found.push(first)?;
+    more_columns(alloc, spelled, found, rest)
 }
 
-fn begins_rule(tokens: Tokens<'_>) -> bool {
-    matches!(tokens, [keyword!(Primary) | keyword!(Unique) | keyword!(Check), ..])
+/// Further columns, each behind a comma.
+#[tactic(auto, unfolding(crate::specs::Readers::many_upto))]
+fn more_columns<'a>(
+    alloc: Global,
+    spelled: Spelled<'_>,
+    found: Many<ColumnDefinition>,
+    tokens: Tokens<'a>,
+) -> Read<'a, Many<ColumnDefinition>>
+    ensures { Gives (λ x. (x.0, seen spelled.now x.1.now)) result (readers.many_upto spec.next_column_from (length (seen spelled.now tokens.now)) found (seen spelled.now tokens.now)) }
+{
+    let mut columns = found;
+    let mut rest = tokens;
+    'columns: for _ in 0..tokens.len() {
+        let (next, after) = next_column(alloc, spelled, rest)?;
+        let Some(column) = next else {
+            return Ok((columns, after));
+        };
+        columns.push(column)?;
+        rest = after;
+    }
+    Ok((columns, rest))
+}
+
+/// A further column behind a comma, where one comes next.
+#[tactic(auto, unfolding(crate::specs::TableReading::next_column_from))]
+fn next_column<'a>(
+    alloc: Global,
+    spelled: Spelled<'_>,
+    tokens: Tokens<'a>,
+) -> Read<'a, Option<ColumnDefinition>>
+    ensures { Gives (λ x. (x.0, seen spelled.now x.1.now)) result (spec.next_column_from (seen spelled.now tokens.now)) }
+{
+    let Some(rest) = after_comma(tokens) else {
+        return Ok((None, tokens));
+    };
+    if begins_rule(rest) {
+        return Ok((None, tokens));
+    }
+    let (column, rest) = column(alloc, spelled, rest)?;
+    Ok((Some(column), rest))
+}
+
+/// Whether a rule of the table comes next.
+#[tactic(auto, unfolding(crate::specs::TableReading::begins_rule))]
+fn begins_rule(tokens: Tokens<'_>) -> bool
+    ensures { (whole : List Spelling) → result ≡ spec.begins_rule (seen whole tokens.now) }
+{
+    matches!(
+        tokens,
+        [keyword!(Primary) | keyword!(Unique) | keyword!(Check), ..]
+    )
 }
 
 /// The rules behind the columns, each behind a comma.
+#[tactic(auto, unfolding(crate::specs::Readers::many_upto))]
 fn table_rules<'a>(
     alloc: Global,
     spelled: Spelled<'_>,
     tokens: Tokens<'a>,
-) -> Read<'a, Many<TableRule>> {
+) -> Read<'a, Many<TableRule>>
+    ensures { Gives (λ x. (x.0, seen spelled.now x.1.now)) result (readers.many spec.next_rule_from (seen spelled.now tokens.now)) }
+{
     let mut rules = Many::new(alloc);
     let mut rest = tokens;
     'rules: for _ in 0..tokens.len() {
-        let [kind!(Comma), behind @ ..] = rest else {
-            return Ok((rules, rest));
+        let (found, after) = next_rule(alloc, spelled, rest)?;
+        let Some(rule) = found else {
+            return Ok((rules, after));
         };
-        let (rule, after) = table_rule(alloc, spelled, behind)?;
         rules.push(rule)?;
         rest = after;
     }
     Ok((rules, rest))
 }
 
-fn table_rule<'a>(alloc: Global, spelled: Spelled<'_>, tokens: Tokens<'a>) -> Read<'a, TableRule> {
-    match tokens {
-        [keyword!(Primary), rest @ ..] => {
-            let (columns, rest) = key_columns(alloc, spelled, word(Keyword::Key, rest)?)?;
-            Ok((TableRule::PrimaryKey(columns), rest))
-        }
-        [keyword!(Unique), rest @ ..] => {
-            let (columns, rest) = key_columns(alloc, spelled, rest)?;
-            Ok((TableRule::Unique(columns), rest))
-        }
-        _ => {
-            let (condition, rest) = enclosed(alloc, spelled, word(Keyword::Check, tokens)?)?;
-            Ok((TableRule::Check(condition), rest))
-        }
-    }
-}
-
-fn key_columns<'a>(
+/// A further rule behind a comma, where a comma comes next.
+#[tactic(auto, unfolding(crate::specs::Readers::choose_comma, crate::specs::Readers::made, crate::specs::Readers::yields, crate::specs::TableReading::next_rule_from))]
+fn next_rule<'a>(
     alloc: Global,
     spelled: Spelled<'_>,
     tokens: Tokens<'a>,
-) -> Read<'a, Many<Name>> {
+) -> Read<'a, Option<TableRule>>
+    ensures { Gives (λ x. (x.0, seen spelled.now x.1.now)) result (spec.next_rule_from (seen spelled.now tokens.now)) }
+{
+    match after_comma(tokens) {
+        Some(rest) => {
+            let (rule, rest) = table_rule(alloc, spelled, rest)?;
+            Ok((Some(rule), rest))
+        }
+        None => Ok((None, tokens)),
+    }
+}
+
+#[tactic(auto, unfolding(crate::specs::Readers::choose, crate::specs::Readers::made, crate::specs::Readers::behind, crate::specs::TableReading::table_rule_from))]
+fn table_rule<'a>(alloc: Global, spelled: Spelled<'_>, tokens: Tokens<'a>) -> Read<'a, TableRule>
+    ensures { Gives (λ x. (x.0, seen spelled.now x.1.now)) result (spec.table_rule_from (seen spelled.now tokens.now)) }
+{
+    if let Some(rest) = after_word(Keyword::Primary, tokens) {
+        let (columns, rest) = key_columns(alloc, spelled, word(Keyword::Key, rest)?)?;
+        return Ok((TableRule::PrimaryKey(columns), rest));
+    }
+    if let Some(rest) = after_word(Keyword::Unique, tokens) {
+        let (columns, rest) = key_columns(alloc, spelled, rest)?;
+        return Ok((TableRule::Unique(columns), rest));
+    }
+    let (condition, rest) = enclosed(alloc, spelled, word(Keyword::Check, tokens)?)?;
+    Ok((TableRule::Check(condition), rest))
+}
+
+#[tactic(auto, unfolding(crate::specs::Readers::limited, crate::specs::TableReading::key_columns_from))]
+fn key_columns<'a>(alloc: Global, spelled: Spelled<'_>, tokens: Tokens<'a>) -> Read<'a, Many<Name>>
+    ensures { Gives (λ x. (x.0, seen spelled.now x.1.now)) result (spec.key_columns_from (seen spelled.now tokens.now)) }
+{
     let (columns, rest) = name_row(alloc, spelled, tokens)?;
     within(columns.len(), MOST_COLUMNS)?;
     Ok((columns, rest))
 }
 
-fn column<'a>(
-    alloc: Global,
-    spelled: Spelled<'_>,
-    tokens: Tokens<'a>,
-) -> Read<'a, ColumnDefinition> {
+#[tactic(auto, unfolding(crate::specs::Readers::made, crate::specs::Readers::both, crate::specs::TableReading::column_from))]
+fn column<'a>(alloc: Global, spelled: Spelled<'_>, tokens: Tokens<'a>) -> Read<'a, ColumnDefinition>
+    ensures { Gives (λ x. (x.0, seen spelled.now x.1.now)) result (spec.column_from (seen spelled.now tokens.now)) }
+{
     let (name, rest) = name(alloc, spelled, tokens)?;
     let (declared, rest) = declared_type(alloc, spelled, rest)?;
     let (rules, rest) = column_rules(alloc, spelled, rest)?;
@@ -115,26 +191,29 @@ fn column<'a>(
     ))
 }
 
+#[tactic(auto, unfolding(crate::specs::Readers::made, crate::specs::Readers::both, crate::specs::TableReading::declared_from))]
 fn declared_type<'a>(
     alloc: Global,
     spelled: Spelled<'_>,
     tokens: Tokens<'a>,
-) -> Read<'a, DeclaredType> {
+) -> Read<'a, DeclaredType>
+    ensures { Gives (λ x. (x.0, seen spelled.now x.1.now)) result (spec.declared_from (seen spelled.now tokens.now)) }
+{
     let (words, rest) = type_words(alloc, spelled, tokens)?;
-    let (is_sized, rest) = match rest {
-        [kind!(LeftParen), rest @ ..] => (true, sizes(rest)?),
-        _ => (false, rest),
-    };
+    let (is_sized, rest) = sized(rest)?;
     Ok((DeclaredType { words, is_sized }, rest))
 }
 
-fn type_words<'a>(alloc: Global, spelled: Spelled<'_>, tokens: Tokens<'a>) -> Read<'a, Many<Name>> {
+#[tactic(auto, unfolding(crate::specs::Readers::many_upto))]
+fn type_words<'a>(alloc: Global, spelled: Spelled<'_>, tokens: Tokens<'a>) -> Read<'a, Many<Name>>
+    ensures { Gives (λ x. (x.0, seen spelled.now x.1.now)) result (readers.many maybe_name_from (seen spelled.now tokens.now)) }
+{
     let mut words = Many::new(alloc);
     let mut rest = tokens;
     'words: for _ in 0..tokens.len() {
-        let (word, after) = maybe_name(alloc, spelled, rest)?;
-        let Some(word) = word else {
-            return Ok((words, rest));
+        let (found, after) = maybe_name(alloc, spelled, rest)?;
+        let Some(word) = found else {
+            return Ok((words, after));
         };
         words.push(word)?;
         rest = after;
@@ -142,27 +221,66 @@ fn type_words<'a>(alloc: Global, spelled: Spelled<'_>, tokens: Tokens<'a>) -> Re
     Ok((words, rest))
 }
 
-/// The tokens behind one or two numbers and the closing parenthesis.
-fn sizes<'a>(tokens: Tokens<'a>) -> Result<Tokens<'a>, Refusal> {
-    let (_, rest) = integer(tokens)?;
-    let rest = match rest {
-        [kind!(Comma), rest @ ..] => integer(rest)?.1,
-        _ => rest,
-    };
-    mark(Kind::RightParen, rest)
+/// The tokens behind an open parenthesis, where it comes next.
+#[tactic(auto, unfolding(crate::specs::TableReading::after_paren))]
+pub fn after_paren<'a>(tokens: Tokens<'a>) -> Option<Tokens<'a>>
+    ensures { (whole : List Spelling) → option_map (λ rest. seen whole rest.now) result ≡ spec.after_paren (seen whole tokens.now) }
+{
+    match tokens {
+        [kind!(LeftParen), rest @ ..] => Some(rest),
+        _ => None,
+    }
 }
 
+/// Whether one or two numbers in parentheses come next.
+#[tactic(auto, unfolding(crate::specs::Readers::yields, crate::specs::TableReading::sized_from))]
+fn sized<'a>(tokens: Tokens<'a>) -> Read<'a, bool>
+    ensures { (whole : List Spelling) → Gives (λ x. (x.0, seen whole x.1.now)) result (spec.sized_from (seen whole tokens.now)) }
+{
+    match after_paren(tokens) {
+        Some(rest) => sizes(rest),
+        None => Ok((false, tokens)),
+    }
+}
+
+/// One or two numbers and the closing parenthesis.
+#[tactic(auto, unfolding(crate::specs::Readers::made, crate::specs::Readers::both, crate::specs::Readers::before_mark, crate::specs::TableReading::sizes_from))]
+fn sizes<'a>(tokens: Tokens<'a>) -> Read<'a, bool>
+    ensures { (whole : List Spelling) → Gives (λ x. (x.0, seen whole x.1.now)) result (spec.sizes_from (seen whole tokens.now)) }
+{
+    let (_, rest) = integer(tokens)?;
+    let (_, rest) = second(rest)?;
+    Ok((true, mark(Kind::RightParen, rest)?))
+}
+
+/// Whether a second number comes next, behind a comma.
+#[tactic(auto, unfolding(crate::specs::Readers::choose_comma, crate::specs::Readers::made, crate::specs::Readers::yields, crate::specs::TableReading::second_from))]
+fn second<'a>(tokens: Tokens<'a>) -> Read<'a, bool>
+    ensures { (whole : List Spelling) → Gives (λ x. (x.0, seen whole x.1.now)) result (spec.second_from (seen whole tokens.now)) }
+{
+    match after_comma(tokens) {
+        Some(rest) => {
+            let (_, rest) = integer(rest)?;
+            Ok((true, rest))
+        }
+        None => Ok((false, tokens)),
+    }
+}
+
+#[tactic(auto, unfolding(crate::specs::Readers::many_upto))]
 fn column_rules<'a>(
     alloc: Global,
     spelled: Spelled<'_>,
     tokens: Tokens<'a>,
-) -> Read<'a, Many<ColumnRule>> {
+) -> Read<'a, Many<ColumnRule>>
+    ensures { Gives (λ x. (x.0, seen spelled.now x.1.now)) result (readers.many spec.column_rule_from (seen spelled.now tokens.now)) }
+{
     let mut rules = Many::new(alloc);
     let mut rest = tokens;
     'rules: for _ in 0..tokens.len() {
-        let (rule, after) = column_rule(alloc, spelled, rest)?;
-        let Some(rule) = rule else {
-            return Ok((rules, rest));
+        let (found, after) = column_rule(alloc, spelled, rest)?;
+        let Some(rule) = found else {
+            return Ok((rules, after));
         };
         rules.push(rule)?;
         rest = after;
@@ -171,65 +289,112 @@ fn column_rules<'a>(
 }
 
 /// A rule of a column, where one comes next.
+#[tactic(auto, unfolding(crate::specs::Readers::choose, crate::specs::Readers::made, crate::specs::Readers::behind, crate::specs::Readers::yields, crate::specs::TableReading::column_rule_from))]
 fn column_rule<'a>(
     alloc: Global,
     spelled: Spelled<'_>,
     tokens: Tokens<'a>,
-) -> Read<'a, Option<ColumnRule>> {
-    let (rule, rest) = match tokens {
-        [keyword!(Primary), rest @ ..] => (ColumnRule::PrimaryKey, word(Keyword::Key, rest)?),
-        [keyword!(Unique), rest @ ..] => (ColumnRule::Unique, rest),
-        [keyword!(Not), rest @ ..] => (ColumnRule::NotNull, word(Keyword::Null, rest)?),
-        [keyword!(Default), rest @ ..] => {
-            let (value, rest) = signed(alloc, spelled, rest)?;
-            (ColumnRule::Default(value), rest)
-        }
-        [keyword!(Collate), rest @ ..] => {
-            let (collation, rest) = name(alloc, spelled, rest)?;
-            (ColumnRule::Collate(collation), rest)
-        }
-        [keyword!(Check), rest @ ..] => {
-            let (condition, rest) = enclosed(alloc, spelled, rest)?;
-            (ColumnRule::Check(condition), rest)
-        }
-        _ => return Ok((None, tokens)),
-    };
-    Ok((Some(rule), rest))
+) -> Read<'a, Option<ColumnRule>>
+    ensures { Gives (λ x. (x.0, seen spelled.now x.1.now)) result (spec.column_rule_from (seen spelled.now tokens.now)) }
+{
+    if let Some(rest) = after_word(Keyword::Primary, tokens) {
+        return Ok((Some(ColumnRule::PrimaryKey), word(Keyword::Key, rest)?));
+    }
+    if let Some(rest) = after_word(Keyword::Unique, tokens) {
+        return Ok((Some(ColumnRule::Unique), rest));
+    }
+    if let Some(rest) = after_word(Keyword::Not, tokens) {
+        return Ok((Some(ColumnRule::NotNull), word(Keyword::Null, rest)?));
+    }
+    if let Some(rest) = after_word(Keyword::Default, tokens) {
+        let (value, rest) = signed(alloc, spelled, rest)?;
+        return Ok((Some(ColumnRule::Default(value)), rest));
+    }
+    if let Some(rest) = after_word(Keyword::Collate, tokens) {
+        let (collation, rest) = name(alloc, spelled, rest)?;
+        return Ok((Some(ColumnRule::Collate(collation)), rest));
+    }
+    if let Some(rest) = after_word(Keyword::Check, tokens) {
+        let (condition, rest) = enclosed(alloc, spelled, rest)?;
+        return Ok((Some(ColumnRule::Check(condition)), rest));
+    }
+    Ok((None, tokens))
+}
+
+/// The tokens behind a minus, where it comes next.
+#[tactic(auto, unfolding(crate::specs::TableReading::after_minus))]
+fn after_minus<'a>(tokens: Tokens<'a>) -> Option<Tokens<'a>>
+    ensures { (whole : List Spelling) → option_map (λ rest. seen whole rest.now) result ≡ spec.after_minus (seen whole tokens.now) }
+{
+    match tokens {
+        [kind!(Minus), rest @ ..] => Some(rest),
+        _ => None,
+    }
 }
 
 /// A literal, where an integer may have a minus.
-fn signed<'a>(alloc: Global, spelled: Spelled<'_>, tokens: Tokens<'a>) -> Read<'a, Value> {
-    match tokens {
-        [kind!(Minus), rest @ ..] => {
-            let (n, rest) = integer(rest)?;
-            Ok((Value::Int(negative(n)), rest))
-        }
-        [token, rest @ ..] => match value(alloc, spelled, *token)? {
-            Some(value) => Ok((value, rest)),
-            None => Err(unexpected(tokens)),
-        },
-        [] => Err(Refusal::Syntax(0)),
+#[tactic(auto, unfolding(crate::specs::TableReading::signed_from, crate::specs::TableReading::number_from))]
+fn signed<'a>(alloc: Global, spelled: Spelled<'_>, tokens: Tokens<'a>) -> Read<'a, Value>
+    ensures { Gives (λ x. (x.0, seen spelled.now x.1.now)) result (spec.signed_from (seen spelled.now tokens.now)) }
+{
+    let Some(rest) = after_minus(tokens) else {
+        return literal(alloc, spelled, tokens);
+    };
+    let (n, after) = integer(rest)?;
+    match negative(n) {
+        Some(n) => Ok((Value::Int(n), after)),
+        None => Err(unexpected(rest)),
     }
 }
 
-/// A number with a minus before it; the number is at most 9223372036854775808.
-fn negative(n: u64) -> i64 {
+/// A number with a minus before it, where that has 64 bits.
+fn negative(n: u64) -> Option<i64>
+    ensures { result ≡ spec.negative n }
+{
     match i64::try_from(n) {
-        Ok(n) => -n,
-        Err(_) => i64::MIN,
+        Ok(n) => Some(-n),
+        Err(_) if n == 1 << 63 => Some(i64::MIN),
+        Err(_) => None,
     }
 }
 
-/// The value of a literal.
-fn value(alloc: Global, spelled: Spelled<'_>, token: Tok) -> Result<Option<Value>, Refusal> {
-    Ok(match token.kind {
-        Kind::Word(Keyword::Null) => Some(Value::Null),
-        Kind::Integer(n) => match i64::try_from(n) {
-            Ok(n) => Some(Value::Int(n)),
-            Err(_) => None,
-        },
-        Kind::Text => Some(Value::Text(text_of(alloc, spelling(spelled, token))?)),
-        Kind::Blob => Some(Value::Blob(blob_of(alloc, spelling(spelled, token))?)),
-        _ => None,
-    })
+/// A number where it has 64 bits with its sign.
+fn positive(n: u64) -> Option<i64>
+    ensures { result ≡ spec.positive n }
+{
+    match i64::try_from(n) {
+        Ok(n) => Some(n),
+        Err(_) => None,
+    }
+}
+
+/// A literal without a sign.
+#[tactic(auto, unfolding(crate::specs::TableReading::literal_from))]
+fn literal<'a>(alloc: Global, spelled: Spelled<'_>, tokens: Tokens<'a>) -> Read<'a, Value>
+    ensures { Gives (λ x. (x.0, seen spelled.now x.1.now)) result (spec.literal_from (seen spelled.now tokens.now)) }
+{
+    match tokens {
+        [keyword!(Null), rest @ ..] => Ok((Value::Null, rest)),
+        [token @ kind!(Text), rest @ ..] => {
+            let text = text_of(alloc, spelling(spelled, *token))?;
+            Ok((Value::Text(text), rest))
+        }
+        [token @ kind!(Blob), rest @ ..] => {
+            let blob = blob_of(alloc, spelling(spelled, *token))?;
+            Ok((Value::Blob(blob), rest))
+        }
+        _ => number(tokens),
+    }
+}
+
+/// A number where it has 64 bits with its sign.
+#[tactic(auto, unfolding(crate::specs::TableReading::number_from))]
+fn number<'a>(tokens: Tokens<'a>) -> Read<'a, Value>
+    ensures { (whole : List Spelling) → Gives (λ x. (x.0, seen whole x.1.now)) result (spec.number_from spec.positive (seen whole tokens.now)) }
+{
+    let (n, rest) = integer(tokens)?;
+    match positive(n) {
+        Some(n) => Ok((Value::Int(n), rest)),
+        None => Err(unexpected(tokens)),
+    }
 }

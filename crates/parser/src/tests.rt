@@ -2,7 +2,7 @@ use super::*;
 use sqlval::{Fault, R, Value};
 use std::alloc::Global;
 use std::test::*;
-use syntax::Statement;
+use syntax::{ColumnDefinition, ColumnRule, NewObject, Statement};
 
 fn all_are_read(alloc: Global, forms: &[&str]) -> bool {
     for form in forms {

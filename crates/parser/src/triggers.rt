@@ -1,24 +1,39 @@
 //! Triggers.
 
+ghost use Rattle.std.specs.Prelude.{List};
+ghost use Rattle.lexer.specs.declared.token.Token.{Token as Spelling};
+ghost use Rattle.lexer.specs.declared.keyword.Keyword.TheVariants as keyword;
+ghost use Rattle.lexer.specs.declared.token.Kind.TheVariants as kinds;
+ghost use Rattle.expressions.specs.Pieces.{seen};
+ghost use Rattle.expressions.specs.Reading.{Gives, names_from};
+ghost use Rattle.parser.specs.ObjectReading as spec;
+ghost use Rattle.parser.specs.Readers as readers;
+
 use crate::changes::change;
-use crate::queries::query;
-use expressions::{Read, Refusal, Spelled, Tokens, after_word, keyword, mark, maybe_behind, name, names, unexpected, word};
+use crate::queries::selection;
+use expressions::{
+    Read, Refusal, Spelled, Tokens, after_word, mark, maybe_behind, name, names, unexpected, word,
+};
 use lexer::{Keyword, Kind};
-use sqlval::Many;
-use syntax::{TriggerDefinition, TriggerEvent, TriggerStatement, TriggerTime};
+use sqlval::{Many, Name};
 use std::alloc::Global;
+use syntax::{TriggerDefinition, TriggerEvent, TriggerStatement, TriggerTime};
 
 /// A trigger, behind CREATE TRIGGER.
+#[tactic(auto, unfolding(crate::specs::Readers::made, crate::specs::Readers::both, crate::specs::Readers::behind, crate::specs::ObjectReading::trigger_from))]
 pub fn trigger<'a>(
     alloc: Global,
     spelled: Spelled<'_>,
     tokens: Tokens<'a>,
-) -> Read<'a, TriggerDefinition> {
+) -> Read<'a, TriggerDefinition>
+    ensures { Gives (λ x. (x.0, seen spelled.now x.1.now)) result (spec.trigger_from (seen spelled.now tokens.now)) }
+{
     let (own, rest) = name(alloc, spelled, tokens)?;
     let (time, rest) = time(rest)?;
     let (event, rest) = event(alloc, spelled, rest)?;
     let (target, rest) = name(alloc, spelled, word(Keyword::On, rest)?)?;
-    let (condition, rest) = maybe_behind(alloc, spelled, Keyword::When, each_row(rest)?)?;
+    let (_, rest) = each_row(rest)?;
+    let (condition, rest) = maybe_behind(alloc, spelled, Keyword::When, rest)?;
     let (body, rest) = body(alloc, spelled, word(Keyword::Begin, rest)?)?;
     Ok((
         TriggerDefinition {
@@ -33,49 +48,73 @@ pub fn trigger<'a>(
     ))
 }
 
-fn time<'a>(tokens: Tokens<'a>) -> Read<'a, TriggerTime> {
-    match tokens {
-        [keyword!(Before), rest @ ..] => Ok((TriggerTime::Before, rest)),
-        [keyword!(After), rest @ ..] => Ok((TriggerTime::After, rest)),
-        _ => {
-            let rest = word(Keyword::Of, word(Keyword::Instead, tokens)?)?;
-            Ok((TriggerTime::InsteadOf, rest))
-        }
+#[tactic(auto, unfolding(crate::specs::Readers::choose, crate::specs::Readers::behind, crate::specs::Readers::yields, crate::specs::ObjectReading::time_from))]
+fn time<'a>(tokens: Tokens<'a>) -> Read<'a, TriggerTime>
+    ensures { (whole : List Spelling) → Gives (λ x. (x.0, seen whole x.1.now)) result (spec.time_from (seen whole tokens.now)) }
+{
+    if let Some(rest) = after_word(Keyword::Before, tokens) {
+        return Ok((TriggerTime::Before, rest));
     }
+    if let Some(rest) = after_word(Keyword::After, tokens) {
+        return Ok((TriggerTime::After, rest));
+    }
+    let rest = word(Keyword::Of, word(Keyword::Instead, tokens)?)?;
+    Ok((TriggerTime::InsteadOf, rest))
 }
 
-fn event<'a>(alloc: Global, spelled: Spelled<'_>, tokens: Tokens<'a>) -> Read<'a, TriggerEvent> {
-    match tokens {
-        [keyword!(Insert), rest @ ..] => Ok((TriggerEvent::Insert, rest)),
-        [keyword!(Delete), rest @ ..] => Ok((TriggerEvent::Delete, rest)),
-        [keyword!(Update), keyword!(Of), rest @ ..] => {
+#[tactic(auto, unfolding(crate::specs::Readers::choose, crate::specs::Readers::behind, crate::specs::Readers::yields, crate::specs::Readers::made, crate::specs::ObjectReading::event_from))]
+fn event<'a>(alloc: Global, spelled: Spelled<'_>, tokens: Tokens<'a>) -> Read<'a, TriggerEvent>
+    ensures { Gives (λ x. (x.0, seen spelled.now x.1.now)) result (spec.event_from (seen spelled.now tokens.now)) }
+{
+    if let Some(rest) = after_word(Keyword::Insert, tokens) {
+        return Ok((TriggerEvent::Insert, rest));
+    }
+    if let Some(rest) = after_word(Keyword::Delete, tokens) {
+        return Ok((TriggerEvent::Delete, rest));
+    }
+    let (columns, rest) = of(alloc, spelled, word(Keyword::Update, tokens)?)?;
+    Ok((TriggerEvent::Update(columns), rest))
+}
+
+/// Names behind OF, where OF comes next.
+#[tactic(auto, unfolding(crate::specs::Readers::maybe, crate::specs::Readers::choose, crate::specs::Readers::made, crate::specs::Readers::yields))]
+fn of<'a>(alloc: Global, spelled: Spelled<'_>, tokens: Tokens<'a>) -> Read<'a, Option<Many<Name>>>
+    ensures { Gives (λ x. (x.0, seen spelled.now x.1.now)) result (readers.maybe keyword.Of names_from (seen spelled.now tokens.now)) }
+{
+    match after_word(Keyword::Of, tokens) {
+        Some(rest) => {
             let (columns, rest) = names(alloc, spelled, rest)?;
-            Ok((TriggerEvent::Update(Some(columns)), rest))
+            Ok((Some(columns), rest))
         }
-        _ => Ok((TriggerEvent::Update(None), word(Keyword::Update, tokens)?)),
+        None => Ok((None, tokens)),
     }
 }
 
-/// The tokens behind FOR EACH ROW, which may come next.
-fn each_row<'a>(tokens: Tokens<'a>) -> Result<Tokens<'a>, Refusal> {
+/// Whether FOR EACH ROW comes next.
+#[tactic(auto, unfolding(crate::specs::Readers::choose, crate::specs::Readers::behind, crate::specs::Readers::yields, crate::specs::ObjectReading::each_row_from))]
+fn each_row<'a>(tokens: Tokens<'a>) -> Read<'a, bool>
+    ensures { (whole : List Spelling) → Gives (λ x. (x.0, seen whole x.1.now)) result (spec.each_row_from (seen whole tokens.now)) }
+{
     match after_word(Keyword::For, tokens) {
-        Some(rest) => word(Keyword::Row, word(Keyword::Each, rest)?),
-        None => Ok(tokens),
+        Some(rest) => Ok((true, word(Keyword::Row, word(Keyword::Each, rest)?)?)),
+        None => Ok((false, tokens)),
     }
 }
 
 /// One or more statements, each with a semicolon behind it, and END.
+#[tactic(auto, unfolding(crate::specs::ObjectReading::body_upto))]
 fn body<'a>(
     alloc: Global,
     spelled: Spelled<'_>,
     tokens: Tokens<'a>,
-) -> Read<'a, Many<TriggerStatement>> {
+) -> Read<'a, Many<TriggerStatement>>
+    ensures { Gives (λ x. (x.0, seen spelled.now x.1.now)) result (spec.body_from (seen spelled.now tokens.now)) }
+{
     let mut body = Many::new(alloc);
     let mut rest = tokens;
     'body: for _ in 0..tokens.len() {
         let (statement, after) = body_statement(alloc, spelled, rest)?;
         body.push(statement)?;
-        let after = mark(Kind::Semicolon, after)?;
         match after_word(Keyword::End, after) {
             Some(end) => return Ok((body, end)),
             None => rest = after,
@@ -84,17 +123,33 @@ fn body<'a>(
     Err(unexpected(rest))
 }
 
+/// A statement with a semicolon behind it.
+#[tactic(auto, unfolding(crate::specs::Readers::before_mark))]
 fn body_statement<'a>(
     alloc: Global,
     spelled: Spelled<'_>,
     tokens: Tokens<'a>,
-) -> Read<'a, TriggerStatement> {
-    match tokens {
-        [keyword!(Select), ..] => {
-            let (query, rest) = query(alloc, spelled, tokens)?;
+) -> Read<'a, TriggerStatement>
+    ensures { Gives (λ x. (x.0, seen spelled.now x.1.now)) result (readers.before_mark kinds.Semicolon spec.program_from (seen spelled.now tokens.now)) }
+{
+    let (statement, rest) = program(alloc, spelled, tokens)?;
+    Ok((statement, mark(Kind::Semicolon, rest)?))
+}
+
+#[tactic(auto, unfolding(crate::specs::Readers::choose, crate::specs::Readers::made, crate::specs::ObjectReading::program_from))]
+fn program<'a>(
+    alloc: Global,
+    spelled: Spelled<'_>,
+    tokens: Tokens<'a>,
+) -> Read<'a, TriggerStatement>
+    ensures { Gives (λ x. (x.0, seen spelled.now x.1.now)) result (spec.program_from (seen spelled.now tokens.now)) }
+{
+    match after_word(Keyword::Select, tokens) {
+        Some(rest) => {
+            let (query, rest) = selection(alloc, spelled, rest)?;
             Ok((TriggerStatement::Select(query), rest))
         }
-        _ => {
+        None => {
             let (change, rest) = change(alloc, spelled, tokens)?;
             Ok((TriggerStatement::Change(change), rest))
         }

@@ -1,2 +1,5 @@
 pub mod PayloadRows
 pub mod WholeLeaf
+mod Refused
+mod Rebuilding
+mod Lonely

@@ -1,3 +1,4 @@
+pub mod Lone
 pub mod Map
 pub mod Payload
 pub mod Cells

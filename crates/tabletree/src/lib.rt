@@ -1,2 +1,7 @@
-//! What a table's tree is, as definitions: pages that hold rows by rising rowid, and long payloads on chains of pages.
+//! The tree of a table: pages that hold rows by rising rowid, and long payloads on chains of pages, as definitions. Trees of
+//! one page alone are read and written so far.
 #![tactic(auto)]
+
+mod leaf;
+
+pub use leaf::{Leaf, empty, lone_page_is_a_tree, next_rowid, with_rows};

@@ -1,3 +1,15 @@
+pub mod Results
+pub mod Rooms
 pub mod Indexing
-pub mod CommitLemmas
 pub mod Opened
+pub mod Paging
+pub mod CommitLemmas
+pub mod FrameLists
+pub mod Same
+pub mod Appending
+pub mod Halting
+pub mod Stopping
+pub mod Beginning
+pub mod Cutting
+pub mod Chance
+pub mod Views

@@ -1,20 +1,11 @@
--- Which frames the log of a header is meant to have, and that a stop leaves no others (Database File Format, 4.1 "WAL File
--- Format" and 4.3 "Checkpoint Algorithm").
-use Rattle.std.specs.Prelude.{◌≡◌, ◌<◌, ℕ, zero, suc, List, [], ◌∷◌, ◌++◌, length, drop, slice_get, Some, Ok}
+-- Which frames the log of a header is meant to have, and that a stop leaves no others (Database File Format, "WAL File
+-- Format" and "Checkpoint Algorithm").
+use Rattle.std.specs.Prelude.{◌≡◌, ◌<◌, ℕ, List, length, slice_get, Some, Ok}
 use Rattle.disk.specs.File.{File, Version, IsLeft, versions, version_at}
 use Rattle.walframe.specs.declared.heading.LogHeader.{LogHeader}
 use Rattle.walframe.specs.Log.{header_in}
-use Rattle.walframe.specs.Accepted.{IsAccepted, frame_at, head_at}
 use Rattle.walframe.specs.Written.{Framed}
-
--- frame k of a log: its page's number, the size of the database, and the page
-abbrev pub framed_at : LogHeader → List ℕ → ℕ → Framed
-framed_at h log k = record { head = head_at h log k; page = drop 24 (frame_at h log k) }
-
--- the first n frames
-abbrev pub framed_to : LogHeader → List ℕ → ℕ → List Framed
-framed_to h log zero = []
-framed_to h log (suc n) = framed_to h log n ++ framed_at h log n ∷ []
+use Rattle.wal.specs.Committed.{IsAcceptedAt, framed_at, framed_to}
 
 -- a header, and how many frames there are under it
 pub record Chained : Type 0 where
@@ -50,7 +41,7 @@ pub record IsChained (versions : List Version) (headers : List Chained) (h : Log
 -- header's chain.
 abbrev pub NoChanceMatchIn : List Version → List Chained → Type 0
 NoChanceMatchIn versions headers =
-    (log : List ℕ) (h : LogHeader) (accepted k : ℕ) → IsLeft versions log → BeginsWith h log → IsAccepted h log accepted → k < accepted
+    (log : List ℕ) (h : LogHeader) (k : ℕ) → IsLeft versions log → BeginsWith h log → IsAcceptedAt h log k
     → IsChained versions headers h k (framed_at h log k)
 
 -- and of a file as it is now

@@ -1,5 +1,5 @@
 -- What an index of frames has.
-use Rattle.std.specs.Prelude.{◌≡◌, ◌⊎◌, ◌<◌, ◌≤◌, ◌-◌, ◌+◌, ℕ, List, [], ◌∷◌, ◌++◌, length, map, Vec, slice_index, slice_index_or}
+use Rattle.std.specs.Prelude.{◌≡◌, ◌⊎◌, ◌<◌, ◌≤◌, ◌-◌, ◌+◌, ℕ, List, [], ◌∷◌, ◌++◌, length, map, Vec, vec_len, vec_capacity, slice_index, slice_index_or}
 use Rattle.std.specs.declared.alloc.Global.{Global}
 use Rattle.walframe.specs.declared.framing.FrameHeader.{FrameHeader}
 use Rattle.wal.specs.declared.pages.PageImage.{PageImage}
@@ -20,6 +20,52 @@ EachFrame P index = (p k : ℕ) → 1 ≤ p → k < length (frames_of index p) �
 -- each page has the frames that it had
 abbrev pub SameFrames : Index → Index → Type 0
 SameFrames old new = (p : ℕ) → frames_of new p ≡ frames_of old p
+
+-- a number that a page of a database may have
+abbrev pub IsPageNumber : ℕ → Type 0
+IsPageNumber page = (1 ≤ page) × (page ≤ 65536)
+
+-- the page has this frame
+pub record HasFrame (index : Index) (page frame : ℕ) : Type 0 where
+  pub place : ℕ
+  pub within : place < length (frames_of index page)
+  pub is : slice_index (frames_of index page) place ≡ frame
+
+-- the page has no such frame
+abbrev pub Misses : Index → ℕ → ℕ → Type 0
+Misses index page frame = HasFrame index page frame → ⊥
+
+-- each page still has the frames that it had
+abbrev pub KeepsFrames : Index → Index → Type 0
+KeepsFrames old new = (p f : ℕ) → 1 ≤ p → HasFrame old p f → HasFrame new p f
+
+-- Of these pages, in order, the first n have a frame each, numbered from the one behind `before` on.
+abbrev pub HasEach : ℕ → List ℕ → ℕ → Index → Type 0
+HasEach before numbers n index = (i : ℕ) → i < n → IsPageNumber (slice_index numbers i) → HasFrame index (slice_index numbers i) (before + 1 + i)
+
+-- how many frames more a list has room for
+abbrev pub room_in : Vec ℕ Global → ℕ
+room_in row = vec_capacity row - vec_len row
+
+-- how many frames more of a page there is room for
+abbrev pub room_for : Index → ℕ → ℕ
+room_for index page = slice_index (map room_in index.lists.items) (page - 1)
+
+-- no page has less room
+abbrev pub KeepsRoom : Index → Index → Type 0
+KeepsRoom old new = (p : ℕ) → room_for old p ≤ room_for new p
+
+-- no page but this has less room
+abbrev pub KeepsRoomBut : ℕ → Index → Index → Type 0
+KeepsRoomBut page old new = (p : ℕ) → 1 ≤ p → (p ≡ page → ⊥) → room_for old p ≤ room_for new p
+
+-- of these pages, in order, each from one place up to another has room for a frame
+abbrev pub HasRooms : ℕ → ℕ → List ℕ → Index → Type 0
+HasRooms from to numbers index = (i : ℕ) → from ≤ i → i < to → IsPageNumber (slice_index numbers i) → 0 < room_for index (slice_index numbers i)
+
+-- each number is greater than those before it
+abbrev pub IsStrict : List ℕ → Type 0
+IsStrict numbers = (i j : ℕ) → i < j → j < length numbers → slice_index numbers i < slice_index numbers j
 
 -- one page may have a frame more
 abbrev pub AddsFrame : ℕ → ℕ → Index → Index → Type 0
@@ -60,3 +106,7 @@ IsOldOrNew mark pages count old p f =
 -- the frame of this number, from 1, is one of that page
 abbrev pub IsOfHead : List FrameHeader → ℕ → ℕ → Type 0
 IsOfHead frames p f = (d : FrameHeader) → (slice_index_or frames (f - 1) d).page ≡ p
+
+-- the pages that these frames are of
+abbrev pub pages_said : List FrameHeader → List ℕ
+pages_said = map (λ (f : FrameHeader). f.page)

@@ -1,8 +1,13 @@
 pub mod Index
 pub mod Pages
+pub mod Committed
 pub mod Stands
 pub mod State
 pub mod Opening
 pub mod Refusals
 pub mod View
+pub mod Known
+pub mod Opens
+pub mod Commits
 pub mod Chains
+pub mod Stops

@@ -1,5 +1,5 @@
 -- What opening makes of what was read of a log.
-use Rattle.std.specs.Prelude.{◌≡◌, ◌*◌, ℕ, List, [], ◌∷◌, length, slice_index_or, Option, Some, None, MatchOption}
+use Rattle.std.specs.Prelude.{◌≡◌, ◌≤◌, ◌*◌, ℕ, List, [], ◌∷◌, length, slice_index_or, Option, Some, None, MatchOption}
 use Rattle.walframe.specs.declared.framing.FrameHeader.{FrameHeader}
 use Rattle.walframe.specs.declared.heading.LogHeader.{LogHeader}
 use Rattle.walframe.specs.declared.progress.Scan.{Scan}
@@ -19,3 +19,8 @@ abbrev pub IsViewSize : List FrameHeader → Option ℕ → ℕ → ℕ → ℕ 
 IsViewSize [] (Some counted) db_len page_size size = size ≡ counted
 IsViewSize [] None db_len page_size size = size * page_size ≡ db_len
 IsViewSize (f ∷ fs) counted db_len page_size size = size ≡ (slice_index_or (f ∷ fs) (length fs) f).size
+
+-- a size that is served: at most 65,536 pages and 1,073,741,824 bytes
+pub record IsServedSize (page_size size : ℕ) : Type 0 where
+  pub few : size ≤ 65536
+  pub small : size * page_size ≤ 1073741824

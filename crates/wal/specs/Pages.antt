@@ -1,5 +1,5 @@
 -- The pages of a commit.
-use Rattle.std.specs.Prelude.{◌≡◌, ◌<◌, ◌≤◌, ◌==◌, ◌||◌, ℕ, Bool, List, [], ◌∷◌, length}
+use Rattle.std.specs.Prelude.{◌≡◌, ◌<◌, ◌≤◌, ◌==◌, ◌||◌, ℕ, Bool, List, [], ◌∷◌, length, map}
 use Rattle.walframe.specs.Written.{Framed}
 use Rattle.wal.specs.declared.pages.PageImage.{PageImage}
 
@@ -12,12 +12,16 @@ abbrev pub ArePages : ℕ → ℕ → ℕ → List PageImage → Type 0
 ArePages last size bytes [] = Unit {0}
 ArePages last size bytes (p ∷ ps) = (last < p.number) × (p.number ≤ size) × (length p.bytes.items ≡ bytes) × ArePages p.number size bytes ps
 
+-- the numbers of these pages
+abbrev pub numbers_of : List PageImage → List ℕ
+numbers_of = map (λ (p : PageImage). p.number)
+
 -- the size that the frame before these pages has: only the last frame has one
 abbrev pub size_before : List PageImage → ℕ → ℕ
 size_before [] size = size
 size_before (p ∷ ps) size = 0
 
--- the frames of a commit of these pages (Database File Format, 4.1 "WAL File Format": the size stands in the last frame)
+-- the frames of a commit of these pages (Database File Format, "WAL File Format": the size stands in the last frame)
 abbrev pub framed : List PageImage → ℕ → List Framed
 framed [] size = []
 framed (p ∷ ps) size = record { head = record { page = p.number; size = size_before ps size }; page = p.bytes.items } ∷ framed ps size

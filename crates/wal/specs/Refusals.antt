@@ -21,6 +21,12 @@ IsCommitRefusal old new failed fails Full = new ≡ old
 IsCommitRefusal old new failed fails (Damaged Page number) = new ≡ old
 IsCommitRefusal old new failed fails _ = ⊥
 
+-- A cut of the log that was refused: `Io` where a call of the disk failed, `Failed` where one had failed before.
+abbrev pub IsCutRefusal : {D : Type 0} → D → D → ℕ → ℕ → Fault → Type 0
+IsCutRefusal old new failed fails Io = Rose failed fails
+IsCutRefusal old new failed fails Failed = new ≡ old
+IsCutRefusal old new failed fails _ = ⊥
+
 -- why files can't be opened
 abbrev pub IsOpenRefusal : Fault → Type 0
 IsOpenRefusal Memory = Unit {0}

@@ -1,16 +1,12 @@
--- The pages that the two files stand for together (Database File Format, 4.5 "Reader Algorithm").
+-- The pages that the two files stand for together (Database File Format, "Reader Algorithm").
 use Rattle.std.specs.Prelude.{◌≡◌, ◌⊎◌, ◌<◌, ◌≤◌, ◌-◌, ◌*◌, ℕ, List, [], length, take, drop, slice_index_or, Option, Some, None, Ok}
 use Rattle.walframe.specs.declared.framing.FrameHeader.{FrameHeader}
 use Rattle.walframe.specs.declared.heading.LogHeader.{LogHeader}
 use Rattle.walframe.specs.Log.{header_in}
-use Rattle.walframe.specs.Accepted.{IsAccepted, IsCommitted, frame_at, head_at, heads_to}
-use Rattle.wal.specs.Opening.{IsViewSize}
-
--- So many frames of a log are committed: none where it has no header, else those up to the last one accepted that ends a
--- commit, under a header of this page size.
-abbrev pub AreCommitted : List ℕ → ℕ → Option LogHeader → ℕ → Type 0
-AreCommitted log page_size None n = n ≡ 0
-AreCommitted log page_size (Some h) n = (h.page_size ≡ page_size) × (accepted : ℕ) × IsAccepted h log accepted × IsCommitted h log accepted n
+use Rattle.walframe.specs.Accepted.{frame_at, head_at, heads_to}
+use Rattle.walframe.specs.Written.{Framed}
+use Rattle.wal.specs.Committed.{AreCommitted}
+use Rattle.wal.specs.Opening.{IsViewSize, IsServedSize}
 
 -- frame k is the last one of the page among the first n, the first being frame 0
 pub record IsNewest (h : LogHeader) (log : List ℕ) (n number k : ℕ) : Type 0 where
@@ -33,6 +29,22 @@ IsPage db log page_size None n number bytes = IsInFile db page_size number bytes
 IsPage db log page_size (Some h) n number bytes =
     ((k : ℕ) × IsNewest h log n number k × (bytes ≡ drop 24 (frame_at h log k))) ⊎ (HasNoFrame h log n number × IsInFile db page_size number bytes)
 
+abbrev pub blank_frame : Framed
+blank_frame = record { head = record { page = 0; size = 0 }; page = [] }
+
+-- the last frame of the page among these
+pub record IsNewestIn (frames : List Framed) (number k : ℕ) : Type 0 where
+  pub within : k < length frames
+  pub page : (slice_index_or frames k blank_frame).head.page ≡ number
+  pub last : (j : ℕ) → k < j → j < length frames → (slice_index_or frames j blank_frame).head.page ≡ number → ⊥
+
+-- A page comes from the newest of these frames that is of it, else from the database file: what readers see depends on the committed
+-- frames, and on nothing else of the log.
+abbrev pub IsPageIn : List ℕ → ℕ → List Framed → ℕ → List ℕ → Type 0
+IsPageIn db page_size frames number bytes =
+    ((k : ℕ) × IsNewestIn frames number k × (bytes ≡ (slice_index_or frames k blank_frame).page))
+    ⊎ (((k : ℕ) → k < length frames → (slice_index_or frames k blank_frame).head.page ≡ number → ⊥) × IsInFile db page_size number bytes)
+
 -- what the first n frames say
 abbrev pub heads : List ℕ → Option LogHeader → ℕ → List FrameHeader
 heads log None n = []
@@ -52,7 +64,6 @@ pub record IsFilesView (page_size : ℕ) (counted : Option ℕ) (db log : List �
   pub frames_are : AreCommitted log page_size header frames
   pub view : IsViewTo page_size counted db log header frames pages
 
--- and it is no larger than is served: 65,536 pages and 1,073,741,824 bytes
-pub record IsServed (page_size : ℕ) (pages : List (List ℕ)) : Type 0 where
-  pub few : length pages ≤ 65536
-  pub small : length pages * page_size ≤ 1073741824
+-- and it is no larger than is served
+abbrev pub IsServed : ℕ → List (List ℕ) → Type 0
+IsServed page_size pages = IsServedSize page_size (length pages)

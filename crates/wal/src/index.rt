@@ -1,6 +1,7 @@
 //! Which frames of a log have a page.
 
-ghost use Rattle.std.specs.Prelude.{◌≡◌, ◌≤◌, ◌<◌, ℕ, [], length, IfSome, IfOk, IsNone, ◌+◌};
+ghost use Rattle.std.specs.Prelude.{◌≡◌, ◌≤◌, ◌<◌, ℕ, [], length, map, IfSome, IfOk, IsNone, OnOk, ◌+◌};
+ghost use Rattle.wal.specs.Pages.{numbers_of};
 
 use crate::pages::PageImage;
 use std::alloc::{AllocError, Global};
@@ -16,7 +17,7 @@ pub struct Index {
 }
 
 impl Index {
-    ghost use Rattle.wal.specs.Index.{frames_of, SameFrames, AddsFrame, FindsFrame, FindsNone, IsRising, IsIndexTo, EachFrame, IsOldOrNew, IsOfHead};
+    ghost use Rattle.wal.specs.Index.{frames_of, SameFrames, AddsFrame, FindsFrame, FindsNone, IsRising, IsIndexTo, EachFrame, IsOldOrNew, IsOfHead, IsPageNumber, HasFrame, KeepsFrames, HasEach, room_for, KeepsRoom, KeepsRoomBut, HasRooms, IsStrict, pages_said};
 
     /// The index of a log without frames.
     pub fn new(alloc: Global) -> Index
@@ -29,7 +30,9 @@ impl Index {
 
     /// Makes room for one frame more of a page from 1 to 65,536.
     pub fn reserve(&mut self, alloc: Global, page: u32) -> Result<(), AllocError>
-        ensures { SameFrames self.old self.new }
+        ensures same { SameFrames self.old self.new }
+        ensures kept { KeepsRoom self.old self.new }
+        ensures room { OnOk result (IsPageNumber page → 0 < room_for self.new page) }
     {
         if page == 0 || page > MOST_PAGES {
             return Ok(());
@@ -43,7 +46,9 @@ impl Index {
 
     /// Adds a frame of a page, for which there has to be room; without it the frame isn't added.
     pub fn add(&mut self, page: u32, frame: u32)
-        ensures { AddsFrame page frame self.old self.new }
+        ensures frames { AddsFrame page frame self.old self.new }
+        ensures added { 1 ≤ page → 0 < room_for self.old page → HasFrame self.new page frame }
+        ensures kept { KeepsRoomBut page self.old self.new }
     {
         if page == 0 || page as usize > self.lists.len() {
             return;
@@ -54,7 +59,8 @@ impl Index {
 
     /// Makes room for a frame more of each of these pages.
     pub fn reserve_all(&mut self, alloc: Global, pages: &[PageImage]) -> Result<(), AllocError>
-        ensures { SameFrames self.old self.new }
+        ensures same { SameFrames self.old self.new }
+        ensures room { OnOk result (HasRooms 0 (length pages.now) (numbers_of pages.now) self.new) }
     {
         'pages: for page in pages {
             self.reserve(alloc, page.number)?;
@@ -66,8 +72,12 @@ impl Index {
     pub fn add_all(&mut self, pages: &[PageImage], mark: u32)
         requires room { mark + length pages.now ≤ 1000000 }
         requires indexed { IsIndexTo mark self.old }
+        requires reserved { HasRooms 0 (length pages.now) (numbers_of pages.now) self.old }
+        requires rising { IsStrict (numbers_of pages.now) }
         ensures indexed { IsIndexTo (mark + length pages.now) self.new }
         ensures frames { EachFrame (IsOldOrNew mark pages.now (length pages.now) self.old) self.new }
+        ensures added { HasEach mark (numbers_of pages.now) (length pages.now) self.new }
+        ensures kept { KeepsFrames self.old self.new }
     {
         'pages: for i in 0..pages.len() {
             self.add(pages[i].number, mark + 1 + i as u32);
@@ -79,6 +89,7 @@ impl Index {
         requires { length frames.now ≤ 1000000 }
         ensures indexed { IfOk result (λ index. IsIndexTo (length frames.now) index) }
         ensures pages { IfOk result (λ index. EachFrame (IsOfHead frames.now) index) }
+        ensures all { IfOk result (λ index. HasEach 0 (pages_said frames.now) (length frames.now) index) }
     {
         let mut index = Index::new(alloc);
         'frames: for i in 0..frames.len() {

@@ -1,8 +1,10 @@
 //! The log and the database file, as readers see them.
 
 ghost use Rattle.std.specs.Prelude.{◌≡◌, ◌≤◌, length, IsTrue, IsFalse, OnOk, IfErr};
+ghost use Rattle.disk.specs.File.{IsSynced};
 ghost use Rattle.walframe.specs.Accepted.{Leaves};
-ghost use Rattle.wal.specs.Stands.{LogStands, IsPageOf, IsPageRefusal};
+ghost use Rattle.wal.specs.Stands.{LogStands, log_end, IsPageRefusal};
+ghost use Rattle.wal.specs.View.{IsPage};
 
 use crate::state::State;
 use disk::Disk;
@@ -14,6 +16,7 @@ use walframe::FrameHeader;
 pub struct Snapshot {
     mark: u32,
     size: u32,
+    ghost few: { size ≤ 65536 },
 }
 
 /// Files that can't be opened, and why.
@@ -31,21 +34,25 @@ pub struct Log<D: Disk> {
     pub(crate) log: D,
     pub(crate) state: State,
     ghost db_there: { IsTrue (D.tells db) → state.db_len ≤ length (D.file db).content },
+    ghost log_cut: { IsFalse state.is_failed → IsTrue (D.tells log) → IsTrue state.is_cut → length (D.file log).content ≡ log_end state.header state.is_begun state.mark },
+    ghost log_synced: { IsFalse state.is_failed → IsTrue (D.tells log) → IsSynced (D.file log) },
     ghost log_there: { IsFalse state.is_failed → IsTrue (D.tells log) → LogStands state.header state.is_begun state.mark state.sum state.index (D.file log).content },
 }
 
 impl<D: Disk> Log<D> {
+    ghost use Rattle.wal.specs.Known.{known_of, header_of, db_of, log_of, seen_by, size_of};
+
     /// The size of a page, in bytes.
     pub fn page_size(&self) -> u32
-        ensures { result ≡ self.now.state.page_size }
+        ensures { result ≡ (known_of self.now).page_size }
     {
         self.state.page_size
     }
 
     /// What the newest commit left.
     pub fn begin(&self) -> Snapshot
-        ensures mark { result.mark ≡ self.now.state.mark }
-        ensures size { result.size ≡ self.now.state.size }
+        ensures seen { seen_by result ≡ (known_of self.now).frames }
+        ensures size { size_of result ≡ (known_of self.now).size }
     {
         Snapshot {
             mark: self.state.mark,
@@ -55,7 +62,7 @@ impl<D: Disk> Log<D> {
 
     /// The size of a snapshot, in pages.
     pub fn size(&self, snapshot: Snapshot) -> u32
-        ensures { result ≡ snapshot.size }
+        ensures { result ≡ size_of snapshot }
     {
         snapshot.size
     }
@@ -64,9 +71,11 @@ impl<D: Disk> Log<D> {
     /// (`Io`, `Failed` after it; `Damaged(MissingPage)` where the number isn't one of 1 to the size, neither file has the page, or `out` has
     /// another length than a page.)
     pub fn page(&mut self, snapshot: Snapshot, number: u32, out: &mut [u8]) -> R<()>
-        ensures read { IsTrue (D.tells self.old.db) → IsTrue (D.tells self.old.log) → OnOk result (IsPageOf self.old.state.header snapshot.mark (D.file self.old.db).content (D.file self.old.log).content number out.new) }
-        ensures db_kept { Leaves D.tells D.file self.old.db self.new.db }
-        ensures log_kept { Leaves D.tells D.file self.old.log self.new.log }
+        ensures read { IsTrue (D.tells (db_of self.old)) → IsTrue (D.tells (log_of self.old)) → seen_by snapshot ≤ (known_of self.old).frames
+            → OnOk result (IsPage (D.file (db_of self.old)).content (D.file (log_of self.old)).content (known_of self.old).page_size (header_of (known_of self.old)) (seen_by snapshot) number out.new) }
+        ensures known { known_of self.new ≡ known_of self.old }
+        ensures db_kept { Leaves D.tells D.file (db_of self.old) (db_of self.new) }
+        ensures log_kept { Leaves D.tells D.file (log_of self.old) (log_of self.new) }
         ensures refusal { IfErr result (λ e. IsPageRefusal number e) }
     {
         if number == 0 || number > snapshot.size || out.len() != self.state.page_size as usize {
@@ -88,8 +97,8 @@ impl<D: Disk> Log<D> {
 
     /// Gives the files back.
     pub fn into_disks(self) -> (D, D)
-        ensures db { result.0 ≡ self.db }
-        ensures log { result.1 ≡ self.log }
+        ensures db { result.0 ≡ db_of self }
+        ensures log { result.1 ≡ log_of self }
     {
         let Log { db, log, state: _ } = self;
         (db, log)

@@ -1,8 +1,11 @@
 //! Opening the two files.
 
-ghost use Rattle.std.specs.Prelude.{◌≡◌, ◌<◌, ◌≤◌, ◌-◌, ℕ, length, IsTrue, IfOk, IfErr, IsFalse};
+ghost use Rattle.std.specs.Prelude.{◌≡◌, ◌<◌, ◌≤◌, ◌-◌, ℕ, length, IsTrue, IfOk, IfErr, IsFalse, IsNone, OnOk};
+ghost use Rattle.disk.specs.File.{IsSynced, Always, Throughout};
 ghost use Rattle.walframe.specs.Accepted.{Leaves};
 ghost use Rattle.wal.specs.Opening.{IsHeaderOf, IsSumOf, IsViewSize};
+ghost use Rattle.wal.specs.Opens.{fresh_header, IsOpened, IsKnownOf, KeepsContent, Surveys, LeavesOld, LeavesAsBefore};
+ghost use Rattle.wal.specs.Known.{known_in};
 ghost use Rattle.wal.specs.Pages.{is_size};
 ghost use Rattle.wal.specs.Refusals.{IsOpenRefusal};
 ghost use Rattle.wal.specs.Stands.{LogStands};
@@ -46,6 +49,7 @@ fn view_size(
 }
 
 fn header_of(scanned: &Scan, page_size: u32, salts: Salts) -> R<LogHeader>
+    ensures fresh { IsNone scanned.now.header → IfOk result (λ header. header ≡ fresh_header page_size salts) }
     ensures size { IfOk result (λ header. header.page_size ≡ page_size) }
     ensures found { IfOk result (λ header. IsHeaderOf scanned.now header) }
     ensures refusal { IfErr result (λ e. IsOpenRefusal e) }
@@ -72,6 +76,19 @@ fn sum_of(scanned: &Scan, header: &LogHeader) -> Sum
     }
 }
 
+// Syncs both files, so that a stop leaves what is read of them.
+fn sync_both<D: Disk>(db: &mut D, log: &mut D) -> R<()>
+    ensures db { KeepsContent D.tells D.file db.old db.new }
+    ensures log { KeepsContent D.tells D.file log.old log.new }
+    ensures synced { OnOk result ((IsTrue (D.tells db.old) → IsSynced (D.file db.new)) × (IsTrue (D.tells log.old) → IsSynced (D.file log.new))) }
+    ensures db_stop { IsTrue (D.tells db.old) → Always (D.file db.old) (D.file db.new) (LeavesOld (D.file db.old)) }
+    ensures log_stop { IsTrue (D.tells log.old) → Always (D.file log.old) (D.file log.new) (LeavesOld (D.file log.old)) }
+    ensures refusal { IfErr result (λ e. e ≡ Fault.Io) }
+{
+    db.sync()?;
+    log.sync()
+}
+
 fn survey<D: Disk>(
     alloc: Global,
     db: &mut D,
@@ -82,10 +99,10 @@ fn survey<D: Disk>(
 ) -> R<State>
     ensures db { IsTrue (D.tells db.new) → IfOk result (λ state. state.db_len ≤ length (D.file db.new).content) }
     ensures log { IsTrue (D.tells log.new) → IfOk result (λ state. LogStands state.header state.is_begun state.mark state.sum state.index (D.file log.new).content) }
-    ensures size { IfOk result (λ state. (state.page_size ≡ page_size) × IsFalse state.is_failed) }
+    ensures known { IfOk result (λ state. IsOpened page_size salts (known_in state) × IsFalse state.is_cut) }
+    ensures view { IsTrue (D.tells db.new) → IsTrue (D.tells log.new) → IfOk result (λ state. IsKnownOf counted_size (D.file db.new).content (D.file log.new).content (known_in state)) }
     ensures refusal { IfErr result (λ e. IsOpenRefusal e) }
-    ensures db_kept { Leaves D.tells D.file db.old db.new }
-    ensures log_kept { Leaves D.tells D.file log.old log.new }
+    ensures kept { Leaves D.tells D.file db.old db.new × Leaves D.tells D.file log.old log.new }
 {
     if !is_page_size(page_size) {
         return Err(Fault::Unsupported(Feature::PageSize));
@@ -103,6 +120,7 @@ fn survey<D: Disk>(
         db_len,
         header,
         is_begun,
+        is_cut: false,
         is_failed: false,
         mark: scanned.frames.len() as u32,
         sum: sum_of(&scanned, &header),
@@ -111,7 +129,30 @@ fn survey<D: Disk>(
     })
 }
 
+// Syncs both files and reads them.
+fn read_files<D: Disk>(
+    alloc: Global,
+    db: &mut D,
+    log: &mut D,
+    page_size: u32,
+    counted_size: Option<u32>,
+    salts: Salts,
+) -> R<State>
+    ensures found { IfOk result (λ state. Surveys D.tells D.file page_size counted_size salts db.new log.new state) }
+    ensures db_kept { KeepsContent D.tells D.file db.old db.new }
+    ensures log_kept { KeepsContent D.tells D.file log.old log.new }
+    ensures synced { OnOk result ((IsTrue (D.tells db.old) → IsSynced (D.file db.new)) × (IsTrue (D.tells log.old) → IsSynced (D.file log.new))) }
+    ensures stop { IsTrue (D.tells db.old) → IsTrue (D.tells log.old) → Throughout (LeavesAsBefore (D.file db.old) (D.file log.old)) (D.file db.old) (D.file log.old) (D.file db.new) (D.file log.new) }
+    ensures refusal { IfErr result (λ e. IsOpenRefusal e) }
+{
+    sync_both(db, log)?;
+    survey(alloc, db, log, page_size, counted_size, salts)
+}
+
 impl<D: Disk> Log<D> {
+    ghost use Rattle.wal.specs.Known.{known_of, db_of, log_of};
+    ghost use Rattle.wal.specs.Opens.{db_in, log_in};
+
     /// Opens a database file, whose pages have `page_size` bytes and whose header counts `counted_size` pages, with its log. A
     /// log without a valid header gets one with these salts at the first commit. (`Memory`, `Io`; `Damaged(Log)` where the log
     /// is of another page size, `Damaged(Size)` where nothing counts the pages and the file isn't of whole ones;
@@ -125,15 +166,16 @@ impl<D: Disk> Log<D> {
         counted_size: Option<u32>,
         salts: Salts,
     ) -> Result<Log<D>, Refused<D>>
-        ensures opened { IfOk result (λ files. Leaves D.tells D.file db files.db × Leaves D.tells D.file log files.log) }
-        ensures refused { IfErr result (λ refused. Leaves D.tells D.file db refused.db × Leaves D.tells D.file log refused.log) }
+        ensures kept { KeepsContent D.tells D.file db (db_in result) × KeepsContent D.tells D.file log (log_in result) }
+        ensures synced { IfOk result (λ files. (IsTrue (D.tells db) → IsSynced (D.file (db_of files))) × (IsTrue (D.tells log) → IsSynced (D.file (log_of files)))) }
+        ensures known { IfOk result (λ files. IsOpened page_size salts (known_of files)) }
+        ensures view { IfOk result (λ files. IsTrue (D.tells db) → IsTrue (D.tells log) → IsKnownOf counted_size (D.file (db_of files)).content (D.file (log_of files)).content (known_of files)) }
+        ensures stop { IsTrue (D.tells db) → IsTrue (D.tells log) → Throughout (LeavesAsBefore (D.file db) (D.file log)) (D.file db) (D.file log) (D.file (db_in result)) (D.file (log_in result)) }
         ensures refusal { IfErr result (λ refused. IsOpenRefusal refused.fault) }
-        ensures size { IfOk result (λ files. files.state.page_size ≡ page_size) }
-        ensures whole { IfOk result (λ files. IsFalse files.state.is_failed) }
     {
         let mut db = db;
         let mut log = log;
-        match survey(alloc, &mut db, &mut log, page_size, counted_size, salts) {
+        match read_files(alloc, &mut db, &mut log, page_size, counted_size, salts) {
             Ok(state) => Ok(Log { db, log, state }),
             Err(fault) => Err(Refused { fault, db, log }),
         }

@@ -3,8 +3,10 @@
 ghost use Rattle.std.specs.Prelude.{◌≡◌, ◌<◌, ◌≤◌, ◌+◌, ◌-◌, ◌*◌, ◌++◌, ◌↔◌, ℕ, length, IsTrue, IfOk, IfErr, OnOk};
 ghost use Rattle.walframe.specs.Accepted.{frame_start};
 ghost use Rattle.walframe.specs.Written.{SaltsFit, written, sum_behind};
-ghost use Rattle.wal.specs.Index.{IsIndexTo};
-ghost use Rattle.wal.specs.Pages.{framed, size_before, is_size};
+ghost use Rattle.wal.specs.Index.{IsIndexTo, HasRooms, IsStrict};
+ghost use Rattle.wal.specs.Opening.{IsServedSize};
+ghost use Rattle.wal.specs.Stands.{log_end};
+ghost use Rattle.wal.specs.Pages.{framed, size_before, is_size, numbers_of};
 
 use crate::index::Index;
 use crate::pages::PageImage;
@@ -20,7 +22,9 @@ const MOST_PAGES: u32 = 65_536;
 const MOST_BYTES: u64 = 1_073_741_824;
 
 /// Whether a database of so many pages is within the limits.
-pub fn is_within_limits(size: u32, page_size: u32) -> bool {
+pub fn is_within_limits(size: u32, page_size: u32) -> bool
+    ensures { IsTrue result → IsServedSize page_size size }
+{
     size <= MOST_PAGES && size as u64 * page_size as u64 <= MOST_BYTES
 }
 
@@ -32,8 +36,9 @@ pub struct State {
     pub db_len: u64,
     // The log's, or the one that it is to get.
     pub header: LogHeader,
-    // Whether the log has a header, and whether a call failed that left it unknown.
+    // Whether the log has a header, whether it ends with its committed frames, and whether a call failed that left it unknown.
     pub is_begun: bool,
+    pub is_cut: bool,
     pub is_failed: bool,
     // How many frames are committed, and the sums carried over them.
     pub mark: u32,
@@ -45,6 +50,7 @@ pub struct State {
     ghost same_size: { header.page_size ≡ page_size },
     ghost few: { mark ≤ 1000000 },
     ghost indexed: { IsIndexTo mark index },
+    ghost served: { IsServedSize page_size size },
 }
 
 // The size that the frame before these pages has: only the last frame has one.
@@ -68,9 +74,21 @@ impl State {
         32 + (frame as u64 - 1) * (FrameHeader::LEN as u64 + self.page_size as u64)
     }
 
+    /// Where the committed frames end.
+    pub fn end(&self) -> u64
+        ensures { result ≡ log_end self.now.header self.now.is_begun self.now.mark }
+    {
+        if self.is_begun {
+            self.offset(self.mark + 1)
+        } else {
+            0
+        }
+    }
+
     /// Whether so many frames more, and this size, are within the limits. (`Full`.)
     pub fn check_limits(&self, frames: usize, size: u32) -> R<()>
         ensures room { OnOk result (self.now.mark + frames ≤ 1000000) }
+        ensures size { OnOk result (IsServedSize self.now.page_size size) }
         ensures refusal { IfErr result (λ e. e ≡ Fault.Full) }
     {
         if frames > MOST_FRAMES - self.mark as usize || !is_within_limits(size, self.page_size) {
@@ -81,7 +99,8 @@ impl State {
 
     /// Makes room for a frame of each page in the index.
     pub fn reserve(&mut self, alloc: Global, pages: &[PageImage]) -> Result<(), AllocError>
-        ensures { SameState self.old self.new }
+        ensures same { SameState self.old self.new }
+        ensures room { OnOk result (HasRooms 0 (length pages.now) (numbers_of pages.now) self.new.index) }
     {
         self.index.reserve_all(alloc, pages)
     }
@@ -112,7 +131,10 @@ impl State {
 
     /// Counts the frames of these pages as committed.
     pub fn admit(&mut self, pages: &[PageImage], size: u32, sum: Sum)
-        requires { self.old.mark + length pages.now ≤ 1000000 }
+        requires room { self.old.mark + length pages.now ≤ 1000000 }
+        requires reserved { HasRooms 0 (length pages.now) (numbers_of pages.now) self.old.index }
+        requires rising { IsStrict (numbers_of pages.now) }
+        requires size { IsServedSize self.old.page_size size }
         ensures { Admits pages.now size sum self.old self.new }
     {
         self.index.add_all(pages, self.mark);

@@ -67,3 +67,21 @@ fn commits_are_read_by_snapshots(rt: HostRuntime) -> Result<(), Fail> {
     assert_eq!(rt; first_byte(&out), 4);
     Ok(())
 }
+
+#[test]
+fn cuts_what_follows_the_last_commit(rt: HostRuntime) -> Result<(), Fail> {
+    let alloc = rt.alloc();
+    let db = MemDisk::new(alloc, filled(alloc, 9, 512)?, None, None)?;
+    let log = MemDisk::new(alloc, Vec::new(alloc), None, None)?;
+    let mut files = opened(alloc, db, log)?;
+    files.commit(alloc, &vec![in alloc; image(alloc, 1, 1)?]?, 1)?;
+    let (db, log) = files.into_disks();
+    let mut bytes = Vec::from_slice(alloc, log.content())?;
+    bytes.extend_from_slice(&filled(alloc, 7, 900)?)?;
+    let longer = MemDisk::new(alloc, bytes, None, None)?;
+    let mut again = opened(alloc, db, longer)?;
+    again.cut_tail()?;
+    let (_, log) = again.into_disks();
+    assert_eq!(rt; log.content().len(), 32 + 536);
+    Ok(())
+}

@@ -105,6 +105,10 @@ head_back f rest page size =
     ap (λ (n : ℕ). (let r : FrameHeader = record { page = n; size = number_at 4 (frame_front f ++ rest) } in r)) (number_back f.page (big_bytes 4 f.size ++ rest) page)
     ∙ ap (λ (n : ℕ). (let r : FrameHeader = record { page = f.page; size = n } in r)) (number_back f.size rest size)
 
+-- what the bytes of a frame say
+pub frame_back : (salts : Salts) (sum : Sum) (f : FrameHeader) (page : List ℕ) → f.page < 2 ^ 32 → f.size < 2 ^ 32 → frame_of (frame_bytes salts sum f page) ≡ f
+frame_back salts sum f page page_fits size_fits = head_back f (big_bytes 4 salts.first ++ (big_bytes 4 salts.second ++ (sum_bytes sum ++ page))) page_fits size_fits
+
 -- the bytes of a frame behind so many
 pub frame_is : (h : LogHeader) (front frame rest : List ℕ) (n : ℕ) → length front ≡ frame_start h n → length frame ≡ 24 + h.page_size → frame_at h (front ++ (frame ++ rest)) n ≡ frame
 frame_is h front frame rest n start size =

@@ -2,12 +2,11 @@
 
 ghost use Rattle.std.specs.Prelude.{◌≡◌, ◌+◌, ◌≤◌, ◌<◌, length, drop, Option, IfErr};
 ghost use Rattle.walframe.specs.Log.{order_told, magic_told, sum_at, salts_at, header_in, header_front, header_sum, header_bytes, header_of_format, fields_in, is_summed};
+ghost use Rattle.walframe.specs.Written.{HeaderFits};
 
 use crate::sums::{Sum, WordOrder};
 use byteorder::{BigEndian, ByteOrder};
 use sqlval::{Fault, Feature, R};
-
-const HEADER_LEN: usize = 32;
 
 const FORMAT: u32 = 3_007_000;
 
@@ -82,13 +81,16 @@ fn has_sums(order: WordOrder, bytes: &[u8]) -> bool
 }
 
 impl LogHeader {
+    /// How many bytes the header has.
+    pub const LEN: u64 = 32;
+
     /// The header that a log begins with; None where it isn't valid: fewer than 32 bytes, another magic number, or wrong sums.
     /// (`Unsupported(LogFormat)` where it is valid and of another format.)
     pub fn read(bytes: &[u8]) -> R<Option<LogHeader>>
         ensures read { result ≡ header_in bytes.now }
         ensures refusal { IfErr result (λ e. e ≡ Fault.Unsupported Feature.LogFormat) }
     {
-        if bytes.len() < HEADER_LEN {
+        if bytes.len() < LogHeader::LEN as usize {
             return Ok(None);
         }
         let Some(order) = order_of(BigEndian::read_u32(bytes)) else {
@@ -125,8 +127,9 @@ impl LogHeader {
         }
     }
 
-    fn front(&self) -> [u8; 24]
-        ensures { result ≡ header_front self.now }
+    fn front(self) -> [u8; 24]
+        ensures bytes { result ≡ header_front self }
+        ensures fits { HeaderFits self }
     {
         let [a, b, c, d] = magic_of(self.order).to_be_bytes();
         let [e, f, g, h] = FORMAT.to_be_bytes();
@@ -148,7 +151,8 @@ impl LogHeader {
 
     /// The 32 bytes of the header.
     pub fn write(&self) -> [u8; 32]
-        ensures { result ≡ header_bytes self.now }
+        ensures bytes { result ≡ header_bytes self.now }
+        ensures fits { HeaderFits self.now }
     {
         let sum = self.sum();
         let mut out = [0; 32];

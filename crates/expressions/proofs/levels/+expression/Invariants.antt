@@ -1,5 +1,8 @@
 -- Each form is nested in less room; within one form, rules come one after another.
-use Rattle.std.proofs.Common.{◌+◌, ◌*◌}
+use Rattle.std.proofs.Common.{◌≡◌, ◌-◌, ◌+◌, ◌*◌, length}
+use Rattle.expressions.specs.Pieces.{seen}
+use Rattle.expressions.specs.Reading as spec
+use Rattle.expressions.specs.Reading.{level_at}
 use Rattle.expressions.proofs.levels.+expression.Given as goal
 
 abbrev pub decreases-among : goal.decreases-among
@@ -43,3 +46,13 @@ decreases-tail l = l.room * 64 + 9
 
 abbrev pub decreases-tails : goal.decreases-tails
 decreases-tails l = l.room * 64 + 10
+
+abbrev pub invariant-items_from-items : goal.invariant-items_from-items
+invariant-items_from-items l =
+    spec.items_from (level_at (l.room - 1)) l.room (seen l.spelled l.tokens)
+    ≡ spec.items_upto (level_at (l.room - 1)) l.room (length (seen l.spelled l.tokens) - l.counter) (record { trees = l.trees.items; depth = l.depth }) (seen l.spelled l.rest)
+
+abbrev pub invariant-tails-tails : goal.invariant-tails-tails
+invariant-tails-tails l =
+    spec.tails (level_at (l.room - 1)) l.room l.room l.rank l.fn.first (seen l.spelled l.tokens)
+    ≡ spec.tails (level_at (l.room - 1)) l.room (l.room - l.counter) l.rank l.left (seen l.spelled l.rest)

@@ -1,19 +1,51 @@
-use Rattle.std.proofs.Common.{◌∙◌, List, ℕ, length, sym, subst, arith}
+use Rattle.std.proofs.Common.{◌≡◌, ◌∙◌, List, ℕ, length, sym, ap, subst, arith, rules}
 use Rattle.disk.specs.File.{File}
 use Rattle.walframe.specs.declared.framing.FrameHeader.{FrameHeader}
 use Rattle.walframe.specs.Accepted.{IsScan}
-use Rattle.wal.specs.Index.{IsIndexTo, EachFrame, IsOfHead}
+use Rattle.wal.specs.Index.{IsIndexTo, EachFrame, IsOfHead, HasEach, pages_said}
+use Rattle.wal.specs.Opening.{IsViewSize}
 use Rattle.wal.specs.Stands.{LogStands}
-use Rattle.wal.proofs.Opened.{opened}
+use Rattle.wal.specs.Pages.{is_size}
+use Rattle.wal.proofs.CommitLemmas.{size_from}
+use Rattle.wal.proofs.Opened.{IsRead, opened, known_read}
 use Rattle.wal.proofs.starting.survey.Goals as goal
 
 pub returns-clause-log : goal.returns-clause-log
 returns-clause-log g c told =
     let scan = c.in_ok-scanned.scanned in
+    let log = (g.D.Disk.file c.scan.new.disk).content in
     let told_old = sym c.in_ok-scanned.ensures.kept.tells_same ∙ told in
     let is = subst (λ (f : File). IsScan f.content scan) (sym (c.in_ok-scanned.ensures.kept.same told_old)) (c.in_ok-scanned.ensures.found told_old) in
+    let read : IsRead log scan scan.header c.in_ok-header.header c.is_some-is_begun.result = record {
+      header_is = is.0;
+      reads = is.1;
+      same = c.in_ok-header.ensures.found;
+      begun = c.is_some-is_begun.ensures;
+      size = size_from _ (ap is_size c.in_ok-header.ensures.size ∙ search rules);
+    } in
     let frames = c.deref-2.ensures.value in
-    subst (λ (n : ℕ). LogStands c.in_ok-header.header c.is_some-is_begun.result n c.sum_of.result c.in_ok-of_frames.field-0 (g.D.Disk.file c.scan.new.disk).content) (omega (arith, c.len-2.ensures, c.in_ok-scanned.scanned.frames.ok)) (
-    opened (g.D.Disk.file c.scan.new.disk).content scan scan.header c.in_ok-header.header c.is_some-is_begun.result c.sum_of.result c.in_ok-of_frames.field-0 is.0 is.1 c.in_ok-header.ensures.found c.is_some-is_begun.ensures c.sum_of.ensures
+    subst (λ (n : ℕ). LogStands c.in_ok-header.header c.is_some-is_begun.result n c.sum_of.result c.in_ok-of_frames.field-0 log) (omega (arith, c.len-2.ensures, c.in_ok-scanned.scanned.frames.ok)) (
+    opened log scan scan.header c.in_ok-header.header c.is_some-is_begun.result c.sum_of.result c.in_ok-of_frames.field-0 read c.sum_of.ensures
     (subst (λ (l : List FrameHeader). IsIndexTo (length l) c.in_ok-of_frames.field-0) frames c.in_ok-of_frames.ensures.indexed)
-    (subst (λ (l : List FrameHeader). EachFrame (IsOfHead l) c.in_ok-of_frames.field-0) frames c.in_ok-of_frames.ensures.pages))
+    (subst (λ (l : List FrameHeader). EachFrame (IsOfHead l) c.in_ok-of_frames.field-0) frames c.in_ok-of_frames.ensures.pages)
+    (subst (λ (l : List FrameHeader). HasEach 0 (pages_said l) (length l) c.in_ok-of_frames.field-0) frames c.in_ok-of_frames.ensures.all))
+
+pub returns-clause-view : goal.returns-clause-view
+returns-clause-view g c told_db told =
+    let scan = c.in_ok-scanned.scanned in
+    let log = (g.D.Disk.file c.scan.new.disk).content in
+    let told_old = sym c.in_ok-scanned.ensures.kept.tells_same ∙ told in
+    let is = subst (λ (f : File). IsScan f.content scan) (sym (c.in_ok-scanned.ensures.kept.same told_old)) (c.in_ok-scanned.ensures.found told_old) in
+    let read : IsRead log scan scan.header c.in_ok-header.header c.is_some-is_begun.result = record {
+      header_is = is.0;
+      reads = is.1;
+      same = c.in_ok-header.ensures.found;
+      begun = c.is_some-is_begun.ensures;
+      size = size_from _ (ap is_size c.in_ok-header.ensures.size ∙ search rules);
+    } in
+    let told_db_old = sym c.len.ensures.tells ∙ told_db in
+    let db_len : c.in_ok-db_len.db_len ≡ length (g.D.Disk.file c.len.new.self).content =
+    c.in_ok-db_len.ensures.length told_db_old ∙ ap (λ (f : File). length f.content) (sym (c.in_ok-db_len.ensures.same told_db_old)) in
+    known_read (g.D.Disk.file c.len.new.self).content log scan scan.header _ c.args.counted_size read c.in_ok-header.ensures.size (omega (arith, c.len-2.ensures, c.in_ok-scanned.scanned.frames.ok))
+    (subst (λ (n : ℕ). IsViewSize scan.frames.items c.args.counted_size n c.args.page_size c.in_ok-size.size) db_len
+    (subst (λ (l : List FrameHeader). IsViewSize l c.args.counted_size c.in_ok-db_len.db_len c.args.page_size c.in_ok-size.size) c.deref.ensures.value c.in_ok-size.ensures.size))

@@ -1,11 +1,27 @@
-use Rattle.std.proofs.Common.{arith, length}
-use Rattle.wal.proofs.Opened.{found_page, on_ok_map}
+use Rattle.std.proofs.Common.{◌≡◌, ◌∙◌, ◌+◌, ◌-◌, ◌*◌, ℕ, ap, sym, refl, arith, length, take, drop}
+use Rattle.wal.proofs.Paging.{found_page, filed_page}
+use Rattle.wal.proofs.Results.{on_ok_from}
 use Rattle.wal.proofs.log.Log.page.Goals as goal
 
 pub returns-in-Some-clause-read : goal.returns-in-Some-clause-read
-returns-in-Some-clause-read g c told_db told =
+returns-in-Some-clause-read g c told_db told until =
     let s = c.args.self.now.state in
-    on_ok_map c.read_at.result _ _
-    (λ read. found_page s.header s.is_begun s.mark c.args.snapshot.mark s.sum s.index (g.D.Disk.file c.args.self.now.db).content (g.D.Disk.file c.args.self.now.log).content c.read_at.new.buf c.args.number c.in-Some.frame c.offset.result (length c.args.out.now)
-    (c.args.self.now.log_there c.if-self.false told) s.indexed c.in-Some.ensures.found c.offset.ensures (omega (arith, c.if-out-self.false, s.same_size)) read)
+    let log = (g.D.Disk.file c.args.self.now.log).content in
+    on_ok_from c.read_at.result _ _
+    (λ read. found_page s.header s.is_begun s.mark c.args.snapshot.mark s.sum s.index (g.D.Disk.file c.args.self.now.db).content log c.read_at.new.buf c.args.number c.in-Some.frame c.offset.result s.page_size
+    (c.args.self.now.log_there c.if-self.false told) s.indexed c.in-Some.ensures.found until (omega (arith, c.args.snapshot.few, c.if-number-snapshot.false)) c.offset.ensures (sym s.same_size)
+    (read ∙ ap (λ (n : ℕ). take n (drop (c.offset.result + 24) log)) (let e : length c.args.out.now ≡ s.page_size = omega (arith, c.if-out-self.false) in e)))
     (c.read_at.ensures.read told)
+
+pub returns-clause-read : goal.returns-clause-read
+returns-clause-read g c told_db told until =
+    let s = c.args.self.now.state in
+    let db = (g.D.Disk.file c.args.self.now.db).content in
+    on_ok_from c.read_at-2.result _ _
+    (λ read. filed_page s.header s.is_begun s.mark c.args.snapshot.mark s.sum s.index db (g.D.Disk.file c.args.self.now.log).content c.read_at-2.new.buf c.args.number s.page_size
+    (c.args.self.now.log_there c.if-self.false told) (c.in_default.ensures.none refl) until (omega (arith, c.if-number-eq0.false)) (omega (arith, c.args.snapshot.few, c.if-number-snapshot.false))
+    (record {
+      whole = omega (arith, c.if-number-size.false, c.args.self.now.db_there told_db);
+      bytes_are = read ∙ ap (λ (n : ℕ). take n (drop ((c.args.number - 1) * s.page_size) db)) (let e : length c.args.out.now ≡ s.page_size = omega (arith, c.if-out-self.false) in e);
+    }))
+    (c.read_at-2.ensures.read told_db)

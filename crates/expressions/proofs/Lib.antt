@@ -1,0 +1,12 @@
+pub mod Again
+pub mod Exactly
+pub mod Late
+pub mod MarkTests
+pub mod Meant
+pub mod Operators
+pub mod Parts
+pub mod Quotes
+pub mod Takes
+pub mod Tokens
+pub mod Turns
+pub mod WordTests

@@ -1,0 +1,14 @@
+use Rattle.expressions.proofs.Parts.{exact_names, exact_maybe_name, exact_maybe_name_row, exact_maybe_behind}
+use Rattle.expressions.proofs.laws.exact_parts.Goals as goal
+
+pub returns-clause-names : goal.returns-clause-names
+returns-clause-names c = exact_names
+
+pub returns-clause-maybe_name : goal.returns-clause-maybe_name
+returns-clause-maybe_name c = exact_maybe_name
+
+pub returns-clause-maybe_name_row : goal.returns-clause-maybe_name_row
+returns-clause-maybe_name_row c = exact_maybe_name_row
+
+pub returns-clause-maybe_behind : goal.returns-clause-maybe_behind
+returns-clause-maybe_behind c = λ keyword. exact_maybe_behind keyword

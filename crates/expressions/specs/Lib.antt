@@ -1,0 +1,10 @@
+pub mod Depth
+pub mod Exact
+pub mod Follows
+pub mod Grammar
+pub mod Limits
+pub mod Meaning
+pub mod Pieces
+pub mod Reading
+pub mod Seen
+pub mod Spelling

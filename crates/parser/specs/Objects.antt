@@ -1,0 +1,24 @@
+-- The grammar of indexes: which pieces are which tree (SQL As Understood By SQLite, "CREATE INDEX").
+use Rattle.std.specs.Prelude.{ℕ, Bool, Option, List, [], ◌∷◌, ◌++◌}
+use Rattle.lexer.specs.declared.keyword.Keyword.TheVariants as w
+use Rattle.lexer.specs.declared.token.Kind.TheVariants as k
+use Rattle.syntax.specs.declared.create.IndexColumn.{IndexColumn}
+use Rattle.syntax.specs.declared.create.IndexDefinition.{IndexDefinition}
+use Rattle.expressions.specs.Grammar.{IsName, Optional, Behind}
+use Rattle.expressions.specs.Pieces.{Piece, Name, word, mark}
+use Rattle.parser.specs.Limits.{few}
+use Rattle.parser.specs.Parts.{Listed, Said}
+
+-- name [COLLATE name]
+pub data IsIndexColumn : List Piece → IndexColumn → Type 0 where
+  column : {us : List Piece} {n : List ℕ} {c : Option (List ℕ)} → Optional (Behind (word w.Collate) IsName) us c → IsIndexColumn (Name n ∷ us) (record { name = n; collation = c })
+
+-- [UNIQUE] INDEX name ON name ( column {, column} ), behind CREATE
+pub data IsIndex : List Piece → IndexDefinition → Type 0 where
+  index : {us cs : List Piece} {u : Bool} {n t : List ℕ} {columns : List IndexColumn} → Said (word w.Unique) us u → Listed IsIndexColumn cs columns
+      → IsIndex (us ++ (word w.Index ∷ Name n ∷ []) ++ (word w.On ∷ Name t ∷ []) ++ (mark k.LeftParen ∷ (cs ++ mark k.RightParen ∷ [])))
+      (record { is_unique = u; name = n; table = t; columns = columns })
+
+-- at most 64 columns
+abbrev pub is_index_within : IndexDefinition → Bool
+is_index_within i = few i.columns

@@ -1,0 +1,126 @@
+-- Reading statements.
+use Rattle.std.specs.Prelude.{ℕ, Bool, true, false, if◌then◌else◌, codes, List, [], ◌∷◌, Option, Some, None, Result, Ok, Err}
+use Rattle.lexer.specs.declared.keyword.Keyword.{Keyword}
+use Rattle.lexer.specs.declared.keyword.Keyword.TheVariants as w
+use Rattle.lexer.specs.declared.token.Kind.{Kind}
+use Rattle.lexer.specs.declared.token.Kind.TheVariants as k
+use Rattle.sqlval.specs.Names.{is_same_name}
+use Rattle.syntax.specs.declared.create.Create.{Create}
+use Rattle.syntax.specs.declared.create.NewObject.{NewObject}
+use Rattle.syntax.specs.declared.statement.BeginMode.{BeginMode}
+use Rattle.syntax.specs.declared.statement.BeginMode.TheVariants as begin
+use Rattle.syntax.specs.declared.statement.CheckpointMode.{CheckpointMode}
+use Rattle.syntax.specs.declared.statement.CheckpointMode.TheVariants as checkpoint
+use Rattle.syntax.specs.declared.statement.ObjectKind.{ObjectKind}
+use Rattle.syntax.specs.declared.statement.ObjectKind.TheVariants as kinds
+use Rattle.syntax.specs.declared.statement.Statement.{Statement}
+use Rattle.syntax.specs.declared.statement.Statement.TheVariants as statement
+use Rattle.expressions.specs.declared.refusal.Refusal.{Refusal}
+use Rattle.expressions.specs.declared.refusal.Refusal.TheVariants.{Unsupported}
+use Rattle.expressions.specs.Pieces.{Piece, Plain}
+use Rattle.expressions.specs.Reading.{Read, fail, ◌>>=◌, name_from}
+use Rattle.parser.specs.Readers.{Reader, yields, made, both, behind, behind_mark, before_mark, optionally, trailed, choose, choose_by}
+use Rattle.parser.specs.QueryReading.{selection_from}
+use Rattle.parser.specs.ChangeReading.{change_from}
+use Rattle.parser.specs.TableReading.{after_paren}
+use Rattle.parser.specs.ObjectReading.{object_from}
+
+-- ---- DROP, transactions and savepoints
+
+unfoldable pub kind_from : Reader ObjectKind
+kind_from =
+    choose w.Table (yields kinds.Table) (choose w.Index (yields kinds.Index) (choose w.View (yields kinds.View) (behind w.Trigger (yields kinds.Trigger))))
+
+abbrev pub dropped : ObjectKind × List ℕ → Statement
+dropped x = statement.Drop x.0 x.1
+
+unfoldable pub drop_from : Reader Statement
+drop_from = made dropped (both kind_from name_from)
+
+unfoldable pub mode_from : Reader BeginMode
+mode_from = choose w.Deferred (yields begin.Deferred) (choose w.Immediate (yields begin.Immediate) (yields begin.Deferred))
+
+unfoldable pub begin_from : Reader Statement
+begin_from = made statement.Begin (trailed w.Transaction mode_from)
+
+unfoldable pub rollback_from : Reader Statement
+rollback_from = optionally w.Transaction (choose w.To (optionally w.Savepoint (made statement.RollbackTo name_from)) (yields statement.Rollback))
+
+unfoldable pub release_from : Reader Statement
+release_from = optionally w.Savepoint (made statement.Release name_from)
+
+-- ---- PRAGMA
+
+unfoldable pub given_from : Reader (Option (List ℕ))
+given_from = made Some (before_mark k.RightParen name_from)
+
+-- a name in parentheses, where a parenthesis comes next
+unfoldable pub argument_from : Reader (Option (List ℕ))
+argument_from ts = choose_by given_from (yields None) ts (after_paren ts)
+
+-- how far a checkpoint goes by its argument
+abbrev pub mode_of : Option (List ℕ) → Option CheckpointMode
+mode_of None = Some checkpoint.Passive
+mode_of (Some z) =
+    if is_same_name z (codes "passive") then Some checkpoint.Passive else (if is_same_name z (codes "restart") then Some checkpoint.Restart
+    else (if is_same_name z (codes "truncate") then Some checkpoint.Truncate else None))
+
+-- the checkpoint that a PRAGMA of this name and argument is
+unfoldable pub checkpoint_of : List ℕ → Option (List ℕ) → Option CheckpointMode
+checkpoint_of name argument = if is_same_name name (codes "wal_checkpoint") then mode_of argument else None
+
+-- nothing but a closing semicolon is left
+unfoldable pub end_from : List Piece → Result (List Piece) Refusal
+end_from [] = Ok []
+end_from (Plain k.Semicolon ∷ []) = Ok []
+end_from (Plain k.Semicolon ∷ ts) = fail ts
+end_from ts = fail ts
+
+abbrev pub pragma_by : List Piece → Option CheckpointMode → Read Statement
+pragma_by ts (Some mode) = Ok (statement.Checkpoint mode, ts)
+pragma_by ts None = end_from ts >>= λ rest. Err Unsupported
+
+unfoldable pub pragma_from : Reader Statement
+pragma_from ts = both name_from argument_from ts >>= λ a. pragma_by a.1 (checkpoint_of a.0.0 a.0.1)
+
+-- ---- all statements
+
+-- whether a first word begins a statement that isn't served
+abbrev pub is_unserved_word : Keyword → Bool
+is_unserved_word w.Alter = true
+is_unserved_word w.Analyze = true
+is_unserved_word w.Attach = true
+is_unserved_word w.Detach = true
+is_unserved_word w.Explain = true
+is_unserved_word w.Reindex = true
+is_unserved_word w.Replace = true
+is_unserved_word w.Vacuum = true
+is_unserved_word w.Values = true
+is_unserved_word w.With = true
+is_unserved_word _ = false
+
+unfoldable pub begins_unserved : List Piece → Bool
+begins_unserved (Plain (k.Word word) ∷ ts) = is_unserved_word word
+begins_unserved ts = false
+
+unfoldable pub served_from : Reader Statement
+served_from ts = if begins_unserved ts then Err Unsupported else made statement.Change change_from ts
+
+unfoldable pub transaction_from : Reader Statement
+transaction_from =
+    choose w.Begin begin_from (choose w.Commit (trailed w.Transaction (yields statement.Commit)) (choose w.Rollback rollback_from
+    (choose w.Savepoint (made statement.Savepoint name_from) (choose w.Release release_from served_from))))
+
+-- an object and the text of its statement
+abbrev pub created : List ℕ → NewObject → Statement
+created sql object = statement.Create (record { sql = sql; object = object })
+
+-- a statement; the text is that of the whole statement
+unfoldable pub statement_from : List ℕ → Reader Statement
+statement_from sql =
+    choose w.Create (made (created sql) object_from) (choose w.Drop drop_from (choose w.Select (made statement.Select selection_from)
+    (choose w.Pragma pragma_from transaction_from)))
+
+-- all of the pieces
+unfoldable pub whole_from : List ℕ → List Piece → Result Statement Refusal
+whole_from sql ts = statement_from sql ts >>= λ a. end_from a.1 >>= λ rest. Ok a.0

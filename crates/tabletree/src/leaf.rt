@@ -1,0 +1,185 @@
+//! The tree of a table: for now one leaf page.
+
+ghost use Rattle.std.specs.Prelude.{◌≡◌, ◌<◌, ◌+◌, ◌<ℤ◌, ◌+ℤ◌, pos, ℤ, Some, IsNone, IfSome, ◌≤◌, ◌-◌, ◌↔◌, ◌++◌, ◌⊎◌, length, List, map, take, IfOk, IfErr, IsTrue, MatchOption, [], Ok, slice_index_or};
+ghost use Rattle.sqlval.specs.Gives.{Gives};
+ghost use Rattle.page.specs.Leaf.{Entry, entry_of, IsTableLeaf};
+ghost use Rattle.page.specs.Writing.{Fits};
+ghost use Rattle.tabletree.specs.Cells as cells;
+ghost use Rattle.tabletree.specs.Lone.{AreRising, IsLone, IsLeafRefusal, IsOwnTree, IsTooFull, placed};
+
+use page::{Cell, Node, build};
+use sqlval::{Damage, Fault, Feature, R};
+use std::alloc::Global;
+use std::marker::Model;
+
+/// How many bytes the database's header has, at the front of page 1.
+const HEADER_LEN: usize = 100;
+
+/// Where the tree's node begins on a page: behind the database's header on page 1.
+fn start_of(number: u32) -> usize
+    ensures { result ≡ cells.start_of number }
+{
+    if number == 1 { HEADER_LEN } else { 0 }
+}
+
+/// The fault, at this page.
+fn at_page(fault: Fault, number: u32) -> Fault
+    ensures { result ≡ placed number fault }
+{
+    match fault {
+        Fault::Damaged(damage, 0) => Fault::Damaged(damage, number),
+        _ => fault,
+    }
+}
+
+/// The rows of a table, by rising rowid.
+#[derive(Drop)]
+pub struct Leaf<'a> {
+    node: Node<'a>,
+}
+
+impl<'a> Model for Leaf<'a> {
+    ghost use Rattle.std.specs.Prelude.{List};
+    ghost use Rattle.page.specs.Leaf.{Entry};
+
+    ghost Value = { List Entry };
+
+    ghost view = { λ leaf. leaf.node };
+}
+
+impl<'a> Leaf<'a> {
+    /// The rows on the page of this number. A page of another kind, or a payload that goes on in overflow pages, is
+    /// `Unsupported(PageKind)`; another page is `Damaged(Page)`, one whose rows don't rise `Damaged(Tree)`.
+    pub fn over(alloc: Global, page: &'a [u8], number: u32) -> R<Leaf<'a>>
+        ensures found { IfOk result (λ leaf. IsLone page.now number leaf) }
+        ensures only { (rows : List Entry) → IsLone page.now number rows → Gives (λ leaf. leaf) result (Ok rows) }
+        ensures refused { IfErr result (λ fault. (fault ≡ Fault.Memory) ⊎ IsLeafRefusal number fault) }
+    {
+        let node = match Node::over(alloc, page, start_of(number)) {
+            Ok(node) => node,
+            Err(fault) => return Err(at_page(fault, number)),
+        };
+        if !is_rising(&node) {
+            return Err(Fault::Damaged(Damage::Tree, number));
+        }
+        Ok(Leaf { node })
+    }
+
+    /// The greatest rowid.
+    pub fn last(&self) -> Option<i64>
+        ensures none { IsNone result → length self.now ≡ 0 }
+        ensures some { IfSome result (λ rowid. (1 ≤ length self.now) × ((d : Entry) → rowid ≡ (slice_index_or self.now (length self.now - 1) d).rowid)) }
+    {
+        let len = self.node.len();
+        if len == 0 {
+            return None;
+        }
+        Some(self.node.cell(len - 1).rowid)
+    }
+
+    /// How many rows there are.
+    pub fn len(&self) -> usize
+        ensures { result ≡ length self.now }
+    {
+        self.node.len()
+    }
+
+    /// The rows' cells.
+    fn cells(&self) -> &[Cell<'a>]
+        ensures { map entry_of result.now ≡ self.now }
+    {
+        self.node.cells()
+    }
+
+    /// A row's rowid and record.
+    pub fn cell(&self, index: usize) -> Cell<'a>
+        requires { index < length self.now }
+        ensures { (d : Entry) → entry_of result ≡ slice_index_or self.now index d }
+    {
+        self.node.cell(index)
+    }
+}
+
+/// Whether the row before this place comes before it.
+fn ascends_to(node: &Node<'_>, index: usize) -> bool
+    requires behind { 1 ≤ index }
+    requires there { index < length node.now }
+    ensures { (d : Entry) → IsTrue result ↔ ((slice_index_or node.now (index - 1) d).rowid <ℤ (slice_index_or node.now index d).rowid) }
+{
+    node.cell(index - 1).rowid < node.cell(index).rowid
+}
+
+/// The rowid of a new row behind those up to `last`. `RowidFull` where that is the greatest of 64 bits.
+pub fn next_rowid(last: Option<i64>) -> R<i64>
+    ensures next { IfOk result (λ rowid. MatchOption last (rowid ≡ pos 1) (λ before. rowid ≡ before +ℤ pos 1)) }
+    ensures full { IfErr result (λ fault. (fault ≡ Fault.RowidFull) × (last ≡ Some (pos 9223372036854775807))) }
+{
+    match last {
+        None => Ok(1),
+        Some(last) => last.checked_add(1).ok_or(Fault::RowidFull),
+    }
+}
+
+/// The bytes of a page of this number with more rows behind those that it has; what stands before the tree's node stays. A
+/// page that is no leaf of rising rows is refused as `Leaf::over` does; where the rows don't fit, `Unsupported(RowSize)`.
+pub fn with_rows(alloc: Global, page: &[u8], number: u32, more: &[Cell<'_>]) -> R<Vec<u8>>
+    ensures leaf { IfOk result (λ new. (rows : List Entry) → IsLone page.now number rows → IsTableLeaf new.items (cells.start_of number) (rows ++ map entry_of more.now)) }
+    ensures size { IfOk result (λ new. length new.items ≡ length page.now) }
+    ensures front { IfOk result (λ new. take (cells.start_of number) new.items ≡ take (cells.start_of number) page.now) }
+    ensures refused { IfErr result (λ fault. (fault ≡ Fault.Memory) ⊎ (IsLeafRefusal number fault ⊎ IsTooFull page.now number (map entry_of more.now) fault)) }
+{
+    let start = start_of(number);
+    if page.len() < start {
+        return Err(Fault::Damaged(Damage::Page, number));
+    }
+    let leaf = Leaf::over(alloc, page, number)?;
+    let cells = joined(alloc, &leaf, more)?;
+    rebuilt(alloc, page, start, &cells)
+}
+
+/// The cells of a leaf, and more behind them.
+fn joined<'a>(alloc: Global, leaf: &Leaf<'a>, more: &[Cell<'a>]) -> R<Vec<Cell<'a>>>
+    ensures cells { IfOk result (λ cells. map entry_of cells.items ≡ leaf.now ++ map entry_of more.now) }
+    ensures refused { IfErr result (λ fault. fault ≡ Fault.Memory) }
+{
+    let mut cells = Vec::new(alloc);
+    cells.extend_from_slice(leaf.cells())?;
+    cells.extend_from_slice(more)?;
+    Ok(cells)
+}
+
+/// The bytes of a page of these cells, with what stands before its header as it was.
+fn rebuilt(alloc: Global, page: &[u8], start: usize, cells: &[Cell<'_>]) -> R<Vec<u8>>
+    requires { start ≤ length page.now }
+    ensures leaf { IfOk result (λ new. IsTableLeaf new.items start (map entry_of cells.now)) }
+    ensures size { IfOk result (λ new. length new.items ≡ length page.now) }
+    ensures front { IfOk result (λ new. take start new.items ≡ take start page.now) }
+    ensures refused { IfErr result (λ fault. (fault ≡ Fault.Memory) ⊎ ((fault ≡ Fault.Unsupported Feature.RowSize) × (Fits (length page.now) start (map entry_of cells.now) → ⊥))) }
+{
+    build(alloc, &page[..start], page.len(), cells)
+}
+
+/// The bytes of a page for a table without rows, which isn't page 1. Where the page has no room for a header, `Unsupported(RowSize)`.
+pub fn empty(alloc: Global, page_size: usize) -> R<Vec<u8>>
+    ensures leaf { IfOk result (λ page. IsTableLeaf page.items 0 [] × (length page.items ≡ page_size)) }
+    ensures refused { IfErr result (λ fault. (fault ≡ Fault.Memory) ⊎ ((fault ≡ Fault.Unsupported Feature.RowSize) × (Fits page_size 0 [] → ⊥))) }
+{
+    build(alloc, &[], page_size, &[])
+}
+
+fn is_rising(node: &Node<'_>) -> bool
+    ensures yes { IsTrue result → AreRising node.now }
+    ensures no { AreRising node.now → IsTrue result }
+{
+    'rows: for index in 1..node.len() {
+        if !ascends_to(node, index) {
+            return false;
+        }
+    }
+    true
+}
+
+/// A page that is a leaf of rising rows is a whole tree of them, its own root.
+pub fn lone_page_is_a_tree()
+    ensures { IsOwnTree }
+{}

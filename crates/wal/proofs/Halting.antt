@@ -1,0 +1,145 @@
+-- What a stop may leave while a log is cut, gets its header, and grows.
+use Rattle.std.proofs.Common.{◌≡◌, ◌⊎◌, inl, inr, ◌<◌, ◌≤◌, ◌+◌, ℕ, zero, suc, List, [], ◌∷◌, ◌++◌, Bool, true, false, length, take, drop, get_or, refl, sym, ◌∙◌, ap, subst, arith}
+use Rattle.std.specs.Prelude.{Result, Ok, Err, OnOk, OnErr}
+use Rattle.std.proofs.lemmas.List.{append-nil, ext_get_or, get_or-replicate, nil_from_length, take_all, drop_all}
+use Rattle.disk.specs.File.{Version, File, IsSynced, IsLeft, Always, whole, versions, version_at}
+use Rattle.disk.specs.Calls.{overwritten, write_version, cut_version, Gains, Writes, FailsToWrite, Cuts, FailsToCut, Syncs}
+use Rattle.disk.specs.Left.{left_synced, left_cut, versions_push}
+use Rattle.disk.specs.Moments.{alone, gains_versions, elapses_same, elapses_gains, always_unsynced, always_synced, always_both, always_weaker}
+use Rattle.walframe.specs.declared.heading.LogHeader.{LogHeader}
+use Rattle.walframe.specs.Log.{header_bytes}
+use Rattle.wal.specs.Stops.{LeavesOneOf, LeavesHeader, AreEither, LeavesWriting, zeros}
+use Rattle.wal.specs.Stands.{front_at}
+
+-- a file that stays as it is
+pub stays : (Good : List Version → Type 0) (old new : File) → new ≡ old → Good (versions old) → Always old new Good
+stays Good old new same good = always_unsynced old new Good (elapses_same old new same) (ap (λ (f : File). f.past) same) (subst (λ (f : File). Good (versions f)) (sym same) good)
+
+-- a version that was added
+pub gains_good : (Good : List Version → Type 0) (v : Version) (old new : File) → Gains v old new → Good (versions old ++ v ∷ []) → Always old new Good
+gains_good Good v old new gains good = always_unsynced old new Good (elapses_gains v old new gains) gains.past (subst Good (sym (gains_versions v old new gains)) good)
+
+-- then a sync, done or failed
+pub after_sync : {T E : Type 0} (result : Result T E) (Good : List Version → Type 0) (v : Version) (old mid new : File) → Gains v old mid → OnOk result (Syncs mid new) → OnErr result (new ≡ mid) → Good (versions old ++ v ∷ []) → Good (whole mid.content ∷ []) → Always old new Good
+after_sync (Ok x) Good v old mid new gains done failed good at_end = always_synced old mid new Good (elapses_gains v old mid gains) gains.past done (subst Good (sym (gains_versions v old mid gains)) good) at_end
+after_sync (Err e) Good v old mid new gains done failed good at_end = subst (λ (f : File). Always old f Good) (sym failed) (gains_good Good v old mid gains good)
+
+-- a log that is cut
+
+cut_leaves : (old : File) (n : ℕ) → IsSynced old → n ≤ length old.content → LeavesOneOf old.content (take n old.content) (versions old ++ cut_version n old ∷ [])
+cut_leaves old n synced le c left = left_cut (whole old.content) n c le (subst (λ (vs : List Version). IsLeft (vs ++ cut_version n old ∷ []) c) (alone old synced) left)
+
+uncut_leaves : (old : File) (n : ℕ) → IsSynced old → LeavesOneOf old.content (take n old.content) (versions old)
+uncut_leaves old n synced c left = inl (left_synced (whole old.content) c (subst (λ (vs : List Version). IsLeft vs c) (alone old synced) left))
+
+pub not_cut : (old new : File) (n : ℕ) → new ≡ old → IsSynced old → Always old new (LeavesOneOf old.content (take n old.content))
+not_cut old new n same synced = stays (LeavesOneOf old.content (take n old.content)) old new same (uncut_leaves old n synced)
+
+pub cut_failed : (old new : File) (n : ℕ) → (new ≡ old) ⊎ FailsToCut n old new → IsSynced old → n ≤ length old.content → Always old new (LeavesOneOf old.content (take n old.content))
+cut_failed old new n (inl same) synced le = not_cut old new n same synced
+cut_failed old new n (inr fails) synced le = gains_good (LeavesOneOf old.content (take n old.content)) (cut_version n old) old new fails.gains (cut_leaves old n synced le)
+
+pub cut_then_synced : {T E : Type 0} (result : Result T E) (old mid new : File) (n : ℕ) → Cuts n old mid → OnOk result (Syncs mid new) → OnErr result (new ≡ mid) → IsSynced old → n ≤ length old.content → Always old new (LeavesOneOf old.content (take n old.content))
+cut_then_synced result old mid new n cuts done failed synced le =
+    after_sync result (LeavesOneOf old.content (take n old.content)) (cut_version n old) old mid new cuts.gains done failed (cut_leaves old n synced le) (λ c left. inr (left_synced (whole mid.content) c left ∙ cuts.content))
+
+-- a log that grows
+
+either_more : (a b : List ℕ) (vs : List Version) (v : Version) → AreEither a b vs → v.bytes ≡ b → AreEither a b (vs ++ v ∷ [])
+either_more a b vs v all is = versions_push (λ (w : Version). (w.bytes ≡ a) ⊎ (w.bytes ≡ b)) vs v all (inr is)
+
+either_one : (a b : List ℕ) (v : Version) → (v.bytes ≡ a) ⊎ (v.bytes ≡ b) → AreEither a b (v ∷ [])
+either_one a b v is i lt = (let z : i ≡ 0 = omega (arith, lt) in subst (λ (n : ℕ). ((version_at (v ∷ []) n).bytes ≡ a) ⊎ ((version_at (v ∷ []) n).bytes ≡ b)) (sym z) is)
+
+either_now : (old : File) (b : List ℕ) → IsSynced old → AreEither old.content b (versions old)
+either_now old b synced = subst (AreEither old.content b) (sym (alone old synced)) (either_one old.content b (whole old.content) (inl refl))
+
+pub overwritten_end : (at : ℕ) (bytes content : List ℕ) → length content ≡ at → overwritten at bytes content ≡ content ++ bytes
+overwritten_end at bytes content end =
+    ap (λ (l : List ℕ). (l ++ bytes) ++ drop (at + length bytes) content) (take_all at content (omega (arith, end)))
+    ∙ ap (λ (l : List ℕ). (content ++ bytes) ++ l) (drop_all (at + length bytes) content (omega (arith, end))) ∙ append-nil (content ++ bytes)
+
+grown_either : (old : File) (at : ℕ) (bytes : List ℕ) → IsSynced old → length old.content ≡ at → AreEither old.content (old.content ++ bytes) (versions old ++ write_version at bytes old ∷ [])
+grown_either old at bytes synced end = either_more old.content (old.content ++ bytes) (versions old) (write_version at bytes old) (either_now old (old.content ++ bytes) synced) (overwritten_end at bytes old.content end)
+
+pub write_failed : (old new : File) (at : ℕ) (bytes : List ℕ) → (new ≡ old) ⊎ FailsToWrite at bytes old new → IsSynced old → length old.content ≡ at → Always old new (AreEither old.content (old.content ++ bytes))
+write_failed old new at bytes (inl same) synced end = stays (AreEither old.content (old.content ++ bytes)) old new same (either_now old (old.content ++ bytes) synced)
+write_failed old new at bytes (inr fails) synced end = gains_good (AreEither old.content (old.content ++ bytes)) (write_version at bytes old) old new fails.gains (grown_either old at bytes synced end)
+
+pub write_then_synced : {T E : Type 0} (result : Result T E) (old mid new : File) (at : ℕ) (bytes : List ℕ) → Writes at bytes old mid → OnOk result (Syncs mid new) → OnErr result (new ≡ mid) → IsSynced old → length old.content ≡ at → Always old new (AreEither old.content (old.content ++ bytes))
+write_then_synced result old mid new at bytes writes done failed synced end =
+    after_sync result (AreEither old.content (old.content ++ bytes)) (write_version at bytes old) old mid new writes.gains done failed (grown_either old at bytes synced end)
+    (either_one old.content (old.content ++ bytes) (whole mid.content) (inr (writes.content ∙ overwritten_end at bytes old.content end)))
+
+-- a log that gets its header
+
+two_left : (bytes c : List ℕ) → length bytes ≡ 32 → IsLeft (whole [] ∷ whole bytes ∷ []) c → (c ≡ []) ⊎ (c ≡ zeros) ⊎ (c ≡ bytes)
+two_left bytes c size left = by_from left.from left.within refl
+  where
+    vs : List Version
+    vs = whole [] ∷ whole bytes ∷ []
+
+    by_source : (j : ℕ) → j < 2 → (left.sectors 0).source ≡ j → length c ≡ 32 → (c ≡ zeros) ⊎ (c ≡ bytes)
+    by_source zero lt is long = inl (ext_get_or 0 c zeros (long ∙ refl) (λ p within.
+        (left.sectors 0).same p (omega arith) (omega (arith, within, long)) within ∙ ap (λ (k : ℕ). get_or (version_at vs k).bytes p 0) is ∙ sym (zero_at p (omega (arith, within, long)))))
+      where
+        zero_at : (p : ℕ) → p < 32 → get_or zeros p 0 ≡ 0
+        zero_at p lt = get_or-replicate 32 p 0 0 lt
+    by_source (suc zero) lt is long = inr (ext_get_or 0 c bytes (long ∙ sym size) (λ p within.
+        (left.sectors 0).same p (omega arith) (omega (arith, within, long)) within ∙ ap (λ (k : ℕ). get_or (version_at vs k).bytes p 0) is))
+    by_source (suc (suc j)) lt is long = absurd (omega (arith, lt))
+
+    by_from : (i : ℕ) → i < 2 → left.from ≡ i → (c ≡ []) ⊎ (c ≡ zeros) ⊎ (c ≡ bytes)
+    by_from zero lt is = inl (nil_from_length c (left.size ∙ ap (λ (k : ℕ). length (version_at vs k).bytes) is))
+    by_from (suc zero) lt is = elim (by_source (left.sectors 0).source (left.sectors 0).within refl (left.size ∙ ap (λ (k : ℕ). length (version_at vs k).bytes) is ∙ size)) [
+      | inl a ↦ inr (inl a)
+      | inr b ↦ inr (inr b)
+    ]
+    by_from (suc (suc i)) lt is = absurd (omega (arith, lt))
+
+header_leaves : (h : LogHeader) (b : Bool) (old : File) → b ≡ false → IsSynced old → length old.content ≡ 0 → LeavesHeader h b old.content (versions old ++ write_version 0 (header_bytes h) old ∷ [])
+header_leaves h b old not_begun synced none c left =
+    let empty : old.content ≡ [] = nil_from_length old.content none in
+    let written : overwritten 0 (header_bytes h) old.content ≡ header_bytes h = overwritten_end 0 (header_bytes h) old.content none ∙ ap (λ (l : List ℕ). l ++ header_bytes h) empty in
+    let there : versions old ++ write_version 0 (header_bytes h) old ∷ [] ≡ whole [] ∷ whole (header_bytes h) ∷ [] =
+    ap (λ (vs : List Version). vs ++ write_version 0 (header_bytes h) old ∷ []) (alone old synced) ∙ ap (λ (l : List ℕ). whole l ∷ write_version 0 (header_bytes h) old ∷ []) empty ∙ ap (λ (l : List ℕ). whole [] ∷ whole l ∷ []) written in
+    elim (two_left (header_bytes h) c (omega arith) (subst (λ (vs : List Version). IsLeft vs c) there left)) [
+      | inl a ↦ inl (a ∙ sym empty)
+      | inr b ↦ inr (not_begun, b)
+    ]
+
+pub header_still : (h : LogHeader) (b : Bool) (old new : File) → new ≡ old → IsSynced old → Always old new (LeavesHeader h b old.content)
+header_still h b old new same synced = stays (LeavesHeader h b old.content) old new same (λ c left. inl (left_synced (whole old.content) c (subst (λ (vs : List Version). IsLeft vs c) (alone old synced) left)))
+
+pub header_failed : (h : LogHeader) (b : Bool) (old new : File) → (new ≡ old) ⊎ FailsToWrite 0 (header_bytes h) old new → b ≡ false → IsSynced old → length old.content ≡ 0 → Always old new (LeavesHeader h b old.content)
+header_failed h b old new (inl same) not_begun synced none = header_still h b old new same synced
+header_failed h b old new (inr fails) not_begun synced none = gains_good (LeavesHeader h b old.content) (write_version 0 (header_bytes h) old) old new fails.gains (header_leaves h b old not_begun synced none)
+
+pub header_then_synced : {T E : Type 0} (result : Result T E) (h : LogHeader) (b : Bool) (old mid new : File) → Writes 0 (header_bytes h) old mid → OnOk result (Syncs mid new) → OnErr result (new ≡ mid) → b ≡ false → IsSynced old → length old.content ≡ 0 → Always old new (LeavesHeader h b old.content)
+header_then_synced result h b old mid new writes done failed not_begun synced none =
+    after_sync result (LeavesHeader h b old.content) (write_version 0 (header_bytes h) old) old mid new writes.gains done failed (header_leaves h b old not_begun synced none)
+    (λ c left. inr (not_begun, inr (left_synced (whole mid.content) c left ∙ writes.content ∙ overwritten_end 0 (header_bytes h) old.content none ∙ ap (λ (l : List ℕ). l ++ header_bytes h) (nil_from_length old.content none))))
+
+-- the steps of a commit, one behind the other
+abbrev Writing : LogHeader → Bool → ℕ → List ℕ → File → List Version → Type 0
+Writing h b end bytes old = LeavesWriting h b end bytes old.content
+
+pub after_trim : (h : LogHeader) (b : Bool) (end : ℕ) (bytes : List ℕ) (old cut : File) → Always old cut (LeavesOneOf old.content (take end old.content)) → Always old cut (LeavesWriting h b end bytes old.content)
+after_trim h b end bytes old cut trimmed = always_weaker old cut (Writing h b end bytes old) (LeavesOneOf old.content (take end old.content)) (λ vs all. inl all) trimmed
+
+pub after_header : (h : LogHeader) (b : Bool) (end : ℕ) (bytes : List ℕ) (old cut given : File) → Always old cut (LeavesOneOf old.content (take end old.content)) → cut.content ≡ take end old.content → Always cut given (LeavesHeader h b cut.content)
+    → Always old given (LeavesWriting h b end bytes old.content)
+after_header h b end bytes old cut given trimmed is headed =
+    always_both old cut given (Writing h b end bytes old) (after_trim h b end bytes old cut trimmed)
+    (always_weaker cut given (Writing h b end bytes old) (LeavesHeader h b cut.content) (λ vs all. inr (inl (subst (λ (l : List ℕ). LeavesHeader h b l vs) is all))) headed)
+
+front_again : (h : LogHeader) (b : Bool) (end : ℕ) (log cut : List ℕ) → cut ≡ take end log → front_at h b (length cut) cut ≡ front_at h b end log
+front_again h true end log cut is = take_all (length cut) cut (omega arith) ∙ is
+front_again h false end log cut is = refl
+
+pub after_append : (h : LogHeader) (b : Bool) (end : ℕ) (bytes : List ℕ) (old cut given new : File) → Always old cut (LeavesOneOf old.content (take end old.content)) → cut.content ≡ take end old.content → Always cut given (LeavesHeader h b cut.content)
+    → given.content ≡ front_at h b (length cut.content) cut.content → Always given new (AreEither given.content (given.content ++ bytes)) → Always old new (LeavesWriting h b end bytes old.content)
+after_append h b end bytes old cut given new trimmed is headed is_front grown =
+    let front : given.content ≡ front_at h b end old.content = is_front ∙ front_again h b end old.content cut.content is in
+    always_both old given new (Writing h b end bytes old) (after_header h b end bytes old cut given trimmed is headed)
+    (always_weaker given new (Writing h b end bytes old) (AreEither given.content (given.content ++ bytes)) (λ vs all. inr (inr (subst (λ (l : List ℕ). AreEither l (l ++ bytes) vs) front all))) grown)

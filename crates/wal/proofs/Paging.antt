@@ -1,0 +1,52 @@
+-- What was read of a page is the page of the view.
+use Rattle.std.proofs.Common.{◌≡◌, inl, inr, ◌<◌, ◌≤◌, ◌+◌, ◌-◌, ℕ, List, Bool, true, false, length, get_or, take, drop, refl, sym, ◌∙◌, ap, arith}
+use Rattle.std.specs.Prelude.{Some, None, if◌then◌else◌}
+use Rattle.walframe.specs.declared.heading.LogHeader.{LogHeader}
+use Rattle.walframe.specs.declared.sums.Sum.{Sum}
+use Rattle.walframe.specs.Accepted.{frame_start, head_at}
+use Rattle.wal.specs.declared.index.Index.{Index}
+use Rattle.wal.specs.Index.{frames_of, IsIndexTo, FindsFrame, FindsNone}
+use Rattle.wal.specs.Stands.{LogStands}
+use Rattle.wal.specs.View.{IsPage, IsInFile, HasNoFrame}
+use Rattle.wal.proofs.Opened.{page_of_frame}
+
+-- the index finds the newest frame
+pub found_page : (h : LogHeader) (b : Bool) (mark seen : ℕ) (sum : Sum) (index : Index) (db log bytes : List ℕ) (number frame at size : ℕ) → LogStands h b mark sum index log → IsIndexTo mark index → FindsFrame number seen index frame
+    → seen ≤ mark → number ≤ 65536 → at ≡ frame_start h (frame - 1) → size ≡ h.page_size → bytes ≡ take size (drop (at + 24) log) → IsPage db log size (if b then Some h else None) seen number bytes
+found_page h b mark seen sum index db log bytes number frame at size stands indexed found until few is_at is_size is = by_header b stands
+  where
+    bounds : (1 ≤ frame) × (frame ≤ mark)
+    bounds = let is_old = indexed.each number found.place found.known found.within in (omega (arith, is_old.0, found.is), omega (arith, is_old.1, found.is))
+
+    no_later : (c : Bool) → LogStands h c mark sum index log → (j : ℕ) → frame - 1 < j → j < seen → (head_at h log j).page ≡ number → ⊥
+    no_later c there j later lt of_page = there.all j (omega (arith, lt, until)) (omega (arith, of_page, found.known), omega (arith, of_page, few)) (λ has.
+        let same : frames_of index (head_at h log j).page ≡ frames_of index number = ap (frames_of index) of_page in
+        let is_frame : get_or (frames_of index number) has.place 0 ≡ j + 1 = ap (λ (l : List ℕ). get_or l has.place 0) (sym same) ∙ has.is in
+        omega (arith, later, lt, is_frame, bounds.0, found.newest has.place (omega (arith, has.within, ap length same)) (omega (arith, is_frame, lt))))
+
+    by_header : (c : Bool) → LogStands h c mark sum index log → IsPage db log size (if c then Some h else None) seen number bytes
+    by_header false there = absurd (omega (arith, bounds.0, bounds.1, there.none refl))
+    by_header true there = inl (
+      frame - 1,
+      record {
+        within = omega (arith, bounds.0, found.seen);
+        page = ap (λ (n : ℕ). (head_at h log (n - 1)).page) found.is ∙ there.pages number found.place found.known found.within;
+        last = no_later true there;
+      },
+      page_of_frame h log bytes (frame - 1) at size is_at is_size is,
+    )
+
+-- the index finds none, and the database file has the page
+pub filed_page : (h : LogHeader) (b : Bool) (mark seen : ℕ) (sum : Sum) (index : Index) (db log bytes : List ℕ) (number size : ℕ) → LogStands h b mark sum index log → FindsNone number seen index → seen ≤ mark → 1 ≤ number → number ≤ 65536
+    → IsInFile db size number bytes → IsPage db log size (if b then Some h else None) seen number bytes
+filed_page h b mark seen sum index db log bytes number size stands none until known few there = by_header b stands
+  where
+    no_frame : (c : Bool) → LogStands h c mark sum index log → HasNoFrame h log seen number
+    no_frame c stands k lt of_page = stands.all k (omega (arith, lt, until)) (omega (arith, of_page, known), omega (arith, of_page, few)) (λ has.
+        let same : frames_of index (head_at h log k).page ≡ frames_of index number = ap (frames_of index) of_page in
+        let is_frame : get_or (frames_of index number) has.place 0 ≡ k + 1 = ap (λ (l : List ℕ). get_or l has.place 0) (sym same) ∙ has.is in
+        omega (arith, lt, is_frame, none known has.place (omega (arith, has.within, ap length same))))
+
+    by_header : (c : Bool) → LogStands h c mark sum index log → IsPage db log size (if c then Some h else None) seen number bytes
+    by_header false stands = there
+    by_header true stands = inr (no_frame true stands, there)

@@ -1,0 +1,22 @@
+use Rattle.std.proofs.Common.{◌≡◌, ◌⊎◌, ◌∙◌, ℕ, List, subst, refl}
+use Rattle.disk.specs.Calls.{Writes, FailsToWrite}
+use Rattle.wal.proofs.Halting.{header_still, header_failed, header_then_synced}
+use Rattle.wal.proofs.committing.give_header.Goals as goal
+
+pub returns-then-is_begun-clause-stop : goal.returns-then-is_begun-clause-stop
+returns-then-is_begun-clause-stop g c told synced = header_still c.args.header.now c.args.is_begun (g.D.Disk.file c.args.log.now) (g.D.Disk.file c.args.log.now) refl synced
+
+pub returns-in_err-write_at-clause-stop : goal.returns-in_err-write_at-clause-stop
+returns-in_err-write_at-clause-stop g c told synced =
+    let old = g.D.Disk.file c.args.log.now in
+    let new = g.D.Disk.file c.write_at.new.self in
+    header_failed c.args.header.now c.args.is_begun old new
+    (subst (λ (bytes : List ℕ). (new ≡ old) ⊎ FailsToWrite 0 bytes old new) c.write.ensures.bytes (c.in_err-write_at.ensures.failed told)) c.if-is_begun.false synced (c.requires told c.if-is_begun.false)
+
+pub returns-clause-stop : goal.returns-clause-stop
+returns-clause-stop g c told synced =
+    let old = g.D.Disk.file c.args.log.now in
+    let mid = g.D.Disk.file c.write_at.new.self in
+    let told_mid = c.write_at.ensures.tells ∙ told in
+    header_then_synced c.settle.result c.args.header.now c.args.is_begun old mid (g.D.Disk.file c.settle.new.log)
+    (subst (λ (bytes : List ℕ). Writes 0 bytes old mid) c.write.ensures.bytes (c.in_ok-write_at.ensures.done told)) (c.settle.ensures.done told_mid) (c.settle.ensures.failed told_mid) c.if-is_begun.false synced (c.requires told c.if-is_begun.false)
