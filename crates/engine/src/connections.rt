@@ -2,12 +2,12 @@
 
 ghost use Rattle.std.specs.Prelude.{◌≡◌, Err, IsTrue, IsFalse};
 
-use crate::bind::{BoundSource, bind_insert, bind_query};
-use crate::catalog::{Catalog, NewTable, new_table};
+use crate::binding::{BoundSource, bind_insert, bind_query};
 use crate::output::Rows;
 use crate::pager::{Writer, read_page};
 use crate::plan::{Plan, Scan, plan_of};
-use crate::{dml, rowprog};
+use crate::schema::{Catalog, NewTable, new_table};
+use crate::{inserting, rowprog};
 use disk::Disk;
 use session::is_built;
 use sqlval::{Damage, Fault, Feature, Misuse, R, Text};
@@ -279,10 +279,10 @@ impl<D: Disk + Drop> Connections<D> {
         let bound = bind_insert(self.alloc, insert, &self.catalog)?;
         let number = bound.table.root;
         let bytes = match writer.find(number) {
-            Some(page) => dml::insert(self.alloc, page, number, bound)?,
+            Some(page) => inserting::insert(self.alloc, page, number, bound)?,
             None => {
                 let page = read_page(self.alloc, &mut self.log, writer.snapshot(), number)?;
-                dml::insert(self.alloc, &page, number, bound)?
+                inserting::insert(self.alloc, &page, number, bound)?
             }
         };
         writer.put(PageImage { number, bytes })

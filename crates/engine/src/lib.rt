@@ -1,11 +1,10 @@
 //! The engine: files opened and created, statements executed, and lines of text served.
 #![tactic(auto)]
 
-mod bind;
-mod catalog;
+mod binding;
 mod connections;
 mod creating;
-mod dml;
+mod inserting;
 mod lines;
 mod literals;
 mod opening;
@@ -14,6 +13,7 @@ mod pager;
 mod plan;
 mod refusals;
 mod rowprog;
+mod schema;
 mod serving;
 
 pub use creating::create;
@@ -22,7 +22,5 @@ pub use output::{Rows, put_reply};
 pub use wal::Refused;
 pub use walframe::Salts;
 
-#[cfg(test)]
-mod stops;
 #[cfg(test)]
 mod tests;

@@ -2,11 +2,11 @@
 
 ghost use Rattle.std.specs.Prelude.{◌≡◌, Err, IsTrue, IsFalse};
 
-use crate::catalog::{Catalog, load};
 use crate::connections::Connections;
 use crate::creating::is_blank;
 use crate::output::Rows;
 use crate::pager::{HEADER_LEN, header_of, read_page};
+use crate::schema::{Catalog, load};
 use dbheader::Header;
 use disk::Disk;
 use parser::parse;

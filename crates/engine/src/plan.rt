@@ -1,6 +1,6 @@
 //! How a query's rows are found.
 
-use crate::bind::{BoundQuery, BoundSource, Output};
+use crate::binding::{BoundQuery, BoundSource, Output};
 
 /// Where the rows come from.
 #[derive(Clone, Copy, Debug, PartialEq, Eq)]

@@ -1,6 +1,6 @@
 //! The rows of a plan.
 
-use crate::bind::{BoundSource, Output};
+use crate::binding::{BoundSource, Output};
 use crate::output::Rows;
 use page::Cell;
 use record::Record;

@@ -15,7 +15,8 @@ use Rattle.expressions.specs.Reading.{name_from, expression_from, maybe_behind_f
 use Rattle.expressions.proofs.Again.{follows_comma}
 use Rattle.expressions.proofs.Exactly.{exact_expression}
 use Rattle.expressions.proofs.MarkTests.{mark_from_is, tells_equal}
-use Rattle.expressions.proofs.Parts.{exact_name, exact_maybe_behind, EndsBehind}
+use Rattle.expressions.proofs.Parts.{exact_name, exact_maybe_behind}
+use Rattle.expressions.specs.Follows.{EndsBehind}
 use Rattle.expressions.proofs.Takes.{bind_ok}
 use Rattle.parser.specs.Changes as g
 use Rattle.parser.specs.Changes.{IsAssignment, IsUpdate, IsDelete, is_assignment_within, is_update_within, is_delete_within, EndsStatement}

@@ -14,4 +14,6 @@ pub use laws::{changes_are_exact, indexes_are_exact};
 pub use parsing::parse;
 
 #[cfg(test)]
+mod offsets;
+#[cfg(test)]
 mod tests;

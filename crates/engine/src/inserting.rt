@@ -1,7 +1,7 @@
 //! Changes of a table's rows.
 
-use crate::bind::BoundInsert;
-use crate::catalog::Column;
+use crate::binding::BoundInsert;
+use crate::schema::Column;
 use page::Cell;
 use record::{encode, is_storable};
 use sqlval::{Fault, R, Value, apply};

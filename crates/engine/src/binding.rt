@@ -1,6 +1,6 @@
 //! The names of a statement, looked up in the schema.
 
-use crate::catalog::{Catalog, Table};
+use crate::schema::{Catalog, Table};
 use sqlval::{Fault, Feature, Many, Misuse, Name, Object, R, Value};
 use std::alloc::Global;
 use syntax::{Expr, FromClause, Insert, InsertSource, Node, Query, ResultItem};
