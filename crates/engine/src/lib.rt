@@ -23,4 +23,6 @@ pub use wal::Refused;
 pub use walframe::Salts;
 
 #[cfg(test)]
+mod stops;
+#[cfg(test)]
 mod tests;
