@@ -1,6 +1,7 @@
 pub mod Cuts
 pub mod Gaps
 pub mod Lengths
+pub mod Part
 pub mod Parted
 pub mod Sound
 pub mod Spelled

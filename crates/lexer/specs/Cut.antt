@@ -1,5 +1,5 @@
 -- Which token lists a text has: what stands between tokens, how each is spelled, and what may not stand behind it.
-use Rattle.std.specs.Prelude.{◌≡◌, ◌≢◌, ℕ, ◌+◌, ◌%◌, Bool, true, false, not, ◌&&◌, if◌then◌else◌, ◌==◌, List, [], ◌∷◌, ◌++◌, length, Some, None}
+use Rattle.std.specs.Prelude.{◌≡◌, ◌≢◌, ℕ, ◌+◌, ◌-◌, ◌%◌, Bool, true, false, not, ◌&&◌, if◌then◌else◌, ◌==◌, List, [], ◌∷◌, ◌++◌, length, map, Some, None}
 use Rattle.lexer.specs.Bytes.{is_space, begins_word, is_in}
 use Rattle.lexer.specs.declared.class.Class.TheVariants as class
 use Rattle.lexer.specs.declared.token.Kind.{Kind}
@@ -51,3 +51,12 @@ pub data Cuts : ℕ → Bool → Text → List Lexed → Type 0 where
   cut : {at : ℕ} {m : Bool} {g s rest : Text} {kind : Kind} {ts : List Lexed} → IsGap g → Spells m kind s (next_byte rest)
       → Cuts (at + length g + length s) (is_minus kind) rest ts
       → Cuts at m (g ++ (s ++ rest)) (record { kind = kind; text = s; start = at + length g } ∷ ts)
+
+-- where the last of these tokens ends, or this place where there is none
+abbrev pub end_behind : ℕ → List Lexed → ℕ
+end_behind at [] = at
+end_behind at (t ∷ ts) = end_behind (t.start + length t.text) ts
+
+-- these tokens, each so much earlier
+abbrev pub earlier : ℕ → List Lexed → List Lexed
+earlier k ts = map (λ t. record { kind = t.kind; text = t.text; start = t.start - k }) ts

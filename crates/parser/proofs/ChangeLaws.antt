@@ -1,33 +1,29 @@
 -- Changes are read exactly.
-use Rattle.std.proofs.Common.{◌≡◌, ℕ, suc, ◌+◌, ◌<◌, ◌≤◌, Bool, true, false, ◌&&◌, Option, Some, None, List, [], ◌∷◌, ◌++◌, length, Result, Ok, Err, refl, sym, ap, subst, ◌∙◌, append_assoc, arith}
+use Rattle.std.proofs.Common.{◌≡◌, ℕ, ◌<◌, true, Option, List, [], ◌∷◌, ◌++◌, length, Ok, refl, sym, subst, arith}
 use Rattle.lexer.specs.declared.keyword.Keyword.TheVariants as w
 use Rattle.lexer.specs.declared.token.Kind.TheVariants as k
 use Rattle.syntax.specs.Tree.{Tree}
 use Rattle.syntax.specs.declared.change.Assignment.{Assignment}
 use Rattle.syntax.specs.declared.change.Delete.{Delete}
 use Rattle.syntax.specs.declared.change.Update.{Update}
-use Rattle.expressions.specs.Exact.{Used, Exact}
-use Rattle.expressions.specs.Follows.{EndsExpression, EndsList, Anything, ends_list}
+use Rattle.expressions.specs.Follows.{EndsExpression, EndsList, ends_list}
 use Rattle.expressions.specs.Grammar.{IsExpression, IsName, Optional, left_out, given, Behind, behind}
-use Rattle.expressions.specs.Limits.{unlimited, is_shallow, if_given}
 use Rattle.expressions.specs.Pieces.{Piece, Plain, Name, word}
-use Rattle.expressions.specs.Reading.{name_from, expression_from, maybe_behind_from, mark_from, ◌>>=◌}
+use Rattle.expressions.specs.Reading.{mark_from}
 use Rattle.expressions.proofs.Again.{follows_comma}
-use Rattle.expressions.proofs.Exactly.{exact_expression}
 use Rattle.expressions.proofs.MarkTests.{mark_from_is, tells_equal}
-use Rattle.expressions.proofs.Parts.{exact_name, exact_maybe_behind}
 use Rattle.expressions.specs.Follows.{EndsBehind}
-use Rattle.expressions.proofs.Takes.{bind_ok}
 use Rattle.parser.specs.Changes as g
 use Rattle.parser.specs.Changes.{IsAssignment, IsUpdate, IsDelete, is_assignment_within, is_update_within, is_delete_within, EndsStatement}
 use Rattle.parser.specs.ChangeReading as reading
 use Rattle.parser.specs.ChangeReading.{assignment_from, update_from, delete_from}
 use Rattle.parser.specs.Within.{all_fit}
 use Rattle.parser.specs.Parts.{Both, pair, Listed}
-use Rattle.parser.specs.Readers as r
-use Rattle.parser.specs.Readers.{Reader, both, made, listed, behind_mark, limited_by}
+use Rattle.parser.specs.Readers.{listed}
+use Rattle.parser.proofs.Bases.{exact_name, exact_expression, exact_maybe_behind}
 use Rattle.parser.proofs.Endings.{follows_piece, ends_expression, ends_items, lacks_word}
-use Rattle.parser.proofs.Exact.{exactly, reads, weaker, exact_both, exact_made, exact_behind, exact_behind_mark}
+use Rattle.parser.proofs.Exact.{weaker, exact_both, exact_made, exact_behind, exact_behind_mark}
+use Rattle.parser.proofs.Law.{Law}
 use Rattle.parser.proofs.Lists.{exact_listed}
 
 -- ---- DELETE
@@ -39,7 +35,7 @@ delete_back : (us : List Piece) (d : Delete) → IsDelete us d
     → (x : List ℕ × Option Tree) × (Both (Behind (word w.From) IsName) (Optional (Behind (word w.Where) IsExpression)) us x) × (reading.delete x ≡ d)
 delete_back _ _ (g.delete {t = t} {condition = c} o) = ((t, c), pair {us = word w.From ∷ Name t ∷ []} (behind refl) o, refl)
 
-pub exact_delete : Exact delete_from IsDelete is_delete_within EndsStatement
+pub exact_delete : Law delete_from IsDelete is_delete_within EndsStatement
 unfolding delete_from
 exact_delete =
     exact_made reading.delete IsDelete is_delete_within
@@ -61,7 +57,7 @@ assignment_forth _ _ (pair {vs = vs} {a = c} {b = e} name (behind {ts = es} i)) 
 assignment_back : (us : List Piece) (d : Assignment) → IsAssignment us d → (x : List ℕ × Tree) × (Assigned us x) × (reading.assignment x ≡ d)
 assignment_back _ _ (g.assignment {c = c} {e = e} i) = ((c, e), pair {us = Name c ∷ []} refl (behind i), refl)
 
-exact_assignment : Exact assignment_from IsAssignment is_assignment_within EndsExpression
+exact_assignment : Law assignment_from IsAssignment is_assignment_within EndsExpression
 unfolding assignment_from
 exact_assignment =
     exact_made reading.assignment IsAssignment is_assignment_within
@@ -70,7 +66,7 @@ exact_assignment =
 some_pieces : (us : List Piece) (a : Assignment) → IsAssignment us a → 0 < length us
 some_pieces _ _ (g.assignment {es = es} i) = omega arith
 
-exact_assignments : Exact (listed assignment_from) (Listed IsAssignment) (all_fit is_assignment_within) EndsList
+exact_assignments : Law (listed assignment_from) (Listed IsAssignment) (all_fit is_assignment_within) EndsList
 exact_assignments = exact_listed exact_assignment EndsList (λ rest f. f) (follows_comma 11) some_pieces
 
 abbrev Updated : List Piece → (List ℕ × List Assignment) × Option Tree → Type 0
@@ -91,7 +87,7 @@ ends_assignments : (vs : List Piece) (c : Option Tree) (rest : List Piece) → O
 ends_assignments _ _ rest left_out f = (f.0.0, f.1)
 ends_assignments _ _ rest (given (behind {ts = us} i)) f = (follows_piece (word w.Where) (us ++ rest) refl refl, refl)
 
-pub exact_update : Exact update_from IsUpdate is_update_within EndsStatement
+pub exact_update : Law update_from IsUpdate is_update_within EndsStatement
 unfolding update_from
 exact_update =
     exact_made reading.update IsUpdate is_update_within

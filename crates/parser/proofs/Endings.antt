@@ -1,11 +1,9 @@
 -- What may follow a statement goes on with none of its parts.
-use Rattle.std.proofs.Common.{◌≡◌, ℕ, ◌<◌, ◌≤◌, Bool, true, false, Option, Some, None, List, [], ◌∷◌, ◌++◌, refl, sym, subst, arith}
+use Rattle.std.proofs.Common.{◌≡◌, true, None, List, [], ◌∷◌, refl, sym, subst, arith}
 use Rattle.lexer.specs.declared.keyword.Keyword.{Keyword}
-use Rattle.lexer.specs.declared.keyword.Keyword.TheVariants as w
-use Rattle.lexer.specs.declared.token.Kind.{Kind}
 use Rattle.lexer.specs.declared.token.Kind.TheVariants as k
-use Rattle.expressions.specs.Follows.{EndsExpression, EndsList, ends_name, ends_list}
-use Rattle.expressions.specs.Pieces.{Piece, Plain, word}
+use Rattle.expressions.specs.Follows.{EndsExpression, ends_name, ends_list}
+use Rattle.expressions.specs.Pieces.{Piece, Plain}
 use Rattle.expressions.specs.Reading.{after_word, binds}
 use Rattle.expressions.proofs.Again.{follows_by, follows_end}
 use Rattle.parser.specs.Changes.{EndsStatement}

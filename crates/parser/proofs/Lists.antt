@@ -1,12 +1,11 @@
 -- Lists of parts that are read exactly are read exactly.
-use Rattle.std.proofs.Common.{◌≡◌, ℕ, zero, suc, ◌+◌, ◌-◌, ◌<◌, ◌≤◌, Bool, true, false, ◌&&◌, Option, Some, None, List, [], ◌∷◌, ◌++◌, length, Result, Ok, Err, refl, sym, ap, subst, ◌∙◌, append_assoc, length-append, arith}
+use Rattle.std.proofs.Common.{◌≡◌, ℕ, zero, suc, ◌+◌, ◌-◌, ◌<◌, ◌≤◌, Bool, true, false, ◌&&◌, Option, Some, None, List, [], ◌∷◌, ◌++◌, length, Ok, refl, sym, ap, subst, ◌∙◌, append_assoc, length-append, arith}
 use Rattle.lexer.specs.declared.token.Kind.TheVariants as k
-use Rattle.expressions.specs.declared.refusal.Refusal.TheVariants.{TooLong}
-use Rattle.expressions.specs.Exact.{Used, Exact}
+use Rattle.expressions.specs.Exact.{Used, Single}
 use Rattle.expressions.specs.Follows.{ends_list}
 use Rattle.expressions.specs.Pieces.{Piece, Plain}
-use Rattle.expressions.specs.Reading.{Read, ◌>>=◌}
-use Rattle.expressions.proofs.Takes.{bind_ok, ok_is, done}
+use Rattle.expressions.specs.Reading.{◌>>=◌}
+use Rattle.expressions.proofs.Takes.{bind_ok, ok_is}
 use Rattle.parser.specs.Within.{all_fit}
 use Rattle.expressions.specs.Grammar.{Optional, left_out, given}
 use Rattle.expressions.specs.Limits.{if_given}
@@ -14,6 +13,7 @@ use Rattle.std.proofs.lemmas.List.{append-nil}
 use Rattle.parser.specs.Parts.{Listed, last, next, Many, done_many, further}
 use Rattle.parser.specs.Readers.{Reader, after_comma, next_by, more_by, listed, listed_upto, many, many_upto, limited_by}
 use Rattle.parser.proofs.Exact.{exactly, reads, and_true}
+use Rattle.parser.proofs.Law.{Law, tail_is, cons_is}
 
 comma_is : (ts rest : List Piece) → after_comma ts ≡ Some rest → ts ≡ Plain k.Comma ∷ rest
 unfolding after_comma
@@ -36,7 +36,7 @@ record Grows {A : Type 0} (R : List Piece → A → Type 0) (f : A → Bool) (fo
   within : all_fit f items ≡ true
   all : x.0 ≡ found ++ items
 
-module _ {A : Type 0} {p : Reader A} {R : List Piece → A → Type 0} {f : A → Bool} {F : List Piece → Type 0} (P : Exact p R f F) (G : List Piece → Type 0)
+module _ {A : Type 0} {p : Reader A} {R : List Piece → A → Type 0} {f : A → Bool} {F : List Piece → Type 0} (P : Law p R f F) (G : List Piece → Type 0)
     (stops : (rest : List Piece) → G rest → F rest × (ends_list rest ≡ true)) (goes : (rest : List Piece) → F (Plain k.Comma ∷ rest))
     (some : (us : List Piece) (a : A) → R us a → 0 < length us) where
   by_next : (n : ℕ) → ((found : List A) (ts : List Piece) (x : List A × List Piece) → listed_upto p n found ts ≡ Ok x → Grows R f found ts x)
@@ -60,7 +60,7 @@ module _ {A : Type 0} {p : Reader A} {R : List Piece → A → Type 0} {f : A �
   grows zero found ts x h = absurd cc
   grows (suc n) found ts x h =
       let a = bind_ok (p ts) (λ a. next_by (listed_upto p n) (found ++ a.0 ∷ []) a.1 (after_comma a.1)) x h in
-      by_next n (grows n) found ts a.0 (P.takes ts a.0 a.1) x (after_comma a.0.1) refl a.2
+      by_next n (grows n) found ts a.0 (P.exact.takes ts a.0 a.1) x (after_comma a.0.1) refl a.2
 
   listed_takes : (ts : List Piece) (x : List A × List Piece) → listed p ts ≡ Ok x → Used (Listed R) (all_fit f) ts x
   unfolding listed
@@ -103,9 +103,31 @@ module _ {A : Type 0} {p : Reader A} {R : List Piece → A → Type 0} {f : A �
       by_fit true h = h ∙ ap (λ (ys : List A). limited_by (ys, rest) (all_fit f xs)) (append_assoc found (a ∷ []) xs)
       by_fit false h = refl
 
-  pub exact_listed : Exact (listed p) (Listed R) (all_fit f) G
+  no_end : (rest ts : List Piece) → G rest → rest ≡ Plain k.Comma ∷ ts → ⊥
+  no_end rest ts more e = let no : false ≡ true = ap ends_list (sym e) ∙ (stops rest more).1 in cc
+
+  one_list : {us vs : List Piece} {xs ys : List A} → Listed R us xs → Listed R vs ys → (rest after : List Piece) → G rest → G after → us ++ rest ≡ vs ++ after → (xs ≡ ys) × (rest ≡ after)
+  one_list (last {ts = us} {a = a} r) (last {ts = vs} {a = b} s) rest after more far same =
+      let one = P.single us vs a b rest after r s (stops rest more).0 (stops after far).0 same in
+      (cons_is one.0 refl, one.1)
+  one_list (last {ts = us} {a = a} r) (next {ts = vs} {us = ws} {a = b} s m) rest after more far same =
+      let one = P.single us vs a b rest (Plain k.Comma ∷ (ws ++ after)) r s (stops rest more).0 (goes (ws ++ after)) (same ∙ append_assoc vs (Plain k.Comma ∷ ws) after) in
+      absurd (no_end rest (ws ++ after) more one.1)
+  one_list (next {ts = us} {us = ws} {a = a} r l) (last {ts = vs} {a = b} s) rest after more far same =
+      let one = P.single us vs a b (Plain k.Comma ∷ (ws ++ rest)) after r s (goes (ws ++ rest)) (stops after far).0 (sym (append_assoc us (Plain k.Comma ∷ ws) rest) ∙ same) in
+      absurd (no_end after (ws ++ rest) far (sym one.1))
+  one_list (next {ts = us} {us = ws} {a = a} r l) (next {ts = vs} {us = zs} {a = b} s m) rest after more far same =
+      let one =
+      P.single us vs a b (Plain k.Comma ∷ (ws ++ rest)) (Plain k.Comma ∷ (zs ++ after)) r s (goes (ws ++ rest)) (goes (zs ++ after))
+      (sym (append_assoc us (Plain k.Comma ∷ ws) rest) ∙ same ∙ append_assoc vs (Plain k.Comma ∷ zs) after) in
+      let others = one_list l m rest after more far (tail_is (Plain k.Comma) (ws ++ rest) (zs ++ after) one.1) in
+      (cons_is one.0 others.0, others.1)
+
+  pub exact_listed : Law (listed p) (Listed R) (all_fit f) G
   unfolding listed
-  exact_listed = exactly listed_takes (λ us xs rest l more. all_read l (length (us ++ rest)) [] rest (omega (arith, length-append us rest)) more)
+  exact_listed =
+      exactly listed_takes (λ us xs rest l more. all_read l (length (us ++ rest)) [] rest (omega (arith, length-append us rest)) more)
+      (λ us vs xs ys rest after l m more far same. one_list l m rest after more far same)
 
 none_used : {A : Type 0} {R : List Piece → A → Type 0} {us : List Piece} {x : Option A} → Optional R us x → x ≡ None → us ≡ []
 none_used left_out e = refl
@@ -134,7 +156,7 @@ module _ {A : Type 0} {p : Reader (Option A)} {R : List Piece → A → Type 0} 
     (takes : (ts : List Piece) (x : Option A × List Piece) → p ts ≡ Ok x → Used (Optional R) (if_given f) ts x)
     (item : (us : List Piece) (a : A) (rest : List Piece) → R us a → F rest → p (us ++ rest) ≡ limited_by (Some a, rest) (f a))
     (stop : (rest : List Piece) → G rest → p rest ≡ Ok (None, rest)) (ends : (rest : List Piece) → G rest → F rest)
-    (goes : (us : List Piece) (a : A) (rest : List Piece) → R us a → F (us ++ rest)) (some : (us : List Piece) (a : A) → R us a → 0 < length us) where
+    (goes : (us : List Piece) (a : A) (rest : List Piece) → R us a → F (us ++ rest)) (some : (us : List Piece) (a : A) → R us a → 0 < length us) (alone : Single R F) where
   by_more : (n : ℕ) → ((found : List A) (ts : List Piece) (x : List A × List Piece) → many_upto p n found ts ≡ Ok x → Adds R f found ts x)
       → (found : List A) (ts : List Piece) (o : Option A) (rest : List Piece) (u : Used (Optional R) (if_given f) ts (o, rest)) (x : List A × List Piece)
       → more_by (many_upto p n) found o rest ≡ Ok x → Adds R f found ts x
@@ -204,6 +226,26 @@ module _ {A : Type 0} {p : Reader (Option A)} {R : List Piece → A → Type 0} 
       by_fit true h = h ∙ ap (λ (ys : List A). limited_by (ys, rest) (all_fit f xs)) (append_assoc found (a ∷ []) xs)
       by_fit false h = refl
 
-  pub exact_many : Exact (many p) (Many R) (all_fit f) G
+  no_item : (a : A) (ts rest : List Piece) (b : Bool) → limited_by (Some a, ts) b ≡ Ok (None, rest) → ⊥
+  no_item a ts rest true h = let no : Some a ≡ None = ap (λ x. x.0) (ok_is {A = Option A × List Piece} _ _ h) in cc
+  no_item a ts rest false h = cc
+
+  no_more : {vs ws : List Piece} {b : A} {ys : List A} → R vs b → Many R ws ys → (rest after : List Piece) → G rest → G after → rest ≡ (vs ++ ws) ++ after → ⊥
+  no_more {vs = vs} {ws = ws} {b = b} s m rest after more far same =
+      no_item b (ws ++ after) rest (f b) (sym (item vs b (ws ++ after) s (follows m after far)) ∙ ap p (sym (same ∙ append_assoc vs ws after)) ∙ stop rest more)
+
+  one_chain : {us vs : List Piece} {xs ys : List A} → Many R us xs → Many R vs ys → (rest after : List Piece) → G rest → G after → us ++ rest ≡ vs ++ after → (xs ≡ ys) × (rest ≡ after)
+  one_chain done_many done_many rest after more far same = (refl, same)
+  one_chain done_many (further s m) rest after more far same = absurd (no_more s m rest after more far same)
+  one_chain (further r l) done_many rest after more far same = absurd (no_more r l after rest far more (sym same))
+  one_chain (further {ts = us} {us = ws} {a = a} r l) (further {ts = vs} {us = zs} {a = b} s m) rest after more far same =
+      let one =
+      alone us vs a b (ws ++ rest) (zs ++ after) r s (follows l rest more) (follows m after far) (sym (append_assoc us ws rest) ∙ same ∙ append_assoc vs zs after) in
+      let others = one_chain l m rest after more far one.1 in
+      (cons_is one.0 others.0, others.1)
+
+  pub exact_many : Law (many p) (Many R) (all_fit f) G
   unfolding many
-  exact_many = exactly many_takes (λ us xs rest l more. many_read l (length (us ++ rest)) [] rest (omega (arith, length-append us rest)) more)
+  exact_many =
+      exactly many_takes (λ us xs rest l more. many_read l (length (us ++ rest)) [] rest (omega (arith, length-append us rest)) more)
+      (λ us vs xs ys rest after l m more far same. one_chain l m rest after more far same)

@@ -1,26 +1,26 @@
 -- Indexes are read exactly.
-use Rattle.std.proofs.Common.{◌≡◌, ℕ, ◌<◌, ◌≤◌, Bool, true, false, ◌&&◌, Option, Some, None, List, [], ◌∷◌, ◌++◌, length, Result, Ok, Err, refl, sym, ap, subst, ◌∙◌, arith}
+use Rattle.std.proofs.Common.{◌≡◌, ℕ, ◌<◌, Bool, true, ◌&&◌, Option, Some, None, List, [], ◌∷◌, ◌++◌, length, Ok, refl, sym, subst, arith}
 use Rattle.lexer.specs.declared.keyword.Keyword.TheVariants as w
 use Rattle.lexer.specs.declared.token.Kind.TheVariants as k
 use Rattle.syntax.specs.declared.create.IndexColumn.{IndexColumn}
 use Rattle.syntax.specs.declared.create.IndexDefinition.{IndexDefinition}
-use Rattle.expressions.specs.Exact.{Exact}
 use Rattle.expressions.specs.Follows.{Anything, ends_list}
-use Rattle.expressions.specs.Grammar.{IsName, Optional, left_out, given, Behind, behind}
+use Rattle.expressions.specs.Grammar.{IsName, Optional, Behind, behind}
 use Rattle.expressions.specs.Limits.{unlimited, if_given}
 use Rattle.expressions.specs.Pieces.{Piece, Plain, Name, word}
 use Rattle.expressions.specs.Reading.{after_word, mark_from}
 use Rattle.expressions.proofs.MarkTests.{mark_from_is, tells_left, tells_right}
-use Rattle.expressions.proofs.Parts.{exact_name}
 use Rattle.parser.specs.Limits.{few}
 use Rattle.parser.specs.Within.{all_fit}
-use Rattle.parser.specs.Parts.{Both, pair, Before, before, Said, said, unsaid, Listed}
+use Rattle.parser.specs.Parts.{Both, pair, Before, before, Said, Listed}
 use Rattle.parser.specs.Objects as g
 use Rattle.parser.specs.Objects.{IsIndexColumn, IsIndex, is_index_within}
 use Rattle.parser.specs.ObjectReading as reading
 use Rattle.parser.specs.ObjectReading.{index_column_from, index_from, unique_from}
 use Rattle.parser.specs.Readers.{listed, limited}
-use Rattle.parser.proofs.Exact.{weaker, exact_both, exact_made, exact_maybe, exact_behind, exact_behind_mark, exact_before_mark, exact_limited, exact_said}
+use Rattle.parser.proofs.Bases.{exact_name}
+use Rattle.parser.proofs.Exact.{exact_both, exact_made, exact_maybe, exact_behind, exact_behind_mark, exact_before_mark, exact_limited, exact_said}
+use Rattle.parser.proofs.Law.{Law}
 use Rattle.parser.proofs.Lists.{exact_listed}
 
 -- ---- columns
@@ -41,7 +41,7 @@ any : {A : Type 0} (x : Option A) → if_given unlimited x ≡ true
 any None = refl
 any (Some a) = refl
 
-exact_column : Exact index_column_from IsIndexColumn unlimited EndsColumn
+exact_column : Law index_column_from IsIndexColumn unlimited EndsColumn
 unfolding index_column_from
 exact_column = exact_made reading.index_column IsIndexColumn unlimited (exact_both exact_name (exact_maybe w.Collate exact_name) (λ vs b rest s f. tt)) column_forth column_back (λ x. sym (any x.1))
 
@@ -59,16 +59,16 @@ paren_follows : (rest : List Piece) → EndsColumns (Plain k.RightParen ∷ rest
 unfolding after_word
 paren_follows rest = ((tt, refl), refl)
 
-exact_columns : Exact (limited few (listed index_column_from)) (Listed IsIndexColumn) (λ xs. all_fit unlimited xs && few xs) EndsColumns
+exact_columns : Law (limited few (listed index_column_from)) (Listed IsIndexColumn) (λ xs. all_fit unlimited xs && few xs) EndsColumns
 exact_columns = exact_limited few (exact_listed exact_column EndsColumns (λ rest f. f) comma_follows some_pieces)
 
 -- ---- indexes
 
-left_self : (ts : List Piece) → mark_from k.LeftParen (Plain k.LeftParen ∷ ts) ≡ Ok ts
+pub left_self : (ts : List Piece) → mark_from k.LeftParen (Plain k.LeftParen ∷ ts) ≡ Ok ts
 unfolding mark_from
 left_self ts = refl
 
-right_self : (ts : List Piece) → mark_from k.RightParen (Plain k.RightParen ∷ ts) ≡ Ok ts
+pub right_self : (ts : List Piece) → mark_from k.RightParen (Plain k.RightParen ∷ ts) ≡ Ok ts
 unfolding mark_from
 right_self ts = refl
 
@@ -90,7 +90,7 @@ all_unlimited (x ∷ xs) = all_unlimited xs
 few_is : (xs : List IndexColumn) → few xs ≡ (all_fit unlimited xs && few xs)
 few_is xs = rw (all_unlimited xs) refl
 
-exact_unique : Exact unique_from (Said (word w.Unique)) unlimited (λ rest. after_word w.Unique rest ≡ None)
+exact_unique : Law unique_from (Said (word w.Unique)) unlimited (λ rest. after_word w.Unique rest ≡ None)
 unfolding unique_from
 exact_unique = exact_said w.Unique
 
@@ -98,7 +98,7 @@ not_unique : (vs : List Piece) (b : List ℕ) (rest : List Piece) → Behind (wo
 unfolding after_word
 not_unique _ b rest (behind r) f = refl
 
-pub exact_index : Exact index_from IsIndex is_index_within Anything
+pub exact_index : Law index_from IsIndex is_index_within Anything
 unfolding index_from
 exact_index =
     exact_made reading.index IsIndex is_index_within

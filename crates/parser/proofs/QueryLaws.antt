@@ -1,33 +1,29 @@
 -- Queries are read exactly.
-use Rattle.std.proofs.Common.{◌≡◌, ℕ, zero, suc, ◌<◌, ◌≤◌, Bool, true, false, ◌&&◌, Option, Some, None, List, [], ◌∷◌, ◌++◌, length, Result, Ok, Err, refl, sym, ap, subst, ◌∙◌, append_assoc, length-append, arith, ◌⊎◌, inl, inr}
+use Rattle.std.proofs.Common.{◌≡◌, ℕ, ◌<◌, Bool, true, false, ◌&&◌, Option, Some, None, List, [], ◌∷◌, ◌++◌, length, Ok, refl, sym, ap, subst, length-append, arith, ◌⊎◌, inl, inr}
 use Rattle.lexer.specs.declared.keyword.Keyword.{Keyword}
 use Rattle.lexer.specs.declared.keyword.Keyword.TheVariants as w
 use Rattle.lexer.specs.declared.token.Kind.TheVariants as k
 use Rattle.syntax.specs.Tree.{Tree}
 use Rattle.syntax.specs.declared.query.OrderTerm.{OrderTerm}
-use Rattle.syntax.specs.declared.query.ResultItem.{ResultItem}
-use Rattle.syntax.specs.declared.query.ResultItem.TheVariants as item
 use Rattle.syntax.specs.declared.query.Source.{Source}
-use Rattle.expressions.specs.declared.refusal.Refusal.{Refusal}
-use Rattle.expressions.specs.declared.refusal.Refusal.TheVariants.{Syntax, TooLong}
-use Rattle.expressions.specs.Exact.{Used, Exact}
-use Rattle.expressions.specs.Follows.{Follows, EndsExpression, EndsList, Anything, ends_list, lacks_name}
+use Rattle.expressions.specs.Exact.{Used, Single}
+use Rattle.expressions.specs.Follows.{EndsExpression, EndsList, Anything, ends_list, lacks_name}
 use Rattle.expressions.specs.Grammar.{IsExpression, AreExpressions, IsName, Optional, left_out, given, Behind, behind}
 use Rattle.expressions.specs.Limits.{unlimited, is_shallow, are_shallow, if_given}
 use Rattle.expressions.specs.Pieces.{Piece, Plain, Name, word}
-use Rattle.expressions.specs.Reading.{Read, ◌>>=◌, fail, binds, after_word, name_from, maybe_name_from, expression_from}
-use Rattle.expressions.proofs.Again.{follows_by, follows_comma, begins, begun, At_some}
-use Rattle.expressions.proofs.Exactly.{exact_expression, exact_expressions}
-use Rattle.expressions.proofs.Parts.{exact_name, exact_maybe_name, exact_maybe_behind}
-use Rattle.expressions.proofs.Takes.{bind_ok, ok_is, done}
+use Rattle.expressions.specs.Reading.{binds, after_word}
+use Rattle.expressions.proofs.Again.{follows_by, follows_comma, At_some}
+use Rattle.expressions.proofs.Takes.{ok_is}
 use Rattle.parser.specs.Within.{all_fit, is_term_within}
 use Rattle.parser.specs.Parts.{Both, pair, Listed}
-use Rattle.parser.specs.Readers.{Reader, yields, made, both, maybe, choose, listed, limited_by}
+use Rattle.parser.specs.Readers.{yields, choose, listed}
 use Rattle.parser.specs.Queries as q
 use Rattle.parser.specs.Queries.{IsInteger, IsLimit, IsGroups, IsOrder, IsDirection, IsTerm, IsAlias, IsSource}
 use Rattle.parser.specs.QueryReading as reading
 use Rattle.parser.specs.QueryReading.{integer_from, limit_from, groups_from, order_from, direction_from, term_from, alias_from, source_from}
-use Rattle.parser.proofs.Exact.{Nothing, exactly, reads, weaker, exact_behind, exact_both, exact_made, exact_maybe, exact_yields, exact_choose}
+use Rattle.parser.proofs.Bases.{exact_expression, exact_expressions, exact_name, exact_maybe_name}
+use Rattle.parser.proofs.Law.{Law}
+use Rattle.parser.proofs.Exact.{Nothing, exactly, weaker, exact_behind, exact_both, exact_made, exact_maybe, exact_yields, exact_choose}
 use Rattle.parser.proofs.Endings.{follows_piece}
 use Rattle.parser.proofs.Lists.{exact_listed, some_of}
 use Rattle.syntax.specs.declared.query.Limit.{Limit}
@@ -46,8 +42,17 @@ integer_reads : (us : List Piece) (n : ℕ) (rest : List Piece) → IsInteger us
 unfolding integer_from
 integer_reads _ n rest q.integer f = refl
 
-pub exact_integer : Exact integer_from IsInteger unlimited Anything
-exact_integer = exactly integer_takes integer_reads
+integer_single : Single IsInteger Anything
+integer_single _ _ m n rest after q.integer q.integer f g same = (same_number m n rest after same, same_rest m n rest after same)
+  where
+    same_number : (m n : ℕ) (us vs : List Piece) → Plain (k.Integer m) ∷ us ≡ Plain (k.Integer n) ∷ vs → m ≡ n
+    same_number m n us vs h = cc
+
+    same_rest : (m n : ℕ) (us vs : List Piece) → Plain (k.Integer m) ∷ us ≡ Plain (k.Integer n) ∷ vs → us ≡ vs
+    same_rest m n us vs h = cc
+
+pub exact_integer : Law integer_from IsInteger unlimited Anything
+exact_integer = exactly integer_takes integer_reads integer_single
 
 -- ---- words behind expressions
 
@@ -93,7 +98,7 @@ clause_name = by_place (λ rest. lacks_name rest ≡ true) refl (λ ts. refl) (�
 abbrev IsOther : Keyword → Type 0
 IsOther v = (same_word w.Limit v ≡ false) × (same_word w.Order v ≡ false) × (same_word w.Group v ≡ false) × (same_word w.Where v ≡ false) × (same_word w.From v ≡ false)
 
-word_none : (v u : Keyword) (ts : List Piece) → same_word u v ≡ false → after_word v (word u ∷ ts) ≡ None
+pub word_none : (v u : Keyword) (ts : List Piece) → same_word u v ≡ false → after_word v (word u ∷ ts) ≡ None
 unfolding after_word
 word_none v u ts e = rw e refl
 
@@ -128,7 +133,7 @@ limit_back _ _ (q.limit {n = n} {o = o} i b) = ((n, o), pair i b, refl)
 abbrev EndsLimit : List Piece → Type 0
 EndsLimit rest = (Unit {0} × (after_word w.Offset rest ≡ None)) × (after_word w.Limit rest ≡ None)
 
-pub exact_limit : Exact limit_from (Optional (Behind (word w.Limit) IsLimit)) (if_given unlimited) EndsLimit
+pub exact_limit : Law limit_from (Optional (Behind (word w.Limit) IsLimit)) (if_given unlimited) EndsLimit
 unfolding limit_from
 exact_limit =
     exact_maybe w.Limit (exact_made reading.limit IsLimit unlimited (exact_both exact_integer (exact_maybe w.Offset exact_integer) (λ vs b rest s f. tt)) limit_forth limit_back (λ x. sym (any x.1)))
@@ -149,7 +154,7 @@ groups_split : (us : List Piece) (es : List Tree) (rest : List Piece) → IsGrou
 groups_split _ _ rest q.no_groups f = inr (f.1, (refl, refl), tt)
 groups_split _ _ rest (q.groups {es = es} i) f = inl (word w.By ∷ es, refl, behind i, f.0)
 
-pub exact_groups : Exact groups_from IsGroups are_shallow EndsGroups
+pub exact_groups : Law groups_from IsGroups are_shallow EndsGroups
 unfolding groups_from
 exact_groups =
     exact_choose w.Group IsGroups (exact_behind w.By exact_expressions) (exact_yields [] (Nothing []) are_shallow Anything (refl, refl) refl (λ us b e. e)) groups_first groups_second groups_split
@@ -165,7 +170,7 @@ rising_split : (us : List Piece) (d : Bool) (rest : List Piece) → Rising us d 
 rising_split us d rest (inl e, t) f = inr (rw e f, (e, t), tt)
 rising_split us d rest (inr e, t) f = inl ([], e, (refl, t), tt)
 
-exact_rising : Exact (choose w.Asc (yields false) (yields false)) Rising unlimited (λ rest. after_word w.Asc rest ≡ None)
+exact_rising : Law (choose w.Asc (yields false) (yields false)) Rising unlimited (λ rest. after_word w.Asc rest ≡ None)
 exact_rising =
     exact_choose w.Asc Rising (exact_yields false (Nothing false) unlimited Anything (refl, refl) refl (λ us b e. e)) (exact_yields false (Nothing false) unlimited Anything (refl, refl) refl (λ us b e. e))
     (λ us d e. (inr (ap (λ (vs : List Piece). word w.Asc ∷ vs) e.0), e.1)) (λ us d e. (inl e.0, e.1)) rising_split
@@ -187,7 +192,7 @@ direction_split _ _ rest q.unsaid f = inr (f.0, (inl refl, refl), f.1)
 direction_split _ _ rest q.ascending f = inr (word_none w.Desc w.Asc rest refl, (inr refl, refl), f.1)
 direction_split _ _ rest q.descending f = inl ([], refl, (refl, refl), tt)
 
-exact_direction : Exact direction_from IsDirection unlimited EndsDirection
+exact_direction : Law direction_from IsDirection unlimited EndsDirection
 unfolding direction_from
 exact_direction = exact_choose w.Desc IsDirection (exact_yields true (Nothing true) unlimited Anything (refl, refl) refl (λ us b e. e)) exact_rising direction_first direction_second direction_split
 
@@ -212,7 +217,7 @@ pub and_one : (b : Bool) → b ≡ (b && true)
 and_one true = refl
 and_one false = refl
 
-exact_term : Exact term_from IsTerm is_term_within EndsTerm
+exact_term : Law term_from IsTerm is_term_within EndsTerm
 unfolding term_from
 exact_term = exact_made reading.term IsTerm is_term_within (exact_both exact_expression (weaker EndsTerm (λ rest f. f.0) exact_direction) ends_term) term_forth term_back (λ x. and_one (is_shallow x.0))
 
@@ -226,7 +231,7 @@ comma_none v ts = refl
 abbrev EndsTerms : List Piece → Type 0
 EndsTerms rest = EndsTerm rest × (ends_list rest ≡ true)
 
-exact_terms : Exact (listed term_from) (Listed IsTerm) (all_fit is_term_within) EndsTerms
+exact_terms : Law (listed term_from) (Listed IsTerm) (all_fit is_term_within) EndsTerms
 exact_terms = exact_listed exact_term EndsTerms (λ rest f. f) (λ rest. ((comma_none w.Desc rest, comma_none w.Asc rest), follows_comma 11 rest)) some_term
 
 abbrev EndsOrder : List Piece → Type 0
@@ -243,7 +248,7 @@ order_split : (us : List Piece) (ts : List OrderTerm) (rest : List Piece) → Is
 order_split _ _ rest q.no_order f = inr (f.1, (refl, refl), tt)
 order_split _ _ rest (q.order {ts = ts} l) f = inl (word w.By ∷ ts, refl, behind l, f.0)
 
-pub exact_order : Exact order_from IsOrder (all_fit is_term_within) EndsOrder
+pub exact_order : Law order_from IsOrder (all_fit is_term_within) EndsOrder
 unfolding order_from
 exact_order = exact_choose w.Order IsOrder (exact_behind w.By exact_terms) (exact_yields [] (Nothing []) (all_fit is_term_within) Anything (refl, refl) refl (λ us b e. e)) order_first order_second order_split
 
@@ -268,7 +273,7 @@ alias_second us _ (given s) = rw s (given q.alias)
 abbrev EndsAlias : List Piece → Type 0
 EndsAlias rest = (after_word w.As rest ≡ None) × (lacks_name rest ≡ true)
 
-name_none : (v : Keyword) (c : List ℕ) (ts : List Piece) → after_word v (Name c ∷ ts) ≡ None
+pub name_none : (v : Keyword) (c : List ℕ) (ts : List Piece) → after_word v (Name c ∷ ts) ≡ None
 unfolding after_word
 name_none v c ts = refl
 
@@ -278,7 +283,7 @@ alias_split _ _ rest left_out f = inr (f.0, left_out, f.1)
 alias_split _ _ rest (given (q.alias {c = c})) f = inr (name_none w.As c rest, given refl, f.1)
 alias_split _ _ rest (given (q.alias_as {c = c})) f = inl (Name c ∷ [], refl, refl, tt)
 
-exact_alias : Exact alias_from (Optional IsAlias) unlimited EndsAlias
+exact_alias : Law alias_from (Optional IsAlias) unlimited EndsAlias
 unfolding alias_from
 exact_alias = exact_choose w.As (Optional IsAlias) (exact_made Some SomeName unlimited exact_name (λ us c s. s) some_back (λ c. refl)) exact_maybe_name alias_first alias_second alias_split
 
@@ -291,6 +296,6 @@ source_forth _ _ (pair {vs = vs} {a = n} {b = c} name o) = subst (λ (ns : List 
 source_back : (us : List Piece) (t : Source) → IsSource us t → (x : List ℕ × Option (List ℕ)) × (Sourced us x) × (reading.source x ≡ t)
 source_back _ _ (q.source {t = n} {c = c} o) = ((n, c), pair {us = Name n ∷ []} refl o, refl)
 
-pub exact_source : Exact source_from IsSource unlimited EndsAlias
+pub exact_source : Law source_from IsSource unlimited EndsAlias
 unfolding source_from
 exact_source = exact_made reading.source IsSource unlimited (exact_both exact_name exact_alias (λ vs b rest s f. tt)) source_forth source_back (λ x. refl)

@@ -1,30 +1,29 @@
 -- The results of queries are read exactly.
-use Rattle.std.proofs.Common.{◌≡◌, ℕ, zero, suc, ◌<◌, ◌≤◌, Bool, true, false, ◌&&◌, Option, Some, None, List, [], ◌∷◌, ◌++◌, length, Result, Ok, Err, refl, sym, ap, subst, ◌∙◌, append_assoc, length-append, arith}
+use Rattle.std.proofs.Common.{◌≡◌, ℕ, ◌<◌, Bool, true, false, ◌&&◌, Option, Some, None, List, [], ◌∷◌, ◌++◌, length, Ok, Err, refl, sym, ap, subst, ◌∙◌, append_assoc, length-append, arith}
 use Rattle.lexer.specs.declared.keyword.Keyword.TheVariants as w
 use Rattle.lexer.specs.declared.token.Kind.TheVariants as k
 use Rattle.syntax.specs.Tree.{Tree}
 use Rattle.syntax.specs.declared.query.ResultItem.{ResultItem}
 use Rattle.syntax.specs.declared.query.ResultItem.TheVariants as item
-use Rattle.expressions.specs.declared.refusal.Refusal.{Refusal}
-use Rattle.expressions.specs.declared.refusal.Refusal.TheVariants.{Syntax, TooLong}
-use Rattle.expressions.specs.Exact.{Used, Exact}
+use Rattle.expressions.specs.declared.refusal.Refusal.TheVariants.{Syntax}
+use Rattle.expressions.specs.Exact.{Used, Single}
 use Rattle.expressions.specs.Follows.{EndsExpression, ends_list}
 use Rattle.expressions.specs.Grammar.{IsExpression, IsName, Optional, left_out, given, Behind, behind}
-use Rattle.expressions.specs.Limits.{unlimited, is_shallow, if_given}
-use Rattle.expressions.specs.Pieces.{Piece, Plain, Name, Text, Blob, word}
-use Rattle.expressions.specs.Reading.{Read, ◌>>=◌, fail, after_word, name_from, expression_from, level_at, ladder, atom, named, is_prefixed}
+use Rattle.expressions.specs.Limits.{is_shallow}
+use Rattle.expressions.specs.Pieces.{Piece, Plain, Name, word}
+use Rattle.expressions.specs.Reading.{Read, fail, after_word, name_from, expression_from, level_at, ladder, atom, named, is_prefixed}
 use Rattle.expressions.proofs.Again.{begins, begun, follows_comma, At_some}
-use Rattle.expressions.proofs.Exactly.{exact_expression}
-use Rattle.expressions.proofs.Parts.{exact_name}
-use Rattle.expressions.proofs.Takes.{bind_ok, ok_is, done}
+use Rattle.expressions.proofs.Takes.{ok_is}
 use Rattle.parser.specs.Limits.{few}
-use Rattle.parser.specs.Within.{all_fit, is_result_within, are_results_within}
+use Rattle.parser.specs.Within.{is_result_within, are_results_within}
 use Rattle.parser.specs.Parts.{Both, pair, Listed}
 use Rattle.parser.specs.Queries as q
 use Rattle.parser.specs.Queries.{IsResult}
 use Rattle.parser.specs.QueryReading as reading
 use Rattle.parser.specs.QueryReading.{value_from, after_star, after_all_of, all_of_by, named_from, result_from, results_from}
-use Rattle.parser.specs.Readers.{Reader, yields, choose_by, listed, limited, limited_by}
+use Rattle.parser.specs.Readers.{yields, choose_by, limited_by}
+use Rattle.parser.proofs.Bases.{exact_expression, exact_name}
+use Rattle.parser.proofs.Law.{Law, tail_is, never_both}
 use Rattle.parser.proofs.Exact.{exactly, reads, weaker, exact_both, exact_made, exact_maybe, exact_limited}
 use Rattle.parser.proofs.Lists.{exact_listed}
 use Rattle.parser.proofs.QueryLaws.{follows_word, any, and_one, comma_none}
@@ -50,7 +49,7 @@ ends_value : (vs : List Piece) (c : Option (List ℕ)) (rest : List Piece) → O
 ends_value _ _ rest left_out f = f.0
 ends_value _ _ rest (given (behind {ts = us} n)) f = follows_word w.As (us ++ rest) refl
 
-exact_value : Exact value_from IsValue is_result_within EndsResult
+exact_value : Law value_from IsValue is_result_within EndsResult
 unfolding value_from
 exact_value =
     exact_made reading.value IsValue is_result_within (exact_both exact_expression (weaker EndsResult (λ rest f. (tt, f.1)) (exact_maybe w.As exact_name)) ends_value)
@@ -109,7 +108,7 @@ named_takes ts x (Some rest) e h =
     let (c, same) = all_of_is ts rest e in
     let read : all_of_by (Name c ∷ Plain k.Dot ∷ Plain k.Star ∷ rest) (Some rest) ≡ Ok x = subst (λ (us : List Piece). all_of_by us (Some rest) ≡ Ok x) same h in
     subst (Used IsResult is_result_within ts) (ok_is _ _ (sym (named_again c rest) ∙ read)) (record { used = Name c ∷ Plain k.Dot ∷ Plain k.Star ∷ []; parts = same; at = q.all_of; within = refl })
-named_takes ts x None e h = let u = exact_value.takes ts x h in record { used = u.used; parts = u.parts; at = is_value u.used x.0 u.at; within = u.within }
+named_takes ts x None e h = let u = exact_value.exact.takes ts x h in record { used = u.used; parts = u.parts; at = is_value u.used x.0 u.at; within = u.within }
 
 star_takes : (ts : List Piece) (x : ResultItem × List Piece) (o : Option (List Piece)) → after_star ts ≡ o → choose_by (yields item.All) named_from ts o ≡ Ok x → Used IsResult is_result_within ts x
 unfolding yields named_from
@@ -124,19 +123,44 @@ read_value : (ts : List Piece) (r : Read ResultItem) → after_star ts ≡ None 
 unfolding named_from
 read_value ts r a b h = rw (a, b) h
 
+no_star : (es us : List Piece) (e : Tree) (rest : List Piece) → IsExpression es e → after_star ((es ++ us) ++ rest) ≡ None
+no_star es us e rest i = ap after_star (append_assoc es us rest) ∙ star_none (es ++ (us ++ rest)) (begun i (us ++ rest))
+
+no_source : (es us : List Piece) (e : Tree) (c : Option (List ℕ)) (rest : List Piece) → IsExpression es e → Optional (Behind (word w.As) IsName) us c → EndsResult rest
+    → after_all_of ((es ++ us) ++ rest) ≡ None
+no_source es us e c rest i o f = ap after_all_of (append_assoc es us rest) ∙ all_of_none es e (us ++ rest) i (ends_value us c rest o f)
+
 result_reads : (us : List Piece) (r : ResultItem) (rest : List Piece) → IsResult us r → EndsResult rest → result_from (us ++ rest) ≡ limited_by (r, rest) (is_result_within r)
 unfolding result_from yields after_star after_all_of named_from name_from
 result_reads _ _ rest q.all f = refl
 result_reads _ _ rest q.all_of f = refl
 result_reads _ _ rest (q.value {es = es} {us = us} {e = e} {c = c} i o) f =
-    let same : (es ++ us) ++ rest ≡ es ++ (us ++ rest) = append_assoc es us rest in
-    let behind = ends_value us c rest o f in
-    let a : after_star ((es ++ us) ++ rest) ≡ None = ap after_star same ∙ star_none (es ++ (us ++ rest)) (begun i (us ++ rest)) in
-    let b : after_all_of ((es ++ us) ++ rest) ≡ None = ap after_all_of same ∙ all_of_none es e (us ++ rest) i behind in
-    read_value ((es ++ us) ++ rest) _ a b (reads exact_value (es ++ us) (item.Of e c) rest (pair i o) f)
+    read_value ((es ++ us) ++ rest) _ (no_star es us e rest i) (no_source es us e c rest i o f) (reads exact_value (es ++ us) (item.Of e c) rest (pair i o) f)
 
-pub exact_result : Exact result_from IsResult is_result_within EndsResult
-exact_result = exactly result_takes result_reads
+same_source : (c d : List ℕ) (us vs : List Piece) → Name c ∷ Plain k.Dot ∷ Plain k.Star ∷ us ≡ Name d ∷ Plain k.Dot ∷ Plain k.Star ∷ vs → (c ≡ d) × (us ≡ vs)
+same_source c d us vs h = (cc, cc)
+
+result_single : Single IsResult EndsResult
+unfolding after_star after_all_of
+result_single _ _ _ _ rest after q.all q.all f g same = (refl, tail_is (Plain k.Star) rest after same)
+result_single _ _ _ _ rest after q.all q.all_of f g same = absurd cc
+result_single _ _ _ _ rest after q.all (q.value {es = es} {us = us} {e = e} i o) f g same =
+    absurd (never_both (after_star (Plain k.Star ∷ rest)) rest refl (ap after_star same ∙ no_star es us e after i))
+result_single _ _ _ _ rest after q.all_of q.all f g same = absurd cc
+result_single _ _ _ _ rest after (q.all_of {c = c}) (q.all_of {c = d}) f g same =
+    let x = same_source c d rest after same in
+    (ap (λ (c : List ℕ). item.AllOf c) x.0, x.1)
+result_single _ _ _ _ rest after (q.all_of {c = c}) (q.value {es = es} {us = us} {e = e} {c = d} i o) f g same =
+    absurd (never_both (after_all_of (Name c ∷ Plain k.Dot ∷ Plain k.Star ∷ rest)) rest refl (ap after_all_of same ∙ no_source es us e d after i o g))
+result_single _ _ _ _ rest after (q.value {es = es} {us = us} {e = e} i o) q.all f g same =
+    absurd (never_both (after_star (Plain k.Star ∷ after)) after refl (ap after_star (sym same) ∙ no_star es us e rest i))
+result_single _ _ _ _ rest after (q.value {es = es} {us = us} {e = e} {c = d} i o) (q.all_of {c = c}) f g same =
+    absurd (never_both (after_all_of (Name c ∷ Plain k.Dot ∷ Plain k.Star ∷ after)) after refl (ap after_all_of (sym same) ∙ no_source es us e d rest i o f))
+result_single _ _ _ _ rest after (q.value {es = es} {us = us} {e = e} {c = c} i o) (q.value {es = fs} {us = vs} {e = d} {c = b} j p) f g same =
+    exact_value.single (es ++ us) (fs ++ vs) (item.Of e c) (item.Of d b) rest after (pair i o) (pair j p) f g same
+
+pub exact_result : Law result_from IsResult is_result_within EndsResult
+exact_result = exactly result_takes result_reads result_single
 
 some_result : (us : List Piece) (r : ResultItem) → IsResult us r → 0 < length us
 some_result _ _ q.all = omega arith
@@ -146,6 +170,6 @@ some_result _ _ (q.value {es = es} {us = us} i o) = let long : 0 < length es = A
 abbrev pub EndsResults : List Piece → Type 0
 EndsResults rest = EndsResult rest × (ends_list rest ≡ true)
 
-pub exact_results : Exact results_from (Listed IsResult) are_results_within EndsResults
+pub exact_results : Law results_from (Listed IsResult) are_results_within EndsResults
 unfolding results_from
 exact_results = exact_limited few (exact_listed exact_result EndsResults (λ rest f. f) (λ rest. (follows_comma 11 rest, comma_none w.As rest)) some_result)

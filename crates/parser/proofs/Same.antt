@@ -1,9 +1,10 @@
 -- Tokens with where they stand in memory, and without.
-use Rattle.std.proofs.Common.{◌≡◌, ℕ, zero, suc, ◌+◌, ◌-◌, ◌<◌, ◌≤◌, Bool, true, false, eqb, if◌then◌else◌, List, [], ◌∷◌, ◌++◌, length, map, drop, get_or, Option, Some, None, Result, Ok, Err, refl, sym, ap, subst, ◌∙◌, arith, slice_range}
+use Rattle.std.proofs.Common.{◌≡◌, ℕ, zero, suc, ◌-◌, ◌<◌, ◌≤◌, Bool, true, false, eqb, if◌then◌else◌, List, [], ◌∷◌, length, map, drop, get_or, Some, Result, Ok, Err, refl, sym, ap, subst, ◌∙◌, arith, slice_range}
 use Rattle.std.specs.Prelude.{slice_get}
 use Rattle.std.proofs.lemmas.Bool.{ne_eqb}
 use Rattle.sqlval.specs.declared.fault.Fault.{Fault}
 use Rattle.sqlval.specs.declared.fault.Fault.TheVariants as fault
+use Rattle.sqlval.specs.Gives as gives
 use Rattle.sqlval.specs.Gives.{Refuses}
 use Rattle.lexer.specs.Lex as lex
 use Rattle.lexer.specs.Spans.{end_of}
@@ -15,10 +16,9 @@ use Rattle.expressions.specs.declared.refusal.Refusal.TheVariants.{Memory, Synta
 use Rattle.expressions.specs.Pieces.{Piece, pieces}
 use Rattle.expressions.specs.Reading.{Gives}
 use Rattle.parser.specs.StatementReading.{whole_from, statement_from, end_from}
-use Rattle.parser.specs.Spelled.{is_closing, body_length, start_at, end_at, span, sql_of}
+use Rattle.parser.specs.Spelled.{is_closing, start_at, end_at, span, sql_of}
 use Rattle.parser.specs.Parsing as parsing
-use Rattle.parser.specs.Parsing.{pieces_of, body_end, sql_in, begins_at, place_of, fault_of, answered, parsed}
-use Rattle.parser.specs.Refusals.{Parses}
+use Rattle.parser.specs.Parsing.{pieces_of, body_end, sql_in, begins_at, place_of, fault_of, answered, parsed, parsed_by}
 
 pub pieces_same : (ts : List Token) → pieces_of (map lex.seen ts) ≡ pieces ts
 pieces_same [] = refl
@@ -94,6 +94,18 @@ sql_same z (t ∷ u ∷ us) = longer_text z t u us (length (t ∷ u ∷ us) - 1)
 
 read_same : (z : List ℕ) (ts : List Token) (r : Result Statement Refusal) → whole_from (sql_of z ts) (pieces ts) ≡ r → parsed z (map lex.seen ts) ≡ answered (length z) (map lex.seen ts) r
 read_same z ts r e = rw (← sql_same z ts, pieces_same ts, e) refl
+
+-- what a text is answered whose tokens are these
+abbrev pub Parses : List ℕ → Result (List Lexed) Fault → Result Statement Fault → Type 0
+Parses z given result = gives.Gives (λ s. s) result (parsed_by z given)
+
+refused_first : (z : List ℕ) (given : Result (List Lexed) Fault) (f : Fault) → given ≡ Err f → parsed_by z given ≡ Err f
+refused_first z given f e = rw e refl
+
+-- a text whose tokens are refused is refused for the same
+pub parses_lexed : (z : List ℕ) (given : Result (List Lexed) Fault) (f : Fault) → Refuses f given → Parses z given (Err f)
+parses_lexed z given fault.Memory h = tt
+parses_lexed z given f h = refused_first z given f h
 
 pub parses_ok : (z : List ℕ) (given : Result (List Lexed) Fault) (ts : List Token) (s : Statement) → given ≡ Ok (map lex.seen ts) → whole_from (sql_of z ts) (pieces ts) ≡ Ok s
     → Parses z given (Ok s)

@@ -1,16 +1,34 @@
--- The grammar of changes: which pieces are which tree (SQL As Understood By SQLite, "UPDATE" and "DELETE").
-use Rattle.std.specs.Prelude.{◌≡◌, ℕ, Bool, true, false, ◌&&◌, Option, Some, None, List, [], ◌∷◌, ◌++◌}
+-- The grammar of changes: which pieces are which tree (SQL As Understood By SQLite, "INSERT", "UPDATE" and "DELETE").
+use Rattle.std.specs.Prelude.{◌≡◌, ℕ, Bool, ◌&&◌, Option, List, [], ◌∷◌, ◌++◌}
 use Rattle.lexer.specs.declared.keyword.Keyword.TheVariants as w
 use Rattle.lexer.specs.declared.token.Kind.TheVariants as k
 use Rattle.syntax.specs.Tree.{Tree}
 use Rattle.syntax.specs.declared.change.Assignment.{Assignment}
+use Rattle.syntax.specs.declared.change.Change.{Change}
+use Rattle.syntax.specs.declared.change.Change.TheVariants as changes
 use Rattle.syntax.specs.declared.change.Delete.{Delete}
+use Rattle.syntax.specs.declared.change.Insert.{Insert}
+use Rattle.syntax.specs.declared.change.InsertSource.{InsertSource}
+use Rattle.syntax.specs.declared.change.InsertSource.TheVariants as sources
 use Rattle.syntax.specs.declared.change.Update.{Update}
-use Rattle.expressions.specs.Grammar.{IsExpression, Optional, Behind}
-use Rattle.expressions.specs.Limits.{is_shallow, if_given}
+use Rattle.syntax.specs.declared.query.Query.{Query}
+use Rattle.expressions.specs.Grammar.{AreExpressions, IsExpression, IsNames, Enclosed, Optional, Behind}
+use Rattle.expressions.specs.Limits.{is_shallow, are_shallow, if_given}
 use Rattle.expressions.specs.Pieces.{Piece, Name, word, mark}
-use Rattle.parser.specs.Within.{all_fit}
+use Rattle.parser.specs.Within.{all_fit, is_selection_within}
 use Rattle.parser.specs.Parts.{Listed}
+use Rattle.parser.specs.Queries.{IsQuery}
+
+-- VALUES ( expr {, expr} ) {, ( expr {, expr} )}, or a SELECT
+pub data IsInsertSource : List Piece → InsertSource → Type 0 where
+  rows : {rs : List Piece} {given : List (List Tree)} → Listed (Enclosed AreExpressions) rs given → IsInsertSource (word w.Values ∷ rs) (sources.Rows given)
+  query : {ss : List Piece} {q : Query} → IsQuery ss q → IsInsertSource ss (sources.Query q)
+
+-- INSERT INTO name [( name {, name} )] (VALUES row {, row} | select), without its first word
+pub data IsInsert : List Piece → Insert → Type 0 where
+  insert : {ns ss : List Piece} {t : List ℕ} {columns : Option (List (List ℕ))} {given : InsertSource}
+      → Optional (Enclosed IsNames) ns columns → IsInsertSource ss given
+      → IsInsert (word w.Into ∷ Name t ∷ ns ++ ss) (record { table = t; columns = columns; source = given })
 
 -- name = expr
 pub data IsAssignment : List Piece → Assignment → Type 0 where
@@ -27,6 +45,20 @@ pub data IsDelete : List Piece → Delete → Type 0 where
   delete : {cs : List Piece} {t : List ℕ} {condition : Option Tree} → Optional (Behind (word w.Where) IsExpression) cs condition
       → IsDelete (word w.From ∷ Name t ∷ cs) (record { table = t; condition = condition })
 
+-- an INSERT, UPDATE or DELETE with its first word
+pub data IsChange : List Piece → Change → Type 0 where
+  inserts : {us : List Piece} {i : Insert} → IsInsert us i → IsChange (word w.Insert ∷ us) (changes.Insert i)
+  updates : {us : List Piece} {u : Update} → IsUpdate us u → IsChange (word w.Update ∷ us) (changes.Update u)
+  deletes : {us : List Piece} {d : Delete} → IsDelete us d → IsChange (word w.Delete ∷ us) (changes.Delete d)
+
+-- rows of expressions of a depth of at most 100, or a query within its limits
+abbrev pub is_insert_source_within : InsertSource → Bool
+is_insert_source_within (sources.Rows rs) = all_fit are_shallow rs
+is_insert_source_within (sources.Query q) = is_selection_within q
+
+abbrev pub is_insert_within : Insert → Bool
+is_insert_within i = is_insert_source_within i.source
+
 -- expressions of a depth of at most 100
 abbrev pub is_assignment_within : Assignment → Bool
 is_assignment_within a = is_shallow a.value
@@ -36,6 +68,11 @@ is_update_within u = all_fit is_assignment_within u.assignments && if_given is_s
 
 abbrev pub is_delete_within : Delete → Bool
 is_delete_within d = if_given is_shallow d.condition
+
+abbrev pub is_change_within : Change → Bool
+is_change_within (changes.Insert i) = is_insert_within i
+is_change_within (changes.Update u) = is_update_within u
+is_change_within (changes.Delete d) = is_delete_within d
 
 -- nothing, or a semicolon
 abbrev pub EndsStatement : List Piece → Type 0

@@ -1,6 +1,7 @@
 pub mod ChangeReading
 pub mod Changes
 pub mod Limits
+pub mod NewObjects
 pub mod ObjectReading
 pub mod Objects
 pub mod Parsing
@@ -11,5 +12,9 @@ pub mod Readers
 pub mod Refusals
 pub mod Spelled
 pub mod StatementReading
+pub mod Statements
 pub mod TableReading
+pub mod Tables
+pub mod Texts
+pub mod Triggers
 pub mod Within

@@ -1,5 +1,5 @@
 -- Limits that the text of a statement shows.
-use Rattle.std.specs.Prelude.{◌≡◌, ℕ, Bool, true, ◌&&◌, nat_le, List, length, Option, Some, None}
+use Rattle.std.specs.Prelude.{Bool, true, nat_le, List, length, Option, Some, None}
 
 -- at most 64 columns in a list, or results
 abbrev pub few : {A : Type 0} → List A → Bool

@@ -1,13 +1,17 @@
--- The grammar of indexes: which pieces are which tree (SQL As Understood By SQLite, "CREATE INDEX").
-use Rattle.std.specs.Prelude.{ℕ, Bool, Option, List, [], ◌∷◌, ◌++◌}
+-- The grammar of indexes and views: which pieces are which tree (SQL As Understood By SQLite, "CREATE INDEX" and "CREATE VIEW").
+use Rattle.std.specs.Prelude.{ℕ, Bool, ◌&&◌, Option, List, [], ◌∷◌, ◌++◌}
 use Rattle.lexer.specs.declared.keyword.Keyword.TheVariants as w
 use Rattle.lexer.specs.declared.token.Kind.TheVariants as k
 use Rattle.syntax.specs.declared.create.IndexColumn.{IndexColumn}
 use Rattle.syntax.specs.declared.create.IndexDefinition.{IndexDefinition}
-use Rattle.expressions.specs.Grammar.{IsName, Optional, Behind}
+use Rattle.syntax.specs.declared.create.ViewDefinition.{ViewDefinition}
+use Rattle.syntax.specs.declared.query.Query.{Query}
+use Rattle.expressions.specs.Grammar.{IsName, IsNames, Enclosed, Optional, Behind}
 use Rattle.expressions.specs.Pieces.{Piece, Name, word, mark}
-use Rattle.parser.specs.Limits.{few}
+use Rattle.parser.specs.Limits.{few, few_if}
 use Rattle.parser.specs.Parts.{Listed, Said}
+use Rattle.parser.specs.Queries.{IsQuery}
+use Rattle.parser.specs.Within.{is_selection_within}
 
 -- name [COLLATE name]
 pub data IsIndexColumn : List Piece → IndexColumn → Type 0 where
@@ -22,3 +26,12 @@ pub data IsIndex : List Piece → IndexDefinition → Type 0 where
 -- at most 64 columns
 abbrev pub is_index_within : IndexDefinition → Bool
 is_index_within i = few i.columns
+
+-- name [( name {, name} )] AS select, behind CREATE VIEW
+pub data IsView : List Piece → ViewDefinition → Type 0 where
+  view : {ns ss : List Piece} {n : List ℕ} {columns : Option (List (List ℕ))} {q : Query} → Optional (Enclosed IsNames) ns columns → IsQuery ss q
+      → IsView (Name n ∷ ns ++ word w.As ∷ ss) (record { name = n; columns = columns; query = q })
+
+-- at most 64 columns, and a query within its limits
+abbrev pub is_view_within : ViewDefinition → Bool
+is_view_within v = few_if v.columns && is_selection_within v.query

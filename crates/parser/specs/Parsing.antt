@@ -1,5 +1,5 @@
 -- From a text to its statement.
-use Rattle.std.specs.Prelude.{ℕ, zero, suc, ◌+◌, ◌-◌, ◌==◌, Bool, true, false, if◌then◌else◌, List, [], ◌∷◌, length, drop, map, Option, None, Some, slice_range, Result, Ok, Err}
+use Rattle.std.specs.Prelude.{ℕ, ◌+◌, ◌-◌, Bool, true, false, if◌then◌else◌, List, [], ◌∷◌, length, drop, map, slice_range, Result, Ok, Err}
 use Rattle.sqlval.specs.declared.fault.Fault.{Fault}
 use Rattle.sqlval.specs.declared.fault.Fault.TheVariants as fault
 use Rattle.sqlval.specs.declared.fault.Feature.TheVariants as feature
@@ -54,3 +54,8 @@ answered total ts (Err refusal) = Err (fault_of total ts refusal)
 -- the statement that the tokens of a text are, or why it is refused
 abbrev pub parsed : List ℕ → List Lexed → Result Statement Fault
 parsed z ts = answered (length z) ts (whole_from (sql_in z ts) (pieces_of ts))
+
+-- the statement that a text is whose tokens are these, or why it is refused
+abbrev pub parsed_by : List ℕ → Result (List Lexed) Fault → Result Statement Fault
+parsed_by z (Ok ts) = parsed z ts
+parsed_by z (Err fault) = Err fault

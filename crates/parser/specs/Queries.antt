@@ -2,7 +2,7 @@
 use Rattle.std.specs.Prelude.{ℕ, Bool, true, false, Option, Some, None, List, [], ◌∷◌, ◌++◌}
 use Rattle.lexer.specs.declared.keyword.Keyword.TheVariants as w
 use Rattle.lexer.specs.declared.token.Kind.TheVariants as k
-use Rattle.syntax.specs.Tree.{Tree, Trees, trees}
+use Rattle.syntax.specs.Tree.{Tree, trees}
 use Rattle.syntax.specs.declared.query.FromClause.{FromClause}
 use Rattle.syntax.specs.declared.query.Join.{Join}
 use Rattle.syntax.specs.declared.query.JoinKind.TheVariants as kinds

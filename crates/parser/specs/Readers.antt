@@ -1,10 +1,9 @@
 -- Readers made of parts. A reader gives what stands at the front of the pieces, and the pieces behind it, or why it refuses
 -- them.
-use Rattle.std.specs.Prelude.{ℕ, zero, suc, Bool, true, false, if◌then◌else◌, nat_le, List, [], ◌∷◌, ◌++◌, length, Option, Some, None, Result, Ok, Err}
+use Rattle.std.specs.Prelude.{ℕ, zero, suc, Bool, true, false, List, [], ◌∷◌, ◌++◌, length, Option, Some, None, Ok, Err}
 use Rattle.lexer.specs.declared.keyword.Keyword.{Keyword}
 use Rattle.lexer.specs.declared.token.Kind.{Kind}
 use Rattle.lexer.specs.declared.token.Kind.TheVariants as k
-use Rattle.expressions.specs.declared.refusal.Refusal.{Refusal}
 use Rattle.expressions.specs.declared.refusal.Refusal.TheVariants.{TooLong}
 use Rattle.expressions.specs.Pieces.{Piece, Plain}
 use Rattle.expressions.specs.Reading.{Read, fail, ◌>>=◌, after_word, word_from, mark_from, optional_from}

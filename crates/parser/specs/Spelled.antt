@@ -1,5 +1,5 @@
 -- The text of a statement.
-use Rattle.std.specs.Prelude.{ℕ, zero, suc, ◌-◌, ◌==◌, Bool, true, false, if◌then◌else◌, List, [], ◌∷◌, length, Option, None, Some, slice_get, slice_range}
+use Rattle.std.specs.Prelude.{ℕ, zero, suc, ◌-◌, ◌==◌, Bool, false, if◌then◌else◌, List, [], ◌∷◌, length, Option, None, Some, slice_get, slice_range}
 use Rattle.lexer.specs.declared.token.Token.{Token}
 use Rattle.lexer.specs.Spans.{end_of}
 use Rattle.parser.specs.Parsing.{is_semicolon}

@@ -2,10 +2,8 @@
 use Rattle.std.specs.Prelude.{ℕ, Bool, true, false, if◌then◌else◌, codes, List, [], ◌∷◌, Option, Some, None, Result, Ok, Err}
 use Rattle.lexer.specs.declared.keyword.Keyword.{Keyword}
 use Rattle.lexer.specs.declared.keyword.Keyword.TheVariants as w
-use Rattle.lexer.specs.declared.token.Kind.{Kind}
 use Rattle.lexer.specs.declared.token.Kind.TheVariants as k
 use Rattle.sqlval.specs.Names.{is_same_name}
-use Rattle.syntax.specs.declared.create.Create.{Create}
 use Rattle.syntax.specs.declared.create.NewObject.{NewObject}
 use Rattle.syntax.specs.declared.statement.BeginMode.{BeginMode}
 use Rattle.syntax.specs.declared.statement.BeginMode.TheVariants as begin
@@ -19,7 +17,7 @@ use Rattle.expressions.specs.declared.refusal.Refusal.{Refusal}
 use Rattle.expressions.specs.declared.refusal.Refusal.TheVariants.{Unsupported}
 use Rattle.expressions.specs.Pieces.{Piece, Plain}
 use Rattle.expressions.specs.Reading.{Read, fail, ◌>>=◌, name_from}
-use Rattle.parser.specs.Readers.{Reader, yields, made, both, behind, behind_mark, before_mark, optionally, trailed, choose, choose_by}
+use Rattle.parser.specs.Readers.{Reader, yields, made, both, behind, before_mark, optionally, trailed, choose, choose_by}
 use Rattle.parser.specs.QueryReading.{selection_from}
 use Rattle.parser.specs.ChangeReading.{change_from}
 use Rattle.parser.specs.TableReading.{after_paren}

@@ -1,10 +1,9 @@
 -- Reading tables.
-use Rattle.std.specs.Prelude.{ℕ, ◌^◌, Bool, true, false, nat_le, nat_lt, if◌then◌else◌, ℤ, pos, neg_ℤ, List, [], ◌∷◌, ◌++◌, length, Option, Some, None, Ok}
+use Rattle.std.specs.Prelude.{ℕ, ◌^◌, Bool, true, false, nat_le, nat_lt, if◌then◌else◌, ℤ, pos, neg_ℤ, List, [], ◌∷◌, length, Option, Some, None, Ok}
 use Rattle.lexer.specs.declared.keyword.Keyword.TheVariants as w
 use Rattle.lexer.specs.declared.token.Kind.TheVariants as k
 use Rattle.sqlval.specs.declared.value.Value.{Value}
 use Rattle.sqlval.specs.declared.value.Value.TheVariants as value
-use Rattle.syntax.specs.Tree.{Tree}
 use Rattle.syntax.specs.declared.create.ColumnDefinition.{ColumnDefinition}
 use Rattle.syntax.specs.declared.create.ColumnRule.{ColumnRule}
 use Rattle.syntax.specs.declared.create.ColumnRule.TheVariants as rule
@@ -12,7 +11,7 @@ use Rattle.syntax.specs.declared.create.DeclaredType.{DeclaredType}
 use Rattle.syntax.specs.declared.create.TableDefinition.{TableDefinition}
 use Rattle.syntax.specs.declared.create.TableRule.{TableRule}
 use Rattle.syntax.specs.declared.create.TableRule.TheVariants as table_rule
-use Rattle.expressions.specs.Pieces.{Piece, Plain, Name, Text, Blob}
+use Rattle.expressions.specs.Pieces.{Piece, Plain, Text, Blob}
 use Rattle.expressions.specs.Reading.{Read, fail, ◌>>=◌, name_from, maybe_name_from, name_row_from, enclosed_from}
 use Rattle.parser.specs.Readers.{Reader, yields, made, both, behind, behind_mark, before_mark, choose, choose_by, choose_comma, after_comma, many, many_upto, limited}
 use Rattle.parser.specs.Limits.{few}

@@ -10,7 +10,9 @@ mod statements;
 mod tables;
 mod triggers;
 
-pub use laws::{changes_are_exact, indexes_are_exact};
+pub use laws::{
+    changes_are_exact, kept_text_is_the_same, objects_are_exact, one_tree, queries_are_exact,
+};
 pub use parsing::parse;
 
 #[cfg(test)]

@@ -1,10 +1,14 @@
 //! From a text to its statement.
 
-ghost use Rattle.std.specs.Prelude.{◌≡◌, ◌≤◌, length, map, IfErr};
+ghost use Rattle.std.specs.Prelude.{◌≡◌, ◌≤◌, Ok, Err, true, false, length, map, IfOk, IfErr};
+ghost use Rattle.sqlval.specs.Gives.{Gives};
 ghost use Rattle.lexer.specs.Lex as lex;
 ghost use Rattle.lexer.specs.Spans.{Stand};
-ghost use Rattle.parser.specs.Parsing.{fault_of, place_of};
-ghost use Rattle.parser.specs.Refusals.{IsParsingFault, Parses, RefusesAs};
+ghost use Rattle.syntax.specs.declared.statement.Statement.{Statement as Parsed};
+ghost use Rattle.parser.specs.Parsing.{fault_of, parsed_by, place_of};
+ghost use Rattle.parser.specs.Refusals.{IsParsingFault, IsRefused};
+ghost use Rattle.parser.specs.Statements.{is_statement_within};
+ghost use Rattle.parser.specs.Texts.{Is, IsNotServed};
 
 use crate::statements::whole;
 use expressions::{Refusal, Spelled};
@@ -18,11 +22,18 @@ use syntax::Statement;
 /// grammar is `Syntax` with the byte where no statement goes on so, or the text's length, and one past a limit that the
 /// text shows (depth 100, 64 columns, 16 sources) is `TooLong`.
 pub fn parse(alloc: Global, text: &str) -> R<Statement>
-    // A text whose tokens are refused is refused for the same.
-    ensures lexed { RefusesAs (lex.tokens text.now) result }
-    // The statement is what reading the tokens gives, unless memory runs out.
-    ensures exact { Parses text.now (lex.tokens text.now) result }
-    ensures refused { IfErr result (λ fault. IsParsingFault (length text.now) fault) }
+    // The statement is what reading the tokens gives, and a text whose tokens are refused is refused for the same, unless
+    // memory runs out.
+    ensures exact { Gives (λ s. s) result (parsed_by text.now (lex.tokens text.now)) }
+    // What is answered is the statement that the text is in the grammar, within the limits.
+    ensures found { IfOk result (λ s. Is text.now s × (is_statement_within s ≡ true)) }
+    // A text that is a statement within the limits is answered as that, unless memory runs out.
+    ensures only { (s : Parsed) → Is text.now s → is_statement_within s ≡ true → length text.now ≤ 65536 → Gives (λ s. s) result (Ok s) }
+    // One past the limits is refused for that.
+    ensures late { (s : Parsed) → Is text.now s → is_statement_within s ≡ false → Gives (λ s. s) result (Err Fault.TooLong) }
+    // So is one that isn't served.
+    ensures unserved { IsNotServed text.now → length text.now ≤ 65536 → Gives (λ s. s) result (Err (Fault.Unsupported Feature.Statement)) }
+    ensures refused { IfErr result (λ fault. IsRefused text.now fault) }
 {
     let found = tokens(alloc, text)?;
     match whole(alloc, text, &found) {

@@ -1,5 +1,7 @@
-use Rattle.std.proofs.Common.{sym}
+use Rattle.std.proofs.Common.{Ok, Err, map}
 use Rattle.lexer.specs.Lex as lex
+use Rattle.parser.proofs.Grammar.{exact_statement}
+use Rattle.parser.proofs.ParseLaws as laws
 use Rattle.parser.proofs.Same.{parses_ok, parses_err}
 use Rattle.parser.proofs.parsing.parse.Goals as goal
 
@@ -11,3 +13,27 @@ pub returns-clause-exact : goal.returns-clause-exact
 returns-clause-exact c =
     parses_err c.args.text.now (lex.tokens c.args.text.now) c.in_ok-found.found.items c.in-Err.refusal _ c.in_ok-found.ensures.exact
     (rw c.deref.ensures.value at c.in-Err.ensures) (rw c.deref-in-Err.ensures.value at c.fault.ensures.value)
+
+pub returns-in-Ok-clause-found : goal.returns-in-Ok-clause-found
+returns-in-Ok-clause-found c = laws.found exact_statement c.args.text.now (Ok c.in-Ok.statement) (returns-in-Ok-clause-exact c)
+
+pub returns-in-Ok-clause-only : goal.returns-in-Ok-clause-only
+returns-in-Ok-clause-only c = laws.only exact_statement c.args.text.now (Ok c.in-Ok.statement) (returns-in-Ok-clause-exact c)
+
+pub returns-clause-only : goal.returns-clause-only
+returns-clause-only c = laws.only exact_statement c.args.text.now (Err c.fault.result) (returns-clause-exact c)
+
+pub returns-in-Ok-clause-late : goal.returns-in-Ok-clause-late
+returns-in-Ok-clause-late c = laws.late exact_statement c.args.text.now (Ok c.in-Ok.statement) (returns-in-Ok-clause-exact c)
+
+pub returns-clause-late : goal.returns-clause-late
+returns-clause-late c = laws.late exact_statement c.args.text.now (Err c.fault.result) (returns-clause-exact c)
+
+pub returns-in-Ok-clause-unserved : goal.returns-in-Ok-clause-unserved
+returns-in-Ok-clause-unserved c = laws.unserved exact_statement c.args.text.now (Ok c.in-Ok.statement) (returns-in-Ok-clause-exact c)
+
+pub returns-clause-unserved : goal.returns-clause-unserved
+returns-clause-unserved c = laws.unserved exact_statement c.args.text.now (Err c.fault.result) (returns-clause-exact c)
+
+pub returns-clause-refused : goal.returns-clause-refused
+returns-clause-refused c = laws.refused_behind c.args.text.now (map lex.seen c.in_ok-found.found.items) c.fault.result c.in_ok-found.ensures.exact (returns-clause-exact c) c.fault.ensures.served
