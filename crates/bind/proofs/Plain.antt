@@ -11,7 +11,7 @@ use Rattle.bind.specs.Readings.{Reading, Condition, Always, Where, OrNulls, cros
 use Rattle.bind.specs.Comprehension.{is_true, given_row, or_null_row, rows_beside, nested, passes, IsTold, IsToldJoin, IsToldFilter, IsPlain, IsComprehension}
 use Rattle.bind.specs.Terms.{Term}
 use Rattle.bind.specs.Values.{Row, Environment}
-use Rattle.bind.proofs.PlainFlows.{collected_plain, followed_plain, for_each_plain}
+use Rattle.bind.proofs.PlainFlows.{collected_plain, for_each_plain}
 
 told_passed : {A : Type 0} (x : A) (xs : List A) (a : Answer (Option Bool)) → ((b : Option Bool) × (a ≡ Ok b))
     → followed_by (passed x a) (flow_of xs) ≡ flow_of (cond (is_true a) (x ∷ xs) xs)

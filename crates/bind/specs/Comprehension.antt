@@ -1,5 +1,5 @@
 -- A query that nothing refuses, as a plain comprehension over its sources' rows (SQL As Understood By SQLite, "SELECT", "Simple Select Processing").
-use Rattle.std.specs.Prelude.{◌≡◌, Bool, true, false, ◌||◌, List, [], ◌∷◌, ◌++◌, map, filter, flat_map, Option, Some, None, Ok, Err}
+use Rattle.std.specs.Prelude.{◌≡◌, Bool, true, false, List, [], ◌∷◌, ◌++◌, map, filter, flat_map, Option, Some, None, Ok, Err}
 use Rattle.std.specs.List.{AllByRecursion}
 use Rattle.sqlval.specs.Refusals.{Answer}
 use Rattle.sqlval.specs.declared.value.Value.{Value}

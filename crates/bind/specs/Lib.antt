@@ -1,3 +1,4 @@
+pub mod Bound
 pub mod Calm
 pub mod Comprehension
 pub mod Expressions

@@ -39,7 +39,8 @@ resolve_join scope kind None = good Always
 resolve_join scope join.Left (Some e) = known_map OrNulls (resolve false scope e)
 resolve_join scope kind (Some e) = known_map Where (resolve false scope e)
 
-abbrev resolve_sources : Lookup → List ScopeSource → List Join → Known (List ScopeSource × List (Name × Condition))
+-- the sources that are seen, and each with its condition
+abbrev pub resolve_sources : Lookup → List ScopeSource → List Join → Known (List ScopeSource × List (Name × Condition))
 resolve_sources look before [] = good (before, [])
 resolve_sources look before (j ∷ js) =
     noted (look j.source.name) and_then λ found.
@@ -48,11 +49,12 @@ resolve_sources look before (j ∷ js) =
     known_map (λ rest. (rest.0, (folded j.source.name, c) ∷ rest.1)) (resolve_sources look here js)
 
 -- the columns of the i-th source, as results
-abbrev cells_from : ℕ → ℕ → List ScopeColumn → List (Term × ScopeColumn)
+abbrev pub cells_from : ℕ → ℕ → List ScopeColumn → List (Term × ScopeColumn)
 cells_from s i [] = []
 cells_from s i (c ∷ cs) = (Cell s (At i) c.affinity c.collation, c) ∷ cells_from s (suc i) cs
 
-abbrev stars_from : ℕ → (Name → Bool) → List ScopeSource → List (Term × ScopeColumn)
+-- the columns of the sources of these names, as results
+abbrev pub stars_from : ℕ → (Name → Bool) → List ScopeSource → List (Term × ScopeColumn)
 stars_from i p [] = []
 stars_from i p (s ∷ ss) = (if p s.name && not s.needs_name then cells_from i 0 s.columns else []) ++ stars_from (suc i) p ss
 
@@ -61,29 +63,32 @@ abbrev plain_name : Tree → Option Name
 plain_name (tree.Column q n) = Some (folded n)
 plain_name _ = None
 
-abbrev result_column : Tree → Option Name → Term → Term × ScopeColumn
+-- a result of an expression, and the column that it is
+abbrev pub result_column : Tree → Option Name → Term → Term × ScopeColumn
 result_column e as_name t =
     (t, record { name = option_or (option_map folded as_name) (plain_name e); affinity = affinity t; collation = collation t })
 
 -- a source of the query itself, and of that name
-abbrev is_own : Option Name → ScopeSource → Bool
+abbrev pub is_own : Option Name → ScopeSource → Bool
 is_own None s = not s.needs_name
 is_own (Some q) s = not s.needs_name && is_same_name q s.name
 
 -- the number of its columns isn't known
-abbrev is_open_item : List ScopeSource → ResultItem → Bool
+abbrev pub is_open_item : List ScopeSource → ResultItem → Bool
 is_open_item scope All = list_any (λ s. is_own None s && not s.is_known) scope
 is_open_item scope (AllOf q) = list_any (λ s. is_own (Some q) s && not s.is_known) scope
 is_open_item scope (Of e n) = false
 
-abbrev resolve_item : List ScopeSource → ResultItem → Known (List (Term × ScopeColumn))
+-- a result, which may stand for several
+abbrev pub resolve_item : List ScopeSource → ResultItem → Known (List (Term × ScopeColumn))
 resolve_item scope All = unless (not (list_any (is_own None) scope)) Misuse (good (stars_from 0 (λ n. true) scope))
 resolve_item scope (AllOf q) =
     unless (not (list_any (is_own None) scope)) Misuse
     (unless (not (list_any (is_own (Some q)) scope)) NoSuch (good (stars_from 0 (is_same_name (folded q)) scope)))
 resolve_item scope (Of e n) = known_map (λ t. result_column e n t ∷ []) (resolve true scope e)
 
-abbrev resolve_items : List ScopeSource → List ResultItem → Known (List (Term × ScopeColumn))
+-- the results in the order of their text
+abbrev pub resolve_items : List ScopeSource → List ResultItem → Known (List (Term × ScopeColumn))
 resolve_items scope [] = good []
 resolve_items scope (i ∷ is) = both (λ x y. x ++ y) (resolve_item scope i) (resolve_items scope is)
 
@@ -115,7 +120,7 @@ offset_of None = 0
 offset_of (Some l) = unwrap_or l.offset 0
 
 -- the reading of a query, where its sources and expressions are looked up; so many sources of a trigger stand before its own
-abbrev as_reading : ℕ → Query → Bool → List (Name × Condition) → Option Term → List Term → List (Term × ScopeColumn) → List (Known Term × Bool) → Known Reading
+abbrev pub as_reading : ℕ → Query → Bool → List (Name × Condition) → Option Term → List Term → List (Term × ScopeColumn) → List (Known Term × Bool) → Known Reading
 as_reading outer q is_open sources filter keys results orders =
     let order : List (Term × Bool) = map (λ o. (meant o.0, o.1)) orders in
     let all : List Term = map (λ r. r.0) results ++ map (λ o. o.0) order in

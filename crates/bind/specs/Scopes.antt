@@ -46,23 +46,26 @@ abbrev is_named : Name → Option Name → Bool
 is_named n None = false
 is_named n (Some m) = is_same_name n m
 
-abbrev named_from : ℕ → ℕ → Name → List ScopeColumn → List Term
+-- the columns of that name
+abbrev pub named_from : ℕ → ℕ → Name → List ScopeColumn → List Term
 named_from s i n [] = []
 named_from s i n (c ∷ cs) =
     let rest = named_from s (suc i) n cs in
     if is_named n c.name then (Cell s (At i) c.affinity c.collation ∷ rest) else rest
 
 -- the columns of that name, or else the rowid
-abbrev named_in : ℕ → Name → ScopeSource → List Term
+abbrev pub named_in : ℕ → Name → ScopeSource → List Term
 named_in s n source =
     let columns = named_from s 0 n source.columns in
     if length columns == 0 && source.has_rowid && is_same_name n (codes "rowid") then (Cell s RowId (Some kind.Integer) Binary ∷ []) else columns
 
-abbrev fits : Option Name → ScopeSource → Bool
+-- the source may be meant by what is written before a column
+abbrev pub fits : Option Name → ScopeSource → Bool
 fits None source = not source.needs_name
 fits (Some q) source = is_same_name q source.name
 
-abbrev found : ℕ → Option Name → Name → List ScopeSource → List Term
+-- what a column may mean among these sources, counted from s
+abbrev pub found : ℕ → Option Name → Name → List ScopeSource → List Term
 found s q n [] = []
 found s q n (source ∷ sources) = (if fits q source then named_in s n source else []) ++ found (suc s) q n sources
 

@@ -14,18 +14,19 @@ use Rattle.bind.specs.Scopes.{ScopeColumn, table_scope}
 use Rattle.bind.specs.Values.{Row}
 
 -- a view's list of names, or its query's
-abbrev renamed : List Name → List ScopeColumn → List ScopeColumn
+abbrev pub renamed : List Name → List ScopeColumn → List ScopeColumn
 renamed [] cs = cs
 renamed (n ∷ ns) [] = []
 renamed (n ∷ ns) (c ∷ cs) = record c { name = Some n } ∷ renamed ns cs
 
-abbrev columns_of_object : (View → Known (List ScopeColumn × Bool)) → Option Object → Known (List ScopeColumn × Bool)
+-- the columns of a table, or of a view as it is looked at
+abbrev pub columns_of_object : (View → Known (List ScopeColumn × Bool)) → Option Object → Known (List ScopeColumn × Bool)
 columns_of_object view (Some (ATable t)) = good (table_scope t, true)
 columns_of_object view (Some (AView v)) = view v
 columns_of_object view _ = bad ([], false) NoSuch
 
 -- a view that stands in itself is refused before one that stands too deep
-abbrev unless_around : List Name → Name → Known (List ScopeColumn × Bool) → Known (List ScopeColumn × Bool)
+abbrev pub unless_around : List Name → Name → Known (List ScopeColumn × Bool) → Known (List ScopeColumn × Bool)
 unless_around around name k = if list_any (is_same_name name) around then bad ([], false) Misuse else k
 
 -- the columns of a table or a view, with room for so many views one within another; around are the views that this one stands in

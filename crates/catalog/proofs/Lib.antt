@@ -1,3 +1,4 @@
 pub mod Conversions
 mod DatabaseRows
+pub mod Joining
 mod ValueRows

@@ -1,3 +1,4 @@
 pub mod Database
 pub mod Laws
+pub mod Listed
 pub mod Rows

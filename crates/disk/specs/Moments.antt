@@ -1,6 +1,6 @@
 -- What follows from the definitions of the moments of a run.
 use Rattle.std.proofs.Common.{◌≡◌, inl, inr, ⊎_elim, ◌<◌, ◌≤◌, ◌+◌, ℕ, List, [], ◌∷◌, ◌++◌, length, refl, sym, ◌∙◌, ap, subst, arith, length-append}
-use Rattle.std.specs.Prelude.{slice_index_or, Result, Ok, Err, OnErr}
+use Rattle.std.specs.Prelude.{slice_index_or, Result, Ok, Err, OnOk, OnErr}
 use Rattle.std.proofs.lemmas.List.{get_or_append_left, get_or_at, append-nil, append_assoc}
 use Rattle.std.proofs.lemmas.Bool.{cases_lt}
 use Rattle.disk.specs.File.{Version, File, whole, versions, moment, versions_in, Elapses, Always, Phase, OnDb, OnLog, IsRun, Throughout, IsMoment, IsSynced, IsLeft, WasLeft}
@@ -118,6 +118,19 @@ always_both old mid new Good first second = record {
 
 pub always_weaker : (old new : File) (Good Better : List Version → Type 0) → ((vs : List Version) → Better vs → Good vs) → Always old new Better → Always old new Good
 always_weaker old new Good Better f all = record { elapses = all.elapses; each = λ t since until. f _ (all.each t since until) }
+
+-- a file that stays as it is
+pub stays : (Good : List Version → Type 0) (old new : File) → new ≡ old → Good (versions old) → Always old new Good
+stays Good old new same good = always_unsynced old new Good (elapses_same old new same) (ap (λ (f : File). f.past) same) (subst (λ (f : File). Good (versions f)) (sym same) good)
+
+-- a version that was added
+pub gains_good : (Good : List Version → Type 0) (v : Version) (old new : File) → Gains v old new → Good (versions old ++ v ∷ []) → Always old new Good
+gains_good Good v old new gains good = always_unsynced old new Good (elapses_gains v old new gains) gains.past (subst Good (sym (gains_versions v old new gains)) good)
+
+-- then a sync, done or failed
+pub after_sync : {T E : Type 0} (result : Result T E) (Good : List Version → Type 0) (v : Version) (old mid new : File) → Gains v old mid → OnOk result (Syncs mid new) → OnErr result (new ≡ mid) → Good (versions old ++ v ∷ []) → Good (whole mid.content ∷ []) → Always old new Good
+after_sync (Ok x) Good v old mid new gains done failed good at_end = always_synced old mid new Good (elapses_gains v old mid gains) gains.past done (subst Good (sym (gains_versions v old mid gains)) good) at_end
+after_sync (Err e) Good v old mid new gains done failed good at_end = subst (λ (f : File). Always old f Good) (sym failed) (gains_good Good v old mid gains good)
 
 -- at the end
 pub always_end : (old new : File) (Good : List Version → Type 0) → Always old new Good → Good (versions new)

@@ -1,1 +1,4 @@
+mod AddedLemmas
+mod InsertLemmas
+mod Greatest
 mod RowRows

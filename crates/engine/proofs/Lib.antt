@@ -1,2 +1,4 @@
 pub mod LineLaws
 pub mod NewFiles
+pub mod NewFileStops
+pub mod Opened

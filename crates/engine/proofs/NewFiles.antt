@@ -21,7 +21,7 @@ fits_empty size front served long =
       room = omega (arith, served.power, low, long);
     }
 
-overwritten_nothing : (bytes : List ℕ) → overwritten 0 bytes [] ≡ bytes
+pub overwritten_nothing : (bytes : List ℕ) → overwritten 0 bytes [] ≡ bytes
 overwritten_nothing bytes = search rules
 
 pub written_whole : (bytes : List ℕ) (start cut wrote synced : File) → Cuts 0 start cut → Writes 0 bytes cut wrote → Syncs wrote synced → IsSyncedAs bytes synced

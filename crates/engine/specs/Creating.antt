@@ -1,7 +1,7 @@
 -- What creating a database leaves, and why it is refused.
-use Rattle.std.specs.Prelude.{◌≡◌, ℕ, Bool, false, IsTrue, List, [], length, nat_lt, ◌==◌, if◌then◌else◌}
+use Rattle.std.specs.Prelude.{◌≡◌, ◌⊎◌, ℕ, Bool, true, false, IsTrue, List, [], length, nat_lt, ◌==◌, if◌then◌else◌}
 use Rattle.std.specs.List.{list_all}
-use Rattle.disk.specs.File.{File, IsSynced}
+use Rattle.disk.specs.File.{File, Version, IsSynced, IsLeft, Always}
 use Rattle.dbheader.specs.Header.{IsHeader, IsPageSize, empty_of}
 use Rattle.page.specs.Writing.{leaf_of}
 use Rattle.sqlval.specs.declared.fault.Fault.{Fault}
@@ -18,6 +18,7 @@ pub record Stays {D : Type 0} (tells : D → Bool) (file : D → File) (old new 
 -- File Format, "The Database Header", "B-tree Pages").
 pub record IsEmptyDatabase (page_size : ℕ) (bytes : List ℕ) : Type 0 where
   pub header : List ℕ
+  pub sized : length header ≡ 100
   pub says : IsHeader header (empty_of page_size)
   pub page : bytes ≡ leaf_of header page_size []
 
@@ -32,6 +33,19 @@ is_zero_byte byte = byte == 0
 -- a blank file: at most 65,536 bytes, all of them zero
 abbrev pub is_blank_content : List ℕ → Bool
 is_blank_content bytes = if nat_lt 65536 (length bytes) then false else list_all is_zero_byte bytes
+
+-- a blank file, or page 1 of the empty database
+abbrev pub IsBlankOrEmpty : ℕ → List ℕ → Type 0
+IsBlankOrEmpty page_size bytes = (is_blank_content bytes ≡ true) ⊎ IsEmptyDatabase page_size bytes
+
+-- a stop leaves a blank file or the empty database
+abbrev pub LeavesBlankOrEmpty : ℕ → List Version → Type 0
+LeavesBlankOrEmpty page_size versions = (c : List ℕ) → IsLeft versions c → IsBlankOrEmpty page_size c
+
+-- At each moment until now a stop leaves a blank file or the empty database, and the content is one of them too.
+pub record BecomesDatabase (page_size : ℕ) (old new : File) : Type 0 where
+  pub moments : Always old new (LeavesBlankOrEmpty page_size)
+  pub content : IsBlankOrEmpty page_size new.content
 
 -- Why no database of this page size is made: memory, a disk's failure, a page size that isn't served, or a file that is
 -- not blank.

@@ -2,7 +2,8 @@
 use Rattle.std.specs.Prelude.{◌≡◌, ◌⊎◌, ◌<◌, ℕ, Bool, Result, Ok, Err, ◌==◌, ◌||◌, nat_lt, ⊤, if◌then◌else◌}
 use Rattle.disk.specs.declared.device.Disk.{Ghosts}
 use Rattle.sqlval.specs.declared.fault.Fault.{Fault}
-use Rattle.sqlval.specs.declared.fault.Fault.TheVariants.{Failed, Misuse}
+use Rattle.sqlval.specs.declared.fault.Fault.TheVariants.{Failed, Misuse, Unsupported}
+use Rattle.sqlval.specs.declared.fault.Feature.TheVariants as feature
 use Rattle.sqlval.specs.declared.fault.Misuse.TheVariants.{Connection}
 use Rattle.engine.specs.declared.connections.Connections.{Connections}
 use Rattle.engine.specs.declared.opening.Engine.{Engine}
@@ -14,6 +15,10 @@ IsNoConnection connection = (connection ≡ 0) ⊎ (16 < connection)
 -- The first refusal: an engine whose commit failed answers nothing else, and a connection's number is from 1 to 16.
 abbrev pub first_refusal : Bool → ℕ → Result ⊤ Fault
 first_refusal has_failed connection = if has_failed then Err Failed else (if connection == 0 || nat_lt 16 connection then Err (Misuse Connection) else Ok tt)
+
+-- refused as a form or as a connection that isn't served yet
+abbrev pub IsUnserved : {A : Type 0} → Result A Fault → Type 0
+IsUnserved result = (result ≡ Err (Unsupported feature.NotBuilt)) ⊎ (result ≡ Err (Unsupported feature.Connection))
 
 module _ {D : Type 0} {g : Ghosts D} where
   -- a commit has failed, so that the files are to be opened anew

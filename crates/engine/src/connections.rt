@@ -1,14 +1,14 @@
 //! The connections: whose transaction reads what, and what is committed.
 
-ghost use Rattle.std.specs.Prelude.{◌≡◌, Err, IsTrue, IsFalse};
+ghost use Rattle.std.specs.Prelude.{◌≡◌, ◌&&◌, Ok, Err, IsTrue, IsFalse};
+ghost use Rattle.session.specs.Built as forms;
 
-use crate::binding::{BoundSource, bind_insert, bind_query};
-use crate::output::Rows;
 use crate::pager::{Writer, read_page};
-use crate::plan::{Plan, Scan, plan_of};
-use crate::schema::{Catalog, NewTable, new_table};
-use crate::{inserting, rowprog};
+use crate::schema::{NewTable, new_table};
+use bind::{BoundSource, bind_insert, bind_query};
+use catalog::Catalog;
 use disk::Disk;
+use rowprog::{Plan, Rows, Scan, lone_row, plan_of, table_rows};
 use session::is_built;
 use sqlval::{Damage, Fault, Feature, Misuse, R, Text};
 use std::alloc::Global;
@@ -44,7 +44,9 @@ pub struct Connections<D: Disk + Drop> {
     has_failed: bool,
 }
 
-fn not_built<T>() -> R<T> {
+fn not_built<T>() -> R<T>
+    ensures { result ≡ Err (Fault.Unsupported Feature.NotBuilt) }
+{
     Err(Fault::Unsupported(Feature::NotBuilt))
 }
 
@@ -63,7 +65,7 @@ fn write_of(statement: &Statement) -> Option<Write<'_>> {
 }
 
 impl<D: Disk + Drop> Connections<D> {
-    ghost use Rattle.engine.specs.Known.{IsNoConnection, first_refusal, has_failed_in};
+    ghost use Rattle.engine.specs.Known.{IsNoConnection, IsUnserved, first_refusal, has_failed_in};
 
     /// The connections of a database whose schema is read, all of them idle.
     pub fn new(alloc: Global, log: Log<D>, catalog: Catalog) -> Connections<D> {
@@ -112,6 +114,8 @@ impl<D: Disk + Drop> Connections<D> {
     pub fn execute(&mut self, connection: u32, statement: &Statement) -> R<Rows>
         ensures failed { IsTrue (has_failed_in self.old) → (result ≡ Err Fault.Failed) × (self.new ≡ self.old) }
         ensures numbered { IsFalse (has_failed_in self.old) → IsNoConnection connection → (result ≡ Err (Fault.Misuse Misuse.Connection)) × (self.new ≡ self.old) }
+        // What isn't served yet, a form or a connection, is refused as such, and changes nothing.
+        ensures unbuilt { first_refusal (has_failed_in self.old) connection ≡ Ok tt → IsFalse (forms.is_built statement.now && forms.is_served connection) → IsUnserved result × (self.new ≡ self.old) }
     {
         self.check(connection)?;
         if !is_built(statement) {
@@ -212,17 +216,17 @@ impl<D: Disk + Drop> Connections<D> {
         let snapshot = self.snapshot();
         if let Transaction::Writing(writer) = &self.transaction {
             if let Some(page) = writer.find(source.root) {
-                return rowprog::table_rows(self.alloc, page, source, &plan.outputs);
+                return table_rows(self.alloc, page, source, &plan.outputs);
             }
         }
         let page = read_page(self.alloc, &mut self.log, snapshot, source.root)?;
-        rowprog::table_rows(self.alloc, &page, source, &plan.outputs)
+        table_rows(self.alloc, &page, source, &plan.outputs)
     }
 
     fn select(&mut self, query: &Query) -> R<Rows> {
         let plan = plan_of(bind_query(self.alloc, query, &self.catalog)?);
         let rows = match plan.scan {
-            Scan::Once => rowprog::lone_row(self.alloc, &plan.outputs)?,
+            Scan::Once => lone_row(self.alloc, &plan.outputs)?,
             Scan::Table(source) => self.rows_of(&plan, source)?,
         };
         if matches!(&self.transaction, Transaction::Begun) {
@@ -279,10 +283,10 @@ impl<D: Disk + Drop> Connections<D> {
         let bound = bind_insert(self.alloc, insert, &self.catalog)?;
         let number = bound.table.root;
         let bytes = match writer.find(number) {
-            Some(page) => inserting::insert(self.alloc, page, number, bound)?,
+            Some(page) => dml::insert(self.alloc, page, number, bound)?,
             None => {
                 let page = read_page(self.alloc, &mut self.log, writer.snapshot(), number)?;
-                inserting::insert(self.alloc, &page, number, bound)?
+                dml::insert(self.alloc, &page, number, bound)?
             }
         };
         writer.put(PageImage { number, bytes })

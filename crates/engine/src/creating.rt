@@ -4,7 +4,8 @@ ghost use Rattle.std.specs.Prelude.{◌≡◌, ◌≢◌, ℕ, List, [], true, f
 ghost use Rattle.std.specs.List.{list_all};
 ghost use Rattle.dbheader.specs.Header.{IsPageSize};
 ghost use Rattle.sqlval.specs.declared.fault.Fault.TheVariants.{Io, Memory};
-ghost use Rattle.engine.specs.Creating.{is_blank_content, is_zero_byte, IsCreateRefusal, IsEmptyDatabase, IsSyncedAs, Stays};
+ghost use Rattle.disk.specs.File.{IsSynced};
+ghost use Rattle.engine.specs.Creating.{is_blank_content, is_zero_byte, BecomesDatabase, IsCreateRefusal, IsEmptyDatabase, IsSyncedAs, Stays};
 
 use dbheader::{Header, is_page_size};
 use disk::Disk;
@@ -73,6 +74,7 @@ fn empty_page(alloc: Global, page_size: u32) -> R<Vec<u8>>
 fn put_empty<D: Disk>(db: &mut D, log: &mut D, page: &[u8]) -> R<()>
     ensures made { IsTrue (D.tells db.old) → OnOk result (IsSyncedAs page.now (D.file db.new)) }
     ensures emptied { IsTrue (D.tells log.old) → OnOk result (IsSyncedAs [] (D.file log.new)) }
+    ensures stop { (size : ℕ) → IsPageSize size → IsEmptyDatabase size page.now → IsTrue (D.tells db.old) → IsSynced (D.file db.old) → is_blank_content (D.file db.old).content ≡ true → BecomesDatabase size (D.file db.old) (D.file db.new) }
     ensures refused { IfErr result (λ fault. fault ≡ Io) }
 {
     log.cut(0)?;
@@ -92,8 +94,9 @@ pub fn create<D: Disk>(alloc: Global, db: &mut D, log: &mut D, page_size: u32) -
     ensures blank { IsTrue (D.tells db.old) → OnOk result (is_blank_content (D.file db.old).content ≡ true) }
     ensures refused { IfErr result (λ fault. IsCreateRefusal page_size (IsTrue (D.tells db.old) → is_blank_content (D.file db.old).content ≡ false) fault) }
     // A refusal but for a disk's failure changes nothing.
-    ensures db_kept { IfErr result (λ fault. fault ≢ Io → Stays D.tells D.file db.old db.new) }
-    ensures log_kept { IfErr result (λ fault. fault ≢ Io → Stays D.tells D.file log.old log.new) }
+    ensures kept { IfErr result (λ fault. fault ≢ Io → Stays D.tells D.file db.old db.new × Stays D.tells D.file log.old log.new) }
+    // Of a blank file, synced before, a stop at any moment leaves a blank file or the empty database, and so it is on each exit.
+    ensures stop { IsTrue (D.tells db.old) → IsSynced (D.file db.old) → is_blank_content (D.file db.old).content ≡ true → BecomesDatabase page_size (D.file db.old) (D.file db.new) }
 {
     if !is_page_size(page_size) {
         return Err(Fault::Unsupported(Feature::PageSize));

@@ -1,15 +1,20 @@
 //! Opening a database file with its log.
 
 ghost use Rattle.std.specs.Prelude.{◌≡◌, Err, IsTrue, IsFalse};
+ghost use Rattle.disk.specs.File.{IsSynced, Throughout};
+ghost use Rattle.walframe.specs.Accepted.{Leaves};
+ghost use Rattle.wal.specs.Known.{db_of, known_of, log_of};
+ghost use Rattle.engine.specs.Opening.{LeavesOpened};
 
 use crate::connections::Connections;
 use crate::creating::is_blank;
-use crate::output::Rows;
 use crate::pager::{HEADER_LEN, header_of, read_page};
-use crate::schema::{Catalog, load};
+use crate::schema::load;
+use catalog::Catalog;
 use dbheader::Header;
 use disk::Disk;
 use parser::parse;
+use rowprog::Rows;
 use sqlval::{Damage, Fault, Misuse, R};
 use std::alloc::Global;
 use wal::{Log, Refused};
@@ -23,7 +28,9 @@ pub struct Engine<D: Disk + Drop> {
 }
 
 /// The header of a database file.
-fn file_header<D: Disk>(db: &mut D) -> R<Header> {
+fn file_header<D: Disk>(db: &mut D) -> R<Header>
+    ensures kept { Leaves D.tells D.file db.old db.new }
+{
     if is_blank(db)? {
         return Err(Fault::Blank);
     }
@@ -36,7 +43,9 @@ fn file_header<D: Disk>(db: &mut D) -> R<Header> {
 }
 
 /// The schema of the newest view, whose page 1 has to say the view's size and page size.
-fn newest_schema<D: Disk + Drop>(alloc: Global, log: &mut Log<D>) -> R<Catalog> {
+fn newest_schema<D: Disk + Drop>(alloc: Global, log: &mut Log<D>) -> R<Catalog>
+    ensures kept { (known_of log.new ≡ known_of log.old) × Leaves D.tells D.file (db_of log.old) (db_of log.new) × Leaves D.tells D.file (log_of log.old) (log_of log.new) }
+{
     let snapshot = log.begin();
     let page = read_page(alloc, log, snapshot, 1)?;
     let header = header_of(&page)?;
@@ -50,7 +59,10 @@ fn newest_schema<D: Disk + Drop>(alloc: Global, log: &mut Log<D>) -> R<Catalog> 
 }
 
 /// Checks the newest view, and then takes off the log what stands behind its committed frames.
-fn started<D: Disk + Drop>(alloc: Global, log: &mut Log<D>) -> R<Catalog> {
+fn started<D: Disk + Drop>(alloc: Global, log: &mut Log<D>) -> R<Catalog>
+    ensures stop { IsFalse (known_of log.old).has_failed → IsTrue (D.tells (db_of log.old)) → IsTrue (D.tells (log_of log.old)) → IsSynced (D.file (db_of log.old)) → IsSynced (D.file (log_of log.old))
+        → Throughout (LeavesOpened (D.file (db_of log.old)) (D.file (log_of log.old))) (D.file (db_of log.old)) (D.file (log_of log.old)) (D.file (db_of log.new)) (D.file (log_of log.new)) }
+{
     let catalog = newest_schema(alloc, log)?;
     log.cut_tail()?;
     Ok(catalog)

@@ -7,11 +7,9 @@ ghost use Rattle.engine.specs.Replies.{reply_of, values_of};
 
 use crate::literals::put_row;
 use crate::refusals::put_refusal;
+use rowprog::Rows;
 use sqlval::{R, Row};
 use std::alloc::{AllocError, Global};
-
-/// The rows of a reply.
-pub type Rows = Vec<Row>;
 
 fn put_rows(alloc: Global, out: &mut Vec<u8>, rows: &[Row]) -> Result<(), AllocError>
     ensures { OnOk result (out.new.items ≡ out.old.items ++ flat_map row_line (map values_of rows.now)) }

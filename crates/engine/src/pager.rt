@@ -2,6 +2,8 @@
 
 ghost use Rattle.std.specs.Prelude.{◌≡◌, IfOk};
 ghost use Rattle.dbheader.specs.Header.{IsPageSize};
+ghost use Rattle.wal.specs.Known.{db_of, known_of, log_of};
+ghost use Rattle.walframe.specs.Accepted.{Leaves};
 
 use dbheader::Header;
 use disk::Disk;
@@ -23,7 +25,9 @@ pub fn read_page<D: Disk + Drop>(
     log: &mut Log<D>,
     snapshot: Snapshot,
     number: u32,
-) -> R<Vec<u8>> {
+) -> R<Vec<u8>>
+    ensures kept { (known_of log.new ≡ known_of log.old) × Leaves D.tells D.file (db_of log.old) (db_of log.new) × Leaves D.tells D.file (log_of log.old) (log_of log.new) }
+{
     let mut page = vec![in alloc; 0; log.page_size() as usize]?;
     log.page(snapshot, number, &mut page)?;
     Ok(page)

@@ -1,130 +1,14 @@
 //! The objects of the schema: the tables, as page 1 lists them.
 
+use catalog::{Catalog, Table, columns_of, is_reserved};
 use page::Cell;
 use parser::parse;
 use record::{Record, encode, is_storable};
 use session::is_table_built;
-use sqlval::{Affinity, Damage, Fault, Feature, Field, Misuse, Name, R, Text, Value, affinity_of};
+use sqlval::{Damage, Fault, Feature, Field, Misuse, Name, R, Text, Value};
 use std::alloc::Global;
-use syntax::{ColumnDefinition, Create, DeclaredType, NewObject, Statement, TableDefinition};
+use syntax::{Create, NewObject, Statement, TableDefinition};
 use tabletree::{Leaf, next_rowid, with_rows};
-
-/// A column of a table.
-#[derive(Drop)]
-pub struct Column {
-    pub name: Name,
-    pub affinity: Affinity,
-}
-
-/// A table, and the page that its tree begins at.
-#[derive(Drop)]
-pub struct Table {
-    pub name: Name,
-    pub columns: Vec<Column>,
-    pub root: u32,
-}
-
-impl Table {
-    /// The place of a column.
-    pub fn place_of(&self, name: &str) -> Option<usize> {
-        self.columns
-            .as_slice()
-            .iter()
-            .position(|column| column.name.is_same(name))
-    }
-}
-
-/// The tables of a database: those that are committed, and behind them those that a transaction has made.
-#[derive(Drop)]
-pub struct Catalog {
-    tables: Vec<Table>,
-    committed: usize,
-}
-
-impl Catalog {
-    fn empty(alloc: Global) -> Catalog {
-        Catalog {
-            tables: Vec::new(alloc),
-            committed: 0,
-        }
-    }
-
-    /// The table of a name.
-    pub fn table(&self, name: &str) -> Option<&Table> {
-        self.tables
-            .as_slice()
-            .iter()
-            .find(|table| table.name.is_same(name))
-    }
-
-    /// Makes room for one more table.
-    pub fn reserve(&mut self) -> R<()> {
-        self.tables.reserve(1)?;
-        Ok(())
-    }
-
-    /// Adds a table that isn't committed yet.
-    pub fn add(&mut self, table: Table) -> R<()> {
-        self.tables.push(table)?;
-        Ok(())
-    }
-
-    /// The tables so far are committed.
-    pub fn keep(&mut self) {
-        self.committed = self.tables.len();
-    }
-
-    /// Drops the tables that aren't committed.
-    pub fn forget(&mut self) {
-        self.tables.truncate(self.committed);
-    }
-}
-
-/// The words of a type, joined by spaces.
-fn joined(alloc: Global, declared: &DeclaredType) -> R<String> {
-    let mut text = String::new(alloc);
-    for word in declared.words.as_slice() {
-        if !text.is_empty() {
-            text.push(' ')?;
-        }
-        text.push_str(word.as_str())?;
-    }
-    Ok(text)
-}
-
-fn column_of(alloc: Global, definition: &ColumnDefinition) -> R<Column> {
-    let declared = joined(alloc, &definition.declared)?;
-    let Some(affinity) = affinity_of(declared.as_str()) else {
-        return Err(Fault::Unsupported(Feature::RealColumn));
-    };
-    Ok(Column {
-        name: definition.name.copy(alloc)?,
-        affinity,
-    })
-}
-
-/// The columns that a definition gives a table.
-pub fn columns_of(alloc: Global, definition: &TableDefinition) -> R<Vec<Column>> {
-    let mut columns: Vec<Column> = Vec::new(alloc);
-    for definition in definition.columns.as_slice() {
-        let name = definition.name.as_str();
-        if columns
-            .as_slice()
-            .iter()
-            .any(|column| column.name.is_same(name))
-        {
-            return Err(Fault::Misuse(Misuse::DoubledColumn));
-        }
-        columns.push(column_of(alloc, definition)?)?;
-    }
-    Ok(columns)
-}
-
-/// Whether an object may not be named so.
-pub fn is_reserved(name: &str) -> bool {
-    let name = name.as_bytes();
-    name.len() >= 7 && name[..7].eq_ignore_ascii_case(b"sqlite_")
-}
 
 /// A row of the schema table.
 #[derive(Clone, Copy)]

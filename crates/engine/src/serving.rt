@@ -2,8 +2,9 @@
 
 use crate::lines::{read_line, split_line};
 use crate::opening::Engine;
-use crate::output::{Rows, put_reply};
+use crate::output::put_reply;
 use disk::Disk;
+use rowprog::Rows;
 use sqlval::{Fault, R};
 use std::io::{BufRead, Write};
 

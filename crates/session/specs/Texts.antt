@@ -11,7 +11,7 @@ pub record Grammar : Type 1 where
   -- of the first token that is refused: a syntax error or a real
   pub refused_token : List ℕ → Option Refusal
   -- its first word, or the word of its PRAGMA, is that of a statement that isn't served
-  pub is_unserved : List ℕ → Bool
+  pub IsUnserved : List ℕ → Type 0
   -- the text is a statement, which reads so; it is one at most
   pub Reads : List ℕ → Statement → Type 0
   -- the text is none, and is refused at that byte
@@ -32,14 +32,14 @@ Passes g text =
 
 -- neither too long, nor refused for a token, nor of a statement that isn't served
 abbrev pub IsCandidate : Grammar → List ℕ → Type 0
-IsCandidate g text = (is_long text ≡ false) × (g.refused_token text ≡ None) × (g.is_unserved text ≡ false)
+IsCandidate g text = (is_long text ≡ false) × (g.refused_token text ≡ None) × (g.IsUnserved text → ⊥)
 
 -- what the text alone is refused for
 abbrev pub IsTextFault : Grammar → List ℕ → Refusal → Type 0
 IsTextFault g text r =
     (is_long text ≡ true) × (r ≡ TooLong)
     ⊎ (is_long text ≡ false) × (g.refused_token text ≡ Some r)
-    ⊎ (is_long text ≡ false) × (g.refused_token text ≡ None) × (g.is_unserved text ≡ true) × (r ≡ Unsupported)
+    ⊎ (is_long text ≡ false) × (g.refused_token text ≡ None) × g.IsUnserved text × (r ≡ Unsupported)
     ⊎ IsCandidate g text × ((place : ℕ) × g.Leaves text place × ((r ≡ Syntax place) ⊎ (r ≡ TooLong) × Passes g text))
     ⊎ IsCandidate g text × (s : Statement) × g.Reads text s × (within s ≡ false) × (r ≡ TooLong)
 

@@ -4,9 +4,8 @@ use Rattle.std.specs.Prelude.{Result, Ok, Err, OnOk, OnErr}
 use Rattle.disk.specs.File.{File, Always, OnDb, OnLog, Throughout, whole, versions}
 use Rattle.disk.specs.Calls.{Syncs}
 use Rattle.disk.specs.Left.{left_synced}
-use Rattle.disk.specs.Moments.{elapses_refl, always_synced, always_weaker, always_end}
+use Rattle.disk.specs.Moments.{elapses_refl, always_synced, always_weaker, always_end, stays}
 use Rattle.wal.specs.Opens.{LeavesOld, LeavesAsBefore}
-use Rattle.wal.proofs.Halting.{stays}
 
 pub old_stays : (old new : File) → new ≡ old → Always old new (LeavesOld old)
 old_stays old new same = stays (LeavesOld old) old new same (λ c left. inl left)

@@ -5,24 +5,11 @@ use Rattle.std.proofs.lemmas.List.{append-nil, ext_get_or, get_or-replicate, nil
 use Rattle.disk.specs.File.{Version, File, IsSynced, IsLeft, Always, whole, versions, version_at}
 use Rattle.disk.specs.Calls.{overwritten, write_version, cut_version, Gains, Writes, FailsToWrite, Cuts, FailsToCut, Syncs}
 use Rattle.disk.specs.Left.{left_synced, left_cut, versions_push}
-use Rattle.disk.specs.Moments.{alone, gains_versions, elapses_same, elapses_gains, always_unsynced, always_synced, always_both, always_weaker}
+use Rattle.disk.specs.Moments.{alone, gains_versions, elapses_same, elapses_gains, always_unsynced, always_synced, always_both, always_weaker, stays, gains_good, after_sync}
 use Rattle.walframe.specs.declared.heading.LogHeader.{LogHeader}
 use Rattle.walframe.specs.Log.{header_bytes}
 use Rattle.wal.specs.Stops.{LeavesOneOf, LeavesHeader, AreEither, LeavesWriting, zeros}
 use Rattle.wal.specs.Stands.{front_at}
-
--- a file that stays as it is
-pub stays : (Good : List Version → Type 0) (old new : File) → new ≡ old → Good (versions old) → Always old new Good
-stays Good old new same good = always_unsynced old new Good (elapses_same old new same) (ap (λ (f : File). f.past) same) (subst (λ (f : File). Good (versions f)) (sym same) good)
-
--- a version that was added
-pub gains_good : (Good : List Version → Type 0) (v : Version) (old new : File) → Gains v old new → Good (versions old ++ v ∷ []) → Always old new Good
-gains_good Good v old new gains good = always_unsynced old new Good (elapses_gains v old new gains) gains.past (subst Good (sym (gains_versions v old new gains)) good)
-
--- then a sync, done or failed
-pub after_sync : {T E : Type 0} (result : Result T E) (Good : List Version → Type 0) (v : Version) (old mid new : File) → Gains v old mid → OnOk result (Syncs mid new) → OnErr result (new ≡ mid) → Good (versions old ++ v ∷ []) → Good (whole mid.content ∷ []) → Always old new Good
-after_sync (Ok x) Good v old mid new gains done failed good at_end = always_synced old mid new Good (elapses_gains v old mid gains) gains.past done (subst Good (sym (gains_versions v old mid gains)) good) at_end
-after_sync (Err e) Good v old mid new gains done failed good at_end = subst (λ (f : File). Always old f Good) (sym failed) (gains_good Good v old mid gains good)
 
 -- a log that is cut
 

@@ -5,7 +5,7 @@ use Rattle.std.proofs.lemmas.List.{append-nil, take-append-drop, take_all, take_
 use Rattle.std.proofs.lemmas.Bool.{cases_lt, cases_Bool}
 use Rattle.disk.specs.File.{Version, File, IsSynced, IsLeft, Always, whole, version_at}
 use Rattle.disk.specs.Left.{Begins, left_begins, left_synced}
-use Rattle.disk.specs.Moments.{alone}
+use Rattle.disk.specs.Moments.{alone, stays}
 use Rattle.walframe.specs.declared.framing.FrameHeader.{FrameHeader}
 use Rattle.walframe.specs.declared.heading.LogHeader.{LogHeader}
 use Rattle.walframe.specs.declared.sums.Sum.{Sum}
@@ -21,7 +21,6 @@ use Rattle.wal.specs.Stands.{LogStands, header_where, front_at, log_front, log_e
 use Rattle.wal.specs.Stops.{LeavesEither, LeavesCommits, AreEither, LeavesWriting, zeros}
 use Rattle.wal.proofs.Appending.{IsFront, FrontOf, IsGrown, IsCommit, no_frame_past, blank_head, grown_head}
 use Rattle.wal.proofs.FrameLists.{framed_front, framed_len}
-use Rattle.wal.proofs.Halting.{stays}
 
 -- whether a frame is right can be told
 right_or_not : (h : LogHeader) (log : List ℕ) (k : ℕ) → IsFrame h log k ⊎ (IsFrame h log k → ⊥)

@@ -12,5 +12,6 @@ returns-clause-refused c =
 
 pub returns-clause-made : goal.returns-clause-made
 returns-clause-made c =
+    let long : length c.write-header.result ≡ 100 = search rules in
     let says = subst (λ (header : Header). IsHeader c.write-header.result header) c.empty.ensures c.write-header.ensures.is in
-    IfOk-weaker c.build.result _ _ (λ page h. record { header = c.write-header.result; says = says; page = h }) c.build.ensures.exact
+    IfOk-weaker c.build.result _ _ (λ page h. record { header = c.write-header.result; sized = long; says = says; page = h }) c.build.ensures.exact

@@ -1,6 +1,9 @@
 //! How a query's rows are found.
 
-use crate::binding::{BoundQuery, BoundSource, Output};
+ghost use Rattle.std.specs.Prelude.{◌≡◌};
+ghost use Rattle.rowprog.specs.Rows.{scan_of};
+
+use bind::{BoundQuery, BoundSource, Output};
 
 /// Where the rows come from.
 #[derive(Clone, Copy, Debug, PartialEq, Eq)]
@@ -18,8 +21,11 @@ pub struct Plan {
     pub outputs: Vec<Output>,
 }
 
-/// The plan of a query.
-pub fn plan_of(query: BoundQuery) -> Plan {
+/// The plan of a query: its source is scanned, and its outputs are given.
+pub fn plan_of(query: BoundQuery) -> Plan
+    ensures scan { result.scan ≡ scan_of query.source }
+    ensures outputs { result.outputs ≡ query.outputs }
+{
     let BoundQuery { source, outputs } = query;
     let scan = match source {
         Some(source) => Scan::Table(source),

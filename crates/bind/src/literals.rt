@@ -1,0 +1,58 @@
+//! The values of literals.
+
+ghost use Rattle.std.specs.Prelude.{◌≡◌, ◌⊎◌, [], pos, neg_ℤ, true, false, Bool, List, IfOk, IfErr, Ok, Err};
+ghost use Rattle.sqlval.specs.Conversion.{word};
+ghost use Rattle.sqlval.specs.Refusals as refusal;
+ghost use Rattle.bind.specs.Bound.{Answers, Means, is_literal};
+ghost use Rattle.bind.specs.Expressions.{resolve};
+ghost use Rattle.bind.specs.Known.{meant};
+ghost use Rattle.bind.specs.Scopes.{ScopeSource};
+ghost use Rattle.bind.specs.Values.{Environment, value as value_of};
+ghost use Rattle.bind.specs.declared.queries.Output.TheVariants as out;
+
+use sqlval::{Fault, Feature, R, Value};
+use std::alloc::Global;
+use syntax::{Expr, Node};
+
+/// The integer of a number.
+fn positive(number: u64) -> R<Value>
+    ensures { Answers (word (pos number)) result }
+{
+    match i64::try_from(number) {
+        Ok(number) => Ok(Value::Int(number)),
+        Err(_) => Err(Fault::RealRefused),
+    }
+}
+
+/// The integer of a number behind a minus.
+fn negative(number: u64) -> R<Value>
+    ensures { Answers (word (neg_ℤ (pos number))) result }
+{
+    if number == 1 << 63 {
+        return Ok(Value::Int(i64::MIN));
+    }
+    match i64::try_from(number) {
+        Ok(number) => Ok(Value::Int(-number)),
+        Err(_) => Err(Fault::RealRefused),
+    }
+}
+
+/// The value of a literal. `RealRefused` where its number is past 64 bits, `Unsupported(NotBuilt)` of another expression.
+pub fn literal(alloc: Global, value: &Expr) -> R<Value>
+    ensures found { IfOk result (λ v. (totals : Bool) (scope : List ScopeSource) → Means (out.Literal v) (resolve totals scope value.now)) }
+    ensures refused { IfErr result (λ fault. (fault ≡ Fault.Memory)
+        ⊎ (fault ≡ Fault.Unsupported Feature.NotBuilt) × (is_literal value.now ≡ false)
+        ⊎ (fault ≡ Fault.RealRefused) × ((totals : Bool) (scope : List ScopeSource) (env : Environment) → value_of (meant (resolve totals scope value.now)) env ≡ Err refusal.RealRefused)) }
+{
+    match &value.node {
+        Node::Null => Ok(Value::Null),
+        Node::Integer(number) => positive(*number),
+        Node::Text(text) => Ok(Value::Text(text.copy(alloc)?)),
+        Node::Blob(bytes) => Ok(Value::Blob(bytes.copy(alloc)?)),
+        Node::Negated(operand) => match &operand.node {
+            Node::Integer(number) => negative(*number),
+            _ => Err(Fault::Unsupported(Feature::NotBuilt)),
+        },
+        _ => Err(Fault::Unsupported(Feature::NotBuilt)),
+    }
+}

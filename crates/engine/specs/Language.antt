@@ -1,0 +1,74 @@
+-- The grammar of SQL, as the definitions of steps by texts and of files take it.
+use Rattle.std.specs.Prelude.{◌≡◌, ◌≤◌, not, ℕ, true, List, length, [], ◌++◌, filter, Option, Some, None, Result, Ok, Err}
+use Rattle.lexer.specs.Cut.{Cuts}
+use Rattle.lexer.specs.Lex.{Lexed, tokens}
+use Rattle.sqlval.specs.Names.{is_same_name}
+use Rattle.sqlval.specs.Refusals.{Refusal, refusal_of}
+use Rattle.sqlval.specs.declared.fault.Fault.{Fault}
+use Rattle.sqlval.specs.declared.fault.Fault.TheVariants as fault
+use Rattle.syntax.specs.declared.create.NewObject.{NewObject}
+use Rattle.syntax.specs.declared.create.NewObject.TheVariants as object
+use Rattle.syntax.specs.declared.statement.Statement.TheVariants as statement
+use Rattle.catalog.specs.Database.{Name, Database}
+use Rattle.bind.specs.Known.{faults}
+use Rattle.bind.specs.Schema.{create}
+use Rattle.parser.specs.NewObjects.{is_object_within}
+use Rattle.parser.specs.Parsing.{parsed_by}
+use Rattle.parser.specs.Texts.{Is, IsNotServed}
+use Rattle.filecheck.specs.Schema.{Language}
+use Rattle.session.specs.Texts.{Grammar}
+
+-- ---- texts of statements
+
+-- why a text is refused whose tokens are
+abbrev token_refusal : Result (List Lexed) Fault → Option Refusal
+token_refusal (Ok ts) = None
+token_refusal (Err e) = Some (refusal_of e)
+
+-- the text is outside the grammar, from this byte on
+abbrev pub Leaves : List ℕ → ℕ → Type 0
+Leaves text place = parsed_by text (tokens text) ≡ Err (fault.Syntax place)
+
+-- the second text goes on behind the tokens of the first
+pub record Begins (front text : List ℕ) : Type 0 where
+  pub tokens : List Lexed
+  pub more : List Lexed
+  pub front_cut : Cuts 0 false front tokens
+  pub text_cut : Cuts 0 false text (tokens ++ more)
+
+-- what steps by texts are to know of the grammar
+abbrev pub grammar : Grammar
+grammar = record {
+  refused_token = λ text. token_refusal (tokens text);
+  IsUnserved = IsNotServed;
+  Reads = Is;
+  Leaves = Leaves;
+  Begins = Begins;
+}
+
+-- ---- texts of the schema
+
+abbrev name_of : NewObject → Name
+name_of (object.Table t) = t.name
+name_of (object.Index i) = i.name
+name_of (object.View v) = v.name
+name_of (object.Trigger t) = t.name
+
+-- the objects of other names
+abbrev others : Database → Name → Database
+others db name = filter (λ o. not (is_same_name name o.0)) db
+
+-- The text, with what may stand around its tokens, is a CREATE of this object within the limits.
+pub record Creates (text : List ℕ) (made : NewObject) : Type 0 where
+  pub sql : List ℕ
+  pub is : Is text (statement.Create (record { sql = sql; object = made }))
+  pub within : is_object_within made ≡ true
+  pub short : length text ≤ 65536
+
+-- a CREATE of this object is not refused beside the others
+abbrev pub Accepts : Database → NewObject → Type 0
+Accepts db made = faults (create (others db (name_of made)) made) ≡ []
+
+-- what is known of SQL where files are read
+abbrev pub language : Language
+language = record { Creates = Creates; Accepts = Accepts }
