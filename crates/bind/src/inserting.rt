@@ -1,5 +1,6 @@
 //! Insertions whose names are looked up.
 
+ghost use Rattle.catalog.specs.Faults.{IsNoFileFault};
 ghost use Rattle.std.specs.Prelude.{◌≡◌, ◌⊎◌, Some, IfOk, IfErr};
 ghost use Rattle.std.specs.List.{position_from};
 ghost use Rattle.sqlval.specs.Names.{is_same_name};
@@ -30,7 +31,9 @@ fn place_in(names: &[Name], column: &str) -> Option<usize>
 }
 
 /// Each name of the list is one of the table's columns, and stands there once.
-fn check_list(alloc: Global, table: &Table, names: &[Name]) -> R<()> {
+fn check_list(alloc: Global, table: &Table, names: &[Name]) -> R<()>
+    ensures calm { IfErr result (λ fault. IsNoFileFault fault) }
+{
     for (index, name) in names.iter().enumerate() {
         if table.place_of(name.as_str()).is_none() {
             return Err(missing(alloc, Object::Column, name));
@@ -42,7 +45,9 @@ fn check_list(alloc: Global, table: &Table, names: &[Name]) -> R<()> {
     Ok(())
 }
 
-fn places_of(alloc: Global, table: &Table, list: &Option<Many<Name>>) -> R<Vec<Option<usize>>> {
+fn places_of(alloc: Global, table: &Table, list: &Option<Many<Name>>) -> R<Vec<Option<usize>>>
+    ensures calm { IfErr result (λ fault. IsNoFileFault fault) }
+{
     let mut places = Vec::new(alloc);
     if let Some(names) = list {
         check_list(alloc, table, names.as_slice())?;
@@ -58,7 +63,8 @@ fn places_of(alloc: Global, table: &Table, list: &Option<Many<Name>>) -> R<Vec<O
 }
 
 fn values_of(alloc: Global, row: &[Expr], count: usize) -> R<Vec<Value>>
-    ensures { IfOk result (λ values. IsRowOf count values row.now) }
+    ensures row { IfOk result (λ values. IsRowOf count values row.now) }
+    ensures calm { IfErr result (λ fault. IsNoFileFault fault) }
 {
     if row.len() != count {
         return Err(Fault::Misuse(Misuse::Count));
@@ -71,7 +77,8 @@ fn values_of(alloc: Global, row: &[Expr], count: usize) -> R<Vec<Value>>
 }
 
 fn written_rows(alloc: Global, written: &[Many<Expr>], count: usize) -> R<Vec<Vec<Value>>>
-    ensures { IfOk result (λ rows. EachOf (IsRowOf count) rows.items written.now) }
+    ensures rows { IfOk result (λ rows. EachOf (IsRowOf count) rows.items written.now) }
+    ensures calm { IfErr result (λ fault. IsNoFileFault fault) }
 {
     let mut rows = Vec::new(alloc);
     'rows: for row in written {
@@ -81,7 +88,8 @@ fn written_rows(alloc: Global, written: &[Many<Expr>], count: usize) -> R<Vec<Ve
 }
 
 fn rows_of(alloc: Global, source: &InsertSource, count: usize) -> R<Vec<Vec<Value>>>
-    ensures { IfOk result (λ rows. AreGiven count rows.items source.now) }
+    ensures given { IfOk result (λ rows. AreGiven count rows.items source.now) }
+    ensures calm { IfErr result (λ fault. IsNoFileFault fault) }
 {
     match source {
         InsertSource::Rows(given) => written_rows(alloc, given.as_slice(), count),
@@ -103,6 +111,7 @@ fn count_of(columns: &Option<Many<Name>>, table: &Table) -> usize
 pub fn bind_insert<'a>(alloc: Global, insert: &Insert, catalog: &'a Catalog) -> R<BoundInsert<'a>>
     ensures table { IfOk result (λ bound. table_named insert.now.table (tables_of catalog.now) ≡ Some bound.table.now) }
     ensures rows { IfOk result (λ bound. AreGiven (count_wanted insert.now.columns bound.table.now) bound.rows.items insert.now.source) }
+    ensures calm { IfErr result (λ fault. IsNoFileFault fault) }
 {
     let table = find_table(alloc, catalog, &insert.table)?;
     let places = places_of(alloc, table, &insert.columns)?;

@@ -1,5 +1,6 @@
 //! The values of literals.
 
+ghost use Rattle.catalog.specs.Faults.{IsNoFileFault};
 ghost use Rattle.std.specs.Prelude.{◌≡◌, ◌⊎◌, [], pos, neg_ℤ, true, false, Bool, List, IfOk, IfErr, Ok, Err};
 ghost use Rattle.sqlval.specs.Conversion.{word};
 ghost use Rattle.sqlval.specs.Refusals as refusal;
@@ -16,7 +17,8 @@ use syntax::{Expr, Node};
 
 /// The integer of a number.
 fn positive(number: u64) -> R<Value>
-    ensures { Answers (word (pos number)) result }
+    ensures value { Answers (word (pos number)) result }
+    ensures calm { IfErr result (λ fault. IsNoFileFault fault) }
 {
     match i64::try_from(number) {
         Ok(number) => Ok(Value::Int(number)),
@@ -26,7 +28,8 @@ fn positive(number: u64) -> R<Value>
 
 /// The integer of a number behind a minus.
 fn negative(number: u64) -> R<Value>
-    ensures { Answers (word (neg_ℤ (pos number))) result }
+    ensures value { Answers (word (neg_ℤ (pos number))) result }
+    ensures calm { IfErr result (λ fault. IsNoFileFault fault) }
 {
     if number == 1 << 63 {
         return Ok(Value::Int(i64::MIN));
@@ -43,6 +46,7 @@ pub fn literal(alloc: Global, value: &Expr) -> R<Value>
     ensures refused { IfErr result (λ fault. (fault ≡ Fault.Memory)
         ⊎ (fault ≡ Fault.Unsupported Feature.NotBuilt) × (is_literal value.now ≡ false)
         ⊎ (fault ≡ Fault.RealRefused) × ((totals : Bool) (scope : List ScopeSource) (env : Environment) → value_of (meant (resolve totals scope value.now)) env ≡ Err refusal.RealRefused)) }
+    ensures calm { IfErr result (λ fault. IsNoFileFault fault) }
 {
     match &value.node {
         Node::Null => Ok(Value::Null),

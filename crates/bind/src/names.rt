@@ -1,5 +1,6 @@
 //! The names of a statement, looked up among the tables.
 
+ghost use Rattle.catalog.specs.Faults.{IsNoFileFault};
 ghost use Rattle.std.specs.Prelude.{◌≡◌, ◌⊎◌, [], true, false, Some, None, is_none, List, ℕ, IfOk, IfErr};
 ghost use Rattle.sqlval.specs.Refusals as refusal;
 ghost use Rattle.sqlval.specs.Refusals.{refusal_of};
@@ -24,7 +25,8 @@ pub struct Scope<'a> {
 
 /// Nothing of this kind has the name.
 pub fn missing(alloc: Global, kind: Object, name: &Name) -> Fault
-    ensures { (result ≡ Fault.Memory) ⊎ (refusal_of result ≡ refusal.NoSuch) }
+    ensures why { (result ≡ Fault.Memory) ⊎ (refusal_of result ≡ refusal.NoSuch) }
+    ensures calm { IsNoFileFault result }
 {
     match name.copy(alloc) {
         Ok(name) => Fault::NoSuch(kind, name),
@@ -36,6 +38,7 @@ pub fn missing(alloc: Global, kind: Object, name: &Name) -> Fault
 pub fn find_table<'a>(alloc: Global, catalog: &'a Catalog, name: &Name) -> R<&'a Table>
     ensures found { IfOk result (λ table. table_named name.now (tables_of catalog.now) ≡ Some table.now) }
     ensures refused { IfErr result (λ fault. (fault ≡ Fault.Memory) ⊎ (refusal_of fault ≡ refusal.NoSuch) × (table_named name.now (tables_of catalog.now) ≡ None)) }
+    ensures calm { IfErr result (λ fault. IsNoFileFault fault) }
 {
     match catalog.table(name.as_str()) {
         Some(table) => Ok(table),
@@ -47,6 +50,7 @@ pub fn find_table<'a>(alloc: Global, catalog: &'a Catalog, name: &Name) -> R<&'a
 pub fn scope_of<'a>(alloc: Global, from: &'a FromClause, catalog: &'a Catalog) -> R<Scope<'a>>
     ensures found { IfOk result (λ scope. IsScope (tables_of catalog.now) (Some from.now) (Some scope)) }
     ensures refused { IfErr result (λ fault. (fault ≡ Fault.Memory) ⊎ (refusal_of fault ≡ refusal.NoSuch) × (table_named from.now.first.name (tables_of catalog.now) ≡ None)) }
+    ensures calm { IfErr result (λ fault. IsNoFileFault fault) }
 {
     let table = find_table(alloc, catalog, &from.first.name)?;
     let name = match &from.first.alias {
@@ -87,6 +91,7 @@ pub fn bind_column(
 ) -> R<Output>
     ensures found { IsOnce scope.entry → IfOk result (λ output. Means output (resolve_column (sources_seen scope.entry) source.now name.now)) }
     ensures refused { IsOnce scope.entry → IfErr result (λ fault. IsFaultOf (faults (resolve_column (sources_seen scope.entry) source.now name.now)) fault) }
+    ensures calm { IfErr result (λ fault. IsNoFileFault fault) }
 {
     let Some(scope) = scope else {
         return Err(missing(alloc, Object::Column, name));

@@ -1,5 +1,6 @@
 //! Queries whose names are looked up.
 
+ghost use Rattle.catalog.specs.Faults.{IsNoFileFault};
 ghost use Rattle.std.specs.Prelude.{◌≡◌, ◌⊎◌, ◌++◌, [], true, false, Bool, List, Option, map, IfOk, IfErr, OnOk};
 ghost use Rattle.bind.specs.Bound.{AreOnce, AreShown, IsBound, IsPlain, IsScope, IsSource, Knows, IsItemFault, IsMissing, IsOnce, IsQueryFault, IsShownBehind, IsValueFault, Means, columns_from, sources_seen};
 ghost use Rattle.catalog.specs.Listed.{tables_of};
@@ -47,6 +48,7 @@ pub struct BoundSource {
 fn bind_value(alloc: Global, scope: Option<Scope<'_>>, value: &Expr) -> R<Output>
     ensures found { IsOnce scope.entry → IfOk result (λ output. (totals : Bool) → Means output (resolve totals (sources_seen scope.entry) value.now)) }
     ensures refused { IsOnce scope.entry → IfErr result (λ fault. IsValueFault (sources_seen scope.entry) value.now fault) }
+    ensures calm { IfErr result (λ fault. IsNoFileFault fault) }
 {
     match &value.node {
         Node::Column(source, name) => bind_column(alloc, scope, source, name),
@@ -57,6 +59,7 @@ fn bind_value(alloc: Global, scope: Option<Scope<'_>>, value: &Expr) -> R<Output
 fn push_columns(outputs: &mut Vec<Output>, table: &Table) -> R<()>
     ensures pushed { OnOk result (outputs.new.items ≡ outputs.old.items ++ columns_from 0 table.now.columns.items) }
     ensures refused { IfErr result (λ fault. fault ≡ Fault.Memory) }
+    ensures calm { IfErr result (λ fault. IsNoFileFault fault) }
 {
     'places: for place in 0..table.columns.len() {
         outputs.push(Output::Column(place))?;
@@ -73,6 +76,7 @@ fn push_named(
 ) -> R<()>
     ensures found { OnOk result (IsShownBehind outputs.old.items outputs.new.items (resolve_item (sources_seen scope.entry) (ResultItem.AllOf name.now))) }
     ensures refused { IfErr result (λ fault. IsItemFault (sources_seen scope.entry) fault (ResultItem.AllOf name.now)) }
+    ensures calm { IfErr result (λ fault. IsNoFileFault fault) }
 {
     let Some(scope) = scope else {
         return Err(missing(alloc, Object::Table, name));
@@ -87,6 +91,7 @@ fn push_named(
 fn push_all(outputs: &mut Vec<Output>, scope: Option<Scope<'_>>) -> R<()>
     ensures found { OnOk result (IsShownBehind outputs.old.items outputs.new.items (resolve_item (sources_seen scope.entry) ResultItem.All)) }
     ensures refused { IfErr result (λ fault. IsItemFault (sources_seen scope.entry) fault ResultItem.All) }
+    ensures calm { IfErr result (λ fault. IsNoFileFault fault) }
 {
     let Some(scope) = scope else {
         return Err(Fault::Misuse(Misuse::Star));
@@ -102,6 +107,7 @@ fn bind_result(
 ) -> R<()>
     ensures found { IsOnce scope.entry → OnOk result (IsShownBehind outputs.old.items outputs.new.items (resolve_item (sources_seen scope.entry) item.now)) }
     ensures refused { IsOnce scope.entry → IfErr result (λ fault. IsItemFault (sources_seen scope.entry) fault item.now) }
+    ensures calm { IfErr result (λ fault. IsNoFileFault fault) }
 {
     match item {
         ResultItem::All => push_all(outputs, scope),
@@ -117,6 +123,7 @@ fn bind_result(
 fn results_of(alloc: Global, scope: Option<Scope<'_>>, items: &[ResultItem]) -> R<Vec<Output>>
     ensures found { IsOnce scope.entry → IfOk result (λ outputs. AreShown outputs.items (resolve_items (sources_seen scope.entry) items.now)) }
     ensures refused { IsOnce scope.entry → IfErr result (λ fault. Any (IsItemFault (sources_seen scope.entry) fault) items.now) }
+    ensures calm { IfErr result (λ fault. IsNoFileFault fault) }
 {
     let mut outputs = Vec::new(alloc);
     'items: for item in items {
@@ -132,6 +139,7 @@ fn scope_in<'a>(
 ) -> R<Option<Scope<'a>>>
     ensures found { IfOk result (λ scope. IsScope (tables_of catalog.now) from.now scope) }
     ensures refused { IfErr result (λ fault. (fault ≡ Fault.Memory) ⊎ (refusal_of fault ≡ NoSuch) × IsMissing (tables_of catalog.now) from.now) }
+    ensures calm { IfErr result (λ fault. IsNoFileFault fault) }
 {
     match from {
         Some(from) => Ok(Some(scope_of(alloc, from, catalog)?)),
@@ -157,6 +165,7 @@ pub fn bind_query(alloc: Global, query: &Query, catalog: &Catalog) -> R<BoundQue
     ensures found { (look : Lookup) → Knows look (tables_of catalog.now) → AreOnce (tables_of catalog.now) → IsPlain query.now → IfOk result (λ bound. IsBound look query.now bound.outputs.items) }
     ensures refused { AreOnce (tables_of catalog.now) → IfErr result (λ fault. IsQueryFault (tables_of catalog.now) query.now fault) }
     ensures source { IfOk result (λ bound. IsSource (tables_of catalog.now) query.now.from bound.source) }
+    ensures calm { IfErr result (λ fault. IsNoFileFault fault) }
 {
     let scope = scope_in(alloc, &query.from, catalog)?;
     let outputs = results_of(alloc, scope, query.results.as_slice())?;

@@ -1,4 +1,5 @@
 pub mod Database
+pub mod Faults
 pub mod Laws
 pub mod Listed
 pub mod Rows

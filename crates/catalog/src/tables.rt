@@ -1,5 +1,6 @@
 //! The tables of a database, and where their trees begin.
 
+ghost use Rattle.catalog.specs.Faults.{IsNoFileFault};
 ghost use Rattle.std.specs.Prelude.{◌≡◌, ◌⊎◌, ◌++◌, ◌∷◌, [], true, false, map, flat_map, take, length, IfOk, IfErr, OnOk, OnErr, option_map, string_bytes};
 ghost use Rattle.std.specs.List.{list_any, join_with_byte};
 ghost use Rattle.sqlval.specs.Lists.{any_twice};
@@ -71,6 +72,7 @@ impl Catalog {
         ensures tables { listed.tables_of self.new ≡ listed.tables_of self.old }
         ensures committed { listed.committed_in self.new ≡ listed.committed_in self.old }
         ensures refused { IfErr result (λ fault. fault ≡ Fault.Memory) }
+        ensures calm { IfErr result (λ fault. IsNoFileFault fault) }
     {
         self.tables.reserve(1)?;
         Ok(())
@@ -82,6 +84,7 @@ impl Catalog {
         ensures unchanged { OnErr result (listed.tables_of self.new ≡ listed.tables_of self.old) }
         ensures committed { listed.committed_in self.new ≡ listed.committed_in self.old }
         ensures refused { IfErr result (λ fault. fault ≡ Fault.Memory) }
+        ensures calm { IfErr result (λ fault. IsNoFileFault fault) }
     {
         self.tables.push(table)?;
         Ok(())
@@ -108,6 +111,7 @@ impl Catalog {
 fn put_words(text: &mut String, words: &[Name]) -> R<()>
     ensures text { OnOk result (string_bytes text.new ≡ string_bytes text.old ++ flat_map (λ word. 32 ∷ word) words.now) }
     ensures refused { IfErr result (λ fault. fault ≡ Fault.Memory) }
+    ensures calm { IfErr result (λ fault. IsNoFileFault fault) }
 {
     'words: for word in words {
         text.push(' ')?;
@@ -120,6 +124,7 @@ fn put_words(text: &mut String, words: &[Name]) -> R<()>
 fn joined(alloc: Global, words: &[Name]) -> R<String>
     ensures text { IfOk result (λ text. string_bytes text ≡ join_with_byte 32 words.now) }
     ensures refused { IfErr result (λ fault. fault ≡ Fault.Memory) }
+    ensures calm { IfErr result (λ fault. IsNoFileFault fault) }
 {
     let mut text = String::new(alloc);
     let Some((first, rest)) = words.split_first() else {
@@ -133,6 +138,7 @@ fn joined(alloc: Global, words: &[Name]) -> R<String>
 fn column_of(alloc: Global, definition: &ColumnDefinition) -> R<Column>
     ensures described { IfOk result (λ column. listed.described column ≡ listed.defined definition.now) }
     ensures refused { IfErr result (λ fault. (fault ≡ Fault.Memory) ⊎ (fault ≡ Fault.Unsupported Feature.RealColumn) × (listed.is_real definition.now ≡ true)) }
+    ensures calm { IfErr result (λ fault. IsNoFileFault fault) }
 {
     let declared = joined(alloc, definition.declared.words.as_slice())?;
     let Some(affinity) = affinity_of(declared.as_str()) else {
@@ -159,6 +165,7 @@ pub fn columns_of(alloc: Global, definition: &TableDefinition) -> R<Vec<Column>>
     ensures refused { IfErr result (λ fault. (fault ≡ Fault.Memory)
         ⊎ (fault ≡ Fault.Misuse Misuse.DoubledColumn) × (listed.has_doubled definition.now.columns ≡ true)
         ⊎ (fault ≡ Fault.Unsupported Feature.RealColumn) × (list_any listed.is_real definition.now.columns ≡ true)) }
+    ensures calm { IfErr result (λ fault. IsNoFileFault fault) }
 {
     let definitions = definition.columns.as_slice();
     let mut columns: Vec<Column> = Vec::new(alloc);

@@ -1,3 +1,4 @@
+pub mod Calm
 mod AddedLemmas
 mod InsertLemmas
 mod Greatest

@@ -1,5 +1,6 @@
 //! Changes of a table's rows.
 
+ghost use Rattle.catalog.specs.Faults.{IsNoFileFault};
 ghost use Rattle.std.specs.Prelude.{◌≡◌, ◌⊎◌, List, length, map, take, slice_index_or, None, IfOk, IfErr};
 ghost use Rattle.sqlval.specs.Affinity.{Converts, IsConversionFault};
 ghost use Rattle.record.specs.Record.{IsRecord};
@@ -135,6 +136,7 @@ pub fn insert(alloc: Global, page: &[u8], number: u32, insert: BoundInsert<'_>) 
     ensures size { IfOk result (λ new. length new.items ≡ length page.now) }
     ensures front { IfOk result (λ new. take (start_of number) new.items ≡ take (start_of number) page.now) }
     ensures refused { IfErr result (λ fault. IsInsertRefusal page.now number insert.entry.table.now.columns.items insert.entry.places.items (map (λ row. row.items) insert.entry.rows.items) fault) }
+    ensures calm { IfErr result (λ fault. IsNoFileFault fault) }
 {
     let BoundInsert {
         table,

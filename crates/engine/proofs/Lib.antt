@@ -2,3 +2,4 @@ pub mod LineLaws
 pub mod NewFiles
 pub mod NewFileStops
 pub mod Opened
+pub mod Refusing

@@ -7,6 +7,8 @@ use Rattle.sqlval.specs.declared.fault.Feature.TheVariants as feature
 use Rattle.sqlval.specs.declared.fault.Misuse.TheVariants.{Connection}
 use Rattle.engine.specs.declared.connections.Connections.{Connections}
 use Rattle.engine.specs.declared.opening.Engine.{Engine}
+use Rattle.wal.specs.Known.{db_of, log_of}
+use Rattle.wal.specs.declared.log.Log.{Log}
 
 -- no connection has this number
 abbrev pub IsNoConnection : ℕ → Type 0
@@ -27,3 +29,14 @@ module _ {D : Type 0} {g : Ghosts D} where
 
   abbrev pub has_failed_of : Engine D g → Bool
   has_failed_of engine = has_failed_in engine.connections
+
+  -- the database file and its log, as the connections have them
+  abbrev pub files_of : Connections D g → Log D g
+  files_of connections = connections.log
+
+  -- the disk of the database file, and that of the log
+  abbrev pub db_disk : Engine D g → D
+  db_disk engine = db_of (files_of engine.connections)
+
+  abbrev pub log_disk : Engine D g → D
+  log_disk engine = log_of (files_of engine.connections)

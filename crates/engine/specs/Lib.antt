@@ -5,3 +5,4 @@ pub mod Lines
 pub mod Opening
 pub mod Output
 pub mod Replies
+pub mod Limits

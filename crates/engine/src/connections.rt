@@ -1,7 +1,9 @@
 //! The connections: whose transaction reads what, and what is committed.
 
-ghost use Rattle.std.specs.Prelude.{◌≡◌, ◌&&◌, Ok, Err, IsTrue, IsFalse};
+ghost use Rattle.std.specs.Prelude.{◌≡◌, ◌&&◌, Ok, Err, IfSome, true, false, IsTrue, IsFalse};
 ghost use Rattle.session.specs.Built as forms;
+ghost use Rattle.wal.specs.Whys.{HasReason};
+ghost use Rattle.engine.specs.Limits.{may_be_full};
 
 use crate::pager::{Writer, read_page};
 use crate::schema::{NewTable, new_table};
@@ -51,7 +53,9 @@ fn not_built<T>() -> R<T>
 }
 
 /// A change, where it is one.
-fn write_of(statement: &Statement) -> Option<Write<'_>> {
+fn write_of(statement: &Statement) -> Option<Write<'_>>
+    ensures { IfSome result (λ write. IsTrue (may_be_full statement.now)) }
+{
     match statement {
         Statement::Change(Change::Insert(insert)) => Some(Write::Insert(insert)),
         Statement::Create(
@@ -65,7 +69,7 @@ fn write_of(statement: &Statement) -> Option<Write<'_>> {
 }
 
 impl<D: Disk + Drop> Connections<D> {
-    ghost use Rattle.engine.specs.Known.{IsNoConnection, IsUnserved, first_refusal, has_failed_in};
+    ghost use Rattle.engine.specs.Known.{IsNoConnection, IsUnserved, files_of, first_refusal, has_failed_in};
 
     /// The connections of a database whose schema is read, all of them idle.
     pub fn new(alloc: Global, log: Log<D>, catalog: Catalog) -> Connections<D> {
@@ -116,6 +120,7 @@ impl<D: Disk + Drop> Connections<D> {
         ensures numbered { IsFalse (has_failed_in self.old) → IsNoConnection connection → (result ≡ Err (Fault.Misuse Misuse.Connection)) × (self.new ≡ self.old) }
         // What isn't served yet, a form or a connection, is refused as such, and changes nothing.
         ensures unbuilt { first_refusal (has_failed_in self.old) connection ≡ Ok tt → IsFalse (forms.is_built statement.now && forms.is_served connection) → IsUnserved result × (self.new ≡ self.old) }
+        ensures reason { HasReason (may_be_full statement.now) result (files_of self.old) (files_of self.new) }
     {
         self.check(connection)?;
         if !is_built(statement) {
@@ -132,7 +137,9 @@ impl<D: Disk + Drop> Connections<D> {
     }
 
     /// Executes a statement that answers no rows.
-    fn change(&mut self, statement: &Statement) -> R<()> {
+    fn change(&mut self, statement: &Statement) -> R<()>
+        ensures reason { HasReason (may_be_full statement.now) result (files_of self.old) (files_of self.new) }
+    {
         match statement {
             Statement::Begin(mode) => self.begin(*mode),
             Statement::Commit => self.commit(),
@@ -144,7 +151,9 @@ impl<D: Disk + Drop> Connections<D> {
         }
     }
 
-    fn begin(&mut self, mode: BeginMode) -> R<()> {
+    fn begin(&mut self, mode: BeginMode) -> R<()>
+        ensures reason { HasReason false result (files_of self.old) (files_of self.new) }
+    {
         if !matches!(&self.transaction, Transaction::Idle) {
             return Err(Fault::InTransaction);
         }
@@ -158,7 +167,9 @@ impl<D: Disk + Drop> Connections<D> {
         Ok(())
     }
 
-    fn rollback(&mut self) -> R<()> {
+    fn rollback(&mut self) -> R<()>
+        ensures reason { HasReason false result (files_of self.old) (files_of self.new) }
+    {
         if matches!(&self.transaction, Transaction::Idle) {
             return Err(Fault::NoTransaction);
         }
@@ -167,13 +178,17 @@ impl<D: Disk + Drop> Connections<D> {
     }
 
     /// Gives up the transaction, if there is one.
-    pub fn give_up(&mut self) {
+    pub fn give_up(&mut self)
+        ensures { files_of self.new ≡ files_of self.old }
+    {
         self.catalog.forget();
         self.transaction = Transaction::Idle;
     }
 
     /// Commits a writer's pages. After `Io` nothing more is served.
-    fn commit_writer(&mut self, writer: &mut Writer) -> R<()> {
+    fn commit_writer(&mut self, writer: &mut Writer) -> R<()>
+        ensures reason { HasReason true result (files_of self.old) (files_of self.new) }
+    {
         match writer.commit(self.alloc, &mut self.log) {
             Ok(()) => {
                 self.catalog.keep();
@@ -187,7 +202,9 @@ impl<D: Disk + Drop> Connections<D> {
         }
     }
 
-    fn commit(&mut self) -> R<()> {
+    fn commit(&mut self) -> R<()>
+        ensures reason { HasReason true result (files_of self.old) (files_of self.new) }
+    {
         match mem::replace(&mut self.transaction, Transaction::Idle) {
             Transaction::Idle => Err(Fault::NoTransaction),
             Transaction::Begun | Transaction::Reading(_) => Ok(()),
@@ -212,7 +229,9 @@ impl<D: Disk + Drop> Connections<D> {
     }
 
     /// The rows of a table, as the transaction sees them.
-    fn rows_of(&mut self, plan: &Plan, source: BoundSource) -> R<Rows> {
+    fn rows_of(&mut self, plan: &Plan, source: BoundSource) -> R<Rows>
+        ensures reason { HasReason false result (files_of self.old) (files_of self.new) }
+    {
         let snapshot = self.snapshot();
         if let Transaction::Writing(writer) = &self.transaction {
             if let Some(page) = writer.find(source.root) {
@@ -223,7 +242,9 @@ impl<D: Disk + Drop> Connections<D> {
         table_rows(self.alloc, &page, source, &plan.outputs)
     }
 
-    fn select(&mut self, query: &Query) -> R<Rows> {
+    fn select(&mut self, query: &Query) -> R<Rows>
+        ensures reason { HasReason false result (files_of self.old) (files_of self.new) }
+    {
         let plan = plan_of(bind_query(self.alloc, query, &self.catalog)?);
         let rows = match plan.scan {
             Scan::Once => lone_row(self.alloc, &plan.outputs)?,
@@ -236,7 +257,9 @@ impl<D: Disk + Drop> Connections<D> {
     }
 
     /// Changes the database in a transaction of its own, or in the one that goes on.
-    fn write(&mut self, write: Write<'_>) -> R<()> {
+    fn write(&mut self, write: Write<'_>) -> R<()>
+        ensures reason { HasReason true result (files_of self.old) (files_of self.new) }
+    {
         match mem::replace(&mut self.transaction, Transaction::Idle) {
             Transaction::Idle => self.write_alone(write),
             Transaction::Writing(writer) => {
@@ -252,7 +275,9 @@ impl<D: Disk + Drop> Connections<D> {
         }
     }
 
-    fn write_alone(&mut self, write: Write<'_>) -> R<()> {
+    fn write_alone(&mut self, write: Write<'_>) -> R<()>
+        ensures reason { HasReason true result (files_of self.old) (files_of self.new) }
+    {
         let newest = self.log.begin();
         let mut writer = Writer::begin(self.alloc, &mut self.log, newest)?;
         self.apply(&mut writer, write)?;
@@ -264,7 +289,9 @@ impl<D: Disk + Drop> Connections<D> {
     }
 
     /// The first change of a transaction takes the write right.
-    fn write_first(&mut self, write: Write<'_>) -> R<()> {
+    fn write_first(&mut self, write: Write<'_>) -> R<()>
+        ensures reason { HasReason true result (files_of self.old) (files_of self.new) }
+    {
         let snapshot = self.snapshot();
         let mut writer = Writer::begin(self.alloc, &mut self.log, snapshot)?;
         self.apply(&mut writer, write)?;
@@ -272,14 +299,18 @@ impl<D: Disk + Drop> Connections<D> {
         Ok(())
     }
 
-    fn apply(&mut self, writer: &mut Writer, write: Write<'_>) -> R<()> {
+    fn apply(&mut self, writer: &mut Writer, write: Write<'_>) -> R<()>
+        ensures reason { HasReason true result (files_of self.old) (files_of self.new) }
+    {
         match write {
             Write::Insert(insert) => self.insert(writer, insert),
             Write::CreateTable(sql, table) => self.create_table(writer, sql, table),
         }
     }
 
-    fn insert(&mut self, writer: &mut Writer, insert: &Insert) -> R<()> {
+    fn insert(&mut self, writer: &mut Writer, insert: &Insert) -> R<()>
+        ensures reason { HasReason true result (files_of self.old) (files_of self.new) }
+    {
         let bound = bind_insert(self.alloc, insert, &self.catalog)?;
         let number = bound.table.root;
         let bytes = match writer.find(number) {
@@ -292,7 +323,9 @@ impl<D: Disk + Drop> Connections<D> {
         writer.put(PageImage { number, bytes })
     }
 
-    fn create_table(&mut self, writer: &mut Writer, sql: &Text, table: &TableDefinition) -> R<()> {
+    fn create_table(&mut self, writer: &mut Writer, sql: &Text, table: &TableDefinition) -> R<()>
+        ensures reason { HasReason true result (files_of self.old) (files_of self.new) }
+    {
         let Some(page) = writer.find(1) else {
             return Err(Fault::Damaged(Damage::MissingPage, 1));
         };

@@ -1,10 +1,15 @@
 //! Opening a database file with its log.
 
-ghost use Rattle.std.specs.Prelude.{◌≡◌, Err, IsTrue, IsFalse};
+ghost use Rattle.std.specs.Prelude.{◌≡◌, ◌⊎◌, ◌&&◌, Ok, Err, IfOk, IsTrue, IsFalse};
 ghost use Rattle.disk.specs.File.{IsSynced, Throughout};
 ghost use Rattle.walframe.specs.Accepted.{Leaves};
 ghost use Rattle.wal.specs.Known.{db_of, known_of, log_of};
 ghost use Rattle.engine.specs.Opening.{LeavesOpened};
+ghost use Rattle.disk.specs.Calls.{Rose};
+ghost use Rattle.syntax.specs.declared.statement.Statement.{Statement};
+ghost use Rattle.parser.specs.Texts.{Is};
+ghost use Rattle.session.specs.Built as forms;
+ghost use Rattle.engine.specs.Limits.{may_be_full};
 
 use crate::connections::Connections;
 use crate::creating::is_blank;
@@ -69,7 +74,8 @@ fn started<D: Disk + Drop>(alloc: Global, log: &mut Log<D>) -> R<Catalog>
 }
 
 impl<D: Disk + Drop> Engine<D> {
-    ghost use Rattle.engine.specs.Known.{IsNoConnection, has_failed_of};
+    ghost use Rattle.engine.specs.Known.{IsNoConnection, db_disk, first_refusal, has_failed_of, log_disk};
+    ghost use Rattle.engine.specs.Opening.{db_left, log_left};
 
     /// Opens a database: syncs both files, checks them, and cuts the log to its committed frames. A log that has no valid
     /// header gets one with these salts at the first commit. Refusals give the files back, with no byte changed but for `Io`
@@ -115,6 +121,12 @@ impl<D: Disk + Drop> Engine<D> {
         // Behind a failed commit nothing is served, and nothing changes any more.
         ensures failed { IsTrue (has_failed_of self.old) → (result ≡ Err Fault.Failed) × (self.new ≡ self.old) }
         ensures numbered { IsFalse (has_failed_of self.old) → IsNoConnection connection → (result ≡ Err (Fault.Misuse Misuse.Connection)) × (self.new ≡ self.old) }
+        // A statement that isn't served yet, by its form or its connection, is refused and changes nothing.
+        ensures unbuilt { (statement : Statement) → first_refusal (has_failed_of self.old) connection ≡ Ok tt → Is text.now statement → IsFalse (forms.is_built statement && forms.is_served connection) → IfOk result (λ _. ⊥) × (self.new ≡ self.old) }
+        // A call of one of the two disks failed, and was counted, where `Io` comes.
+        ensures io { result ≡ Err Fault.Io → Rose (D.failures (db_disk self.old)) (D.failures (db_disk self.new)) ⊎ Rose (D.failures (log_disk self.old)) (D.failures (log_disk self.new)) }
+        // What only reads, begins or rolls back is never refused as `Full`.
+        ensures full { result ≡ Err Fault.Full → (statement : Statement) × Is text.now statement × IsTrue (may_be_full statement) }
     {
         self.connections.check(connection)?;
         let statement = parse(self.alloc, text)?;

@@ -1,9 +1,12 @@
 //! The pages of the database: those of a snapshot, and those that a transaction has changed.
 
-ghost use Rattle.std.specs.Prelude.{◌≡◌, IfOk};
+ghost use Rattle.std.specs.Prelude.{◌≡◌, true, false, IfOk, IfErr};
+ghost use Rattle.catalog.specs.Faults.{IsNoFileFault};
 ghost use Rattle.dbheader.specs.Header.{IsPageSize};
 ghost use Rattle.wal.specs.Known.{db_of, known_of, log_of};
 ghost use Rattle.walframe.specs.Accepted.{Leaves};
+ghost use Rattle.wal.specs.Whys.{HasReason};
+ghost use Rattle.engine.specs.Limits.{one_more, pages_of, page_size_of};
 
 use dbheader::Header;
 use disk::Disk;
@@ -27,6 +30,7 @@ pub fn read_page<D: Disk + Drop>(
     number: u32,
 ) -> R<Vec<u8>>
     ensures kept { (known_of log.new ≡ known_of log.old) × Leaves D.tells D.file (db_of log.old) (db_of log.new) × Leaves D.tells D.file (log_of log.old) (log_of log.new) }
+    ensures reason { HasReason false result log.old log.new }
 {
     let mut page = vec![in alloc; 0; log.page_size() as usize]?;
     log.page(snapshot, number, &mut page)?;
@@ -35,7 +39,8 @@ pub fn read_page<D: Disk + Drop>(
 
 /// The header at the front of a page 1.
 pub fn header_of(page: &[u8]) -> R<Header>
-    ensures { IfOk result (λ header. IsPageSize header.page_size) }
+    ensures size { IfOk result (λ header. IsPageSize header.page_size) }
+    ensures refused { IfErr result (λ fault. IsNoFileFault fault) }
 {
     match page.get(..HEADER_LEN) {
         Some(front) => dbheader::read(front),
@@ -61,7 +66,9 @@ pub struct Writer {
 
 impl Writer {
     /// A writer that has changed nothing yet.
-    pub fn begin<D: Disk + Drop>(alloc: Global, log: &mut Log<D>, snapshot: Snapshot) -> R<Writer> {
+    pub fn begin<D: Disk + Drop>(alloc: Global, log: &mut Log<D>, snapshot: Snapshot) -> R<Writer>
+        ensures reason { HasReason false result log.old log.new }
+    {
         let bytes = read_page(alloc, log, snapshot, 1)?;
         let mut pages = Vec::new(alloc);
         pages.push(PageImage { number: 1, bytes })?;
@@ -92,7 +99,9 @@ impl Writer {
     }
 
     /// The number of a page that is one past the present ones.
-    pub fn next_number(&self) -> R<u32> {
+    pub fn next_number(&self) -> R<u32>
+        ensures { result ≡ one_more (pages_of self.now) (page_size_of self.now) }
+    {
         if self.size >= MAX_PAGES
             || u64::from(self.size + 1) * u64::from(self.page_size) > MAX_BYTES
         {
@@ -107,7 +116,9 @@ impl Writer {
     }
 
     /// Puts a page in the place of what it was, or behind all others.
-    pub fn put(&mut self, page: PageImage) -> R<()> {
+    pub fn put(&mut self, page: PageImage) -> R<()>
+        ensures refused { IfErr result (λ fault. IsNoFileFault fault) }
+    {
         match self
             .pages
             .as_slice()
@@ -124,7 +135,9 @@ impl Writer {
     }
 
     /// Puts page 1 and a new page behind all others, both or neither.
-    pub fn put_object(&mut self, schema: PageImage, root: PageImage) -> R<()> {
+    pub fn put_object(&mut self, schema: PageImage, root: PageImage) -> R<()>
+        ensures refused { IfErr result (λ fault. IsNoFileFault fault) }
+    {
         self.put(root)?;
         self.has_new_objects = true;
         self.put(schema)
@@ -132,7 +145,9 @@ impl Writer {
 
     /// Commits the pages: page 1 gets the next change counter and the size, and the next schema cookie where an object
     /// was made. After a refusal the pages are as they were.
-    pub fn commit<D: Disk + Drop>(&mut self, alloc: Global, log: &mut Log<D>) -> R<()> {
+    pub fn commit<D: Disk + Drop>(&mut self, alloc: Global, log: &mut Log<D>) -> R<()>
+        ensures reason { HasReason true result log.old log.new }
+    {
         let old = self.header()?;
         let new = self.next_header(&old);
         self.set_header(&new);
@@ -163,7 +178,8 @@ impl Writer {
     }
 
     fn header(&self) -> R<Header>
-        ensures { IfOk result (λ header. IsPageSize header.page_size) }
+        ensures size { IfOk result (λ header. IsPageSize header.page_size) }
+        ensures refused { IfErr result (λ fault. IsNoFileFault fault) }
     {
         match self.find(1) {
             Some(page) => header_of(page),

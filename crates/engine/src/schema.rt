@@ -1,5 +1,8 @@
 //! The objects of the schema: the tables, as page 1 lists them.
 
+ghost use Rattle.std.specs.Prelude.{IfErr};
+ghost use Rattle.catalog.specs.Faults.{IsNoFileFault};
+
 use catalog::{Catalog, Table, columns_of, is_reserved};
 use page::Cell;
 use parser::parse;
@@ -107,7 +110,9 @@ pub fn load(alloc: Global, page: &[u8], size: u32) -> R<Catalog> {
 }
 
 /// The record of a table's row in the schema table.
-fn schema_record(alloc: Global, name: &Name, root: u32, sql: &Text) -> R<Vec<u8>> {
+fn schema_record(alloc: Global, name: &Name, root: u32, sql: &Text) -> R<Vec<u8>>
+    ensures refused { IfErr result (λ fault. IsNoFileFault fault) }
+{
     let mut values = Vec::new(alloc);
     values.push(Value::Text(Text::from_str(alloc, "table")?))?;
     values.push(Value::Text(Text::from_str(alloc, name.as_str())?))?;
@@ -135,7 +140,9 @@ pub fn new_table(
     root: u32,
     sql: &Text,
     definition: &TableDefinition,
-) -> R<NewTable> {
+) -> R<NewTable>
+    ensures refused { IfErr result (λ fault. IsNoFileFault fault) }
+{
     let name = &definition.name;
     if is_reserved(name.as_str()) {
         return Err(Fault::Misuse(Misuse::ReservedName));

@@ -1,2 +1,3 @@
+pub mod Calm
 mod RowLemmas
 mod Steps

@@ -1,5 +1,6 @@
 //! The rows of a query.
 
+ghost use Rattle.catalog.specs.Faults.{IsNoFileFault};
 ghost use Rattle.std.specs.Prelude.{◌≡◌, ◌∷◌, ◌⊎◌, [], List, map, All, Ok, IfOk, IfErr};
 ghost use Rattle.sqlval.specs.Gives.{Gives};
 ghost use Rattle.page.specs.Leaf.{entry_of};
@@ -90,6 +91,7 @@ pub fn table_rows(alloc: Global, page: &[u8], table: BoundSource, outputs: &[Out
     ensures found { IfOk result (λ answer. IsAnswer page.now table.root table.width outputs.now (map values_of answer.items)) }
     ensures only { (rows : List TableRow) → Holds page.now table.root table.width rows → All (IsOf table.width) outputs.now → Gives (λ answer. map values_of answer.items) result (Ok (map (result_of outputs.now) rows)) }
     ensures refused { IfErr result (λ fault. (fault ≡ Fault.Memory) ⊎ (IsLeafRefusal table.root fault ⊎ IsRowRefusal fault)) }
+    ensures calm { IfErr result (λ fault. IsNoFileFault fault) }
 {
     let leaf = Leaf::over(alloc, page, table.root)?;
     leaf_rows(alloc, &leaf, table.width, outputs)
@@ -118,7 +120,8 @@ fn lone_value(alloc: Global, output: &Output) -> R<Value>
 
 /// The one row of a query without FROM: the values of its literals.
 pub fn lone_row(alloc: Global, outputs: &[Output]) -> R<Rows>
-    ensures { Gives (λ rows. map values_of rows.items) result (Ok (map given_alone outputs.now ∷ [])) }
+    ensures exact { Gives (λ rows. map values_of rows.items) result (Ok (map given_alone outputs.now ∷ [])) }
+    ensures calm { IfErr result (λ fault. IsNoFileFault fault) }
 {
     let row = lone_values(alloc, outputs)?;
     let mut rows = Vec::new(alloc);

@@ -11,3 +11,4 @@ pub mod Opens
 pub mod Commits
 pub mod Chains
 pub mod Stops
+pub mod Whys

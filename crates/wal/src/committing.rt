@@ -1,6 +1,6 @@
 //! Commits.
 
-ghost use Rattle.std.specs.Prelude.{◌≡◌, ◌≤◌, ◌++◌, length, take, IsTrue, IsFalse, OnOk, OnErr, IfErr, if◌then◌else◌};
+ghost use Rattle.std.specs.Prelude.{◌≡◌, ◌≤◌, ◌++◌, length, take, true, IsTrue, IsFalse, OnOk, OnErr, IfErr, if◌then◌else◌};
 ghost use Rattle.disk.specs.Calls.{Rose, Syncs};
 ghost use Rattle.disk.specs.File.{IsSynced, Always};
 ghost use Rattle.sqlval.specs.declared.fault.Fault.TheVariants.{Io};
@@ -105,6 +105,7 @@ fn write_out<D: Disk>(
 
 impl<D: Disk> Log<D> {
     ghost use Rattle.wal.specs.Known.{known_of, db_of, log_of};
+    ghost use Rattle.wal.specs.Whys.{HasReason};
 
     /// Commits pages, by rising number, in a database of `size` pages: writes a frame each, behind the committed ones, and
     /// syncs the log. Nothing is written at a refusal but `Io`, after which each call answers `Failed`. (`Memory`, `Io`,
@@ -117,6 +118,7 @@ impl<D: Disk> Log<D> {
             (LeavesEither (known_of self.old).page_size (commits_of (known_of self.old) (D.file (log_of self.old)).content) (commits_of (known_of self.old) (D.file (log_of self.old)).content ++ framed pages.now size)) }
         ensures refusal { IfErr result (λ e. IsCommitRefusal (log_of self.old) (log_of self.new) (D.failures (log_of self.old)) (D.failures (log_of self.new)) e) }
         ensures same { KeepsDisks D.tells D.failures (db_of self.old) (db_of self.new) (log_of self.old) (log_of self.new) }
+        ensures reason { HasReason true result self.old self.new }
     {
         if self.state.is_failed {
             return Err(Fault::Failed);

@@ -1,6 +1,6 @@
 //! The log and the database file, as readers see them.
 
-ghost use Rattle.std.specs.Prelude.{◌≡◌, ◌≤◌, length, IsTrue, IsFalse, OnOk, IfErr};
+ghost use Rattle.std.specs.Prelude.{◌≡◌, ◌≤◌, length, false, IsTrue, IsFalse, OnOk, IfErr};
 ghost use Rattle.disk.specs.File.{IsSynced};
 ghost use Rattle.walframe.specs.Accepted.{Leaves};
 ghost use Rattle.wal.specs.Stands.{LogStands, log_end, IsPageRefusal};
@@ -41,6 +41,7 @@ pub struct Log<D: Disk> {
 
 impl<D: Disk> Log<D> {
     ghost use Rattle.wal.specs.Known.{known_of, header_of, db_of, log_of, seen_by, size_of};
+    ghost use Rattle.wal.specs.Whys.{HasReason};
 
     /// The size of a page, in bytes.
     pub fn page_size(&self) -> u32
@@ -77,6 +78,7 @@ impl<D: Disk> Log<D> {
         ensures db_kept { Leaves D.tells D.file (db_of self.old) (db_of self.new) }
         ensures log_kept { Leaves D.tells D.file (log_of self.old) (log_of self.new) }
         ensures refusal { IfErr result (λ e. IsPageRefusal number e) }
+        ensures reason { HasReason false result self.old self.new }
     {
         if number == 0 || number > snapshot.size || out.len() != self.state.page_size as usize {
             return Err(Fault::Damaged(Damage::MissingPage, number));

@@ -9,7 +9,7 @@ pub returns-in-Some-unmeant-clause-refused : goal.returns-in-Some-unmeant-clause
 returns-in-Some-unmeant-clause-refused c =
     let other : fits c.args.source.now (source_seen c.in-Some.scope.name.now c.in-Some.scope.table.now) ≡ false = search rules in
     subst (λ s. IsOnce s → IsFaultOf (faults (resolve_column (sources_seen s) c.args.source.now c.args.name.now)) c.missing-in-Some-unmeant.result) (sym c.in-Some.is)
-    (λ once. no_such _ _ (source_missing c.args.name.now c.in-Some.scope.name.now c.in-Some.scope.table.now once c.args.source.now other) c.missing-in-Some-unmeant.ensures)
+    (λ once. no_such _ _ (source_missing c.args.name.now c.in-Some.scope.name.now c.in-Some.scope.table.now once c.args.source.now other) c.missing-in-Some-unmeant.ensures.why)
 
 pub returns-in-Some-column_output-clause-found : goal.returns-in-Some-column_output-clause-found
 returns-in-Some-column_output-clause-found c =
@@ -23,4 +23,4 @@ returns-in-None-clause-refused c =
     let meant : fits c.args.source.now (source_seen c.in-Some.scope.name.now c.in-Some.scope.table.now) ≡ true = search rules in
     subst (λ s. IsOnce s → IsFaultOf (faults (resolve_column (sources_seen s) c.args.source.now c.args.name.now)) c.missing-in-None.result) (sym c.in-Some.is)
     (λ once. no_such _ _ (column_missing c.args.name.now c.in-Some.scope.name.now c.in-Some.scope.table.now once c.args.source.now meant
-    (shown_as _ _ _ c.in-None.is (c.column_output.ensures c.in-Some.scope.name.now once))) c.missing-in-None.ensures)
+    (shown_as _ _ _ c.in-None.is (c.column_output.ensures c.in-Some.scope.name.now once))) c.missing-in-None.ensures.why)

@@ -3,6 +3,8 @@ use Rattle.std.proofs.lemmas.List.{length-map}
 use Rattle.page.specs.Leaf.{entry_of}
 use Rattle.dml.specs.Inserting.{IsInsertRefusal, behind, numbered}
 use Rattle.dml.proofs.AddedLemmas.{ends_with, rowids_refused, rows_inserted, rows_refused, same_ok}
+use Rattle.std.proofs.lemmas.Result.{IfErr-weaker}
+use Rattle.dml.proofs.Calm.{insert_calm}
 use Rattle.dml.proofs.inserting.insert.Goals as goal
 
 pub returns-clause-inserted : goal.returns-clause-inserted
@@ -32,3 +34,6 @@ returns-in_err-cells-clause-refused c =
     (λ entries lone. same_ok (c.in_ok-over.ensures.only entries lone))
     (ap length c.deref-4.ensures.value ∙ sym (length-map c.in_ok-records.records.items (λ bytes. bytes.items))) c.in_err-cells.ensures.refused in
     search rules
+
+pub returns-clause-calm : goal.returns-clause-calm
+returns-clause-calm c = IfErr-weaker c.with_rows.result _ _ (λ fault h. insert_calm _ _ _ _ _ fault h) (returns-clause-refused c)

@@ -5,6 +5,8 @@ use Rattle.sqlval.specs.declared.value.Value.{Value}
 use Rattle.record.proofs.VarintLemmas.{AreBytes-from_index}
 use Rattle.rowprog.specs.Rows.{result_of, values_of}
 use Rattle.rowprog.proofs.RowLemmas.{ok_is, still_memory, table_again, table_found, table_refused}
+use Rattle.std.proofs.lemmas.Result.{IfErr-weaker}
+use Rattle.rowprog.proofs.Calm.{page_calm}
 use Rattle.rowprog.proofs.rows.table_rows.Goals as goal
 
 pub returns-in_err-leaf-clause-only : goal.returns-in_err-leaf-clause-only
@@ -26,3 +28,6 @@ returns-clause-only c = λ rows holds within.
 pub returns-clause-refused : goal.returns-clause-refused
 returns-clause-refused c =
     table_refused (λ rows. map values_of rows.items) c.leaf_rows.result c.args.table.root c.args.table.width c.args.outputs.now c.in_ok-leaf.leaf c.leaf_rows.ensures
+
+pub returns-clause-calm : goal.returns-clause-calm
+returns-clause-calm c = IfErr-weaker c.leaf_rows.result _ _ (λ fault h. page_calm c.args.table.root fault h) (returns-clause-refused c)

@@ -1,0 +1,44 @@
+-- What is refused for want of memory, or for what a page holds, isn't refused for its file.
+use Rattle.std.proofs.Common.{◌≡◌, ◌⊎◌, inl, inr, ℕ, subst, Ok, Err, Result}
+use Rattle.std.specs.Prelude.{IfErr}
+use Rattle.sqlval.specs.Gives.{Gives, Refuses}
+use Rattle.sqlval.specs.declared.fault.Fault.{Fault}
+use Rattle.sqlval.specs.declared.fault.Fault.TheVariants as fault
+use Rattle.tabletree.specs.Lone.{IsLeafRefusal}
+use Rattle.catalog.specs.Faults.{IsNoFileFault}
+use Rattle.rowprog.specs.Answers.{IsRowRefusal}
+
+never : {Y : Type 0} (y : Y) (f : Fault) → Ok y ≡ Err f → ⊥
+never y f h = cc
+
+given_io : {Y : Type 0} (y : Y) → Refuses fault.Io (Ok y) → ⊥
+given_io y h = never y fault.Io h
+
+given_full : {Y : Type 0} (y : Y) → Refuses fault.Full (Ok y) → ⊥
+given_full y h = never y fault.Full h
+
+refuses_calm : {Y : Type 0} (y : Y) (f : Fault) → Refuses f (Ok y) → IsNoFileFault f
+refuses_calm y f h = (λ e. given_io y (subst (λ g. Refuses g (Ok y)) e h), λ e. given_full y (subst (λ g. Refuses g (Ok y)) e h))
+
+-- where the definition gives an answer, only memory is wanting
+pub given_calm : {X Y : Type 0} (view : X → Y) (result : Result X Fault) (y : Y) → Gives view result (Ok y) → IfErr result IsNoFileFault
+given_calm view (Ok x) y h = tt
+given_calm view (Err f) y h = refuses_calm y f h
+
+memory_calm : (f : Fault) → f ≡ fault.Memory → IsNoFileFault f
+memory_calm f e = (λ h. absurd cc, λ h. absurd cc)
+
+leaf_calm : (number : ℕ) (f : Fault) → IsLeafRefusal number f → IsNoFileFault f
+leaf_calm number f (inl e) = (λ h. absurd cc, λ h. absurd cc)
+leaf_calm number f (inr (inl e)) = (λ h. absurd cc, λ h. absurd cc)
+leaf_calm number f (inr (inr e)) = (λ h. absurd cc, λ h. absurd cc)
+
+row_calm : (f : Fault) → IsRowRefusal f → IsNoFileFault f
+row_calm f (inl e) = (λ h. absurd cc, λ h. absurd cc)
+row_calm f (inr (inl e)) = (λ h. absurd cc, λ h. absurd cc)
+row_calm f (inr (inr e)) = (λ h. absurd cc, λ h. absurd cc)
+
+pub page_calm : (number : ℕ) (f : Fault) → (f ≡ fault.Memory) ⊎ (IsLeafRefusal number f ⊎ IsRowRefusal f) → IsNoFileFault f
+page_calm number f (inl e) = memory_calm f e
+page_calm number f (inr (inl e)) = leaf_calm number f e
+page_calm number f (inr (inr e)) = row_calm f e
