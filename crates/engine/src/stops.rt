@@ -232,7 +232,7 @@ fn survives_twice(alloc: Global, log_stop: u64, way: u32) -> R<bool> {
 
 #[test]
 fn a_second_stop_while_opening_is_survived(rt: HostRuntime) -> Result<(), Fail> {
-    for stop in 6..30 {
+    for stop in 1..MOST_CALLS {
         assert!(rt; survives_twice(rt.alloc(), stop, stop as u32 % 3)?);
     }
     Ok(())
