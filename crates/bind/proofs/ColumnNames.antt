@@ -1,5 +1,5 @@
 -- A name among a table's columns, by its place and by the terms that it may mean.
-use Rattle.std.proofs.Common.{◌≡◌, refl, sym, ap, subst, ◌∙◌, ◌⊎◌, inl, inr, ℕ, suc, ◌+◌, Bool, true, false, ◌&&◌, ◌||◌, ◌==◌, cond, if◌then◌else◌, List, [], ◌∷◌, ◌++◌, length, map, Option, Some, None, codes, arith}
+use Rattle.std.proofs.Common.{◌≡◌, refl, sym, ap, subst, ◌∙◌, ◌⊎◌, inl, inr, ℕ, suc, ◌+◌, ◌<◌, Bool, true, false, ◌&&◌, ◌||◌, ◌==◌, cond, if◌then◌else◌, List, [], ◌∷◌, ◌++◌, length, map, Option, Some, None, codes, arith}
 use Rattle.std.proofs.lemmas.Bool.{false≢true}
 use Rattle.std.proofs.lemmas.Str.Ascii.{lowercase-lowercase}
 use Rattle.std.proofs.lemmas.Slice.Eq.{bytes_eq-Decides}
@@ -96,6 +96,18 @@ named_is s i n (c ∷ cs) once =
     (sym (same_folded n c.name ∙ same_turned n c.name))
     (named_by s i n c cs once (subst (λ j. IsNamed s (position_from (is_column n) (i + 1) cs) (named_from s j n (seen cs))) (one_more i)
     (named_is s (i + 1) n cs (or_right (list_any (is_same_name c.name) (map (λ c. c.name) cs)) (is_twice_named cs) once))) (is_same_name c.name n) refl)
+
+none_is_not : (k : ℕ) → (let n : Option ℕ = None in n) ≡ Some k → ⊥
+none_is_not k e = absurd cc
+
+below_by : (i k n : ℕ) (rest : Option ℕ) → (rest ≡ Some k → k < (i + 1) + n) → (b : Bool) → cond b (Some i) rest ≡ Some k → k < i + suc n
+below_by i k n rest h true e = let same : i ≡ k = cc in omega (arith, same)
+below_by i k n rest h false e = omega (arith, h e)
+
+-- the place of a name is one of the columns'
+pub place_below : (t : Column → Bool) (i k : ℕ) (cs : List Column) → position_from t i cs ≡ Some k → k < i + length cs
+place_below t i k [] e = absurd (none_is_not k e)
+place_below t i k (c ∷ cs) e = below_by i k (length cs) (position_from t (i + 1) cs) (place_below t (i + 1) k cs) (t c) e
 
 -- ---- one source
 

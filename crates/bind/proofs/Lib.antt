@@ -1,13 +1,17 @@
 mod BindingRows
 pub mod CalmConditions
 pub mod ColumnNames
+pub mod CreatedTables
 pub mod EachRow
 mod FormRows
+pub mod GivenRows
 pub mod KnownTables
+pub mod PlainAnswers
 pub mod PlainFlows
 pub mod PlainReading
 mod QueryRows
 pub mod ResultItems
+pub mod ServedRefusals
 mod ViewRows
 pub mod Written
 mod Plain

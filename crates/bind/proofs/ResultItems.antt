@@ -1,18 +1,22 @@
 -- Results and the outputs that show them.
-use Rattle.std.proofs.Common.{◌≡◌, refl, sym, ap, subst, ◌∙◌, ◌⊎◌, inl, inr, ℕ, zero, suc, ◌+◌, ◌<◌, Bool, true, false, not, ◌&&◌, ◌||◌, if◌then◌else◌, List, [], ◌∷◌, ◌++◌, length, take, map, get_or, Option, None, Result, Ok, Err, OnOk, arith}
+use Rattle.std.proofs.Common.{◌≡◌, refl, sym, ap, subst, ◌∙◌, ◌⊎◌, inl, inr, ℕ, zero, suc, ◌+◌, ◌<◌, Bool, true, false, not, ◌&&◌, ◌||◌, if◌then◌else◌, List, [], ◌∷◌, ◌++◌, length, take, map, get_or, Option, Some, None, Result, Ok, Err, OnOk, arith}
 use Rattle.std.proofs.lemmas.List.{append-nil, append_assoc, map-append, take_more}
+use Rattle.std.proofs.lemmas.List.Elements.{All-from_get_or}
+use Rattle.std.specs.Prelude.{All}
 use Rattle.std.specs.Str.{bytes_eq}
 use Rattle.sqlval.specs.Names.{folded, is_same_name}
 use Rattle.sqlval.specs.Refusals.{refusal_of, Misuse, NoSuch}
 use Rattle.sqlval.specs.declared.fault.Fault.{Fault}
-use Rattle.sqlval.specs.declared.fault.Fault.TheVariants.{Memory}
+use Rattle.sqlval.specs.declared.fault.Fault.TheVariants.{Memory, Unsupported}
+use Rattle.sqlval.specs.declared.fault.Feature.TheVariants.{NotBuilt}
 use Rattle.syntax.specs.Tree.{Tree}
 use Rattle.catalog.specs.Listed.{plain_column}
 use Rattle.catalog.specs.declared.tables.Column.{Column}
 use Rattle.catalog.specs.declared.tables.Table.{Table}
 use Rattle.syntax.specs.declared.query.ResultItem.{ResultItem}
-use Rattle.syntax.specs.declared.query.ResultItem.TheVariants.{All, AllOf}
-use Rattle.bind.specs.Bound.{IsFaultOf, Means, ShowsAll, AreShown, IsShownBehind, columns_from, source_seen}
+use Rattle.syntax.specs.declared.query.ResultItem.TheVariants as item_of
+use Rattle.syntax.specs.declared.query.ResultItem.TheVariants.{AllOf}
+use Rattle.bind.specs.Bound.{IsFaultOf, IsOf, IsValueFault, Means, is_column, is_literal, ShowsAll, AreShown, IsShownBehind, columns_from, source_seen}
 use Rattle.bind.specs.Known.{Known, Meant, good, known_map, both, unless, faults}
 use Rattle.bind.specs.Queries.{cells_from, resolve_item, resolve_items, result_column}
 use Rattle.bind.specs.Scopes.{ScopeColumn, ScopeSource, table_scope}
@@ -34,6 +38,11 @@ count_of i (c ∷ cs) = ap suc (count_of (suc i) cs)
 
 from_zero : (k : ℕ) → 0 + k ≡ k
 from_zero k = omega arith
+
+-- each is of a row of the table
+pub columns_placed : (cs : List Column) → All (IsOf (Some (length cs))) (columns_from 0 cs)
+columns_placed cs = All-from_get_or (IsOf (Some (length cs))) (columns_from 0 cs) out.Rowid (λ k lt.
+    subst (IsOf (Some (length cs))) (sym (at_place 0 k cs out.Rowid (omega (arith, lt, count_of 0 cs)))) (omega (arith, lt, count_of 0 cs)))
 
 -- one more column
 pub column_next : (cs : List Column) (k : ℕ) → k < length cs → take (k + 1) (columns_from 0 cs) ≡ take k (columns_from 0 cs) ++ out.Column k ∷ []
@@ -64,7 +73,7 @@ module _ (before after : List Output) (name : List ℕ) (t : Table) (pushed : af
   shown ts h = subst (λ os. ShowsAll os (ts ++ map (λ r. r.0) (cells_from 0 0 (seen t.columns.items) ++ []))) (sym pushed)
       (shows_append before (columns_from 0 t.columns.items) ts _ h (subst (ShowsAll (columns_from 0 t.columns.items)) (sym (stars t.columns.items)) (columns_show 0 t.columns.items)))
 
-  pub all_shown : IsShownBehind before after (resolve_item (source_seen name t ∷ []) All)
+  pub all_shown : IsShownBehind before after (resolve_item (source_seen name t ∷ []) item_of.All)
   all_shown = (refl, shown)
 
   abbrev item : List ℕ → Bool → Bool → Known (List (Term × ScopeColumn))
@@ -96,6 +105,11 @@ on_ok (Err e) P Q f h = h
 -- one more output
 pub value_shown : (before : List Output) (o : Output) (e : Tree) (as_name : Option (List ℕ)) (k : Known Term) → Means o k → IsShownBehind before (before ++ o ∷ []) (known_map (λ t. result_column e as_name t ∷ []) k)
 value_shown before o e as_name (Meant t rs) h = (h.0, λ ts s. shows_append before (o ∷ []) ts (t ∷ []) s (h.1, tt))
+
+-- what is no column and no literal
+pub no_value : (s : List ScopeSource) (e : Tree) (f : Fault) → is_column e ≡ false → (f ≡ Memory) ⊎ (f ≡ Unsupported NotBuilt) × (is_literal e ≡ false) → IsValueFault s e f
+no_value s e f h (inl m) = inl (inl m)
+no_value s e f h (inr (u, l)) = inr (u, λ i. h i || l i)
 
 -- ---- results
 

@@ -1,5 +1,5 @@
 -- What is looked up among listed tables, beside what its text stands for.
-use Rattle.std.specs.Prelude.{◌≡◌, ◌⊎◌, ⊤, ℕ, suc, ◌<◌, Bool, true, false, ◌||◌, List, [], ◌∷◌, ◌++◌, length, map, Option, Some, None, unwrap_or, Vec, Result, Ok, Err}
+use Rattle.std.specs.Prelude.{◌≡◌, ◌⊎◌, ⊤, ℕ, suc, ◌<◌, Bool, true, false, ◌||◌, List, [], ◌∷◌, ◌++◌, length, map, Option, Some, None, unwrap_or, IsSomeAnd, Vec, Result, Ok, Err}
 use Rattle.std.specs.List.{Any, Contains}
 use Rattle.sqlval.specs.Lists.{any_twice}
 use Rattle.sqlval.specs.Names.{folded, is_same_name}
@@ -70,15 +70,16 @@ IsOnce (Some s) = is_twice_named s.table.now.columns.items ≡ false
 
 -- ---- outputs
 
--- the value of an output over rows
-abbrev pub output_value : Environment → Output → Value
-output_value env (out.Column i) = cell env 0 (At i)
-output_value env out.Rowid = cell env 0 RowId
-output_value env (out.Literal v) = v
+-- the value of an output over rows; that of a number past 64 bits is refused
+abbrev pub output_answer : Environment → Output → Answer Value
+output_answer env (out.Column i) = Ok (cell env 0 (At i))
+output_answer env out.Rowid = Ok (cell env 0 RowId)
+output_answer env (out.Literal v) = Ok v
+output_answer env out.Overflow = Err RealRefused
 
--- a term without aggregates that has the output's value over whatever rows
+-- a term without aggregates that has the output's value, or its refusal, over whatever rows
 abbrev pub Shows : Output → Term → Type 0
-Shows o t = (has_total t ≡ false) × ((env : Environment) → value t env ≡ Ok (output_value env o))
+Shows o t = (has_total t ≡ false) × ((env : Environment) → value t env ≡ output_answer env o)
 
 -- the terms are shown by the outputs, each by its own
 abbrev pub ShowsAll : List Output → List Term → Type 0
@@ -112,6 +113,23 @@ IsShownBehind before after k = (faults k ≡ []) × ((ts : List Term) → ShowsA
 abbrev pub AreShown : List Output → Known (List (Term × ScopeColumn)) → Type 0
 AreShown outputs k = (faults k ≡ []) × ShowsAll outputs (terms_of k)
 
+-- The output is of a row of so many values; where no row is read it is of none.
+abbrev pub IsOf : Option ℕ → Output → Type 0
+IsOf width (out.Column place) = IsSomeAnd width (λ n. place < n)
+IsOf width out.Rowid = IsSomeAnd width (λ n. ⊤)
+IsOf width (out.Literal v) = ⊤
+IsOf width out.Overflow = ⊤
+
+-- how many columns the query's table has, where there is one
+abbrev pub columns_in : Option Scope → Option ℕ
+columns_in None = None
+columns_in (Some s) = Some (length s.table.now.columns.items)
+
+-- how many values each row of the source has, where there is one
+abbrev pub width_of : Option BoundSource → Option ℕ
+width_of None = None
+width_of (Some s) = Some s.width
+
 -- ---- refusals
 
 -- one of these refusals, or the want of memory
@@ -134,16 +152,14 @@ is_literal (tree.Blob b) = true
 is_literal (tree.Negated (tree.Integer n)) = true
 is_literal _ = false
 
-abbrev is_column : Tree → Bool
+-- a column's name, with or without its source's
+abbrev pub is_column : Tree → Bool
 is_column (tree.Column q n) = true
 is_column _ = false
 
--- why a result is refused: as its text is, since it is no column or literal, or since its number is past 64 bits
+-- why a result is refused: as its text is, or since it is no column or literal
 abbrev pub IsValueFault : List ScopeSource → Tree → Fault → Type 0
-IsValueFault scope e f =
-    IsFaultOf (faults (resolve true scope e)) f
-    ⊎ (f ≡ Unsupported NotBuilt) × ((is_column e || is_literal e) ≡ false)
-    ⊎ (f ≡ fault.RealRefused) × ((env : Environment) → value (meant (resolve true scope e)) env ≡ Err RealRefused)
+IsValueFault scope e f = IsFaultOf (faults (resolve true scope e)) f ⊎ (f ≡ Unsupported NotBuilt) × ((is_column e || is_literal e) ≡ false)
 
 -- why an item of the results is refused
 abbrev pub IsItemFault : List ScopeSource → Fault → ResultItem → Type 0

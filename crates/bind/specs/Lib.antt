@@ -1,8 +1,10 @@
 pub mod Bound
 pub mod Calm
 pub mod Comprehension
+pub mod Creating
 pub mod Expressions
 pub mod Grouping
+pub mod Inserts
 pub mod Keys
 pub mod Known
 pub mod Laws
@@ -11,6 +13,7 @@ pub mod Queries
 pub mod Readings
 pub mod Schema
 pub mod Scopes
+pub mod Served
 pub mod Tables
 pub mod Terms
 pub mod Values

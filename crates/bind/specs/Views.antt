@@ -42,19 +42,19 @@ columns_of (suc n) db around name =
 abbrev pub look_up : Database → Lookup
 look_up db = columns_of 64 db []
 
-abbrev table_rows : Table → List Row
+abbrev pub table_rows : Table → List Row
 table_rows t = map (λ r. record { rowid = Int r.0; values = r.1 }) t.rows
 
-abbrev plain_rows : List (List Value) → List Row
+abbrev pub plain_rows : List (List Value) → List Row
 plain_rows = map (λ vs. record { rowid = Null; values = vs })
 
-abbrev rows_of_object : (View → Answer (List Row)) → Option Object → Answer (List Row)
+abbrev pub rows_of_object : (View → Answer (List Row)) → Option Object → Answer (List Row)
 rows_of_object view (Some (ATable t)) = Ok (table_rows t)
 rows_of_object view (Some (AView v)) = view v
 rows_of_object view _ = Err NoSuch
 
 -- each source's rows, in FROM order
-abbrev loaded : (Name → Answer (List Row)) → List (Name × Condition) → Answer (List (Condition × List Row))
+abbrev pub loaded : (Name → Answer (List Row)) → List (Name × Condition) → Answer (List (Condition × List Row))
 loaded rows [] = Ok []
 loaded rows (s ∷ ss) = rows s.0 then λ r. loaded rows ss then λ rest. Ok ((s.1, r) ∷ rest)
 

@@ -8,7 +8,9 @@ mod names;
 mod queries;
 
 ghost use Rattle.bind.specs.Comprehension.{IsComprehension};
+ghost use Rattle.bind.specs.Creating.{KeepsNamesOnce, MakesListedTable, RefusesTableAsDefined};
 ghost use Rattle.bind.specs.Laws.{CalmIsNotRefused, KnowsListed};
+ghost use Rattle.bind.specs.Served.{RefusesAsDefined};
 
 pub use inserting::{BoundInsert, bind_insert};
 pub use queries::{BoundQuery, BoundSource, Output, bind_query};
@@ -27,4 +29,17 @@ pub fn plain_query_is_a_comprehension()
 /// The tables that a catalog lists of a database are those that its names are looked up among.
 pub fn listed_tables_are_known()
     ensures { KnowsListed }
+{}
+
+/// A query of the form that is served is refused only as its text is, or for want of memory.
+pub fn served_queries_are_refused_as_defined()
+    ensures { RefusesAsDefined }
+{}
+
+/// A CREATE TABLE of a definition without rules, beside listed tables, makes the table of the definition's columns, or is
+/// refused for each cause that there is.
+pub fn tables_are_created_as_defined()
+    ensures makes { MakesListedTable }
+    ensures refuses { RefusesTableAsDefined }
+    ensures once { KeepsNamesOnce }
 {}

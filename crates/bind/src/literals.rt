@@ -46,6 +46,7 @@ pub fn literal(alloc: Global, value: &Expr) -> R<Value>
     ensures refused { IfErr result (λ fault. (fault ≡ Fault.Memory)
         ⊎ (fault ≡ Fault.Unsupported Feature.NotBuilt) × (is_literal value.now ≡ false)
         ⊎ (fault ≡ Fault.RealRefused) × ((totals : Bool) (scope : List ScopeSource) (env : Environment) → value_of (meant (resolve totals scope value.now)) env ≡ Err refusal.RealRefused)) }
+    ensures overflow { IfErr result (λ fault. fault ≡ Fault.RealRefused → (totals : Bool) (scope : List ScopeSource) → Means out.Overflow (resolve totals scope value.now)) }
     ensures calm { IfErr result (λ fault. IsNoFileFault fault) }
 {
     match &value.node {

@@ -1,5 +1,9 @@
 pub mod Calm
-mod AddedLemmas
-mod InsertLemmas
-mod Greatest
+mod Folding
+mod OnPage
+mod Rising
 mod RowRows
+mod StoredRows
+mod StoredValues
+pub mod PlacesByName
+pub mod GivenAsMeant

@@ -1,10 +1,41 @@
 -- What the page's rows and the definition of a table's rows agree in.
-use Rattle.std.specs.Prelude.{◌≡◌, ℕ, ℤ, List, Ok}
-use Rattle.catalog.specs.Database.{Table}
-use Rattle.rowprog.specs.Rows.{Holds}
-use Rattle.dml.specs.Constraints.{next_rowid}
-use Rattle.dml.specs.Inserting.{behind, last_rowid}
+use Rattle.std.specs.Prelude.{◌≡◌, ◌≤◌, ◌<◌, ℕ, true, List, [], ◌++◌, length, slice_index_or, Option, None, Ok, All, zip}
+use Rattle.sqlval.specs.Refusals.{◌then◌, fold_answer}
+use Rattle.sqlval.specs.declared.value.Value.{Value}
+use Rattle.sqlval.specs.declared.value.Value.TheVariants.{Null}
+use Rattle.syntax.specs.declared.create.TriggerTime.{TriggerTime}
+use Rattle.catalog.specs.Database as database
+use Rattle.catalog.specs.Database.{Name, Database, ATable, with_object}
+use Rattle.catalog.specs.Listed.{plain_table, has_only_tables}
+use Rattle.catalog.specs.declared.tables.Column.{Column}
+use Rattle.catalog.specs.declared.tables.Table.{Table}
+use Rattle.rowprog.specs.Rows.{Holds, TableRow}
+use Rattle.dml.specs.Constraints.{next_rowid, table_of, default_values, set_values}
+use Rattle.dml.specs.Inserting.{given_at, rowid_behind, last_rowid, rows_added}
+use Rattle.dml.specs.RowChanges.{Fire, Firing, insert_row}
 
 -- the rowid that a row without one gets in a table is the next behind those of the table's page
 abbrev pub NextIsBehind : Type 0
-NextIsBehind = (page : List ℕ) (number width : ℕ) (t : Table) (rowid : ℤ) → Holds page number width t.rows → next_rowid t ≡ Ok rowid → rowid ≡ behind (last_rowid t.rows)
+NextIsBehind = (page : List ℕ) (number width : ℕ) (t : database.Table) → Holds page number width t.rows → next_rowid t ≡ rowid_behind (last_rowid t.rows)
+
+-- where there are only tables, nothing is set off
+abbrev pub IsStill : Fire → Type 0
+IsStill fire = (time : TriggerTime) (firing : Firing) (db : Database) → has_only_tables db ≡ true → fire time firing db ≡ Ok db
+
+-- the values are those given for the columns, at their places
+pub record AreGivenFor (columns : List Column) (places : List (Option ℕ)) (given values : List Value) : Type 0 where
+  pub full : length values ≡ length columns
+  pub each : (k : ℕ) → k < length columns → slice_index_or values k Null ≡ given_at given (slice_index_or places k None)
+
+-- Set at their places among a table's columns, the values of a row given are those given for the columns.
+abbrev pub IsSetFor : Table → List (Option ℕ) → List ℕ → List Value → Type 0
+IsSetFor table by_column places given = AreGivenFor table.columns.items by_column given (set_values (default_values (plain_table table [])) (zip places given))
+
+-- An INSERT of rows into a listed table, where nothing is set off, leaves it with those that the rows become behind its own, or
+-- is refused as these are.
+abbrev pub InsertsRows : Type 0
+InsertsRows = (fire : Fire) (name : Name) (places : List ℕ) (db : Database) (table : Table) (by_column : List (Option ℕ)) (rows : List TableRow) (given : List (List Value)) (page : List ℕ) (number : ℕ)
+    → IsStill fire → has_only_tables db ≡ true → table_of db name ≡ Ok (plain_table table rows) → Holds page number (length table.columns.items) rows
+    → All (IsSetFor table by_column places) given → 1 ≤ length given
+    → fold_answer (insert_row fire name places) db given
+    ≡ (rows_added table.columns.items by_column (last_rowid rows) given then λ added. Ok (with_object db name (ATable (plain_table table (rows ++ added)))))

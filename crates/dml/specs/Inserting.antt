@@ -1,98 +1,104 @@
--- What INSERT adds to a table without constraints, as rows and as entries of its page.
-use Rattle.std.specs.Prelude.{◌≡◌, ◌⊎◌, ◌<◌, ◌<ℤ◌, ◌+ℤ◌, ◌-ℤ◌, ℕ, ℤ, pos, List, [], ◌∷◌, ◌++◌, length, slice_index_or, Option, Some, None, unwrap_or, ⊤}
-use Rattle.sqlval.specs.Affinity.{Converts, IsReal}
+-- What INSERT adds to a table without constraints, as rows and as entries of its page (SQL As Understood By SQLite, "INSERT", and SQLite Autoincrement).
+use Rattle.std.specs.Prelude.{◌≡◌, ◌⊎◌, ◌+ℤ◌, ◌^◌, ◌-◌, ℕ, ℤ, pos, int_lt, List, [], ◌∷◌, ◌++◌, map, length, slice_index_or, Option, Some, None, Ok, Err, unwrap_or, if◌then◌else◌, All}
+use Rattle.sqlval.specs.Refusals.{Answer, ◌then◌, RowidFull, refusal_of}
 use Rattle.sqlval.specs.declared.fault.Fault.{Fault}
-use Rattle.sqlval.specs.declared.fault.Fault.TheVariants.{Memory, RealRefused, RowidFull, TooLong}
+use Rattle.sqlval.specs.declared.fault.Fault.TheVariants as fault
+use Rattle.sqlval.specs.declared.fault.Feature.TheVariants.{RowSize}
 use Rattle.sqlval.specs.declared.value.Value.{Value}
 use Rattle.sqlval.specs.declared.value.Value.TheVariants.{Null}
-use Rattle.record.specs.Record.{IsRecord}
-use Rattle.record.specs.Writing.{AreStorable}
+use Rattle.record.specs.Writing.{AreStorable, record_of}
 use Rattle.page.specs.Leaf.{Entry}
-use Rattle.tabletree.specs.Cells.{Pairwise}
 use Rattle.tabletree.specs.Lone.{IsLeafRefusal, IsTooFull}
+use Rattle.catalog.specs.Listed.{plain_column}
 use Rattle.catalog.specs.declared.tables.Column.{Column}
 use Rattle.rowprog.specs.Rows.{TableRow, Holds}
+use Rattle.dml.specs.Constraints.{with_affinity}
+
+-- ---- the rows that are added
 
 -- the value given for a column, at its place: NULL where it has none
 abbrev pub given_at : List Value → Option ℕ → Value
 given_at given None = Null
 given_at given (Some place) = slice_index_or given place Null
 
--- for each column, what its affinity makes of the value given for it
-pub record AreStored (columns : List Column) (places : List (Option ℕ)) (given values : List Value) : Type 0 where
-  pub full : length values ≡ length columns
-  pub each : (i : ℕ) (c : Column) → i < length columns → Converts (slice_index_or columns i c).affinity (given_at given (slice_index_or places i None)) (slice_index_or values i Null)
+-- for each column the value given for it
+abbrev pub values_given : List Column → List (Option ℕ) → List Value → List Value
+values_given [] places given = []
+values_given (column ∷ columns) [] given = Null ∷ values_given columns [] given
+values_given (column ∷ columns) (place ∷ places) given = given_at given place ∷ values_given columns places given
 
--- some value given at a place is a real
-abbrev pub HasReal : List (Option ℕ) → List Value → Type 0
-HasReal places given = (i : ℕ) × IsReal (given_at given (slice_index_or places i None))
+-- what the columns store of a row given
+abbrev pub row_stored : List Column → List (Option ℕ) → List Value → Answer (List Value)
+row_stored columns places given = with_affinity (map plain_column columns) (values_given columns places given)
 
--- the values that a row given stores are more, or longer, than a record can hold
-pub record IsTooLong (columns : List Column) (places : List (Option ℕ)) (given : List Value) : Type 0 where
-  pub values : List Value
-  pub stored : AreStored columns places given values
-  pub long : AreStorable values → ⊥
+-- The rowid behind the last: 1 where there is none. The greatest of all, 9223372036854775807, has none behind it.
+abbrev pub rowid_behind : Option ℤ → Answer ℤ
+rowid_behind None = Ok (pos 1)
+rowid_behind (Some last) = if int_lt last (pos (2 ^ 63 - 1)) then Ok (last +ℤ pos 1) else Err RowidFull
 
--- the payload is a record of the values that a row given stores
-pub record IsStored (columns : List Column) (places : List (Option ℕ)) (given : List Value) (payload : List ℕ) : Type 0 where
-  pub values : List Value
-  pub stored : AreStored columns places given values
-  pub payload_is : IsRecord payload values
+-- the row that a row given becomes behind the last rowid: what its columns store, and then the next rowid
+abbrev pub row_added : List Column → List (Option ℕ) → Option ℤ → List Value → Answer TableRow
+row_added columns places last given = row_stored columns places given then λ values. rowid_behind last then λ rowid. Ok (rowid, values)
 
--- Why a row given isn't stored: it has a real, or a record can't hold it.
-abbrev pub IsRefusedRow : List Column → List (Option ℕ) → List Value → Fault → Type 0
-IsRefusedRow columns places given fault = ((fault ≡ RealRefused) × HasReal places given) ⊎ ((fault ≡ TooLong) × IsTooLong columns places given)
-
--- one of the rows given isn't stored
-pub record RefusesARow (columns : List Column) (places : List (Option ℕ)) (rows : List (List Value)) (fault : Fault) : Type 0 where
-  pub at : ℕ
-  pub there : at < length rows
-  pub why : IsRefusedRow columns places (slice_index_or rows at []) fault
-
--- the rowid behind the last: 1 where there is none
-abbrev pub behind : Option ℤ → ℤ
-behind None = pos 1
-behind (Some last) = last +ℤ pos 1
-
--- Rowids run out: so many new ones behind the last would pass the greatest of 64 bits, 9223372036854775807.
-abbrev pub RunsOut : Option ℤ → ℕ → Type 0
-RunsOut last count = pos 9223372036854775807 <ℤ ((behind last +ℤ pos count) -ℤ pos 1)
-
--- entries of these payloads, with rowids one after another
-abbrev pub numbered : ℤ → List (List ℕ) → List Entry
-numbered first [] = []
-numbered first (payload ∷ payloads) = record { rowid = first; payload = payload } ∷ numbered (first +ℤ pos 1) payloads
+-- the rows that the rows given become, one behind another, up to the first refusal
+abbrev pub rows_added : List Column → List (Option ℕ) → Option ℤ → List (List Value) → Answer (List TableRow)
+rows_added columns places last [] = Ok []
+rows_added columns places last (given ∷ rows) =
+    row_added columns places last given then λ row. rows_added columns places (Some row.0) rows then λ added. Ok (row ∷ added)
 
 -- the rowid of the last row, where there is one: the greatest, since rowids rise
 abbrev pub last_rowid : List TableRow → Option ℤ
 last_rowid [] = None
 last_rowid (row ∷ rows) = Some (unwrap_or (last_rowid rows) row.0)
 
--- the rows' rowids go one after another from this one on
-abbrev pub AreNumbered : ℤ → List TableRow → Type 0
-AreNumbered first [] = ⊤
-AreNumbered first (row ∷ rows) = (row.0 ≡ first) × AreNumbered (first +ℤ pos 1) rows
+-- ---- the page
 
--- Behind these rows, the page holds one more for each of the rows given: with the next rowids, and with the values that it stores.
+-- Behind these rows, the page holds those that the rows given become.
 pub record IsInserted (page : List ℕ) (number : ℕ) (columns : List Column) (places : List (Option ℕ)) (given : List (List Value)) (rows : List TableRow) : Type 0 where
   pub added : List TableRow
-  pub stored : Pairwise (λ values row. AreStored columns places values row.1) given added
-  pub numbers : AreNumbered (behind (last_rowid rows)) added
+  pub answer : rows_added columns places (last_rowid rows) given ≡ Ok added
   pub holds : Holds page number (length columns) (rows ++ added)
 
--- the rowids run out behind those of the page's rows
-abbrev pub HasNoRowids : List ℕ → ℕ → List Column → List (List Value) → Fault → Type 0
-HasNoRowids page number columns given fault = (fault ≡ RowidFull) × ((rows : List TableRow) → Holds page number (length columns) rows → RunsOut (last_rowid rows) (length given))
+-- the entry of a row, with the record that is written of its values
+abbrev pub entry_for : TableRow → Entry
+entry_for row = record { rowid = row.0; payload = record_of row.1 }
 
--- the page has no room for the entries of the rows given
-pub record HasNoRoom (page : List ℕ) (number : ℕ) (columns : List Column) (places : List (Option ℕ)) (given : List (List Value)) (fault : Fault) : Type 0 where
-  pub first : ℤ
-  pub payloads : List (List ℕ)
-  pub stored : Pairwise (IsStored columns places) given payloads
-  pub full : IsTooFull page number (numbered first payloads) fault
+-- a record can hold each row's values
+abbrev pub AllStorable : List TableRow → Type 0
+AllStorable rows = All (λ row. AreStorable row.1) rows
 
--- Why rows aren't inserted: for want of memory, because the page is no leaf of rows, a row given isn't stored, the rowids run
--- out, or the page has no room.
+-- where the page holds rows of so many values, the rowid of their last is this
+abbrev pub EndsAt : List ℕ → ℕ → ℕ → Option ℤ → Type 0
+EndsAt page number width last = (rows : List TableRow) → Holds page number width rows → last_rowid rows ≡ last
+
+-- a refusal of the rows given, as the definition's answer is: a real, or no rowid behind the last
+abbrev pub IsRefusedAs : {A : Type 0} → Answer A → Fault → Type 0
+IsRefusedAs answer f = ((f ≡ fault.RealRefused) ⊎ (f ≡ fault.RowidFull)) × (answer ≡ Err (refusal_of f))
+
+-- what the rows given become is refused
+pub record AreRefused (page : List ℕ) (number : ℕ) (columns : List Column) (places : List (Option ℕ)) (given : List (List Value)) (f : Fault) : Type 0 where
+  pub last : Option ℤ
+  pub ends : EndsAt page number (length columns) last
+  pub answer : IsRefusedAs (rows_added columns places last given) f
+
+-- no record can hold one of the rows, or the page has no room for their entries
+abbrev pub FindNoRoom : List ℕ → ℕ → List TableRow → Fault → Type 0
+FindNoRoom page number rows f = ((f ≡ fault.Unsupported RowSize) × (AllStorable rows → ⊥)) ⊎ IsTooFull page number (map entry_for rows) f
+
+-- there is no room for what the rows given become
+pub record HasNoRoom (page : List ℕ) (number : ℕ) (columns : List Column) (places : List (Option ℕ)) (given : List (List Value)) (f : Fault) : Type 0 where
+  pub last : Option ℤ
+  pub ends : EndsAt page number (length columns) last
+  pub added : List TableRow
+  pub answer : rows_added columns places last given ≡ Ok added
+  pub full : FindNoRoom page number added f
+
+-- the page isn't read as a leaf, and holds no rows of so many values
+abbrev pub HoldsNoRows : List ℕ → ℕ → ℕ → Fault → Type 0
+HoldsNoRows page number width f = IsLeafRefusal number f × ((rows : List TableRow) → Holds page number width rows → ⊥)
+
+-- Why rows aren't inserted: for want of memory, because the page is no leaf of rows, because what they become is refused, or
+-- because there is no room for it.
 abbrev pub IsInsertRefusal : List ℕ → ℕ → List Column → List (Option ℕ) → List (List Value) → Fault → Type 0
-IsInsertRefusal page number columns places given fault =
-    (fault ≡ Memory) ⊎ (IsLeafRefusal number fault ⊎ (RefusesARow columns places given fault ⊎ (HasNoRowids page number columns given fault ⊎ HasNoRoom page number columns places given fault)))
+IsInsertRefusal page number columns places given f =
+    (f ≡ fault.Memory) ⊎ (HoldsNoRows page number (length columns) f ⊎ (AreRefused page number columns places given f ⊎ HasNoRoom page number columns places given f))

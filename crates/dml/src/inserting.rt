@@ -1,21 +1,23 @@
 //! Changes of a table's rows.
 
 ghost use Rattle.catalog.specs.Faults.{IsNoFileFault};
-ghost use Rattle.std.specs.Prelude.{◌≡◌, ◌⊎◌, List, length, map, take, slice_index_or, None, IfOk, IfErr};
-ghost use Rattle.sqlval.specs.Affinity.{Converts, IsConversionFault};
+ghost use Rattle.std.specs.Prelude.{◌≡◌, ◌⊎◌, List, length, map, take, slice_index_or, None, Some, Ok, Err, IfOk, IfErr};
+ghost use Rattle.sqlval.specs.Conversion.{converted};
+ghost use Rattle.sqlval.specs.Refusals as refusal;
 ghost use Rattle.record.specs.Record.{IsRecord};
-ghost use Rattle.record.specs.Writing.{AreStorable};
+ghost use Rattle.record.specs.Writing.{AreStorable, record_of};
 ghost use Rattle.page.specs.Leaf.{entry_of};
 ghost use Rattle.tabletree.specs.Cells.{Pairwise, start_of};
 ghost use Rattle.rowprog.specs.Rows.{Holds, TableRow};
-ghost use Rattle.dml.specs.Agreement.{NextIsBehind};
-ghost use Rattle.dml.specs.Inserting.{AreStored, IsInserted, IsInsertRefusal, IsRefusedRow, IsStored, RefusesARow, RunsOut, behind, given_at, numbered};
+ghost use Rattle.dml.specs.Agreement.{NextIsBehind, InsertsRows};
+ghost use Rattle.dml.specs.Inserting.{AllStorable, IsInserted, IsInsertRefusal, IsRefusedAs, given_at, row_added, row_stored, rows_added};
+ghost use Rattle.dml.specs.NewRows.{IsWritten, entry_in, row_of};
 
 use bind::BoundInsert;
-use catalog::Column;
+use catalog::{Column, conversion_is_one, other_rows_are_listed};
 use page::Cell;
 use record::{encode, is_storable};
-use sqlval::{Fault, R, Value, apply};
+use sqlval::{Fault, Feature, R, Value, apply};
 use std::alloc::Global;
 use tabletree::{Leaf, next_rowid, with_rows};
 
@@ -41,11 +43,19 @@ fn place_of(places: &[Option<usize>], index: usize) -> Option<usize>
     }
 }
 
+/// A new row.
+#[derive(Drop)]
+struct NewRow {
+    rowid: i64,
+    values: Vec<Value>,
+}
+
 /// What a column stores of the value given for it.
 fn stored_value(alloc: Global, column: &Column, place: Option<usize>, given: &[Value]) -> R<Value>
-    ensures stored { IfOk result (λ value. Converts column.now.affinity (given_at given.now place) value) }
-    ensures refused { IfErr result (λ fault. IsConversionFault (given_at given.now place) fault) }
+    ensures stored { IfOk result (λ value. converted column.now.affinity (given_at given.now place) ≡ Ok value) }
+    ensures refused { IfErr result (λ fault. (fault ≡ Fault.Memory) ⊎ ((fault ≡ Fault.RealRefused) × (converted column.now.affinity (given_at given.now place) ≡ Err refusal.RealRefused))) }
 {
+    conversion_is_one();
     let value = value_given(alloc, given, place)?;
     apply(alloc, column.affinity, value)
 }
@@ -57,8 +67,8 @@ fn stored_values(
     places: &[Option<usize>],
     given: &[Value],
 ) -> R<Vec<Value>>
-    ensures stored { IfOk result (λ values. AreStored columns.now places.now given.now values.items) }
-    ensures refused { IfErr result (λ fault. (fault ≡ Fault.Memory) ⊎ IsRefusedRow columns.now places.now given.now fault) }
+    ensures stored { IfOk result (λ values. row_stored columns.now places.now given.now ≡ Ok values.items) }
+    ensures refused { IfErr result (λ fault. (fault ≡ Fault.Memory) ⊎ ((fault ≡ Fault.RealRefused) × (row_stored columns.now places.now given.now ≡ Err refusal.RealRefused))) }
 {
     let mut values = Vec::new(alloc);
     'columns: for index in 0..columns.len() {
@@ -68,69 +78,110 @@ fn stored_values(
     Ok(values)
 }
 
-/// The record of a new row's values.
+/// The row that a row given becomes behind this rowid: its values are stored first, and then it takes the next rowid.
+fn new_row(
+    alloc: Global,
+    columns: &[Column],
+    places: &[Option<usize>],
+    given: &[Value],
+    last: Option<i64>,
+) -> R<NewRow>
+    ensures added { IfOk result (λ row. row_added columns.now places.now last given.now ≡ Ok (row_of row)) }
+    ensures refused { IfErr result (λ fault. (fault ≡ Fault.Memory) ⊎ IsRefusedAs (row_added columns.now places.now last given.now) fault) }
+{
+    let values = stored_values(alloc, columns, places, given)?;
+    let rowid = next_rowid(last)?;
+    Ok(NewRow { rowid, values })
+}
+
+/// The last rowid, once this row is added.
+fn last_after(row: &NewRow) -> Option<i64>
+    ensures { result ≡ Some (row_of row.now).0 }
+{
+    Some(row.rowid)
+}
+
+/// The rows that the rows given become, one behind another.
+fn new_rows(
+    alloc: Global,
+    columns: &[Column],
+    places: &[Option<usize>],
+    rows: &[Vec<Value>],
+    last: Option<i64>,
+) -> R<Vec<NewRow>>
+    ensures added { IfOk result (λ added. rows_added columns.now places.now last (map (λ row. row.items) rows.now) ≡ Ok (map row_of added.items)) }
+    ensures refused { IfErr result (λ fault. (fault ≡ Fault.Memory) ⊎ IsRefusedAs (rows_added columns.now places.now last (map (λ row. row.items) rows.now)) fault) }
+{
+    let mut added = Vec::new(alloc);
+    let mut before = last;
+    'rows: for row in rows {
+        let new = new_row(alloc, columns, places, row, before)?;
+        before = last_after(&new);
+        added.push(new)?;
+    }
+    Ok(added)
+}
+
+/// The record of a new row.
+#[derive(Drop)]
+struct RowRecord {
+    rowid: i64,
+    payload: Vec<u8>,
+}
+
+/// The record of these values. What no record can hold finds no room on a page.
 fn encoded(alloc: Global, values: &[Value]) -> R<Vec<u8>>
     ensures is { IfOk result (λ payload. IsRecord payload.items values.now) }
-    ensures refused { IfErr result (λ fault. (fault ≡ Fault.Memory) ⊎ ((fault ≡ Fault.TooLong) × (AreStorable values.now → ⊥))) }
+    ensures exact { IfOk result (λ payload. payload.items ≡ record_of values.now) }
+    ensures refused { IfErr result (λ fault. (fault ≡ Fault.Memory) ⊎ ((fault ≡ Fault.Unsupported Feature.RowSize) × (AreStorable values.now → ⊥))) }
 {
     if !is_storable(values) {
-        return Err(Fault::TooLong);
+        return Err(Fault::Unsupported(Feature::RowSize));
     }
     encode(alloc, values)
 }
 
 /// The record of a new row.
-fn record_of(
-    alloc: Global,
-    columns: &[Column],
-    places: &[Option<usize>],
-    given: &[Value],
-) -> R<Vec<u8>>
-    ensures stored { IfOk result (λ payload. IsStored columns.now places.now given.now payload.items) }
-    ensures refused { IfErr result (λ fault. (fault ≡ Fault.Memory) ⊎ IsRefusedRow columns.now places.now given.now fault) }
+fn record_for(alloc: Global, row: &NewRow) -> R<RowRecord>
+    ensures written { IfOk result (λ made. IsWritten (row_of row.now) (entry_in made)) }
+    ensures refused { IfErr result (λ fault. (fault ≡ Fault.Memory) ⊎ ((fault ≡ Fault.Unsupported Feature.RowSize) × (AreStorable (row_of row.now).1 → ⊥))) }
 {
-    let values = stored_values(alloc, columns, places, given)?;
-    encoded(alloc, &values)
+    Ok(RowRecord {
+        rowid: row.rowid,
+        payload: encoded(alloc, &row.values)?,
+    })
 }
 
 /// The records of the new rows.
-fn records_of(
-    alloc: Global,
-    columns: &[Column],
-    places: &[Option<usize>],
-    rows: &[Vec<Value>],
-) -> R<Vec<Vec<u8>>>
-    ensures stored { IfOk result (λ records. Pairwise (IsStored columns.now places.now) (map (λ row. row.items) rows.now) (map (λ bytes. bytes.items) records.items)) }
-    ensures refused { IfErr result (λ fault. (fault ≡ Fault.Memory) ⊎ RefusesARow columns.now places.now (map (λ row. row.items) rows.now) fault) }
+fn records_of(alloc: Global, rows: &[NewRow]) -> R<Vec<RowRecord>>
+    ensures written { IfOk result (λ records. Pairwise IsWritten (map row_of rows.now) (map entry_in records.items)) }
+    ensures refused { IfErr result (λ fault. (fault ≡ Fault.Memory) ⊎ ((fault ≡ Fault.Unsupported Feature.RowSize) × (AllStorable (map row_of rows.now) → ⊥))) }
 {
     let mut records = Vec::new(alloc);
     'rows: for row in rows {
-        records.push(record_of(alloc, columns, places, row)?)?;
+        records.push(record_for(alloc, row)?)?;
     }
     Ok(records)
 }
 
-/// The cells of these records, with rowids one after another behind the last.
-fn cells_of(alloc: Global, last: Option<i64>, records: &[Vec<u8>]) -> R<Vec<Cell<'_>>>
-    ensures cells { IfOk result (λ cells. map entry_of cells.items ≡ numbered (behind last) (map (λ bytes. bytes.items) records.now)) }
-    ensures refused { IfErr result (λ fault. (fault ≡ Fault.Memory) ⊎ ((fault ≡ Fault.RowidFull) × RunsOut last (length records.now))) }
+/// The cells of these records.
+fn cells_of(alloc: Global, records: &[RowRecord]) -> R<Vec<Cell<'_>>>
+    ensures cells { IfOk result (λ cells. map entry_of cells.items ≡ map entry_in records.now) }
+    ensures refused { IfErr result (λ fault. fault ≡ Fault.Memory) }
 {
     let mut cells = Vec::new(alloc);
-    let mut before = last;
     'records: for record in records {
-        let rowid = next_rowid(before)?;
         cells.push(Cell {
-            rowid,
-            payload: record.as_slice(),
+            rowid: record.rowid,
+            payload: record.payload.as_slice(),
         })?;
-        before = Some(rowid);
     }
     Ok(cells)
 }
 
 /// The bytes of a table's page of this number with the new rows behind those that it has; what stands before the tree's node stays.
-/// A page that is no leaf of rising rows is refused as `Leaf::over` does, a value that is a real `RealRefused`, a row that no record
-/// holds `TooLong`, one behind the greatest rowid of all `RowidFull`; where the rows don't fit, `Unsupported(RowSize)`.
+/// A page that is no leaf of rising rows is refused as `Leaf::over` does. Row by row, a value that is a real is `RealRefused`, and a
+/// row behind the greatest rowid of all `RowidFull`; only then, where the rows don't fit, `Unsupported(RowSize)`.
 pub fn insert(alloc: Global, page: &[u8], number: u32, insert: BoundInsert<'_>) -> R<Vec<u8>>
     ensures inserted { IfOk result (λ new. (rows : List TableRow) → Holds page.now number (length insert.entry.table.now.columns.items) rows → IsInserted new.items number insert.entry.table.now.columns.items insert.entry.places.items (map (λ row. row.items) insert.entry.rows.items) rows) }
     ensures size { IfOk result (λ new. length new.items ≡ length page.now) }
@@ -144,8 +195,9 @@ pub fn insert(alloc: Global, page: &[u8], number: u32, insert: BoundInsert<'_>) 
         rows,
     } = insert;
     let last = Leaf::over(alloc, page, number)?.last();
-    let records = records_of(alloc, &table.columns, &places, &rows)?;
-    let cells = cells_of(alloc, last, &records)?;
+    let added = new_rows(alloc, &table.columns, &places, &rows, last)?;
+    let records = records_of(alloc, &added)?;
+    let cells = cells_of(alloc, &records)?;
     with_rows(alloc, page, number, &cells)
 }
 
@@ -153,3 +205,10 @@ pub fn insert(alloc: Global, page: &[u8], number: u32, insert: BoundInsert<'_>) 
 pub fn next_rowid_is_behind()
     ensures { NextIsBehind }
 {}
+
+/// An INSERT of rows, where nothing is set off, leaves the table with what the rows become behind its own, or is refused as they are.
+pub fn insert_adds_its_rows()
+    ensures { InsertsRows }
+{
+    other_rows_are_listed();
+}

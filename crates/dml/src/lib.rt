@@ -2,6 +2,8 @@
 //! tables that are served.
 #![tactic(auto)]
 
+mod binding;
 mod inserting;
 
-pub use inserting::{insert, next_rowid_is_behind};
+pub use binding::insertions_are_bound_as_meant;
+pub use inserting::{insert, insert_adds_its_rows, next_rowid_is_behind};

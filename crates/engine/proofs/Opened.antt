@@ -76,3 +76,9 @@ read_then_cut page_size frames db log mid_db mid_log new_db new_log db_synced lo
 
 pub header_then : (db log read_db new_db new_log : File) → read_db ≡ db → Throughout (LeavesOpened read_db log) read_db log new_db new_log → Throughout (LeavesOpened db log) db log new_db new_log
 header_then db log read_db new_db new_log same = subst (λ (f : File). Throughout (LeavesOpened f log) f log new_db new_log) same
+
+-- the header is read, both files are opened, and then they are checked and the log is cut
+pub opened : (db log read_db mid_db mid_log new_db new_log : File) → read_db ≡ db → Throughout (LeavesAsBefore read_db log) read_db log mid_db mid_log → IsSynced mid_db → IsSynced mid_log
+    → mid_db.content ≡ read_db.content → mid_log.content ≡ log.content → Throughout (LeavesOpened mid_db mid_log) mid_db mid_log new_db new_log → Throughout (LeavesOpened db log) db log new_db new_log
+opened db log read_db mid_db mid_log new_db new_log same one db_synced log_synced db_same log_same two =
+    header_then db log read_db new_db new_log same (then_opened read_db log mid_db mid_log db_synced log_synced db_same log_same new_db new_log one two)

@@ -5,4 +5,3 @@ pub mod Lines
 pub mod Opening
 pub mod Output
 pub mod Replies
-pub mod Limits

@@ -1,13 +1,11 @@
 //! The engine: files opened and created, statements executed, and lines of text served.
 #![tactic(auto)]
 
-mod connections;
 mod creating;
 mod lines;
 mod literals;
 mod opening;
 mod output;
-mod pager;
 mod refusals;
 mod schema;
 mod serving;

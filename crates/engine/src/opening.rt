@@ -1,25 +1,26 @@
 //! Opening a database file with its log.
 
-ghost use Rattle.std.specs.Prelude.{◌≡◌, ◌⊎◌, ◌&&◌, Ok, Err, IfOk, IsTrue, IsFalse};
+ghost use Rattle.std.specs.Prelude.{◌≡◌, ◌⊎◌, ◌&&◌, Ok, Err, IfOk, IfErr, IsTrue, IsFalse};
 ghost use Rattle.disk.specs.File.{IsSynced, Throughout};
 ghost use Rattle.walframe.specs.Accepted.{Leaves};
 ghost use Rattle.wal.specs.Known.{db_of, known_of, log_of};
-ghost use Rattle.engine.specs.Opening.{LeavesOpened};
+ghost use Rattle.engine.specs.Opening.{KeepsBut, LeavesOpened};
+ghost use Rattle.sqlval.specs.declared.fault.Fault.TheVariants.{Io};
 ghost use Rattle.disk.specs.Calls.{Rose};
 ghost use Rattle.syntax.specs.declared.statement.Statement.{Statement};
 ghost use Rattle.parser.specs.Texts.{Is};
 ghost use Rattle.session.specs.Built as forms;
-ghost use Rattle.engine.specs.Limits.{may_be_full};
+ghost use Rattle.session.specs.Limits.{may_be_full};
 
-use crate::connections::Connections;
 use crate::creating::is_blank;
-use crate::pager::{HEADER_LEN, header_of, read_page};
 use crate::schema::load;
 use catalog::Catalog;
 use dbheader::Header;
 use disk::Disk;
+use pager::{HEADER_LEN, header_of, read_page};
 use parser::parse;
 use rowprog::Rows;
+use session::Connections;
 use sqlval::{Damage, Fault, Misuse, R};
 use std::alloc::Global;
 use wal::{Log, Refused};
@@ -67,6 +68,7 @@ fn newest_schema<D: Disk + Drop>(alloc: Global, log: &mut Log<D>) -> R<Catalog>
 fn started<D: Disk + Drop>(alloc: Global, log: &mut Log<D>) -> R<Catalog>
     ensures stop { IsFalse (known_of log.old).has_failed → IsTrue (D.tells (db_of log.old)) → IsTrue (D.tells (log_of log.old)) → IsSynced (D.file (db_of log.old)) → IsSynced (D.file (log_of log.old))
         → Throughout (LeavesOpened (D.file (db_of log.old)) (D.file (log_of log.old))) (D.file (db_of log.old)) (D.file (log_of log.old)) (D.file (db_of log.new)) (D.file (log_of log.new)) }
+    ensures kept { IsTrue (D.tells (db_of log.old)) → IsTrue (D.tells (log_of log.old)) → IfErr result (KeepsBut Io (D.file (db_of log.old)) (D.file (log_of log.old)) (D.file (db_of log.new)) (D.file (log_of log.new))) }
 {
     let catalog = newest_schema(alloc, log)?;
     log.cut_tail()?;
@@ -74,13 +76,20 @@ fn started<D: Disk + Drop>(alloc: Global, log: &mut Log<D>) -> R<Catalog>
 }
 
 impl<D: Disk + Drop> Engine<D> {
-    ghost use Rattle.engine.specs.Known.{IsNoConnection, db_disk, first_refusal, has_failed_of, log_disk};
+    ghost use Rattle.session.specs.Known.{IsNoConnection, first_refusal};
+    ghost use Rattle.engine.specs.Known.{db_disk, has_failed_of, log_disk};
     ghost use Rattle.engine.specs.Opening.{db_left, log_left};
 
     /// Opens a database: syncs both files, checks them, and cuts the log to its committed frames. A log that has no valid
     /// header gets one with these salts at the first commit. Refusals give the files back, with no byte changed but for `Io`
     /// in the cut: `Blank`, `NotADatabase`, `Unsupported`, `Damaged`, `Io`, `Memory`.
-    pub fn open(alloc: Global, db: D, log: D, salts: Salts) -> Result<Engine<D>, Refused<D>> {
+    pub fn open(alloc: Global, db: D, log: D, salts: Salts) -> Result<Engine<D>, Refused<D>>
+        // A stop leaves what was there before, or what was read of it; or the database file that was read, with a log of the same commits.
+        ensures stop { IsTrue (D.tells db) → IsTrue (D.tells log) → Throughout (LeavesOpened (D.file db) (D.file log)) (D.file db) (D.file log) (D.file (db_left result)) (D.file (log_left result)) }
+        // Refused, the files hold what they held, but for a call of a disk that failed.
+        ensures kept { IsTrue (D.tells db) → IsTrue (D.tells log) → IfErr result (λ refused. KeepsBut Io (D.file db) (D.file log) (D.file refused.db) (D.file refused.log) refused.fault) }
+        ensures whole { IfOk result (λ engine. IsFalse (has_failed_of engine)) }
+    {
         let mut db = db;
         let header = match file_header(&mut db) {
             Ok(header) => header,
@@ -107,7 +116,10 @@ impl<D: Disk + Drop> Engine<D> {
     }
 
     /// Gives the files back. Open transactions are given up.
-    pub fn into_disks(self) -> (D, D) {
+    pub fn into_disks(self) -> (D, D)
+        ensures db { result.0 ≡ db_disk self }
+        ensures log { result.1 ≡ log_disk self }
+    {
         let Engine {
             alloc: _,
             connections,

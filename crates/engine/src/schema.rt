@@ -1,17 +1,13 @@
 //! The objects of the schema: the tables, as page 1 lists them.
 
-ghost use Rattle.std.specs.Prelude.{IfErr};
-ghost use Rattle.catalog.specs.Faults.{IsNoFileFault};
-
 use catalog::{Catalog, Table, columns_of, is_reserved};
-use page::Cell;
 use parser::parse;
-use record::{Record, encode, is_storable};
+use record::Record;
 use session::is_table_built;
-use sqlval::{Damage, Fault, Feature, Field, Misuse, Name, R, Text, Value};
+use sqlval::{Damage, Fault, Feature, Field, Name, R};
 use std::alloc::Global;
 use syntax::{Create, NewObject, Statement, TableDefinition};
-use tabletree::{Leaf, next_rowid, with_rows};
+use tabletree::Leaf;
 
 /// A row of the schema table.
 #[derive(Clone, Copy)]
@@ -107,61 +103,4 @@ pub fn load(alloc: Global, page: &[u8], size: u32) -> R<Catalog> {
     }
     catalog.keep();
     Ok(catalog)
-}
-
-/// The record of a table's row in the schema table.
-fn schema_record(alloc: Global, name: &Name, root: u32, sql: &Text) -> R<Vec<u8>>
-    ensures refused { IfErr result (λ fault. IsNoFileFault fault) }
-{
-    let mut values = Vec::new(alloc);
-    values.push(Value::Text(Text::from_str(alloc, "table")?))?;
-    values.push(Value::Text(Text::from_str(alloc, name.as_str())?))?;
-    values.push(Value::Text(Text::from_str(alloc, name.as_str())?))?;
-    values.push(Value::Int(i64::from(root)))?;
-    values.push(Value::Text(sql.copy(alloc)?))?;
-    if !is_storable(&values) {
-        return Err(Fault::TooLong);
-    }
-    encode(alloc, &values)
-}
-
-/// A table that is to be made, and page 1 with its row.
-#[derive(Drop)]
-pub struct NewTable {
-    pub table: Table,
-    pub schema: Vec<u8>,
-}
-
-/// Makes a table whose tree is to begin at page `root`, beside those of the catalog, which `page`, page 1, lists.
-pub fn new_table(
-    alloc: Global,
-    catalog: &Catalog,
-    page: &[u8],
-    root: u32,
-    sql: &Text,
-    definition: &TableDefinition,
-) -> R<NewTable>
-    ensures refused { IfErr result (λ fault. IsNoFileFault fault) }
-{
-    let name = &definition.name;
-    if is_reserved(name.as_str()) {
-        return Err(Fault::Misuse(Misuse::ReservedName));
-    }
-    if catalog.table(name.as_str()).is_some() {
-        return Err(Fault::Exists(name.copy(alloc)?));
-    }
-    let columns = columns_of(alloc, definition)?;
-    let record = schema_record(alloc, name, root, sql)?;
-    let last = Leaf::over(alloc, page, 1)?.last();
-    let cell = Cell {
-        rowid: next_rowid(last)?,
-        payload: &record,
-    };
-    let schema = with_rows(alloc, page, 1, &[cell])?;
-    let table = Table {
-        name: name.copy(alloc)?,
-        columns,
-        root,
-    };
-    Ok(NewTable { table, schema })
 }

@@ -230,11 +230,37 @@ fn survives_twice(alloc: Global, log_stop: u64, way: u32) -> R<bool> {
     }
 }
 
-#[test]
-fn a_second_stop_while_opening_is_survived(rt: HostRuntime) -> Result<(), Fail> {
-    for stop in 1..MOST_CALLS {
-        assert!(rt; survives_twice(rt.alloc(), stop, stop as u32 % 3)?);
+/// The same for stops at these calls of the log.
+fn survive_twice(alloc: Global, first: u64, end: u64) -> R<bool> {
+    for stop in first..end {
+        if !survives_twice(alloc, stop, (stop % 3) as u32)? {
+            return Ok(false);
+        }
     }
+    Ok(true)
+}
+
+#[test]
+fn a_second_stop_behind_an_early_one_is_survived(rt: HostRuntime) -> Result<(), Fail> {
+    assert!(rt; survive_twice(rt.alloc(), 1, 16)?);
+    Ok(())
+}
+
+#[test]
+fn a_second_stop_behind_a_middle_one_is_survived(rt: HostRuntime) -> Result<(), Fail> {
+    assert!(rt; survive_twice(rt.alloc(), 16, 31)?);
+    Ok(())
+}
+
+#[test]
+fn a_second_stop_behind_a_late_one_is_survived(rt: HostRuntime) -> Result<(), Fail> {
+    assert!(rt; survive_twice(rt.alloc(), 31, 46)?);
+    Ok(())
+}
+
+#[test]
+fn a_second_stop_behind_the_last_calls_is_survived(rt: HostRuntime) -> Result<(), Fail> {
+    assert!(rt; survive_twice(rt.alloc(), 46, MOST_CALLS)?);
     Ok(())
 }
 

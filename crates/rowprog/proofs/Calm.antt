@@ -1,12 +1,13 @@
 -- What is refused for want of memory, or for what a page holds, isn't refused for its file.
-use Rattle.std.proofs.Common.{◌≡◌, ◌⊎◌, inl, inr, ℕ, subst, Ok, Err, Result}
+use Rattle.std.proofs.Common.{◌≡◌, ◌⊎◌, inl, inr, ℕ, List, subst, Ok, Err, Result}
 use Rattle.std.specs.Prelude.{IfErr}
 use Rattle.sqlval.specs.Gives.{Gives, Refuses}
 use Rattle.sqlval.specs.declared.fault.Fault.{Fault}
 use Rattle.sqlval.specs.declared.fault.Fault.TheVariants as fault
 use Rattle.tabletree.specs.Lone.{IsLeafRefusal}
 use Rattle.catalog.specs.Faults.{IsNoFileFault}
-use Rattle.rowprog.specs.Answers.{IsRowRefusal}
+use Rattle.bind.specs.declared.queries.Output.{Output}
+use Rattle.rowprog.specs.Answers.{IsOverflow, IsRowRefusal}
 
 never : {Y : Type 0} (y : Y) (f : Fault) → Ok y ≡ Err f → ⊥
 never y f h = cc
@@ -38,7 +39,15 @@ row_calm f (inl e) = (λ h. absurd cc, λ h. absurd cc)
 row_calm f (inr (inl e)) = (λ h. absurd cc, λ h. absurd cc)
 row_calm f (inr (inr e)) = (λ h. absurd cc, λ h. absurd cc)
 
-pub page_calm : (number : ℕ) (f : Fault) → (f ≡ fault.Memory) ⊎ (IsLeafRefusal number f ⊎ IsRowRefusal f) → IsNoFileFault f
-page_calm number f (inl e) = memory_calm f e
-page_calm number f (inr (inl e)) = leaf_calm number f e
-page_calm number f (inr (inr e)) = row_calm f e
+overflow_calm : (f : Fault) → f ≡ fault.RealRefused → IsNoFileFault f
+overflow_calm f e = (λ h. absurd cc, λ h. absurd cc)
+
+pub lone_calm : (f : Fault) → (f ≡ fault.Memory) ⊎ (f ≡ fault.RealRefused) → IsNoFileFault f
+lone_calm f (inl e) = memory_calm f e
+lone_calm f (inr e) = overflow_calm f e
+
+pub page_calm : (number : ℕ) (outputs : List Output) (f : Fault) → (f ≡ fault.Memory) ⊎ (IsLeafRefusal number f ⊎ (IsRowRefusal f ⊎ IsOverflow outputs f)) → IsNoFileFault f
+page_calm number outputs f (inl e) = memory_calm f e
+page_calm number outputs f (inr (inl e)) = leaf_calm number f e
+page_calm number outputs f (inr (inr (inl e))) = row_calm f e
+page_calm number outputs f (inr (inr (inr e))) = overflow_calm f e.0

@@ -1,3 +1,4 @@
 pub mod Calm
+pub mod QueryAnswers
 mod RowLemmas
 mod Steps

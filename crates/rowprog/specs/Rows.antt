@@ -1,6 +1,9 @@
 -- The rows of a table, and what a query gives of each.
-use Rattle.std.specs.Prelude.{◌≡◌, ◌<◌, ⊤, ℕ, ℤ, List, length, map, slice_index_or, Option, Some, None}
+use Rattle.std.specs.Prelude.{◌≡◌, ◌⊎◌, ℕ, ℤ, List, [], ◌∷◌, length, map, slice_index_or, Option, Some, None, Result, Ok, Err}
 use Rattle.smallvec.specs.SmallVec.{SmallVec}
+use Rattle.sqlval.specs.Refusals.{Answer, RealRefused, all_answers, refusal_of}
+use Rattle.sqlval.specs.declared.fault.Fault.{Fault}
+use Rattle.sqlval.specs.declared.fault.Fault.TheVariants.{Memory}
 use Rattle.sqlval.specs.declared.value.Value.{Value}
 use Rattle.sqlval.specs.declared.value.Value.TheVariants.{Null, Int}
 use Rattle.record.specs.Record.{IsRecord}
@@ -9,7 +12,7 @@ use Rattle.tabletree.specs.Cells.{Pairwise}
 use Rattle.tabletree.specs.Lone.{IsLone}
 use Rattle.bind.specs.declared.queries.BoundSource.{BoundSource}
 use Rattle.bind.specs.declared.queries.Output.{Output}
-use Rattle.bind.specs.declared.queries.Output.TheVariants.{Column, Rowid, Literal}
+use Rattle.bind.specs.declared.queries.Output.TheVariants.{Column, Rowid, Literal, Overflow}
 use Rattle.rowprog.specs.declared.plan.Scan.{Scan}
 use Rattle.rowprog.specs.declared.plan.Scan.TheVariants.{Once, Table}
 
@@ -33,26 +36,40 @@ pub record Holds (page : List ℕ) (number width : ℕ) (rows : List TableRow) :
   pub lone : IsLone page number entries
   pub each : Pairwise (IsRow width) entries rows
 
--- what an output gives of a row
-abbrev pub given : Output → ℤ → List Value → Value
-given (Column place) rowid values = slice_index_or values place Null
-given Rowid rowid values = Int rowid
-given (Literal value) rowid values = value
+-- what an output gives of a row; a number past 64 bits is refused
+abbrev pub given : Output → ℤ → List Value → Answer Value
+given (Column place) rowid values = Ok (slice_index_or values place Null)
+given Rowid rowid values = Ok (Int rowid)
+given (Literal value) rowid values = Ok value
+given Overflow rowid values = Err RealRefused
 
--- what a query's outputs give of a row
-abbrev pub result_of : List Output → TableRow → List Value
-result_of outputs row = map (λ output. given output row.0 row.1) outputs
+-- what a query's outputs give of a row, from left to right, up to the first refusal
+abbrev pub result_of : List Output → TableRow → Answer (List Value)
+result_of outputs row = all_answers (map (λ output. given output row.0 row.1) outputs)
 
--- the output is of a row of so many values
-abbrev pub IsOf : ℕ → Output → Type 0
-IsOf width (Column place) = place < width
-IsOf width Rowid = ⊤
-IsOf width (Literal value) = ⊤
+-- what they give of each row, in order, up to the first refusal
+abbrev pub answers_of : List Output → List TableRow → Answer (List (List Value))
+answers_of outputs rows = all_answers (map (result_of outputs) rows)
 
 -- what an output gives where no table is read
-abbrev pub given_alone : Output → Value
-given_alone (Literal value) = value
-given_alone _ = Null
+abbrev pub given_alone : Output → Answer Value
+given_alone (Literal value) = Ok value
+given_alone Overflow = Err RealRefused
+given_alone _ = Ok Null
+
+-- what outputs give where no table is read: of one row without values
+abbrev pub lone_answer : List Output → Answer (List (List Value))
+lone_answer outputs = all_answers (all_answers (map given_alone outputs) ∷ [])
+
+-- what outputs give of the rows of their source, where these are the rows of each tree
+abbrev pub answer_over : (ℕ → List TableRow) → Option BoundSource → List Output → Answer (List (List Value))
+answer_over rows_at None outputs = lone_answer outputs
+answer_over rows_at (Some source) outputs = answers_of outputs (rows_at source.root)
+
+-- What a call answered, seen by `view`, is the answer, or its refusal, or the want of memory.
+abbrev pub AnswersBy : {X A : Type 0} → (X → A) → Answer A → Result X Fault → Type 0
+AnswersBy view answer (Ok x) = answer ≡ Ok (view x)
+AnswersBy view answer (Err fault) = (fault ≡ Memory) ⊎ (answer ≡ Err (refusal_of fault))
 
 -- what is scanned for a source
 abbrev pub scan_of : Option BoundSource → Scan

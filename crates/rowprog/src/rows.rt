@@ -1,12 +1,13 @@
 //! The rows of a query.
 
 ghost use Rattle.catalog.specs.Faults.{IsNoFileFault};
-ghost use Rattle.std.specs.Prelude.{◌≡◌, ◌∷◌, ◌⊎◌, [], List, map, All, Ok, IfOk, IfErr};
+ghost use Rattle.std.specs.Prelude.{◌≡◌, ◌⊎◌, List, Some, map, All, IfOk, IfErr};
 ghost use Rattle.sqlval.specs.Gives.{Gives};
 ghost use Rattle.page.specs.Leaf.{entry_of};
 ghost use Rattle.tabletree.specs.Lone.{IsLeafRefusal};
-ghost use Rattle.rowprog.specs.Answers.{IsAnswer, IsRowRefusal, all_tried, entry_given, every, row_at, tried};
-ghost use Rattle.rowprog.specs.Rows.{Holds, IsOf, TableRow, given_alone, result_of, values_of};
+ghost use Rattle.rowprog.specs.Answers.{IsAnswer, IsOverflow, IsRowRefusal, all_tried, entry_given, every, row_at, tried, tried_alone};
+ghost use Rattle.rowprog.specs.Rows.{AnswersBy, Holds, TableRow, answers_of, lone_answer, values_of};
+ghost use Rattle.bind.specs.Bound.{IsOf};
 
 use bind::{BoundSource, Output};
 use page::Cell;
@@ -37,6 +38,7 @@ fn value_at(alloc: Global, source: &Source<'_>, output: &Output) -> R<Value>
         Output::Column(_) => Err(Fault::Unsupported(Feature::ColumnCount)),
         Output::Rowid => Ok(Value::Int(source.rowid)),
         Output::Literal(value) => Ok(value.copy(alloc)?),
+        Output::Overflow => Err(Fault::RealRefused),
     }
 }
 
@@ -86,11 +88,11 @@ fn leaf_rows(alloc: Global, leaf: &Leaf<'_>, width: usize, outputs: &[Output]) -
 
 /// The rows of a table, from its root page: what the outputs give of each, by rising rowid. A page that is no leaf of rising rows
 /// is refused as `Leaf::over` does, a row that is no record as `Record::over` does, and one with another number of values is
-/// `Unsupported(ColumnCount)`.
+/// `Unsupported(ColumnCount)`. An output past 64 bits is `RealRefused` at the first row.
 pub fn table_rows(alloc: Global, page: &[u8], table: BoundSource, outputs: &[Output]) -> R<Rows>
     ensures found { IfOk result (λ answer. IsAnswer page.now table.root table.width outputs.now (map values_of answer.items)) }
-    ensures only { (rows : List TableRow) → Holds page.now table.root table.width rows → All (IsOf table.width) outputs.now → Gives (λ answer. map values_of answer.items) result (Ok (map (result_of outputs.now) rows)) }
-    ensures refused { IfErr result (λ fault. (fault ≡ Fault.Memory) ⊎ (IsLeafRefusal table.root fault ⊎ IsRowRefusal fault)) }
+    ensures only { (rows : List TableRow) → Holds page.now table.root table.width rows → All (IsOf (Some table.width)) outputs.now → AnswersBy (λ answer. map values_of answer.items) (answers_of outputs.now rows) result }
+    ensures refused { IfErr result (λ fault. (fault ≡ Fault.Memory) ⊎ (IsLeafRefusal table.root fault ⊎ (IsRowRefusal fault ⊎ IsOverflow outputs.now fault))) }
     ensures calm { IfErr result (λ fault. IsNoFileFault fault) }
 {
     let leaf = Leaf::over(alloc, page, table.root)?;
@@ -99,7 +101,7 @@ pub fn table_rows(alloc: Global, page: &[u8], table: BoundSource, outputs: &[Out
 
 /// The values of outputs that are of no table.
 fn lone_values(alloc: Global, outputs: &[Output]) -> R<Row>
-    ensures { Gives values_of result (Ok (map given_alone outputs.now)) }
+    ensures { Gives values_of result (every (map tried_alone outputs.now)) }
 {
     let mut row = SmallVec::new(alloc);
     'outputs: for output in outputs {
@@ -110,17 +112,18 @@ fn lone_values(alloc: Global, outputs: &[Output]) -> R<Row>
 
 /// The value of an output that is of no table.
 fn lone_value(alloc: Global, output: &Output) -> R<Value>
-    ensures { Gives (λ value. value) result (Ok (given_alone output.now)) }
+    ensures { Gives (λ value. value) result (tried_alone output.now) }
 {
     match output {
         Output::Literal(value) => Ok(value.copy(alloc)?),
+        Output::Overflow => Err(Fault::RealRefused),
         _ => Ok(Value::Null),
     }
 }
 
-/// The one row of a query without FROM: the values of its literals.
+/// The one row of a query without FROM: the values of its literals; `RealRefused` where one is past 64 bits.
 pub fn lone_row(alloc: Global, outputs: &[Output]) -> R<Rows>
-    ensures exact { Gives (λ rows. map values_of rows.items) result (Ok (map given_alone outputs.now ∷ [])) }
+    ensures exact { AnswersBy (λ rows. map values_of rows.items) (lone_answer outputs.now) result }
     ensures calm { IfErr result (λ fault. IsNoFileFault fault) }
 {
     let row = lone_values(alloc, outputs)?;

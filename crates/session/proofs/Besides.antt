@@ -1,10 +1,9 @@
 -- A step of one connection leaves the others as they were.
-use Rattle.std.proofs.Common.{◌≡◌, ◌≤◌, ◌<◌, ◌-◌, ◌≢◌, refl, sym, ap, ◌∙◌, ℕ, zero, suc, List, Bool, true, false, inl, inr, subst, [], ◌∷◌, ◌++◌, length, get_or, slice_set, ◌==◌, Some, Ok, Err, nat_lt, ◌⊎◌, cond, arith}
-use Rattle.std.specs.Prelude.{slice_get, unwrap_or, ◌&&◌}
+use Rattle.std.proofs.Common.{◌≡◌, ◌≤◌, ◌<◌, ◌-◌, ◌≢◌, refl, sym, ◌∙◌, ℕ, zero, suc, List, Bool, true, false, inl, inr, subst, [], ◌∷◌, ◌++◌, length, get_or, slice_set, ◌==◌, Some, Ok, Err, nat_lt, ◌⊎◌, cond, arith}
+use Rattle.std.specs.Prelude.{slice_get, unwrap_or}
 use Rattle.std.proofs.lemmas.Option.{unwrap_or-slice_get}
 use Rattle.std.proofs.lemmas.List.{get_or-set_other, get_or_append_left}
-use Rattle.std.proofs.lemmas.Bool.{ltb-true}
-use Rattle.sqlval.specs.Refusals.{Answer, Refusal, Busy, StaleSnapshot, TooLong, NoSavepoint}
+use Rattle.sqlval.specs.Refusals.{Answer, Busy, StaleSnapshot, TooLong}
 use Rattle.sqlval.specs.declared.value.Value.{Value}
 use Rattle.syntax.specs.declared.query.Query.{Query}
 use Rattle.syntax.specs.declared.statement.BeginMode.{BeginMode}
@@ -15,8 +14,8 @@ use Rattle.catalog.specs.Database.{Database}
 use Rattle.bind.specs.Known.{Known, Meant}
 use Rattle.session.specs.Laws.{IsBeside, LeavesOthers}
 use Rattle.session.specs.Machine.{is_writing, another, newest, committed, last_place, Machine, Connection, Idle, InTransactionOf, Phase, NoSnapshot, Reads, Writes, SavepointState, Reply, Rows, Refused, connection, with_connection}
-use Rattle.session.specs.Outcomes.{Outcome, Gives, RefusedBy, Ends, Commits, Copies, Bound, Work, Makes, IsRefused, Undoes, Binds, outcome, Sort, Querying, Writing, Controlling, sort, sorted_outcome, begun, control, write_outcome, read_outcome, given, worked, worked_alone, unless_busy, commit_outcome, released, restored, saved, from_name, back_to}
-use Rattle.session.specs.Steps.{Allowed, Instead, Step, is_connection, after_commit, fails}
+use Rattle.session.specs.Outcomes.{Outcome, Gives, RefusedBy, Ends, Commits, Copies, Bound, Work, Makes, IsRefused, Undoes, Binds, outcome, Sort, Querying, Writing, Controlling, sort, sorted_outcome, begun, control, write_outcome, read_outcome, given, worked, worked_alone, unless_busy, commit_outcome, released, restored, saved, from_name}
+use Rattle.session.specs.Steps.{Allowed, Instead, is_connection, after_commit, fails}
 
 -- the machine is left so that the others are as they were
 beside_itself : (m : Machine) (c : ℕ) → IsBeside m c m

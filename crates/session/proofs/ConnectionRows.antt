@@ -1,6 +1,6 @@
 -- Worked examples of connections.
-use Rattle.std.specs.Prelude.{◌≡◌, refl, ℕ, pos, codes, None, Some, List, [], ◌∷◌}
-use Rattle.std.proofs.Common.{true, false, inl, inr, arith, sym, subst, ◌⊎◌}
+use Rattle.std.specs.Prelude.{◌≡◌, ⊤, refl, ℕ, pos, codes, None, Some, List, [], ◌∷◌}
+use Rattle.std.proofs.Common.{inl, inr, arith, sym, subst, ◌⊎◌}
 use mathlib.Core.Bool.{true≢false}
 use Rattle.sqlval.specs.Refusals.{Busy, StaleSnapshot, NoTransaction, NoSavepoint, InTransaction, Misuse, NoSuch, Raised, Unsupported}
 use Rattle.sqlval.specs.declared.value.Value.{Value}
@@ -93,15 +93,15 @@ unfolding outcome
 inserted = inr (inr (refl, refl, inl (inr (no_faults_behind one (insert t (number 1 ∷ [])) refl refl, (refl, inl refl)))))
 
 -- so it is while not all is built; a form that isn't is refused
-pub inserted_so_far : StepSoFar (λ db. true) (fresh one) 1 (add 1) (Rows []) (after_commit (fresh one) 1 (with_object one t (table (col a ∷ []) ((pos 1, i 1) ∷ []))))
+pub inserted_so_far : StepSoFar (λ db. ⊥) (fresh one) 1 (add 1) (Rows []) (after_commit (fresh one) 1 (with_object one t (table (col a ∷ []) ((pos 1, i 1) ∷ []))))
 inserted_so_far = inl (refl, inl inserted)
 
 -- where the table has no more room, the row is refused and nothing changes
-pub no_room_so_far : StepSoFar (λ db. false) (fresh one) 1 (add 1) (Refused Unsupported) (fresh one)
+pub no_room_so_far : StepSoFar (λ db. ⊤) (fresh one) 1 (add 1) (Refused Unsupported) (fresh one)
 unfolding outcome
-no_room_so_far = inl (refl, inr (refl, refl, refl, with_object one t (table (col a ∷ []) ((pos 1, i 1) ∷ [])), refl, refl))
+no_room_so_far = inl (refl, inr (refl, refl, refl, with_object one t (table (col a ∷ []) ((pos 1, i 1) ∷ [])), refl, tt))
 
-pub not_built : StepSoFar (λ db. true) (fresh one) 1 (statement.Change (delete t None)) (Refused Unsupported) (fresh one)
+pub not_built : StepSoFar (λ db. ⊥) (fresh one) 1 (statement.Change (delete t None)) (Refused Unsupported) (fresh one)
 not_built = inr (refl, refl, inr (inr (refl, refl, inl refl)))
 
 -- g AFTER DELETE ON t WHEN OLD.a = 99: DELETE FROM nosuch. DELETE FROM t, where t has no row

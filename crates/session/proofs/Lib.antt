@@ -1,5 +1,21 @@
+pub mod BoundQueries
 mod ConnectionRows
 pub mod Refusals
 pub mod Replies
+pub mod SchemaTable
 mod SchemaRows
 pub mod Besides
+pub mod Whys
+pub mod Stepping
+pub mod Showing
+pub mod Selecting
+pub mod SeenPages
+pub mod Beginning
+pub mod Working
+pub mod Writing
+pub mod Creating
+pub mod Committing
+pub mod CommitSteps
+pub mod Inserting
+pub mod InsertWorks
+pub mod Executing

@@ -2,8 +2,6 @@
 use Rattle.std.specs.Prelude.{◌≡◌, Bool, true, false, not, ◌&&◌, ◌||◌, ◌⊎◌, ℕ, length, Option, Some, None, is_none, ◌==◌}
 use Rattle.std.specs.List.{list_all}
 use Rattle.sqlval.specs.Refusals.{Memory, Misuse, Unsupported, Failed}
-use Rattle.syntax.specs.Tree as tree
-use Rattle.syntax.specs.Tree.{Tree}
 use Rattle.syntax.specs.declared.change.Change.{Change}
 use Rattle.syntax.specs.declared.change.Change.TheVariants as change
 use Rattle.syntax.specs.declared.change.InsertSource.{InsertSource}
@@ -18,28 +16,16 @@ use Rattle.syntax.specs.declared.query.ResultItem.TheVariants.{All, AllOf, Of}
 use Rattle.syntax.specs.declared.statement.Statement.{Statement}
 use Rattle.syntax.specs.declared.statement.Statement.TheVariants as statement
 use Rattle.catalog.specs.Database.{Database}
+use Rattle.bind.specs.Bound.{is_column, is_literal}
 use Rattle.session.specs.Machine.{Machine, Connection, InTransactionOf, Writes, Reply, Refused, connection}
 use Rattle.session.specs.Outcomes.{Outcome, Gives, Commits, Bound, outcome}
 use Rattle.session.specs.Steps.{Step, is_connection}
-
--- NULL, a number with or without a minus, a text or a blob
-abbrev pub is_literal_built : Tree → Bool
-is_literal_built tree.Null = true
-is_literal_built (tree.Integer n) = true
-is_literal_built (tree.Text t) = true
-is_literal_built (tree.Blob b) = true
-is_literal_built (tree.Negated (tree.Integer n)) = true
-is_literal_built _ = false
-
-abbrev is_column : Tree → Bool
-is_column (tree.Column q n) = true
-is_column _ = false
 
 -- `*`, a column or a literal
 abbrev pub is_result_built : ResultItem → Bool
 is_result_built All = true
 is_result_built (AllOf n) = true
-is_result_built (Of e n) = is_column e || is_literal_built e
+is_result_built (Of e n) = is_column e || is_literal e
 
 abbrev pub has_one_source : Option FromClause → Bool
 has_one_source None = true
@@ -53,7 +39,7 @@ is_query_built q =
 
 -- rows of literals
 abbrev pub is_source_built : InsertSource → Bool
-is_source_built (source.Rows rows) = list_all (list_all is_literal_built) rows
+is_source_built (source.Rows rows) = list_all (list_all is_literal) rows
 is_source_built (source.Query q) = false
 
 -- columns of names and types alone
@@ -78,12 +64,31 @@ is_built statement.Commit = true
 is_built statement.Rollback = true
 is_built _ = false
 
+-- it asks for rows
+abbrev pub is_query : Statement → Bool
+is_query (statement.Select q) = true
+is_query _ = false
+
+abbrev is_table : NewObject → Bool
+is_table (new.Table d) = true
+is_table _ = false
+
+abbrev is_insert : Change → Bool
+is_insert (change.Insert i) = true
+is_insert _ = false
+
+-- it makes a table or inserts rows
+abbrev pub is_write : Statement → Bool
+is_write (statement.Create c) = is_table c.object
+is_write (statement.Change c) = is_insert c
+is_write _ = false
+
 -- the connections that are served so far
 abbrev pub is_served : ℕ → Bool
 is_served c = c == 1
 
 -- the database that a connection has before it, where it writes
-abbrev working : Connection → Option Database
+abbrev pub working : Connection → Option Database
 working (InTransactionOf b ss (Writes i db)) = Some db
 working _ = None
 
@@ -94,13 +99,13 @@ LeavesWith c (Gives rows m) db = working (connection m c) ≡ Some db
 LeavesWith c (Bound over ch o) db = LeavesWith c o db
 LeavesWith c _ db = ⊥
 
--- The step so far, where `fits` says whether each table of a database has room on the one page that it has so far. What
--- isn't built or served, and what would leave a database that doesn't fit, is refused as unsupported, behind the engine's
--- failure and the connection's number; want of memory may stand in its place.
-abbrev pub StepSoFar : (Database → Bool) → Machine → ℕ → Statement → Reply → Machine → Type 0
-StepSoFar fits m c s reply new =
+-- The step so far, where `HasNoRoom` says which databases find no room, since so far each table has one page. What isn't built or
+-- served, and what would leave a database that finds no room, is refused as unsupported, behind the engine's failure and the
+-- connection's number; want of memory may stand in its place.
+abbrev pub StepSoFar : (Database → Type 0) → Machine → ℕ → Statement → Reply → Machine → Type 0
+StepSoFar HasNoRoom m c s reply new =
     ((is_built s && is_served c) ≡ true) × (Step m c s reply new
-    ⊎ (reply ≡ Refused Unsupported) × (new ≡ m) × (m.failed ≡ false) × (db : Database) × LeavesWith c (outcome m c s) db × (fits db ≡ false))
+    ⊎ (reply ≡ Refused Unsupported) × (new ≡ m) × (m.failed ≡ false) × (db : Database) × LeavesWith c (outcome m c s) db × HasNoRoom db)
     ⊎ ((is_built s && is_served c) ≡ false) × (new ≡ m) × (
     (m.failed ≡ true) × (reply ≡ Refused Failed)
     ⊎ (m.failed ≡ false) × (is_connection c ≡ false) × (reply ≡ Refused Misuse)

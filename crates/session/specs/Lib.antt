@@ -1,7 +1,13 @@
 pub mod Built
 pub mod Laws
 pub mod Machine
+pub mod NewTables
 pub mod Outcomes
 pub mod Steps
 pub mod Stops
 pub mod Texts
+pub mod Known
+pub mod Limits
+pub mod Shown
+pub mod Stored
+pub mod Working

@@ -42,12 +42,12 @@ pub data Work : Type 0 where
   -- this, where binding isn't refused
   Binds : Database → Change → Work → Work
 
-abbrev of_answer : Answer Database → Work
+abbrev pub of_answer : Answer Database → Work
 of_answer (Ok db) = Makes db
 of_answer (Err (RaisedRollback t)) = Undoes (Raised t)
 of_answer (Err r) = IsRefused (r ∷ [])
 
-abbrev of_known : Known Database → Work
+abbrev pub of_known : Known Database → Work
 of_known (Meant db []) = Makes db
 of_known (Meant db (r ∷ rs)) = IsRefused (r ∷ rs)
 
@@ -57,7 +57,7 @@ made_index n (Makes db) = if index_clashes db n then IsRefused (Unique ∷ []) e
 made_index n w = w
 
 -- what CREATE comes to on a database
-abbrev created : NewObject → Database → Work
+abbrev pub created : NewObject → Database → Work
 created (new.Index d) db = made_index d.name (of_known (create_index db d))
 created o db = of_known (create db o)
 

@@ -11,7 +11,7 @@ use Rattle.trigger.specs.Binding.{IsFault}
 use Rattle.session.specs.Machine.{Machine, Idle, Reply, Rows, Refused, with_connection, has_snapshot, another}
 use Rattle.session.specs.Outcomes.{Outcome, Gives, RefusedBy, Ends, Commits, Copies, Bound, outcome}
 
-abbrev is_free : Refusal → Bool
+abbrev pub is_free : Refusal → Bool
 is_free Memory = true
 is_free Full = true
 is_free _ = false

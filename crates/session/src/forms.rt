@@ -2,6 +2,7 @@
 
 ghost use Rattle.std.specs.Prelude.{◌≡◌, ◌==◌, length};
 ghost use Rattle.std.specs.List.{list_all};
+ghost use Rattle.bind.specs.Bound.{is_literal};
 ghost use Rattle.session.specs.Built as built;
 
 use sqlval::Many;
@@ -11,7 +12,7 @@ use syntax::{
 };
 
 fn is_literal_built(value: &Expr) -> bool
-    ensures { result ≡ built.is_literal_built value.now }
+    ensures { result ≡ is_literal value.now }
 {
     match &value.node {
         Node::Null | Node::Integer(_) | Node::Text(_) | Node::Blob(_) => true,
@@ -59,13 +60,13 @@ fn is_query_built(query: &Query) -> bool
 }
 
 fn is_row_built(row: &Many<Expr>) -> bool
-    ensures { result ≡ list_all built.is_literal_built row.now }
+    ensures { result ≡ list_all is_literal row.now }
 {
     row.as_slice().iter().all(is_literal_built)
 }
 
 fn are_rows_built(rows: &Many<Many<Expr>>) -> bool
-    ensures { result ≡ list_all (list_all built.is_literal_built) rows.now }
+    ensures { result ≡ list_all (list_all is_literal) rows.now }
 {
     rows.as_slice().iter().all(is_row_built)
 }

@@ -1,7 +1,7 @@
 //! The affinity of a declared type, and the conversion of each affinity.
 
-ghost use Rattle.std.specs.Prelude.{◌≡◌, ◌≤◌, length, IfOk, IfErr};
-ghost use Rattle.sqlval.specs.Affinity.{begins, holds, declares_real, declares_text, declared_affinity, is_space, after_spaces, after_digits, after_sign, ends_exponent, ends_number, behind_digits, is_number, ToNumber, ToText, Converts, IsConversionFault};
+ghost use Rattle.std.specs.Prelude.{◌≡◌, ◌⊎◌, ◌≤◌, length, IfOk, IfErr};
+ghost use Rattle.sqlval.specs.Affinity.{begins, holds, declares_real, declares_text, declared_affinity, is_space, after_spaces, after_digits, after_sign, ends_exponent, ends_number, behind_digits, is_number, ToNumber, ToText, Converts, IsConversionFault, WantsNumbers};
 
 use crate::fault::{Fault, R};
 use crate::text::Text;
@@ -169,7 +169,7 @@ fn to_number(value: Value) -> R<Value>
 
 fn to_text(alloc: Global, value: Value) -> R<Value>
     ensures converted { IfOk result (λ new. ToText value new) }
-    ensures refused { IfErr result (λ fault. IsConversionFault value fault) }
+    ensures refused { IfErr result (λ fault. fault ≡ Fault.Memory) }
 {
     match value {
         Value::Int(n) => Ok(Value::Text(Text::from_string(format!(in alloc; "{n}")?))),
@@ -181,6 +181,7 @@ fn to_text(alloc: Global, value: Value) -> R<Value>
 pub fn apply(alloc: Global, affinity: Affinity, value: Value) -> R<Value>
     ensures converted { IfOk result (λ new. Converts affinity value new) }
     ensures refused { IfErr result (λ fault. IsConversionFault value fault) }
+    ensures numbers { IfErr result (λ fault. (fault ≡ Fault.Memory) ⊎ WantsNumbers affinity) }
 {
     match affinity {
         Affinity::Blob => Ok(value),

@@ -3,3 +3,4 @@ pub mod WholeLeaf
 mod Refused
 mod Rebuilding
 mod Lonely
+pub mod BehindFront

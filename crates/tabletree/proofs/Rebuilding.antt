@@ -32,3 +32,15 @@ too_full result page number start old more all here parts same refused = IfErr-w
         → (fault ≡ Memory) ⊎ (IsLeafRefusal number fault ⊎ IsTooFull page number more fault)
     turned fault (inl e) = inl e
     turned fault (inr (e, full)) = inr (inr (e, λ rows is fits. full (subst (λ s. Fits (length page) s all) (sym here) (subst (λ xs. Fits (length page) (start_of number) xs) (ap (λ xs. xs ++ more) (same rows is) ∙ sym parts) fits))))
+
+-- where the page is such a leaf, only memory or the room is wanting
+pub lone_full : (result : Result (Vec ℕ Global) Fault) (page : List ℕ) (number start : ℕ) (old more all : List Entry) → start ≡ start_of number → all ≡ old ++ more
+    → ((rows : List Entry) → IsLone page number rows → rows ≡ old)
+    → IfErr result (λ fault. (fault ≡ Memory) ⊎ ((fault ≡ Unsupported Feature.RowSize) × (Fits (length page) start all → ⊥)))
+    → IfErr result (λ fault. (rows : List Entry) → IsLone page number rows → (fault ≡ Memory) ⊎ IsTooFull page number more fault)
+lone_full result page number start old more all here parts same refused = IfErr-weaker result _ _ turned refused
+  where
+    turned : (fault : Fault) → (fault ≡ Memory) ⊎ ((fault ≡ Unsupported Feature.RowSize) × (Fits (length page) start all → ⊥))
+        → (rows : List Entry) → IsLone page number rows → (fault ≡ Memory) ⊎ IsTooFull page number more fault
+    turned fault (inl e) rows lone = inl e
+    turned fault (inr (e, full)) rows lone = inr (e, λ rows is fits. full (subst (λ s. Fits (length page) s all) (sym here) (subst (λ xs. Fits (length page) (start_of number) xs) (ap (λ xs. xs ++ more) (same rows is) ∙ sym parts) fits)))

@@ -1,5 +1,5 @@
 -- A table's tree that is one page: a leaf (Database File Format, "B-tree Pages").
-use Rattle.std.specs.Prelude.{◌≡◌, ◌⊎◌, ◌<◌, ℕ, zero, ◌≤◌, ◌-◌, ◌<ℤ◌, List, [], ◌∷◌, ◌++◌, length, slice_index_or}
+use Rattle.std.specs.Prelude.{◌≡◌, ◌⊎◌, ◌<◌, ℕ, zero, ◌≤◌, ◌-◌, ◌<ℤ◌, List, [], ◌∷◌, ◌++◌, length, drop, slice_index_or}
 use Rattle.sqlval.specs.declared.fault.Fault.{Fault}
 use Rattle.sqlval.specs.declared.fault.Fault.TheVariants.{Unsupported, Damaged}
 use Rattle.sqlval.specs.declared.fault.Damage.TheVariants as Damage
@@ -33,6 +33,11 @@ IsTooFull page number more fault = (fault ≡ Unsupported Feature.RowSize) × ((
 abbrev pub placed : ℕ → Fault → Fault
 placed number (Damaged damage zero) = Damaged damage number
 placed number fault = fault
+
+-- such a page is one whatever stands before its header: the bytes from there on, and the page's length, say all of it
+abbrev pub KeepsLeafBehind : Type 0
+KeepsLeafBehind = (old new : List ℕ) (number : ℕ) (rows : List Entry) → drop (start_of number) new ≡ drop (start_of number) old → length new ≡ length old
+    → IsLone old number rows → IsLone new number rows
 
 -- such a page is a whole tree, its own root
 abbrev pub IsOwnTree : Type 0

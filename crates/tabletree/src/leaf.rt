@@ -5,7 +5,7 @@ ghost use Rattle.sqlval.specs.Gives.{Gives};
 ghost use Rattle.page.specs.Leaf.{Entry, entry_of, IsTableLeaf};
 ghost use Rattle.page.specs.Writing.{Fits};
 ghost use Rattle.tabletree.specs.Cells as cells;
-ghost use Rattle.tabletree.specs.Lone.{AreRising, IsLone, IsLeafRefusal, IsOwnTree, IsTooFull, placed};
+ghost use Rattle.tabletree.specs.Lone.{AreRising, IsLone, IsLeafRefusal, IsOwnTree, IsTooFull, KeepsLeafBehind, placed};
 
 use page::{Cell, Node, build};
 use sqlval::{Damage, Fault, Feature, R};
@@ -127,6 +127,7 @@ pub fn with_rows(alloc: Global, page: &[u8], number: u32, more: &[Cell<'_>]) -> 
     ensures size { IfOk result (λ new. length new.items ≡ length page.now) }
     ensures front { IfOk result (λ new. take (cells.start_of number) new.items ≡ take (cells.start_of number) page.now) }
     ensures refused { IfErr result (λ fault. (fault ≡ Fault.Memory) ⊎ (IsLeafRefusal number fault ⊎ IsTooFull page.now number (map entry_of more.now) fault)) }
+    ensures lone { IfErr result (λ fault. (rows : List Entry) → IsLone page.now number rows → (fault ≡ Fault.Memory) ⊎ IsTooFull page.now number (map entry_of more.now) fault) }
 {
     let start = start_of(number);
     if page.len() < start {
@@ -182,4 +183,9 @@ fn is_rising(node: &Node<'_>) -> bool
 /// A page that is a leaf of rising rows is a whole tree of them, its own root.
 pub fn lone_page_is_a_tree()
     ensures { IsOwnTree }
+{}
+
+/// What stands before a leaf's header says nothing of its rows: on page 1 that is the header of the database.
+pub fn front_of_page_holds_no_row()
+    ensures { KeepsLeafBehind }
 {}

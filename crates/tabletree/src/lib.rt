@@ -4,4 +4,6 @@
 
 mod leaf;
 
-pub use leaf::{Leaf, empty, lone_page_is_a_tree, next_rowid, with_rows};
+pub use leaf::{
+    Leaf, empty, front_of_page_holds_no_row, lone_page_is_a_tree, next_rowid, with_rows,
+};

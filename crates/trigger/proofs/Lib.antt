@@ -1,2 +1,3 @@
 pub mod BindingRows
 mod EffectRows
+mod OnlyTables

@@ -1,3 +1,4 @@
 pub mod Binding
 pub mod Effects
+pub mod Laws
 pub mod Triggers

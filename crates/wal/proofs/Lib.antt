@@ -13,3 +13,4 @@ pub mod Beginning
 pub mod Cutting
 pub mod Chance
 pub mod Views
+pub mod Changes

@@ -1,5 +1,5 @@
 -- What was read of a page is the page of the view.
-use Rattle.std.proofs.Common.{◌≡◌, inl, inr, ◌<◌, ◌≤◌, ◌+◌, ◌-◌, ℕ, List, Bool, true, false, length, get_or, take, drop, refl, sym, ◌∙◌, ap, arith}
+use Rattle.std.proofs.Common.{◌≡◌, inl, inr, ◌<◌, ◌≤◌, ◌+◌, ◌-◌, ◌*◌, ℕ, List, Bool, true, false, length, get_or, take, drop, refl, sym, ◌∙◌, ap, arith}
 use Rattle.std.specs.Prelude.{Some, None, if◌then◌else◌}
 use Rattle.walframe.specs.declared.heading.LogHeader.{LogHeader}
 use Rattle.walframe.specs.declared.sums.Sum.{Sum}
@@ -50,3 +50,19 @@ filed_page h b mark seen sum index db log bytes number size stands none until kn
     by_header : (c : Bool) → LogStands h c mark sum index log → IsPage db log size (if c then Some h else None) seen number bytes
     by_header false stands = there
     by_header true stands = inr (no_frame true stands, there)
+
+-- the index finds none, and the database file is too short: the page isn't there
+pub missing_page : (h : LogHeader) (b : Bool) (mark seen : ℕ) (sum : Sum) (index : Index) (db log bytes : List ℕ) (number size : ℕ) → LogStands h b mark sum index log → FindsNone number seen index → seen ≤ mark → 1 ≤ number → number ≤ 65536
+    → length db < number * size → IsPage db log size (if b then Some h else None) seen number bytes → ⊥
+missing_page h b mark seen sum index db log bytes number size stands none until known few short = by_header b stands
+  where
+    no_frame : (c : Bool) → LogStands h c mark sum index log → HasNoFrame h log seen number
+    no_frame c stands k lt of_page = stands.all k (omega (arith, lt, until)) (omega (arith, of_page, known), omega (arith, of_page, few)) (λ has.
+        let same : frames_of index (head_at h log k).page ≡ frames_of index number = ap (frames_of index) of_page in
+        let is_frame : get_or (frames_of index number) has.place 0 ≡ k + 1 = ap (λ (l : List ℕ). get_or l has.place 0) (sym same) ∙ has.is in
+        omega (arith, lt, is_frame, none known has.place (omega (arith, has.within, ap length same))))
+
+    by_header : (c : Bool) → LogStands h c mark sum index log → IsPage db log size (if c then Some h else None) seen number bytes → ⊥
+    by_header false stands filed = omega (arith, short, filed.whole)
+    by_header true stands (inl newest) = no_frame true stands newest.0 newest.1.within newest.1.page
+    by_header true stands (inr filed) = omega (arith, short, filed.1.whole)

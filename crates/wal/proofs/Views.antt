@@ -39,6 +39,27 @@ page_in db log page_size (Some h) n number bytes (inr filed) = inr (
   filed.1,
 )
 
+-- and back
+pub page_from : (db log : List ℕ) (page_size : ℕ) (header : Option LogHeader) (n number : ℕ) (bytes : List ℕ) → IsPageIn db page_size (frames_under header log n) number bytes → IsPage db log page_size header n number bytes
+page_from db log page_size None n number bytes (inl newest) = absurd (omega (arith, newest.1.within))
+page_from db log page_size None n number bytes (inr filed) = filed.1
+page_from db log page_size (Some h) n number bytes (inl newest) =
+    let k = newest.0 in
+    let lt : k < n = omega (arith, newest.1.within, framed_len h log n) in
+    inl (
+      k,
+      record {
+        within = lt;
+        page = ap (λ (f : Framed). f.head.page) (sym (framed_get h log n k blank_frame lt)) ∙ newest.1.page;
+        last = λ j later within of_page. newest.1.last j later (omega (arith, within, framed_len h log n)) (ap (λ (f : Framed). f.head.page) (framed_get h log n j blank_frame within) ∙ of_page);
+      },
+      newest.2 ∙ ap (λ (f : Framed). f.page) (framed_get h log n k blank_frame lt),
+    )
+page_from db log page_size (Some h) n number bytes (inr filed) = inr (
+  (λ k lt of_page. filed.0 k (omega (arith, lt, framed_len h log n)) (ap (λ (f : Framed). f.head.page) (framed_get h log n k blank_frame lt) ∙ of_page)),
+  filed.1,
+)
+
 framed_take : (h : LogHeader) (log : List ℕ) (m n : ℕ) → m ≤ n → take m (framed_to h log n) ≡ framed_to h log m
 framed_take h log m zero le = (let z : m ≡ 0 = omega (arith, le) in subst (λ (k : ℕ). take k (framed_to h log 0) ≡ framed_to h log k) (sym z) refl)
 framed_take h log m (suc n) le = elim (cases_lt n m) [

@@ -12,3 +12,4 @@ pub mod Commits
 pub mod Chains
 pub mod Stops
 pub mod Whys
+pub mod Laws

@@ -61,6 +61,6 @@ module _ {D : Type 0} {g : Ghosts D} where
 pub record Surveys {D : Type 0} (tells : D → Bool) (file : D → File) (page_size : ℕ) (counted : Option ℕ) (salts : Salts) (db log : D) (state : State) : Type 0 where
   pub known : IsOpened page_size salts (known_in state)
   pub uncut : IsFalse state.is_cut
-  pub db_there : IsTrue (tells db) → state.db_len ≤ length (file db).content
+  pub db_there : IsTrue (tells db) → state.db_len ≡ length (file db).content
   pub log_there : IsTrue (tells log) → LogStands state.header state.is_begun state.mark state.sum state.index (file log).content
   pub view : IsTrue (tells db) → IsTrue (tells log) → IsKnownOf counted (file db).content (file log).content (known_in state)

@@ -1,8 +1,5 @@
 -- What a log on a disk stands for.
 use Rattle.std.specs.Prelude.{◌≡◌, ◌⊎◌, ◌<◌, ◌≤◌, ◌+◌, ◌-◌, ℕ, Bool, true, false, List, length, take, Option, Some, None, Ok, if◌then◌else◌}
-use Rattle.sqlval.specs.declared.fault.Fault.{Fault}
-use Rattle.sqlval.specs.declared.fault.Fault.TheVariants.{Io, Failed, Damaged}
-use Rattle.sqlval.specs.declared.fault.Damage.TheVariants.{MissingPage}
 use Rattle.walframe.specs.declared.heading.LogHeader.{LogHeader}
 use Rattle.walframe.specs.declared.sums.Sum.{Sum}
 use Rattle.walframe.specs.Log.{header_in, header_bytes}
@@ -44,7 +41,3 @@ front_at h is_begun end log = if is_begun then take end log else header_bytes h
 -- the committed part of a log, or the header that it is to get
 abbrev pub log_front : LogHeader → Bool → ℕ → List ℕ → List ℕ
 log_front h is_begun mark log = front_at h is_begun (log_end h is_begun mark) log
-
--- why a page can't be read
-abbrev pub IsPageRefusal : ℕ → Fault → Type 0
-IsPageRefusal number e = (e ≡ Io) ⊎ (e ≡ Failed) ⊎ (e ≡ Damaged MissingPage number)

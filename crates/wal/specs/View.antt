@@ -1,5 +1,8 @@
 -- The pages that the two files stand for together (Database File Format, "Reader Algorithm").
-use Rattle.std.specs.Prelude.{◌≡◌, ◌⊎◌, ◌<◌, ◌≤◌, ◌-◌, ◌*◌, ℕ, List, [], length, take, drop, slice_index_or, Option, Some, None, Ok}
+use Rattle.std.specs.Prelude.{◌≡◌, ◌⊎◌, ◌<◌, ◌≤◌, ◌-◌, ◌*◌, ℕ, Bool, IsTrue, List, [], length, take, drop, slice_index_or, Option, Some, None, Ok}
+use Rattle.sqlval.specs.declared.fault.Fault.{Fault}
+use Rattle.sqlval.specs.declared.fault.Fault.TheVariants.{Io, Failed, Damaged}
+use Rattle.sqlval.specs.declared.fault.Damage.TheVariants.{MissingPage}
 use Rattle.walframe.specs.declared.framing.FrameHeader.{FrameHeader}
 use Rattle.walframe.specs.declared.heading.LogHeader.{LogHeader}
 use Rattle.walframe.specs.Log.{header_in}
@@ -67,3 +70,15 @@ pub record IsFilesView (page_size : ℕ) (counted : Option ℕ) (db log : List �
 -- and it is no larger than is served
 abbrev pub IsServed : ℕ → List (List ℕ) → Type 0
 IsServed page_size pages = IsServedSize page_size (length pages)
+
+-- A page is there for a reader who has room for so many bytes: the snapshot's size reaches to it, and one of the two files has it.
+pub record IsThere (db log : List ℕ) (page_size : ℕ) (header : Option LogHeader) (n size number room : ℕ) : Type 0 where
+  pub first : 1 ≤ number
+  pub last : number ≤ size
+  pub whole : room ≡ page_size
+  pub bytes : List ℕ
+  pub is : IsPage db log page_size header n number bytes
+
+-- Why a page can't be read: a call of a disk failed, now or before, or the page isn't there.
+abbrev pub IsPageRefusal : Bool → ℕ → Type 0 → Fault → Type 0
+IsPageRefusal has_failed number There e = (e ≡ Io) ⊎ (e ≡ Failed) × IsTrue has_failed ⊎ (e ≡ Damaged MissingPage number) × (There → ⊥)

@@ -1,13 +1,13 @@
 //! Commits.
 
-ghost use Rattle.std.specs.Prelude.{◌≡◌, ◌≤◌, ◌++◌, length, take, true, IsTrue, IsFalse, OnOk, OnErr, IfErr, if◌then◌else◌};
+ghost use Rattle.std.specs.Prelude.{◌≡◌, ◌<◌, ◌≤◌, ◌++◌, length, take, true, IsTrue, IsFalse, OnOk, OnErr, IfErr, if◌then◌else◌};
 ghost use Rattle.disk.specs.Calls.{Rose, Syncs};
 ghost use Rattle.disk.specs.File.{IsSynced, Always};
 ghost use Rattle.sqlval.specs.declared.fault.Fault.TheVariants.{Io};
 ghost use Rattle.walframe.specs.Log.{header_bytes};
 ghost use Rattle.walframe.specs.Written.{HeaderFits};
 ghost use Rattle.wal.specs.Commits.{Commits, IsKnownAfter, IsKnownCut, IsCut, KeepsDisks, commits_of};
-ghost use Rattle.wal.specs.Pages.{framed};
+ghost use Rattle.wal.specs.Pages.{ArePages, framed};
 ghost use Rattle.wal.specs.Refusals.{IsCommitRefusal, IsCutRefusal};
 ghost use Rattle.wal.specs.Stands.{front_at};
 ghost use Rattle.wal.specs.Stops.{LeavesOneOf, LeavesHeader, AreEither, LeavesWriting, LeavesEither, LeavesCommits};
@@ -116,7 +116,7 @@ impl<D: Disk> Log<D> {
         ensures known { IsKnownAfter result (known_of self.old) (length pages.now) size (known_of self.new) }
         ensures stop { IsFalse (known_of self.old).has_failed → IsTrue (D.tells (log_of self.old)) → Always (D.file (log_of self.old)) (D.file (log_of self.new))
             (LeavesEither (known_of self.old).page_size (commits_of (known_of self.old) (D.file (log_of self.old)).content) (commits_of (known_of self.old) (D.file (log_of self.old)).content ++ framed pages.now size)) }
-        ensures refusal { IfErr result (λ e. IsCommitRefusal (log_of self.old) (log_of self.new) (D.failures (log_of self.old)) (D.failures (log_of self.new)) e) }
+        ensures refusal { IfErr result (λ e. IsCommitRefusal (known_of self.old).has_failed (ArePages 0 size (known_of self.old).page_size pages.now × (0 < length pages.now)) (log_of self.old) (log_of self.new) (D.failures (log_of self.old)) (D.failures (log_of self.new)) e) }
         ensures same { KeepsDisks D.tells D.failures (db_of self.old) (db_of self.new) (log_of self.old) (log_of self.new) }
         ensures reason { HasReason true result self.old self.new }
     {

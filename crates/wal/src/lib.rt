@@ -3,11 +3,15 @@
 
 mod committing;
 mod index;
+mod laws;
 mod log;
 mod pages;
 mod starting;
 mod state;
 
+pub use laws::{
+    commit_changes, commits_are_behind, page_is_one, pages_are_of_frames, snapshots_stay,
+};
 pub use log::{Log, Refused, Snapshot};
 pub use pages::PageImage;
 

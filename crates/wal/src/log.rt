@@ -3,8 +3,8 @@
 ghost use Rattle.std.specs.Prelude.{◌≡◌, ◌≤◌, length, false, IsTrue, IsFalse, OnOk, IfErr};
 ghost use Rattle.disk.specs.File.{IsSynced};
 ghost use Rattle.walframe.specs.Accepted.{Leaves};
-ghost use Rattle.wal.specs.Stands.{LogStands, log_end, IsPageRefusal};
-ghost use Rattle.wal.specs.View.{IsPage};
+ghost use Rattle.wal.specs.Stands.{LogStands, log_end};
+ghost use Rattle.wal.specs.View.{IsPage, IsPageRefusal, IsThere};
 
 use crate::state::State;
 use disk::Disk;
@@ -33,7 +33,7 @@ pub struct Log<D: Disk> {
     pub(crate) db: D,
     pub(crate) log: D,
     pub(crate) state: State,
-    ghost db_there: { IsTrue (D.tells db) → state.db_len ≤ length (D.file db).content },
+    ghost db_there: { IsTrue (D.tells db) → state.db_len ≡ length (D.file db).content },
     ghost log_cut: { IsFalse state.is_failed → IsTrue (D.tells log) → IsTrue state.is_cut → length (D.file log).content ≡ log_end state.header state.is_begun state.mark },
     ghost log_synced: { IsFalse state.is_failed → IsTrue (D.tells log) → IsSynced (D.file log) },
     ghost log_there: { IsFalse state.is_failed → IsTrue (D.tells log) → LogStands state.header state.is_begun state.mark state.sum state.index (D.file log).content },
@@ -77,7 +77,9 @@ impl<D: Disk> Log<D> {
         ensures known { known_of self.new ≡ known_of self.old }
         ensures db_kept { Leaves D.tells D.file (db_of self.old) (db_of self.new) }
         ensures log_kept { Leaves D.tells D.file (log_of self.old) (log_of self.new) }
-        ensures refusal { IfErr result (λ e. IsPageRefusal number e) }
+        ensures refusal { IfErr result (IsPageRefusal (known_of self.old).has_failed number
+            (IsTrue (D.tells (db_of self.old)) × IsTrue (D.tells (log_of self.old)) × (seen_by snapshot ≤ (known_of self.old).frames)
+            × IsThere (D.file (db_of self.old)).content (D.file (log_of self.old)).content (known_of self.old).page_size (header_of (known_of self.old)) (seen_by snapshot) (size_of snapshot) number (length out.old))) }
         ensures reason { HasReason false result self.old self.new }
     {
         if number == 0 || number > snapshot.size || out.len() != self.state.page_size as usize {

@@ -19,7 +19,7 @@ pub struct PageImage {
 /// (`Damaged(Page)` with the number of the first that isn't so, or 0 where there is none.)
 pub fn check_pages(pages: &[PageImage], size: u32, page_size: u32) -> R<()>
     ensures pages { OnOk result (ArePages 0 size page_size pages.now) }
-    ensures refusal { IfErr result (λ e. IsPagesRefusal e) }
+    ensures refusal { IfErr result (λ e. IsPagesRefusal (ArePages 0 size page_size pages.now × (0 < length pages.now)) e) }
     ensures some { OnOk result (0 < length pages.now) }
 {
     if pages.is_empty() {

@@ -97,7 +97,7 @@ fn survey<D: Disk>(
     counted_size: Option<u32>,
     salts: Salts,
 ) -> R<State>
-    ensures db { IsTrue (D.tells db.new) → IfOk result (λ state. state.db_len ≤ length (D.file db.new).content) }
+    ensures db { IsTrue (D.tells db.new) → IfOk result (λ state. state.db_len ≡ length (D.file db.new).content) }
     ensures log { IsTrue (D.tells log.new) → IfOk result (λ state. LogStands state.header state.is_begun state.mark state.sum state.index (D.file log.new).content) }
     ensures known { IfOk result (λ state. IsOpened page_size salts (known_in state) × IsFalse state.is_cut) }
     ensures view { IsTrue (D.tells db.new) → IsTrue (D.tells log.new) → IfOk result (λ state. IsKnownOf counted_size (D.file db.new).content (D.file log.new).content (known_in state)) }

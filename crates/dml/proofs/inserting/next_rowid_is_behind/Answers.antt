@@ -1,4 +1,4 @@
-use Rattle.dml.proofs.Greatest.{next_is_behind}
+use Rattle.dml.proofs.Rising.{next_is_behind}
 use Rattle.dml.proofs.inserting.next_rowid_is_behind.Goals as goal
 
 pub returns : goal.returns

@@ -1,8 +1,8 @@
 -- the records up to here are those of the rows up to here
 use Rattle.std.proofs.Common.{map, take}
 use Rattle.tabletree.specs.Cells.{Pairwise}
-use Rattle.dml.specs.Inserting.{IsStored}
+use Rattle.dml.specs.NewRows.{IsWritten, entry_in, row_of}
 use Rattle.dml.proofs.inserting.records_of.Given as goal
 
 abbrev pub invariant-rows : goal.invariant-rows
-invariant-rows l = Pairwise (IsStored l.columns l.places) (map (λ row. row.items) (take l.row-index l.rows)) (map (λ bytes. bytes.items) l.records.items)
+invariant-rows l = Pairwise IsWritten (map row_of (take l.row-index l.rows)) (map entry_in l.records.items)

@@ -1,5 +1,9 @@
 use Rattle.std.proofs.Common.{ap, ◌∙◌}
+use Rattle.disk.specs.File.{File}
+use Rattle.sqlval.specs.declared.fault.Fault.TheVariants.{Io}
 use Rattle.wal.specs.Known.{Known, db_of, log_of}
+use Rattle.engine.specs.Opening.{KeepsBut}
+use Rattle.engine.proofs.Refusing.{cut_kept, on_err}
 use Rattle.engine.proofs.Opened.{read_then_cut}
 use Rattle.engine.proofs.opening.started.Goals as goal
 
@@ -9,6 +13,15 @@ returns-in_err-cut_tail g c = record {
       let k = c.newest_schema.ensures.kept in
       read_then_cut _ _ _ _ (g.D.Disk.file (db_of c.newest_schema.new.log)) (g.D.Disk.file (log_of c.newest_schema.new.log)) _ _ db_synced log_synced (k.1.same told_db) (k.2.same told_log)
       (ap g.D.Disk.file c.cut_tail.ensures.same.db) (c.cut_tail.ensures.stop (ap (λ (known : Known). known.has_failed) k.0 ∙ whole) (k.2.tells_same ∙ told_log));
+  kept = λ told_db told_log.
+      let k = c.newest_schema.ensures.kept in
+      let content = λ (f : File). f.content in
+      on_err (KeepsBut Io (g.D.Disk.file (db_of c.args.log.now)) (g.D.Disk.file (log_of c.args.log.now)) (g.D.Disk.file (db_of c.cut_tail.new.self)) (g.D.Disk.file (log_of c.cut_tail.new.self)))
+      c.from_residual-in_err-cut_tail.result c.in_err-cut_tail.field-0.0 c.from_residual-in_err-cut_tail.ensures.1
+      (λ other. (
+        ap content (ap g.D.Disk.file c.cut_tail.ensures.same.db ∙ k.1.same told_db),
+        ap content (ap g.D.Disk.file (cut_kept _ _ _ _ _ c.in_err-cut_tail.ensures.refusal other) ∙ k.2.same told_log),
+      ));
 }
 
 pub returns : goal.returns
@@ -17,4 +30,5 @@ returns g c = record {
       let k = c.newest_schema.ensures.kept in
       read_then_cut _ _ _ _ (g.D.Disk.file (db_of c.newest_schema.new.log)) (g.D.Disk.file (log_of c.newest_schema.new.log)) _ _ db_synced log_synced (k.1.same told_db) (k.2.same told_log)
       (ap g.D.Disk.file c.cut_tail.ensures.same.db) (c.cut_tail.ensures.stop (ap (λ (known : Known). known.has_failed) k.0 ∙ whole) (k.2.tells_same ∙ told_log));
+  kept = λ told_db told_log. tt;
 }

@@ -1,18 +1,15 @@
-use Rattle.std.proofs.Common.{rules, sym, map, Ok, arith}
-use Rattle.std.specs.Prelude.{List}
-use Rattle.sqlval.specs.Gives.{Refuses}
-use Rattle.sqlval.specs.declared.value.Value.{Value}
+use Rattle.std.proofs.Common.{◌≡◌, rules, sym, map, arith}
+use Rattle.sqlval.specs.declared.fault.Fault.TheVariants as fault
 use Rattle.record.proofs.VarintLemmas.{AreBytes-from_index}
-use Rattle.rowprog.specs.Rows.{result_of, values_of}
-use Rattle.rowprog.proofs.RowLemmas.{ok_is, still_memory, table_again, table_found, table_refused}
+use Rattle.rowprog.specs.Rows.{values_of}
+use Rattle.rowprog.proofs.RowLemmas.{ok_is, only_memory, table_again, table_found, table_refused}
 use Rattle.std.proofs.lemmas.Result.{IfErr-weaker}
 use Rattle.rowprog.proofs.Calm.{page_calm}
 use Rattle.rowprog.proofs.rows.table_rows.Goals as goal
 
 pub returns-in_err-leaf-clause-only : goal.returns-in_err-leaf-clause-only
 returns-in_err-leaf-clause-only c = λ rows holds within.
-    let h : Refuses {Y = List (List Value)} c.in_err-leaf.field-0.0 (Ok (map (result_of c.args.outputs.now) rows)) =
-    still_memory c.in_err-leaf.field-0.0 holds.entries (map (result_of c.args.outputs.now) rows) (c.in_err-leaf.ensures.only holds.entries holds.lone) in
+    let h : c.in_err-leaf.field-0.0 ≡ fault.Memory = only_memory c.in_err-leaf.field-0.0 holds.entries (c.in_err-leaf.ensures.only holds.entries holds.lone) in
     search rules
 
 pub returns-clause-found : goal.returns-clause-found
@@ -30,4 +27,4 @@ returns-clause-refused c =
     table_refused (λ rows. map values_of rows.items) c.leaf_rows.result c.args.table.root c.args.table.width c.args.outputs.now c.in_ok-leaf.leaf c.leaf_rows.ensures
 
 pub returns-clause-calm : goal.returns-clause-calm
-returns-clause-calm c = IfErr-weaker c.leaf_rows.result _ _ (λ fault h. page_calm c.args.table.root fault h) (returns-clause-refused c)
+returns-clause-calm c = IfErr-weaker c.leaf_rows.result _ _ (λ d h. page_calm c.args.table.root c.args.outputs.now d h) (returns-clause-refused c)

@@ -1,5 +1,5 @@
-use Rattle.std.proofs.Common.{◌≡◌, ◌∙◌, ◌+◌, ◌-◌, ◌*◌, ℕ, ap, sym, refl, arith, length, take, drop}
-use Rattle.wal.proofs.Paging.{found_page, filed_page}
+use Rattle.std.proofs.Common.{◌≡◌, inr, ◌∙◌, ◌+◌, ◌-◌, ◌*◌, ℕ, ap, sym, refl, arith, length, take, drop}
+use Rattle.wal.proofs.Paging.{found_page, filed_page, missing_page}
 use Rattle.wal.proofs.Results.{on_ok_from}
 use Rattle.wal.proofs.log.Log.page.Goals as goal
 
@@ -25,3 +25,13 @@ returns-clause-read g c told_db told until =
       bytes_are = read ∙ ap (λ (n : ℕ). take n (drop ((c.args.number - 1) * s.page_size) db)) (let e : length c.args.out.now ≡ s.page_size = omega (arith, c.if-out-self.false) in e);
     }))
     (c.read_at-2.ensures.read told_db)
+
+pub returns-then-number-size-clause-refusal : goal.returns-then-number-size-clause-refusal
+returns-then-number-size-clause-refusal g c =
+    let s = c.args.self.now.state in
+    inr (inr (
+      refl,
+      λ given. missing_page s.header s.is_begun s.mark c.args.snapshot.mark s.sum s.index (g.D.Disk.file c.args.self.now.db).content (g.D.Disk.file c.args.self.now.log).content given.3.bytes c.args.number s.page_size
+          (c.args.self.now.log_there c.if-self.false given.1) (c.in_default.ensures.none refl) given.2 given.3.first (omega (arith, c.args.snapshot.few, given.3.last))
+          (omega (arith, c.args.self.now.db_there given.0, c.if-number-size.true)) given.3.is,
+    ))

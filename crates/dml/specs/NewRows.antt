@@ -1,0 +1,21 @@
+-- The rows that an insertion makes, and their records.
+use Rattle.std.specs.Prelude.{◌≡◌}
+use Rattle.record.specs.Record.{IsRecord}
+use Rattle.page.specs.Leaf.{Entry}
+use Rattle.rowprog.specs.Rows.{TableRow}
+use Rattle.dml.specs.Inserting.{entry_for}
+use Rattle.dml.specs.declared.inserting.NewRow.{NewRow}
+use Rattle.dml.specs.declared.inserting.RowRecord.{RowRecord}
+
+-- the row that it is
+abbrev pub row_of : NewRow → TableRow
+row_of new = (new.rowid, new.values.items)
+
+-- the entry that it is
+abbrev pub entry_in : RowRecord → Entry
+entry_in written = record { rowid = written.rowid; payload = written.payload.items }
+
+-- the entry of the row, whose payload is a record of its values
+pub record IsWritten (row : TableRow) (entry : Entry) : Type 0 where
+  pub is : entry ≡ entry_for row
+  pub values : IsRecord entry.payload row.1

@@ -1,0 +1,176 @@
+-- What a commit of a writer's pages leaves, and what a refused one does.
+use Rattle.std.proofs.Common.{◌≡◌, inl, inr, ◌<◌, ◌≤◌, ℕ, suc, List, [], ◌∷◌, ◌++◌, length, refl, sym, ◌∙◌, ap, subst, arith}
+use Rattle.std.specs.Prelude.{◌↔◌, IsTrue, IsFalse, Result, Ok, Err}
+use Rattle.std.proofs.lemmas.Bool.{cases_eq}
+use Rattle.disk.specs.declared.device.Disk.{Ghosts}
+use Rattle.sqlval.specs.declared.fault.Fault.{Fault}
+use Rattle.dbheader.specs.declared.fields.Header.{Header}
+use Rattle.walframe.specs.Written.{Framed}
+use Rattle.wal.specs.declared.log.Log.{Log}
+use Rattle.wal.specs.declared.log.Snapshot.{Snapshot}
+use Rattle.wal.specs.declared.pages.PageImage.{PageImage}
+use Rattle.wal.specs.Commits.{Commits, KeepsDisks, after_refusal, grown}
+use Rattle.wal.specs.Committed.{frames_under}
+use Rattle.wal.specs.Known.{Known, db_of, header_of, known_of, log_of, seen_by}
+use Rattle.wal.specs.Pages.{ArePages, framed}
+use Rattle.wal.specs.Refusals.{IsCommitRefusal}
+use Rattle.wal.proofs.Changes.{page_one}
+use Rattle.wal.proofs.Views.{seen_grows, seen_stays}
+use Rattle.pager.specs.declared.writer.Writer.{Writer}
+use Rattle.pager.specs.Commits.{CommitsPages, IsRefusedCommit, MayCommit}
+use Rattle.pager.specs.Limits.{pages_of, page_size_of}
+use Rattle.pager.specs.Views.{View, Has, changes_of, newest_view, view_at, view_of}
+use Rattle.pager.specs.Writers.{BeginAtPageOne, HasHeader, IsNextHeader, IsWhole, makes_objects, seen, snapshot_of}
+use Rattle.pager.proofs.Reheading.{IsReheaded, few_keep, few_know, first_among, has_header, not_forth, refusal_is_few, reheaded_back, reheaded_first, reheaded_forth, reheaded_whole, reheads_has, reheads_length, reheads_twice}
+use Rattle.pager.proofs.Seeing.{seen_to}
+
+framed_count : (ps : List PageImage) (size : ℕ) → length (framed ps size) ≡ length ps
+framed_count [] size = refl
+framed_count (p ∷ ps) size = ap (λ (n : ℕ). suc n) (framed_count ps size)
+
+-- views that agree in all are one
+view_is : (a b : View) → a.db ≡ b.db → a.frames ≡ b.frames → a.page_size ≡ b.page_size → a.size ≡ b.size → a ≡ b
+view_is a b db frames page_size size =
+    ap (λ (l : List ℕ). record { db = l; frames = a.frames; page_size = a.page_size; size = a.size }) db
+    ∙ ap (λ (l : List Framed). record { db = b.db; frames = l; page_size = a.page_size; size = a.size }) frames
+    ∙ ap (λ (n : ℕ). record { db = b.db; frames = b.frames; page_size = n; size = a.size }) page_size
+    ∙ ap (λ (n : ℕ). record { db = b.db; frames = b.frames; page_size = b.page_size; size = n }) size
+
+some_pages : (size bytes : ℕ) (ps : List PageImage) → ArePages 0 size bytes ps → BeginAtPageOne ps → (0 < size) × (0 < length ps)
+some_pages size bytes [] are first = absurd first
+some_pages size bytes (p ∷ ps) are first = (omega (arith, are.1, first), omega arith)
+
+pub has_pages : (writer : Writer) → IsWhole writer → 0 < pages_of writer
+has_pages writer whole = (let some = some_pages (pages_of writer) (page_size_of writer) (changes_of writer) whole.pages whole.first in some.0)
+
+abbrev read_header : Header → Result Header Fault
+read_header h = Ok h
+
+pub same_header : (a b : Header) → read_header a ≡ Ok b → a ≡ b
+same_header a b is = cc
+
+module _ {D : Type 0} {g : Ghosts D} where
+  -- the header of the page that a writer sees is that of its first page
+  pub may_header : (files : Log D g) (writer : Writer) (page : List ℕ) (header : Header) → MayCommit files writer page header → HasHeader (changes_of writer) header
+  may_header files writer page header may =
+      has_header (pages_of writer) (page_size_of writer) (changes_of writer) header page may.whole.pages may.whole.first may.header_is (first_among (view_at files (snapshot_of writer)) writer page may.whole may.first)
+
+  -- where page 1 is the same, and each other page is, all are
+  same_pages : (files : Log D g) (writer left : Writer) (page : List ℕ) (header : Header) (first : List ℕ) → Has (view_of files writer) 1 page → Has (view_of files left) 1 first → page ≡ first
+      → ((number : ℕ) (bytes : List ℕ) → (number ≡ 1 → ⊥) → Has (view_of files left) number bytes → Has (view_of files writer) number bytes)
+      → ((number : ℕ) (bytes : List ℕ) → (number ≡ 1 → ⊥) → Has (view_of files writer) number bytes → Has (view_of files left) number bytes)
+      → (number : ℕ) (bytes : List ℕ) → Has (view_of files left) number bytes ↔ Has (view_of files writer) number bytes
+  same_pages files writer left page header first was is one forth back number bytes = elim (cases_eq number 1) [
+    | inl at ↦ (
+      (λ has. subst (λ (n : ℕ). Has (view_of files writer) n bytes) (sym at)
+          (subst (Has (view_of files writer) 1) (one ∙ page_one _ _ _ 1 first bytes is (subst (λ (n : ℕ). Has (view_of files left) n bytes) at has)) was)),
+      (λ has. subst (λ (n : ℕ). Has (view_of files left) n bytes) (sym at)
+          (subst (Has (view_of files left) 1) (sym one ∙ page_one _ _ _ 1 page bytes was (subst (λ (n : ℕ). Has (view_of files writer) n bytes) at has)) is)),
+    )
+    | inr other ↦ ((λ has. forth number bytes other has), (λ has. back number bytes other has))
+  ]
+
+  module _ (files new : Log D g) (writer mid : Writer) (page : List ℕ) (header next : Header) (may : MayCommit files writer page header) (re : IsReheaded writer mid next) where
+    mid_whole : IsWhole mid
+    mid_whole = reheaded_whole writer mid next re may.whole
+
+    abbrev pub seen_view : View
+    seen_view = view_at files (snapshot_of writer)
+
+    module _ (ps : List PageImage) (ps_is : ps ≡ changes_of mid) (commits : Commits (known_of files) (framed ps (pages_of mid)) (g.file (log_of files)) (g.file (log_of new)))
+        (known : known_of new ≡ grown (known_of files) (length ps) (pages_of mid)) (keeps : KeepsDisks g.tells g.failures (db_of files) (db_of new) (log_of files) (log_of new)) where
+      db_is : (g.file (db_of new)).content ≡ (g.file (db_of files)).content
+      db_is = ap (λ (d : D). (g.file d).content) keeps.db
+
+      page_size_is : (known_of new).page_size ≡ (known_of files).page_size
+      page_size_is = ap (λ (k : Known). k.page_size) known
+
+      frames_are : (newest_view new).frames ≡ (seen seen_view mid).frames
+      frames_are =
+          ap (λ (k : Known). frames_under (header_of k) (g.file (log_of new)).content k.frames) known
+          ∙ seen_grows (known_of files) (framed ps (pages_of mid)) (g.file (log_of files)) (g.file (log_of new)) (length ps) (pages_of mid) commits (sym (framed_count ps (pages_of mid)))
+          ∙ ap (λ (n : ℕ). frames_under (header_of (known_of files)) (g.file (log_of files)).content n ++ framed ps (pages_of mid)) (sym may.newest)
+          ∙ ap (λ (l : List PageImage). frames_under (header_of (known_of files)) (g.file (log_of files)).content (seen_by (snapshot_of writer)) ++ framed l (pages_of mid)) ps_is
+
+      newest_is : newest_view new ≡ seen seen_view mid
+      newest_is = view_is (newest_view new) (seen seen_view mid) db_is frames_are page_size_is (ap (λ (k : Known). k.size) known)
+
+      stays : (snapshot : Snapshot) → seen_by snapshot ≤ (known_of files).frames → view_at new snapshot ≡ view_at files snapshot
+      stays snapshot le = view_is (view_at new snapshot) (view_at files snapshot) db_is
+          (ap (λ (k : Known). frames_under (header_of k) (g.file (log_of new)).content (seen_by snapshot)) known
+          ∙ seen_stays (known_of files) (framed ps (pages_of mid)) (g.file (log_of files)) (g.file (log_of new)) (length ps) (pages_of mid) (seen_by snapshot) commits le)
+          page_size_is refl
+
+      pub committed : IsNextHeader header next (makes_objects writer) (pages_of writer) → CommitsPages files writer page header new
+      committed next_is =
+          let first = reheaded_first seen_view writer mid next re may.whole page may.first in
+          record {
+            tells = record { db = subst IsTrue (ap g.tells (sym keeps.db)) may.tells.db; log = subst IsTrue (sym keeps.tells_same) may.tells.log; whole = subst (λ (k : Known). IsFalse k.has_failed) (sym known) may.tells.whole };
+            size = ap (λ (k : Known). k.size) known ∙ re.rest.0;
+            others = λ number bytes other. (
+              (λ has. reheaded_forth seen_view writer mid next re may.whole number bytes other (subst (λ (v : View). Has v number bytes) newest_is has)),
+              (λ has. subst (λ (v : View). Has v number bytes) (sym newest_is) (reheaded_back seen_view writer mid next re may.whole number bytes other has)),
+            );
+            first = first.first;
+            next = next;
+            has_first = subst (λ (v : View). Has v 1 first.first) (sym newest_is) (seen_to seen_view mid 1 first.first mid_whole (inl first.among));
+            headed = first.headed;
+            next_is = next_is;
+            stay = stays;
+          }
+
+      pub known_after : known_of new ≡ grown (known_of files) (length (changes_of writer)) (pages_of writer)
+      known_after = known ∙ ap (λ (n : ℕ). grown (known_of files) n (pages_of mid)) (ap length ps_is ∙ reheads_length (changes_of writer) (changes_of mid) next re.pages)
+          ∙ ap (λ (n : ℕ). grown (known_of files) (length (changes_of writer)) n) re.rest.0
+
+    pub next_header_there : HasHeader (changes_of mid) next
+    next_header_there = reheads_has (changes_of writer) (changes_of mid) next re.pages may.whole.first
+
+    are_pages : (ps : List PageImage) → ps ≡ changes_of mid → ArePages 0 (pages_of mid) (known_of files).page_size ps × (0 < length ps)
+    are_pages ps is =
+        let some = some_pages (pages_of mid) (page_size_of mid) (changes_of mid) mid_whole.pages mid_whole.first in
+        subst (λ (l : List PageImage). ArePages 0 (pages_of mid) (known_of files).page_size l × (0 < length l)) (sym is)
+        (subst (λ (n : ℕ). ArePages 0 (pages_of mid) n (changes_of mid)) (re.rest.1 ∙ may.page_size) mid_whole.pages, some.1)
+
+    pub refused_commit : (left : Writer) (ps : List PageImage) (fault : Fault) (failed fails : ℕ) → IsReheaded mid left header → ps ≡ changes_of mid
+        → IsCommitRefusal (known_of files).has_failed (ArePages 0 (pages_of mid) (known_of files).page_size ps × (0 < length ps)) (log_of files) (log_of new) failed fails fault
+        → known_of new ≡ after_refusal (known_of files) fault → KeepsDisks g.tells g.failures (db_of files) (db_of new) (log_of files) (log_of new) → IsRefusedCommit files writer page header new left fault
+    refused_commit left ps fault failed fails again ps_is why known keeps =
+        let both : IsReheaded writer left header = record {
+          pages = reheads_twice (changes_of writer) (changes_of mid) (changes_of left) next header re.pages again.pages may.whole.first;
+          rest = (again.rest.0 ∙ re.rest.0, again.rest.1 ∙ re.rest.1, again.rest.2 ∙ re.rest.2, again.rest.3 ∙ re.rest.3);
+        } in
+        let few = refusal_is_few (known_of files).has_failed _ (log_of files) (log_of new) failed fails fault may.tells.whole (are_pages ps ps_is) why in
+        let first = reheaded_first seen_view writer left header both may.whole page may.first in
+        let left_whole = reheaded_whole writer left header both may.whole in
+        let same : (number : ℕ) (bytes : List ℕ) → Has (seen seen_view left) number bytes → Has (view_of files left) number bytes =
+        λ number bytes has. subst (λ (s : Snapshot). Has (seen (view_at files s) left) number bytes) (sym both.rest.2) has in
+        let back : (number : ℕ) (bytes : List ℕ) → Has (view_of files left) number bytes → Has (seen seen_view left) number bytes =
+        λ number bytes has. subst (λ (s : Snapshot). Has (seen (view_at files s) left) number bytes) both.rest.2 has in
+        record {
+          why = few;
+          files = λ other. (keeps.db, few_keep (known_of files).has_failed _ (log_of files) (log_of new) failed fails fault few other why, few_know (known_of files) (known_of new) fault few other known);
+          whole = left_whole;
+          size = both.rest.0;
+          page_size = both.rest.1;
+          snapshot = both.rest.2;
+          objects = both.rest.3;
+          numbers = λ number none. not_forth (changes_of writer) (changes_of left) header number both.pages none;
+          others = λ number bytes other. (
+            (λ has. reheaded_forth seen_view writer left header both may.whole number bytes other (back number bytes has)),
+            (λ has. same number bytes (reheaded_back seen_view writer left header both may.whole number bytes other has)),
+          );
+          first = first.first;
+          same = λ is_bytes. same_pages files writer left page header first.first may.first (same 1 first.first (seen_to seen_view left 1 first.first left_whole (inl first.among))) (first.headed.only page is_bytes may.header_is refl)
+              (λ number bytes other has. reheaded_forth seen_view writer left header both may.whole number bytes other (back number bytes has))
+              (λ number bytes other has. same number bytes (reheaded_back seen_view writer left header both may.whole number bytes other has));
+          has_first = same 1 first.first (seen_to seen_view left 1 first.first left_whole (inl first.among));
+          headed = first.headed;
+        }
+
+-- a header that is read is not refused
+pub not_refused : (read : Result Header Fault) (header : Header) (fault : Fault) → read ≡ Ok header → read ≡ Err fault → ⊥
+not_refused read header fault ok err = clash (sym ok ∙ err)
+  where
+    clash : read_header header ≡ Err fault → ⊥
+    clash bad = absurd cc

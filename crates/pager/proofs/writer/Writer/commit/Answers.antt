@@ -1,0 +1,41 @@
+use Rattle.std.proofs.Common.{◌≡◌, ◌∙◌, sym, subst}
+use Rattle.dbheader.specs.declared.fields.Header.{Header}
+use Rattle.pager.specs.Limits.{pages_of}
+use Rattle.pager.specs.Views.{changes_of}
+use Rattle.pager.specs.Writers.{IsNextHeader, Reheads, makes_objects}
+use Rattle.pager.proofs.CommitViews.{committed, has_pages, known_after, may_header, next_header_there, not_refused, refused_commit, same_header}
+use Rattle.pager.proofs.Reheading.{IsReheaded}
+use Rattle.pager.proofs.writer.Writer.commit.Goals as goal
+
+pub returns-in_err-old-clause-refused : goal.returns-in_err-old-clause-refused
+returns-in_err-old-clause-refused g c page header may =
+    absurd (not_refused c.header.result header _ (c.header.ensures.only header may.whole (may_header c.args.log.now c.args.self.now page header may)) c.in_err-old.was)
+
+pub returns-clause-commits : goal.returns-clause-commits
+returns-clause-commits g c page header may =
+    let has = may_header c.args.log.now c.args.self.now page header may in
+    let re : IsReheaded c.args.self.now c.set_header.new.self c.next_header-new.result = record { pages = c.set_header.ensures.reheads header has; rest = c.set_header.ensures.rest } in
+    let is : c.in_ok-old.old ≡ header = same_header _ _ (sym c.in_ok-old.was ∙ c.header.ensures.only header may.whole has) in
+    let next = subst (λ (h : Header). IsNextHeader h c.next_header-new.result (makes_objects c.args.self.now) (pages_of c.args.self.now)) is (c.next_header-new.ensures.next (has_pages c.args.self.now may.whole)) in
+    committed c.args.log.now c.commit.new.self c.args.self.now c.set_header.new.self page header c.next_header-new.result may re c.deref.result.now c.deref.ensures.value
+    (c.in_default.ensures.done may.tells.log) c.in_default.ensures.known c.commit.ensures.same next
+
+pub returns-clause-known : goal.returns-clause-known
+returns-clause-known g c page header may =
+    let has = may_header c.args.log.now c.args.self.now page header may in
+    let re : IsReheaded c.args.self.now c.set_header.new.self c.next_header-new.result = record { pages = c.set_header.ensures.reheads header has; rest = c.set_header.ensures.rest } in
+    known_after c.args.log.now c.commit.new.self c.args.self.now c.set_header.new.self page header c.next_header-new.result may re c.deref.result.now c.deref.ensures.value
+    (c.in_default.ensures.done may.tells.log) c.in_default.ensures.known c.commit.ensures.same
+
+pub returns-in-Err-clause-refused : goal.returns-in-Err-clause-refused
+returns-in-Err-clause-refused g c page header may =
+    let has = may_header c.args.log.now c.args.self.now page header may in
+    let re : IsReheaded c.args.self.now c.set_header.new.self c.next_header-new.result = record { pages = c.set_header.ensures.reheads header has; rest = c.set_header.ensures.rest } in
+    let is : c.in_ok-old.old ≡ header = same_header _ _ (sym c.in_ok-old.was ∙ c.header.ensures.only header may.whole has) in
+    let there = next_header_there c.args.log.now c.commit.new.self c.args.self.now c.set_header.new.self page header c.next_header-new.result may re in
+    let again : IsReheaded c.set_header.new.self c.set_header-in-Err.new.self header = record {
+      pages = subst (Reheads (changes_of c.set_header.new.self) (changes_of c.set_header-in-Err.new.self)) is (c.set_header-in-Err.ensures.reheads c.next_header-new.result there);
+      rest = c.set_header-in-Err.ensures.rest;
+    } in
+    refused_commit c.args.log.now c.commit.new.self c.args.self.now c.set_header.new.self page header c.next_header-new.result may re c.set_header-in-Err.new.self c.deref.result.now c.in-Err.fault _ _ again c.deref.ensures.value
+    c.in-Err.ensures.refusal c.in-Err.ensures.known c.commit.ensures.same

@@ -1,0 +1,58 @@
+-- What a writer's commit makes of the database (Database File Format, "WAL File Format" and "The Database Header").
+use Rattle.std.specs.Prelude.{◌≡◌, ◌⊎◌, ◌↔◌, ◌≤◌, ℕ, List}
+use Rattle.disk.specs.declared.device.Disk.{Ghosts}
+use Rattle.dbheader.specs.declared.fields.Header.{Header}
+use Rattle.dbheader.specs.Header.{IsHeader}
+use Rattle.dbheader.specs.Writing.{IsBytes}
+use Rattle.sqlval.specs.declared.fault.Fault.{Fault}
+use Rattle.sqlval.specs.declared.fault.Fault.TheVariants.{Memory, Io, Full}
+use Rattle.wal.specs.declared.log.Log.{Log}
+use Rattle.wal.specs.declared.log.Snapshot.{Snapshot}
+use Rattle.wal.specs.Known.{db_of, log_of, known_of, seen_by}
+use Rattle.wal.specs.Laws.{IsNotAmong}
+use Rattle.pager.specs.declared.writer.Writer.{Writer}
+use Rattle.pager.specs.Limits.{pages_of, page_size_of}
+use Rattle.pager.specs.Views.{Has, Tells, changes_of, newest_view, view_at, view_of}
+use Rattle.pager.specs.Writers.{IsHeaded, IsNextHeader, IsWhole, makes_objects, snapshot_of}
+
+module _ {D : Type 0} {g : Ghosts D} where
+  -- A writer may commit: its changes are whole, it stands on the newest snapshot, and page 1, as it sees it, has this header.
+  pub record MayCommit (files : Log D g) (writer : Writer) (page : List ℕ) (header : Header) : Type 0 where
+    pub tells : Tells files
+    pub whole : IsWhole writer
+    pub newest : seen_by (snapshot_of writer) ≡ (known_of files).frames
+    pub page_size : page_size_of writer ≡ (known_of files).page_size
+    pub first : Has (view_of files writer) 1 page
+    pub header_is : IsHeader page header
+
+  -- What a commit leaves: the newest view is what the writer saw, but for the header on page 1, which is the next one; and snapshots
+  -- that were there see what they saw.
+  pub record CommitsPages (old : Log D g) (writer : Writer) (page : List ℕ) (header : Header) (new : Log D g) : Type 0 where
+    pub tells : Tells new
+    pub size : (newest_view new).size ≡ pages_of writer
+    pub others : (number : ℕ) (bytes : List ℕ) → (number ≡ 1 → ⊥) → Has (newest_view new) number bytes ↔ Has (view_of old writer) number bytes
+    pub first : List ℕ
+    pub next : Header
+    pub has_first : Has (newest_view new) 1 first
+    pub headed : IsHeaded page first next
+    pub next_is : IsNextHeader header next (makes_objects writer) (pages_of writer)
+    pub stay : (snapshot : Snapshot) → seen_by snapshot ≤ (known_of old).frames → view_at new snapshot ≡ view_at old snapshot
+
+  -- What a refused commit leaves: nothing of the files has changed unless a call of theirs failed; and the writer sees what it saw, with
+  -- the same header on page 1.
+  pub record IsRefusedCommit (old : Log D g) (writer : Writer) (page : List ℕ) (header : Header) (new : Log D g) (left : Writer) (fault : Fault) : Type 0 where
+    pub why : (fault ≡ Memory) ⊎ ((fault ≡ Io) ⊎ (fault ≡ Full))
+    pub files : (fault ≡ Io → ⊥) → (db_of new ≡ db_of old) × (log_of new ≡ log_of old) × (known_of new ≡ known_of old)
+    pub whole : IsWhole left
+    pub size : pages_of left ≡ pages_of writer
+    pub page_size : page_size_of left ≡ page_size_of writer
+    pub snapshot : snapshot_of left ≡ snapshot_of writer
+    pub objects : makes_objects left ≡ makes_objects writer
+    -- a page that isn't among its changes now wasn't before
+    pub numbers : (number : ℕ) → IsNotAmong (changes_of left) number → IsNotAmong (changes_of writer) number
+    pub others : (number : ℕ) (bytes : List ℕ) → (number ≡ 1 → ⊥) → Has (view_of old left) number bytes ↔ Has (view_of old writer) number bytes
+    pub first : List ℕ
+    pub has_first : Has (view_of old left) 1 first
+    pub headed : IsHeaded page first header
+    -- where page 1 was of bytes, it is as it was too
+    pub same : IsBytes page → (number : ℕ) (bytes : List ℕ) → Has (view_of old left) number bytes ↔ Has (view_of old writer) number bytes

@@ -1,0 +1,4 @@
+pub mod Commits
+pub mod Limits
+pub mod Views
+pub mod Writers

@@ -1,0 +1,116 @@
+-- What a transaction makes of the pages that it sees, and what its commit leaves (Database File Format, "Reader Algorithm").
+use Rattle.std.specs.Prelude.{◌≡◌, ◌⊎◌, ◌↔◌, ◌<◌, ◌≤◌, ◌+◌, ◌%◌, ◌^◌, ℕ, max, Bool, IsFalse, List, [], ◌∷◌, length, take, drop, Some, if◌then◌else◌}
+use Rattle.std.specs.List.{AllByRecursion, HoldsAt}
+use Rattle.dbheader.specs.declared.fields.Header.{Header}
+use Rattle.dbheader.specs.Header.{IsHeader, counted_of}
+use Rattle.dbheader.specs.Writing.{IsBytes}
+use Rattle.wal.specs.declared.log.Snapshot.{Snapshot}
+use Rattle.wal.specs.declared.pages.PageImage.{PageImage}
+use Rattle.wal.specs.Laws.{IsAmong, IsNotAmong}
+use Rattle.wal.specs.Pages.{ArePages}
+use Rattle.pager.specs.declared.writer.Writer.{Writer}
+use Rattle.pager.specs.Limits.{pages_of, page_size_of}
+use Rattle.pager.specs.Views.{View, Has, after, changes_of}
+
+-- the snapshot that a writer stands on
+abbrev pub snapshot_of : Writer → Snapshot
+snapshot_of writer = writer.snapshot
+
+-- whether a new object is among what it changes
+abbrev pub makes_objects : Writer → Bool
+makes_objects writer = writer.has_new_objects
+
+-- page 1 is the first of these
+abbrev pub BeginAtPageOne : List PageImage → Type 0
+BeginAtPageOne [] = ⊥
+BeginAtPageOne (p ∷ ps) = p.number ≡ 1
+
+-- a writer's changes can be committed: they are pages by rising number within its size, each as long as a page is, and page 1 is the first
+pub record IsWhole (writer : Writer) : Type 0 where
+  pub pages : ArePages 0 (pages_of writer) (page_size_of writer) (changes_of writer)
+  pub first : BeginAtPageOne (changes_of writer)
+
+-- what a writer sees over a view: the view with its changes committed behind it
+abbrev pub seen : View → Writer → View
+seen view writer = after view (changes_of writer) (pages_of writer)
+
+-- A writer that has changed nothing yet: it sees what the view shows.
+pub record IsBegun (view : View) (writer : Writer) : Type 0 where
+  pub whole : IsWhole writer
+  pub size : pages_of writer ≡ view.size
+  pub page_size : page_size_of writer ≡ view.page_size
+  pub objects : IsFalse (makes_objects writer)
+  pub sees : (number : ℕ) (bytes : List ℕ) → Has (seen view writer) number bytes ↔ Has view number bytes
+
+-- the page of this number is at this place
+pub record IsAt (pages : List PageImage) (number index : ℕ) : Type 0 where
+  pub within : index < length pages
+  pub number_is : HoldsAt (λ (p : PageImage). p.number ≡ number) pages index
+
+-- a page of this number would go to this place: smaller numbers stand before it, and greater ones from it on
+pub record IsGapFor (pages : List PageImage) (number index : ℕ) : Type 0 where
+  pub within : index ≤ length pages
+  pub smaller : AllByRecursion (λ (p : PageImage). p.number < number) (take index pages)
+  pub greater : AllByRecursion (λ (p : PageImage). number < p.number) (drop index pages)
+
+-- the greatest of a size and the numbers of these pages
+abbrev pub size_with : List PageImage → ℕ → ℕ
+size_with [] size = size
+size_with (p ∷ ps) size = size_with ps (max size p.number)
+
+-- nothing that a writer sees or would commit differs
+pub record IsUnchanged (old new : Writer) : Type 0 where
+  pub changes : changes_of new ≡ changes_of old
+  pub size : pages_of new ≡ pages_of old
+  pub page_size : page_size_of new ≡ page_size_of old
+  pub snapshot : snapshot_of new ≡ snapshot_of old
+  pub objects : makes_objects new ≡ makes_objects old
+
+-- These pages were put: over whatever view the writer sees them, and at each other number what it saw before.
+pub record Puts (pages : List PageImage) (old new : Writer) : Type 0 where
+  pub sees : (view : View) (number : ℕ) (bytes : List ℕ) → Has (seen view new) number bytes ↔ (IsAmong pages number bytes ⊎ (IsNotAmong pages number × Has (seen view old) number bytes))
+  pub size : pages_of new ≡ size_with pages (pages_of old)
+  pub page_size : page_size_of new ≡ page_size_of old
+  pub snapshot : snapshot_of new ≡ snapshot_of old
+  -- what isn't among the changes now wasn't before, and is none of these pages
+  pub rest : (number : ℕ) → IsNotAmong (changes_of new) number → IsNotAmong pages number × IsNotAmong (changes_of old) number
+
+-- page 1 and the root page of a new object, each as long as a page is
+pub record AreObjectPages (page_size : ℕ) (schema root : PageImage) : Type 0 where
+  pub first : schema.number ≡ 1
+  pub behind : 1 < root.number
+  pub schema_is_long : length schema.bytes.items ≡ page_size
+  pub root_is_long : length root.bytes.items ≡ page_size
+
+-- the first of these pages has this header
+abbrev pub HasHeader : List PageImage → Header → Type 0
+HasHeader [] header = ⊥
+HasHeader (p ∷ ps) header = IsHeader p.bytes.items header
+
+-- a page has this header, and is as it was behind it
+pub record IsHeaded (old new : List ℕ) (header : Header) : Type 0 where
+  pub header_is : IsHeader new header
+  -- there is no other such page
+  pub only : (other : List ℕ) → IsBytes other → IsHeader other header → drop 100 other ≡ drop 100 old → other ≡ new
+  pub behind : drop 100 new ≡ drop 100 old
+  pub long : length new ≡ length old
+
+-- the first of these pages got this header, and all others are as they were
+abbrev pub Reheads : List PageImage → List PageImage → Header → Type 0
+Reheads [] new header = new ≡ []
+Reheads (p ∷ ps) [] header = ⊥
+Reheads (p ∷ ps) (q ∷ qs) header = (q.number ≡ p.number) × IsHeaded p.bytes.items q.bytes.items header × (qs ≡ ps)
+
+-- The header that a commit leaves: one change more is counted, the number of pages holds and is this one, the schema cookie counts one more where an
+-- object was made, and the rest is as it was.
+pub record IsNextHeader (old new : Header) (makes_objects : Bool) (pages : ℕ) : Type 0 where
+  pub page_size : new.page_size ≡ old.page_size
+  pub change_counter : new.change_counter ≡ (old.change_counter + 1) % 2 ^ 32
+  pub counts : counted_of new ≡ Some pages
+  pub schema_cookie : new.schema_cookie ≡ (if makes_objects then (old.schema_cookie + 1) % 2 ^ 32 else old.schema_cookie)
+  pub freelist_trunk : new.freelist_trunk ≡ old.freelist_trunk
+  pub freelist_count : new.freelist_count ≡ old.freelist_count
+  pub default_cache_size : new.default_cache_size ≡ old.default_cache_size
+  pub user_version : new.user_version ≡ old.user_version
+  pub application_id : new.application_id ≡ old.application_id
+  pub writer_version : new.writer_version ≡ old.writer_version

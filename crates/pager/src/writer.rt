@@ -1,0 +1,222 @@
+//! The pages that a transaction has changed.
+
+ghost use Rattle.std.specs.Prelude.{◌≡◌, ◌⊎◌, ◌↔◌, ◌<◌, ◌≤◌, ℕ, List, [], ◌∷◌, ◌++◌, length, drop, Ok, true, false, IfOk, IfErr, IfSome, IfNone, IsTrue, OnOk};
+ghost use Rattle.catalog.specs.Faults.{IsNoFileFault};
+ghost use Rattle.dbheader.specs.Header.{IsPageSize};
+ghost use Rattle.sqlval.specs.declared.fault.Fault.TheVariants.{Memory, Io};
+ghost use Rattle.wal.specs.Commits.{IsKnownAfter, KeepsDisks};
+ghost use Rattle.wal.specs.Known.{db_of, known_of, log_of, seen_by, size_of};
+ghost use Rattle.wal.specs.Laws.{IsAmong, IsNotAmong};
+ghost use Rattle.wal.specs.Whys.{HasReason};
+ghost use Rattle.walframe.specs.Accepted.{Leaves};
+ghost use Rattle.pager.specs.Commits.{CommitsPages, IsRefusedCommit, MayCommit};
+ghost use Rattle.pager.specs.Limits.{one_more, pages_of, page_size_of};
+ghost use Rattle.pager.specs.Views.{Has, IsPage, Tells, View, changes_of, view_at};
+ghost use Rattle.pager.specs.Writers.{AreObjectPages, HasHeader, IsAt, IsBegun, IsGapFor, IsHeaded, IsNextHeader, IsUnchanged, IsWhole, Puts, Reheads, makes_objects, seen, snapshot_of};
+
+use crate::reading::{header_of, read_page};
+use dbheader::Header;
+use disk::Disk;
+use sqlval::{Damage, Fault, R};
+use std::alloc::Global;
+use wal::{Log, PageImage, Snapshot};
+
+/// The most pages and bytes of a database.
+const MAX_PAGES: u32 = 65_536;
+
+const MAX_BYTES: u64 = 1_073_741_824;
+
+/// Writes bytes at the front of a page, as far as it has room.
+fn put_front(page: &mut [u8], front: &[u8])
+    ensures { length front.now ≤ length page.old → page.new ≡ front.now ++ drop (length front.now) page.old }
+{
+    let count = page.len().min(front.len());
+    page[..count].copy_from_slice(&front[..count]);
+}
+
+/// Gives a page this header.
+fn give_header(page: &mut PageImage, header: &Header)
+    requires { IsPageSize header.now.page_size }
+    ensures number { page.new.number ≡ page.old.number }
+    ensures headed { 100 ≤ length page.old.bytes.items → IsHeaded page.old.bytes.items page.new.bytes.items header.now }
+{
+    put_front(page.bytes.as_mut_slice(), &dbheader::write(header));
+}
+
+/// The pages that a transaction has changed, by rising number, page 1 among them, over a snapshot.
+#[derive(Drop)]
+pub struct Writer {
+    snapshot: Snapshot,
+    size: u32,
+    page_size: u32,
+    pages: Vec<PageImage>,
+    has_new_objects: bool,
+}
+
+impl Writer {
+    /// A writer that has changed nothing yet.
+    pub fn begin<D: Disk + Drop>(alloc: Global, log: &mut Log<D>, snapshot: Snapshot) -> R<Writer>
+        ensures kept { (known_of log.new ≡ known_of log.old) × Leaves D.tells D.file (db_of log.old) (db_of log.new) × Leaves D.tells D.file (log_of log.old) (log_of log.new) }
+        ensures reason { HasReason false result log.old log.new }
+        ensures stands { IfOk result (λ writer. snapshot_of writer ≡ snapshot) }
+        ensures begun { Tells log.old → seen_by snapshot ≤ (known_of log.old).frames → 1 ≤ size_of snapshot → IfOk result (λ writer. IsBegun (view_at log.old snapshot) writer) }
+        // Where page 1 is there, it is refused for want of memory or a failed call alone.
+        ensures there { (bytes : List ℕ) → Tells log.old → seen_by snapshot ≤ (known_of log.old).frames → IsPage (view_at log.old snapshot) 1 bytes
+            → IfErr result (λ fault. (fault ≡ Memory) ⊎ (fault ≡ Io)) }
+    {
+        let bytes = read_page(alloc, log, snapshot, 1)?;
+        let mut pages = Vec::new(alloc);
+        pages.push(PageImage { number: 1, bytes })?;
+        Ok(Writer {
+            snapshot,
+            size: log.size(snapshot),
+            page_size: log.page_size(),
+            pages,
+            has_new_objects: false,
+        })
+    }
+
+    /// The snapshot that it stands on.
+    pub fn snapshot(&self) -> Snapshot
+        ensures { result ≡ snapshot_of self.now }
+    {
+        self.snapshot
+    }
+
+    /// Where a page is among the changed ones, or where it would go.
+    fn search(&self, number: u32) -> Result<usize, usize>
+        ensures found { IfOk result (λ index. IsAt (changes_of self.now) number index) }
+        ensures gap { IsWhole self.now → IfErr result (λ index. IsGapFor (changes_of self.now) number index) }
+        ensures within { IfErr result (λ index. index ≤ length (changes_of self.now)) }
+    {
+        self.pages.binary_search_by_key(&number, |page| page.number)
+    }
+
+    /// A page, where it is among the changed ones.
+    pub fn find(&self, number: u32) -> Option<&[u8]>
+        ensures found { IfSome result (λ page. IsAmong (changes_of self.now) number page.now) }
+        ensures none { IsWhole self.now → IfNone result (IsNotAmong (changes_of self.now) number) }
+        // So over whatever view it is what the writer sees, and where there is none, the writer sees what the view shows.
+        ensures shown { IsWhole self.now → IfSome result (λ page. (view : View) → Has (seen view self.now) number page.now) }
+        ensures below { IsWhole self.now → IfNone result ((view : View) (bytes : List ℕ) → Has (seen view self.now) number bytes ↔ Has view number bytes) }
+    {
+        match self.search(number) {
+            Ok(index) => Some(self.pages[index].bytes.as_slice()),
+            Err(_) => None,
+        }
+    }
+
+    /// The number of a page that is one past the present ones.
+    pub fn next_number(&self) -> R<u32>
+        ensures { result ≡ one_more (pages_of self.now) (page_size_of self.now) }
+    {
+        if self.size >= MAX_PAGES
+            || u64::from(self.size + 1) * u64::from(self.page_size) > MAX_BYTES
+        {
+            return Err(Fault::Full);
+        }
+        Ok(self.size + 1)
+    }
+
+    /// How many bytes a page has.
+    pub fn page_size(&self) -> usize
+        ensures { result ≡ page_size_of self.now }
+    {
+        self.page_size as usize
+    }
+
+    /// Puts a page in the place of what it was, or behind all others.
+    pub fn put(&mut self, page: PageImage) -> R<()>
+        ensures refused { IfErr result (λ fault. IsNoFileFault fault) }
+        ensures whole { IsWhole self.old → 1 ≤ page.number → length page.bytes.items ≡ page_size_of self.old → OnOk result (IsWhole self.new) }
+        ensures puts { IsWhole self.old → 1 ≤ page.number → length page.bytes.items ≡ page_size_of self.old → OnOk result (Puts (page ∷ []) self.old self.new) }
+        ensures unchanged { IfErr result (λ fault. (fault ≡ Memory) × IsUnchanged self.old self.new) }
+        ensures objects { makes_objects self.new ≡ makes_objects self.old }
+        // A page that is among the changed ones is put without fail.
+        ensures replaced { IsWhole self.old → IfErr result (λ fault. IsNotAmong (changes_of self.old) page.number) }
+    {
+        match self.search(page.number) {
+            Ok(index) => self.pages[index] = page,
+            Err(index) => {
+                let number = page.number;
+                self.pages.insert(index, page)?;
+                self.size = self.size.max(number);
+            }
+        }
+        Ok(())
+    }
+
+    /// Puts page 1 and a new page behind all others, both or neither.
+    pub fn put_object(&mut self, schema: PageImage, root: PageImage) -> R<()>
+        ensures refused { IfErr result (λ fault. IsNoFileFault fault) }
+        ensures whole { IsWhole self.old → AreObjectPages (page_size_of self.old) schema root → OnOk result (IsWhole self.new) }
+        ensures objects { OnOk result (IsTrue (makes_objects self.new)) }
+        ensures puts { IsWhole self.old → AreObjectPages (page_size_of self.old) schema root → OnOk result (Puts (schema ∷ root ∷ []) self.old self.new) }
+        ensures unchanged { IsWhole self.old → AreObjectPages (page_size_of self.old) schema root → IfErr result (λ fault. (fault ≡ Memory) × IsUnchanged self.old self.new) }
+    {
+        self.put(root)?;
+        self.put(schema)?;
+        self.has_new_objects = true;
+        Ok(())
+    }
+
+    /// Commits the pages: page 1 gets the next change counter and the size, and the next schema cookie where an object
+    /// was made. After a refusal the pages are as they were.
+    pub fn commit<D: Disk + Drop>(&mut self, alloc: Global, log: &mut Log<D>) -> R<()>
+        ensures commits { (page : List ℕ) (header : Header) → MayCommit log.old self.old page header → OnOk result (CommitsPages log.old self.old page header log.new) }
+        ensures refused { (page : List ℕ) (header : Header) → MayCommit log.old self.old page header → IfErr result (IsRefusedCommit log.old self.old page header log.new self.new) }
+        ensures known { (page : List ℕ) (header : Header) → MayCommit log.old self.old page header → IsKnownAfter result (known_of log.old) (length (changes_of self.old)) (pages_of self.old) (known_of log.new) }
+        ensures disks { KeepsDisks D.tells D.failures (db_of log.old) (db_of log.new) (log_of log.old) (log_of log.new) }
+        ensures reason { HasReason true result log.old log.new }
+    {
+        let old = self.header()?;
+        let new = self.next_header(&old);
+        self.set_header(&new);
+        if let Err(fault) = log.commit(alloc, &self.pages, self.size) {
+            self.set_header(&old);
+            return Err(fault);
+        }
+        Ok(())
+    }
+
+    /// The header on page 1 as the commit is to leave it.
+    fn next_header(&self, old: &Header) -> Header
+        ensures page_size { result.page_size ≡ old.now.page_size }
+        ensures next { 0 < pages_of self.now → IsNextHeader old.now result (makes_objects self.now) (pages_of self.now) }
+    {
+        let counter = old.change_counter.wrapping_add(1);
+        let cookie = if self.has_new_objects {
+            old.schema_cookie.wrapping_add(1)
+        } else {
+            old.schema_cookie
+        };
+        Header {
+            change_counter: counter,
+            version_valid_for: counter,
+            size: self.size,
+            schema_cookie: cookie,
+            ..*old
+        }
+    }
+
+    fn header(&self) -> R<Header>
+        ensures size { IfOk result (λ header. IsPageSize header.page_size) }
+        ensures only { (header : Header) → IsWhole self.now → HasHeader (changes_of self.now) header → result ≡ Ok header }
+        ensures refused { IfErr result (λ fault. IsNoFileFault fault) }
+    {
+        match self.find(1) {
+            Some(page) => header_of(page),
+            None => Err(Fault::Damaged(Damage::MissingPage, 1)),
+        }
+    }
+
+    fn set_header(&mut self, header: &Header)
+        requires { IsPageSize header.now.page_size }
+        ensures reheads { (old : Header) → HasHeader (changes_of self.old) old → Reheads (changes_of self.old) (changes_of self.new) header.now }
+        ensures rest { (pages_of self.new ≡ pages_of self.old) × (page_size_of self.new ≡ page_size_of self.old) × (snapshot_of self.new ≡ snapshot_of self.old) × (makes_objects self.new ≡ makes_objects self.old) }
+    {
+        if let Some(page) = self.pages.first_mut() {
+            give_header(page, header);
+        }
+    }
+}

@@ -1,0 +1,453 @@
+-- CREATE TABLE makes the database with the new table, or leaves what was there.
+use Rattle.std.proofs.Common.{◌≡◌, ◌⊎◌, ◌<◌, ◌≤◌, ◌+◌, ◌*◌, ◌-◌, ◌^◌, ◌==◌, ◌||◌, inl, inr, refl, sym, ap, subst, ◌∙◌, ℕ, Bool, true, false, cond, List, [], ◌∷◌, ◌++◌, length, take, Some, None, arith, length-append}
+use Rattle.std.specs.Prelude.{⊤, Result, Ok, Err, IsErrAnd, IfErr, OnOk, max, nat_lt, Contains}
+use Rattle.std.specs.List.{find}
+use Rattle.std.specs.Result.{is_err}
+use Rattle.std.proofs.Math.Nat.{pow-le-pow_right}
+use Rattle.std.proofs.lemmas.Bool.{cases_lt, false≢true}
+use Rattle.std.proofs.lemmas.Bool.Decides.{nat_tests}
+use Rattle.std.proofs.lemmas.List.{take_at, take-append-le}
+use Rattle.std.proofs.lemmas.Map.Lookups.{exact_bytes}
+use Rattle.std.proofs.lemmas.Map.Text.{is_eq-slice_cmp}
+use Rattle.std.proofs.lemmas.Map.Views.{tells_apart}
+use Rattle.disk.specs.declared.device.Disk.{Ghosts}
+use Rattle.sqlval.specs.Names.{folded}
+use Rattle.sqlval.specs.Refusals.{Refusal, refusal_of}
+use Rattle.sqlval.specs.declared.fault.Fault.{Fault}
+use Rattle.sqlval.specs.declared.fault.Fault.TheVariants as fault
+use Rattle.sqlval.specs.declared.fault.Feature.TheVariants.{RowSize}
+use Rattle.sqlval.specs.declared.value.Value.{Value}
+use Rattle.dbheader.specs.Header.{IsPageSize}
+use Rattle.syntax.specs.declared.create.NewObject.TheVariants as object
+use Rattle.syntax.specs.declared.create.TableDefinition.{TableDefinition}
+use Rattle.syntax.specs.declared.statement.Statement.{Statement}
+use Rattle.syntax.specs.declared.statement.Statement.TheVariants as statement
+use Rattle.page.specs.Leaf.{Entry, IsTableLeaf}
+use Rattle.page.specs.Writing.{Fits}
+use Rattle.tabletree.specs.Cells.{start_of}
+use Rattle.tabletree.specs.Lone.{IsLone}
+use Rattle.wal.specs.Known.{known_of}
+use Rattle.wal.specs.Laws.{IsAmong, IsNotAmong}
+use Rattle.wal.specs.Opening.{IsServedSize}
+use Rattle.wal.specs.Pages.{ArePages}
+use Rattle.wal.specs.declared.log.Snapshot.{Snapshot}
+use Rattle.wal.specs.declared.pages.PageImage.{PageImage}
+use Rattle.catalog.specs.Database.{Database, Name, ATable, with_object}
+use Rattle.catalog.specs.Listed.{Lists, committed_in, is_table, plain_table, table_named, tables_of}
+use Rattle.catalog.specs.Laws.{KeepsOnlyTables}
+use Rattle.catalog.specs.NewTables.{IsNewRoot, ListsNewTable}
+use Rattle.catalog.specs.declared.tables.Catalog.{Catalog}
+use Rattle.catalog.specs.declared.tables.Table.{Table}
+use Rattle.bind.specs.Known.{Known, Meant, faults}
+use Rattle.bind.specs.Creating.{IsCreateRefusal, has_no_rules}
+use Rattle.bind.specs.Schema.{create}
+use Rattle.bind.proofs.CreatedTables.{keeps_once, makes_table, refuses_table}
+use Rattle.rowprog.specs.Rows.{Holds, TableRow}
+use Rattle.pager.specs.Limits.{is_too_large, one_more, page_size_of, pages_of}
+use Rattle.pager.specs.Views.{Has, IsPage, Tells, View, after, changes_of, view_at, view_of}
+use Rattle.pager.specs.Writers.{AreObjectPages, IsUnchanged, IsWhole, Puts, seen, snapshot_of}
+use Rattle.pager.specs.declared.writer.Writer.{Writer}
+use Rattle.pager.proofs.HeaderFronts.{header_moves}
+use Rattle.pager.proofs.Seeing.{first_not_missing, whole_same}
+use Rattle.session.specs.Known.{files_of}
+use Rattle.session.specs.NewTables.{IsListedBehind, IsMadeBeside, IsNewTableFault, IsRowFault, schema_row}
+use Rattle.session.specs.Outcomes.{of_known}
+use Rattle.session.specs.Shown.{IsNewest, IsWriter}
+use Rattle.session.specs.Stored.{AreApart, IsStored, Stores}
+use Rattle.session.specs.Working.{HasWorked, IsUnworked, IsWorkRefusal, KeepsCommitted, Reaches, RefusesWith, Works, WorksOn, work_of}
+use Rattle.session.specs.declared.transactions.Connections.{Connections}
+use Rattle.session.proofs.SeenPages.{one_page}
+use Rattle.session.proofs.Showing.{the_same}
+
+-- ---- sizes
+
+not_below : (a b : ℕ) → nat_lt a b ≡ false → b ≤ a
+not_below a b h = grind (arith, nat_tests)
+
+neither : (a b : Bool) → (a || b) ≡ false → (a ≡ false) × (b ≡ false)
+neither true b h = absurd (false≢true (sym h))
+neither false b h = (refl, h)
+
+-- the number of one page more, and the size that the database has with it
+pub record IsOnePast (pages page_size root : ℕ) : Type 0 where
+  pub is : root ≡ pages + 1
+  pub served : IsServedSize page_size root
+
+pub one_past : (pages page_size root : ℕ) → Ok root ≡ one_more pages page_size → IsOnePast pages page_size root
+one_past pages page_size root is = by_test (is_too_large (pages + 1) page_size) refl is
+  where
+    by_test : (b : Bool) → is_too_large (pages + 1) page_size ≡ b → Ok root ≡ cond b (Err fault.Full) (Ok (pages + 1)) → IsOnePast pages page_size root
+    by_test true large is = absurd cc
+    by_test false small is =
+        let same : root ≡ pages + 1 = cc in
+        let tests = neither (nat_lt 65536 (pages + 1)) (nat_lt 1073741824 ((pages + 1) * page_size)) small in
+        record {
+          is = same;
+          served = subst (IsServedSize page_size) (sym same) (record { few = not_below 65536 (pages + 1) tests.0; small = not_below 1073741824 ((pages + 1) * page_size) tests.1 });
+        }
+
+pub fits_empty : (size : ℕ) → IsPageSize size → Fits size 0 []
+fits_empty size served =
+    let low : 2 ^ 9 ≤ 2 ^ served.exponent = pow-le-pow_right (omega arith) served.low in
+    let high : 2 ^ served.exponent ≤ 2 ^ 15 = pow-le-pow_right (omega arith) served.high in
+    record {
+      addressed = omega (arith, served.power, high);
+      whole = tt;
+      room = omega (arith, served.power, low);
+    }
+
+-- each page of a writer is as long as a page is
+among_long : (last size bytes : ℕ) (ps : List PageImage) (number : ℕ) (page : List ℕ) → ArePages last size bytes ps → IsAmong ps number page → length page ≡ bytes
+among_long last size bytes [] number page are among = absurd among
+among_long last size bytes (p ∷ ps) number page are (inl here) = ap length here.1 ∙ are.2
+among_long last size bytes (p ∷ ps) number page are (inr rest) = among_long p.number size bytes ps number page are.3 rest
+
+greatest : (a b c : ℕ) → b ≤ a → a ≤ c → max (max a b) c ≡ c
+greatest a b c low high = grind (arith, nat_tests)
+
+not_same : (n m : ℕ) → (n ≡ m → ⊥) → (n == m) ≡ false
+not_same n m ne = grind (arith, nat_tests)
+
+itself : (n : ℕ) → (n == n) ≡ true
+itself n = grind (arith, nat_tests)
+
+begins_at : (number : ℕ) → 1 < number → start_of number ≡ 0
+begins_at number above = ap (λ (b : Bool). cond {A = ℕ} b 100 0) (not_same number 1 (λ is. omega (arith, above, is)))
+
+-- ---- tables by their names
+
+-- what is found with one item more is found without it, or is that item
+found_behind : {A : Type 0} (p : A → Bool) (xs : List A) (x t : A) → find p (xs ++ x ∷ []) ≡ Some t → (find p xs ≡ Some t) ⊎ ((x ≡ t) × (p x ≡ true))
+found_behind p [] x t h = by_test (p x) refl h
+  where
+    by_test : (b : Bool) → p x ≡ b → cond b (Some x) None ≡ Some t → (None ≡ Some t) ⊎ ((x ≡ t) × (p x ≡ true))
+    by_test true e h = inr (cc, e)
+    by_test false e h = inl h
+found_behind p (y ∷ xs) x t h = by_test (found_behind p xs x t) (p y) h
+  where
+    by_test : (find p (xs ++ x ∷ []) ≡ Some t → (find p xs ≡ Some t) ⊎ ((x ≡ t) × (p x ≡ true))) → (b : Bool) → cond b (Some y) (find p (xs ++ x ∷ [])) ≡ Some t
+        → (cond b (Some y) (find p xs) ≡ Some t) ⊎ ((x ≡ t) × (p x ≡ true))
+    by_test rest true h = inl h
+    by_test rest false h = rest h
+
+named_so : (t : Table) (name : Name) → is_table name t ≡ true → folded t.name ≡ folded name
+named_so t name is = tells_apart exact_bytes (folded t.name) (folded name) (is_eq-slice_cmp (folded t.name) (folded name) ∙ is)
+
+-- the rows of the trees, where a new one begins at this page
+abbrev pub rows_beside : (ℕ → List TableRow) → ℕ → ℕ → List TableRow
+rows_beside rows_at root n = cond (n == root) [] (rows_at n)
+
+kept_rows : (rows_at : ℕ → List TableRow) (root n : ℕ) → (n ≡ root → ⊥) → rows_at n ≡ rows_beside rows_at root n
+kept_rows rows_at root n other = ap (λ (b : Bool). cond {A = List TableRow} b [] (rows_at n)) (sym (not_same n root other))
+
+no_rows : (rows_at : ℕ → List TableRow) (root : ℕ) → [] ≡ rows_beside rows_at root root
+no_rows rows_at root = ap (λ (b : Bool). cond {A = List TableRow} b [] (rows_at root)) (sym (itself root))
+
+-- ---- the pages
+
+-- Page 1 with the row of a table and the page of its tree were put, where a writer's pages held a database.
+pub record Creates (view : View) (old new : Writer) (tables : List Table) (db : Database) (d : TableDefinition) (t : Table) (schema root : PageImage) : Type 0 where
+  pub lists : ListsNewTable
+  pub only : KeepsOnlyTables
+  pub held : Stores (seen view old) tables db
+  pub made : IsMadeBeside tables d root.number t
+  pub past : IsOnePast (pages_of old) view.page_size root.number
+  pub first : schema.number ≡ 1
+  pub front : take 100 held.first.page ≡ take 100 schema.bytes.items
+  pub values : List Value
+  pub listed : IsListedBehind schema.bytes.items held.first.rows values
+  pub empty : IsTableLeaf root.bytes.items 0 []
+  pub puts : Puts (schema ∷ root ∷ []) old new
+
+module _ (view : View) (old new : Writer) (tables : List Table) (db : Database) (d : TableDefinition) (t : Table) (schema root : PageImage) (c : Creates view old new tables db d t schema root) where
+  some_page : 1 ≤ pages_of old
+  some_page = c.held.first.there.last
+
+  pub grown_to : pages_of new ≡ pages_of old + 1
+  grown_to = c.puts.size ∙ greatest (pages_of old) schema.number root.number (omega (arith, c.first, some_page)) (omega (arith, c.past.is)) ∙ c.past.is
+
+  stays : (number : ℕ) (bytes : List ℕ) → 1 < number → IsPage (seen view old) number bytes → IsPage (seen view new) number bytes
+  stays number bytes above page = record {
+    first = page.first;
+    last = omega (arith, page.last, grown_to);
+    has = (c.puts.sees view number bytes).1 (inr (((λ is. omega (arith, c.first, above, is)), ((λ is. omega (arith, c.past.is, page.last, is)), tt)), page.has));
+  }
+
+  new_first : IsPage (seen view new) 1 schema.bytes.items
+  new_first = record { first = omega arith; last = omega (arith, grown_to); has = (c.puts.sees view 1 schema.bytes.items).1 (inl (inl (c.first, refl))) }
+
+  new_root : IsPage (seen view new) t.root root.bytes.items
+  new_root = record {
+    first = omega (arith, c.made.root_is, c.past.is);
+    last = omega (arith, c.made.root_is, c.past.is, grown_to);
+    has = (c.puts.sees view t.root root.bytes.items).1 (inl (inr (inl (sym c.made.root_is, refl))));
+  }
+
+  own_root : IsNewRoot t.root tables
+  own_root name u found same = omega (arith, (c.held.each name u found).there.last, same, c.made.root_is, c.past.is)
+
+  unnamed : table_named t.name tables ≡ None
+  unnamed = subst (λ (n : Name). table_named n tables ≡ None) (sym c.made.name_is) c.made.fresh.new
+
+  lists_more : Lists (rows_beside c.held.rows_at t.root) (tables ++ t ∷ []) (with_object db d.name (ATable (plain_table t [])))
+  lists_more = subst (λ (n : Name). Lists (rows_beside c.held.rows_at t.root) (tables ++ t ∷ []) (with_object db n (ATable (plain_table t [])))) c.made.name_is
+      (c.lists c.held.rows_at tables db t c.held.lists unnamed own_root)
+
+  above_first : 1 < t.root
+  above_first = omega (arith, c.made.root_is, c.past.is, some_page)
+
+  new_holds : Holds root.bytes.items t.root (length t.columns.items) []
+  new_holds = record {
+    entries = [];
+    lone = record {
+      leaf = subst (λ (n : ℕ). IsTableLeaf root.bytes.items n []) (sym (begins_at t.root above_first)) c.empty;
+      rising = λ i d le lt. absurd (omega (arith, lt));
+    };
+    each = tt;
+  }
+
+  new_stored : IsStored (seen view new) (rows_beside c.held.rows_at t.root) t
+  new_stored = record {
+    page = root.bytes.items;
+    above = above_first;
+    there = new_root;
+    holds = subst (Holds root.bytes.items t.root (length t.columns.items)) (no_rows c.held.rows_at t.root) new_holds;
+  }
+
+  still_stored : (name : Name) (u : Table) → table_named name tables ≡ Some u → IsStored (seen view new) (rows_beside c.held.rows_at t.root) u
+  still_stored name u found =
+      let it = c.held.each name u found in
+      record {
+        page = it.page;
+        above = it.above;
+        there = stays u.root it.page it.above it.there;
+        holds = subst (Holds it.page u.root (length u.columns.items)) (kept_rows c.held.rows_at t.root u.root (own_root name u found)) it.holds;
+      }
+
+  each_stored : (name : Name) (u : Table) → table_named name (tables ++ t ∷ []) ≡ Some u → IsStored (seen view new) (rows_beside c.held.rows_at t.root) u
+  each_stored name u found = elim (found_behind (is_table name) tables t u found) [
+    | inl h ↦ still_stored name u h
+    | inr h ↦ subst (IsStored (seen view new) (rows_beside c.held.rows_at t.root)) h.0 new_stored
+  ]
+
+  still_apart : AreApart (tables ++ t ∷ [])
+  still_apart a b s u h k same = elim (found_behind (is_table a) tables t s h) [
+    | inl p ↦ elim (found_behind (is_table b) tables t u k) [
+      | inl q ↦ c.held.apart a b s u p q same
+      | inr q ↦ absurd (own_root a s p (same ∙ ap (λ (x : Table). x.root) (sym q.0)))
+    ]
+    | inr p ↦ elim (found_behind (is_table b) tables t u k) [
+      | inl q ↦ absurd (own_root b u q (sym same ∙ ap (λ (x : Table). x.root) (sym p.0)))
+      | inr q ↦ sym (named_so t a p.1) ∙ named_so t b q.1
+    ]
+  ]
+
+  pub stores_more : Stores (seen view new) (tables ++ t ∷ []) (with_object db d.name (ATable (plain_table t [])))
+  stores_more = record {
+    rows_at = rows_beside c.held.rows_at t.root;
+    lists = lists_more;
+    only = c.only db d.name (plain_table t []) c.held.only;
+    once = keeps_once tables d t c.held.once c.made.fresh.once c.made.columns;
+    apart = still_apart;
+    each = each_stored;
+    first = record {
+      page = schema.bytes.items;
+      there = new_first;
+      header = c.held.first.header;
+      header_is = header_moves c.held.first.page schema.bytes.items c.held.first.header c.front c.held.first.header_is;
+      sized = c.held.first.sized;
+      rows = c.held.first.rows ++ c.listed.entry ∷ [];
+      lone = c.listed.lone;
+    };
+    served = subst (IsServedSize view.page_size) (c.past.is ∙ sym grown_to) c.past.served;
+  }
+
+-- ---- the work
+
+abbrev pub creating : List ℕ → TableDefinition → Statement
+creating sql d = statement.Create (record { sql = sql; object = object.Table d })
+
+refused_work : (k : Known Database) (r : Refusal) → Contains (faults k) r → RefusesWith (of_known k) r
+refused_work (Meant db []) r has = absurd (omega (arith, has.1))
+refused_work (Meant db (s ∷ rs)) r has = has
+
+reached : (sql : List ℕ) (db : Database) (rows_at : ℕ → List TableRow) (tables : List Table) (d : TableDefinition) (root : ℕ) (t : Table) → Lists rows_at tables db → has_no_rules d ≡ true → IsMadeBeside tables d root t
+    → Reaches (work_of (creating sql d) db) (with_object db d.name (ATable (plain_table t [])))
+reached sql db rows_at tables d root t lists plain made =
+    subst (λ (k : Known Database). Reaches (of_known k) (with_object db d.name (ATable (plain_table t [])))) (sym (makes_table rows_at tables db d t lists plain made.fresh made.columns)) refl
+
+last_taken : (tables : List Table) (t : Table) → take (length (tables ++ t ∷ []) - 1) (tables ++ t ∷ []) ≡ tables
+last_taken tables t = take_at tables (t ∷ []) (length (tables ++ t ∷ []) - 1) (omega (arith, length-append tables (t ∷ [])))
+
+module _ {D : Type 0} {g : Ghosts D} where
+  abbrev with_catalog : Connections D g → Catalog → Connections D g
+  with_catalog c k = record { alloc = c.alloc; log = c.log; catalog = k; transaction = c.transaction; has_failed = c.has_failed }
+
+  keeps : (c : Connections D g) (k : Catalog) → Tells (files_of c) → committed_in k ≡ committed_in c.catalog → take (committed_in c.catalog) (tables_of k) ≡ take (committed_in c.catalog) (tables_of c.catalog) → KeepsCommitted c (with_catalog c k)
+  keeps c k told committed tables = record { files = the_same (files_of c) told; failed = refl; transaction = refl; committed = committed; tables = tables }
+
+  -- a refusal before anything was done
+  pub refused_first : (s : Statement) (c : Connections D g) (w : Writer) (db : Database) (r : Result ⊤ Fault) (f : Fault) → IsErrAnd r (λ e. e ≡ f) → WorksOn c w db → IsWorkRefusal s c w db f → Works s c w db r c w
+  refused_first s c w db (Ok x) f is works why = absurd is
+  refused_first s c w db (Err e) f is works why = subst (IsUnworked s c w db c w) (sym is) (record { kept = keeps c c.catalog works.told refl refl; tables = refl; works = works; why = why })
+
+  module _ (c : Connections D g) (w : Writer) (db : Database) (works : WorksOn c w db) where
+    abbrev under : View
+    under = view_at (files_of c) (snapshot_of w)
+
+    first_page : (page : List ℕ) → ((v : View) → Has (seen v w) 1 page) → page ≡ works.stored.first.page
+    first_page page shown = one_page (seen under w) 1 page works.stored.first.page (shown under) works.stored.first.there.has
+
+    served_size : IsPageSize (page_size_of w)
+    served_size = subst IsPageSize (works.stored.first.sized ∙ sym works.writer.page_size) works.stored.first.header_is.served
+
+    long_page : (page : List ℕ) → IsAmong (changes_of w) 1 page → length page ≡ page_size_of w
+    long_page page among = among_long 0 (pages_of w) (page_size_of w) (changes_of w) 1 page works.writer.whole.pages among
+
+    -- a writer has page 1
+    pub not_missing : IsNotAmong (changes_of w) 1 → ⊥
+    not_missing none = first_not_missing (changes_of w) works.writer.whole.first none
+
+    -- the table isn't made
+    pub why_unmade : (sql : List ℕ) (d : TableDefinition) (page : List ℕ) (root : ℕ) (f : Fault) → has_no_rules d ≡ true → ((v : View) → Has (seen v w) 1 page) → root ≡ pages_of w + 1
+        → ((entries : List Entry) → IsLone page 1 entries → IsNewTableFault (tables_of c.catalog) d root (length page) entries (schema_row d.name root sql) f) → IsWorkRefusal (creating sql d) c w db f
+    why_unmade sql d page root f plain shown past faults =
+        by_why (subst (λ (n : ℕ). IsNewTableFault (tables_of c.catalog) d n (length works.stored.first.page) works.stored.first.rows (schema_row d.name n sql) f) past
+        (subst (λ (p : List ℕ). (entries : List Entry) → IsLone p 1 entries → IsNewTableFault (tables_of c.catalog) d root (length p) entries (schema_row d.name root sql) f) (first_page page shown) faults works.stored.first.rows works.stored.first.lone)).why
+      where
+        of_row : (row : IsRowFault (tables_of c.catalog) d (pages_of w + 1) (length works.stored.first.page) works.stored.first.rows (schema_row d.name (pages_of w + 1) sql) f) → IsWorkRefusal (creating sql d) c w db f
+        of_row row = elim row.why [
+          | inl memory ↦ inl memory
+          | inr full ↦ inr (inr (inr (inr (
+            full.0,
+            with_object db d.name (ATable (plain_table row.table [])),
+            reached sql db works.stored.rows_at (tables_of c.catalog) d (pages_of w + 1) row.table works.stored.lists plain row.made,
+            inr (record { page = works.stored.first.page; there = works.stored.first.there; entries = works.stored.first.rows; lone = works.stored.first.lone; full = full.1 }),
+          ))))
+        ]
+
+        by_why : (f ≡ fault.Memory) ⊎ IsCreateRefusal (tables_of c.catalog) d (refusal_of f) ⊎ IsRowFault (tables_of c.catalog) d (pages_of w + 1) (length works.stored.first.page) works.stored.first.rows (schema_row d.name (pages_of w + 1) sql) f
+            → IsWorkRefusal (creating sql d) c w db f
+        by_why (inl memory) = inl memory
+        by_why (inr (inl h)) = inr (inr (inr (inl (refused_work (create db (object.Table d)) (refusal_of f) (refuses_table works.stored.rows_at (tables_of c.catalog) db d (refusal_of f) works.stored.lists h)))))
+        by_why (inr (inr row)) = of_row row
+
+    -- the page of its tree isn't made
+    pub why_no_page : (s : Statement) (page : List ℕ) (size : ℕ) (f : Fault) → IsAmong (changes_of w) 1 page → size ≡ length page → (f ≡ fault.Memory) ⊎ ((f ≡ fault.Unsupported RowSize) × (Fits size 0 [] → ⊥)) → IsWorkRefusal s c w db f
+    why_no_page s page size f among long (inl memory) = inl memory
+    why_no_page s page size f among long (inr full) = absurd (full.1 (fits_empty size (subst IsPageSize (sym (long ∙ long_page page among)) served_size)))
+
+    -- ---- a table and its pages
+
+    pub record HasMade (d : TableDefinition) (t : Table) (schema root : PageImage) : Type 0 where
+      pub lists : ListsNewTable
+      pub only : KeepsOnlyTables
+      pub page : List ℕ
+      pub found : IsAmong (changes_of w) 1 page
+      pub shown : (v : View) → Has (seen v w) 1 page
+      pub past : Ok root.number ≡ one_more (pages_of w) (page_size_of w)
+      pub made : IsMadeBeside (tables_of c.catalog) d root.number t
+      pub first : schema.number ≡ 1
+      pub values : List Value
+      pub listed : (entries : List Entry) → IsLone page 1 entries → IsListedBehind schema.bytes.items entries values
+      pub size : length schema.bytes.items ≡ length page
+      pub front : take 100 schema.bytes.items ≡ take 100 page
+      pub empty : IsTableLeaf root.bytes.items 0 []
+      pub long : length root.bytes.items ≡ length schema.bytes.items
+
+    module _ (d : TableDefinition) (t : Table) (schema root : PageImage) (m : HasMade d t schema root) where
+      one_more_page : IsOnePast (pages_of w) (page_size_of w) root.number
+      one_more_page = one_past (pages_of w) (page_size_of w) root.number m.past
+
+      pub object_pages : AreObjectPages (page_size_of w) schema root
+      object_pages = record {
+        first = m.first;
+        behind = omega (arith, one_more_page.is, works.stored.first.there.last);
+        schema_is_long = m.size ∙ long_page m.page m.found;
+        root_is_long = m.long ∙ m.size ∙ long_page m.page m.found;
+      }
+
+      creates : (left : Writer) → Puts (schema ∷ root ∷ []) w left → Creates under w left (tables_of c.catalog) db d t schema root
+      creates left puts =
+          let same : m.page ≡ works.stored.first.page = first_page m.page m.shown in
+          record {
+            lists = m.lists;
+            only = m.only;
+            held = works.stored;
+            made = m.made;
+            past = subst (λ (n : ℕ). IsOnePast (pages_of w) n root.number) works.writer.page_size one_more_page;
+            first = m.first;
+            front = ap (take 100) (sym same) ∙ sym m.front;
+            values = m.values;
+            listed = m.listed works.stored.first.rows (subst (λ (p : List ℕ). IsLone p 1 works.stored.first.rows) (sym same) works.stored.first.lone);
+            empty = m.empty;
+            puts = puts;
+          }
+
+      writer_left : (left : Writer) → IsWhole left → Puts (schema ∷ root ∷ []) w left → IsWriter (files_of c) left
+      writer_left left whole puts = record {
+        newest = subst (IsNewest (files_of c)) (sym puts.snapshot) works.writer.newest;
+        whole = whole;
+        page_size = puts.page_size ∙ works.writer.page_size;
+        grown = λ n past last none. by_size n past last (puts.rest n none) (cases_lt (pages_of w) n);
+      }
+        where
+          by_size : (n : ℕ) → (known_of (files_of c)).size < n → n ≤ pages_of left → IsNotAmong (schema ∷ root ∷ []) n × IsNotAmong (changes_of w) n → (pages_of w < n) ⊎ (n ≤ pages_of w) → ⊥
+          by_size n past last none (inl behind) = none.0.1.0 (omega (arith, behind, last, one_more_page.is, grown_to under w left (tables_of c.catalog) db d t schema root (creates left puts)))
+          by_size n past last none (inr le) = works.writer.grown n past le none.1
+
+      pub has_worked : (sql : List ℕ) (k : Catalog) (left : Writer) → has_no_rules d ≡ true → tables_of k ≡ tables_of c.catalog ++ t ∷ [] → committed_in k ≡ committed_in c.catalog → IsWhole left → Puts (schema ∷ root ∷ []) w left
+          → HasWorked (creating sql d) c db (with_catalog c k) left
+      has_worked sql k left plain added committed whole puts =
+          let made : Database = with_object db d.name (ATable (plain_table t [])) in
+          record {
+            kept = keeps c k works.told committed (ap (take (committed_in c.catalog)) added ∙ take-append-le (committed_in c.catalog) (tables_of c.catalog) (t ∷ []) works.listed);
+            made = made;
+            reaches = reached sql db works.stored.rows_at (tables_of c.catalog) d root.number t works.stored.lists plain m.made;
+            works = record {
+              told = works.told;
+              writer = writer_left left whole puts;
+              stored = subst (λ (s : Snapshot). Stores (seen (view_at (files_of c) s) left) (tables_of k) made) (sym puts.snapshot)
+                  (subst (λ (ts : List Table). Stores (seen under left) ts made) (sym added) (stores_more under w left (tables_of c.catalog) db d t schema root (creates left puts)));
+              listed = omega (arith, committed, works.listed, ap length added, length-append (tables_of c.catalog) (t ∷ []));
+            };
+          }
+
+      -- the pages were put
+      pub table_put : (sql : List ℕ) (k : Catalog) (left : Writer) (r : Result ⊤ Fault) → is_err r ≡ false → has_no_rules d ≡ true → tables_of k ≡ tables_of c.catalog ++ t ∷ [] → committed_in k ≡ committed_in c.catalog
+          → OnOk r (IsWhole left) → OnOk r (Puts (schema ∷ root ∷ []) w left) → Works (creating sql d) c w db r (with_catalog c k) left
+      table_put sql k left (Ok x) fine plain added committed whole puts = has_worked sql k left plain added committed whole puts
+      table_put sql k left (Err f) fine plain added committed whole puts = absurd (false≢true (sym fine))
+
+    -- ---- the pages weren't put
+
+    writer_stays : (left : Writer) → IsUnchanged w left → IsWriter (files_of c) left
+    writer_stays left same = record {
+      newest = subst (IsNewest (files_of c)) (sym same.snapshot) works.writer.newest;
+      whole = whole_same w left (record { changes = same.changes; size = same.size; page_size = same.page_size; snapshot = same.snapshot }) works.writer.whole;
+      page_size = same.page_size ∙ works.writer.page_size;
+      grown = λ n past last none. works.writer.grown n past (omega (arith, last, same.size)) (subst (λ (ps : List PageImage). IsNotAmong ps n) same.changes none);
+    }
+
+    view_stays : (left : Writer) → IsUnchanged w left → view_of (files_of c) left ≡ view_of (files_of c) w
+    view_stays left same = λ i. after (view_at (files_of c) (same.snapshot i)) (same.changes i) (same.size i)
+
+    still_works : (k : Catalog) (left : Writer) → tables_of k ≡ tables_of c.catalog → committed_in k ≡ committed_in c.catalog → IsUnchanged w left → WorksOn (with_catalog c k) left db
+    still_works k left tables committed same = record {
+      told = works.told;
+      writer = writer_stays left same;
+      stored = subst (λ (v : View). Stores v (tables_of k) db) (sym (view_stays left same)) (subst (λ (ts : List Table). Stores (view_of (files_of c) w) ts db) (sym tables) works.stored);
+      listed = omega (arith, works.listed, committed, ap length tables);
+    }
+
+    pub table_taken_back : (s : Statement) (k next : Catalog) (t : Table) (left : Writer) (r : Result ⊤ Fault) → is_err r ≡ true → tables_of k ≡ tables_of c.catalog ++ t ∷ [] → committed_in k ≡ committed_in c.catalog
+        → tables_of next ≡ take (length (tables_of k) - 1) (tables_of k) → committed_in next ≡ committed_in k → IfErr r (λ f. (f ≡ fault.Memory) × IsUnchanged w left) → Works s c w db r (with_catalog c next) left
+    table_taken_back s k next t left (Ok x) failed added committed back still same = absurd (false≢true failed)
+    table_taken_back s k next t left (Err f) failed added committed back still same =
+        let tables : tables_of next ≡ tables_of c.catalog = back ∙ ap (λ (ts : List Table). take (length ts - 1) ts) added ∙ last_taken (tables_of c.catalog) t in
+        record {
+          kept = keeps c next works.told (still ∙ committed) (ap (take (committed_in c.catalog)) tables);
+          tables = tables;
+          works = still_works next left tables (still ∙ committed) same.1;
+          why = inl same.0;
+        }

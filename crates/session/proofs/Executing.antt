@@ -1,0 +1,106 @@
+-- What is answered before a statement is looked at.
+use Rattle.std.proofs.Common.{◌≡◌, ◌⊎◌, ◌<◌, inl, inr, refl, sym, ap, subst, ◌∙◌, ℕ, ◌==◌, Bool, true, false, [], Ok, Err, arith}
+use Rattle.std.specs.Prelude.{◌&&◌, ◌||◌, nat_lt, IsErrAnd, Result, ⊤, if◌then◌else◌}
+use Rattle.std.proofs.lemmas.Bool.{false≢true}
+use Rattle.std.proofs.lemmas.Bool.Decides.{nat_tests}
+use Rattle.disk.specs.declared.device.Disk.{Ghosts}
+use Rattle.sqlval.specs.Refusals as refusal
+use Rattle.sqlval.specs.Refusals.{refusal_of}
+use Rattle.sqlval.specs.declared.fault.Fault.{Fault}
+use Rattle.sqlval.specs.declared.fault.Fault.TheVariants as fault
+use Rattle.sqlval.specs.declared.fault.Misuse.TheVariants as misuse
+use Rattle.syntax.specs.declared.query.Query.{Query}
+use Rattle.syntax.specs.declared.statement.Statement.{Statement}
+use Rattle.syntax.specs.declared.statement.Statement.TheVariants as statement
+use Rattle.catalog.specs.Database.{Database}
+use Rattle.session.specs.Built.{StepSoFar, is_built, is_query, is_served}
+use Rattle.session.specs.Known.{first_refusal, has_failed_in}
+use Rattle.session.specs.Machine.{Machine, Reply, Refused}
+use Rattle.session.specs.Steps.{is_connection}
+use Rattle.session.specs.Shown.{FindsNoRoom, IsShown, Shows, Steps, StepsTo, done_reply, rows_reply}
+use Rattle.session.specs.declared.transactions.Connections.{Connections}
+use Rattle.session.proofs.SeenPages.{Rowed}
+
+-- ---- the first refusals
+
+abbrev first_fault : Fault → Result ⊤ Fault
+first_fault f = Err f
+
+abbrev done : Result ⊤ Fault
+done = Ok tt
+
+module _ (R : Database → Type 0) (m : Machine) (n : ℕ) (s : Statement) where
+  either : {P : Type 0} (b : Bool) → (b ≡ true → P) → (b ≡ false → P) → P
+  either true go other = go refl
+  either false go other = other refl
+
+  failed_step : m.failed ≡ true → StepSoFar R m n s (Refused refusal.Failed) m
+  failed_step failed = either (is_built s && is_served n) (λ is. inl (is, inl (inl (failed, refl, refl)))) (λ is. inr (is, refl, inl (failed, refl)))
+
+  numbered_step : m.failed ≡ false → is_connection n ≡ false → StepSoFar R m n s (Refused refusal.Misuse) m
+  numbered_step running none = either (is_built s && is_served n) (λ is. inl (is, inl (inr (inl (running, none, refl, refl))))) (λ is. inr (is, refl, inr (inl (running, none, refl))))
+
+no_connection : (n : ℕ) → (n == 0 || nat_lt 16 n) ≡ true → is_connection n ≡ false
+no_connection n is = grind (arith, nat_tests)
+
+a_connection : (n : ℕ) → (n == 0 || nat_lt 16 n) ≡ false → is_connection n ≡ true
+a_connection n is = grind (arith, nat_tests)
+
+one_fault : (a b : Fault) → first_fault a ≡ Err b → a ≡ b
+one_fault a b is = cc
+
+not_both : (f : Fault) → done ≡ Err f → ⊥
+not_both f is = absurd cc
+
+first_by : (n : ℕ) → (n == 0 || nat_lt 16 n) ≡ true → first_refusal false n ≡ first_fault (fault.Misuse misuse.Connection)
+first_by n bad = ap (λ b. if b then first_fault (fault.Misuse misuse.Connection) else done) bad
+
+passes_by : (n : ℕ) → (n == 0 || nat_lt 16 n) ≡ false → first_refusal false n ≡ done
+passes_by n good = ap (λ b. if b then first_fault (fault.Misuse misuse.Connection) else done) good
+
+pub no_query : (s : Statement) → ((q : Query) → s ≡ statement.Select q → ⊥) → is_query s ≡ false
+no_query (statement.Create c) none = refl
+no_query (statement.Drop k n) none = refl
+no_query (statement.Change c) none = refl
+no_query (statement.Select q) none = absurd (none q refl)
+no_query (statement.Begin mode) none = refl
+no_query statement.Commit none = refl
+no_query statement.Rollback none = refl
+no_query (statement.RollbackTo n) none = refl
+no_query (statement.Savepoint n) none = refl
+no_query (statement.Release n) none = refl
+no_query (statement.Checkpoint mode) none = refl
+
+pub refused_as : (result : Rowed) (f : Fault) → IsErrAnd result (λ e. e ≡ f) → rows_reply result ≡ done_reply (Err f)
+refused_as (Ok rows) f is = absurd is
+refused_as (Err e) f is = ap (λ (x : Fault). Refused (refusal_of x)) is
+
+module _ {D : Type 0} {g : Ghosts D} where
+  pub done_built : (c : Connections D g) (n : ℕ) → n ≡ 1 → first_refusal (has_failed_in c) n ≡ done → first_refusal (has_failed_in c) 1 ≡ done
+  done_built c n one is = subst (λ (k : ℕ). first_refusal (has_failed_in c) k ≡ done) one is
+
+  stays_with : (c : Connections D g) (m : Machine) (n : ℕ) (s : Statement) (reply : Reply) → Shows c m → StepSoFar (FindsNoRoom c s) m n s reply m → StepsTo c m n s reply c
+  stays_with c m n s reply shows step = record { next = m; step = step; shown = shows }
+
+  -- refused before the statement is looked at
+  pub refused_first : (c : Connections D g) (n : ℕ) (s : Statement) (f : Fault) → first_refusal (has_failed_in c) n ≡ Err f → Steps c n s (Refused (refusal_of f)) c
+  refused_first c n s f is m (inl failed) =
+      let why : first_refusal true n ≡ Err f = ap (λ b. first_refusal b n) (sym failed.0) ∙ is in
+      subst (λ (e : Fault). StepsTo c m n s (Refused (refusal_of e)) c) (one_fault fault.Failed f why)
+      (stays_with c m n s (Refused refusal.Failed) (inl failed) (failed_step (FindsNoRoom c s) m n s failed.1))
+  refused_first c n s f is m (inr shown) = either (FindsNoRoom c s) m n s (n == 0 || nat_lt 16 n) none some
+    where
+      whole : first_refusal false n ≡ Err f
+      whole = ap (λ b. first_refusal b n) (sym shown.whole) ∙ is
+
+      none : (n == 0 || nat_lt 16 n) ≡ true → StepsTo c m n s (Refused (refusal_of f)) c
+      none bad = subst (λ (e : Fault). StepsTo c m n s (Refused (refusal_of e)) c) (one_fault (fault.Misuse misuse.Connection) f (sym (first_by n bad) ∙ whole))
+          (stays_with c m n s (Refused refusal.Misuse) (inr shown) (numbered_step (FindsNoRoom c s) m n s shown.running (no_connection n bad)))
+
+      some : (n == 0 || nat_lt 16 n) ≡ false → StepsTo c m n s (Refused (refusal_of f)) c
+      some good = absurd (not_both f (sym (passes_by n good) ∙ whole))
+
+  -- where no commit has failed, what is shown is shown whole
+  pub steps_from : (old new : Connections D g) (s : Statement) (reply : Reply) → first_refusal (has_failed_in old) 1 ≡ done → ((m : Machine) → IsShown old m → StepsTo old m 1 s reply new) → Steps old 1 s reply new
+  steps_from old new s reply is steps m (inl failed) = absurd (not_both fault.Failed (sym is ∙ ap (λ b. first_refusal b 1) failed.0))
+  steps_from old new s reply is steps m (inr shown) = steps m shown

@@ -1,0 +1,90 @@
+-- The pages that the first connection sees.
+use Rattle.std.proofs.Common.{◌≡◌, ◌⊎◌, ◌≤◌, inl, inr, refl, sym, subst, ◌∙◌, ℕ, List, map, Ok, Err, arith}
+use Rattle.std.specs.Prelude.{Option, Some, None, Result, IfSome, IfNone, IsErrAnd, Vec, ◌↔◌}
+use Rattle.std.proofs.lemmas.Bool.{cases_lt}
+use Rattle.std.specs.declared.alloc.Global.{Global}
+use Rattle.disk.specs.declared.device.Disk.{Ghosts}
+use Rattle.smallvec.specs.SmallVec.{SmallVec}
+use Rattle.sqlval.specs.Refusals.{Answer}
+use Rattle.sqlval.specs.declared.fault.Fault.{Fault}
+use Rattle.sqlval.specs.declared.fault.Fault.TheVariants.{Memory, Io}
+use Rattle.sqlval.specs.declared.value.Value.{Value}
+use Rattle.wal.specs.Committed.{frames_under}
+use Rattle.wal.specs.Known.{db_of, log_of, known_of, header_of}
+use Rattle.wal.specs.Laws.{IsNotAmong}
+use Rattle.wal.specs.declared.log.Log.{Log}
+use Rattle.wal.specs.declared.log.Snapshot.{Snapshot}
+use Rattle.wal.proofs.Changes.{page_one}
+use Rattle.catalog.specs.declared.tables.Catalog.{Catalog}
+use Rattle.rowprog.specs.Rows.{AnswersBy, values_of}
+use Rattle.pager.specs.Views.{Has, IsPage, View, changes_of, newest_view, view_at}
+use Rattle.pager.specs.Writers.{seen, snapshot_of}
+use Rattle.pager.specs.declared.writer.Writer.{Writer}
+use Rattle.session.specs.Machine.{Connection}
+use Rattle.session.specs.Shown.{AnswersOrFails, IsNewest, IsTransaction, IsWriter, seen_in}
+use Rattle.session.specs.declared.transactions.Transaction.{Transaction}
+use Rattle.session.specs.declared.transactions.Transaction.TheVariants as transaction
+
+-- ---- answers
+
+abbrev pub Rowed : Type 0
+Rowed = Result (Vec (SmallVec Value) Global) Fault
+
+pub fails : (answer : Answer (List (List Value))) (result : Rowed) (fault : Fault) → IsErrAnd result (λ e. e ≡ fault) → (fault ≡ Memory) ⊎ (fault ≡ Io) → AnswersOrFails answer result
+fails answer (Ok rows) fault is why = absurd is
+fails answer (Err e) fault is (inl memory) = inl (is ∙ memory)
+fails answer (Err e) fault is (inr io) = inr (inl (is ∙ io))
+
+pub answers : (answer : Answer (List (List Value))) (result : Rowed) → AnswersBy (λ rows. map values_of rows.items) answer result → AnswersOrFails answer result
+answers answer (Ok rows) is = is
+answers answer (Err e) (inl memory) = inl memory
+answers answer (Err e) (inr refused) = inr (inr refused)
+
+pub one_page : (view : View) (number : ℕ) (a b : List ℕ) → Has view number a → Has view number b → a ≡ b
+one_page view number a b = page_one view.db view.page_size view.frames number a b
+
+-- ---- options
+
+pub some_of : {A : Type 0} (P Q : A → Type 0) (o : Option A) → ((x : A) → P x → Q x) → IfSome o P → IfSome o Q
+some_of P Q None go is = tt
+some_of P Q (Some x) go is = go x is
+
+pub none_of : {A : Type 0} (P Q R : Type 0) (o : Option A) → (P → Q → R) → IfNone o P → IfNone o Q → IfNone o R
+none_of P Q R None go p q = go p q
+none_of P Q R (Some x) go p q = tt
+
+module _ {D : Type 0} {g : Ghosts D} where
+  pub at_newest : (files : Log D g) (snapshot : Snapshot) → IsNewest files snapshot → view_at files snapshot ≡ newest_view files
+  at_newest files snapshot is = λ i. record {
+    db = (g.file (db_of files)).content;
+    frames = frames_under (header_of (known_of files)) (g.file (log_of files)).content (is.seen i);
+    page_size = (known_of files).page_size;
+    size = is.sized i;
+  }
+
+  pub writer_of : (files : Log D g) (catalog : Catalog) (last : ℕ) (t : Transaction) (k : Connection) (w : Writer) → t ≡ transaction.Writing w → IsTransaction files catalog last t k → IsWriter files w
+  writer_of files catalog last t k w is are = (subst (λ (x : Transaction). IsTransaction files catalog last x k) is are).2
+
+  -- a page that a writer has changed
+  pub changed_shown : (files : Log D g) (t : Transaction) (w : Writer) (number : ℕ) (page : List ℕ) → t ≡ transaction.Writing w → ((view : View) → Has (seen view w) number page) → Has (seen_in t files) number page
+  changed_shown files t w number page is has = subst (λ (x : Transaction). Has (seen_in x files) number page) (sym is) (has (view_at files (snapshot_of w)))
+
+  -- a page that it hasn't
+  pub below_shown : (files : Log D g) (t : Transaction) (w : Writer) (number : ℕ) → t ≡ transaction.Writing w → IsWriter files w → IsNotAmong (changes_of w) number
+      → ((view : View) (bytes : List ℕ) → Has (seen view w) number bytes ↔ Has view number bytes) → (bytes : List ℕ) → IsPage (seen_in t files) number bytes → IsPage (newest_view files) number bytes
+  below_shown files t w number is stands none same bytes page =
+      let here = subst (λ (x : Transaction). IsPage (seen_in x files) number bytes) is page in
+      subst (λ (v : View). IsPage v number bytes) (at_newest files (snapshot_of w) stands.newest)
+      (record { first = here.first; last = within here.last; has = (same (view_at files (snapshot_of w)) bytes).0 here.has })
+    where
+      within : number ≤ w.size → number ≤ (snapshot_of w).size
+      within last = elim (cases_lt (known_of files).size number) [
+        | inl past ↦ absurd (stands.grown number past last none)
+        | inr le ↦ omega (arith, le, stands.newest.sized)
+      ]
+
+  pub not_writing : (files : Log D g) (t : Transaction) → ((w : Writer) → t ≡ transaction.Writing w → ⊥) → seen_in t files ≡ newest_view files
+  not_writing files transaction.Idle other = refl
+  not_writing files transaction.Begun other = refl
+  not_writing files (transaction.Reading s) other = refl
+  not_writing files (transaction.Writing w) other = absurd (other w refl)

@@ -1,0 +1,393 @@
+-- Statements that write, and COMMIT, are steps of the machine.
+use Rattle.std.proofs.Common.{◌≡◌, ◌⊎◌, ◌≤◌, ◌-◌, ◌+◌, inl, inr, refl, sym, ap, subst, ◌∙◌, ℕ, List, [], ◌∷◌, ◌++◌, length, take, true, false, arith}
+use Rattle.std.proofs.lemmas.List.{get_or_push, length_push, length-take-le, take_all}
+use Rattle.std.proofs.lemmas.Bool.{false≢true}
+use Rattle.std.proofs.lemmas.Option.{slice_get_read}
+use Rattle.std.specs.Prelude.{◌↔◌, ⊤, Result, Ok, Err, Some, slice_get, unwrap_or}
+use Rattle.disk.specs.declared.device.Disk.{Ghosts}
+use Rattle.sqlval.specs.Refusals as refusal
+use Rattle.sqlval.specs.Refusals.{refusal_of}
+use Rattle.sqlval.specs.declared.fault.Fault.{Fault}
+use Rattle.sqlval.specs.declared.fault.Fault.TheVariants as fault
+use Rattle.syntax.specs.declared.statement.Statement.{Statement}
+use Rattle.wal.specs.declared.log.Log.{Log}
+use Rattle.wal.specs.declared.log.Snapshot.{Snapshot}
+use Rattle.catalog.specs.Database.{Database}
+use Rattle.catalog.specs.Listed.{committed_in, tables_of}
+use Rattle.catalog.specs.declared.tables.Catalog.{Catalog}
+use Rattle.catalog.specs.declared.tables.Table.{Table}
+use Rattle.pager.specs.Views.{Has, IsPage, View, newest_view, view_at, view_of}
+use Rattle.pager.specs.Writers.{seen, snapshot_of}
+use Rattle.pager.specs.declared.writer.Writer.{Writer}
+use Rattle.session.specs.Built.{StepSoFar, is_built}
+use Rattle.session.specs.Known.{files_of, has_failed_in}
+use Rattle.session.specs.Machine.{Machine, Connection, Idle, InTransactionOf, NoSnapshot, Reads, Writes, Reply, Rows, Refused, last_place, newest, with_connection}
+use Rattle.session.specs.NewTables.{HasRoomBehind, schema_row}
+use Rattle.session.specs.Outcomes.{Outcome, Work, Makes, IsRefused, Undoes, Binds, outcome}
+use Rattle.session.specs.Steps.{Allowed, after_commit, fails}
+use Rattle.session.specs.Stored.{HasNoRoom, Stores}
+use Rattle.session.specs.Shown.{AreCommitted, FindsNoRoom, IsNewest, IsShown, IsTransaction, OnlyReads, ShowTheSame, StepsOn, StepsTo, done_reply, is_idle, is_reading, seen_in, with_transaction}
+use Rattle.session.specs.Working.{CommitsWork, EndsAlone, HasCommitted, HasWorked, IsDropped, IsUncommitted, IsUnworked, IsWorkRefusal, KeepsCommitted, Reaches, Works, WorksOn, work_of, written}
+use Rattle.session.specs.declared.transactions.Connections.{Connections}
+use Rattle.session.specs.declared.transactions.Transaction.{Transaction}
+use Rattle.session.specs.declared.transactions.Transaction.TheVariants as transaction
+use Rattle.session.specs.declared.transactions.Write.{Write}
+use Rattle.session.specs.declared.transactions.Write.TheVariants as write
+use Rattle.session.proofs.Beginning.{StartsWriting, writer_begins, writer_stores}
+use Rattle.session.proofs.SeenPages.{at_newest}
+use Rattle.session.proofs.Selecting.{all_listed}
+use Rattle.session.proofs.Showing.{moved, still_shown, still_transaction}
+use Rattle.session.proofs.Stepping.{by_outcome, first_is, first_set}
+use Rattle.session.proofs.Working.{IsFinish, IsWhy, alone, finish_alone, finish_in, in_transaction, refused_step, worked_gives, working_on, write_outcome_of, writes_alone, writes_begun, writes_behind_reads}
+
+-- ---- room
+
+-- what finds no room in pages finds none in others that hold the same
+pub same_room : (v u : View) (tables : List Table) (w : Write) (db : Database) → u.size ≡ v.size → ((number : ℕ) (bytes : List ℕ) → Has u number bytes ↔ Has v number bytes)
+    → HasNoRoom u tables (written w) db → HasNoRoom v tables (written w) db
+same_room v u tables w db long same (inl fills) = inl (record {
+  name = fills.name;
+  table = fills.table;
+  listed = fills.listed;
+  rows = fills.rows;
+  added = fills.added;
+  is = fills.is;
+  page = fills.page;
+  there = record { first = fills.there.first; last = omega (arith, fills.there.last, long); has = (same fills.table.root fills.page).0 fills.there.has };
+  holds = fills.holds;
+  fault = fills.fault;
+  full = fills.full;
+})
+same_room v u tables (write.Insert i) db long same (inr fills) = absurd fills
+same_room v u tables (write.CreateTable sql d) db long same (inr fills) = inr (record {
+  page = fills.page;
+  there = record { first = fills.there.first; last = omega (arith, fills.there.last, long); has = (same 1 fills.page).0 fills.there.has };
+  entries = fills.entries;
+  lone = fills.lone;
+  full = subst (λ n. HasRoomBehind (length fills.page) fills.entries (schema_row d.now.name (n + 1) sql.now) → ⊥) long fills.full;
+})
+
+-- ---- commits
+
+-- a commit of a statement of its own
+alone_commits : (m : Machine) (made : Database) (w : Work) → Reaches w made → Allowed m 1 (alone m w) (Rows []) (after_commit m 1 made)
+alone_commits m made (Makes db) is = (refl, inl (ap (after_commit m 1) (sym is)))
+alone_commits m made (IsRefused rs) is = absurd is
+alone_commits m made (Undoes r) is = absurd is
+alone_commits m made (Binds over ch w) is = inr (is.0, alone_commits m made w is.1)
+
+-- the machine behind a commit of which a disk's call failed
+abbrev doubted : Machine → Database → Machine
+doubted m db = record (fails m) { in_doubt = Some db }
+
+alone_doubts : (m : Machine) (made : Database) (w : Work) → Reaches w made → Allowed m 1 (alone m w) (Refused refusal.Io) (doubted m made)
+alone_doubts m made (Makes db) is = (refl, inr (ap (doubted m) (sym is)))
+alone_doubts m made (IsRefused rs) is = absurd is
+alone_doubts m made (Undoes r) is = absurd is
+alone_doubts m made (Binds over ch w) is = inr (is.0, alone_doubts m made w is.1)
+
+last_is : (history : List Database) (db : Database) → unwrap_or (slice_get (history ++ db ∷ []) (length (history ++ db ∷ []) - 1)) [] ≡ db
+last_is history db =
+    let long = length_push history db in
+    let place : length history ≡ length (history ++ db ∷ []) - 1 = omega (arith, long) in
+    ap (λ o. unwrap_or o []) (slice_get_read (history ++ db ∷ []) (length (history ++ db ∷ [])) (length (history ++ db ∷ []) - 1) db refl (omega (arith, long)) (sym (get_or_push history db db (length (history ++ db ∷ []) - 1) place)))
+
+idle_now : (t : Transaction) → is_idle t ≡ true → t ≡ transaction.Idle
+idle_now transaction.Idle is = refl
+idle_now transaction.Begun is = absurd (false≢true is)
+idle_now (transaction.Reading r) is = absurd (false≢true is)
+idle_now (transaction.Writing v) is = absurd (false≢true is)
+
+module _ {D : Type 0} {g : Ghosts D} where
+  -- ---- what stays
+
+  pub show_on : (a b c : Log D g) → ShowTheSame a b → ShowTheSame b c → ShowTheSame a c
+  show_on a b c first second = record { told = second.told; known = second.known ∙ first.known; newest = second.newest ∙ first.newest; at = λ s. second.at s ∙ first.at s }
+
+  pub other_catalog : (files : Log D g) (a b : Catalog) (last : ℕ) (t : Transaction) (k : Connection) → committed_in b ≡ committed_in a → tables_of b ≡ tables_of a → IsTransaction files a last t k → IsTransaction files b last t k
+  other_catalog files a b last transaction.Idle k same tables is = (is.0, same ∙ is.1 ∙ ap length (sym tables))
+  other_catalog files a b last transaction.Begun k same tables is = (is.0, same ∙ is.1 ∙ ap length (sym tables))
+  other_catalog files a b last (transaction.Reading s) k same tables is = (is.0, same ∙ is.1 ∙ ap length (sym tables), is.2)
+  other_catalog files a b last (transaction.Writing w) k same tables is = (is.0, is.1, is.2, subst (λ (ts : List Table). Stores (view_of files w) ts is.0) (sym tables) is.3)
+
+  -- the machine is shown still where its committed tables and the files are the same
+  pub stays : (old new : Connections D g) (m : Machine) (shown : IsShown old m) → ShowTheSame (files_of old) (files_of new) → has_failed_in new ≡ has_failed_in old → committed_in new.catalog ≡ committed_in old.catalog
+      → take (committed_in old.catalog) (tables_of new.catalog) ≡ take (committed_in old.catalog) (tables_of old.catalog) → committed_in new.catalog ≤ length (tables_of new.catalog)
+      → IsTransaction (files_of new) new.catalog (last_place m) new.transaction shown.first → IsShown new m
+  stays old new m shown same failed committed tables listed is = record {
+    running = shown.running;
+    whole = failed ∙ shown.whole;
+    told = same.told;
+    some = shown.some;
+    listed = listed;
+    stored = subst (λ (v : View). Stores v (take (committed_in new.catalog) (tables_of new.catalog)) (newest m)) (sym same.newest)
+        (subst (λ (ts : List Table). Stores (newest_view (files_of old)) ts (newest m)) (sym (ap (λ n. take n (tables_of new.catalog)) committed ∙ tables)) shown.stored);
+    first = shown.first;
+    others = shown.others;
+    connections = shown.connections;
+    idle = shown.idle;
+    transaction = is;
+  }
+
+  -- ---- refusals
+
+  pub why_of : (R : Database → Type 0) (s : Statement) (c : Connections D g) (w : Writer) (db : Database) (f : Fault) → ((made : Database) → HasNoRoom (view_of (files_of c) w) (tables_of c.catalog) s made → R made)
+      → IsWorkRefusal s c w db f → IsWhy R (work_of s db) f
+  why_of R s c w db f room (inl memory) = inl memory
+  why_of R s c w db f room (inr (inl full)) = inr (inl full)
+  why_of R s c w db f room (inr (inr (inl io))) = inr (inr (inl io))
+  why_of R s c w db f room (inr (inr (inr (inl why)))) = inr (inr (inr (inl why)))
+  why_of R s c w db f room (inr (inr (inr (inr none)))) = inr (inr (inr (inr (none.0, none.1, none.2, room none.1 none.3))))
+
+  refused : (old new : Connections D g) (m : Machine) (w : Write) (finish : Work → Outcome) → IsShown old m → IsShown new m → is_built (written w) ≡ true → (ends : IsFinish m finish) (db : Database)
+      → outcome m 1 (written w) ≡ finish (work_of (written w) db) → (f : Fault) → IsWhy (FindsNoRoom old (written w)) (work_of (written w) db) f → StepsTo old m 1 (written w) (Refused (refusal_of f)) new
+  refused old new m w finish before behind built ends db is f why = record {
+    next = m;
+    step = refused_step (FindsNoRoom old (written w)) m (written w) built before.running finish ends (work_of (written w) db) is f why;
+    shown = inr behind;
+  }
+
+  -- ---- a statement that begins to write
+
+  -- what a statement comes to that works on the newest commit
+  pub record Opening (old : Connections D g) (m : Machine) (x : Write) (finish : Work → Outcome) : Type 0 where
+    pub ends : IsFinish m finish
+    pub comes : outcome m 1 (written x) ≡ finish (work_of (written x) (newest m))
+    pub all : AreCommitted old.catalog
+    pub sees : seen_in old.transaction (files_of old) ≡ newest_view (files_of old)
+
+  pub opens_alone : (old : Connections D g) (m : Machine) (shown : IsShown old m) (x : Write) (t : Transaction) → old.transaction ≡ t → is_idle t ≡ true → IsTransaction (files_of old) old.catalog (last_place m) t shown.first → Opening old m x (alone m)
+  opens_alone old m shown x transaction.Idle is idle first = record {
+    ends = finish_alone m;
+    comes = write_outcome_of x m Idle (first_is m shown.first shown.others shown.connections ∙ first.0) ∙ writes_alone m shown.first shown.others shown.connections shown.idle (work_of (written x));
+    all = first.1;
+    sees = ap (λ (t : Transaction). seen_in t (files_of old)) is;
+  }
+  opens_alone old m shown x transaction.Begun is idle first = absurd (false≢true idle)
+  opens_alone old m shown x (transaction.Reading s) is idle first = absurd (false≢true idle)
+  opens_alone old m shown x (transaction.Writing w) is idle first = absurd (false≢true idle)
+
+  pub opens_reading : (old : Connections D g) (m : Machine) (shown : IsShown old m) (x : Write) (t : Transaction) → old.transaction ≡ t → is_reading t ≡ true → IsTransaction (files_of old) old.catalog (last_place m) t shown.first → Opening old m x (in_transaction m)
+  opens_reading old m shown x transaction.Idle is reads first = absurd (false≢true reads)
+  opens_reading old m shown x transaction.Begun is reads first = record {
+    ends = finish_in m shown.first shown.others shown.connections;
+    comes = write_outcome_of x m (InTransactionOf false [] NoSnapshot) (first_is m shown.first shown.others shown.connections ∙ first.0) ∙ writes_begun m shown.first shown.others shown.connections shown.idle (work_of (written x));
+    all = first.1;
+    sees = ap (λ (t : Transaction). seen_in t (files_of old)) is;
+  }
+  opens_reading old m shown x (transaction.Reading s) is reads first = record {
+    ends = finish_in m shown.first shown.others shown.connections;
+    comes = write_outcome_of x m (InTransactionOf false [] (Reads (last_place m))) (first_is m shown.first shown.others shown.connections ∙ first.0) ∙ writes_behind_reads m shown.first shown.others shown.connections shown.idle (work_of (written x));
+    all = first.1;
+    sees = ap (λ (t : Transaction). seen_in t (files_of old)) is;
+  }
+  opens_reading old m shown x (transaction.Writing w) is reads first = absurd (false≢true reads)
+
+  -- where page 1 isn't read, for want of memory or by a disk
+  pub not_begun : (old new : Connections D g) (x : Write) (f : Fault) → is_built (written x) ≡ true → OnlyReads old new → ((m : Machine) → IsShown old m → (f ≡ fault.Memory) ⊎ (f ≡ fault.Io))
+      → (finish : Machine → Work → Outcome) → ((m : Machine) → IsShown old m → Opening old m x (finish m)) → StepsOn old (written x) (Refused (refusal_of f)) new
+  not_begun old new x f built reads why finish opens m shown =
+      let opened = opens m shown in
+      refused old new m x (finish m) shown (still_shown old new m shown (reads.files shown.told) reads.failed reads.catalog reads.transaction) built opened.ends (newest m) opened.comes f (short (why m shown))
+    where
+      short : (f ≡ fault.Memory) ⊎ (f ≡ fault.Io) → IsWhy (FindsNoRoom old (written x)) (work_of (written x) (newest m)) f
+      short (inl memory) = inl memory
+      short (inr io) = inr (inr (inl io))
+
+  abbrev pub Started : Connections D g → Connections D g → Writer → Snapshot → Type 0
+  Started old mid w s = StartsWriting old (with_transaction mid (transaction.Writing w)) w s
+
+  begun_works : (old mid : Connections D g) (m : Machine) (shown : IsShown old m) (w : Writer) (s : Snapshot) → Started old mid w s → AreCommitted old.catalog → WorksOn mid w (newest m)
+  begun_works old mid m shown w s start all = record {
+    told = start.files.told;
+    writer = writer_begins old (with_transaction mid (transaction.Writing w)) w s start;
+    stored = subst (λ (c : Catalog). Stores (view_of (files_of mid) w) (tables_of c) (newest m)) (sym start.catalog)
+        (writer_stores old (with_transaction mid (transaction.Writing w)) w s (tables_of old.catalog) (newest m) start (all_listed old m shown all));
+    listed = subst (λ (c : Catalog). committed_in c ≤ length (tables_of c)) (sym start.catalog) shown.listed;
+  }
+
+  begun_room : (old mid : Connections D g) (w : Writer) (s : Snapshot) (x : Write) → Started old mid w s → seen_in old.transaction (files_of old) ≡ newest_view (files_of old)
+      → (made : Database) → HasNoRoom (view_of (files_of mid) w) (tables_of mid.catalog) (written x) made → FindsNoRoom old (written x) made
+  begun_room old mid w s x start sees made none =
+      let here = subst (λ (c : Catalog). HasNoRoom (view_of (files_of mid) w) (tables_of c) (written x) made) start.catalog none in
+      let over : HasNoRoom (seen (view_at (files_of old) s) w) (tables_of old.catalog) (written x) made =
+      subst (λ (v : View). HasNoRoom (seen v w) (tables_of old.catalog) (written x) made) (ap (view_at (files_of mid)) start.stands ∙ start.files.at s) here in
+      subst (λ (v : View). HasNoRoom v (tables_of old.catalog) (written x) made) (at_newest (files_of old) s start.newest ∙ sym sees)
+      (same_room (view_at (files_of old) s) (seen (view_at (files_of old) s) w) (tables_of old.catalog) x made start.begun.size start.begun.sees over)
+
+  -- where the write behind it is refused
+  pub begun_refused : (old mid after : Connections D g) (w left : Writer) (s : Snapshot) (x : Write) (f : Fault) → is_built (written x) ≡ true → mid.transaction ≡ old.transaction
+      → ((m : Machine) → IsShown old m → Started old mid w s) → ((db : Database) → WorksOn mid w db → IsUnworked (written x) mid w db after left f)
+      → (finish : Machine → Work → Outcome) → ((m : Machine) → IsShown old m → Opening old m x (finish m)) → StepsOn old (written x) (Refused (refusal_of f)) after
+  begun_refused old mid after w left s x f built beside starts works finish opens m shown =
+      refused old after m x (finish m) shown still built opened.ends (newest m) opened.comes f
+      (why_of (FindsNoRoom old (written x)) (written x) mid w (newest m) f (begun_room old mid w s x start opened.sees) has.why)
+    where
+      opened : Opening old m x (finish m)
+      opened = opens m shown
+
+      start : Started old mid w s
+      start = starts m shown
+
+      has : IsUnworked (written x) mid w (newest m) after left f
+      has = works (newest m) (begun_works old mid m shown w s start opened.all)
+
+      same : ShowTheSame (files_of old) (files_of after)
+      same = show_on (files_of old) (files_of mid) (files_of after) start.files has.kept.files
+
+      committed : committed_in after.catalog ≡ committed_in old.catalog
+      committed = has.kept.committed ∙ ap committed_in start.catalog
+
+      still : IsShown after m
+      still = stays old after m shown same (has.kept.failed ∙ start.failed) committed
+          (subst (λ (c : Catalog). take (committed_in c) (tables_of after.catalog) ≡ take (committed_in c) (tables_of c)) start.catalog has.kept.tables) has.works.listed
+          (subst (λ (t : Transaction). IsTransaction (files_of after) after.catalog (last_place m) t shown.first) (sym (has.kept.transaction ∙ beside))
+          (other_catalog (files_of after) old.catalog after.catalog (last_place m) old.transaction shown.first committed (has.tables ∙ ap tables_of start.catalog)
+          (still_transaction (files_of old) (files_of after) old.catalog (last_place m) old.transaction shown.first same shown.transaction)))
+
+  -- the first write of a transaction
+  pub begun_writes : (old mid after : Connections D g) (w left : Writer) (s : Snapshot) (x : Write) → is_built (written x) ≡ true → is_reading old.transaction ≡ true
+      → ((m : Machine) → IsShown old m → Started old mid w s) → ((db : Database) → WorksOn mid w db → HasWorked (written x) mid db after left)
+      → StepsOn old (written x) (Rows []) (with_transaction after (transaction.Writing left))
+  begun_writes old mid after w left s x built reads starts works m shown = record {
+    next = working_on m has.made;
+    step = by_outcome (FindsNoRoom old (written x)) m (written x) built shown.running (in_transaction m (work_of (written x) (newest m))) (Rows []) (working_on m has.made) opened.comes (worked_gives m has.made (work_of (written x) (newest m)) has.reaches);
+    shown = inr (moved old (with_transaction after (transaction.Writing left)) m (InTransactionOf false [] (Writes (last_place m) has.made)) shown
+        (show_on (files_of old) (files_of mid) (files_of after) start.files has.kept.files) (has.kept.failed ∙ start.failed)
+        (ap (λ n. take n (tables_of after.catalog)) has.kept.committed ∙ subst (λ (c : Catalog). take (committed_in mid.catalog) (tables_of after.catalog) ≡ take (committed_in c) (tables_of c)) start.catalog has.kept.tables)
+        has.works.listed (has.made, refl, has.works.writer, has.works.stored));
+  }
+    where
+      opened : Opening old m x (in_transaction m)
+      opened = opens_reading old m shown x old.transaction refl reads shown.transaction
+
+      start : Started old mid w s
+      start = starts m shown
+
+      has : HasWorked (written x) mid (newest m) after left
+      has = works (newest m) (begun_works old mid m shown w s start opened.all)
+
+  -- ---- commits
+
+  committed_shown : (old before new : Connections D g) (m : Machine) (shown : IsShown old m) (made : Database) → has_failed_in before ≡ has_failed_in old → HasCommitted before made new → new.transaction ≡ transaction.Idle → IsShown new (after_commit m 1 made)
+  committed_shown old before new m shown made failed has idle = record {
+    running = shown.running;
+    whole = has.failed ∙ failed ∙ shown.whole;
+    told = has.told;
+    some = omega (arith, length_push m.history made);
+    listed = omega (arith, has.all);
+    stored = subst (λ (ts : List Table). Stores (newest_view (files_of new)) ts (newest (after_commit m 1 made))) (sym (take_all (committed_in new.catalog) (tables_of new.catalog) (omega (arith, has.all))))
+        (subst (Stores (newest_view (files_of new)) (tables_of new.catalog)) (sym (last_is m.history made)) has.stored);
+    first = Idle;
+    others = shown.others;
+    connections = first_set m shown.first shown.others shown.connections Idle;
+    idle = shown.idle;
+    transaction = subst (λ (t : Transaction). IsTransaction (files_of new) new.catalog (last_place (after_commit m 1 made)) t Idle) (sym idle) (refl, has.all);
+  }
+
+  -- where its commit is refused, what it made is gone
+  pub dropped : (old after : Connections D g) (kept : Catalog) (left : Writer) (db : Database) (f : Fault) → committed_in kept ≡ committed_in after.catalog → tables_of kept ≡ take (committed_in after.catalog) (tables_of after.catalog)
+      → CommitsWork old db (Err f) after left → EndsAlone old db (Err f) (record after { catalog = kept })
+  dropped old after kept left db f committed tables (inl io) = inl io
+  dropped old after kept left db f committed tables (inr none) = inr (record {
+    why = none.why;
+    files = none.kept.files;
+    failed = none.kept.failed;
+    transaction = none.kept.transaction;
+    committed = committed ∙ none.kept.committed;
+    tables = tables ∙ ap (λ n. take n (tables_of after.catalog)) none.kept.committed ∙ ap (take (committed_in old.catalog)) none.tables;
+  })
+
+  -- a statement of its own, behind its work
+  pub ended_alone : (old mid after new : Connections D g) (w left : Writer) (s : Snapshot) (x : Write) (result : Result ⊤ Fault) → is_built (written x) ≡ true → is_idle old.transaction ≡ true → mid.transaction ≡ old.transaction
+      → ((m : Machine) → IsShown old m → Started old mid w s) → ((db : Database) → WorksOn mid w db → HasWorked (written x) mid db after left)
+      → ((db : Database) → has_failed_in after ≡ false → WorksOn after left db → EndsAlone after db result new) → StepsOn old (written x) (done_reply result) new
+  ended_alone old mid after new w left s x result built idle beside starts works ends m shown = by_result result (ends has.made (failed ∙ shown.whole) has.works)
+    where
+      opened : Opening old m x (alone m)
+      opened = opens_alone old m shown x old.transaction refl idle shown.transaction
+
+      start : Started old mid w s
+      start = starts m shown
+
+      has : HasWorked (written x) mid (newest m) after left
+      has = works (newest m) (begun_works old mid m shown w s start opened.all)
+
+      failed : has_failed_in after ≡ has_failed_in old
+      failed = has.kept.failed ∙ start.failed
+
+      is_alone : after.transaction ≡ transaction.Idle
+      is_alone = has.kept.transaction ∙ beside ∙ idle_now old.transaction idle
+
+      dropped_shown : (f : Fault) → IsDropped after new f → IsShown new m
+      dropped_shown f gone =
+          let same = show_on (files_of old) (files_of after) (files_of new) (show_on (files_of old) (files_of mid) (files_of after) start.files has.kept.files) gone.files in
+          let committed : committed_in new.catalog ≡ committed_in old.catalog = gone.committed ∙ has.kept.committed ∙ ap committed_in start.catalog in
+          let tables : tables_of new.catalog ≡ take (committed_in old.catalog) (tables_of old.catalog) =
+          gone.tables ∙ ap (λ n. take n (tables_of after.catalog)) has.kept.committed
+          ∙ subst (λ (c : Catalog). take (committed_in mid.catalog) (tables_of after.catalog) ≡ take (committed_in c) (tables_of c)) start.catalog has.kept.tables in
+          let whole : tables_of new.catalog ≡ tables_of old.catalog = tables ∙ take_all (committed_in old.catalog) (tables_of old.catalog) (omega (arith, opened.all)) in
+          stays old new m shown same (gone.failed ∙ failed) committed (ap (take (committed_in old.catalog)) whole) (omega (arith, committed, ap length whole, opened.all))
+          (subst (λ (t : Transaction). IsTransaction (files_of new) new.catalog (last_place m) t shown.first) (sym (gone.transaction ∙ has.kept.transaction ∙ beside))
+          (other_catalog (files_of new) old.catalog new.catalog (last_place m) old.transaction shown.first committed whole
+          (still_transaction (files_of old) (files_of new) old.catalog (last_place m) old.transaction shown.first same shown.transaction)))
+
+      short : (f : Fault) → (f ≡ fault.Memory) ⊎ (f ≡ fault.Full) → IsWhy (FindsNoRoom old (written x)) (work_of (written x) (newest m)) f
+      short f (inl memory) = inl memory
+      short f (inr full) = inr (inl full)
+
+      by_result : (r : Result ⊤ Fault) → EndsAlone after has.made r new → StepsTo old m 1 (written x) (done_reply r) new
+      by_result (Ok done) ended = record {
+        next = after_commit m 1 has.made;
+        step = by_outcome (FindsNoRoom old (written x)) m (written x) built shown.running (alone m (work_of (written x) (newest m))) (Rows []) (after_commit m 1 has.made) opened.comes (alone_commits m has.made (work_of (written x) (newest m)) has.reaches);
+        shown = inr (committed_shown old after new m shown has.made failed ended (ended.transaction ∙ is_alone));
+      }
+      by_result (Err f) (inl io) = record {
+        next = doubted m has.made;
+        step = subst (λ (e : Fault). StepSoFar (FindsNoRoom old (written x)) m 1 (written x) (Refused (refusal_of e)) (doubted m has.made)) (sym io.0)
+            (by_outcome (FindsNoRoom old (written x)) m (written x) built shown.running (alone m (work_of (written x) (newest m))) (Refused refusal.Io) (doubted m has.made) opened.comes (alone_doubts m has.made (work_of (written x) (newest m)) has.reaches));
+        shown = inl (io.1, refl);
+      }
+      by_result (Err f) (inr gone) = refused old new m x (alone m) shown (dropped_shown f gone) built opened.ends (newest m) opened.comes f (short f gone.why)
+
+  -- ---- a write of a transaction that writes
+
+  pub wrote_on : (mid after : Connections D g) (writer left : Writer) (w : Write) (result : Result ⊤ Fault) → is_built (written w) ≡ true
+      → ((db : Database) → WorksOn mid writer db → Works (written w) mid writer db result after left)
+      → StepsOn (with_transaction mid (transaction.Writing writer)) (written w) (done_reply result) (with_transaction after (transaction.Writing left))
+  wrote_on mid after writer left w result built works m shown = by_result result (works t.0 here)
+    where
+      old : Connections D g
+      old = with_transaction mid (transaction.Writing writer)
+
+      t : IsTransaction (files_of mid) mid.catalog (last_place m) (transaction.Writing writer) shown.first
+      t = shown.transaction
+
+      here : WorksOn mid writer t.0
+      here = record { told = shown.told; writer = t.2; stored = t.3; listed = shown.listed }
+
+      comes : outcome m 1 (written w) ≡ in_transaction m (work_of (written w) t.0)
+      comes = write_outcome_of w m (InTransactionOf false [] (Writes (last_place m) t.0)) (first_is m shown.first shown.others shown.connections ∙ t.1)
+
+      by_result : (r : Result ⊤ Fault) → Works (written w) mid writer t.0 r after left → StepsTo old m 1 (written w) (done_reply r) (with_transaction after (transaction.Writing left))
+      by_result (Ok done) has = record {
+        next = working_on m has.made;
+        step = by_outcome (FindsNoRoom old (written w)) m (written w) built shown.running (in_transaction m (work_of (written w) t.0)) (Rows []) (working_on m has.made) comes (worked_gives m has.made (work_of (written w) t.0) has.reaches);
+        shown = inr (moved old (with_transaction after (transaction.Writing left)) m (InTransactionOf false [] (Writes (last_place m) has.made)) shown has.kept.files has.kept.failed
+            (ap (λ n. take n (tables_of after.catalog)) has.kept.committed ∙ has.kept.tables) has.works.listed (has.made, refl, has.works.writer, has.works.stored));
+      }
+      by_result (Err f) has =
+          refused old (with_transaction after (transaction.Writing left)) m w (in_transaction m) shown
+          (stays old (with_transaction after (transaction.Writing left)) m shown has.kept.files has.kept.failed has.kept.committed has.kept.tables has.works.listed (t.0, t.1, has.works.writer, has.works.stored))
+          built (finish_in m shown.first shown.others shown.connections) t.0 comes f
+          (why_of (FindsNoRoom old (written w)) (written w) mid writer t.0 f (λ made none. none) has.why)
+
+  -- a step of the connections with the transaction that they have
+  pub with_own : (c new : Connections D g) (t : Transaction) (s : Statement) (reply : Reply) → c.transaction ≡ t → StepsOn (with_transaction c t) s reply new → StepsOn c s reply new
+  with_own c new t s reply is steps = subst (λ (x : Transaction). StepsOn (with_transaction c x) s reply new) (sym is) steps
+
+pub reading_else : (t : Transaction) → (t ≡ transaction.Idle → ⊥) → ((w : Writer) → t ≡ transaction.Writing w → ⊥) → is_reading t ≡ true
+reading_else transaction.Idle idle writing = absurd (idle refl)
+reading_else transaction.Begun idle writing = refl
+reading_else (transaction.Reading s) idle writing = refl
+reading_else (transaction.Writing w) idle writing = absurd (writing w refl)

@@ -1,0 +1,19 @@
+use Rattle.std.proofs.Common.{◌≡◌, ℕ, subst, sym}
+use Rattle.session.specs.Machine.{Reply}
+use Rattle.session.specs.Shown.{Steps, rows_reply}
+use Rattle.session.proofs.Executing.{done_built, refused_first, steps_from}
+use Rattle.session.proofs.Selecting.{refused_reply}
+use Rattle.session.proofs.transactions.Connections.execute.Goals as goal
+
+pub returns-in_err-check-clause-step : goal.returns-in_err-check-clause-step
+returns-in_err-check-clause-step g c =
+    subst (λ (r : Reply). Steps c.args.self.now c.args.connection c.args.statement.now r c.args.self.now) (sym (refused_reply c.from_residual.result c.in_err-check.field-0.0 c.from_residual.ensures.1))
+    (refused_first c.args.self.now c.args.connection c.args.statement.now c.in_err-check.field-0.0 (sym c.in_err-check.ensures))
+
+pub returns-clause-step : goal.returns-clause-step
+returns-clause-step g c =
+    let first = sym c.in_ok-check.ensures in
+    let one : c.args.connection ≡ 1 = c.if-connection-ne1.false in
+    subst (λ (n : ℕ). Steps c.args.self.now n c.args.statement.now (rows_reply c.serve.result) c.serve.new.self) (sym one)
+    (steps_from c.args.self.now c.serve.new.self c.args.statement.now (rows_reply c.serve.result) (done_built c.args.self.now c.args.connection one first)
+    (c.serve.ensures.step (sym c.if-not-is_built.ensures)))

@@ -1,0 +1,84 @@
+use Rattle.std.proofs.Common.{◌≡◌, ◌≤◌, ◌∙◌, ap, refl, map, length, arith}
+use Rattle.catalog.specs.Listed.{tables_of}
+use Rattle.pager.specs.Views.{view_of}
+use Rattle.wal.specs.declared.pages.PageImage.{PageImage}
+use Rattle.session.specs.Known.{files_of}
+use Rattle.session.proofs.Inserting.{Laws}
+use Rattle.session.proofs.InsertWorks.{Reads, bind_refused, given_as, page_refused, places_long, put_works, refused_at_once, sees, unchanged, unworked, worked}
+use Rattle.session.proofs.Showing.{the_same}
+use Rattle.session.proofs.transactions.Connections.insert.Goals as goal
+use Rattle.syntax.specs.declared.change.Change.TheVariants as change
+use Rattle.syntax.specs.declared.statement.Statement.TheVariants as statement
+
+pub returns-in_err-bound-clause-works : goal.returns-in_err-bound-clause-works
+returns-in_err-bound-clause-works g c db built on =
+    let old = c.args.self.now in
+    let w = c.args.writer.now in
+    let i = c.args.insert.now in
+    let f = c.in_err-bound.field-0.0 in
+    let laws : Laws = record {
+      lists = c.other_rows_are_listed.ensures.lists;
+      tables = c.other_rows_are_listed.ensures.tables;
+      binds = c.only_tables_set_nothing_off.ensures.binds;
+      refused = c.only_tables_set_nothing_off.ensures.refused;
+      inserts = c.only_tables_set_nothing_off.ensures.inserts;
+      none = c.only_tables_set_nothing_off.ensures.none;
+    } in
+    unworked (statement.Change (change.Insert i)) old old w w db c.from_residual.result f c.from_residual.ensures.1 (record { files = the_same (files_of old) on.told; failed = refl; transaction = refl; catalog = refl }) (unchanged w) on
+    (refused_at_once (statement.Change (change.Insert i)) old w db f (bind_refused laws (view_of (files_of old) w) (tables_of old.catalog) db on.stored i f built c.in_err-bound.ensures.refused))
+
+pub returns-in_err-bytes-clause-works : goal.returns-in_err-bytes-clause-works
+returns-in_err-bytes-clause-works g c db built on =
+    let old = c.args.self.now in
+    let new = record old { log = c.with_new_rows.new.log } in
+    let w = c.args.writer.now in
+    let i = c.args.insert.now in
+    let b = c.in_ok-bound.bound in
+    let t = b.table.now in
+    let f = c.in_err-bytes.field-0.0 in
+    let laws : Laws = record {
+      lists = c.other_rows_are_listed.ensures.lists;
+      tables = c.other_rows_are_listed.ensures.tables;
+      binds = c.only_tables_set_nothing_off.ensures.binds;
+      refused = c.only_tables_set_nothing_off.ensures.refused;
+      inserts = c.only_tables_set_nothing_off.ensures.inserts;
+      none = c.only_tables_set_nothing_off.ensures.none;
+    } in
+    let named = c.in_ok-bound.ensures.table in
+    let view = view_of (files_of old) w in
+    let is = given_as view (tables_of old.catalog) db on.stored i t b.places.items b.rows.items named c.in_ok-bound.ensures.bound c.in_ok-bound.ensures.rows c.in_ok-bound.ensures.places in
+    let long : length b.places.items ≡ length t.columns.items = ap length c.in_ok-bound.ensures.places ∙ places_long t.columns.items i.columns in
+    let it = on.stored.each i.table t named in
+    unworked (statement.Change (change.Insert i)) old new w w db c.from_residual-in_err-bytes.result f c.from_residual-in_err-bytes.ensures.1
+    (record { files = c.in_err-bytes.ensures.same on.told; failed = refl; transaction = refl; catalog = refl }) (unchanged w) on
+    (page_refused laws view (tables_of old.catalog) db on.stored i t b.places.items (map (λ row. row.items) b.rows.items) named is long it.page it.there it.holds f
+    (c.in_err-bytes.ensures.refused it.page (on.stored.rows_at t.root) (sees old w db on i.table t named)))
+
+pub returns-clause-works : goal.returns-clause-works
+returns-clause-works g c db built on =
+    let old = c.args.self.now in
+    let new = record old { log = c.with_new_rows.new.log } in
+    let w = c.args.writer.now in
+    let i = c.args.insert.now in
+    let b = c.in_ok-bound.bound in
+    let t = b.table.now in
+    let page : PageImage = record { number = t.root; bytes = c.in_ok-bytes.bytes } in
+    let laws : Laws = record {
+      lists = c.other_rows_are_listed.ensures.lists;
+      tables = c.other_rows_are_listed.ensures.tables;
+      binds = c.only_tables_set_nothing_off.ensures.binds;
+      refused = c.only_tables_set_nothing_off.ensures.refused;
+      inserts = c.only_tables_set_nothing_off.ensures.inserts;
+      none = c.only_tables_set_nothing_off.ensures.none;
+    } in
+    let named = c.in_ok-bound.ensures.table in
+    let view = view_of (files_of old) w in
+    let is = given_as view (tables_of old.catalog) db on.stored i t b.places.items b.rows.items named c.in_ok-bound.ensures.bound c.in_ok-bound.ensures.rows c.in_ok-bound.ensures.places in
+    let long : length b.places.items ≡ length t.columns.items = ap length c.in_ok-bound.ensures.places ∙ places_long t.columns.items i.columns in
+    let it = on.stored.each i.table t named in
+    let reads : Reads old new = record { files = c.in_ok-bytes.ensures.same on.told; failed = refl; transaction = refl; catalog = refl } in
+    let inserted = c.in_ok-bytes.ensures.inserted it.page (on.stored.rows_at t.root) (sees old w db on i.table t named) in
+    let len = c.in_ok-bytes.ensures.len on.writer in
+    let first : 1 ≤ t.root = omega (arith, it.above) in
+    put_works (statement.Change (change.Insert i)) old new w c.put.new.self db c.put.result page reads on (c.put.ensures.whole on.writer.whole first len) (c.put.ensures.puts on.writer.whole first len) c.put.ensures.unchanged
+    (worked laws old new w c.put.new.self db i t b.places.items (map (λ row. row.items) b.rows.items) page on reads named is long refl inserted)

@@ -1,0 +1,12 @@
+-- Which statements may find the database full.
+use Rattle.std.specs.Prelude.{Bool, true, false}
+use Rattle.syntax.specs.declared.change.Change.TheVariants as change
+use Rattle.syntax.specs.declared.statement.Statement.{Statement}
+use Rattle.syntax.specs.declared.statement.Statement.TheVariants as statement
+
+-- whether a statement may be refused as `Full`: those that change the database, and COMMIT
+abbrev pub may_be_full : Statement → Bool
+may_be_full (statement.Create c) = true
+may_be_full (statement.Change (change.Insert i)) = true
+may_be_full statement.Commit = true
+may_be_full _ = false

@@ -1,0 +1,141 @@
+-- What a statement makes of the database that its connection works on, and what a commit makes of that (SQL As Understood By
+-- SQLite, "BEGIN TRANSACTION").
+use Rattle.std.specs.Prelude.{◌≡◌, ◌⊎◌, ◌≤◌, ⊤, true, ℕ, List, [], ◌∷◌, length, take, Result, Ok, Err, Contains}
+use Rattle.sqlval.specs.Refusals.{Refusal, refusal_of}
+use Rattle.sqlval.specs.declared.fault.Fault.{Fault}
+use Rattle.sqlval.specs.declared.fault.Fault.TheVariants as fault
+use Rattle.sqlval.specs.declared.fault.Feature.TheVariants.{RowSize}
+use Rattle.disk.specs.declared.device.Disk.{Ghosts}
+use Rattle.syntax.specs.declared.change.Change.TheVariants as change
+use Rattle.syntax.specs.declared.create.NewObject.TheVariants as new
+use Rattle.syntax.specs.declared.statement.Statement.{Statement}
+use Rattle.syntax.specs.declared.statement.Statement.TheVariants as statement
+use Rattle.catalog.specs.Database.{Database}
+use Rattle.catalog.specs.Listed.{committed_in, tables_of}
+use Rattle.catalog.specs.declared.tables.Table.{Table}
+use Rattle.rowprog.specs.Rows.{Holds, TableRow}
+use Rattle.wal.specs.declared.log.Log.{Log}
+use Rattle.pager.specs.Views.{IsPage, Tells, newest_view, view_of}
+use Rattle.pager.specs.declared.writer.Writer.{Writer}
+use Rattle.trigger.specs.Binding.{IsFault}
+use Rattle.session.specs.Known.{files_of, has_failed_in}
+use Rattle.session.specs.Outcomes.{Sort, Querying, Writing, Controlling, Work, Makes, IsRefused, Undoes, Binds, sort}
+use Rattle.session.specs.Shown.{AreCommitted, IsWriter, ShowTheSame}
+use Rattle.session.specs.Stored.{HasNoRoom, Stores}
+use Rattle.session.specs.declared.transactions.Connections.{Connections}
+use Rattle.session.specs.declared.transactions.Write.{Write}
+use Rattle.session.specs.declared.transactions.Write.TheVariants as write
+
+-- ---- what a statement comes to on a database
+
+abbrev work_by : Sort → Database → Work
+work_by (Writing work) db = work db
+work_by _ db = IsRefused []
+
+-- what a statement that may write comes to on a database
+abbrev pub work_of : Statement → Database → Work
+work_of s db = work_by (sort s) db
+
+-- the statement that a change is
+abbrev pub written : Write → Statement
+written (write.Insert i) = statement.Change (change.Insert i.now)
+written (write.CreateTable sql d) = statement.Create (record { sql = sql.now; object = new.Table d.now })
+
+-- its change isn't refused when it is bound, and it makes this database
+abbrev pub Reaches : Work → Database → Type 0
+Reaches (Makes db) made = db ≡ made
+Reaches (Binds over change work) made = ((r : Refusal) → IsFault over change r → ⊥) × Reaches work made
+Reaches _ made = ⊥
+
+-- it is refused so, when its change is bound or behind that
+abbrev pub RefusesWith : Work → Refusal → Type 0
+RefusesWith (IsRefused rs) r = Contains rs r
+RefusesWith (Binds over change work) r = IsFault over change r ⊎ ((s : Refusal) → IsFault over change s → ⊥) × RefusesWith work r
+RefusesWith _ r = ⊥
+
+-- ---- a writer's pages
+
+module _ {D : Type 0} {g : Ghosts D} where
+  -- the writer's pages hold this database, whose tables the catalog lists
+  pub record WorksOn (c : Connections D g) (w : Writer) (db : Database) : Type 0 where
+    pub told : Tells (files_of c)
+    pub writer : IsWriter (files_of c) w
+    pub stored : Stores (view_of (files_of c) w) (tables_of c.catalog) db
+    pub listed : committed_in c.catalog ≤ length (tables_of c.catalog)
+
+  -- the writer sees this page where the table begins, and it holds these rows
+  pub record SeesRows (files : Log D g) (w : Writer) (table : Table) (page : List ℕ) (rows : List TableRow) : Type 0 where
+    pub told : Tells files
+    pub writer : IsWriter files w
+    pub there : IsPage (view_of files w) table.root page
+    pub holds : Holds page table.root (length table.columns.items) rows
+
+  -- the files were read at most, no transaction has begun or ended, and the committed tables are what they were
+  pub record KeepsCommitted (old new : Connections D g) : Type 0 where
+    pub files : ShowTheSame (files_of old) (files_of new)
+    pub failed : has_failed_in new ≡ has_failed_in old
+    pub transaction : new.transaction ≡ old.transaction
+    pub committed : committed_in new.catalog ≡ committed_in old.catalog
+    pub tables : take (committed_in old.catalog) (tables_of new.catalog) ≡ take (committed_in old.catalog) (tables_of old.catalog)
+
+  -- the statement has made a database of this one
+  pub record HasWorked (s : Statement) (old : Connections D g) (db : Database) (new : Connections D g) (left : Writer) : Type 0 where
+    pub kept : KeepsCommitted old new
+    pub made : Database
+    pub reaches : Reaches (work_of s db) made
+    pub works : WorksOn new left made
+
+  -- why a statement makes nothing: for want of memory or of pages, by a disk, as its work is refused, or because there is no room for what it makes
+  abbrev pub IsWorkRefusal : Statement → Connections D g → Writer → Database → Fault → Type 0
+  IsWorkRefusal s c writer db f =
+      (f ≡ fault.Memory) ⊎ (f ≡ fault.Full) ⊎ (f ≡ fault.Io) ⊎ RefusesWith (work_of s db) (refusal_of f)
+      ⊎ (f ≡ fault.Unsupported RowSize) × (made : Database) × Reaches (work_of s db) made × HasNoRoom (view_of (files_of c) writer) (tables_of c.catalog) s made
+
+  -- the statement was refused, and its writer has what it had
+  pub record IsUnworked (s : Statement) (old : Connections D g) (writer : Writer) (db : Database) (new : Connections D g) (left : Writer) (f : Fault) : Type 0 where
+    pub kept : KeepsCommitted old new
+    pub tables : tables_of new.catalog ≡ tables_of old.catalog
+    pub works : WorksOn new left db
+    pub why : IsWorkRefusal s old writer db f
+
+  -- what a statement's write has come to
+  abbrev pub Works : Statement → Connections D g → Writer → Database → Result ⊤ Fault → Connections D g → Writer → Type 0
+  Works s old writer db (Ok done) new left = HasWorked s old db new left
+  Works s old writer db (Err f) new left = IsUnworked s old writer db new left f
+
+  -- ---- a commit
+
+  -- the database is the newest committed one, and all its tables are committed
+  pub record HasCommitted (old : Connections D g) (db : Database) (new : Connections D g) : Type 0 where
+    pub told : Tells (files_of new)
+    pub failed : has_failed_in new ≡ has_failed_in old
+    pub transaction : new.transaction ≡ old.transaction
+    pub tables : tables_of new.catalog ≡ tables_of old.catalog
+    pub all : AreCommitted new.catalog
+    pub stored : Stores (newest_view (files_of new)) (tables_of new.catalog) db
+
+  -- nothing is committed, for want of memory or of room in the log, and the writer may commit later
+  pub record IsUncommitted (old : Connections D g) (db : Database) (new : Connections D g) (left : Writer) (f : Fault) : Type 0 where
+    pub why : (f ≡ fault.Memory) ⊎ (f ≡ fault.Full)
+    pub kept : KeepsCommitted old new
+    pub tables : tables_of new.catalog ≡ tables_of old.catalog
+    pub works : WorksOn new left db
+
+  -- what a commit has come to; behind a failed call of a disk nothing more is served
+  abbrev pub CommitsWork : Connections D g → Database → Result ⊤ Fault → Connections D g → Writer → Type 0
+  CommitsWork old db (Ok done) new left = HasCommitted old db new
+  CommitsWork old db (Err f) new left = (f ≡ fault.Io) × (has_failed_in new ≡ true) ⊎ IsUncommitted old db new left f
+
+  -- nothing is committed, for want of memory or of room in the log, and of the tables the committed ones are left
+  pub record IsDropped (old new : Connections D g) (f : Fault) : Type 0 where
+    pub why : (f ≡ fault.Memory) ⊎ (f ≡ fault.Full)
+    pub files : ShowTheSame (files_of old) (files_of new)
+    pub failed : has_failed_in new ≡ has_failed_in old
+    pub transaction : new.transaction ≡ old.transaction
+    pub committed : committed_in new.catalog ≡ committed_in old.catalog
+    pub tables : tables_of new.catalog ≡ take (committed_in old.catalog) (tables_of old.catalog)
+
+  -- what the commit of a statement of its own has come to
+  abbrev pub EndsAlone : Connections D g → Database → Result ⊤ Fault → Connections D g → Type 0
+  EndsAlone old db (Ok done) new = HasCommitted old db new
+  EndsAlone old db (Err f) new = (f ≡ fault.Io) × (has_failed_in new ≡ true) ⊎ IsDropped old new f

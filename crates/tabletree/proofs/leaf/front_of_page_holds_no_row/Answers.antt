@@ -1,0 +1,5 @@
+use Rattle.tabletree.proofs.BehindFront.{kept_behind}
+use Rattle.tabletree.proofs.leaf.front_of_page_holds_no_row.Goals as goal
+
+pub returns : goal.returns
+returns c = kept_behind
