@@ -77,6 +77,24 @@ module _ {D : Type 0} {g : Ghosts D} where
   pub ended_reading : (old new : Connections D g) (s : Snapshot) → old.transaction ≡ transaction.Reading s → Begins old new transaction.Idle → StepsOn old statement.Commit (Rows []) new
   ended_reading old new s was ends m shown = (let first = first_as old m shown (transaction.Reading s) was in ended old new m shown (Reads (last_place m)) first.0 refl first.1 ends)
 
+  -- ---- what a commit shows
+
+  pub committed_shown : (old before new : Connections D g) (m : Machine) (shown : IsShown old m) (made : Database) → has_failed_in before ≡ has_failed_in old → HasCommitted before made new → new.transaction ≡ transaction.Idle → IsShown new (after_commit m 1 made)
+  committed_shown old before new m shown made failed has idle = record {
+    running = shown.running;
+    whole = has.failed ∙ failed ∙ shown.whole;
+    told = has.told;
+    some = omega (arith, length-append m.history (made ∷ []));
+    listed = omega (arith, has.all);
+    stored = subst (λ (ts : List Table). Stores (newest_view (files_of new)) ts (newest (after_commit m 1 made))) (sym (take_all (committed_in new.catalog) (tables_of new.catalog) (omega (arith, has.all))))
+        (subst (Stores (newest_view (files_of new)) (tables_of new.catalog)) (sym (last_is m.history made)) has.stored);
+    first = Idle;
+    others = shown.others;
+    connections = first_set m shown.first shown.others shown.connections Idle;
+    idle = shown.idle;
+    transaction = subst (λ (t : Transaction). IsTransaction (files_of new) new.catalog (last_place (after_commit m 1 made)) t Idle) (sym idle) (refl, has.all);
+  }
+
   -- ---- a writer's pages
 
   -- the connections, where the first one's transaction goes on with this writer
@@ -119,20 +137,7 @@ module _ {D : Type 0} {g : Ghosts D} where
         record {
           next = next;
           step = step_to (Rows []) next (refl, inl refl);
-          shown = inr (record {
-            running = shown.running;
-            whole = has.failed ∙ failed ∙ shown.whole;
-            told = has.told;
-            some = omega (arith, length-append m.history (in_writing.db ∷ []));
-            listed = omega (arith, has.all);
-            stored = subst (λ (ts : List Table). Stores (newest_view (files_of new)) ts (newest next)) (sym (take_all (committed_in new.catalog) (tables_of new.catalog) (omega (arith, has.all))))
-                (subst (Stores (newest_view (files_of new)) (tables_of new.catalog)) (sym (last_is m.history in_writing.db)) has.stored);
-            first = Idle;
-            others = shown.others;
-            connections = first_set m shown.first shown.others shown.connections Idle;
-            idle = shown.idle;
-            transaction = subst (λ (t : Transaction). IsTransaction (files_of new) new.catalog (last_place next) t Idle) (sym (has.transaction ∙ idle)) (refl, has.all);
-          });
+          shown = inr (committed_shown old mid new m shown in_writing.db failed has (has.transaction ∙ idle));
         }
 
     -- where a call of a disk has failed, the database is in doubt

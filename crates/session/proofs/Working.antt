@@ -1,9 +1,8 @@
 -- What a statement that writes comes to, by what it makes of the database before it.
-use Rattle.std.proofs.Common.{◌≡◌, ◌⊎◌, inl, inr, refl, sym, ap, subst, ◌∙◌, ℕ, ◌==◌, Bool, true, false, List, [], ◌∷◌, if◌then◌else◌, arith}
+use Rattle.std.proofs.Common.{◌≡◌, ◌⊎◌, inl, inr, refl, sym, ap, subst, ◌∙◌, ℕ, ◌==◌, true, false, List, [], ◌∷◌, if◌then◌else◌, arith}
 use Rattle.std.proofs.lemmas.Bool.Decides.{nat_tests}
 use Rattle.std.specs.Prelude.{◌&&◌, Some}
 use Rattle.std.specs.List.{AllByRecursion}
-use Rattle.disk.specs.declared.device.Disk.{Ghosts}
 use Rattle.sqlval.specs.Refusals as refusal
 use Rattle.sqlval.specs.Refusals.{Refusal, Busy, refusal_of}
 use Rattle.sqlval.specs.declared.fault.Fault.{Fault}
@@ -11,7 +10,7 @@ use Rattle.sqlval.specs.declared.fault.Fault.TheVariants as fault
 use Rattle.sqlval.specs.declared.fault.Feature.TheVariants.{RowSize}
 use Rattle.syntax.specs.declared.statement.Statement.{Statement}
 use Rattle.catalog.specs.Database.{Database}
-use Rattle.session.specs.Built.{LeavesWith, StepSoFar, is_built, is_served, working}
+use Rattle.session.specs.Built.{LeavesWith, StepSoFar, is_built, working}
 use Rattle.session.specs.Machine.{Machine, Connection, Idle, InTransactionOf, NoSnapshot, Reads, Writes, Rows, Refused, connection, is_writing, last_place, newest, with_connection}
 use Rattle.session.specs.Outcomes.{Outcome, RefusedBy, Work, Makes, IsRefused, Undoes, Binds, outcome, unless_busy, worked, worked_alone, write_outcome}
 use Rattle.session.specs.Steps.{Allowed, Instead}

@@ -1,9 +1,8 @@
 -- Statements that write, and COMMIT, are steps of the machine.
-use Rattle.std.proofs.Common.{◌≡◌, ◌⊎◌, ◌≤◌, ◌-◌, ◌+◌, inl, inr, refl, sym, ap, subst, ◌∙◌, ℕ, List, [], ◌∷◌, ◌++◌, length, take, true, false, arith}
-use Rattle.std.proofs.lemmas.List.{get_or_push, length_push, length-take-le, take_all}
+use Rattle.std.proofs.Common.{◌≡◌, ◌⊎◌, ◌≤◌, ◌+◌, inl, inr, refl, sym, ap, subst, ◌∙◌, ℕ, List, [], length, take, true, false, arith}
+use Rattle.std.proofs.lemmas.List.{take_all}
 use Rattle.std.proofs.lemmas.Bool.{false≢true}
-use Rattle.std.proofs.lemmas.Option.{slice_get_read}
-use Rattle.std.specs.Prelude.{◌↔◌, ⊤, Result, Ok, Err, Some, slice_get, unwrap_or}
+use Rattle.std.specs.Prelude.{◌↔◌, ⊤, Result, Ok, Err, Some}
 use Rattle.disk.specs.declared.device.Disk.{Ghosts}
 use Rattle.sqlval.specs.Refusals as refusal
 use Rattle.sqlval.specs.Refusals.{refusal_of}
@@ -16,28 +15,29 @@ use Rattle.catalog.specs.Database.{Database}
 use Rattle.catalog.specs.Listed.{committed_in, tables_of}
 use Rattle.catalog.specs.declared.tables.Catalog.{Catalog}
 use Rattle.catalog.specs.declared.tables.Table.{Table}
-use Rattle.pager.specs.Views.{Has, IsPage, View, newest_view, view_at, view_of}
-use Rattle.pager.specs.Writers.{seen, snapshot_of}
+use Rattle.pager.specs.Views.{Has, View, newest_view, view_at, view_of}
+use Rattle.pager.specs.Writers.{seen}
 use Rattle.pager.specs.declared.writer.Writer.{Writer}
 use Rattle.session.specs.Built.{StepSoFar, is_built}
 use Rattle.session.specs.Known.{files_of, has_failed_in}
-use Rattle.session.specs.Machine.{Machine, Connection, Idle, InTransactionOf, NoSnapshot, Reads, Writes, Reply, Rows, Refused, last_place, newest, with_connection}
+use Rattle.session.specs.Machine.{Machine, Connection, Idle, InTransactionOf, NoSnapshot, Reads, Writes, Reply, Rows, Refused, last_place, newest}
 use Rattle.session.specs.NewTables.{HasRoomBehind, schema_row}
 use Rattle.session.specs.Outcomes.{Outcome, Work, Makes, IsRefused, Undoes, Binds, outcome}
 use Rattle.session.specs.Steps.{Allowed, after_commit, fails}
 use Rattle.session.specs.Stored.{HasNoRoom, Stores}
-use Rattle.session.specs.Shown.{AreCommitted, FindsNoRoom, IsNewest, IsShown, IsTransaction, OnlyReads, ShowTheSame, StepsOn, StepsTo, done_reply, is_idle, is_reading, seen_in, with_transaction}
-use Rattle.session.specs.Working.{CommitsWork, EndsAlone, HasCommitted, HasWorked, IsDropped, IsUncommitted, IsUnworked, IsWorkRefusal, KeepsCommitted, Reaches, Works, WorksOn, work_of, written}
+use Rattle.session.specs.Shown.{AreCommitted, FindsNoRoom, IsShown, IsTransaction, OnlyReads, ShowTheSame, StepsOn, StepsTo, done_reply, is_idle, is_reading, seen_in, with_transaction}
+use Rattle.session.specs.Working.{CommitsWork, EndsAlone, HasWorked, IsDropped, IsUnworked, IsWorkRefusal, Reaches, Works, WorksOn, work_of, written}
 use Rattle.session.specs.declared.transactions.Connections.{Connections}
 use Rattle.session.specs.declared.transactions.Transaction.{Transaction}
 use Rattle.session.specs.declared.transactions.Transaction.TheVariants as transaction
 use Rattle.session.specs.declared.transactions.Write.{Write}
 use Rattle.session.specs.declared.transactions.Write.TheVariants as write
 use Rattle.session.proofs.Beginning.{StartsWriting, writer_begins, writer_stores}
+use Rattle.session.proofs.CommitSteps.{committed_shown}
 use Rattle.session.proofs.SeenPages.{at_newest}
 use Rattle.session.proofs.Selecting.{all_listed}
 use Rattle.session.proofs.Showing.{moved, still_shown, still_transaction}
-use Rattle.session.proofs.Stepping.{by_outcome, first_is, first_set}
+use Rattle.session.proofs.Stepping.{by_outcome, first_is}
 use Rattle.session.proofs.Working.{IsFinish, IsWhy, alone, finish_alone, finish_in, in_transaction, refused_step, worked_gives, working_on, write_outcome_of, writes_alone, writes_begun, writes_behind_reads}
 
 -- ---- room
@@ -85,12 +85,6 @@ alone_doubts m made (Makes db) is = (refl, inr (ap (doubted m) (sym is)))
 alone_doubts m made (IsRefused rs) is = absurd is
 alone_doubts m made (Undoes r) is = absurd is
 alone_doubts m made (Binds over ch w) is = inr (is.0, alone_doubts m made w is.1)
-
-last_is : (history : List Database) (db : Database) → unwrap_or (slice_get (history ++ db ∷ []) (length (history ++ db ∷ []) - 1)) [] ≡ db
-last_is history db =
-    let long = length_push history db in
-    let place : length history ≡ length (history ++ db ∷ []) - 1 = omega (arith, long) in
-    ap (λ o. unwrap_or o []) (slice_get_read (history ++ db ∷ []) (length (history ++ db ∷ [])) (length (history ++ db ∷ []) - 1) db refl (omega (arith, long)) (sym (get_or_push history db db (length (history ++ db ∷ []) - 1) place)))
 
 idle_now : (t : Transaction) → is_idle t ≡ true → t ≡ transaction.Idle
 idle_now transaction.Idle is = refl
@@ -268,22 +262,6 @@ module _ {D : Type 0} {g : Ghosts D} where
       has = works (newest m) (begun_works old mid m shown w s start opened.all)
 
   -- ---- commits
-
-  committed_shown : (old before new : Connections D g) (m : Machine) (shown : IsShown old m) (made : Database) → has_failed_in before ≡ has_failed_in old → HasCommitted before made new → new.transaction ≡ transaction.Idle → IsShown new (after_commit m 1 made)
-  committed_shown old before new m shown made failed has idle = record {
-    running = shown.running;
-    whole = has.failed ∙ failed ∙ shown.whole;
-    told = has.told;
-    some = omega (arith, length_push m.history made);
-    listed = omega (arith, has.all);
-    stored = subst (λ (ts : List Table). Stores (newest_view (files_of new)) ts (newest (after_commit m 1 made))) (sym (take_all (committed_in new.catalog) (tables_of new.catalog) (omega (arith, has.all))))
-        (subst (Stores (newest_view (files_of new)) (tables_of new.catalog)) (sym (last_is m.history made)) has.stored);
-    first = Idle;
-    others = shown.others;
-    connections = first_set m shown.first shown.others shown.connections Idle;
-    idle = shown.idle;
-    transaction = subst (λ (t : Transaction). IsTransaction (files_of new) new.catalog (last_place (after_commit m 1 made)) t Idle) (sym idle) (refl, has.all);
-  }
 
   -- where its commit is refused, what it made is gone
   pub dropped : (old after : Connections D g) (kept : Catalog) (left : Writer) (db : Database) (f : Fault) → committed_in kept ≡ committed_in after.catalog → tables_of kept ≡ take (committed_in after.catalog) (tables_of after.catalog)

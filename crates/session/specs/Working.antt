@@ -1,6 +1,6 @@
 -- What a statement makes of the database that its connection works on, and what a commit makes of that (SQL As Understood By
 -- SQLite, "BEGIN TRANSACTION").
-use Rattle.std.specs.Prelude.{◌≡◌, ◌⊎◌, ◌≤◌, ⊤, true, ℕ, List, [], ◌∷◌, length, take, Result, Ok, Err, Contains}
+use Rattle.std.specs.Prelude.{◌≡◌, ◌⊎◌, ◌≤◌, ⊤, true, ℕ, List, [], length, take, Result, Ok, Err, Contains}
 use Rattle.sqlval.specs.Refusals.{Refusal, refusal_of}
 use Rattle.sqlval.specs.declared.fault.Fault.{Fault}
 use Rattle.sqlval.specs.declared.fault.Fault.TheVariants as fault
@@ -19,7 +19,7 @@ use Rattle.pager.specs.Views.{IsPage, Tells, newest_view, view_of}
 use Rattle.pager.specs.declared.writer.Writer.{Writer}
 use Rattle.trigger.specs.Binding.{IsFault}
 use Rattle.session.specs.Known.{files_of, has_failed_in}
-use Rattle.session.specs.Outcomes.{Sort, Querying, Writing, Controlling, Work, Makes, IsRefused, Undoes, Binds, sort}
+use Rattle.session.specs.Outcomes.{Sort, Writing, Work, Makes, IsRefused, Binds, sort}
 use Rattle.session.specs.Shown.{AreCommitted, IsWriter, ShowTheSame}
 use Rattle.session.specs.Stored.{HasNoRoom, Stores}
 use Rattle.session.specs.declared.transactions.Connections.{Connections}

@@ -1,6 +1,5 @@
 use Rattle.std.proofs.Common.{refl, ◌∙◌, ap}
 use Rattle.std.specs.Prelude.{◌||◌}
-use Rattle.session.specs.Known.{is_io}
 use Rattle.session.proofs.Committing.{commit_refused, has_committed, may_commit}
 use Rattle.session.proofs.transactions.Connections.commit_writer.Goals as goal
 

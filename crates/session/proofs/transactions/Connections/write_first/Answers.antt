@@ -1,7 +1,6 @@
 use Rattle.std.proofs.Common.{refl, sym, subst, arith}
-use Rattle.session.specs.Known.{files_of}
 use Rattle.session.specs.Machine.{Reply}
-use Rattle.session.specs.Shown.{IsNewest, StepsTo}
+use Rattle.session.specs.Shown.{StepsTo}
 use Rattle.session.specs.Working.{written}
 use Rattle.session.proofs.Beginning.{done_refused, first_there}
 use Rattle.session.proofs.Showing.{read_files}
