@@ -1,5 +1,9 @@
+pub mod EmptyOpening
 pub mod LineLaws
+pub mod LineReading
 pub mod NewFiles
 pub mod NewFileStops
 pub mod Opened
 pub mod Refusing
+pub mod TextSteps
+pub mod Served

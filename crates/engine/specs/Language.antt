@@ -14,6 +14,7 @@ use Rattle.bind.specs.Known.{faults}
 use Rattle.bind.specs.Schema.{create}
 use Rattle.parser.specs.NewObjects.{is_object_within}
 use Rattle.parser.specs.Parsing.{parsed_by}
+use Rattle.parser.specs.Statements.{is_statement_within}
 use Rattle.parser.specs.Texts.{Is, IsNotServed}
 use Rattle.filecheck.specs.Schema.{Language}
 use Rattle.session.specs.Texts.{Grammar}
@@ -21,13 +22,17 @@ use Rattle.session.specs.Texts.{Grammar}
 -- ---- texts of statements
 
 -- why a text is refused whose tokens are
-abbrev token_refusal : Result (List Lexed) Fault → Option Refusal
+abbrev pub token_refusal : Result (List Lexed) Fault → Option Refusal
 token_refusal (Ok ts) = None
 token_refusal (Err e) = Some (refusal_of e)
 
 -- the text is outside the grammar, from this byte on
 abbrev pub Leaves : List ℕ → ℕ → Type 0
 Leaves text place = parsed_by text (tokens text) ≡ Err (fault.Syntax place)
+
+-- the text is refused for a limit: this is the reading function's own answer
+abbrev pub Passes : List ℕ → Type 0
+Passes text = parsed_by text (tokens text) ≡ Err fault.TooLong
 
 -- the second text goes on behind the tokens of the first
 pub record Begins (front text : List ℕ) : Type 0 where
@@ -42,7 +47,9 @@ grammar = record {
   refused_token = λ text. token_refusal (tokens text);
   IsUnserved = IsNotServed;
   Reads = Is;
+  within = is_statement_within;
   Leaves = Leaves;
+  Passes = Passes;
   Begins = Begins;
 }
 

@@ -1,7 +1,10 @@
 pub mod Creating
+pub mod Fresh
 pub mod Known
 pub mod Language
 pub mod Lines
 pub mod Opening
 pub mod Output
 pub mod Replies
+pub mod Shown
+pub mod Serving

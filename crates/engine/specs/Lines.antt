@@ -1,9 +1,12 @@
 -- The lines of an input, and what a line says.
-use Rattle.std.specs.Prelude.{◌≡◌, ◌<◌, ◌≤◌, ◌⊎◌, ◌+◌, ◌-◌, ◌==◌, ◌&&◌, ℕ, nat_le, List, [], ◌∷◌, ◌++◌, length, decimal, Option, Some, None, if◌then◌else◌}
+use Rattle.std.specs.Prelude.{◌≡◌, ◌<◌, ◌≤◌, ◌⊎◌, ◌+◌, ◌-◌, ◌==◌, ◌&&◌, ℕ, nat_le, List, [], ◌∷◌, ◌++◌, length, take, decimal, Bool, true, false, ⊤, Option, Some, None, if◌then◌else◌}
 use Rattle.std.specs.List.{AllByRecursion}
 use Rattle.std.specs.Str.{IsUtf8}
+use Rattle.std.specs.Io.KnownBytes.{Consumes}
+use Rattle.engine.specs.declared.lines.Met.{Met}
+use Rattle.engine.specs.declared.lines.Met.TheVariants.{Nothing, LineFeed, End}
 use Rattle.sqlval.specs.declared.fault.Fault.{Fault}
-use Rattle.sqlval.specs.declared.fault.Fault.TheVariants.{Misuse, TooLong}
+use Rattle.sqlval.specs.declared.fault.Fault.TheVariants.{Io, Memory, Misuse, TooLong}
 use Rattle.sqlval.specs.declared.fault.Misuse.TheVariants.{InputLine}
 
 abbrev pub IsNoLineFeed : ℕ → Type 0
@@ -14,6 +17,60 @@ pub data AreLines : List ℕ → List (List ℕ) → Type 0 where
   no_lines : AreLines [] []
   last_line : {byte : ℕ} {line : List ℕ} → AllByRecursion IsNoLineFeed (byte ∷ line) → AreLines (byte ∷ line) ((byte ∷ line) ∷ [])
   ended_line : {line rest : List ℕ} {lines : List (List ℕ)} → AllByRecursion IsNoLineFeed line → AreLines rest lines → AreLines (line ++ 10 ∷ rest) (line ∷ lines)
+
+-- Where the bytes that an input has left are known, they are known after it is read from, and the relation holds of both.
+abbrev pub Between : (List ℕ → List ℕ → Type 0) → Option (List ℕ) → Option (List ℕ) → Type 0
+Between P None new = ⊤
+Between P (Some before) None = ⊥
+Between P (Some before) (Some after) = P before after
+
+-- The input began with this line, and is behind it now: behind its line feed, or at its end where the line isn't empty.
+abbrev pub BeganWith : List ℕ → List ℕ → List ℕ → Type 0
+BeganWith line before after = (before ≡ line ++ 10 ∷ after) ⊎ ((before ≡ line) × (after ≡ []) × (0 < length line))
+
+-- what is kept of a line: the whole, or of one longer than 65,540 bytes the first 65,540
+abbrev pub kept_of : List ℕ → List ℕ
+kept_of line = take 65540 line
+
+-- A line was read, and this is kept of it.
+pub record HasReadLine (before after : Option (List ℕ)) (kept : List ℕ) : Type 0 where
+  pub line : List ℕ
+  pub one_line : AllByRecursion IsNoLineFeed line
+  pub read : Between (BeganWith line) before after
+  pub kept_is : kept ≡ kept_of line
+
+-- nothing was left, and nothing is
+abbrev pub IsEmptyStill : List ℕ → List ℕ → Type 0
+IsEmptyStill before after = (before ≡ []) × (after ≡ [])
+
+-- A line was read, or there was none: the input was at its end and is there still.
+abbrev pub HasRead : Bool → Option (List ℕ) → Option (List ℕ) → List ℕ → Type 0
+HasRead true before after kept = HasReadLine before after kept
+HasRead false before after kept = Between IsEmptyStill before after
+
+-- why an input is refused
+abbrev pub IsInputRefusal : Fault → Type 0
+IsInputRefusal fault = (fault ≡ Memory) ⊎ (fault ≡ Io)
+
+-- the bytes of what was met behind a part of a line
+abbrev pub tail_of : Met → List ℕ
+tail_of Nothing = []
+tail_of LineFeed = 10 ∷ []
+tail_of End = []
+
+-- nothing is left where the end was met
+abbrev pub IsThere : Met → Option (List ℕ) → Option (List ℕ) → Type 0
+IsThere Nothing before after = ⊤
+IsThere LineFeed before after = ⊤
+IsThere End before after = Between (λ some none. none ≡ []) before after
+
+-- A part of a line was read with what was met behind it, and kept behind what was kept before, where there was room.
+pub record HasPart (met : Met) (before after : Option (List ℕ)) (kept_before kept : List ℕ) : Type 0 where
+  pub part : List ℕ
+  pub one_line : AllByRecursion IsNoLineFeed part
+  pub read : Consumes before after (part ++ tail_of met)
+  pub there : IsThere met before after
+  pub kept_is : kept ≡ kept_before ++ take (65540 - length kept_before) part
 
 -- the line is the number of a connection, 1 to 16 in decimal, a space, and a statement
 pub record Says (line : List ℕ) (connection : ℕ) (statement : List ℕ) : Type 0 where

@@ -1,11 +1,12 @@
 //! Lines of input.
 
-ghost use Rattle.std.specs.Prelude.{◌≡◌, ◌≤◌, IfOk, IfErr, length, option_map};
-ghost use Rattle.engine.specs.Lines.{IsLineRefusal, Says, number_at};
+ghost use Rattle.std.specs.Prelude.{◌≡◌, ◌≤◌, ◌+◌, ◌-◌, ◌++◌, All, IfOk, IfErr, OnOk, length, option_map, take};
+ghost use Rattle.engine.specs.Lines.{HasPart, HasRead, IsInputRefusal, IsLineRefusal, IsNoLineFeed, Says, number_at, tail_of};
 
 use sqlval::{Fault, Misuse, R};
+use std::alloc::AllocError;
 use std::io;
-use std::io::{BufRead, ErrorKind, Read};
+use std::io::{BufRead, ErrorKind};
 
 /// The most bytes of a statement.
 pub const MAX_STATEMENT: usize = 65536;
@@ -13,31 +14,97 @@ pub const MAX_STATEMENT: usize = 65536;
 /// What is kept of a line: a number, a space and one byte more than a statement may have.
 const MAX_KEPT: usize = MAX_STATEMENT + 4;
 
-/// The refusal of an input that failed.
-fn refused(error: io::Error) -> Fault {
-    match error.kind() {
-        ErrorKind::OutOfMemory => Fault::Memory,
-        _ => Fault::Io,
+/// What stands behind the bytes of a line that were shown.
+#[derive(Drop)]
+enum Met {
+    Nothing,
+    LineFeed,
+    End,
+}
+
+impl Met {
+    /// How many bytes it is.
+    fn len(&self) -> usize
+        ensures { result ≡ length (tail_of self.now) }
+    {
+        match self {
+            Met::LineFeed => 1,
+            _ => 0,
+        }
     }
 }
 
-/// Takes the line feed off, or reads past the rest of a line whose beginning alone was read.
-fn end_line<I: BufRead>(input: &mut I, line: &mut Vec<u8>) -> io::Result<()> {
-    if line.as_slice().last() == Some(&b'\n') {
-        line.pop();
-    } else if line.len() >= MAX_KEPT {
-        input.skip_until(b'\n')?;
+/// What an input that failed has shown: nothing where it was interrupted, and else it is refused.
+fn not_shown(error: io::Error) -> R<Met>
+    ensures met { IfOk result (λ met. met ≡ Met.Nothing) }
+    ensures refused { IfErr result IsInputRefusal }
+{
+    match error.kind() {
+        ErrorKind::Interrupted => Ok(Met::Nothing),
+        ErrorKind::OutOfMemory => Err(Fault::Memory),
+        _ => Err(Fault::Io),
     }
-    Ok(())
+}
+
+/// How many bytes of a line are shown, and what stands behind them.
+fn line_end(shown: &[u8]) -> (usize, Met)
+    ensures within { result.0 + length (tail_of result.1) ≤ length shown.now }
+    ensures line { All IsNoLineFeed (take result.0 shown.now) }
+    ensures tail { take (result.0 + length (tail_of result.1)) shown.now ≡ take result.0 shown.now ++ tail_of result.1 }
+    ensures end { (result.1 ≡ Met.End) → length shown.now ≡ 0 }
+{
+    if shown.is_empty() {
+        return (0, Met::End);
+    }
+    let mut at = 0;
+    'bytes: while at < shown.len() {
+        if shown[at] == b'\n' {
+            return (at, Met::LineFeed);
+        }
+        at += 1;
+    }
+    (shown.len(), Met::Nothing)
+}
+
+/// Keeps of a line's bytes those that there is room for.
+fn keep(line: &mut Vec<u8>, part: &[u8]) -> Result<(), AllocError>
+    ensures { OnOk result (line.new.items ≡ line.old.items ++ take (65540 - length line.old.items) part.now) }
+{
+    let room = MAX_KEPT.saturating_sub(line.len());
+    let kept = part.len().min(room);
+    line.extend_from_slice(&part[..kept])
+}
+
+/// Reads what the input has at hand of a line, and says what it met behind that.
+fn read_part<I: BufRead>(input: &mut I, line: &mut Vec<u8>) -> R<Met>
+    ensures part { IfOk result (λ met. HasPart met (I.remaining input.old) (I.remaining input.new) line.old.items line.new.items) }
+    ensures refused { IfErr result IsInputRefusal }
+{
+    let shown = match input.fill_buf() {
+        Ok(shown) => shown,
+        Err(error) => return not_shown(error),
+    };
+    let (count, met) = line_end(shown);
+    keep(line, &shown[..count])?;
+    let read = count + met.len();
+    input.consume(read);
+    Ok(met)
 }
 
 /// Reads a line without its line feed, and of a long one the beginning. Answers whether there was one.
-pub fn read_line<I: BufRead>(input: &mut I, line: &mut Vec<u8>) -> R<bool> {
+pub fn read_line<I: BufRead>(input: &mut I, line: &mut Vec<u8>) -> R<bool>
+    ensures read { IfOk result (λ is_line. HasRead is_line (I.remaining input.old) (I.remaining input.new) line.new.items) }
+    ensures refused { IfErr result IsInputRefusal }
+{
     line.clear();
-    let mut beginning = (&mut *input).take(MAX_KEPT as u64);
-    let count = beginning.read_until(b'\n', line).map_err(refused)?;
-    end_line(input, line).map_err(refused)?;
-    Ok(count > 0)
+    'parts: for _ in 0..u64::MAX {
+        match read_part(input, line)? {
+            Met::Nothing => {}
+            Met::LineFeed => return Ok(true),
+            Met::End => return Ok(!line.is_empty()),
+        }
+    }
+    Err(Fault::Io)
 }
 
 /// The connection's number and the statement's bytes.

@@ -1,6 +1,9 @@
 //! Opening a database file with its log.
 
-ghost use Rattle.std.specs.Prelude.{◌≡◌, ◌⊎◌, ◌&&◌, Ok, Err, IfOk, IfErr, IsTrue, IsFalse};
+ghost use Rattle.std.specs.Prelude.{◌≡◌, ◌⊎◌, ◌&&◌, ℕ, [], Ok, Err, IfOk, IfErr, IsTrue, IsFalse};
+ghost use Rattle.dbheader.specs.Header.{IsPageSize};
+ghost use Rattle.engine.specs.Creating.{IsEmptyDatabase};
+ghost use Rattle.engine.specs.Fresh.{HoldNothing, ListsNothing, ReadsEmpty, ReadsNothing};
 ghost use Rattle.disk.specs.File.{IsSynced, Throughout};
 ghost use Rattle.walframe.specs.Accepted.{Leaves};
 ghost use Rattle.wal.specs.Known.{db_of, known_of, log_of};
@@ -36,6 +39,7 @@ pub struct Engine<D: Disk + Drop> {
 /// The header of a database file.
 fn file_header<D: Disk>(db: &mut D) -> R<Header>
     ensures kept { Leaves D.tells D.file db.old db.new }
+    ensures empty { (page_size : ℕ) → IsTrue (D.tells db.old) → IsEmptyDatabase page_size (D.file db.old).content → ReadsEmpty page_size result }
 {
     if is_blank(db)? {
         return Err(Fault::Blank);
@@ -51,6 +55,7 @@ fn file_header<D: Disk>(db: &mut D) -> R<Header>
 /// The schema of the newest view, whose page 1 has to say the view's size and page size.
 fn newest_schema<D: Disk + Drop>(alloc: Global, log: &mut Log<D>) -> R<Catalog>
     ensures kept { (known_of log.new ≡ known_of log.old) × Leaves D.tells D.file (db_of log.old) (db_of log.new) × Leaves D.tells D.file (log_of log.old) (log_of log.new) }
+    ensures empty { (page_size : ℕ) → IsPageSize page_size → HoldNothing page_size log.old → ListsNothing result }
 {
     let snapshot = log.begin();
     let page = read_page(alloc, log, snapshot, 1)?;
@@ -69,6 +74,8 @@ fn started<D: Disk + Drop>(alloc: Global, log: &mut Log<D>) -> R<Catalog>
     ensures stop { IsFalse (known_of log.old).has_failed → IsTrue (D.tells (db_of log.old)) → IsTrue (D.tells (log_of log.old)) → IsSynced (D.file (db_of log.old)) → IsSynced (D.file (log_of log.old))
         → Throughout (LeavesOpened (D.file (db_of log.old)) (D.file (log_of log.old))) (D.file (db_of log.old)) (D.file (log_of log.old)) (D.file (db_of log.new)) (D.file (log_of log.new)) }
     ensures kept { IsTrue (D.tells (db_of log.old)) → IsTrue (D.tells (log_of log.old)) → IfErr result (KeepsBut Io (D.file (db_of log.old)) (D.file (log_of log.old)) (D.file (db_of log.new)) (D.file (log_of log.new))) }
+    // Of the empty database no table is listed, and nothing else stands in the files.
+    ensures empty { (page_size : ℕ) → IsPageSize page_size → HoldNothing page_size log.old → IfOk result (ReadsNothing page_size log.new) }
 {
     let catalog = newest_schema(alloc, log)?;
     log.cut_tail()?;
@@ -78,7 +85,10 @@ fn started<D: Disk + Drop>(alloc: Global, log: &mut Log<D>) -> R<Catalog>
 impl<D: Disk + Drop> Engine<D> {
     ghost use Rattle.session.specs.Known.{IsNoConnection, first_refusal};
     ghost use Rattle.engine.specs.Known.{db_disk, has_failed_of, log_disk};
+    ghost use Rattle.engine.specs.Fresh.{OpensEmpty};
     ghost use Rattle.engine.specs.Opening.{db_left, log_left};
+    ghost use Rattle.engine.specs.Shown.{StepsByText};
+    ghost use Rattle.session.specs.Shown.{rows_reply};
 
     /// Opens a database: syncs both files, checks them, and cuts the log to its committed frames. A log that has no valid
     /// header gets one with these salts at the first commit. Refusals give the files back, with no byte changed but for `Io`
@@ -89,6 +99,8 @@ impl<D: Disk + Drop> Engine<D> {
         // Refused, the files hold what they held, but for a call of a disk that failed.
         ensures kept { IsTrue (D.tells db) → IsTrue (D.tells log) → IfErr result (λ refused. KeepsBut Io (D.file db) (D.file log) (D.file refused.db) (D.file refused.log) refused.fault) }
         ensures whole { IfOk result (λ engine. IsFalse (has_failed_of engine)) }
+        // What was created shows the empty database, with 16 idle connections.
+        ensures empty { (page_size : ℕ) → IsTrue (D.tells db) → IsTrue (D.tells log) → IsPageSize page_size → IsEmptyDatabase page_size (D.file db).content → (D.file log).content ≡ [] → OpensEmpty result }
     {
         let mut db = db;
         let header = match file_header(&mut db) {
@@ -139,6 +151,8 @@ impl<D: Disk + Drop> Engine<D> {
         ensures io { result ≡ Err Fault.Io → Rose (D.failures (db_disk self.old)) (D.failures (db_disk self.new)) ⊎ Rose (D.failures (log_disk self.old)) (D.failures (log_disk self.new)) }
         // What only reads, begins or rolls back is never refused as `Full`.
         ensures full { result ≡ Err Fault.Full → (statement : Statement) × Is text.now statement × IsTrue (may_be_full statement) }
+        // The reply to the text is a step of each machine that was shown, and the machine behind the step is shown.
+        ensures step { StepsByText self.old connection text.now (rows_reply result) self.new }
     {
         self.connections.check(connection)?;
         let statement = parse(self.alloc, text)?;

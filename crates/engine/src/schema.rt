@@ -1,5 +1,10 @@
 //! The objects of the schema: the tables, as page 1 lists them.
 
+ghost use Rattle.std.specs.Prelude.{◌≡◌, [], length, IfOk, IfErr};
+ghost use Rattle.catalog.specs.Listed.{tables_of};
+ghost use Rattle.tabletree.specs.Lone.{IsLone};
+ghost use Rattle.engine.specs.Fresh.{ListsNothing};
+
 use catalog::{Catalog, Table, columns_of, is_reserved};
 use parser::parse;
 use record::Record;
@@ -89,18 +94,35 @@ fn table_of(alloc: Global, row: &SchemaRow<'_>) -> R<Table> {
     })
 }
 
-/// The tables that page 1 of a database of this many pages lists.
-pub fn load(alloc: Global, page: &[u8], size: u32) -> R<Catalog> {
-    let mut catalog = Catalog::empty(alloc);
-    let leaf = Leaf::over(alloc, page, 1)?;
-    for index in 0..leaf.len() {
-        let record = Record::over(alloc, leaf.cell(index).payload)?;
-        let table = table_of(alloc, &row_of(&record, size)?)?;
-        if catalog.table(table.name.as_str()).is_some() {
-            return Err(Fault::Unsupported(Feature::SchemaObject));
-        }
-        catalog.add(table)?;
+/// Adds the table that a row of the schema tells.
+fn add_row(alloc: Global, catalog: &mut Catalog, payload: &[u8], size: u32) -> R<()> {
+    let record = Record::over(alloc, payload)?;
+    let table = table_of(alloc, &row_of(&record, size)?)?;
+    if catalog.table(table.name.as_str()).is_some() {
+        return Err(Fault::Unsupported(Feature::SchemaObject));
     }
+    catalog.add(table)
+}
+
+/// The tables that these rows of the schema tell.
+fn tables_in(alloc: Global, leaf: &Leaf<'_>, size: u32) -> R<Catalog>
+    ensures empty { length leaf.now ≡ 0 → IfOk result (λ catalog. tables_of catalog ≡ []) }
+    ensures served { length leaf.now ≡ 0 → IfErr result (λ fault. ⊥) }
+{
+    let mut catalog = Catalog::empty(alloc);
+    'rows: for index in 0..leaf.len() {
+        add_row(alloc, &mut catalog, leaf.cell(index).payload, size)?;
+    }
+    Ok(catalog)
+}
+
+/// The tables that page 1 of a database of this many pages lists.
+pub fn load(alloc: Global, page: &[u8], size: u32) -> R<Catalog>
+    // Where page 1 lists nothing, that is what is loaded, but for the want of memory.
+    ensures empty { IsLone page.now 1 [] → ListsNothing result }
+{
+    let leaf = Leaf::over(alloc, page, 1)?;
+    let mut catalog = tables_in(alloc, &leaf, size)?;
     catalog.keep();
     Ok(catalog)
 }

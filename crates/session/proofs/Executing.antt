@@ -28,11 +28,11 @@ first_fault f = Err f
 abbrev done : Result ⊤ Fault
 done = Ok tt
 
-module _ (R : Database → Type 0) (m : Machine) (n : ℕ) (s : Statement) where
-  either : {P : Type 0} (b : Bool) → (b ≡ true → P) → (b ≡ false → P) → P
-  either true go other = go refl
-  either false go other = other refl
+either : {P : Type 0} (b : Bool) → (b ≡ true → P) → (b ≡ false → P) → P
+either true go other = go refl
+either false go other = other refl
 
+module _ (R : Database → Type 0) (m : Machine) (n : ℕ) (s : Statement) where
   failed_step : m.failed ≡ true → StepSoFar R m n s (Refused refusal.Failed) m
   failed_step failed = either (is_built s && is_served n) (λ is. inl (is, inl (inl (failed, refl, refl)))) (λ is. inr (is, refl, inl (failed, refl)))
 
@@ -75,6 +75,16 @@ refused_as (Ok rows) f is = absurd is
 refused_as (Err e) f is = ap (λ (x : Fault). Refused (refusal_of x)) is
 
 module _ {D : Type 0} {g : Ghosts D} where
+  -- what isn't refused at first is a connection's, of a machine that goes on
+  pub served_for : (c : Connections D g) (m : Machine) (n : ℕ) → first_refusal (has_failed_in c) n ≡ done → Shows c m → (m.failed ≡ false) × (is_connection n ≡ true)
+  served_for c m n is (inl failed) = absurd (not_both fault.Failed (sym is ∙ ap (λ b. first_refusal b n) failed.0))
+  served_for c m n is (inr shown) = either (n == 0 || nat_lt 16 n)
+      (λ bad. absurd (not_both (fault.Misuse misuse.Connection) (sym whole ∙ first_by n bad)))
+      (λ good. (shown.running, a_connection n good))
+    where
+      whole : first_refusal false n ≡ done
+      whole = ap (λ b. first_refusal b n) (sym shown.whole) ∙ is
+
   pub done_built : (c : Connections D g) (n : ℕ) → n ≡ 1 → first_refusal (has_failed_in c) n ≡ done → first_refusal (has_failed_in c) 1 ≡ done
   done_built c n one is = subst (λ (k : ℕ). first_refusal (has_failed_in c) k ≡ done) one is
 
@@ -87,7 +97,7 @@ module _ {D : Type 0} {g : Ghosts D} where
       let why : first_refusal true n ≡ Err f = ap (λ b. first_refusal b n) (sym failed.0) ∙ is in
       subst (λ (e : Fault). StepsTo c m n s (Refused (refusal_of e)) c) (one_fault fault.Failed f why)
       (stays_with c m n s (Refused refusal.Failed) (inl failed) (failed_step (FindsNoRoom c s) m n s failed.1))
-  refused_first c n s f is m (inr shown) = either (FindsNoRoom c s) m n s (n == 0 || nat_lt 16 n) none some
+  refused_first c n s f is m (inr shown) = either (n == 0 || nat_lt 16 n) none some
     where
       whole : first_refusal false n ≡ Err f
       whole = ap (λ b. first_refusal b n) (sym shown.whole) ∙ is

@@ -19,3 +19,4 @@ pub mod CommitSteps
 pub mod Inserting
 pub mod InsertWorks
 pub mod Executing
+pub mod Fresh

@@ -73,7 +73,7 @@ has_snapshot _ = false
 abbrev pub another : (Connection → Bool) → Machine → ℕ → Bool
 another p m c = list_any p (slice_set m.connections (c - 1) Idle)
 
-abbrev idle : ℕ → List Connection
+abbrev pub idle : ℕ → List Connection
 idle zero = []
 idle (suc n) = Idle ∷ idle n
 

@@ -1,0 +1,155 @@
+-- A statement's text is a step.
+use Rattle.std.proofs.Common.{◌≡◌, ◌≤◌, ◌⊎◌, inl, inr, refl, sym, ap, ◌∙◌, ℕ, Bool, true, false, List, length, Some, Result, Ok, Err, arith}
+use Rattle.std.specs.Prelude.{⊤}
+use Rattle.std.proofs.lemmas.Bool.Decides.{nat_tests}
+use Rattle.disk.specs.declared.device.Disk.{Ghosts}
+use Rattle.sqlval.specs.Gives.{Refuses}
+use Rattle.sqlval.specs.Refusals.{refusal_of}
+use Rattle.sqlval.specs.declared.fault.Fault.{Fault}
+use Rattle.sqlval.specs.declared.fault.Fault.TheVariants as fault
+use Rattle.sqlval.specs.declared.fault.Feature.TheVariants as feature
+use Rattle.lexer.specs.Lex.{Lexed, tokens}
+use Rattle.syntax.specs.declared.statement.Statement.{Statement}
+use Rattle.expressions.specs.declared.refusal.Refusal.{Refusal}
+use Rattle.expressions.specs.declared.refusal.Refusal.TheVariants as reading
+use Rattle.parser.specs.Parsing.{answered, parsed_by, pieces_of, sql_in}
+use Rattle.parser.specs.StatementReading.{whole_from}
+use Rattle.parser.specs.Refusals.{IsRefused}
+use Rattle.parser.specs.Statements.{is_statement_within}
+use Rattle.parser.specs.Texts.{Is, IsNotServed}
+use Rattle.session.specs.Built.{StepSoFar}
+use Rattle.session.specs.Known.{first_refusal}
+use Rattle.session.specs.Machine.{Machine, Reply, Refused}
+use Rattle.session.specs.Shown.{FindsNoRoom, Steps}
+use Rattle.session.specs.Steps.{is_connection}
+use Rattle.session.specs.Texts.{IsCandidate, IsTextFault, StepByText, is_long}
+use Rattle.session.specs.declared.transactions.Connections.{Connections}
+use Rattle.session.proofs.Executing.{served_for}
+use Rattle.engine.specs.Known.{has_failed_of}
+use Rattle.engine.specs.Language.{grammar, token_refusal}
+use Rattle.engine.specs.Shown.{ShowsIn, StepsByText, StepsByTextTo}
+use Rattle.engine.specs.declared.opening.Engine.{Engine}
+
+-- ---- what reading a text says of it
+
+abbrev Read : Type 0
+Read = Result Statement Fault
+
+abbrev unserved : Read
+unserved = Err (fault.Unsupported feature.Statement)
+
+refused_or : (f : Fault) (given : Read) → Refuses f given → (f ≡ fault.Memory) ⊎ (given ≡ Err f)
+refused_or fault.Memory given h = inl refl
+refused_or f given h = inr h
+
+long_tokens : (text : List ℕ) → is_long text ≡ true → tokens text ≡ Err fault.TooLong
+unfolding tokens
+long_tokens text is = rw is refl
+
+short_text : (text : List ℕ) → is_long text ≡ false → length text ≤ 65536
+short_text text is = grind (arith, nat_tests)
+
+same_fault : (a b : Fault) (left : Read) → left ≡ Err a → left ≡ Err b → b ≡ a
+same_fault a b left p q = cc
+
+one_or_other : (f : Fault) (s : Statement) (read : Read) → read ≡ Err f → read ≡ Ok s → ⊥
+one_or_other f s read p q = absurd cc
+
+two_faults : (place : ℕ) → unserved ≡ Err (fault.Syntax place) → ⊥
+two_faults place is = absurd cc
+
+late_fault : unserved ≡ Err fault.TooLong → ⊥
+late_fault is = absurd cc
+
+-- tokens that are none of a statement aren't refused as a real
+never_real : (total : ℕ) (ts : List Lexed) (r : Result Statement Refusal) → answered total ts r ≡ Err fault.RealRefused → ⊥
+never_real total ts (Ok s) is = absurd cc
+never_real total ts (Err reading.Memory) is = absurd cc
+never_real total ts (Err (reading.Syntax left)) is = absurd cc
+never_real total ts (Err reading.TooLong) is = absurd cc
+never_real total ts (Err reading.Unsupported) is = absurd cc
+
+module _ (text : List ℕ) where
+  abbrev read : Read
+  read = parsed_by text (tokens text)
+
+  candidate : (ts : List Lexed) → is_long text ≡ false → tokens text ≡ Ok ts → (IsNotServed text → ⊥) → IsCandidate grammar text
+  candidate ts short cut served = (short, ap token_refusal cut, served)
+
+  -- a text whose tokens stand, by its refusal
+  behind : (f : Fault) (ts : List Lexed) → is_long text ≡ false → tokens text ≡ Ok ts → read ≡ Err f → IsRefused text f → (IsNotServed text → length text ≤ 65536 → Refuses f unserved)
+      → (f ≡ fault.Memory) ⊎ IsTextFault grammar text (refusal_of f)
+  behind fault.Memory ts short cut is why other = inl refl
+  behind (fault.Syntax place) ts short cut is why other =
+      inr (inr (inr (inr (inl (candidate ts short cut (λ x. two_faults place (other x (short_text text short))), (place, is, refl))))))
+  behind fault.TooLong ts short cut is why other =
+      inr (inr (inr (inr (inr (inl (candidate ts short cut (λ x. late_fault (other x (short_text text short))), is, refl))))))
+  behind (fault.Unsupported feature.Statement) ts short cut is why other = inr (inr (inr (inl (short, ap token_refusal cut, why, refl))))
+  behind fault.RealRefused ts short cut is why other =
+      absurd (never_real (length text) ts (whole_from (sql_in text ts) (pieces_of ts)) (ap (parsed_by text) (sym cut) ∙ is))
+  behind f ts short cut is why other = absurd why
+
+  -- why a text is refused
+  pub text_fault : (f : Fault) → Refuses f read → IsRefused text f → (IsNotServed text → length text ≤ 65536 → Refuses f unserved)
+      → (f ≡ fault.Memory) ⊎ IsTextFault grammar text (refusal_of f)
+  text_fault f given why other = by_memory (refused_or f read given)
+    where
+      by_tokens : (t : Result (List Lexed) Fault) → tokens text ≡ t → is_long text ≡ false → read ≡ Err f → (f ≡ fault.Memory) ⊎ IsTextFault grammar text (refusal_of f)
+      by_tokens (Ok ts) cut short is = behind f ts short cut is why other
+      by_tokens (Err e) cut short is =
+          let same : f ≡ e = same_fault e f read (ap (parsed_by text) cut) is in
+          inr (inr (inl (short, ap token_refusal cut ∙ ap (λ (x : Fault). Some (refusal_of x)) (sym same))))
+
+      by_length : (long : Bool) → is_long text ≡ long → read ≡ Err f → (f ≡ fault.Memory) ⊎ IsTextFault grammar text (refusal_of f)
+      by_length true long is =
+          let same : f ≡ fault.TooLong = same_fault fault.TooLong f read (ap (parsed_by text) (long_tokens text long)) is in
+          inr (inl (long, ap refusal_of same))
+      by_length false short is = by_tokens (tokens text) refl short is
+
+      by_memory : (f ≡ fault.Memory) ⊎ (read ≡ Err f) → (f ≡ fault.Memory) ⊎ IsTextFault grammar text (refusal_of f)
+      by_memory (inl memory) = inl memory
+      by_memory (inr is) = by_length (is_long text) refl is
+
+  -- what a text is that is read as a statement
+  pub read_candidate : (s : Statement) → read ≡ Ok s → (IsNotServed text → length text ≤ 65536 → unserved ≡ Ok s) → IsCandidate grammar text
+  read_candidate s is other = by_length (is_long text) refl
+    where
+      by_tokens : (t : Result (List Lexed) Fault) → tokens text ≡ t → is_long text ≡ false → IsCandidate grammar text
+      by_tokens (Ok ts) cut short = candidate ts short cut (λ x. one_or_other (fault.Unsupported feature.Statement) s unserved refl (other x (short_text text short)))
+      by_tokens (Err e) cut short = absurd (one_or_other e s read (ap (parsed_by text) cut) is)
+
+      by_length : (long : Bool) → is_long text ≡ long → IsCandidate grammar text
+      by_length true long = absurd (one_or_other fault.TooLong s read (ap (parsed_by text) (long_tokens text long)) is)
+      by_length false short = by_tokens (tokens text) refl short
+
+-- ---- steps
+
+abbrev done : Result ⊤ Fault
+done = Ok tt
+
+module _ {D : Type 0} {g : Ghosts D} (e : Engine D g) (n : ℕ) (text : List ℕ) where
+  abbrev Step : Machine → Reply → Machine → Type 0
+  Step m reply next = StepByText (λ before c s answer after. StepSoFar (FindsNoRoom e.connections s) before c s answer after) grammar m n text reply next
+
+  stays : (m : Machine) (f : Fault) → ShowsIn e m → Step m (Refused (refusal_of f)) m → StepsByTextTo e m n text (Refused (refusal_of f)) e
+  stays m f shows step = record { next = m; step = step; shown = shows }
+
+  -- refused for the text, or for want of memory
+  pub refused_text : (f : Fault) → first_refusal (has_failed_of e) n ≡ done → (f ≡ fault.Memory) ⊎ IsTextFault grammar text (refusal_of f)
+      → StepsByText e n text (Refused (refusal_of f)) e
+  refused_text f is why m shows = by_why why
+    where
+      served : (m.failed ≡ false) × (is_connection n ≡ true)
+      served = served_for e.connections m n is shows
+
+      by_why : (f ≡ fault.Memory) ⊎ IsTextFault grammar text (refusal_of f) → StepsByTextTo e m n text (Refused (refusal_of f)) e
+      by_why (inl memory) = stays m f shows (inr (inr (served.0, served.1, inl (ap (λ (x : Fault). Refused (refusal_of x)) memory, refl))))
+      by_why (inr of_text) = stays m f shows (inr (inr (served.0, served.1, inr (inl (refusal_of f, of_text, refl, refl)))))
+
+  -- executed as the statement that the text is
+  pub executed : (s : Statement) (reply : Reply) (new : Connections D g) → first_refusal (has_failed_of e) n ≡ done → IsCandidate grammar text → Is text s → is_statement_within s ≡ true
+      → Steps e.connections n s reply new → StepsByText e n text reply (record e { connections = new })
+  executed s reply new is stands reads within steps m shows =
+      let served = served_for e.connections m n is shows in
+      let to = steps m shows in
+      record { next = to.next; step = inr (inr (served.0, served.1, inr (inr (stands, s, reads, within, to.step)))); shown = to.shown }

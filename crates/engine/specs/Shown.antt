@@ -1,0 +1,24 @@
+-- Which machine an engine shows, and steps of it by texts.
+use Rattle.std.specs.Prelude.{ℕ, List}
+use Rattle.disk.specs.declared.device.Disk.{Ghosts}
+use Rattle.session.specs.Built.{StepSoFar}
+use Rattle.session.specs.Machine.{Machine, Reply}
+use Rattle.session.specs.Shown.{FindsNoRoom, Shows}
+use Rattle.session.specs.Texts.{StepByText}
+use Rattle.engine.specs.Language.{grammar}
+use Rattle.engine.specs.declared.opening.Engine.{Engine}
+
+module _ {D : Type 0} {g : Ghosts D} where
+  -- the engine shows a machine where its connections do
+  abbrev pub ShowsIn : Engine D g → Machine → Type 0
+  ShowsIn engine = Shows engine.connections
+
+  -- This is a step by a text from a machine to one that is shown behind it.
+  pub record StepsByTextTo (old : Engine D g) (m : Machine) (connection : ℕ) (text : List ℕ) (reply : Reply) (new : Engine D g) : Type 0 where
+    pub next : Machine
+    pub step : StepByText (λ before c s answer after. StepSoFar (FindsNoRoom old.connections s) before c s answer after) grammar m connection text reply next
+    pub shown : ShowsIn new next
+
+  -- From each machine that was shown the text is a step, and the machine behind it is shown.
+  abbrev pub StepsByText : Engine D g → ℕ → List ℕ → Reply → Engine D g → Type 0
+  StepsByText old connection text reply new = (m : Machine) → ShowsIn old m → StepsByTextTo old m connection text reply new

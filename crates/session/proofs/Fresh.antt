@@ -1,0 +1,55 @@
+-- Connections that were made of files show the machine of the database that these hold.
+use Rattle.std.proofs.Common.{◌≡◌, refl, sym, subst, ℕ, zero, suc, List, [], false, arith}
+use Rattle.std.specs.Prelude.{Option, None, Some}
+use Rattle.std.specs.List.{AllByRecursion}
+use Rattle.std.proofs.lemmas.List.{take_all}
+use Rattle.disk.specs.declared.device.Disk.{Ghosts}
+use Rattle.wal.specs.Opening.{IsServedSize}
+use Rattle.catalog.specs.Database.{Database}
+use Rattle.catalog.specs.Listed.{committed_in, tables_of}
+use Rattle.catalog.specs.declared.tables.Table.{Table}
+use Rattle.pager.specs.Views.{Tells, View, newest_view}
+use Rattle.session.specs.Known.{files_of, has_failed_in}
+use Rattle.session.specs.Machine.{Idle, fresh, idle}
+use Rattle.session.specs.Shown.{AreCommitted, IsShown, IsTransaction}
+use Rattle.session.specs.Stored.{HasFirstPage, Stores}
+use Rattle.session.specs.declared.transactions.Connections.{Connections}
+use Rattle.session.specs.declared.transactions.Transaction.{Transaction}
+use Rattle.session.specs.declared.transactions.Transaction.TheVariants as transaction
+
+none_listed : {A : Type 0} (t : Table) → None ≡ Some t → A
+none_listed t h = absurd cc
+
+all_idle : (n : ℕ) → AllByRecursion (λ k. k ≡ Idle) (idle n)
+all_idle zero = tt
+all_idle (suc n) = (refl, all_idle n)
+
+-- pages whose first is there hold no tables
+pub nothing_stored : (view : View) → HasFirstPage view → IsServedSize view.page_size view.size → Stores view [] []
+nothing_stored view first served = record {
+  rows_at = λ root. [];
+  lists = λ name. refl;
+  only = refl;
+  once = λ name t listed. none_listed t listed;
+  apart = λ a b s t one other same. none_listed s one;
+  each = λ name t listed. none_listed t listed;
+  first = first;
+  served = served;
+}
+
+module _ {D : Type 0} {g : Ghosts D} where
+  pub fresh_shown : (c : Connections D g) (db : Database) → has_failed_in c ≡ false → c.transaction ≡ transaction.Idle → Tells (files_of c) → AreCommitted c.catalog → Stores (newest_view (files_of c)) (tables_of c.catalog) db
+      → IsShown c (fresh db)
+  fresh_shown c db whole is told all stored = record {
+    running = refl;
+    whole = whole;
+    told = told;
+    some = omega arith;
+    listed = omega (arith, all);
+    stored = subst (λ (ts : List Table). Stores (newest_view (files_of c)) ts db) (sym (take_all (committed_in c.catalog) (tables_of c.catalog) (omega (arith, all)))) stored;
+    first = Idle;
+    others = idle 15;
+    connections = refl;
+    idle = all_idle 15;
+    transaction = subst (λ (t : Transaction). IsTransaction (files_of c) c.catalog 0 t Idle) (sym is) (refl, all);
+  }
