@@ -87,6 +87,7 @@ impl<D: Disk + Drop> Engine<D> {
     ghost use Rattle.engine.specs.Known.{db_disk, has_failed_of, log_disk};
     ghost use Rattle.engine.specs.Fresh.{OpensEmpty};
     ghost use Rattle.engine.specs.Opening.{db_left, log_left};
+    ghost use Rattle.engine.specs.Serving.{GivesUp};
     ghost use Rattle.engine.specs.Shown.{StepsByText};
     ghost use Rattle.session.specs.Shown.{rows_reply};
 
@@ -167,7 +168,9 @@ impl<D: Disk + Drop> Engine<D> {
     }
 
     /// Gives up the transactions that are open.
-    pub(crate) fn give_up(&mut self) {
+    pub(crate) fn give_up(&mut self)
+        ensures { GivesUp self.old self.new }
+    {
         self.connections.give_up();
     }
 

@@ -4,7 +4,7 @@ ghost use Rattle.std.specs.Prelude.{◌≡◌, ◌++◌, IfOk, OnOk, OnErr};
 ghost use Rattle.std.specs.Io.KnownBytes.{Appends, Keeps};
 ghost use Rattle.engine.specs.Output.{reply_text};
 ghost use Rattle.engine.specs.Replies.{reply_of};
-ghost use Rattle.engine.specs.Serving.{AnswersKept, AppendsPart, HasRun, HasRunInPart, HasWritten};
+ghost use Rattle.engine.specs.Serving.{AnswersKept, AppendsPart, HasRun, HasRunInPart, HasServed, HasServedInPart, HasWritten};
 
 use crate::lines::{read_line, split_line};
 use crate::opening::Engine;
@@ -69,7 +69,7 @@ fn write_reply<O: Write>(
 impl<D: Disk + Drop> Engine<D> {
     /// The reply to a line: a connection's number, a space and a statement.
     fn answer(&mut self, line: &[u8]) -> R<Rows>
-        ensures { AnswersKept line.now (reply_of result) }
+        ensures { AnswersKept self.old line.now (reply_of result) self.new }
     {
         if self.has_failed() {
             return Err(Fault::Failed);
@@ -81,8 +81,8 @@ impl<D: Disk + Drop> Engine<D> {
     /// Serves lines until the input ends, and writes the reply to each. Then open transactions are given up. Refusals:
     /// `Memory`, `Io` where the input or the output fails; what is written is then a beginning of the replies.
     pub fn run<I: BufRead, O: Write>(&mut self, input: &mut I, output: &mut O) -> R<()>
-        ensures served { OnOk result (HasRun (I.remaining input.old) (I.remaining input.new) (O.contents output.old) (O.contents output.new)) }
-        ensures refused { OnErr result (HasRunInPart (I.remaining input.old) (O.contents output.old) (O.contents output.new)) }
+        ensures served { OnOk result (HasRun self.old (I.remaining input.old) (I.remaining input.new) (O.contents output.old) (O.contents output.new) self.new) }
+        ensures refused { OnErr result (HasRunInPart self.old (I.remaining input.old) (O.contents output.old) (O.contents output.new) self.new) }
     {
         let result = self.serve(input, output);
         self.give_up();
@@ -90,8 +90,8 @@ impl<D: Disk + Drop> Engine<D> {
     }
 
     fn serve<I: BufRead, O: Write>(&mut self, input: &mut I, output: &mut O) -> R<()>
-        ensures served { OnOk result (HasRun (I.remaining input.old) (I.remaining input.new) (O.contents output.old) (O.contents output.new)) }
-        ensures refused { OnErr result (HasRunInPart (I.remaining input.old) (O.contents output.old) (O.contents output.new)) }
+        ensures served { OnOk result (HasServed self.old (I.remaining input.old) (I.remaining input.new) (O.contents output.old) (O.contents output.new) self.new) }
+        ensures refused { OnErr result (HasServedInPart self.old (I.remaining input.old) (O.contents output.old) (O.contents output.new) self.new) }
     {
         let alloc = self.allocator();
         let mut line = Vec::new(alloc);
