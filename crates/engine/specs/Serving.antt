@@ -6,7 +6,7 @@ use Rattle.sqlval.specs.Refusals.{refusal_of}
 use Rattle.sqlval.specs.declared.fault.Fault.{Fault}
 use Rattle.sqlval.specs.declared.fault.Fault.TheVariants.{Failed}
 use Rattle.sqlval.specs.declared.value.Value.{Value}
-use Rattle.session.specs.Machine as session
+use Rattle.session.specs.Machine as machine
 use Rattle.session.specs.Machine.{Rows, Refused}
 use Rattle.session.specs.Shown.{IsGivenUp}
 use Rattle.engine.specs.Known.{connections_of, has_failed_of}
@@ -20,7 +20,7 @@ abbrev pub Reply : Type 0
 Reply = Result (List (List Value)) Fault
 
 -- the same, as a machine replies
-abbrev pub machine_reply : Reply → session.Reply
+abbrev pub machine_reply : Reply → machine.Reply
 machine_reply (Ok rows) = Rows rows
 machine_reply (Err fault) = Refused (refusal_of fault)
 

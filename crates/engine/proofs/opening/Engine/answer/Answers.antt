@@ -1,5 +1,5 @@
 use Rattle.std.proofs.Common.{inr, sym, subst, ◌∙◌}
-use Rattle.session.specs.Machine as session
+use Rattle.session.specs.Machine as machine
 use Rattle.engine.specs.Shown.{StepsByText}
 use Rattle.engine.proofs.Served.{same_reply}
 use Rattle.engine.proofs.opening.Engine.answer.Goals as goal
@@ -12,6 +12,6 @@ returns g c = inr (inr (
     statement = c.in_ok-connection.text.now;
     says = c.in_ok-connection.ensures.found.0;
     fits = c.in_ok-connection.ensures.found.1;
-    step = subst (λ (r : session.Reply). StepsByText c.args.self.now c.in_ok-connection.connection c.in_ok-connection.text.now r c.execute.new.self) (same_reply c.execute.result) c.execute.ensures.step;
+    step = subst (λ (r : machine.Reply). StepsByText c.args.self.now c.in_ok-connection.connection c.in_ok-connection.text.now r c.execute.new.self) (same_reply c.execute.result) c.execute.ensures.step;
   },
 ))
