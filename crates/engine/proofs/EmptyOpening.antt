@@ -153,6 +153,7 @@ module _ {D : Type 0} {g : Ghosts D} where
         sized = sym h.page_size_is;
         rows = [];
         lone = page_is_lone page_size db served h.empty;
+        tell = tt;
       })
       (small page_size (known_of files).size (known_of files).page_size served h.page_size_is h.size_is)
 

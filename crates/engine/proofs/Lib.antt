@@ -5,5 +5,6 @@ pub mod NewFiles
 pub mod NewFileStops
 pub mod Opened
 pub mod Refusing
+pub mod KeptTexts
 pub mod TextSteps
 pub mod Served

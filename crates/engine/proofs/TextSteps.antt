@@ -20,6 +20,7 @@ use Rattle.parser.specs.Texts.{Is, IsNotServed}
 use Rattle.session.specs.Built.{StepSoFar}
 use Rattle.session.specs.Known.{first_refusal}
 use Rattle.session.specs.Machine.{Machine, Reply, Refused}
+use Rattle.session.specs.Schema.{KeepsItsText}
 use Rattle.session.specs.Shown.{FindsNoRoom, Steps}
 use Rattle.session.specs.Steps.{is_connection}
 use Rattle.session.specs.Texts.{IsCandidate, IsTextFault, StepByText, is_long}
@@ -29,6 +30,7 @@ use Rattle.engine.specs.Known.{has_failed_of}
 use Rattle.engine.specs.Language.{grammar, token_refusal}
 use Rattle.engine.specs.Shown.{ShowsIn, StepsByText, StepsByTextTo}
 use Rattle.engine.specs.declared.opening.Engine.{Engine}
+use Rattle.engine.proofs.KeptTexts.{keeps_text}
 
 -- ---- what reading a text says of it
 
@@ -148,8 +150,8 @@ module _ {D : Type 0} {g : Ghosts D} (e : Engine D g) (n : ℕ) (text : List ℕ
 
   -- executed as the statement that the text is
   pub executed : (s : Statement) (reply : Reply) (new : Connections D g) → first_refusal (has_failed_of e) n ≡ done → IsCandidate grammar text → Is text s → is_statement_within s ≡ true
-      → Steps e.connections n s reply new → StepsByText e n text reply (record e { connections = new })
+      → (KeepsItsText s → Steps e.connections n s reply new) → StepsByText e n text reply (record e { connections = new })
   executed s reply new is stands reads within steps m shows =
       let served = served_for e.connections m n is shows in
-      let to = steps m shows in
+      let to = steps (keeps_text text s reads within (short_text text stands.0)) m shows in
       record { next = to.next; step = inr (inr (served.0, served.1, inr (inr (stands, s, reads, within, to.step)))); shown = to.shown }

@@ -1,5 +1,5 @@
 -- The grammar of SQL, as the definitions of steps by texts and of files take it.
-use Rattle.std.specs.Prelude.{◌≡◌, ◌≤◌, not, ℕ, true, false, List, length, [], ◌++◌, filter, Option, Some, None, Result, Ok, Err}
+use Rattle.std.specs.Prelude.{◌≡◌, not, ℕ, true, false, List, [], ◌++◌, filter, Option, Some, None, Result, Ok, Err}
 use Rattle.lexer.specs.Cut.{Cuts}
 use Rattle.lexer.specs.Lex.{Lexed, tokens}
 use Rattle.sqlval.specs.Names.{is_same_name}
@@ -8,15 +8,14 @@ use Rattle.sqlval.specs.declared.fault.Fault.{Fault}
 use Rattle.sqlval.specs.declared.fault.Fault.TheVariants as fault
 use Rattle.syntax.specs.declared.create.NewObject.{NewObject}
 use Rattle.syntax.specs.declared.create.NewObject.TheVariants as object
-use Rattle.syntax.specs.declared.statement.Statement.TheVariants as statement
 use Rattle.catalog.specs.Database.{Name, Database}
 use Rattle.bind.specs.Known.{faults}
 use Rattle.bind.specs.Schema.{create}
-use Rattle.parser.specs.NewObjects.{is_object_within}
 use Rattle.parser.specs.Parsing.{parsed_by}
 use Rattle.parser.specs.Statements.{is_statement_within}
 use Rattle.parser.specs.Texts.{Is, IsNotServed}
 use Rattle.filecheck.specs.Schema.{Language}
+use Rattle.session.specs.Schema.{IsCreateOf}
 use Rattle.session.specs.Texts.{Grammar}
 
 -- ---- texts of statements
@@ -65,17 +64,10 @@ name_of (object.Trigger t) = t.name
 abbrev others : Database → Name → Database
 others db name = filter (λ o. not (is_same_name name o.0)) db
 
--- The text, with what may stand around its tokens, is a CREATE of this object within the limits.
-pub record Creates (text : List ℕ) (made : NewObject) : Type 0 where
-  pub sql : List ℕ
-  pub is : Is text (statement.Create (record { sql = sql; object = made }))
-  pub within : is_object_within made ≡ true
-  pub short : length text ≤ 65536
-
 -- a CREATE of this object is not refused beside the others
 abbrev pub Accepts : Database → NewObject → Type 0
 Accepts db made = faults (create (others db (name_of made)) made) ≡ []
 
 -- what is known of SQL where files are read
 abbrev pub language : Language
-language = record { Creates = Creates; Accepts = Accepts }
+language = record { Creates = IsCreateOf; Accepts = Accepts }

@@ -22,6 +22,7 @@ use Rattle.session.specs.Built.{StepSoFar}
 use Rattle.session.specs.Known.{files_of, has_failed_in}
 use Rattle.session.specs.Machine.{Machine, Connection, Idle, Rows, Refused, is_writing, last_place, newest, with_connection}
 use Rattle.session.specs.Outcomes.{Gives, outcome}
+use Rattle.session.specs.Schema.{AreRowsOf}
 use Rattle.session.specs.Stored.{Stores}
 use Rattle.session.specs.Shown.{AreCommitted, FindsNoRoom, IsNewest, IsShown, IsTransaction, IsWriter, OnlyReads, ShowTheSame, StepsOn, done_reply, is_idle}
 use Rattle.session.specs.declared.transactions.Connections.{Connections}
@@ -49,6 +50,7 @@ same_stores v w tables db sized long same held = record {
     sized = held.first.sized ∙ sym sized;
     rows = held.first.rows;
     lone = held.first.lone;
+    tell = subst (λ (n : ℕ). AreRowsOf n [] tables held.first.rows) (sym long) held.first.tell;
   };
   served = subst (λ n. IsServedSize n w.size) (sym sized) (subst (IsServedSize v.page_size) (sym long) held.served);
 }

@@ -1,5 +1,5 @@
 -- What a commit of a writer's pages leaves of the database that they hold.
-use Rattle.std.proofs.Common.{◌≡◌, ◌⊎◌, ◌≤◌, ◌<◌, inl, inr, refl, sym, ap, subst, ◌∙◌, ℕ, List, length, take, false, arith}
+use Rattle.std.proofs.Common.{◌≡◌, ◌⊎◌, ◌≤◌, ◌<◌, inl, inr, refl, sym, ap, subst, ◌∙◌, ℕ, List, [], length, take, false, arith}
 use Rattle.std.specs.Prelude.{◌↔◌, Err}
 use Rattle.std.proofs.lemmas.Bool.{false≢true}
 use Rattle.disk.specs.declared.device.Disk.{Ghosts}
@@ -23,6 +23,7 @@ use Rattle.pager.specs.Writers.{IsHeaded, snapshot_of}
 use Rattle.pager.specs.declared.writer.Writer.{Writer}
 use Rattle.session.specs.Known.{files_of, has_failed_in, is_io}
 use Rattle.session.specs.Shown.{IsNewest, IsWriter, ShowTheSame}
+use Rattle.session.specs.Schema.{AreRowsOf}
 use Rattle.session.specs.Stored.{HasFirstPage, Stores}
 use Rattle.session.specs.Working.{CommitsWork, HasCommitted, IsUncommitted, WorksOn}
 use Rattle.session.specs.declared.transactions.Connections.{Connections}
@@ -31,8 +32,8 @@ use Rattle.session.proofs.Showing.{still_writer}
 -- ---- views that differ on page 1 alone
 
 -- the first page with another header, of the same page size
-first_headed : (v w : View) (was : HasFirstPage v) (page : List ℕ) (next : Header) → w.page_size ≡ v.page_size → w.size ≡ v.size → Has w 1 page → IsHeaded was.page page next → next.page_size ≡ was.header.page_size → HasFirstPage w
-first_headed v w was page next sized long has headed same = record {
+first_headed : (v w : View) (tables : List Table) (was : HasFirstPage v tables) (page : List ℕ) (next : Header) → w.page_size ≡ v.page_size → w.size ≡ v.size → Has w 1 page → IsHeaded was.page page next → next.page_size ≡ was.header.page_size → HasFirstPage w tables
+first_headed v w tables was page next sized long has headed same = record {
   page = page;
   there = record { first = was.there.first; last = omega (arith, was.there.last, long); has = has };
   header = next;
@@ -40,11 +41,12 @@ first_headed v w was page next sized long has headed same = record {
   sized = same ∙ was.sized ∙ sym sized;
   rows = was.rows;
   lone = kept_behind was.page page 1 was.rows headed.behind headed.long was.lone;
+  tell = subst (λ (n : ℕ). AreRowsOf n [] tables was.rows) (sym long) was.tell;
 }
 
 -- views of the same pages but the first hold the same
 other_first : (v w : View) (tables : List Table) (db : Database) → w.page_size ≡ v.page_size → w.size ≡ v.size → ((number : ℕ) (bytes : List ℕ) → (number ≡ 1 → ⊥) → Has w number bytes ↔ Has v number bytes)
-    → HasFirstPage w → Stores v tables db → Stores w tables db
+    → HasFirstPage w tables → Stores v tables db → Stores w tables db
 other_first v w tables db sized long same first held = record {
   rows_at = held.rows_at;
   lists = held.lists;
@@ -81,7 +83,7 @@ module _ {D : Type 0} {g : Ghosts D} where
   committed_stores old new w tables db count held is known =
       let sized = size_kept (known_of old) (known_of new) count (pages_of w) known in
       other_first (view_of old w) (newest_view new) tables db sized is.size is.others
-      (first_headed (view_of old w) (newest_view new) held.first is.first is.next sized is.size is.has_first is.headed is.next_is.page_size) held
+      (first_headed (view_of old w) (newest_view new) tables held.first is.first is.next sized is.size is.has_first is.headed is.next_is.page_size) held
 
   pub has_committed : (old new : Connections D g) (w : Writer) (db : Database) (count : ℕ) (works : WorksOn old w db) → CommitsPages (files_of old) w works.stored.first.page works.stored.first.header (files_of new)
       → known_of (files_of new) ≡ grown (known_of (files_of old)) count (pages_of w) → has_failed_in new ≡ has_failed_in old → new.transaction ≡ old.transaction → tables_of new.catalog ≡ tables_of old.catalog
@@ -120,7 +122,7 @@ module _ {D : Type 0} {g : Ghosts D} where
     stores_left : Stores (view_of (files_of old) left) (tables_of old.catalog) db
     stores_left =
         other_first (view_of (files_of old) w) (view_of (files_of old) left) (tables_of old.catalog) db refl is.size is.others
-        (first_headed (view_of (files_of old) w) (view_of (files_of old) left) works.stored.first is.first works.stored.first.header refl is.size is.has_first is.headed refl) works.stored
+        (first_headed (view_of (files_of old) w) (view_of (files_of old) left) (tables_of old.catalog) works.stored.first is.first works.stored.first.header refl is.size is.has_first is.headed refl) works.stored
 
     works_left : ShowTheSame (files_of old) (files_of new) → new.catalog ≡ old.catalog → WorksOn new left db
     works_left same catalog = record {

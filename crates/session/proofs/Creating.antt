@@ -22,6 +22,7 @@ use Rattle.syntax.specs.declared.create.NewObject.TheVariants as object
 use Rattle.syntax.specs.declared.create.TableDefinition.{TableDefinition}
 use Rattle.syntax.specs.declared.statement.Statement.{Statement}
 use Rattle.syntax.specs.declared.statement.Statement.TheVariants as statement
+use Rattle.record.specs.Record.{IsRecord}
 use Rattle.page.specs.Leaf.{Entry, IsTableLeaf}
 use Rattle.page.specs.Writing.{Fits}
 use Rattle.tabletree.specs.Cells.{start_of}
@@ -49,15 +50,18 @@ use Rattle.pager.specs.Writers.{AreObjectPages, IsUnchanged, IsWhole, Puts, seen
 use Rattle.pager.specs.declared.writer.Writer.{Writer}
 use Rattle.pager.proofs.HeaderFronts.{header_moves}
 use Rattle.pager.proofs.Seeing.{first_not_missing, whole_same}
+use Rattle.session.specs.Built.{is_table_built}
 use Rattle.session.specs.Known.{files_of}
 use Rattle.session.specs.NewTables.{IsListedBehind, IsMadeBeside, IsNewTableFault, IsRowFault, schema_row}
 use Rattle.session.specs.Outcomes.{of_known}
+use Rattle.session.specs.Schema.{AreRowsOf, IsCreateOf, IsRowOf}
 use Rattle.session.specs.Shown.{IsNewest, IsWriter}
 use Rattle.session.specs.Stored.{AreApart, IsStored, Stores}
 use Rattle.session.specs.Working.{HasWorked, IsUnworked, IsWorkRefusal, KeepsCommitted, Reaches, RefusesWith, Works, WorksOn, work_of}
 use Rattle.session.specs.declared.transactions.Connections.{Connections}
 use Rattle.session.proofs.SeenPages.{one_page}
 use Rattle.session.proofs.Showing.{the_same}
+use Rattle.session.proofs.Telling.{more_pages, one_row_more}
 
 -- ---- sizes
 
@@ -154,8 +158,10 @@ pub record Creates (view : View) (old new : Writer) (tables : List Table) (db : 
   pub past : IsOnePast (pages_of old) view.page_size root.number
   pub first : schema.number ≡ 1
   pub front : take 100 held.first.page ≡ take 100 schema.bytes.items
-  pub values : List Value
-  pub listed : IsListedBehind schema.bytes.items held.first.rows values
+  pub sql : List ℕ
+  pub text : IsCreateOf sql (object.Table d)
+  pub plain : is_table_built d ≡ true
+  pub listed : IsListedBehind schema.bytes.items held.first.rows (schema_row d.name root.number sql)
   pub empty : IsTableLeaf root.bytes.items 0 []
   pub puts : Puts (schema ∷ root ∷ []) old new
 
@@ -242,6 +248,21 @@ module _ (view : View) (old new : Writer) (tables : List Table) (db : Database) 
     ]
   ]
 
+  new_row : IsRowOf (pages_of new) tables t c.listed.entry
+  new_row = record {
+    sql = c.sql;
+    definition = d;
+    creates = c.text;
+    built = c.plain;
+    made = subst (λ (n : ℕ). IsMadeBeside tables d n t) (sym c.made.root_is) c.made;
+    above = above_first;
+    within = omega (arith, c.made.root_is, c.past.is, grown_to);
+    row_is = subst (λ (n : ℕ). IsRecord c.listed.entry.payload (schema_row d.name n c.sql)) (sym c.made.root_is) c.listed.is;
+  }
+
+  told_more : AreRowsOf (pages_of new) [] (tables ++ t ∷ []) (c.held.first.rows ++ c.listed.entry ∷ [])
+  told_more = one_row_more (pages_of new) [] tables c.held.first.rows t c.listed.entry (more_pages (pages_of old) (pages_of new) (omega (arith, grown_to)) [] tables c.held.first.rows c.held.first.tell) new_row
+
   pub stores_more : Stores (seen view new) (tables ++ t ∷ []) (with_object db d.name (ATable (plain_table t [])))
   stores_more = record {
     rows_at = rows_beside c.held.rows_at t.root;
@@ -258,6 +279,7 @@ module _ (view : View) (old new : Writer) (tables : List Table) (db : Database) 
       sized = c.held.first.sized;
       rows = c.held.first.rows ++ c.listed.entry ∷ [];
       lone = c.listed.lone;
+      tell = told_more;
     };
     served = subst (IsServedSize view.page_size) (c.past.is ∙ sym grown_to) c.past.served;
   }
@@ -348,8 +370,10 @@ module _ {D : Type 0} {g : Ghosts D} where
       pub past : Ok root.number ≡ one_more (pages_of w) (page_size_of w)
       pub made : IsMadeBeside (tables_of c.catalog) d root.number t
       pub first : schema.number ≡ 1
-      pub values : List Value
-      pub listed : (entries : List Entry) → IsLone page 1 entries → IsListedBehind schema.bytes.items entries values
+      pub sql : List ℕ
+      pub text : IsCreateOf sql (object.Table d)
+      pub plain : is_table_built d ≡ true
+      pub listed : (entries : List Entry) → IsLone page 1 entries → IsListedBehind schema.bytes.items entries (schema_row d.name root.number sql)
       pub size : length schema.bytes.items ≡ length page
       pub front : take 100 schema.bytes.items ≡ take 100 page
       pub empty : IsTableLeaf root.bytes.items 0 []
@@ -378,7 +402,9 @@ module _ {D : Type 0} {g : Ghosts D} where
             past = subst (λ (n : ℕ). IsOnePast (pages_of w) n root.number) works.writer.page_size one_more_page;
             first = m.first;
             front = ap (take 100) (sym same) ∙ sym m.front;
-            values = m.values;
+            sql = m.sql;
+            text = m.text;
+            plain = m.plain;
             listed = m.listed works.stored.first.rows (subst (λ (p : List ℕ). IsLone p 1 works.stored.first.rows) (sym same) works.stored.first.lone);
             empty = m.empty;
             puts = puts;

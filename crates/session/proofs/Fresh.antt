@@ -25,7 +25,7 @@ all_idle zero = tt
 all_idle (suc n) = (refl, all_idle n)
 
 -- pages whose first is there hold no tables
-pub nothing_stored : (view : View) → HasFirstPage view → IsServedSize view.page_size view.size → Stores view [] []
+pub nothing_stored : (view : View) → HasFirstPage view [] → IsServedSize view.page_size view.size → Stores view [] []
 nothing_stored view first served = record {
   rows_at = λ root. [];
   lists = λ name. refl;

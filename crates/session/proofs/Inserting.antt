@@ -45,6 +45,7 @@ use Rattle.pager.specs.Writers.{IsWhole, Puts, seen, snapshot_of}
 use Rattle.pager.specs.declared.writer.Writer.{Writer}
 use Rattle.session.specs.Outcomes.{of_answer}
 use Rattle.session.specs.Shown.{IsWriter}
+use Rattle.session.specs.Schema.{AreRowsOf}
 use Rattle.session.specs.Stored.{IsStored, Stores}
 use Rattle.session.specs.Working.{Reaches, RefusesWith, work_of}
 use Rattle.session.specs.declared.transactions.Transaction.TheVariants as transaction
@@ -116,6 +117,7 @@ stores_put view old new tables db made page name t added held puts named at hold
     sized = held.first.sized;
     rows = held.first.rows;
     lone = held.first.lone;
+    tell = subst (λ (n : ℕ). AreRowsOf n [] tables held.first.rows) (sym size) held.first.tell;
   };
   served = subst (IsServedSize view.page_size) (sym size) held.served;
 }

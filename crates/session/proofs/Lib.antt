@@ -20,3 +20,5 @@ pub mod Inserting
 pub mod InsertWorks
 pub mod Executing
 pub mod Fresh
+pub mod Telling
+pub mod SameTables

@@ -10,4 +10,6 @@ pub mod Known
 pub mod Limits
 pub mod Shown
 pub mod Stored
+pub mod Schema
+pub mod Holding
 pub mod Working

@@ -1,5 +1,5 @@
 -- Which database the pages that are seen hold, while each table is on one page.
-use Rattle.std.specs.Prelude.{◌≡◌, ◌⊎◌, ◌<◌, ◌+◌, ℕ, true, List, ◌++◌, length, Some}
+use Rattle.std.specs.Prelude.{◌≡◌, ◌⊎◌, ◌<◌, ◌+◌, ℕ, true, List, [], ◌++◌, length, Some}
 use Rattle.sqlval.specs.Names.{folded}
 use Rattle.sqlval.specs.declared.fault.Fault.{Fault}
 use Rattle.dbheader.specs.Header.{IsHeader}
@@ -20,6 +20,7 @@ use Rattle.rowprog.specs.Rows.{Holds, TableRow}
 use Rattle.dml.specs.Inserting.{FindNoRoom}
 use Rattle.pager.specs.Views.{View, IsPage}
 use Rattle.session.specs.NewTables.{HasRoomBehind, schema_row}
+use Rattle.session.specs.Schema.{AreRowsOf}
 
 -- the table's page holds these rows
 pub record IsStored (view : View) (rows_at : ℕ → List TableRow) (table : Table) : Type 0 where
@@ -28,8 +29,8 @@ pub record IsStored (view : View) (rows_at : ℕ → List TableRow) (table : Tab
   pub there : IsPage view table.root page
   pub holds : Holds page table.root (length table.columns.items) (rows_at table.root)
 
--- Page 1 begins with a header that says the size of the view's pages, and behind it is a leaf of rows.
-pub record HasFirstPage (view : View) : Type 0 where
+-- Page 1 begins with a header that says the size of the view's pages, and behind it is a leaf of rows, which tell the tables.
+pub record HasFirstPage (view : View) (tables : List Table) : Type 0 where
   pub page : List ℕ
   pub there : IsPage view 1 page
   pub header : Header
@@ -37,6 +38,7 @@ pub record HasFirstPage (view : View) : Type 0 where
   pub sized : header.page_size ≡ view.page_size
   pub rows : List Entry
   pub lone : IsLone page 1 rows
+  pub tell : AreRowsOf view.size [] tables rows
 
 -- two of the tables that begin at one page are one table
 abbrev pub AreApart : List Table → Type 0
@@ -50,7 +52,7 @@ pub record Stores (view : View) (tables : List Table) (db : Database) : Type 0 w
   pub once : AreOnce tables
   pub apart : AreApart tables
   pub each : (name : Name) (t : Table) → table_named name tables ≡ Some t → IsStored view rows_at t
-  pub first : HasFirstPage view
+  pub first : HasFirstPage view tables
   pub served : IsServedSize view.page_size view.size
 
 -- A listed table has rows in the database that find no room behind those on its page.

@@ -8,6 +8,7 @@ ghost use Rattle.pager.specs.Limits.{page_size_of};
 ghost use Rattle.pager.specs.Views.{Has, IsPage, Tells, newest_view, view_at};
 ghost use Rattle.rowprog.specs.Rows.{Holds, TableRow, answers_of};
 ghost use Rattle.session.specs.Shown.{AnswersOrFails, AnswersRead, IsWriter, ShowTheSame};
+ghost use Rattle.session.specs.Schema.{IsCreateOf, KeepsItsText};
 ghost use Rattle.session.specs.Stored.{Stores};
 ghost use Rattle.session.specs.Built.{is_query_built};
 ghost use Rattle.session.specs.Outcomes.{read_on};
@@ -201,8 +202,8 @@ impl<D: Disk + Drop> Connections<D> {
         // What isn't served yet, a form or a connection, is refused as such, and changes nothing.
         ensures unbuilt { first_refusal (has_failed_in self.old) connection ≡ Ok tt → IsFalse (forms.is_built statement.now && forms.is_served connection) → IsUnserved result × (self.new ≡ self.old) }
         ensures reason { HasReason (may_be_full statement.now) result (files_of self.old) (files_of self.new) }
-        // The reply is a step of each machine that was shown, and the machine behind the step is shown.
-        ensures step { Steps self.old connection statement.now (rows_reply result) self.new }
+        // The reply is a step of each machine that was shown, and the machine behind the step is shown; a CREATE has the text of itself.
+        ensures step { KeepsItsText statement.now → Steps self.old connection statement.now (rows_reply result) self.new }
     {
         self.check(connection)?;
         if !is_built(statement) {
@@ -217,7 +218,7 @@ impl<D: Disk + Drop> Connections<D> {
     /// Executes a statement of the first connection.
     fn serve(&mut self, statement: &Statement) -> R<Rows>
         ensures reason { HasReason (may_be_full statement.now) result (files_of self.old) (files_of self.new) }
-        ensures step { forms.is_built statement.now ≡ true → StepsOn self.old statement.now (rows_reply result) self.new }
+        ensures step { forms.is_built statement.now ≡ true → KeepsItsText statement.now → StepsOn self.old statement.now (rows_reply result) self.new }
     {
         if let Statement::Select(query) = statement {
             return self.select(query);
@@ -229,7 +230,7 @@ impl<D: Disk + Drop> Connections<D> {
     /// Executes a statement that answers no rows.
     fn change(&mut self, statement: &Statement) -> R<()>
         ensures reason { HasReason (may_be_full statement.now) result (files_of self.old) (files_of self.new) }
-        ensures step { forms.is_built statement.now ≡ true → forms.is_query statement.now ≡ false → StepsOn self.old statement.now (done_reply result) self.new }
+        ensures step { forms.is_built statement.now ≡ true → KeepsItsText statement.now → forms.is_query statement.now ≡ false → StepsOn self.old statement.now (done_reply result) self.new }
     {
         match statement {
             Statement::Begin(mode) => self.begin(*mode),
@@ -409,7 +410,7 @@ impl<D: Disk + Drop> Connections<D> {
     /// Changes the database in a transaction of its own, or in the one that goes on.
     fn write(&mut self, write: Write<'_>) -> R<()>
         ensures reason { HasReason true result (files_of self.old) (files_of self.new) }
-        ensures step { forms.is_built (written write.entry) ≡ true → StepsOn self.old (written write.entry) (done_reply result) self.new }
+        ensures step { forms.is_built (written write.entry) ≡ true → KeepsItsText (written write.entry) → StepsOn self.old (written write.entry) (done_reply result) self.new }
     {
         match mem::replace(&mut self.transaction, Transaction::Idle) {
             Transaction::Idle => self.write_alone(write),
@@ -421,7 +422,7 @@ impl<D: Disk + Drop> Connections<D> {
     /// Changes the database of a transaction that has written, which was taken out.
     fn write_on(&mut self, writer: Writer, write: Write<'_>) -> R<()>
         ensures reason { HasReason true result (files_of self.old) (files_of self.new) }
-        ensures step { forms.is_built (written write.entry) ≡ true → StepsOn (with_transaction self.old (transaction.Writing writer)) (written write.entry) (done_reply result) self.new }
+        ensures step { forms.is_built (written write.entry) ≡ true → KeepsItsText (written write.entry) → StepsOn (with_transaction self.old (transaction.Writing writer)) (written write.entry) (done_reply result) self.new }
     {
         let mut writer = writer;
         let result = self.apply(&mut writer, write);
@@ -432,7 +433,7 @@ impl<D: Disk + Drop> Connections<D> {
     /// Changes the database of a transaction that hasn't written yet, which was taken out.
     fn write_reading(&mut self, reading: Transaction, write: Write<'_>) -> R<()>
         ensures reason { HasReason true result (files_of self.old) (files_of self.new) }
-        ensures step { forms.is_built (written write.entry) ≡ true → is_reading reading ≡ true → StepsOn (with_transaction self.old reading) (written write.entry) (done_reply result) self.new }
+        ensures step { forms.is_built (written write.entry) ≡ true → KeepsItsText (written write.entry) → is_reading reading ≡ true → StepsOn (with_transaction self.old reading) (written write.entry) (done_reply result) self.new }
     {
         self.transaction = reading;
         self.write_first(write)
@@ -440,7 +441,7 @@ impl<D: Disk + Drop> Connections<D> {
 
     fn write_alone(&mut self, write: Write<'_>) -> R<()>
         ensures reason { HasReason true result (files_of self.old) (files_of self.new) }
-        ensures step { forms.is_built (written write.entry) ≡ true → is_idle self.old.transaction ≡ true → StepsOn self.old (written write.entry) (done_reply result) self.new }
+        ensures step { forms.is_built (written write.entry) ≡ true → KeepsItsText (written write.entry) → is_idle self.old.transaction ≡ true → StepsOn self.old (written write.entry) (done_reply result) self.new }
     {
         let newest = self.log.begin();
         let mut writer = Writer::begin(self.alloc, &mut self.log, newest)?;
@@ -466,7 +467,7 @@ impl<D: Disk + Drop> Connections<D> {
     /// The first change of a transaction takes the write right.
     fn write_first(&mut self, write: Write<'_>) -> R<()>
         ensures reason { HasReason true result (files_of self.old) (files_of self.new) }
-        ensures step { forms.is_built (written write.entry) ≡ true → is_reading self.old.transaction ≡ true → StepsOn self.old (written write.entry) (done_reply result) self.new }
+        ensures step { forms.is_built (written write.entry) ≡ true → KeepsItsText (written write.entry) → is_reading self.old.transaction ≡ true → StepsOn self.old (written write.entry) (done_reply result) self.new }
     {
         let snapshot = self.snapshot();
         let mut writer = Writer::begin(self.alloc, &mut self.log, snapshot)?;
@@ -477,7 +478,7 @@ impl<D: Disk + Drop> Connections<D> {
 
     fn apply(&mut self, writer: &mut Writer, write: Write<'_>) -> R<()>
         ensures reason { HasReason true result (files_of self.old) (files_of self.new) }
-        ensures works { (db : Database) → forms.is_built (written write.entry) ≡ true → WorksOn self.old writer.old db → Works (written write.entry) self.old writer.old db result self.new writer.new }
+        ensures works { (db : Database) → forms.is_built (written write.entry) ≡ true → KeepsItsText (written write.entry) → WorksOn self.old writer.old db → Works (written write.entry) self.old writer.old db result self.new writer.new }
     {
         match write {
             Write::Insert(insert) => self.insert(writer, insert),
@@ -500,7 +501,7 @@ impl<D: Disk + Drop> Connections<D> {
 
     fn create_table(&mut self, writer: &mut Writer, sql: &Text, table: &TableDefinition) -> R<()>
         ensures reason { HasReason true result (files_of self.old) (files_of self.new) }
-        ensures works { (db : Database) → forms.is_table_built table.now ≡ true → WorksOn self.old writer.old db
+        ensures works { (db : Database) → forms.is_table_built table.now ≡ true → IsCreateOf sql.now (object.Table table.now) → WorksOn self.old writer.old db
             → Works (statement.Create (record { sql = sql.now; object = object.Table table.now })) self.old writer.old db result self.new writer.new }
     {
         let Some(page) = writer.find(1) else {

@@ -1,24 +1,23 @@
 use Rattle.std.proofs.Common.{◌∙◌, refl, sym, arith}
 use Rattle.wal.specs.declared.pages.PageImage.{PageImage}
-use Rattle.session.specs.NewTables.{schema_row}
 use Rattle.session.proofs.Creating.{creating, not_missing, object_pages, one_past, refused_first, table_put, table_taken_back, why_no_page, why_unmade, HasMade}
 use Rattle.session.proofs.transactions.Connections.create_table.Goals as goal
 
 pub returns-in_default-clause-works : goal.returns-in_default-clause-works
-returns-in_default-clause-works g c db built works = absurd (not_missing c.args.self.now c.args.writer.now db works (c.in_default.ensures.none works.writer.whole))
+returns-in_default-clause-works g c db built text works = absurd (not_missing c.args.self.now c.args.writer.now db works (c.in_default.ensures.none works.writer.whole))
 
 pub returns-in_err-made-clause-works : goal.returns-in_err-made-clause-works
-returns-in_err-made-clause-works g c db built works =
+returns-in_err-made-clause-works g c db built text works =
     refused_first (creating c.args.sql.now c.args.table.now) c.args.self.now c.args.writer.now db c.from_residual-in_err-made.result c.in_err-made.field-0.0 c.from_residual-in_err-made.ensures.1 works
     (why_unmade c.args.self.now c.args.writer.now db works c.args.sql.now c.args.table.now c.in-Some.page.now c.in_ok-root.root c.in_err-made.field-0.0 built (c.in-Some.ensures.shown works.writer.whole) (one_past _ _ c.in_ok-root.root c.in_ok-root.ensures).is c.in_err-made.ensures.why)
 
 pub returns-in_err-bytes-clause-works : goal.returns-in_err-bytes-clause-works
-returns-in_err-bytes-clause-works g c db built works =
+returns-in_err-bytes-clause-works g c db built text works =
     refused_first (creating c.args.sql.now c.args.table.now) c.args.self.now c.args.writer.now db c.from_residual-in_err-bytes.result c.in_err-bytes.field-0.0 c.from_residual-in_err-bytes.ensures.1 works
     (why_no_page c.args.self.now c.args.writer.now db works (creating c.args.sql.now c.args.table.now) c.in-Some.page.now c.len.result c.in_err-bytes.field-0.0 c.in-Some.ensures.found (omega (arith, c.len.ensures, c.in_ok-made.made.schema.ok, c.in_ok-made.ensures.size)) c.in_err-bytes.ensures.refused)
 
 pub returns-then-is_err-clause-works : goal.returns-then-is_err-clause-works
-returns-then-is_err-clause-works g c db built works =
+returns-then-is_err-clause-works g c db built text works =
     let self = c.args.self.now in
     let writer = c.args.writer.now in
     let schema : PageImage = record { number = 1; bytes = c.in_ok-made.made.schema } in
@@ -32,7 +31,9 @@ returns-then-is_err-clause-works g c db built works =
       past = c.in_ok-root.ensures;
       made = c.in_ok-made.ensures.made;
       first = refl;
-      values = schema_row c.args.table.now.name c.in_ok-root.root c.args.sql.now;
+      sql = c.args.sql.now;
+      text = text;
+      plain = built;
       listed = c.in_ok-made.ensures.listed;
       size = c.in_ok-made.ensures.size;
       front = c.in_ok-made.ensures.front;
@@ -44,7 +45,7 @@ returns-then-is_err-clause-works g c db built works =
     (c.put_object-result.ensures.unchanged works.writer.whole (object_pages self writer db works c.args.table.now c.in_ok-made.made.table schema root made))
 
 pub returns-else-is_err-clause-works : goal.returns-else-is_err-clause-works
-returns-else-is_err-clause-works g c db built works =
+returns-else-is_err-clause-works g c db built text works =
     let self = c.args.self.now in
     let writer = c.args.writer.now in
     let schema : PageImage = record { number = 1; bytes = c.in_ok-made.made.schema } in
@@ -58,7 +59,9 @@ returns-else-is_err-clause-works g c db built works =
       past = c.in_ok-root.ensures;
       made = c.in_ok-made.ensures.made;
       first = refl;
-      values = schema_row c.args.table.now.name c.in_ok-root.root c.args.sql.now;
+      sql = c.args.sql.now;
+      text = text;
+      plain = built;
       listed = c.in_ok-made.ensures.listed;
       size = c.in_ok-made.ensures.size;
       front = c.in_ok-made.ensures.front;

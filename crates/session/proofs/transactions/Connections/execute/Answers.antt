@@ -6,14 +6,14 @@ use Rattle.session.proofs.Selecting.{refused_reply}
 use Rattle.session.proofs.transactions.Connections.execute.Goals as goal
 
 pub returns-in_err-check-clause-step : goal.returns-in_err-check-clause-step
-returns-in_err-check-clause-step g c =
+returns-in_err-check-clause-step g c keeps =
     subst (λ (r : Reply). Steps c.args.self.now c.args.connection c.args.statement.now r c.args.self.now) (sym (refused_reply c.from_residual.result c.in_err-check.field-0.0 c.from_residual.ensures.1))
     (refused_first c.args.self.now c.args.connection c.args.statement.now c.in_err-check.field-0.0 (sym c.in_err-check.ensures))
 
 pub returns-clause-step : goal.returns-clause-step
-returns-clause-step g c =
+returns-clause-step g c keeps =
     let first = sym c.in_ok-check.ensures in
     let one : c.args.connection ≡ 1 = c.if-connection-ne1.false in
     subst (λ (n : ℕ). Steps c.args.self.now n c.args.statement.now (rows_reply c.serve.result) c.serve.new.self) (sym one)
     (steps_from c.args.self.now c.serve.new.self c.args.statement.now (rows_reply c.serve.result) (done_built c.args.self.now c.args.connection one first)
-    (c.serve.ensures.step (sym c.if-not-is_built.ensures)))
+    (c.serve.ensures.step (sym c.if-not-is_built.ensures) keeps))

@@ -10,16 +10,16 @@ use Rattle.session.proofs.Executing.{no_query, refused_as}
 use Rattle.session.proofs.transactions.Connections.serve.Goals as goal
 
 pub returns-in-Select-clause-step : goal.returns-in-Select-clause-step
-returns-in-Select-clause-step g c built =
+returns-in-Select-clause-step g c built keeps =
     subst (λ (s : Statement). StepsOn c.args.self.now s (rows_reply c.select.result) c.select.new.self) (sym c.in-Select.is)
     (c.select.ensures.step (subst (λ (s : Statement). is_built s ≡ true) c.in-Select.is built))
 
 pub returns-in_err-change-clause-step : goal.returns-in_err-change-clause-step
-returns-in_err-change-clause-step g c built =
+returns-in_err-change-clause-step g c built keeps =
     subst (λ (r : Reply). StepsOn c.args.self.now c.args.statement.now r c.change.new.self) (sym (refused_as c.from_residual.result c.in_err-change.field-0.0 c.from_residual.ensures.1))
-    (c.in_err-change.ensures.step built (no_query c.args.statement.now c.in_default.not-Select))
+    (c.in_err-change.ensures.step built keeps (no_query c.args.statement.now c.in_default.not-Select))
 
 pub returns-clause-step : goal.returns-clause-step
-returns-clause-step g c built =
+returns-clause-step g c built keeps =
     subst (λ (rows : List (SmallVec Value)). StepsOn c.args.self.now c.args.statement.now (Rows (map values_of rows)) c.change.new.self) (sym c.new.ensures.items)
-    (c.in_ok-change.ensures.step built (no_query c.args.statement.now c.in_default.not-Select))
+    (c.in_ok-change.ensures.step built keeps (no_query c.args.statement.now c.in_default.not-Select))

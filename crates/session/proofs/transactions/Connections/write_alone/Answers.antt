@@ -10,7 +10,7 @@ use Rattle.session.proofs.Writing.{begun_refused, ended_alone, not_begun, opens_
 use Rattle.session.proofs.transactions.Connections.write_alone.Goals as goal
 
 pub returns-in_err-writer-clause-step : goal.returns-in_err-writer-clause-step
-returns-in_err-writer-clause-step g c built idle m shown =
+returns-in_err-writer-clause-step g c built keeps idle m shown =
     let old = c.args.self.now in
     let new = record c.args.self.now { log = c.begin.new.log } in
     let kept = c.in_err-writer.ensures.kept in
@@ -20,7 +20,7 @@ returns-in_err-writer-clause-step g c built idle m shown =
     alone (λ m shown. opens_alone old m shown c.args.write old.transaction refl idle shown.transaction) m shown)
 
 pub returns-in_err-apply-clause-step : goal.returns-in_err-apply-clause-step
-returns-in_err-apply-clause-step g c built idle m shown =
+returns-in_err-apply-clause-step g c built keeps idle m shown =
     let old = c.args.self.now in
     let mid = record c.args.self.now { log = c.begin.new.log } in
     let kept = c.in_ok-writer.ensures.kept in
@@ -35,10 +35,10 @@ returns-in_err-apply-clause-step g c built idle m shown =
       newest = newest;
       begun = c.in_ok-writer.ensures.begun shown.told (omega (arith, newest.seen)) (omega (arith, (first_there old m shown c.begin-newest.result newest).last));
     }))
-    (λ db works. c.in_err-apply.ensures.works db built works) alone (λ m shown. opens_alone old m shown c.args.write old.transaction refl idle shown.transaction) m shown)
+    (λ db works. c.in_err-apply.ensures.works db built keeps works) alone (λ m shown. opens_alone old m shown c.args.write old.transaction refl idle shown.transaction) m shown)
 
 pub returns-clause-step : goal.returns-clause-step
-returns-clause-step g c built idle =
+returns-clause-step g c built keeps idle =
     let old = c.args.self.now in
     let mid = record c.args.self.now { log = c.begin.new.log } in
     let kept = c.in_ok-writer.ensures.kept in
@@ -52,4 +52,4 @@ returns-clause-step g c built idle =
       newest = newest;
       begun = c.in_ok-writer.ensures.begun shown.told (omega (arith, newest.seen)) (omega (arith, (first_there old m shown c.begin-newest.result newest).last));
     }))
-    (λ db works. c.in_ok-apply.ensures.works db built works) (λ db whole works. c.commit_alone.ensures.ends db whole works)
+    (λ db works. c.in_ok-apply.ensures.works db built keeps works) (λ db whole works. c.commit_alone.ensures.ends db whole works)

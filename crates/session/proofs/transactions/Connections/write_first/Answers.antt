@@ -9,7 +9,7 @@ use Rattle.session.proofs.Writing.{begun_refused, begun_writes, not_begun, opens
 use Rattle.session.proofs.transactions.Connections.write_first.Goals as goal
 
 pub returns-in_err-writer-clause-step : goal.returns-in_err-writer-clause-step
-returns-in_err-writer-clause-step g c built reads m shown =
+returns-in_err-writer-clause-step g c built keeps reads m shown =
     let old = c.args.self.now in
     let new = record c.args.self.now { log = c.begin.new.log } in
     let kept = c.in_err-writer.ensures.kept in
@@ -19,7 +19,7 @@ returns-in_err-writer-clause-step g c built reads m shown =
     in_transaction (λ m shown. opens_reading old m shown c.args.write old.transaction refl reads shown.transaction) m shown)
 
 pub returns-in_err-apply-clause-step : goal.returns-in_err-apply-clause-step
-returns-in_err-apply-clause-step g c built reads m shown =
+returns-in_err-apply-clause-step g c built keeps reads m shown =
     let old = c.args.self.now in
     let mid = record c.args.self.now { log = c.begin.new.log } in
     let kept = c.in_ok-writer.ensures.kept in
@@ -34,10 +34,10 @@ returns-in_err-apply-clause-step g c built reads m shown =
       newest = newest;
       begun = c.in_ok-writer.ensures.begun shown.told (omega (arith, newest.seen)) (omega (arith, (first_there old m shown c.snapshot-snapshot.result newest).last));
     }))
-    (λ db works. c.in_err-apply.ensures.works db built works) in_transaction (λ m shown. opens_reading old m shown c.args.write old.transaction refl reads shown.transaction) m shown)
+    (λ db works. c.in_err-apply.ensures.works db built keeps works) in_transaction (λ m shown. opens_reading old m shown c.args.write old.transaction refl reads shown.transaction) m shown)
 
 pub returns-clause-step : goal.returns-clause-step
-returns-clause-step g c built reads =
+returns-clause-step g c built keeps reads =
     let old = c.args.self.now in
     let mid = record c.args.self.now { log = c.begin.new.log } in
     let kept = c.in_ok-writer.ensures.kept in
@@ -51,4 +51,4 @@ returns-clause-step g c built reads =
       newest = newest;
       begun = c.in_ok-writer.ensures.begun shown.told (omega (arith, newest.seen)) (omega (arith, (first_there old m shown c.snapshot-snapshot.result newest).last));
     }))
-    (λ db works. c.in_ok-apply.ensures.works db built works)
+    (λ db works. c.in_ok-apply.ensures.works db built keeps works)

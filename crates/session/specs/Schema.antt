@@ -1,0 +1,59 @@
+-- What the rows of page 1 tell of the tables: each has the text of a CREATE TABLE (Database File Format, "Storage Of The SQL
+-- Database Schema").
+use Rattle.std.specs.Prelude.{◌≡◌, ◌<◌, ◌≤◌, ⊤, true, ℕ, List, [], ◌∷◌, ◌++◌, length}
+use Rattle.record.specs.Record.{IsRecord}
+use Rattle.page.specs.Leaf.{Entry}
+use Rattle.syntax.specs.declared.create.NewObject.{NewObject}
+use Rattle.syntax.specs.declared.create.NewObject.TheVariants as new
+use Rattle.syntax.specs.declared.create.TableDefinition.{TableDefinition}
+use Rattle.syntax.specs.declared.statement.Statement.{Statement}
+use Rattle.syntax.specs.declared.statement.Statement.TheVariants as statement
+use Rattle.catalog.specs.declared.tables.Table.{Table}
+use Rattle.parser.specs.NewObjects.{is_object_within}
+use Rattle.parser.specs.Texts.{Is}
+use Rattle.session.specs.Built.{is_table_built}
+use Rattle.session.specs.NewTables.{IsMadeBeside, schema_row}
+
+-- The text, with what may stand around its tokens, is a CREATE of this object within the limits.
+pub record IsCreateOf (text : List ℕ) (made : NewObject) : Type 0 where
+  pub sql : List ℕ
+  pub is : Is text (statement.Create (record { sql = sql; object = made }))
+  pub within : is_object_within made ≡ true
+  pub short : length text ≤ 65536
+
+-- the text that a CREATE keeps is one of what it makes
+abbrev pub KeepsItsText : Statement → Type 0
+KeepsItsText (statement.Create c) = IsCreateOf c.sql c.object
+KeepsItsText _ = ⊤
+
+-- The row tells this table: it has the text of a CREATE TABLE that is served, which makes the table beside those before it, and
+-- the page where its tree begins is one of so many.
+pub record IsRowOf (pages : ℕ) (before : List Table) (table : Table) (row : Entry) : Type 0 where
+  pub sql : List ℕ
+  pub definition : TableDefinition
+  pub creates : IsCreateOf sql (new.Table definition)
+  pub built : is_table_built definition ≡ true
+  pub made : IsMadeBeside before definition table.root table
+  pub above : 1 < table.root
+  pub within : table.root ≤ pages
+  pub row_is : IsRecord row.payload (schema_row definition.name table.root sql)
+
+-- The rows tell these tables behind those before them, one each, in a database of so many pages.
+abbrev pub AreRowsOf : ℕ → List Table → List Table → List Entry → Type 0
+AreRowsOf pages before [] [] = ⊤
+AreRowsOf pages before [] (row ∷ rows) = ⊥
+AreRowsOf pages before (table ∷ tables) [] = ⊥
+AreRowsOf pages before (table ∷ tables) (row ∷ rows) = IsRowOf pages before table row × AreRowsOf pages (before ++ table ∷ []) tables rows
+
+-- the same table: by its name, its columns, and the page where its tree begins
+pub record IsSameTable (t u : Table) : Type 0 where
+  pub name_is : u.name ≡ t.name
+  pub columns_are : u.columns.items ≡ t.columns.items
+  pub root_is : u.root ≡ t.root
+
+-- the same tables, one by one
+abbrev pub AreSameTables : List Table → List Table → Type 0
+AreSameTables [] [] = ⊤
+AreSameTables [] (u ∷ us) = ⊥
+AreSameTables (t ∷ ts) [] = ⊥
+AreSameTables (t ∷ ts) (u ∷ us) = IsSameTable t u × AreSameTables ts us
