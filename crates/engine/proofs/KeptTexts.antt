@@ -29,7 +29,7 @@ kept_is sql _ c _ (s.release t) e = absurd cc
 kept_is sql _ c _ (s.checkpoint p m) e = absurd cc
 
 text_is : (sql : List ℕ) (ps : List Piece) (c : Create) (x : Statement) → IsText sql ps x → x ≡ statement.Create c → c.sql ≡ sql
-text_is sql _ c x (s.text {us = us} made said) e = kept_is sql us c x made e
+text_is sql _ c x (s.text {us = us} made closing) e = kept_is sql us c x made e
 
 cut_short : (n k : ℕ) (z : List ℕ) → length (take n (drop k z)) ≤ length z
 cut_short n k z = omega (arith, length-take n (drop k z), length-drop k z)

@@ -1,4 +1,5 @@
 pub mod EmptyOpening
+pub mod HeldOpening
 pub mod LineLaws
 pub mod LineReading
 pub mod NewFiles
@@ -7,4 +8,8 @@ pub mod Opened
 pub mod Refusing
 pub mod KeptTexts
 pub mod TextSteps
+pub mod Running
+pub mod GivenUp
 pub mod Served
+pub mod SchemaTables
+pub mod FoundPages

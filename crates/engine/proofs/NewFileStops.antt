@@ -1,5 +1,5 @@
 -- What a stop leaves while a database is made of a blank file.
-use Rattle.std.proofs.Common.{◌≡◌, ◌⊎◌, inl, inr, ◌<◌, ◌≤◌, ◌+◌, ◌-◌, ◌/◌, ◌^◌, ◌==◌, ◌&&◌, nat_lt, ℕ, zero, suc, Bool, true, false, if◌then◌else◌, List, [], ◌∷◌, ◌++◌, length, take, get_or, refl, sym, ap, subst, ◌∙◌, arith, length-append}
+use Rattle.std.proofs.Common.{◌≡◌, ◌⊎◌, inl, inr, ◌<◌, ◌≤◌, ◌+◌, ◌-◌, ◌/◌, ◌^◌, ◌==◌, ◌&&◌, nat_lt, ℕ, zero, suc, Bool, true, false, if◌then◌else◌, List, [], ◌∷◌, ◌++◌, length, get_or, refl, sym, ap, subst, ◌∙◌, arith, length-append}
 use Rattle.std.specs.Prelude.{Result, Ok, Err, OnOk, OnErr, replicate}
 use Rattle.std.specs.List.{list_all}
 use Rattle.std.proofs.Math.Nat.{pow-le-pow_right}
@@ -8,7 +8,7 @@ use Rattle.std.proofs.lemmas.Bool.Decides.{nat_tests}
 use Rattle.std.proofs.lemmas.List.{ext_get_or, get_or-replicate, get_or_past, get_or-append_right, length-replicate}
 use Rattle.dbheader.specs.Header.{IsPageSize}
 use Rattle.disk.specs.File.{Version, File, IsSynced, IsLeft, NoCutBetween, Always, whole, versions, version_at}
-use Rattle.disk.specs.Calls.{Gains, Writes, FailsToWrite, Cuts, FailsToCut, Syncs, IsTorn, write_version, cut_version, overwritten}
+use Rattle.disk.specs.Calls.{Writes, FailsToWrite, Cuts, FailsToCut, Syncs, IsTorn, write_version, cut_version, overwritten}
 use Rattle.disk.specs.Left.{left_synced, left_cut}
 use Rattle.disk.specs.Moments.{alone, stays, gains_good, after_sync, gains_versions, always_both, always_weaker}
 use Rattle.page.specs.Leaf.{leaf_header}

@@ -1,5 +1,5 @@
 -- Opening leaves of two files what they were, or a log that was cut behind its commits.
-use Rattle.std.proofs.Common.{◌≡◌, ◌⊎◌, inl, inr, ℕ, List, [], ◌∷◌, refl, sym, ap, subst, ◌∙◌, arith}
+use Rattle.std.proofs.Common.{◌≡◌, ◌⊎◌, inl, inr, ℕ, List, [], ◌∷◌, refl, sym, subst, ◌∙◌, arith}
 use Rattle.disk.specs.File.{Version, File, IsSynced, IsLeft, Always, Throughout, OnLog, whole, versions, moment}
 use Rattle.disk.specs.Left.{left_synced}
 use Rattle.disk.specs.Moments.{alone, left_more, later_moment, always_weaker, always_end, run_weaker, throughout_both}
@@ -7,7 +7,7 @@ use Rattle.walframe.specs.Written.{Framed}
 use Rattle.wal.specs.Committed.{HasCommits}
 use Rattle.wal.specs.Opens.{LeavesAsBefore}
 use Rattle.wal.specs.Stops.{LeavesCommits}
-use Rattle.engine.specs.Opening.{LeavesCut, LeavesOpened}
+use Rattle.engine.specs.Opening.{LeavesOpened}
 
 synced_is : (file : File) → IsSynced file → (c : List ℕ) → IsLeft (versions file) c → c ≡ file.content
 synced_is file synced c left = left_synced (whole file.content) c (subst (λ (vs : List Version). IsLeft vs c) (alone file synced) left)

@@ -1,10 +1,13 @@
 -- Why statements are refused: what isn't served is, and a database is full where it may be.
-use Rattle.std.proofs.Common.{◌≡◌, inl, inr, refl, sym, subst, ℕ, Bool}
-use Rattle.std.specs.Prelude.{IsTrue, Result, Ok, Err, IfOk, IfErr, IsErrAnd}
+use Rattle.std.proofs.Common.{◌≡◌, ◌⊎◌, inl, inr, refl, sym, subst, ◌∙◌, ℕ, Bool}
+use Rattle.std.specs.Prelude.{IsFalse, IsTrue, Result, Ok, Err, IfOk, IfErr, IsErrAnd}
+use Rattle.std.proofs.lemmas.Bool.{false≢true}
 use Rattle.sqlval.specs.declared.fault.Fault.{Fault}
 use Rattle.sqlval.specs.declared.fault.Fault.TheVariants.{Memory, Io, NotADatabase, Unsupported, Damaged, Full, Syntax, NoSuch, Exists, Ambiguous, Misuse, Busy, StaleSnapshot, NoTransaction, InTransaction, NoSavepoint, NotNull, Unique, Check, Raised, RealRefused, TypeRefused, RowidFull, RowidMismatch, TooLong, RowChangedBefore, ViewReadOnly, Failed, Blank}
+use Rattle.sqlval.specs.declared.fault.Damage.TheVariants as damages
+use Rattle.sqlval.specs.declared.fault.Feature.TheVariants as features
 use Rattle.session.specs.Known.{IsUnserved}
-use Rattle.wal.specs.Refusals.{IsCutRefusal}
+use Rattle.wal.specs.Refusals.{IsCutRefusal, IsOpenRefusal}
 use Rattle.wal.specs.Whys.{AreWhys, IsWhy}
 
 an_answer : {T : Type 0} (x : T) (f : Fault) → Ok x ≡ Err f → ⊥
@@ -24,34 +27,99 @@ pub on_err : {T : Type 0} (P : Fault → Type 0) (result : Result T Fault) (faul
 on_err P (Ok x) fault is holds = tt
 on_err P (Err e) fault is holds = subst P (sym is) holds
 
--- a cut of the log that was refused, but for a failed call, left the log as it was
-pub cut_kept : {D : Type 0} (old new : D) (failed fails : ℕ) (fault : Fault) → IsCutRefusal old new failed fails fault → (fault ≡ Io → ⊥) → new ≡ old
-cut_kept old new failed fails Io refusal other = absurd (other refl)
-cut_kept old new failed fails Failed refusal other = refusal
-cut_kept old new failed fails NotADatabase refusal other = absurd refusal
-cut_kept old new failed fails (Unsupported feature) refusal other = absurd refusal
-cut_kept old new failed fails (Damaged damage page) refusal other = absurd refusal
-cut_kept old new failed fails Full refusal other = absurd refusal
-cut_kept old new failed fails (Syntax at) refusal other = absurd refusal
-cut_kept old new failed fails (NoSuch kind name) refusal other = absurd refusal
-cut_kept old new failed fails (Exists name) refusal other = absurd refusal
-cut_kept old new failed fails (Ambiguous name) refusal other = absurd refusal
-cut_kept old new failed fails (Misuse misuse) refusal other = absurd refusal
-cut_kept old new failed fails Busy refusal other = absurd refusal
-cut_kept old new failed fails StaleSnapshot refusal other = absurd refusal
-cut_kept old new failed fails NoTransaction refusal other = absurd refusal
-cut_kept old new failed fails InTransaction refusal other = absurd refusal
-cut_kept old new failed fails NoSavepoint refusal other = absurd refusal
-cut_kept old new failed fails NotNull refusal other = absurd refusal
-cut_kept old new failed fails Unique refusal other = absurd refusal
-cut_kept old new failed fails Check refusal other = absurd refusal
-cut_kept old new failed fails (Raised text) refusal other = absurd refusal
-cut_kept old new failed fails RealRefused refusal other = absurd refusal
-cut_kept old new failed fails TypeRefused refusal other = absurd refusal
-cut_kept old new failed fails RowidFull refusal other = absurd refusal
-cut_kept old new failed fails RowidMismatch refusal other = absurd refusal
-cut_kept old new failed fails TooLong refusal other = absurd refusal
-cut_kept old new failed fails RowChangedBefore refusal other = absurd refusal
-cut_kept old new failed fails ViewReadOnly refusal other = absurd refusal
-cut_kept old new failed fails Blank refusal other = absurd refusal
-cut_kept old new failed fails Memory refusal other = absurd refusal
+-- a cut of the log is refused where a call fails, or one had failed before, and then it left the log as it was
+pub cut_why : {D : Type 0} (has_failed : Bool) (old new : D) (failed fails : ℕ) (fault : Fault) → IsCutRefusal has_failed old new failed fails fault → (fault ≡ Io) ⊎ (new ≡ old) × IsTrue has_failed
+cut_why has_failed old new failed fails Io refusal = inl refl
+cut_why has_failed old new failed fails Failed refusal = inr refusal
+cut_why has_failed old new failed fails NotADatabase refusal = absurd refusal
+cut_why has_failed old new failed fails (Unsupported feature) refusal = absurd refusal
+cut_why has_failed old new failed fails (Damaged damage page) refusal = absurd refusal
+cut_why has_failed old new failed fails Full refusal = absurd refusal
+cut_why has_failed old new failed fails (Syntax at) refusal = absurd refusal
+cut_why has_failed old new failed fails (NoSuch kind name) refusal = absurd refusal
+cut_why has_failed old new failed fails (Exists name) refusal = absurd refusal
+cut_why has_failed old new failed fails (Ambiguous name) refusal = absurd refusal
+cut_why has_failed old new failed fails (Misuse misuse) refusal = absurd refusal
+cut_why has_failed old new failed fails Busy refusal = absurd refusal
+cut_why has_failed old new failed fails StaleSnapshot refusal = absurd refusal
+cut_why has_failed old new failed fails NoTransaction refusal = absurd refusal
+cut_why has_failed old new failed fails InTransaction refusal = absurd refusal
+cut_why has_failed old new failed fails NoSavepoint refusal = absurd refusal
+cut_why has_failed old new failed fails NotNull refusal = absurd refusal
+cut_why has_failed old new failed fails Unique refusal = absurd refusal
+cut_why has_failed old new failed fails Check refusal = absurd refusal
+cut_why has_failed old new failed fails (Raised text) refusal = absurd refusal
+cut_why has_failed old new failed fails RealRefused refusal = absurd refusal
+cut_why has_failed old new failed fails TypeRefused refusal = absurd refusal
+cut_why has_failed old new failed fails RowidFull refusal = absurd refusal
+cut_why has_failed old new failed fails RowidMismatch refusal = absurd refusal
+cut_why has_failed old new failed fails TooLong refusal = absurd refusal
+cut_why has_failed old new failed fails RowChangedBefore refusal = absurd refusal
+cut_why has_failed old new failed fails ViewReadOnly refusal = absurd refusal
+cut_why has_failed old new failed fails Blank refusal = absurd refusal
+cut_why has_failed old new failed fails Memory refusal = absurd refusal
+
+-- a refusal but for a failed call left the log as it was
+pub cut_kept : {D : Type 0} (has_failed : Bool) (old new : D) (failed fails : ℕ) (fault : Fault) → IsCutRefusal has_failed old new failed fails fault → (fault ≡ Io → ⊥) → new ≡ old
+cut_kept has_failed old new failed fails fault refusal other = elim (cut_why has_failed old new failed fails fault refusal) [ inl io ↦ absurd (other io) | inr kept ↦ kept.0 ]
+
+-- where none had failed before, a call fails
+pub cut_failed : {D : Type 0} (has_failed : Bool) (old new : D) (failed fails : ℕ) (fault : Fault) → IsCutRefusal has_failed old new failed fails fault → IsFalse has_failed → fault ≡ Io
+cut_failed has_failed old new failed fails fault refusal whole = elim (cut_why has_failed old new failed fails fault refusal) [ inl io ↦ io | inr kept ↦ absurd (false≢true (sym whole ∙ kept.1)) ]
+
+-- files that can be opened are refused for want of memory, or where a call fails
+pub open_why : (has_called cannot : Type 0) (fault : Fault) → IsOpenRefusal has_called cannot fault → (fault ≡ Memory) ⊎ (fault ≡ Io) ⊎ cannot
+open_why has_called cannot Memory refusal = inl refl
+open_why has_called cannot Io refusal = inr (inl refl)
+open_why has_called cannot (Damaged damages.Header page) refusal = absurd refusal
+open_why has_called cannot (Damaged damages.Size page) refusal = inr (inr refusal.1)
+open_why has_called cannot (Damaged damages.MissingPage page) refusal = absurd refusal
+open_why has_called cannot (Damaged damages.Page page) refusal = absurd refusal
+open_why has_called cannot (Damaged damages.Tree page) refusal = absurd refusal
+open_why has_called cannot (Damaged damages.Overflow page) refusal = absurd refusal
+open_why has_called cannot (Damaged damages.Freelist page) refusal = absurd refusal
+open_why has_called cannot (Damaged damages.Record page) refusal = absurd refusal
+open_why has_called cannot (Damaged damages.Schema page) refusal = absurd refusal
+open_why has_called cannot (Damaged damages.Log page) refusal = inr (inr refusal.1)
+open_why has_called cannot (Unsupported features.Float) refusal = absurd refusal
+open_why has_called cannot (Unsupported features.RealColumn) refusal = absurd refusal
+open_why has_called cannot (Unsupported features.PageSize) refusal = inr (inr refusal)
+open_why has_called cannot (Unsupported features.FileVersion) refusal = absurd refusal
+open_why has_called cannot (Unsupported features.ReservedBytes) refusal = absurd refusal
+open_why has_called cannot (Unsupported features.SchemaFormat) refusal = absurd refusal
+open_why has_called cannot (Unsupported features.Encoding) refusal = absurd refusal
+open_why has_called cannot (Unsupported features.AutoVacuum) refusal = absurd refusal
+open_why has_called cannot (Unsupported features.LogFormat) refusal = inr (inr refusal)
+open_why has_called cannot (Unsupported features.PageKind) refusal = absurd refusal
+open_why has_called cannot (Unsupported features.ColumnCount) refusal = absurd refusal
+open_why has_called cannot (Unsupported features.SchemaObject) refusal = absurd refusal
+open_why has_called cannot (Unsupported features.Limit) refusal = inr (inr refusal)
+open_why has_called cannot (Unsupported features.Statement) refusal = absurd refusal
+open_why has_called cannot (Unsupported features.NotBuilt) refusal = absurd refusal
+open_why has_called cannot (Unsupported features.Connection) refusal = absurd refusal
+open_why has_called cannot (Unsupported features.RowSize) refusal = absurd refusal
+open_why has_called cannot Full refusal = absurd refusal
+open_why has_called cannot (Syntax at) refusal = absurd refusal
+open_why has_called cannot (NoSuch kind name) refusal = absurd refusal
+open_why has_called cannot (Exists name) refusal = absurd refusal
+open_why has_called cannot (Ambiguous name) refusal = absurd refusal
+open_why has_called cannot (Misuse misuse) refusal = absurd refusal
+open_why has_called cannot Busy refusal = absurd refusal
+open_why has_called cannot StaleSnapshot refusal = absurd refusal
+open_why has_called cannot NoTransaction refusal = absurd refusal
+open_why has_called cannot InTransaction refusal = absurd refusal
+open_why has_called cannot NoSavepoint refusal = absurd refusal
+open_why has_called cannot NotNull refusal = absurd refusal
+open_why has_called cannot Unique refusal = absurd refusal
+open_why has_called cannot Check refusal = absurd refusal
+open_why has_called cannot (Raised text) refusal = absurd refusal
+open_why has_called cannot RealRefused refusal = absurd refusal
+open_why has_called cannot TypeRefused refusal = absurd refusal
+open_why has_called cannot RowidFull refusal = absurd refusal
+open_why has_called cannot RowidMismatch refusal = absurd refusal
+open_why has_called cannot TooLong refusal = absurd refusal
+open_why has_called cannot RowChangedBefore refusal = absurd refusal
+open_why has_called cannot ViewReadOnly refusal = absurd refusal
+open_why has_called cannot Blank refusal = absurd refusal
+open_why has_called cannot Failed refusal = absurd refusal
+open_why has_called cannot NotADatabase refusal = absurd refusal

@@ -1,20 +1,21 @@
 -- How serving goes on, line by line.
-use Rattle.std.proofs.Common.{◌≡◌, ◌∙◌, ap, sym, refl, subst, Bool, true, false, arith, ℕ, ◌+◌, ◌<◌, ◌⊎◌, List, [], ◌∷◌, ◌++◌, length, append-nil, append_assoc, Option, Some, None, OnErr, Result, Ok, Err, inl, inr}
+use Rattle.std.proofs.Common.{◌≡◌, ◌∙◌, ap, sym, refl, subst, Bool, true, false, arith, ℕ, ◌<◌, ◌⊎◌, List, [], ◌∷◌, ◌++◌, length, append-nil, append_assoc, Option, Some, None, OnErr, Result, Ok, Err, inl, inr}
 use Rattle.std.specs.List.{AllByRecursion}
 use Rattle.std.specs.Io.KnownBytes.{Appends, Keeps}
 use Rattle.std.proofs.KnownBytes.{Appends-nil, Appends-trans, Appends-kept}
-use Rattle.std.specs.Prelude.{OnOk, Vec}
+use Rattle.std.specs.Prelude.{IfSome, OnOk, Vec}
 use Rattle.std.specs.declared.alloc.Global.{Global}
 use Rattle.smallvec.specs.SmallVec.{SmallVec}
 use Rattle.sqlval.specs.declared.fault.Fault.{Fault}
 use Rattle.sqlval.specs.declared.value.Value.{Value}
 use Rattle.session.specs.Shown.{rows_reply}
 use Rattle.disk.specs.declared.device.Disk.{Ghosts}
-use Rattle.engine.specs.Lines.{AreLines, Between, BeganWith, HasRead, HasReadLine, IsNoLineFeed, kept_of}
+use Rattle.engine.specs.Lines.{AreLines, Between, BeganWith, HasRead, HasReadLine, IsNoLineFeed}
 use Rattle.engine.specs.Output.{output_text, reply_text}
-use Rattle.engine.specs.Serving.{Answers, AnswersKept, AppendsPart, AreReplies, HasAnswered, GivesUp, HasAnsweredInPart, HasRun, HasRunInPart, HasServed, HasServedInPart, HasWritten, Reply, machine_reply}
+use Rattle.engine.specs.Serving.{Answers, AnswersKept, AppendsPart, AreReplies, BeginsWithLines, EndsWithPart, GivesUp, HasRun, HasRunInPart, HasServed, HasServedInPart, HasWritten, Reply, machine_reply}
 use Rattle.engine.specs.Replies.{reply_of}
 use Rattle.engine.specs.declared.opening.Engine.{Engine}
+use Rattle.engine.proofs.Running.{all_run}
 
 pub none_written : (a b : Option (List ℕ)) → Appends a b [] → Keeps a b
 none_written None b is = tt
@@ -109,37 +110,97 @@ pub same_reply : (result : Result (Vec (SmallVec Value) Global) Fault) → rows_
 same_reply (Ok rows) = refl
 same_reply (Err f) = refl
 
+-- Lines of the input that were read. More lines may follow, or nothing is left.
+pub record IsReadTo (lines : List (List ℕ)) (input rest : List ℕ) : Type 0 where
+  pub beginning : List ℕ
+  pub whole : input ≡ beginning ++ rest
+  pub are_lines : AreLines beginning lines
+  pub may_go_on : (rest ≡ []) ⊎ ((next : List ℕ) (more : List (List ℕ)) → AreLines next more → AreLines (beginning ++ next) (lines ++ more))
+
+abbrev pub IsBehind : List Reply → List ℕ → List ℕ → Type 0
+IsBehind replies before after = after ≡ before ++ output_text replies
+
+begins_reading : (given : Option (List ℕ)) → Between (IsReadTo []) given given
+begins_reading None = tt
+begins_reading (Some input) = record { beginning = []; whole = refl; are_lines = AreLines.no_lines; may_go_on = inr (λ next more are. are) }
+
+begins_writing : (before : Option (List ℕ)) → Between (IsBehind []) before before
+begins_writing None = tt
+begins_writing (Some b) = sym (append-nil b)
+
+read_over : (input left rest : List ℕ) (lines : List (List ℕ)) (line : List ℕ) → IsReadTo lines input left → AllByRecursion IsNoLineFeed line → BeganWith line left rest → IsReadTo (lines ++ line ∷ []) input rest
+read_over input left rest lines line has none read =
+    let to = longer_by input left rest has.beginning lines line has.whole none has.may_go_on read in
+    record { beginning = to.longer; whole = to.whole; are_lines = to.are_lines; may_go_on = to.may_go_on }
+
+reads_on : (given left rest : Option (List ℕ)) (lines : List (List ℕ)) (line : List ℕ) → Between (IsReadTo lines) given left → AllByRecursion IsNoLineFeed line → Between (BeganWith line) left rest
+    → Between (IsReadTo (lines ++ line ∷ [])) given rest
+reads_on None left rest lines line has none read = tt
+reads_on (Some i) None rest lines line has none read = absurd has
+reads_on (Some i) (Some l) None lines line has none read = absurd read
+reads_on (Some i) (Some l) (Some n) lines line has none read = read_over i l n lines line has none read
+
+writes_over : (before after further : List ℕ) (replies : List Reply) (reply : Reply) → IsBehind replies before after → further ≡ after ++ reply_text reply → IsBehind (replies ++ reply ∷ []) before further
+writes_over before after further replies reply has written =
+    written ∙ ap (λ (l : List ℕ). l ++ reply_text reply) has ∙ append_assoc before (output_text replies) (reply_text reply) ∙ ap (λ (l : List ℕ). before ++ l) (sym (text_more replies reply))
+
+writes_more : (before after further : Option (List ℕ)) (replies : List Reply) (reply : Reply) → Between (IsBehind replies) before after → Appends after further (reply_text reply)
+    → Between (IsBehind (replies ++ reply ∷ [])) before further
+writes_more None after further replies reply has written = tt
+writes_more (Some b) None further replies reply has written = absurd has
+writes_more (Some b) (Some a) None replies reply has written = absurd written
+writes_more (Some b) (Some a) (Some f) replies reply has written = writes_over b a f replies reply has written
+
+part_over : (before after further : List ℕ) (replies : List Reply) (reply : Reply) (part unwritten : List ℕ) → IsBehind replies before after → reply_text reply ≡ part ++ unwritten → further ≡ after ++ part
+    → EndsWithPart (output_text (replies ++ reply ∷ [])) before further
+part_over before after further replies reply part unwritten has text written = record {
+  part = output_text replies ++ part;
+  unwritten = unwritten;
+  is = text_more replies reply ∙ ap (λ (l : List ℕ). output_text replies ++ l) text ∙ sym (append_assoc (output_text replies) part unwritten);
+  written = written ∙ ap (λ (l : List ℕ). l ++ part) has ∙ append_assoc before (output_text replies) part;
+}
+
+writes_part : (before after further : Option (List ℕ)) (replies : List Reply) (reply : Reply) → Between (IsBehind replies) before after → AppendsPart after further (reply_text reply)
+    → Between (EndsWithPart (output_text (replies ++ reply ∷ []))) before further
+writes_part before after further replies reply has cut = by before after further has cut.written
+  where
+    by : (before after further : Option (List ℕ)) → Between (IsBehind replies) before after → Appends after further cut.part → Between (EndsWithPart (output_text (replies ++ reply ∷ []))) before further
+    by None after further h w = tt
+    by (Some b) None further h w = absurd h
+    by (Some b) (Some a) None h w = absurd w
+    by (Some b) (Some a) (Some f) h w = part_over b a f replies reply cut.part cut.unwritten h cut.is w
+
+writes_whole : (before after : Option (List ℕ)) (replies : List Reply) → Between (IsBehind replies) before after → Between (EndsWithPart (output_text replies)) before after
+writes_whole None after replies has = tt
+writes_whole (Some b) None replies has = absurd has
+writes_whole (Some b) (Some a) replies has = record { part = output_text replies; unwritten = []; is = sym (append-nil (output_text replies)); written = has }
+
+reads_part : (given left : Option (List ℕ)) (lines : List (List ℕ)) → Between (IsReadTo lines) given left → IfSome given (BeginsWithLines lines)
+reads_part None left lines has = tt
+reads_part (Some i) None lines has = absurd has
+reads_part (Some i) (Some l) lines has = record { beginning = has.beginning; unanswered = l; whole = has.whole; are_lines = has.are_lines }
+
+end_over : (input left : List ℕ) (lines : List (List ℕ)) → IsReadTo lines input left → left ≡ [] → AreLines input lines
+end_over input left lines has none = subst (λ (l : List ℕ). AreLines l lines) (sym (has.whole ∙ ap (λ (l : List ℕ). has.beginning ++ l) none ∙ append-nil has.beginning)) has.are_lines
+
+reads_end : (given left rest : Option (List ℕ)) (lines : List (List ℕ)) (kept : List ℕ) → Between (IsReadTo lines) given left → HasRead false left rest kept
+    → Between (λ input rest. (rest ≡ []) × AreLines input lines) given rest
+reads_end None left rest lines kept has read = tt
+reads_end (Some i) None rest lines kept has read = absurd has
+reads_end (Some i) (Some l) None lines kept has read = absurd read
+reads_end (Some i) (Some l) (Some n) lines kept has read = (read.1, end_over i l lines has read.0)
+
 module _ {D : Type 0} {g : Ghosts D} where
-  -- The lines of what was read, each with its reply, which is written. More lines may follow, or nothing is left.
-  pub record Served (old : Engine D g) (input rest before after : List ℕ) (now : Engine D g) : Type 0 where
-    pub beginning : List ℕ
-    pub whole : input ≡ beginning ++ rest
+  -- The lines of what was read, each with its reply, which is written.
+  pub record IsServing (old : Engine D g) (given left before after : Option (List ℕ)) (now : Engine D g) : Type 0 where
     pub lines : List (List ℕ)
     pub replies : List Reply
-    pub are_lines : AreLines beginning lines
-    pub may_go_on : (rest ≡ []) ⊎ ((next : List ℕ) (more : List (List ℕ)) → AreLines next more → AreLines (beginning ++ next) (lines ++ more))
     pub are_replies : AreReplies old lines replies now
-    pub written : after ≡ before ++ output_text replies
-
-  abbrev pub IsServing : Engine D g → Option (List ℕ) → Option (List ℕ) → Option (List ℕ) → Option (List ℕ) → Engine D g → Type 0
-  IsServing old given left before after now = Between (λ input rest. Between (λ b a. Served old input rest b a now) before after) given left
-
-  begins_over : (old : Engine D g) (input before : List ℕ) → Served old input input before before old
-  begins_over old input before = record {
-    beginning = [];
-    whole = refl;
-    lines = [];
-    replies = [];
-    are_lines = AreLines.no_lines;
-    may_go_on = inr (λ next more are. are);
-    are_replies = refl;
-    written = sym (append-nil before);
-  }
+    pub read : Between (IsReadTo lines) given left
+    pub written : Between (IsBehind replies) before after
 
   pub begins : (old : Engine D g) (given before : Option (List ℕ)) → IsServing old given given before before old
-  begins old None before = tt
-  begins old (Some input) None = tt
-  begins old (Some input) (Some before) = begins_over old input before
+  begins old given before = record { lines = []; replies = []; are_replies = refl; read = begins_reading given; written = begins_writing before }
 
   -- one more line and its reply
   one_more : (old mid new : Engine D g) (lines : List (List ℕ)) (replies : List Reply) (line : List ℕ) (reply : Reply) → AreReplies old lines replies mid → Answers mid line reply new
@@ -149,120 +210,54 @@ module _ {D : Type 0} {g : Ghosts D} where
   one_more old mid new (l ∷ ls) [] line reply are here = absurd are
   one_more old mid new (l ∷ ls) (r ∷ rs) line reply (first, answered, are) here = (first, answered, one_more first mid new ls rs line reply are here)
 
-  -- a line was read, replied to, and the reply written
-  served_over : (old mid new : Engine D g) (input left rest before after further : List ℕ) (line kept : List ℕ) (reply : Reply) → Served old input left before after mid
-      → AllByRecursion IsNoLineFeed line → BeganWith line left rest → kept ≡ kept_of line → AnswersKept mid kept reply new → further ≡ after ++ reply_text reply
-      → Served old input rest before further new
-  served_over old mid new input left rest before after further line kept reply has none read is answered written =
-      let to = longer_by input left rest has.beginning has.lines line has.whole none has.may_go_on read in
-      record {
-        beginning = to.longer;
-        whole = to.whole;
-        lines = has.lines ++ line ∷ [];
-        replies = has.replies ++ reply ∷ [];
-        are_lines = to.are_lines;
-        may_go_on = to.may_go_on;
-        are_replies = one_more old mid new has.lines has.replies line reply has.are_replies (subst (λ (k : List ℕ). AnswersKept mid k reply new) is answered);
-        written = written ∙ ap (λ (l : List ℕ). l ++ reply_text reply) has.written ∙ append_assoc before (output_text has.replies) (reply_text reply)
-            ∙ ap (λ (l : List ℕ). before ++ l) (sym (text_more has.replies reply));
-      }
+  -- the replies with that to the line that was read
+  replied : (old mid new : Engine D g) (lines : List (List ℕ)) (replies : List Reply) (left rest : Option (List ℕ)) (kept : List ℕ) (reply : Reply) → AreReplies old lines replies mid → (read : HasReadLine left rest kept)
+      → AnswersKept mid kept reply new → AreReplies old (lines ++ read.line ∷ []) (replies ++ reply ∷ []) new
+  replied old mid new lines replies left rest kept reply are read answered =
+      one_more old mid new lines replies read.line reply are (subst (λ (k : List ℕ). AnswersKept mid k reply new) read.kept_is answered)
 
-  pub served : (old mid new : Engine D g) (given left rest before after further : Option (List ℕ)) (kept : List ℕ) (reply : Reply) → IsServing old given left before after mid
+  served : (old mid new : Engine D g) (given left rest before after further : Option (List ℕ)) (kept : List ℕ) (reply : Reply) → IsServing old given left before after mid
       → HasReadLine left rest kept → AnswersKept mid kept reply new → Appends after further (reply_text reply) → IsServing old given rest before further new
-  served old mid new given left rest before after further kept reply has read answered written =
-      by given left rest before after further has read.read written
-    where
-      by : (given left rest before after further : Option (List ℕ)) → IsServing old given left before after mid → Between (BeganWith read.line) left rest
-          → Appends after further (reply_text reply) → IsServing old given rest before further new
-      by None left rest before after further h r w = tt
-      by (Some i) None rest before after further h r w = absurd h
-      by (Some i) (Some l) None before after further h r w = absurd r
-      by (Some i) (Some l) (Some n) None after further h r w = tt
-      by (Some i) (Some l) (Some n) (Some b) None further h r w = absurd h
-      by (Some i) (Some l) (Some n) (Some b) (Some a) None h r w = absurd w
-      by (Some i) (Some l) (Some n) (Some b) (Some a) (Some f) h r w = served_over old mid new i l n b a f read.line kept reply h read.one_line r read.kept_is answered w
-
-  -- where it ends
-  all_over : (old now : Engine D g) (input left before after : List ℕ) → Served old input left before after now → left ≡ [] → HasAnswered old input before after now
-  all_over old now input left before after has none = record {
-    lines = has.lines;
-    replies = has.replies;
-    are_lines = subst (λ (l : List ℕ). AreLines l has.lines) (sym (has.whole ∙ ap (λ (l : List ℕ). has.beginning ++ l) none ∙ append-nil has.beginning)) has.are_lines;
-    are_replies = has.are_replies;
-    written = has.written;
-  }
-
-  pub all_served : (old now : Engine D g) (given left rest before after : Option (List ℕ)) (kept : List ℕ) → IsServing old given left before after now → HasRead false left rest kept
-      → HasServed old given rest before after now
-  all_served old now None left rest before after kept has read = tt
-  all_served old now (Some i) None rest before after kept has read = absurd has
-  all_served old now (Some i) (Some l) None before after kept has read = absurd read
-  all_served old now (Some i) (Some l) (Some n) None after kept has read = (read.1, tt)
-  all_served old now (Some i) (Some l) (Some n) (Some b) None kept has read = absurd has
-  all_served old now (Some i) (Some l) (Some n) (Some b) (Some a) kept has read = (read.1, all_over old now i l b a has read.0)
-
-  part_over : (old now : Engine D g) (input left before after : List ℕ) → Served old input left before after now → HasAnsweredInPart old input before after now
-  part_over old now input left before after has = record {
-    beginning = has.beginning;
-    unanswered = left;
-    whole = has.whole;
-    lines = has.lines;
-    replies = has.replies;
-    are_lines = has.are_lines;
-    are_replies = has.are_replies;
-    text = output_text has.replies;
-    unwritten = [];
-    written = has.written;
-    begins = sym (append-nil (output_text has.replies));
+  served old mid new given left rest before after further kept reply has read answered written = record {
+    lines = has.lines ++ read.line ∷ [];
+    replies = has.replies ++ reply ∷ [];
+    are_replies = replied old mid new has.lines has.replies left rest kept reply has.are_replies read answered;
+    read = reads_on given left rest has.lines read.line has.read read.one_line read.read;
+    written = writes_more before after further has.replies reply has.written written;
   }
 
   pub served_in_part : (old now : Engine D g) (given left before after : Option (List ℕ)) → IsServing old given left before after now → HasServedInPart old given before after now
-  served_in_part old now None left before after has = tt
-  served_in_part old now (Some i) None before after has = absurd has
-  served_in_part old now (Some i) (Some l) None after has = tt
-  served_in_part old now (Some i) (Some l) (Some b) None has = absurd has
-  served_in_part old now (Some i) (Some l) (Some b) (Some a) has = part_over old now i l b a has
+  served_in_part old now given left before after has = record {
+    lines = has.lines;
+    replies = has.replies;
+    are_replies = has.are_replies;
+    runs = all_run old has.lines has.replies now has.are_replies;
+    read = reads_part given left has.lines has.read;
+    written = writes_whole before after has.replies has.written;
+  }
 
-  cut_over : (old mid new : Engine D g) (input left rest before after further : List ℕ) (line kept : List ℕ) (reply : Reply) (part unwritten : List ℕ) → Served old input left before after mid
-      → AllByRecursion IsNoLineFeed line → BeganWith line left rest → kept ≡ kept_of line → AnswersKept mid kept reply new → reply_text reply ≡ part ++ unwritten
-      → further ≡ after ++ part → HasAnsweredInPart old input before further new
-  unfolding served_over
-  cut_over old mid new input left rest before after further line kept reply part unwritten has none read is answered text written =
-      let to = served_over old mid new input left rest before after (after ++ reply_text reply) line kept reply has none read is answered refl in
-      record {
-        beginning = to.beginning;
-        unanswered = rest;
-        whole = to.whole;
-        lines = to.lines;
-        replies = to.replies;
-        are_lines = to.are_lines;
-        are_replies = to.are_replies;
-        text = output_text has.replies ++ part;
-        unwritten = unwritten;
-        written = written ∙ ap (λ (l : List ℕ). l ++ part) has.written ∙ append_assoc before (output_text has.replies) part;
-        begins = text_more has.replies reply ∙ ap (λ (l : List ℕ). output_text has.replies ++ l) text ∙ sym (append_assoc (output_text has.replies) part unwritten);
-      }
-
-  pub cut_short : (old mid new : Engine D g) (given left rest before after further : Option (List ℕ)) (kept : List ℕ) (reply : Reply) → IsServing old given left before after mid
+  cut_short : (old mid new : Engine D g) (given left rest before after further : Option (List ℕ)) (kept : List ℕ) (reply : Reply) → IsServing old given left before after mid
       → HasReadLine left rest kept → AnswersKept mid kept reply new → AppendsPart after further (reply_text reply) → HasServedInPart old given before further new
-  cut_short old mid new given left rest before after further kept reply has read answered cut =
-      by given left rest before after further has read.read cut.written
-    where
-      by : (given left rest before after further : Option (List ℕ)) → IsServing old given left before after mid → Between (BeganWith read.line) left rest
-          → Appends after further cut.part → HasServedInPart old given before further new
-      by None left rest before after further h r w = tt
-      by (Some i) None rest before after further h r w = absurd h
-      by (Some i) (Some l) None before after further h r w = absurd r
-      by (Some i) (Some l) (Some n) None after further h r w = tt
-      by (Some i) (Some l) (Some n) (Some b) None further h r w = absurd h
-      by (Some i) (Some l) (Some n) (Some b) (Some a) None h r w = absurd w
-      by (Some i) (Some l) (Some n) (Some b) (Some a) (Some f) h r w =
-          cut_over old mid new i l n b a f read.line kept reply cut.part cut.unwritten h read.one_line r read.kept_is answered cut.is w
+  cut_short old mid new given left rest before after further kept reply has read answered cut = (let are = replied old mid new has.lines has.replies left rest kept reply has.are_replies read answered in record {
+    lines = has.lines ++ read.line ∷ [];
+    replies = has.replies ++ reply ∷ [];
+    are_replies = are;
+    runs = all_run old (has.lines ++ read.line ∷ []) (has.replies ++ reply ∷ []) new are;
+    read = reads_part given rest (has.lines ++ read.line ∷ []) (reads_on given left rest has.lines read.line has.read read.one_line read.read);
+    written = writes_part before after further has.replies reply has.written cut;
+  })
 
   pub ended : (old now : Engine D g) (is_line : Bool) (given left rest before after : Option (List ℕ)) (kept : List ℕ) → is_line ≡ false → IsServing old given left before after now
       → HasRead is_line left rest kept → HasServed old given rest before after now
   ended old now true given left rest before after kept e has read = absurd cc
-  ended old now false given left rest before after kept e has read = all_served old now given left rest before after kept has read
+  ended old now false given left rest before after kept e has read = record {
+    lines = has.lines;
+    replies = has.replies;
+    are_replies = has.are_replies;
+    runs = all_run old has.lines has.replies now has.are_replies;
+    read = reads_end given left rest has.lines kept has.read read;
+    written = has.written;
+  }
 
   pub goes_on : (old mid new : Engine D g) (is_line : Bool) (given left rest before after further : Option (List ℕ)) (kept seen : List ℕ) (reply : Reply) → is_line ≡ true → seen ≡ kept
       → IsServing old given left before after mid → HasRead is_line left rest kept → AnswersKept mid seen reply new → Appends after further (reply_text reply) → IsServing old given rest before further new

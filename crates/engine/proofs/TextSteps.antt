@@ -1,6 +1,6 @@
 -- A statement's text is a step.
-use Rattle.std.proofs.Common.{◌≡◌, ◌≤◌, ◌⊎◌, inl, inr, refl, sym, ap, ◌∙◌, ℕ, Bool, true, false, List, length, Some, Result, Ok, Err, arith}
-use Rattle.std.specs.Prelude.{⊤}
+use Rattle.std.proofs.Common.{◌≡◌, ◌≤◌, ◌⊎◌, inl, inr, refl, sym, ap, subst, ◌∙◌, ℕ, Bool, true, false, List, length, Some, Result, Ok, Err, ◌==◌, ◌||◌, arith}
+use Rattle.std.specs.Prelude.{⊤, nat_lt}
 use Rattle.std.proofs.lemmas.Bool.Decides.{nat_tests}
 use Rattle.disk.specs.declared.device.Disk.{Ghosts}
 use Rattle.sqlval.specs.Gives.{Refuses}
@@ -8,6 +8,7 @@ use Rattle.sqlval.specs.Refusals.{refusal_of}
 use Rattle.sqlval.specs.declared.fault.Fault.{Fault}
 use Rattle.sqlval.specs.declared.fault.Fault.TheVariants as fault
 use Rattle.sqlval.specs.declared.fault.Feature.TheVariants as feature
+use Rattle.sqlval.specs.declared.fault.Misuse.TheVariants as misuse
 use Rattle.lexer.specs.Lex.{Lexed, tokens}
 use Rattle.syntax.specs.declared.statement.Statement.{Statement}
 use Rattle.expressions.specs.declared.refusal.Refusal.{Refusal}
@@ -25,7 +26,8 @@ use Rattle.session.specs.Shown.{FindsNoRoom, Steps}
 use Rattle.session.specs.Steps.{is_connection}
 use Rattle.session.specs.Texts.{IsCandidate, IsTextFault, StepByText, is_long}
 use Rattle.session.specs.declared.transactions.Connections.{Connections}
-use Rattle.session.proofs.Executing.{served_for}
+use Rattle.session.proofs.Executing.{either, first_by, no_connection, not_both, one_fault, passes_by, served_for}
+use Rattle.session.proofs.Settled.{as_shown}
 use Rattle.engine.specs.Known.{has_failed_of}
 use Rattle.engine.specs.Language.{grammar, token_refusal}
 use Rattle.engine.specs.Shown.{ShowsIn, StepsByText, StepsByTextTo}
@@ -134,7 +136,20 @@ module _ {D : Type 0} {g : Ghosts D} (e : Engine D g) (n : ℕ) (text : List ℕ
   Step m reply next = StepByText (λ before c s answer after. StepSoFar (FindsNoRoom e.connections s) before c s answer after) grammar m n text reply next
 
   stays : (m : Machine) (f : Fault) → ShowsIn e m → Step m (Refused (refusal_of f)) m → StepsByTextTo e m n text (Refused (refusal_of f)) e
-  stays m f shows step = record { next = m; step = step; shown = shows }
+  stays m f shows step = record { next = m; step = step; shown = shows; stop = as_shown e.connections m shows }
+
+  -- refused before the text is looked at
+  pub refused_check : (f : Fault) → first_refusal (has_failed_of e) n ≡ Err f → StepsByText e n text (Refused (refusal_of f)) e
+  refused_check f is m (inl h) =
+      let same : fault.Failed ≡ f = one_fault fault.Failed f (ap (λ b. first_refusal b n) (sym h.0) ∙ is) in
+      subst (λ (x : Fault). StepsByTextTo e m n text (Refused (refusal_of x)) e) same (stays m fault.Failed (inl h) (inl (h.1, refl, refl)))
+  refused_check f is m (inr shown) = either (n == 0 || nat_lt 16 n)
+      (λ bad. subst (λ (x : Fault). StepsByTextTo e m n text (Refused (refusal_of x)) e) (one_fault (fault.Misuse misuse.Connection) f (sym (first_by n bad) ∙ whole))
+      (stays m (fault.Misuse misuse.Connection) (inr shown) (inr (inl (shown.running, no_connection n bad, refl, refl)))))
+      (λ good. absurd (not_both f (sym (passes_by n good) ∙ whole)))
+    where
+      whole : first_refusal false n ≡ Err f
+      whole = ap (λ b. first_refusal b n) (sym shown.whole) ∙ is
 
   -- refused for the text, or for want of memory
   pub refused_text : (f : Fault) → first_refusal (has_failed_of e) n ≡ done → (f ≡ fault.Memory) ⊎ IsTextFault grammar text (refusal_of f)
@@ -154,4 +169,4 @@ module _ {D : Type 0} {g : Ghosts D} (e : Engine D g) (n : ℕ) (text : List ℕ
   executed s reply new is stands reads within steps m shows =
       let served = served_for e.connections m n is shows in
       let to = steps (keeps_text text s reads within (short_text text stands.0)) m shows in
-      record { next = to.next; step = inr (inr (served.0, served.1, inr (inr (stands, s, reads, within, to.step)))); shown = to.shown }
+      record { next = to.next; step = inr (inr (served.0, served.1, inr (inr (stands, s, reads, within, to.step)))); shown = to.shown; stop = to.stop }

@@ -4,6 +4,7 @@ use Rattle.std.specs.List.{list_all}
 use Rattle.disk.specs.File.{File, Version, IsSynced, IsLeft, Always}
 use Rattle.dbheader.specs.Header.{IsHeader, IsPageSize, empty_of}
 use Rattle.page.specs.Writing.{leaf_of}
+use Rattle.session.specs.Holding.{Hold}
 use Rattle.sqlval.specs.declared.fault.Fault.{Fault}
 use Rattle.sqlval.specs.declared.fault.Fault.TheVariants.{Memory, Io, Unsupported, Misuse}
 use Rattle.sqlval.specs.declared.fault.Feature.TheVariants.{PageSize}
@@ -55,3 +56,7 @@ IsCreateRefusal page_size IsNotBlank Io = Unit {0}
 IsCreateRefusal page_size IsNotBlank (Unsupported PageSize) = IsPageSize page_size → ⊥
 IsCreateRefusal page_size IsNotBlank (Misuse NotBlank) = IsNotBlank
 IsCreateRefusal page_size IsNotBlank fault = ⊥
+
+-- Page 1 of the empty database, beside a log without a byte, holds the database of no objects.
+abbrev pub CreatedHold : Type 0
+CreatedHold = (page_size : ℕ) (page : List ℕ) → IsPageSize page_size → IsEmptyDatabase page_size page → Hold page [] []

@@ -1,5 +1,5 @@
 -- The grammar of SQL, as the definitions of steps by texts and of files take it.
-use Rattle.std.specs.Prelude.{◌≡◌, not, ℕ, true, false, List, [], ◌++◌, filter, Option, Some, None, Result, Ok, Err}
+use Rattle.std.specs.Prelude.{◌≡◌, not, ℕ, false, List, [], ◌++◌, filter, Option, Some, None, Result, Ok, Err}
 use Rattle.lexer.specs.Cut.{Cuts}
 use Rattle.lexer.specs.Lex.{Lexed, tokens}
 use Rattle.sqlval.specs.Names.{is_same_name}

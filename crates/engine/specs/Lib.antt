@@ -1,5 +1,4 @@
 pub mod Creating
-pub mod Fresh
 pub mod Known
 pub mod Language
 pub mod Lines
@@ -8,3 +7,4 @@ pub mod Output
 pub mod Replies
 pub mod Shown
 pub mod Serving
+pub mod Loading

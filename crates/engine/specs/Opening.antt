@@ -1,16 +1,29 @@
--- What a stop leaves of two files while they are opened.
+-- What a stop leaves of two files while they are opened, and what opening makes of them.
 use Rattle.std.specs.Prelude.{◌≡◌, ◌⊎◌, ℕ, List, Result, Ok, Err}
 use Rattle.disk.specs.File.{File, Version, IsLeft}
 use Rattle.disk.specs.declared.device.Disk.{Ghosts}
 use Rattle.sqlval.specs.declared.fault.Fault.{Fault}
+use Rattle.sqlval.specs.declared.fault.Fault.TheVariants.{Memory, Io}
+use Rattle.catalog.specs.Database.{Database}
+use Rattle.catalog.specs.Listed.{tables_of}
+use Rattle.catalog.specs.declared.tables.Catalog.{Catalog}
+use Rattle.catalog.specs.declared.tables.Table.{Table}
 use Rattle.walframe.specs.Written.{Framed}
 use Rattle.wal.specs.Committed.{HasCommits}
 use Rattle.wal.specs.Known.{db_of, log_of}
 use Rattle.wal.specs.Opens.{LeavesAsBefore}
 use Rattle.wal.specs.Stops.{LeavesCommits}
+use Rattle.wal.specs.declared.log.Log.{Log}
 use Rattle.wal.specs.declared.log.Refused.{Refused}
-use Rattle.engine.specs.declared.opening.Engine.{Engine}
+use Rattle.pager.specs.Views.{Tells, newest_view}
+use Rattle.session.specs.Holding.{IsSettled}
 use Rattle.session.specs.Known.{files_of}
+use Rattle.session.specs.Machine.{fresh}
+use Rattle.session.specs.Schema.{AreSameTables}
+use Rattle.session.specs.Shown.{AreCommitted, Shows}
+use Rattle.session.specs.Stored.{Stores}
+use Rattle.engine.specs.Known.{connections_of}
+use Rattle.engine.specs.declared.opening.Engine.{Engine}
 
 -- The database file as it was read, beside a log that has the commits of the one that was read and no others.
 pub record LeavesCut (db log : File) (db_versions log_versions : List Version) : Type 0 where
@@ -38,3 +51,21 @@ module _ {D : Type 0} {g : Ghosts D} where
   abbrev pub log_left : Result (Engine D g) (Refused D) → D
   log_left (Ok engine) = log_of (files_of engine.connections)
   log_left (Err refused) = refused.log
+
+  -- The catalog lists these tables, all of them committed, and the files are settled and hold the database.
+  pub record StartsWith (tables : List Table) (database : Database) (files : Log D g) (catalog : Catalog) : Type 0 where
+    pub listed : AreSameTables tables (tables_of catalog)
+    pub committed : AreCommitted catalog
+    pub told : Tells files
+    pub settled : IsSettled files
+    pub stored : Stores (newest_view files) tables database
+
+  -- so it is; or memory was short, or a disk's call failed
+  abbrev pub StartsOn : List Table → Database → Log D g → Result Catalog Fault → Type 0
+  StartsOn tables database files (Ok catalog) = StartsWith tables database files catalog
+  StartsOn tables database files (Err fault) = (fault ≡ Memory) ⊎ (fault ≡ Io)
+
+  -- What was opened shows the one database; or memory was short, or a disk's call failed.
+  abbrev pub Opens : Database → Result (Engine D g) (Refused D) → Type 0
+  Opens database (Ok engine) = Shows (connections_of engine) (fresh database)
+  Opens database (Err refused) = (refused.fault ≡ Memory) ⊎ (refused.fault ≡ Io)

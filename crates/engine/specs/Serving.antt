@@ -7,12 +7,14 @@ use Rattle.sqlval.specs.declared.fault.Fault.{Fault}
 use Rattle.sqlval.specs.declared.fault.Fault.TheVariants.{Failed}
 use Rattle.sqlval.specs.declared.value.Value.{Value}
 use Rattle.session.specs.Machine as machine
-use Rattle.session.specs.Machine.{Rows, Refused}
+use Rattle.session.specs.Holding.{HoldThroughout}
+use Rattle.session.specs.Machine.{Machine, Idle, Rows, Refused, with_connection}
 use Rattle.session.specs.Shown.{IsGivenUp}
+use Rattle.session.specs.Stops.{MayShowInRun}
 use Rattle.engine.specs.Known.{connections_of, has_failed_of}
 use Rattle.engine.specs.Lines.{AreLines, Between, IsLineRefusal, Says, kept_of}
 use Rattle.engine.specs.Output.{output_text}
-use Rattle.engine.specs.Shown.{StepsByText}
+use Rattle.engine.specs.Shown.{ShowsIn, StepsByText, StepsByTextTo, files_in}
 use Rattle.engine.specs.declared.opening.Engine.{Engine}
 
 -- the rows' values, or a refusal
@@ -29,6 +31,20 @@ pub record IsRefused (line : List ℕ) (reply : Reply) : Type 0 where
   pub fault : Fault
   pub why : IsLineRefusal line fault
   pub is : reply ≡ Err fault
+
+-- The input begins with these lines.
+pub record BeginsWithLines (lines : List (List ℕ)) (input : List ℕ) : Type 0 where
+  pub beginning : List ℕ
+  pub unanswered : List ℕ
+  pub whole : input ≡ beginning ++ unanswered
+  pub are_lines : AreLines beginning lines
+
+-- Behind what was before stands a beginning of the text.
+pub record EndsWithPart (text before after : List ℕ) : Type 0 where
+  pub part : List ℕ
+  pub unwritten : List ℕ
+  pub is : text ≡ part ++ unwritten
+  pub written : after ≡ before ++ part
 
 module _ {D : Type 0} {g : Ghosts D} where
   -- The line has a statement, and the reply to it is a step of the machines that the engine shows.
@@ -57,39 +73,63 @@ module _ {D : Type 0} {g : Ghosts D} where
   AreReplies old (line ∷ lines) [] new = ⊥
   AreReplies old (line ∷ lines) (reply ∷ replies) new = (mid : Engine D g) × Answers old line reply mid × AreReplies mid lines replies new
 
-  -- Behind what was written before stand the replies to the lines of the input.
-  pub record HasAnswered (old : Engine D g) (input before after : List ℕ) (new : Engine D g) : Type 0 where
+  -- The line's statement was executed, from this machine to the next.
+  pub record Executes (old : Engine D g) (m : Machine) (line : List ℕ) (reply : Reply) (new : Engine D g) (next : Machine) : Type 0 where
+    pub connection : ℕ
+    pub statement : List ℕ
+    pub says : Says line connection statement
+    pub fits : length statement ≤ 65536
+    pub to : StepsByTextTo old m connection statement (machine_reply reply) new
+    pub next_is : next ≡ to.next
+
+  -- A reply to a line, from a machine to the next, which differs only where its statement was executed.
+  abbrev pub AnswersFrom : Engine D g → Machine → List ℕ → Reply → Engine D g → Machine → Type 0
+  AnswersFrom old m line reply new next =
+      IsTrue (has_failed_of old) × (reply ≡ Err Failed) × (new ≡ old) × (next ≡ m)
+      ⊎ IsFalse (has_failed_of old) × IsRefused (kept_of line) reply × (new ≡ old) × (next ≡ m)
+      ⊎ IsFalse (has_failed_of old) × Executes old m (kept_of line) reply new next
+
+  -- one reply to each line, in order, from machine to machine
+  abbrev pub RunsBy : Engine D g → Machine → List (List ℕ) → List Reply → Engine D g → Machine → Type 0
+  RunsBy old m [] [] new end = (new ≡ old) × (end ≡ m)
+  RunsBy old m [] (reply ∷ replies) new end = ⊥
+  RunsBy old m (line ∷ lines) [] new end = ⊥
+  RunsBy old m (line ∷ lines) (reply ∷ replies) new end = (mid : Engine D g) × (next : Machine) × AnswersFrom old m line reply mid next × RunsBy mid next lines replies new end
+
+  -- From a machine the replies are a run to a machine that is shown then; and at each moment a stop leaves a database that the run may show:
+  -- one that was committed from the acknowledged one on, or one that a commit left in doubt.
+  pub record RunsTo (old : Engine D g) (m : Machine) (lines : List (List ℕ)) (replies : List Reply) (new : Engine D g) : Type 0 where
+    pub end : Machine
+    pub runs : RunsBy old m lines replies new end
+    pub shown : ShowsIn new end
+    pub stop : HoldThroughout (MayShowInRun m end) (files_in old) (files_in new)
+
+  -- the same from each machine that was shown
+  abbrev pub Runs : Engine D g → List (List ℕ) → List Reply → Engine D g → Type 0
+  Runs old lines replies new = (m : Machine) → ShowsIn old m → RunsTo old m lines replies new
+
+  -- Lines were read and replied to: the whole input where its bytes are known, and behind what was written before stand the replies.
+  pub record HasServed (old : Engine D g) (given left before after : Option (List ℕ)) (new : Engine D g) : Type 0 where
     pub lines : List (List ℕ)
     pub replies : List Reply
-    pub are_lines : AreLines input lines
     pub are_replies : AreReplies old lines replies new
-    pub written : after ≡ before ++ output_text replies
+    pub runs : Runs old lines replies new
+    pub read : Between (λ input rest. (rest ≡ []) × AreLines input lines) given left
+    pub written : Between (λ b a. a ≡ b ++ output_text replies) before after
 
-  -- Behind what was written before stands a beginning of the replies to the lines of a beginning of the input.
-  pub record HasAnsweredInPart (old : Engine D g) (input before after : List ℕ) (new : Engine D g) : Type 0 where
-    pub beginning : List ℕ
-    pub unanswered : List ℕ
-    pub whole : input ≡ beginning ++ unanswered
+  -- Lines were read and replied to: those of a beginning of the input, and behind what was written before stands a beginning of the replies.
+  pub record HasServedInPart (old : Engine D g) (given before after : Option (List ℕ)) (new : Engine D g) : Type 0 where
     pub lines : List (List ℕ)
     pub replies : List Reply
-    pub are_lines : AreLines beginning lines
     pub are_replies : AreReplies old lines replies new
-    pub text : List ℕ
-    pub unwritten : List ℕ
-    pub written : after ≡ before ++ text
-    pub begins : output_text replies ≡ text ++ unwritten
+    pub runs : Runs old lines replies new
+    pub read : IfSome given (BeginsWithLines lines)
+    pub written : Between (EndsWithPart (output_text replies)) before after
 
-  -- The whole input was read and each of its lines replied to.
-  abbrev pub HasServed : Engine D g → Option (List ℕ) → Option (List ℕ) → Option (List ℕ) → Option (List ℕ) → Engine D g → Type 0
-  HasServed old given left before after new = Between (λ input rest. (rest ≡ []) × Between (λ b a. HasAnswered old input b a new) before after) given left
-
-  -- A beginning of the input was read and replied to, the last reply perhaps in part.
-  abbrev pub HasServedInPart : Engine D g → Option (List ℕ) → Option (List ℕ) → Option (List ℕ) → Engine D g → Type 0
-  HasServedInPart old given before after new = IfSome given (λ input. Between (λ b a. HasAnsweredInPart old input b a new) before after)
-
-  -- The transaction that is open is given up.
-  abbrev pub GivesUp : Engine D g → Engine D g → Type 0
-  GivesUp old new = IsGivenUp (connections_of old) (connections_of new)
+  -- The transaction that is open is given up: the files are as they were, and the machine has the first connection idle.
+  pub record GivesUp (old new : Engine D g) : Type 0 where
+    pub gone : IsGivenUp (connections_of old) (connections_of new)
+    pub shown : (m : Machine) → ShowsIn old m → ShowsIn new (with_connection m 1 Idle)
 
   -- All lines were served, and then the transaction given up.
   pub record HasRun (old : Engine D g) (given left before after : Option (List ℕ)) (new : Engine D g) : Type 0 where

@@ -2,9 +2,13 @@
 use Rattle.std.specs.Prelude.{ℕ, List}
 use Rattle.disk.specs.declared.device.Disk.{Ghosts}
 use Rattle.session.specs.Built.{StepSoFar}
+use Rattle.session.specs.Holding.{HoldThroughout}
+use Rattle.session.specs.Known.{files_of}
 use Rattle.session.specs.Machine.{Machine, Reply}
 use Rattle.session.specs.Shown.{FindsNoRoom, Shows}
+use Rattle.session.specs.Stops.{MayShow}
 use Rattle.session.specs.Texts.{StepByText}
+use Rattle.wal.specs.declared.log.Log.{Log}
 use Rattle.engine.specs.Language.{grammar}
 use Rattle.engine.specs.declared.opening.Engine.{Engine}
 
@@ -13,11 +17,16 @@ module _ {D : Type 0} {g : Ghosts D} where
   abbrev pub ShowsIn : Engine D g → Machine → Type 0
   ShowsIn engine = Shows engine.connections
 
-  -- This is a step by a text from a machine to one that is shown behind it.
+  -- the two files of an engine
+  abbrev pub files_in : Engine D g → Log D g
+  files_in engine = files_of engine.connections
+
+  -- This is a step by a text from a machine to one that is shown behind it; and at each moment a stop leaves a database that the step may show.
   pub record StepsByTextTo (old : Engine D g) (m : Machine) (connection : ℕ) (text : List ℕ) (reply : Reply) (new : Engine D g) : Type 0 where
     pub next : Machine
     pub step : StepByText (λ before c s answer after. StepSoFar (FindsNoRoom old.connections s) before c s answer after) grammar m connection text reply next
     pub shown : ShowsIn new next
+    pub stop : HoldThroughout (MayShow m next) (files_in old) (files_in new)
 
   -- From each machine that was shown the text is a step, and the machine behind it is shown.
   abbrev pub StepsByText : Engine D g → ℕ → List ℕ → Reply → Engine D g → Type 0

@@ -5,7 +5,7 @@ ghost use Rattle.std.specs.List.{list_all};
 ghost use Rattle.dbheader.specs.Header.{IsPageSize};
 ghost use Rattle.sqlval.specs.declared.fault.Fault.TheVariants.{Io, Memory};
 ghost use Rattle.disk.specs.File.{IsSynced};
-ghost use Rattle.engine.specs.Creating.{is_blank_content, is_zero_byte, BecomesDatabase, IsCreateRefusal, IsEmptyDatabase, IsSyncedAs, Stays};
+ghost use Rattle.engine.specs.Creating.{is_blank_content, is_zero_byte, BecomesDatabase, CreatedHold, IsCreateRefusal, IsEmptyDatabase, IsSyncedAs, Stays};
 
 use dbheader::{Header, is_page_size};
 use disk::Disk;
@@ -107,3 +107,8 @@ pub fn create<D: Disk>(alloc: Global, db: &mut D, log: &mut D, page_size: u32) -
     let page = empty_page(alloc, page_size)?;
     put_empty(db, log, &page)
 }
+
+/// What `create` leaves holds the database of no objects.
+pub fn created_files_hold_nothing()
+    ensures { CreatedHold }
+{}

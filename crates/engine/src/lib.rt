@@ -10,7 +10,7 @@ mod refusals;
 mod schema;
 mod serving;
 
-pub use creating::create;
+pub use creating::{create, created_files_hold_nothing};
 pub use opening::Engine;
 pub use output::put_reply;
 pub use rowprog::Rows;

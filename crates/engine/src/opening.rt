@@ -1,13 +1,18 @@
 //! Opening a database file with its log.
 
-ghost use Rattle.std.specs.Prelude.{◌≡◌, ◌⊎◌, ◌&&◌, ℕ, [], Ok, Err, IfOk, IfErr, IsTrue, IsFalse};
-ghost use Rattle.dbheader.specs.Header.{IsPageSize};
-ghost use Rattle.engine.specs.Creating.{IsEmptyDatabase};
-ghost use Rattle.engine.specs.Fresh.{HoldNothing, ListsNothing, ReadsEmpty, ReadsNothing};
+ghost use Rattle.std.specs.Prelude.{◌≡◌, ◌⊎◌, ◌&&◌, List, Ok, Err, IfOk, IfErr, IsTrue, IsFalse};
+ghost use Rattle.dbheader.specs.Header.{IsHeader};
+ghost use Rattle.dbheader.specs.declared.fields.Header.{Header as FileHeader};
+ghost use Rattle.catalog.specs.Database.{Database};
+ghost use Rattle.catalog.specs.declared.tables.Table.{Table};
+ghost use Rattle.pager.specs.Views.{Tells, newest_view};
+ghost use Rattle.session.specs.Holding.{IsFound, IsSettled};
+ghost use Rattle.session.specs.Stored.{Stores};
+ghost use Rattle.engine.specs.Loading.{ListsTables, ReadsHeader};
 ghost use Rattle.disk.specs.File.{IsSynced, Throughout};
 ghost use Rattle.walframe.specs.Accepted.{Leaves};
 ghost use Rattle.wal.specs.Known.{db_of, known_of, log_of};
-ghost use Rattle.engine.specs.Opening.{KeepsBut, LeavesOpened};
+ghost use Rattle.engine.specs.Opening.{KeepsBut, LeavesOpened, StartsOn};
 ghost use Rattle.sqlval.specs.declared.fault.Fault.TheVariants.{Io};
 ghost use Rattle.disk.specs.Calls.{Rose};
 ghost use Rattle.syntax.specs.declared.statement.Statement.{Statement};
@@ -39,7 +44,7 @@ pub struct Engine<D: Disk + Drop> {
 /// The header of a database file.
 fn file_header<D: Disk>(db: &mut D) -> R<Header>
     ensures kept { Leaves D.tells D.file db.old db.new }
-    ensures empty { (page_size : ℕ) → IsTrue (D.tells db.old) → IsEmptyDatabase page_size (D.file db.old).content → ReadsEmpty page_size result }
+    ensures read { (head : FileHeader) → IsTrue (D.tells db.old) → IsHeader (D.file db.old).content head → ReadsHeader head result }
 {
     if is_blank(db)? {
         return Err(Fault::Blank);
@@ -55,7 +60,7 @@ fn file_header<D: Disk>(db: &mut D) -> R<Header>
 /// The schema of the newest view, whose page 1 has to say the view's size and page size.
 fn newest_schema<D: Disk + Drop>(alloc: Global, log: &mut Log<D>) -> R<Catalog>
     ensures kept { (known_of log.new ≡ known_of log.old) × Leaves D.tells D.file (db_of log.old) (db_of log.new) × Leaves D.tells D.file (log_of log.old) (log_of log.new) }
-    ensures empty { (page_size : ℕ) → IsPageSize page_size → HoldNothing page_size log.old → ListsNothing result }
+    ensures listed { (tables : List Table) (database : Database) → Tells log.old → Stores (newest_view log.old) tables database → IsFound (newest_view log.old) → ListsTables tables result }
 {
     let snapshot = log.begin();
     let page = read_page(alloc, log, snapshot, 1)?;
@@ -74,8 +79,8 @@ fn started<D: Disk + Drop>(alloc: Global, log: &mut Log<D>) -> R<Catalog>
     ensures stop { IsFalse (known_of log.old).has_failed → IsTrue (D.tells (db_of log.old)) → IsTrue (D.tells (log_of log.old)) → IsSynced (D.file (db_of log.old)) → IsSynced (D.file (log_of log.old))
         → Throughout (LeavesOpened (D.file (db_of log.old)) (D.file (log_of log.old))) (D.file (db_of log.old)) (D.file (log_of log.old)) (D.file (db_of log.new)) (D.file (log_of log.new)) }
     ensures kept { IsTrue (D.tells (db_of log.old)) → IsTrue (D.tells (log_of log.old)) → IfErr result (KeepsBut Io (D.file (db_of log.old)) (D.file (log_of log.old)) (D.file (db_of log.new)) (D.file (log_of log.new))) }
-    // Of the empty database no table is listed, and nothing else stands in the files.
-    ensures empty { (page_size : ℕ) → IsPageSize page_size → HoldNothing page_size log.old → IfOk result (ReadsNothing page_size log.new) }
+    // Of settled files that hold a database the tables are listed, and they stay so.
+    ensures serves { (tables : List Table) (database : Database) → Tells log.old → IsSettled log.old → Stores (newest_view log.old) tables database → StartsOn tables database log.new result }
 {
     let catalog = newest_schema(alloc, log)?;
     log.cut_tail()?;
@@ -85,8 +90,8 @@ fn started<D: Disk + Drop>(alloc: Global, log: &mut Log<D>) -> R<Catalog>
 impl<D: Disk + Drop> Engine<D> {
     ghost use Rattle.session.specs.Known.{IsNoConnection, first_refusal};
     ghost use Rattle.engine.specs.Known.{db_disk, has_failed_of, log_disk};
-    ghost use Rattle.engine.specs.Fresh.{OpensEmpty};
-    ghost use Rattle.engine.specs.Opening.{db_left, log_left};
+    ghost use Rattle.session.specs.Holding.{Hold};
+    ghost use Rattle.engine.specs.Opening.{Opens, db_left, log_left};
     ghost use Rattle.engine.specs.Serving.{GivesUp};
     ghost use Rattle.engine.specs.Shown.{StepsByText};
     ghost use Rattle.session.specs.Shown.{rows_reply};
@@ -100,8 +105,8 @@ impl<D: Disk + Drop> Engine<D> {
         // Refused, the files hold what they held, but for a call of a disk that failed.
         ensures kept { IsTrue (D.tells db) → IsTrue (D.tells log) → IfErr result (λ refused. KeepsBut Io (D.file db) (D.file log) (D.file refused.db) (D.file refused.log) refused.fault) }
         ensures whole { IfOk result (λ engine. IsFalse (has_failed_of engine)) }
-        // What was created shows the empty database, with 16 idle connections.
-        ensures empty { (page_size : ℕ) → IsTrue (D.tells db) → IsTrue (D.tells log) → IsPageSize page_size → IsEmptyDatabase page_size (D.file db).content → (D.file log).content ≡ [] → OpensEmpty result }
+        // Files that hold a database show exactly that one, with 16 idle connections, but for want of memory or a failed call of a disk.
+        ensures serves { (database : Database) → IsTrue (D.tells db) → IsTrue (D.tells log) → Hold (D.file db).content (D.file log).content database → Opens database result }
     {
         let mut db = db;
         let header = match file_header(&mut db) {

@@ -1,11 +1,25 @@
 //! The objects of the schema: the tables, as page 1 lists them.
 
-ghost use Rattle.std.specs.Prelude.{◌≡◌, [], length, IfOk, IfErr};
-ghost use Rattle.catalog.specs.Listed.{tables_of};
+ghost use Rattle.std.specs.Prelude.{◌≡◌, ◌<◌, ◌≤◌, ◌++◌, ◌∷◌, ℕ, List, [], Ok, None, IsOkAnd, true, false, pos, codes, length, map};
+ghost use Rattle.sqlval.specs.Fields.{value_of};
+ghost use Rattle.sqlval.specs.declared.value.Value.TheVariants as value;
+ghost use Rattle.page.specs.Leaf.{Entry};
+ghost use Rattle.syntax.specs.declared.create.NewObject.TheVariants as new;
+ghost use Rattle.syntax.specs.declared.statement.Statement.{Statement as Parsed};
+ghost use Rattle.syntax.specs.declared.statement.Statement.TheVariants as parsed;
+ghost use Rattle.parser.specs.Statements.{is_statement_within};
+ghost use Rattle.parser.specs.Texts.{Is};
+ghost use Rattle.syntax.specs.declared.create.Create.{Create as Made};
+ghost use Rattle.sqlval.specs.Names.{is_same_name};
+ghost use Rattle.session.specs.Built as built;
+ghost use Rattle.catalog.specs.Listed as listed;
+ghost use Rattle.catalog.specs.Listed.{defined, described, has_doubled, tables_of};
 ghost use Rattle.tabletree.specs.Lone.{IsLone};
-ghost use Rattle.engine.specs.Fresh.{ListsNothing};
+ghost use Rattle.session.specs.NewTables.{schema_row};
+ghost use Rattle.session.specs.Schema.{AreRowsOf, AreSameTables, IsCreateOf, IsRowOf, IsSameTable};
+ghost use Rattle.engine.specs.Loading.{AddsTables, HasParts, IsOrMemory, LoadsTables, TellsTable};
 
-use catalog::{Catalog, Table, columns_of, is_reserved};
+use catalog::{Catalog, Column, Table, columns_of, is_reserved};
 use parser::parse;
 use record::Record;
 use session::is_table_built;
@@ -29,85 +43,169 @@ fn damaged() -> Fault {
 }
 
 /// The schema's texts are outside the profile, but for the want of memory.
-fn outside(fault: Fault) -> Fault {
+fn outside(fault: Fault) -> Fault
+    ensures { fault ≡ Fault.Memory → result ≡ Fault.Memory }
+{
     match fault {
         Fault::Memory => Fault::Memory,
         _ => Fault::Unsupported(Feature::SchemaObject),
     }
 }
 
-fn row_of<'a>(row: &Record<'a>, size: u32) -> R<SchemaRow<'a>> {
-    if row.len() != 5 {
-        return Err(Fault::Unsupported(Feature::ColumnCount));
-    }
-    match row.column(0) {
-        Field::Text("table") => {}
+/// The row is that of a table.
+fn is_of_table(kind: Field<'_>) -> R<()>
+    ensures { value_of kind.entry ≡ value.Text (codes "table") → result ≡ Ok tt }
+{
+    match kind {
+        Field::Text("table") => Ok(()),
         Field::Text("index") | Field::Text("view") | Field::Text("trigger") => {
-            return Err(Fault::Unsupported(Feature::NotBuilt));
+            Err(Fault::Unsupported(Feature::NotBuilt))
         }
-        _ => return Err(damaged()),
-    }
-    let (Field::Text(name), Field::Text(table_name)) = (row.column(1), row.column(2)) else {
-        return Err(damaged());
-    };
-    let (Field::Int(root), Field::Text(sql)) = (row.column(3), row.column(4)) else {
-        return Err(damaged());
-    };
-    match u32::try_from(root) {
-        Ok(root) if root > 1 && root <= size => Ok(SchemaRow {
-            name,
-            table_name,
-            root,
-            sql,
-        }),
         _ => Err(damaged()),
     }
 }
 
-fn definition_of(alloc: Global, sql: &str) -> R<TableDefinition> {
-    let Statement::Create(create) = parse(alloc, sql).map_err(outside)? else {
+fn text_of<'a>(field: Field<'a>) -> R<&'a str>
+    ensures { (text : List ℕ) → value_of field.entry ≡ value.Text text → IsOkAnd result (λ found. found.now ≡ text) }
+{
+    match field {
+        Field::Text(text) => Ok(text),
+        _ => Err(damaged()),
+    }
+}
+
+/// A page behind the first, in a database of so many.
+fn root_of(field: Field<'_>, size: u32) -> R<u32>
+    ensures { (root : ℕ) → value_of field.entry ≡ value.Int (pos root) → 1 < root → root ≤ size → result ≡ Ok root }
+{
+    let Field::Int(root) = field else {
+        return Err(damaged());
+    };
+    match u32::try_from(root) {
+        Ok(root) if root > 1 && root <= size => Ok(root),
+        _ => Err(damaged()),
+    }
+}
+
+fn row_of<'a>(row: &Record<'a>, size: u32) -> R<SchemaRow<'a>>
+    ensures { (name : List ℕ) (root : ℕ) (sql : List ℕ) → row.now ≡ schema_row name root sql → 1 < root → root ≤ size → IsOkAnd result (HasParts name root sql) }
+{
+    if row.len() != 5 {
+        return Err(Fault::Unsupported(Feature::ColumnCount));
+    }
+    is_of_table(row.column(0))?;
+    Ok(SchemaRow {
+        name: text_of(row.column(1))?,
+        table_name: text_of(row.column(2))?,
+        root: root_of(row.column(3), size)?,
+        sql: text_of(row.column(4))?,
+    })
+}
+
+fn statement_of(alloc: Global, sql: &str) -> R<Statement>
+    ensures { (statement : Parsed) → Is sql.now statement → is_statement_within statement ≡ true → length sql.now ≤ 65536 → IsOrMemory (λ found. found ≡ statement) result }
+{
+    match parse(alloc, sql) {
+        Ok(statement) => Ok(statement),
+        Err(fault) => Err(outside(fault)),
+    }
+}
+
+fn created_by(statement: Statement) -> R<NewObject>
+    ensures { (made : Made) → statement ≡ parsed.Create made → result ≡ Ok made.object }
+{
+    let Statement::Create(create) = statement else {
         return Err(Fault::Unsupported(Feature::SchemaObject));
     };
     let Create { sql: _, object } = create;
+    Ok(object)
+}
+
+fn table_in(object: NewObject) -> R<TableDefinition>
+    ensures { (definition : TableDefinition) → object ≡ new.Table definition → result ≡ Ok definition }
+{
     match object {
         NewObject::Table(definition) => Ok(definition),
         _ => Err(Fault::Unsupported(Feature::NotBuilt)),
     }
 }
 
-fn table_of(alloc: Global, row: &SchemaRow<'_>) -> R<Table> {
-    let definition = definition_of(alloc, row.sql)?;
-    if !is_table_built(&definition) {
+fn definition_of(alloc: Global, sql: &str) -> R<TableDefinition>
+    ensures { (definition : TableDefinition) → IsCreateOf sql.now (new.Table definition) → IsOrMemory (λ found. found ≡ definition) result }
+{
+    let statement = statement_of(alloc, sql)?;
+    let object = created_by(statement)?;
+    table_in(object)
+}
+
+fn columns_in(alloc: Global, definition: &TableDefinition) -> R<Vec<Column>>
+    ensures { (columns : List Column) → has_doubled definition.now.columns ≡ false → map described columns ≡ map defined definition.now.columns → IsOrMemory (λ found. found.items ≡ columns) result }
+{
+    match columns_of(alloc, definition) {
+        Ok(columns) => Ok(columns),
+        Err(fault) => Err(outside(fault)),
+    }
+}
+
+/// The definition is one that is served, under the row's name.
+fn is_of_row(definition: &TableDefinition, row: &SchemaRow<'_>) -> R<()>
+    ensures { built.is_table_built definition.now ≡ true → is_same_name definition.now.name row.now.name.now ≡ true → is_same_name definition.now.name row.now.table_name.now ≡ true
+        → listed.is_reserved row.now.name.now ≡ false → result ≡ Ok tt }
+{
+    if !is_table_built(definition) {
         return Err(Fault::Unsupported(Feature::NotBuilt));
     }
-    if !definition.name.is_same(row.name) || !definition.name.is_same(row.table_name) {
+    if !definition.name.is_same(row.name) {
+        return Err(damaged());
+    }
+    if !definition.name.is_same(row.table_name) {
         return Err(damaged());
     }
     if is_reserved(row.name) {
         return Err(outside(damaged()));
     }
-    let columns = columns_of(alloc, &definition).map_err(outside)?;
+    Ok(())
+}
+
+fn table_of(alloc: Global, row: &SchemaRow<'_>) -> R<Table>
+    ensures { (before : List Table) (table : Table) → TellsTable before table row.now → IsOrMemory (IsSameTable table) result }
+{
+    let definition = definition_of(alloc, row.sql)?;
+    is_of_row(&definition, row)?;
+    let columns = columns_in(alloc, &definition)?;
+    let name = Name::from_str(alloc, row.name)?;
     Ok(Table {
-        name: Name::from_str(alloc, row.name)?,
+        name,
         columns,
         root: row.root,
     })
 }
 
-/// Adds the table that a row of the schema tells.
-fn add_row(alloc: Global, catalog: &mut Catalog, payload: &[u8], size: u32) -> R<()> {
-    let record = Record::over(alloc, payload)?;
-    let table = table_of(alloc, &row_of(&record, size)?)?;
+fn is_new(catalog: &Catalog, table: &Table) -> R<()>
+    ensures { listed.table_named table.now.name (tables_of catalog.now) ≡ None → result ≡ Ok tt }
+{
     if catalog.table(table.name.as_str()).is_some() {
         return Err(Fault::Unsupported(Feature::SchemaObject));
     }
+    Ok(())
+}
+
+/// Adds the table that a row of the schema tells.
+fn add_row(alloc: Global, catalog: &mut Catalog, payload: &[u8], size: u32) -> R<()>
+    // The table of such a row stands behind the others, but for the want of memory.
+    ensures tells { (before : List Table) (table : Table) (entry : Entry) → AreSameTables before (tables_of catalog.old) → entry.payload ≡ payload.now → IsRowOf size before table entry
+        → AddsTables (before ++ table ∷ []) result catalog.new }
+{
+    let found = Record::over(alloc, payload)?;
+    let row = row_of(&found, size)?;
+    let table = table_of(alloc, &row)?;
+    is_new(catalog, &table)?;
     catalog.add(table)
 }
 
 /// The tables that these rows of the schema tell.
 fn tables_in(alloc: Global, leaf: &Leaf<'_>, size: u32) -> R<Catalog>
-    ensures empty { length leaf.now ≡ 0 → IfOk result (λ catalog. tables_of catalog ≡ []) }
-    ensures served { length leaf.now ≡ 0 → IfErr result (λ fault. ⊥) }
+    ensures { (tables : List Table) → AreRowsOf size [] tables leaf.now → IsOrMemory (λ catalog. AreSameTables tables (tables_of catalog)) result }
 {
     let mut catalog = Catalog::empty(alloc);
     'rows: for index in 0..leaf.len() {
@@ -118,8 +216,8 @@ fn tables_in(alloc: Global, leaf: &Leaf<'_>, size: u32) -> R<Catalog>
 
 /// The tables that page 1 of a database of this many pages lists.
 pub fn load(alloc: Global, page: &[u8], size: u32) -> R<Catalog>
-    // Where page 1 lists nothing, that is what is loaded, but for the want of memory.
-    ensures empty { IsLone page.now 1 [] → ListsNothing result }
+    // Where page 1's rows tell tables, these are loaded, but for the want of memory.
+    ensures listed { (tables : List Table) (rows : List Entry) → IsLone page.now 1 rows → AreRowsOf size [] tables rows → LoadsTables tables result }
 {
     let leaf = Leaf::over(alloc, page, 1)?;
     let mut catalog = tables_in(alloc, &leaf, size)?;

@@ -21,62 +21,62 @@ use Rattle.pager.proofs.WriterPages.{among_and_not, others}
 
 -- ---- the refusals of a commit of pages, where no call has failed before
 
-abbrev pub IsFew : Fault → Type 0
-IsFew fault = (fault ≡ Memory) ⊎ ((fault ≡ Io) ⊎ (fault ≡ Full))
+abbrev pub IsFew : Type 0 → Fault → Type 0
+IsFew Within fault = (fault ≡ Memory) ⊎ ((fault ≡ Io) ⊎ ((fault ≡ Full) × (Within → ⊥)))
 
 clash : (b : Bool) → IsFalse b → IsTrue b → ⊥
 clash true f t = (let bad : true ≡ false = f in cc)
 clash false f t = (let bad : false ≡ true = t in cc)
 
-pub refusal_is_few : {D : Type 0} (has_failed : Bool) (Are : Type 0) (old new : D) (failed fails : ℕ) (fault : Fault) → IsFalse has_failed → Are → IsCommitRefusal has_failed Are old new failed fails fault → IsFew fault
-refusal_is_few has_failed Are old new failed fails Memory whole are why = inl refl
-refusal_is_few has_failed Are old new failed fails Io whole are why = inr (inl refl)
-refusal_is_few has_failed Are old new failed fails NotADatabase whole are why = absurd why
-refusal_is_few has_failed Are old new failed fails (Unsupported a) whole are why = absurd why
-refusal_is_few has_failed Are old new failed fails (Damaged damage.Header n) whole are why = absurd why
-refusal_is_few has_failed Are old new failed fails (Damaged damage.Size n) whole are why = absurd why
-refusal_is_few has_failed Are old new failed fails (Damaged damage.MissingPage n) whole are why = absurd why
-refusal_is_few has_failed Are old new failed fails (Damaged damage.Page n) whole are why = absurd (why.1 are)
-refusal_is_few has_failed Are old new failed fails (Damaged damage.Tree n) whole are why = absurd why
-refusal_is_few has_failed Are old new failed fails (Damaged damage.Overflow n) whole are why = absurd why
-refusal_is_few has_failed Are old new failed fails (Damaged damage.Freelist n) whole are why = absurd why
-refusal_is_few has_failed Are old new failed fails (Damaged damage.Record n) whole are why = absurd why
-refusal_is_few has_failed Are old new failed fails (Damaged damage.Schema n) whole are why = absurd why
-refusal_is_few has_failed Are old new failed fails (Damaged damage.Log n) whole are why = absurd why
-refusal_is_few has_failed Are old new failed fails Full whole are why = inr (inr refl)
-refusal_is_few has_failed Are old new failed fails (Syntax a) whole are why = absurd why
-refusal_is_few has_failed Are old new failed fails (NoSuch a b) whole are why = absurd why
-refusal_is_few has_failed Are old new failed fails (Exists a) whole are why = absurd why
-refusal_is_few has_failed Are old new failed fails (Ambiguous a) whole are why = absurd why
-refusal_is_few has_failed Are old new failed fails (Misuse a) whole are why = absurd why
-refusal_is_few has_failed Are old new failed fails Busy whole are why = absurd why
-refusal_is_few has_failed Are old new failed fails StaleSnapshot whole are why = absurd why
-refusal_is_few has_failed Are old new failed fails NoTransaction whole are why = absurd why
-refusal_is_few has_failed Are old new failed fails InTransaction whole are why = absurd why
-refusal_is_few has_failed Are old new failed fails NoSavepoint whole are why = absurd why
-refusal_is_few has_failed Are old new failed fails NotNull whole are why = absurd why
-refusal_is_few has_failed Are old new failed fails Unique whole are why = absurd why
-refusal_is_few has_failed Are old new failed fails Check whole are why = absurd why
-refusal_is_few has_failed Are old new failed fails (Raised a) whole are why = absurd why
-refusal_is_few has_failed Are old new failed fails RealRefused whole are why = absurd why
-refusal_is_few has_failed Are old new failed fails TypeRefused whole are why = absurd why
-refusal_is_few has_failed Are old new failed fails RowidFull whole are why = absurd why
-refusal_is_few has_failed Are old new failed fails RowidMismatch whole are why = absurd why
-refusal_is_few has_failed Are old new failed fails TooLong whole are why = absurd why
-refusal_is_few has_failed Are old new failed fails RowChangedBefore whole are why = absurd why
-refusal_is_few has_failed Are old new failed fails ViewReadOnly whole are why = absurd why
-refusal_is_few has_failed Are old new failed fails Failed whole are why = absurd (clash has_failed whole why.1)
-refusal_is_few has_failed Are old new failed fails Blank whole are why = absurd why
+pub refusal_is_few : {D : Type 0} (has_failed : Bool) (Are Within : Type 0) (old new : D) (failed fails : ℕ) (fault : Fault) → IsFalse has_failed → Are → IsCommitRefusal has_failed Are Within old new failed fails fault → IsFew Within fault
+refusal_is_few has_failed Are Within old new failed fails Memory whole are why = inl refl
+refusal_is_few has_failed Are Within old new failed fails Io whole are why = inr (inl refl)
+refusal_is_few has_failed Are Within old new failed fails NotADatabase whole are why = absurd why
+refusal_is_few has_failed Are Within old new failed fails (Unsupported a) whole are why = absurd why
+refusal_is_few has_failed Are Within old new failed fails (Damaged damage.Header n) whole are why = absurd why
+refusal_is_few has_failed Are Within old new failed fails (Damaged damage.Size n) whole are why = absurd why
+refusal_is_few has_failed Are Within old new failed fails (Damaged damage.MissingPage n) whole are why = absurd why
+refusal_is_few has_failed Are Within old new failed fails (Damaged damage.Page n) whole are why = absurd (why.1 are)
+refusal_is_few has_failed Are Within old new failed fails (Damaged damage.Tree n) whole are why = absurd why
+refusal_is_few has_failed Are Within old new failed fails (Damaged damage.Overflow n) whole are why = absurd why
+refusal_is_few has_failed Are Within old new failed fails (Damaged damage.Freelist n) whole are why = absurd why
+refusal_is_few has_failed Are Within old new failed fails (Damaged damage.Record n) whole are why = absurd why
+refusal_is_few has_failed Are Within old new failed fails (Damaged damage.Schema n) whole are why = absurd why
+refusal_is_few has_failed Are Within old new failed fails (Damaged damage.Log n) whole are why = absurd why
+refusal_is_few has_failed Are Within old new failed fails Full whole are why = inr (inr (refl, why.1))
+refusal_is_few has_failed Are Within old new failed fails (Syntax a) whole are why = absurd why
+refusal_is_few has_failed Are Within old new failed fails (NoSuch a b) whole are why = absurd why
+refusal_is_few has_failed Are Within old new failed fails (Exists a) whole are why = absurd why
+refusal_is_few has_failed Are Within old new failed fails (Ambiguous a) whole are why = absurd why
+refusal_is_few has_failed Are Within old new failed fails (Misuse a) whole are why = absurd why
+refusal_is_few has_failed Are Within old new failed fails Busy whole are why = absurd why
+refusal_is_few has_failed Are Within old new failed fails StaleSnapshot whole are why = absurd why
+refusal_is_few has_failed Are Within old new failed fails NoTransaction whole are why = absurd why
+refusal_is_few has_failed Are Within old new failed fails InTransaction whole are why = absurd why
+refusal_is_few has_failed Are Within old new failed fails NoSavepoint whole are why = absurd why
+refusal_is_few has_failed Are Within old new failed fails NotNull whole are why = absurd why
+refusal_is_few has_failed Are Within old new failed fails Unique whole are why = absurd why
+refusal_is_few has_failed Are Within old new failed fails Check whole are why = absurd why
+refusal_is_few has_failed Are Within old new failed fails (Raised a) whole are why = absurd why
+refusal_is_few has_failed Are Within old new failed fails RealRefused whole are why = absurd why
+refusal_is_few has_failed Are Within old new failed fails TypeRefused whole are why = absurd why
+refusal_is_few has_failed Are Within old new failed fails RowidFull whole are why = absurd why
+refusal_is_few has_failed Are Within old new failed fails RowidMismatch whole are why = absurd why
+refusal_is_few has_failed Are Within old new failed fails TooLong whole are why = absurd why
+refusal_is_few has_failed Are Within old new failed fails RowChangedBefore whole are why = absurd why
+refusal_is_few has_failed Are Within old new failed fails ViewReadOnly whole are why = absurd why
+refusal_is_few has_failed Are Within old new failed fails Failed whole are why = absurd (clash has_failed whole why.1)
+refusal_is_few has_failed Are Within old new failed fails Blank whole are why = absurd why
 
-pub few_keep : {D : Type 0} (has_failed : Bool) (Are : Type 0) (old new : D) (failed fails : ℕ) (fault : Fault) → IsFew fault → (fault ≡ Io → ⊥) → IsCommitRefusal has_failed Are old new failed fails fault → new ≡ old
-few_keep has_failed Are old new failed fails fault (inl is) other why = subst (IsCommitRefusal has_failed Are old new failed fails) is why
-few_keep has_failed Are old new failed fails fault (inr (inl is)) other why = absurd (other is)
-few_keep has_failed Are old new failed fails fault (inr (inr is)) other why = subst (IsCommitRefusal has_failed Are old new failed fails) is why
+pub few_keep : {D : Type 0} (has_failed : Bool) (Are Within : Type 0) (old new : D) (failed fails : ℕ) (fault : Fault) → IsFew Within fault → (fault ≡ Io → ⊥) → IsCommitRefusal has_failed Are Within old new failed fails fault → new ≡ old
+few_keep has_failed Are Within old new failed fails fault (inl is) other why = subst (IsCommitRefusal has_failed Are Within old new failed fails) is why
+few_keep has_failed Are Within old new failed fails fault (inr (inl is)) other why = absurd (other is)
+few_keep has_failed Are Within old new failed fails fault (inr (inr is)) other why = (let at : (new ≡ old) × (Within → ⊥) = subst (IsCommitRefusal has_failed Are Within old new failed fails) is.0 why in at.0)
 
-pub few_know : (known new : Known) (fault : Fault) → IsFew fault → (fault ≡ Io → ⊥) → new ≡ after_refusal known fault → new ≡ known
-few_know known new fault (inl is) other after = after ∙ ap (after_refusal known) is
-few_know known new fault (inr (inl is)) other after = absurd (other is)
-few_know known new fault (inr (inr is)) other after = after ∙ ap (after_refusal known) is
+pub few_know : (Within : Type 0) (known new : Known) (fault : Fault) → IsFew Within fault → (fault ≡ Io → ⊥) → new ≡ after_refusal known fault → new ≡ known
+few_know Within known new fault (inl is) other after = after ∙ ap (after_refusal known) is
+few_know Within known new fault (inr (inl is)) other after = absurd (other is)
+few_know Within known new fault (inr (inr is)) other after = after ∙ ap (after_refusal known) is.0
 
 -- ---- another header on the first of some pages
 

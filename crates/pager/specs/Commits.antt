@@ -1,6 +1,7 @@
 -- What a writer's commit makes of the database (Database File Format, "WAL File Format" and "The Database Header").
-use Rattle.std.specs.Prelude.{◌≡◌, ◌⊎◌, ◌↔◌, ◌≤◌, ℕ, List}
+use Rattle.std.specs.Prelude.{◌≡◌, ◌⊎◌, ◌↔◌, ◌≤◌, ℕ, List, Option, length, map}
 use Rattle.disk.specs.declared.device.Disk.{Ghosts}
+use Rattle.disk.specs.File.{Always, IsContentLeft, IsSynced}
 use Rattle.dbheader.specs.declared.fields.Header.{Header}
 use Rattle.dbheader.specs.Header.{IsHeader}
 use Rattle.dbheader.specs.Writing.{IsBytes}
@@ -8,11 +9,16 @@ use Rattle.sqlval.specs.declared.fault.Fault.{Fault}
 use Rattle.sqlval.specs.declared.fault.Fault.TheVariants.{Memory, Io, Full}
 use Rattle.wal.specs.declared.log.Log.{Log}
 use Rattle.wal.specs.declared.log.Snapshot.{Snapshot}
+use Rattle.walframe.specs.Written.{Framed}
+use Rattle.wal.specs.Committed.{HasCommits}
 use Rattle.wal.specs.Known.{db_of, log_of, known_of, seen_by}
 use Rattle.wal.specs.Laws.{IsNotAmong}
+use Rattle.wal.specs.Opening.{IsViewSize}
+use Rattle.wal.specs.Refusals.{IsWithin}
+use Rattle.wal.specs.Stops.{LeavesEither}
 use Rattle.pager.specs.declared.writer.Writer.{Writer}
 use Rattle.pager.specs.Limits.{pages_of, page_size_of}
-use Rattle.pager.specs.Views.{Has, Tells, changes_of, newest_view, view_at, view_of}
+use Rattle.pager.specs.Views.{View, Has, Tells, changes_of, newest_view, view_at, view_of}
 use Rattle.pager.specs.Writers.{IsHeaded, IsNextHeader, IsWhole, makes_objects, snapshot_of}
 
 module _ {D : Type 0} {g : Ghosts D} where
@@ -25,23 +31,45 @@ module _ {D : Type 0} {g : Ghosts D} where
     pub first : Has (view_of files writer) 1 page
     pub header_is : IsHeader page header
 
-  -- What a commit leaves: the newest view is what the writer saw, but for the header on page 1, which is the next one; and snapshots
+  -- What a view shows that a writer's commit leaves: what the writer saw, but for the header on page 1, which is the next one.
+  pub record IsCommittedOver (old : Log D g) (writer : Writer) (page : List ℕ) (header : Header) (view : View) : Type 0 where
+    pub size : view.size ≡ pages_of writer
+    pub others : (number : ℕ) (bytes : List ℕ) → (number ≡ 1 → ⊥) → Has view number bytes ↔ Has (view_of old writer) number bytes
+    pub first : List ℕ
+    pub next : Header
+    pub has_first : Has view 1 first
+    pub headed : IsHeaded page first next
+    pub next_is : IsNextHeader header next (makes_objects writer) (pages_of writer)
+
+  -- What a commit leaves: the newest view is what the writer saw, with the next header on page 1, and it is on the disk; and snapshots
   -- that were there see what they saw.
   pub record CommitsPages (old : Log D g) (writer : Writer) (page : List ℕ) (header : Header) (new : Log D g) : Type 0 where
     pub tells : Tells new
-    pub size : (newest_view new).size ≡ pages_of writer
-    pub others : (number : ℕ) (bytes : List ℕ) → (number ≡ 1 → ⊥) → Has (newest_view new) number bytes ↔ Has (view_of old writer) number bytes
-    pub first : List ℕ
-    pub next : Header
-    pub has_first : Has (newest_view new) 1 first
-    pub headed : IsHeaded page first next
-    pub next_is : IsNextHeader header next (makes_objects writer) (pages_of writer)
+    pub left : IsCommittedOver old writer page header (newest_view new)
     pub stay : (snapshot : Snapshot) → seen_by snapshot ≤ (known_of old).frames → view_at new snapshot ≡ view_at old snapshot
+    pub db_is : (newest_view new).db ≡ (newest_view old).db
+    pub page_size_is : (newest_view new).page_size ≡ (newest_view old).page_size
+    pub sized : (counted : Option ℕ) (len : ℕ) → IsViewSize (map (λ (f : Framed). f.head) (newest_view new).frames) counted len (newest_view new).page_size (newest_view new).size
+    pub few : length (newest_view new).frames ≤ 1000000
+    pub settled : HasCommits (known_of new).page_size (g.file (log_of new)).content (newest_view new).frames
+    pub synced : IsSynced (g.file (log_of new))
+
+  -- A commit that may write: the view that it would leave behind the newest one, and what a stop leaves of the log at each moment: the
+  -- frames of the one or of the other.
+  pub record LeavesCommit (old : Log D g) (writer : Writer) (page : List ℕ) (header : Header) (new : Log D g) : Type 0 where
+    pub view : View
+    pub db_is : view.db ≡ (newest_view old).db
+    pub page_size_is : view.page_size ≡ (newest_view old).page_size
+    pub is : IsCommittedOver old writer page header view
+    pub sized : (counted : Option ℕ) (len : ℕ) → IsViewSize (map (λ (f : Framed). f.head) view.frames) counted len view.page_size view.size
+    pub few : length view.frames ≤ 1000000
+    pub stop : Always (g.file (log_of old)) (g.file (log_of new)) (LeavesEither (known_of old).page_size (newest_view old).frames view.frames)
+    pub content : IsContentLeft (g.file (log_of new))
 
   -- What a refused commit leaves: nothing of the files has changed unless a call of theirs failed; and the writer sees what it saw, with
-  -- the same header on page 1.
+  -- the same header on page 1. It is `Full` only where it isn't within the limits.
   pub record IsRefusedCommit (old : Log D g) (writer : Writer) (page : List ℕ) (header : Header) (new : Log D g) (left : Writer) (fault : Fault) : Type 0 where
-    pub why : (fault ≡ Memory) ⊎ ((fault ≡ Io) ⊎ (fault ≡ Full))
+    pub why : (fault ≡ Memory) ⊎ ((fault ≡ Io) ⊎ ((fault ≡ Full) × (IsWithin (known_of old) (length (changes_of writer)) (pages_of writer) → ⊥)))
     pub files : (fault ≡ Io → ⊥) → (db_of new ≡ db_of old) × (log_of new ≡ log_of old) × (known_of new ≡ known_of old)
     pub whole : IsWhole left
     pub size : pages_of left ≡ pages_of writer

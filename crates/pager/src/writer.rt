@@ -9,7 +9,7 @@ ghost use Rattle.wal.specs.Known.{db_of, known_of, log_of, seen_by, size_of};
 ghost use Rattle.wal.specs.Laws.{IsAmong, IsNotAmong};
 ghost use Rattle.wal.specs.Whys.{HasReason};
 ghost use Rattle.walframe.specs.Accepted.{Leaves};
-ghost use Rattle.pager.specs.Commits.{CommitsPages, IsRefusedCommit, MayCommit};
+ghost use Rattle.pager.specs.Commits.{CommitsPages, IsRefusedCommit, LeavesCommit, MayCommit};
 ghost use Rattle.pager.specs.Limits.{one_more, pages_of, page_size_of};
 ghost use Rattle.pager.specs.Views.{Has, IsPage, Tells, View, changes_of, view_at};
 ghost use Rattle.pager.specs.Writers.{AreObjectPages, HasHeader, IsAt, IsBegun, IsGapFor, IsHeaded, IsNextHeader, IsUnchanged, IsWhole, Puts, Reheads, makes_objects, seen, snapshot_of};
@@ -165,6 +165,8 @@ impl Writer {
     pub fn commit<D: Disk + Drop>(&mut self, alloc: Global, log: &mut Log<D>) -> R<()>
         ensures commits { (page : List ℕ) (header : Header) → MayCommit log.old self.old page header → OnOk result (CommitsPages log.old self.old page header log.new) }
         ensures refused { (page : List ℕ) (header : Header) → MayCommit log.old self.old page header → IfErr result (IsRefusedCommit log.old self.old page header log.new self.new) }
+        // A stop leaves the frames of the newest view, or those of the one that the commit leaves, unless the log is as it was.
+        ensures stop { (page : List ℕ) (header : Header) → MayCommit log.old self.old page header → (log_of log.new ≡ log_of log.old) ⊎ LeavesCommit log.old self.old page header log.new }
         ensures known { (page : List ℕ) (header : Header) → MayCommit log.old self.old page header → IsKnownAfter result (known_of log.old) (length (changes_of self.old)) (pages_of self.old) (known_of log.new) }
         ensures disks { KeepsDisks D.tells D.failures (db_of log.old) (db_of log.new) (log_of log.old) (log_of log.new) }
         ensures reason { HasReason true result log.old log.new }

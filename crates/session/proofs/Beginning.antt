@@ -30,6 +30,7 @@ use Rattle.session.specs.declared.transactions.Transaction.{Transaction}
 use Rattle.session.specs.declared.transactions.Transaction.TheVariants as transaction
 use Rattle.session.proofs.SeenPages.{at_newest}
 use Rattle.session.proofs.Selecting.{all_listed}
+use Rattle.session.proofs.Settled.{stop_still}
 use Rattle.session.proofs.Showing.{idle_first, moved, still_shown}
 use Rattle.session.proofs.Stepping.{begin_outcome, begun_as, by_outcome, first_is, free_begin, instead, no_other}
 
@@ -118,6 +119,7 @@ module _ {D : Type 0} {g : Ghosts D} where
               writer_begins old new w s start,
               subst (λ (c : Catalog). Stores (view_of (files_of new) w) (tables_of c) (newest m)) (sym start.catalog) (writer_stores old new w s (tables_of old.catalog) (newest m) start (all_listed old m shown all_committed)),
             )));
+        stop = stop_still old new m next shown start.files;
       }
 
   -- where page 1 isn't read, for want of memory or a failed call
@@ -126,6 +128,7 @@ module _ {D : Type 0} {g : Ghosts D} where
     next = m;
     step = by_why (why m shown);
     shown = inr (still_shown old new m shown (reads.files shown.told) reads.failed reads.catalog reads.transaction);
+    stop = stop_still old new m m shown (reads.files shown.told);
   }
     where
       outcome_is : outcome m 1 (statement.Begin begins.Immediate) ≡ Gives [] (with_connection m 1 (begun_as begins.Immediate m))

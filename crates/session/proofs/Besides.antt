@@ -1,5 +1,5 @@
 -- A step of one connection leaves the others as they were.
-use Rattle.std.proofs.Common.{◌≡◌, ◌≤◌, ◌<◌, ◌-◌, ◌≢◌, refl, sym, ◌∙◌, ℕ, zero, suc, List, Bool, true, false, inl, inr, subst, [], ◌∷◌, ◌++◌, length, get_or, slice_set, ◌==◌, Some, Ok, Err, nat_lt, ◌⊎◌, cond, arith}
+use Rattle.std.proofs.Common.{◌≡◌, ◌≤◌, ◌<◌, ◌-◌, ◌≢◌, refl, sym, ◌∙◌, ℕ, zero, suc, List, Bool, true, false, inl, inr, subst, [], ◌∷◌, ◌++◌, length, get_or, slice_set, ◌==◌, Some, Ok, Err, nat_lt, ◌⊎◌, cond, arith, length-append}
 use Rattle.std.specs.Prelude.{slice_get, unwrap_or}
 use Rattle.std.proofs.lemmas.Option.{unwrap_or-slice_get}
 use Rattle.std.proofs.lemmas.List.{get_or-set_other, get_or_append_left}
@@ -18,8 +18,8 @@ use Rattle.session.specs.Outcomes.{Outcome, Gives, RefusedBy, Ends, Commits, Cop
 use Rattle.session.specs.Steps.{Allowed, Instead, is_connection, after_commit, fails}
 
 -- the machine is left so that the others are as they were
-beside_itself : (m : Machine) (c : ℕ) → IsBeside m c m
-beside_itself m c = record { others = λ d low other. refl; kept = λ i within. refl }
+pub beside_itself : (m : Machine) (c : ℕ) → IsBeside m c m
+beside_itself m c = record { others = λ d low other. refl; longer = omega arith; kept = λ i within. refl }
 
 at_place : (ks : List Connection) (d : ℕ) → unwrap_or (slice_get ks d) Idle ≡ get_or ks d Idle
 at_place ks d = unwrap_or-slice_get ks d Idle
@@ -33,7 +33,7 @@ others_stay m c k low d high other =
     ∙ (get_or-set_other m.connections (c - 1) (d - 1) k Idle (apart c d low high other) ∙ sym (at_place m.connections (d - 1)))
 
 with_beside : (m : Machine) (c : ℕ) (k : Connection) → 1 ≤ c → IsBeside m c (with_connection m c k)
-with_beside m c k low = record { others = others_stay m c k low; kept = λ i within. refl }
+with_beside m c k low = record { others = others_stay m c k low; longer = omega arith; kept = λ i within. refl }
 
 committed_at : (dbs : List Database) (i : ℕ) → unwrap_or (slice_get dbs i) [] ≡ get_or dbs i []
 committed_at dbs i = unwrap_or-slice_get dbs i []
@@ -42,13 +42,13 @@ front_stays : (dbs : List Database) (db : Database) (i : ℕ) → i < length dbs
 front_stays dbs db i within = committed_at (dbs ++ db ∷ []) i ∙ (get_or_append_left dbs (db ∷ []) [] i within ∙ sym (committed_at dbs i))
 
 commit_beside : (m : Machine) (c : ℕ) (db : Database) → 1 ≤ c → IsBeside m c (after_commit m c db)
-commit_beside m c db low = record { others = others_stay m c Idle low; kept = λ i within. front_stays m.history db i within }
+commit_beside m c db low = record { others = others_stay m c Idle low; longer = omega (arith, length-append m.history (db ∷ [])); kept = λ i within. front_stays m.history db i within }
 
 fails_beside : (m new : Machine) (c : ℕ) → IsBeside m c new → IsBeside m c (fails new)
-fails_beside m new c h = record { others = h.others; kept = h.kept }
+fails_beside m new c h = record { others = h.others; longer = h.longer; kept = h.kept }
 
 doubt_beside : (m : Machine) (c : ℕ) (db : Database) → IsBeside m c (record (fails m) { in_doubt = Some db })
-doubt_beside m c db = record { others = λ d low other. refl; kept = λ i within. refl }
+doubt_beside m c db = record { others = λ d low other. refl; longer = omega arith; kept = λ i within. refl }
 
 -- ---- each outcome
 
@@ -144,7 +144,7 @@ outcome_stays m c s low = sorted_stays (sort s) s m c (connection m c) low
 
 -- ---- each answer
 
-moved : (m new mid : Machine) (c : ℕ) → new ≡ mid → IsBeside m c mid → IsBeside m c new
+pub moved : (m new mid : Machine) (c : ℕ) → new ≡ mid → IsBeside m c mid → IsBeside m c new
 moved m new mid c e h = subst (λ n. IsBeside m c n) (sym e) h
 
 allowed_stays : (m : Machine) (c : ℕ) (o : Outcome) (reply : Reply) (new : Machine) → 1 ≤ c → Stays m c o → Allowed m c o reply new → IsBeside m c new

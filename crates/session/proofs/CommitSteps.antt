@@ -1,6 +1,6 @@
 -- COMMIT is a step of the machine.
-use Rattle.std.proofs.Common.{◌≡◌, ◌⊎◌, ◌≤◌, inl, inr, refl, sym, ap, subst, ◌∙◌, List, [], ◌∷◌, ◌++◌, length, take, true, false, arith}
-use Rattle.std.specs.Prelude.{◌-◌, ⊤, Result, Ok, Err, Some, slice_get, unwrap_or}
+use Rattle.std.proofs.Common.{◌≡◌, ◌⊎◌, ◌≤◌, inl, inr, refl, sym, ap, subst, ◌∙◌, List, [], ◌∷◌, length, take, true, false, arith}
+use Rattle.std.specs.Prelude.{⊤, Result, Ok, Err}
 use Rattle.std.specs.Result.{is_err}
 use Rattle.std.proofs.lemmas.Bool.{false≢true}
 use Rattle.std.proofs.lemmas.List.{length-append, take_all}
@@ -19,26 +19,21 @@ use Rattle.wal.specs.declared.log.Snapshot.{Snapshot}
 use Rattle.pager.specs.Views.{Tells, View, newest_view, view_of}
 use Rattle.pager.specs.declared.writer.Writer.{Writer}
 use Rattle.session.specs.Built.{StepSoFar}
+use Rattle.session.specs.Holding.{IsSettled}
 use Rattle.session.specs.Known.{files_of, has_failed_in}
 use Rattle.session.specs.Machine.{Machine, Idle, InTransactionOf, NoSnapshot, Phase, Reads, Reply, Rows, Refused, Writes, last_place, newest, with_connection}
 use Rattle.session.specs.Outcomes.{Commits, Gives, RefusedBy, commit_outcome, outcome}
 use Rattle.session.specs.Shown.{AreCommitted, FindsNoRoom, IsShown, IsTransaction, IsWriter, ShowTheSame, StepsOn, StepsTo, done_reply, is_idle}
-use Rattle.session.specs.Steps.{Allowed, after_commit, fails, is_free}
+use Rattle.session.specs.Steps.{Allowed, after_commit, is_free}
 use Rattle.session.specs.Stored.{Stores}
-use Rattle.session.specs.Working.{CommitsWork, HasCommitted, IsUncommitted, WorksOn}
+use Rattle.session.specs.Working.{CommitsWork, HasCommitted, HoldsEither, IsInDoubt, IsUncommitted, WorksOn}
 use Rattle.session.specs.declared.transactions.Connections.{Connections}
 use Rattle.session.specs.declared.transactions.Transaction.{Transaction}
 use Rattle.session.specs.declared.transactions.Transaction.TheVariants as transaction
+use Rattle.session.proofs.CommitStops.{commit_stops, doubt_left, doubt_stops, doubted, last_is}
+use Rattle.session.proofs.Settled.{stop_still}
 use Rattle.session.proofs.Showing.{Begins, idle_first, moved, still_shown, the_same}
 use Rattle.session.proofs.Stepping.{by_outcome, commit_outcome_of, first_is, first_set, instead}
-
--- the last of a history
-at_end : (history : List Database) (db : Database) → unwrap_or (slice_get (history ++ db ∷ []) (length history)) [] ≡ db
-at_end [] db = refl
-at_end (x ∷ history) db = at_end history db
-
-last_is : (history : List Database) (db : Database) → unwrap_or (slice_get (history ++ db ∷ []) (length (history ++ db ∷ []) - 1)) [] ≡ db
-last_is history db = ap (λ n. unwrap_or (slice_get (history ++ db ∷ []) n) []) (omega (arith, length-append history (db ∷ []))) ∙ at_end history db
 
 module _ {D : Type 0} {g : Ghosts D} where
   -- ---- nothing to commit
@@ -51,6 +46,7 @@ module _ {D : Type 0} {g : Ghosts D} where
         next = m;
         step = by_outcome (FindsNoRoom old statement.Commit) m statement.Commit refl shown.running (RefusedBy (refusal.NoTransaction ∷ [])) (Refused refusal.NoTransaction) m is (refusal.NoTransaction, (0, omega arith, refl), refl, refl);
         shown = inr (still_shown old new m shown (subst (ShowTheSame (files_of old)) (sym same.files) (the_same (files_of old) shown.told)) same.failed same.catalog same.now);
+        stop = stop_still old new m m shown (subst (ShowTheSame (files_of old)) (sym same.files) (the_same (files_of old) shown.told));
       }
 
   ended : (old new : Connections D g) (m : Machine) (shown : IsShown old m) (phase : Phase) → shown.first ≡ InTransactionOf false [] phase → commit_outcome m 1 phase ≡ Gives [] (with_connection m 1 Idle) → AreCommitted old.catalog
@@ -61,6 +57,7 @@ module _ {D : Type 0} {g : Ghosts D} where
     shown = inr (moved old new m Idle shown (subst (ShowTheSame (files_of old)) (sym ends.files) (the_same (files_of old) shown.told)) ends.failed (ap (λ (c : Catalog). take (committed_in c) (tables_of c)) ends.catalog)
         (subst (λ (c : Catalog). committed_in c ≤ length (tables_of c)) (sym ends.catalog) shown.listed)
         (subst (λ (t : Transaction). IsTransaction (files_of new) new.catalog (last_place m) t Idle) (sym ends.now) (refl, subst AreCommitted (sym ends.catalog) all)));
+    stop = stop_still old new m (with_connection m 1 Idle) shown (subst (ShowTheSame (files_of old)) (sym ends.files) (the_same (files_of old) shown.told));
   }
     where
       is : outcome m 1 statement.Commit ≡ Gives [] (with_connection m 1 Idle)
@@ -82,8 +79,10 @@ module _ {D : Type 0} {g : Ghosts D} where
   pub committed_shown : (old before new : Connections D g) (m : Machine) (shown : IsShown old m) (made : Database) → has_failed_in before ≡ has_failed_in old → HasCommitted before made new → new.transaction ≡ transaction.Idle → IsShown new (after_commit m 1 made)
   committed_shown old before new m shown made failed has idle = record {
     running = shown.running;
+    sure = shown.sure;
     whole = has.failed ∙ failed ∙ shown.whole;
     told = has.told;
+    settled = has.settled;
     some = omega (arith, length-append m.history (made ∷ []));
     listed = omega (arith, has.all);
     stored = subst (λ (ts : List Table). Stores (newest_view (files_of new)) ts (newest (after_commit m 1 made))) (sym (take_all (committed_in new.catalog) (tables_of new.catalog) (omega (arith, has.all))))
@@ -107,6 +106,8 @@ module _ {D : Type 0} {g : Ghosts D} where
     pub db : Database
     pub first : shown.first ≡ InTransactionOf false [] (Writes (last_place m) db)
     pub works : WorksOn mid w db
+    pub same : ShowTheSame (files_of old) (files_of mid)
+    pub tables : take (committed_in mid.catalog) (tables_of mid.catalog) ≡ take (committed_in old.catalog) (tables_of old.catalog)
 
   pub writes_in : (old mid : Connections D g) (m : Machine) (w : Writer) → IsShown old m → old.transaction ≡ transaction.Writing w → files_of mid ≡ files_of old → mid.catalog ≡ old.catalog → WritesIn old mid m w
   writes_in old mid m w shown was files catalog =
@@ -117,10 +118,13 @@ module _ {D : Type 0} {g : Ghosts D} where
         first = first.1;
         works = record {
           told = subst Tells (sym files) shown.told;
+          settled = subst IsSettled (sym files) shown.settled;
           writer = subst (λ (l : Log D g). IsWriter l w) (sym files) first.2;
           stored = subst (λ (l : Log D g). Stores (view_of l w) (tables_of mid.catalog) first.0) (sym files) (subst (λ (c : Catalog). Stores (view_of (files_of old) w) (tables_of c) first.0) (sym catalog) first.3);
           listed = subst (λ (c : Catalog). committed_in c ≤ length (tables_of c)) (sym catalog) shown.listed;
         };
+        same = subst (ShowTheSame (files_of old)) (sym files) (the_same (files_of old) shown.told);
+        tables = ap (λ (c : Catalog). take (committed_in c) (tables_of c)) catalog;
       }
 
   module _ (old mid new : Connections D g) (m : Machine) (w : Writer) (in_writing : WritesIn old mid m w) where
@@ -130,22 +134,24 @@ module _ {D : Type 0} {g : Ghosts D} where
     step_to : (reply : Reply) (next : Machine) → Allowed m 1 (Commits false in_writing.db) reply next → StepSoFar (FindsNoRoom old statement.Commit) m 1 statement.Commit reply next
     step_to reply next allowed = by_outcome (FindsNoRoom old statement.Commit) m statement.Commit refl in_writing.shown.running (Commits false in_writing.db) reply next commits_it allowed
 
-    pub committed_step : has_failed_in mid ≡ has_failed_in old → mid.transaction ≡ transaction.Idle → HasCommitted mid in_writing.db new → StepsTo old m 1 statement.Commit (Rows []) new
+    pub committed_step : has_failed_in mid ≡ has_failed_in old → mid.transaction ≡ transaction.Idle → HasCommitted mid in_writing.db new × HoldsEither mid in_writing.db new → StepsTo old m 1 statement.Commit (Rows []) new
     committed_step failed idle has =
         let shown = in_writing.shown in
         let next = after_commit m 1 in_writing.db in
         record {
           next = next;
           step = step_to (Rows []) next (refl, inl refl);
-          shown = inr (committed_shown old mid new m shown in_writing.db failed has (has.transaction ∙ idle));
+          shown = inr (committed_shown old mid new m shown in_writing.db failed has.0 (has.0.transaction ∙ idle));
+          stop = commit_stops old mid new m in_writing.db shown in_writing.same in_writing.tables has.1;
         }
 
     -- where a call of a disk has failed, the database is in doubt
-    failed_step : (after : Connections D g) → has_failed_in after ≡ true → StepsTo old m 1 statement.Commit (Refused refusal.Io) after
-    failed_step after failed = record {
-      next = record (fails m) { in_doubt = Some in_writing.db };
-      step = step_to (Refused refusal.Io) (record (fails m) { in_doubt = Some in_writing.db }) (refl, inr refl);
-      shown = inl (failed, refl);
+    failed_step : (left : Writer) (f : Fault) → IsInDoubt mid in_writing.db new f → StepsTo old m 1 statement.Commit (Refused refusal.Io) (writing_on new left)
+    failed_step left f doubt = record {
+      next = doubted m in_writing.db;
+      step = step_to (Refused refusal.Io) (doubted m in_writing.db) (refl, inr refl);
+      shown = inl (doubt.failed, refl, doubt_left old mid new m in_writing.db in_writing.shown in_writing.same in_writing.tables doubt.held f doubt);
+      stop = doubt_stops old mid new m in_writing.db in_writing.shown in_writing.same in_writing.tables doubt.held;
     }
 
     -- and where nothing was committed, the transaction goes on
@@ -154,8 +160,10 @@ module _ {D : Type 0} {g : Ghosts D} where
         let shown = in_writing.shown in
         record {
           running = shown.running;
+          sure = shown.sure;
           whole = is.kept.failed ∙ failed ∙ shown.whole;
           told = is.works.told;
+          settled = is.works.settled;
           some = shown.some;
           listed = is.works.listed;
           stored = subst (λ (v : View). Stores v (take (committed_in new.catalog) (tables_of new.catalog)) (newest m)) (sym (is.kept.files.newest ∙ ap newest_view files))
@@ -170,24 +178,28 @@ module _ {D : Type 0} {g : Ghosts D} where
         tables : take (committed_in new.catalog) (tables_of new.catalog) ≡ take (committed_in old.catalog) (tables_of old.catalog)
         tables = ap (λ n. take n (tables_of new.catalog)) is.kept.committed ∙ is.kept.tables ∙ ap (λ (c : Catalog). take (committed_in c) (tables_of c)) catalog
 
-    instead_step : (left : Writer) (r : Refusal) → is_free r ≡ true → IsShown (writing_on new left) m → StepsTo old m 1 statement.Commit (Refused r) (writing_on new left)
-    instead_step left r free shown = record {
+    instead_step : (left : Writer) (r : Refusal) → is_free r ≡ true → ShowTheSame (files_of old) (files_of new) → IsShown (writing_on new left) m → StepsTo old m 1 statement.Commit (Refused r) (writing_on new left)
+    instead_step left r free same shown = record {
       next = m;
       step = instead (FindsNoRoom old statement.Commit) m statement.Commit refl in_writing.shown.running (Commits false in_writing.db) (Refused r) commits_it (inl free, refl);
       shown = inr shown;
+      stop = stop_still old new m m in_writing.shown same;
     }
 
     pub refused_step : (left : Writer) (f : Fault) → has_failed_in mid ≡ has_failed_in old → files_of mid ≡ files_of old → mid.catalog ≡ old.catalog → CommitsWork mid in_writing.db (Err f) new left
         → StepsTo old m 1 statement.Commit (Refused (refusal_of f)) (writing_on new left)
-    refused_step left f failed files catalog (inl io) = subst (λ (e : Fault). StepsTo old m 1 statement.Commit (Refused (refusal_of e)) (writing_on new left)) (sym io.0) (failed_step (writing_on new left) io.1)
+    refused_step left f failed files catalog (inl io) = subst (λ (e : Fault). StepsTo old m 1 statement.Commit (Refused (refusal_of e)) (writing_on new left)) (sym io.io) (failed_step left f io)
     refused_step left f failed files catalog (inr is) = by_why is.why
       where
         on : IsShown (writing_on new left) m
         on = shown_on left f failed files catalog is
 
+        same : ShowTheSame (files_of old) (files_of new)
+        same = subst (λ (l : Log D g). ShowTheSame l (files_of new)) files is.kept.files
+
         by_why : (f ≡ fault.Memory) ⊎ (f ≡ fault.Full) → StepsTo old m 1 statement.Commit (Refused (refusal_of f)) (writing_on new left)
-        by_why (inl memory) = subst (λ (e : Fault). StepsTo old m 1 statement.Commit (Refused (refusal_of e)) (writing_on new left)) (sym memory) (instead_step left refusal.Memory refl on)
-        by_why (inr full) = subst (λ (e : Fault). StepsTo old m 1 statement.Commit (Refused (refusal_of e)) (writing_on new left)) (sym full) (instead_step left refusal.Full refl on)
+        by_why (inl memory) = subst (λ (e : Fault). StepsTo old m 1 statement.Commit (Refused (refusal_of e)) (writing_on new left)) (sym memory) (instead_step left refusal.Memory refl same on)
+        by_why (inr full) = subst (λ (e : Fault). StepsTo old m 1 statement.Commit (Refused (refusal_of e)) (writing_on new left)) (sym full) (instead_step left refusal.Full refl same on)
 
     -- by what the commit answered
     pub ok_step : (result : Result ⊤ Fault) (left : Writer) → is_err result ≡ false → has_failed_in mid ≡ has_failed_in old → mid.transaction ≡ transaction.Idle → CommitsWork mid in_writing.db result new left

@@ -2,21 +2,22 @@
 use Rattle.std.proofs.Common.{◌≡◌, ◌⊎◌, ◌≤◌, ◌<◌, inl, inr, refl, sym, ap, subst, ◌∙◌, ℕ, List, [], length, take, false, arith}
 use Rattle.std.specs.Prelude.{◌↔◌, Err}
 use Rattle.std.proofs.lemmas.Bool.{false≢true}
+use Rattle.disk.specs.File.{IsSynced}
 use Rattle.disk.specs.declared.device.Disk.{Ghosts}
 use Rattle.sqlval.specs.declared.fault.Fault.{Fault}
 use Rattle.sqlval.specs.declared.fault.Fault.TheVariants as fault
 use Rattle.dbheader.specs.declared.fields.Header.{Header}
 use Rattle.tabletree.proofs.BehindFront.{kept_behind}
-use Rattle.wal.specs.Commits.{grown}
 use Rattle.wal.specs.Committed.{frames_under}
 use Rattle.wal.specs.Known.{Known, db_of, header_of, known_of, log_of, seen_by, size_of}
 use Rattle.wal.specs.Opening.{IsServedSize}
+use Rattle.wal.specs.Refusals.{IsWithin}
 use Rattle.wal.specs.declared.log.Log.{Log}
 use Rattle.catalog.specs.Database.{Database}
 use Rattle.catalog.specs.Listed.{committed_in, tables_of}
 use Rattle.catalog.specs.declared.tables.Catalog.{Catalog}
 use Rattle.catalog.specs.declared.tables.Table.{Table}
-use Rattle.pager.specs.Commits.{CommitsPages, IsRefusedCommit, MayCommit}
+use Rattle.pager.specs.Commits.{CommitsPages, IsCommittedOver, IsRefusedCommit, LeavesCommit, MayCommit}
 use Rattle.pager.specs.Limits.{pages_of}
 use Rattle.pager.specs.Views.{Has, IsPage, Tells, View, after, changes_of, newest_view, view_of}
 use Rattle.pager.specs.Writers.{IsHeaded, snapshot_of}
@@ -25,8 +26,9 @@ use Rattle.session.specs.Known.{files_of, has_failed_in, is_io}
 use Rattle.session.specs.Shown.{IsNewest, IsWriter, ShowTheSame}
 use Rattle.session.specs.Schema.{AreRowsOf}
 use Rattle.session.specs.Stored.{HasFirstPage, Stores}
-use Rattle.session.specs.Working.{CommitsWork, HasCommitted, IsUncommitted, WorksOn}
+use Rattle.session.specs.Working.{CommitsWork, HasCommitted, HoldsEither, IsUncommitted, WorksOn}
 use Rattle.session.specs.declared.transactions.Connections.{Connections}
+use Rattle.session.proofs.Settled.{db_left, either_throughout, found_over, log_left, still_settled}
 use Rattle.session.proofs.Showing.{still_writer}
 
 -- ---- views that differ on page 1 alone
@@ -61,10 +63,6 @@ other_first v w tables db sized long same first held = record {
     there : (number : ℕ) (bytes : List ℕ) → 1 < number → IsPage v number bytes → IsPage w number bytes
     there number bytes above page = record { first = page.first; last = omega (arith, page.last, long); has = (same number bytes (λ one. omega (arith, one, above))).1 page.has }
 
--- what is known of the files of a commit
-size_kept : (known new : Known) (count size : ℕ) → new ≡ grown known count size → new.page_size ≡ known.page_size
-size_kept known new count size is = ap (λ (k : Known). k.page_size) is
-
 module _ {D : Type 0} {g : Ghosts D} where
   -- a writer that works on a database may commit it
   pub may_commit : (c : Connections D g) (w : Writer) (db : Database) (works : WorksOn c w db) → MayCommit (files_of c) w works.stored.first.page works.stored.first.header
@@ -77,25 +75,37 @@ module _ {D : Type 0} {g : Ghosts D} where
     header_is = works.stored.first.header_is;
   }
 
-  -- the newest commit is the database then
-  committed_stores : (old new : Log D g) (w : Writer) (tables : List Table) (db : Database) (count : ℕ) (held : Stores (view_of old w) tables db) → CommitsPages old w held.first.page held.first.header new
-      → known_of new ≡ grown (known_of old) count (pages_of w) → Stores (newest_view new) tables db
-  committed_stores old new w tables db count held is known =
-      let sized = size_kept (known_of old) (known_of new) count (pages_of w) known in
-      other_first (view_of old w) (newest_view new) tables db sized is.size is.others
-      (first_headed (view_of old w) (newest_view new) tables held.first is.first is.next sized is.size is.has_first is.headed is.next_is.page_size) held
+  -- a view that the commit leaves holds the database
+  stores_over : (old : Log D g) (w : Writer) (tables : List Table) (db : Database) (held : Stores (view_of old w) tables db) (view : View) → view.page_size ≡ (newest_view old).page_size
+      → IsCommittedOver old w held.first.page held.first.header view → Stores view tables db
+  stores_over old w tables db held view sized is =
+      other_first (view_of old w) view tables db sized is.size is.others
+      (first_headed (view_of old w) view tables held.first is.first is.next sized is.size is.has_first is.headed is.next_is.page_size) held
 
-  pub has_committed : (old new : Connections D g) (w : Writer) (db : Database) (count : ℕ) (works : WorksOn old w db) → CommitsPages (files_of old) w works.stored.first.page works.stored.first.header (files_of new)
-      → known_of (files_of new) ≡ grown (known_of (files_of old)) count (pages_of w) → has_failed_in new ≡ has_failed_in old → new.transaction ≡ old.transaction → tables_of new.catalog ≡ tables_of old.catalog
+  pub has_committed : (old new : Connections D g) (w : Writer) (db : Database) (works : WorksOn old w db) → CommitsPages (files_of old) w works.stored.first.page works.stored.first.header (files_of new)
+      → db_of (files_of new) ≡ db_of (files_of old) → has_failed_in new ≡ has_failed_in old → new.transaction ≡ old.transaction → tables_of new.catalog ≡ tables_of old.catalog
       → committed_in new.catalog ≡ length (tables_of old.catalog) → HasCommitted old db new
-  has_committed old new w db count works is known failed transaction tables all = record {
+  has_committed old new w db works is db_same failed transaction tables all = record {
     told = is.tells;
+    settled = record {
+      db_synced = subst (λ (d : D). IsSynced (g.file d)) (sym db_same) works.settled.db_synced;
+      log_synced = is.synced;
+      commits = is.settled;
+      found = found_over (files_of old) w works.stored.first.page works.stored.first.header (newest_view (files_of new)) works.settled.found is.db_is is.page_size_is is.left is.sized is.few (omega (arith, works.stored.first.there.last));
+    };
     failed = failed;
     transaction = transaction;
     tables = tables;
     all = all ∙ ap length (sym tables);
-    stored = subst (λ (ts : List Table). Stores (newest_view (files_of new)) ts db) (sym tables) (committed_stores (files_of old) (files_of new) w (tables_of old.catalog) db count works.stored is known);
+    stored = subst (λ (ts : List Table). Stores (newest_view (files_of new)) ts db) (sym tables) (stores_over (files_of old) w (tables_of old.catalog) db works.stored (newest_view (files_of new)) is.page_size_is is.left);
   }
+
+  -- what a stop leaves of it
+  pub commit_holds : (old new : Connections D g) (w : Writer) (db : Database) (works : WorksOn old w db) → db_of (files_of new) ≡ db_of (files_of old)
+      → (log_of (files_of new) ≡ log_of (files_of old)) ⊎ LeavesCommit (files_of old) w works.stored.first.page works.stored.first.header (files_of new) → HoldsEither old db new
+  commit_holds old new w db works db_same stop was stored =
+      either_throughout (files_of old) (files_of new) w works.stored.first.page works.stored.first.header works.settled db_same (omega (arith, works.stored.first.there.last))
+      (take (committed_in old.catalog) (tables_of old.catalog)) (tables_of old.catalog) was db stored (stores_over (files_of old) w (tables_of old.catalog) db works.stored) stop
 
   -- ---- a refused commit
 
@@ -106,6 +116,8 @@ module _ {D : Type 0} {g : Ghosts D} where
     known = known;
     newest = λ i. record { db = (g.file (db i)).content; frames = frames_under (header_of (known i)) (g.file (log i)).content (known i).frames; page_size = (known i).page_size; size = (known i).size };
     at = λ s i. record { db = (g.file (db i)).content; frames = frames_under (header_of (known i)) (g.file (log i)).content (seen_by s); page_size = (known i).page_size; size = size_of s };
+    db_file = ap g.file db;
+    log_file = ap g.file log;
   }
 
   module _ (old new : Connections D g) (w left : Writer) (db : Database) (f : Fault) (works : WorksOn old w db) (is : IsRefusedCommit (files_of old) w works.stored.first.page works.stored.first.header (files_of new) left f) where
@@ -127,6 +139,7 @@ module _ {D : Type 0} {g : Ghosts D} where
     works_left : ShowTheSame (files_of old) (files_of new) → new.catalog ≡ old.catalog → WorksOn new left db
     works_left same catalog = record {
       told = same.told;
+      settled = still_settled (files_of old) (files_of new) same works.settled;
       writer = still_writer (files_of old) (files_of new) left same writer_left;
       stored = subst (λ (c : Catalog). Stores (view_of (files_of new) left) (tables_of c) db) (sym catalog)
           (subst (λ (v : View). Stores (after v (changes_of left) (pages_of left)) (tables_of old.catalog) db) (sym (same.at (snapshot_of left))) stores_left);
@@ -144,10 +157,17 @@ module _ {D : Type 0} {g : Ghosts D} where
           works = works_left same catalog;
         }
 
-    pub commit_refused : has_failed_in old ≡ false → has_failed_in new ≡ is_io f → new.catalog ≡ old.catalog → new.transaction ≡ old.transaction → CommitsWork old db (Err f) new left
-    commit_refused whole failed catalog transaction = by_why is.why
+    pub commit_refused : db_of (files_of new) ≡ db_of (files_of old)
+        → (log_of (files_of new) ≡ log_of (files_of old)) ⊎ LeavesCommit (files_of old) w works.stored.first.page works.stored.first.header (files_of new) → has_failed_in old ≡ false → has_failed_in new ≡ is_io f → new.catalog ≡ old.catalog → new.transaction ≡ old.transaction → CommitsWork old db (Err f) new left
+    commit_refused db_same stop whole failed catalog transaction = by_why is.why
       where
-        by_why : (f ≡ fault.Memory) ⊎ ((f ≡ fault.Io) ⊎ (f ≡ fault.Full)) → CommitsWork old db (Err f) new left
+        by_why : (f ≡ fault.Memory) ⊎ ((f ≡ fault.Io) ⊎ ((f ≡ fault.Full) × (IsWithin (known_of (files_of old)) (length (changes_of w)) (pages_of w) → ⊥))) → CommitsWork old db (Err f) new left
         by_why (inl memory) = inr (uncommitted (inl memory) (λ io. false≢true (ap is_io (sym memory ∙ io))) (failed ∙ ap is_io memory ∙ sym whole) catalog transaction)
-        by_why (inr (inl io)) = inl (io, failed ∙ ap is_io io)
-        by_why (inr (inr full)) = inr (uncommitted (inr full) (λ io. false≢true (ap is_io (sym full ∙ io))) (failed ∙ ap is_io full ∙ sym whole) catalog transaction)
+        by_why (inr (inl io)) = inl (record {
+          io = io;
+          failed = failed ∙ ap is_io io;
+          held = commit_holds old new w db works db_same stop;
+          db_left = db_left (files_of old) (files_of new) works.settled db_same;
+          log_left = log_left (files_of old) (files_of new) w works.stored.first.page works.stored.first.header works.settled stop;
+        })
+        by_why (inr (inr full)) = inr (uncommitted (inr full.0) (λ io. false≢true (ap is_io (sym full.0 ∙ io))) (failed ∙ ap is_io full.0 ∙ sym whole) catalog transaction)

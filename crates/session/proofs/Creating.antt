@@ -16,7 +16,6 @@ use Rattle.sqlval.specs.Refusals.{Refusal, refusal_of}
 use Rattle.sqlval.specs.declared.fault.Fault.{Fault}
 use Rattle.sqlval.specs.declared.fault.Fault.TheVariants as fault
 use Rattle.sqlval.specs.declared.fault.Feature.TheVariants.{RowSize}
-use Rattle.sqlval.specs.declared.value.Value.{Value}
 use Rattle.dbheader.specs.Header.{IsPageSize}
 use Rattle.syntax.specs.declared.create.NewObject.TheVariants as object
 use Rattle.syntax.specs.declared.create.TableDefinition.{TableDefinition}
@@ -432,6 +431,7 @@ module _ {D : Type 0} {g : Ghosts D} where
             reaches = reached sql db works.stored.rows_at (tables_of c.catalog) d root.number t works.stored.lists plain m.made;
             works = record {
               told = works.told;
+              settled = works.settled;
               writer = writer_left left whole puts;
               stored = subst (λ (s : Snapshot). Stores (seen (view_at (files_of c) s) left) (tables_of k) made) (sym puts.snapshot)
                   (subst (λ (ts : List Table). Stores (seen under left) ts made) (sym added) (stores_more under w left (tables_of c.catalog) db d t schema root (creates left puts)));
@@ -461,6 +461,7 @@ module _ {D : Type 0} {g : Ghosts D} where
     still_works : (k : Catalog) (left : Writer) → tables_of k ≡ tables_of c.catalog → committed_in k ≡ committed_in c.catalog → IsUnchanged w left → WorksOn (with_catalog c k) left db
     still_works k left tables committed same = record {
       told = works.told;
+      settled = works.settled;
       writer = writer_stays left same;
       stored = subst (λ (v : View). Stores v (tables_of k) db) (sym (view_stays left same)) (subst (λ (ts : List Table). Stores (view_of (files_of c) w) ts db) (sym tables) works.stored);
       listed = omega (arith, works.listed, committed, ap length tables);

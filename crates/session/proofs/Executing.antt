@@ -19,16 +19,17 @@ use Rattle.session.specs.Steps.{is_connection}
 use Rattle.session.specs.Shown.{FindsNoRoom, IsShown, Shows, Steps, StepsTo, done_reply, rows_reply}
 use Rattle.session.specs.declared.transactions.Connections.{Connections}
 use Rattle.session.proofs.SeenPages.{Rowed}
+use Rattle.session.proofs.Settled.{as_shown}
 
 -- ---- the first refusals
 
-abbrev first_fault : Fault → Result ⊤ Fault
+abbrev pub first_fault : Fault → Result ⊤ Fault
 first_fault f = Err f
 
-abbrev done : Result ⊤ Fault
+abbrev pub done : Result ⊤ Fault
 done = Ok tt
 
-either : {P : Type 0} (b : Bool) → (b ≡ true → P) → (b ≡ false → P) → P
+pub either : {P : Type 0} (b : Bool) → (b ≡ true → P) → (b ≡ false → P) → P
 either true go other = go refl
 either false go other = other refl
 
@@ -39,22 +40,25 @@ module _ (R : Database → Type 0) (m : Machine) (n : ℕ) (s : Statement) where
   numbered_step : m.failed ≡ false → is_connection n ≡ false → StepSoFar R m n s (Refused refusal.Misuse) m
   numbered_step running none = either (is_built s && is_served n) (λ is. inl (is, inl (inr (inl (running, none, refl, refl))))) (λ is. inr (is, refl, inr (inl (running, none, refl))))
 
-no_connection : (n : ℕ) → (n == 0 || nat_lt 16 n) ≡ true → is_connection n ≡ false
+pub no_connection : (n : ℕ) → (n == 0 || nat_lt 16 n) ≡ true → is_connection n ≡ false
 no_connection n is = grind (arith, nat_tests)
 
 a_connection : (n : ℕ) → (n == 0 || nat_lt 16 n) ≡ false → is_connection n ≡ true
 a_connection n is = grind (arith, nat_tests)
 
-one_fault : (a b : Fault) → first_fault a ≡ Err b → a ≡ b
+pub one_fault : (a b : Fault) → first_fault a ≡ Err b → a ≡ b
 one_fault a b is = cc
 
-not_both : (f : Fault) → done ≡ Err f → ⊥
+pub not_both : (f : Fault) → done ≡ Err f → ⊥
 not_both f is = absurd cc
 
-first_by : (n : ℕ) → (n == 0 || nat_lt 16 n) ≡ true → first_refusal false n ≡ first_fault (fault.Misuse misuse.Connection)
+another : (n : ℕ) → (n ≡ 1 → ⊥) → is_served n ≡ false
+another n other = grind (arith, nat_tests)
+
+pub first_by : (n : ℕ) → (n == 0 || nat_lt 16 n) ≡ true → first_refusal false n ≡ first_fault (fault.Misuse misuse.Connection)
 first_by n bad = ap (λ b. if b then first_fault (fault.Misuse misuse.Connection) else done) bad
 
-passes_by : (n : ℕ) → (n == 0 || nat_lt 16 n) ≡ false → first_refusal false n ≡ done
+pub passes_by : (n : ℕ) → (n == 0 || nat_lt 16 n) ≡ false → first_refusal false n ≡ done
 passes_by n good = ap (λ b. if b then first_fault (fault.Misuse misuse.Connection) else done) good
 
 pub no_query : (s : Statement) → ((q : Query) → s ≡ statement.Select q → ⊥) → is_query s ≡ false
@@ -89,7 +93,7 @@ module _ {D : Type 0} {g : Ghosts D} where
   done_built c n one is = subst (λ (k : ℕ). first_refusal (has_failed_in c) k ≡ done) one is
 
   stays_with : (c : Connections D g) (m : Machine) (n : ℕ) (s : Statement) (reply : Reply) → Shows c m → StepSoFar (FindsNoRoom c s) m n s reply m → StepsTo c m n s reply c
-  stays_with c m n s reply shows step = record { next = m; step = step; shown = shows }
+  stays_with c m n s reply shows step = record { next = m; step = step; shown = shows; stop = as_shown c m shows }
 
   -- refused before the statement is looked at
   pub refused_first : (c : Connections D g) (n : ℕ) (s : Statement) (f : Fault) → first_refusal (has_failed_in c) n ≡ Err f → Steps c n s (Refused (refusal_of f)) c
@@ -108,6 +112,18 @@ module _ {D : Type 0} {g : Ghosts D} where
 
       some : (n == 0 || nat_lt 16 n) ≡ false → StepsTo c m n s (Refused (refusal_of f)) c
       some good = absurd (not_both f (sym (passes_by n good) ∙ whole))
+
+  -- a form that isn't built, or a connection that isn't served
+  unserved : (c : Connections D g) (n : ℕ) (s : Statement) → first_refusal (has_failed_in c) n ≡ done → (is_built s && is_served n) ≡ false → Steps c n s (Refused refusal.Unsupported) c
+  unserved c n s first none m shows =
+      let on = served_for c m n first shows in
+      stays_with c m n s (Refused refusal.Unsupported) shows (inr (none, refl, inr (inr (on.0, on.1, inl refl))))
+
+  pub not_built : (c : Connections D g) (n : ℕ) (s : Statement) → first_refusal (has_failed_in c) n ≡ done → is_built s ≡ false → Steps c n s (Refused refusal.Unsupported) c
+  not_built c n s first none = unserved c n s first (ap (λ b. b && is_served n) none)
+
+  pub not_served : (c : Connections D g) (n : ℕ) (s : Statement) → first_refusal (has_failed_in c) n ≡ done → is_built s ≡ true → (n ≡ 1 → ⊥) → Steps c n s (Refused refusal.Unsupported) c
+  not_served c n s first built other = unserved c n s first (ap (λ b. b && is_served n) built ∙ another n other)
 
   -- where no commit has failed, what is shown is shown whole
   pub steps_from : (old new : Connections D g) (s : Statement) (reply : Reply) → first_refusal (has_failed_in old) 1 ≡ done → ((m : Machine) → IsShown old m → StepsTo old m 1 s reply new) → Steps old 1 s reply new

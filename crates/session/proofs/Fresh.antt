@@ -1,6 +1,6 @@
 -- Connections that were made of files show the machine of the database that these hold.
 use Rattle.std.proofs.Common.{◌≡◌, refl, sym, subst, ℕ, zero, suc, List, [], false, arith}
-use Rattle.std.specs.Prelude.{Option, None, Some}
+use Rattle.std.specs.Prelude.{None, Some}
 use Rattle.std.specs.List.{AllByRecursion}
 use Rattle.std.proofs.lemmas.List.{take_all}
 use Rattle.disk.specs.declared.device.Disk.{Ghosts}
@@ -9,6 +9,7 @@ use Rattle.catalog.specs.Database.{Database}
 use Rattle.catalog.specs.Listed.{committed_in, tables_of}
 use Rattle.catalog.specs.declared.tables.Table.{Table}
 use Rattle.pager.specs.Views.{Tells, View, newest_view}
+use Rattle.session.specs.Holding.{IsSettled}
 use Rattle.session.specs.Known.{files_of, has_failed_in}
 use Rattle.session.specs.Machine.{Idle, fresh, idle}
 use Rattle.session.specs.Shown.{AreCommitted, IsShown, IsTransaction}
@@ -38,12 +39,14 @@ nothing_stored view first served = record {
 }
 
 module _ {D : Type 0} {g : Ghosts D} where
-  pub fresh_shown : (c : Connections D g) (db : Database) → has_failed_in c ≡ false → c.transaction ≡ transaction.Idle → Tells (files_of c) → AreCommitted c.catalog → Stores (newest_view (files_of c)) (tables_of c.catalog) db
+  pub fresh_shown : (c : Connections D g) (db : Database) → has_failed_in c ≡ false → c.transaction ≡ transaction.Idle → Tells (files_of c) → IsSettled (files_of c) → AreCommitted c.catalog → Stores (newest_view (files_of c)) (tables_of c.catalog) db
       → IsShown c (fresh db)
-  fresh_shown c db whole is told all stored = record {
+  fresh_shown c db whole is told settled all stored = record {
     running = refl;
+    sure = refl;
     whole = whole;
     told = told;
+    settled = settled;
     some = omega arith;
     listed = omega (arith, all);
     stored = subst (λ (ts : List Table). Stores (newest_view (files_of c)) ts db) (sym (take_all (committed_in c.catalog) (tables_of c.catalog) (omega (arith, all)))) stored;

@@ -49,6 +49,7 @@ use Rattle.session.specs.Stored.{HasNoRoom, IsStored, Stores}
 use Rattle.session.specs.Working.{HasWorked, IsUnworked, IsWorkRefusal, KeepsCommitted, Reaches, RefusesWith, SeesRows, Works, WorksOn, work_of}
 use Rattle.session.specs.declared.transactions.Connections.{Connections}
 use Rattle.session.proofs.Inserting.{Laws, IsMade, listed_table, made, not_refused, reaches, refused, rows_here, rows_with, stores_put}
+use Rattle.session.proofs.Settled.{still_settled}
 use Rattle.session.proofs.Showing.{still_writer}
 
 -- ---- why it is refused
@@ -169,6 +170,7 @@ module _ {D : Type 0} {g : Ghosts D} where
   still_works : (old new : Connections D g) (w v : Writer) (db : Database) → Reads old new → IsUnchanged w v → WorksOn old w db → WorksOn new v db
   still_works old new w v db reads same on = record {
     told = reads.files.told;
+    settled = still_settled (files_of old) (files_of new) reads.files on.settled;
     writer = writer_same (files_of new) w v same (still_writer (files_of old) (files_of new) w reads.files on.writer);
     stored = subst (λ (c : Catalog). Stores (view_of (files_of new) v) (tables_of c) db) (sym reads.catalog) (subst (λ (x : View). Stores x (tables_of old.catalog) db) (sym view) on.stored);
     listed = subst (λ (c : Catalog). committed_in c ≤ length (tables_of c)) (sym reads.catalog) on.listed;
@@ -219,6 +221,7 @@ module _ {D : Type 0} {g : Ghosts D} where
     reaches = reaches laws (view_of (files_of old) w) (tables_of old.catalog) db on.stored i t places given named is long it.page it.holds m.made m.is;
     works = record {
       told = reads.files.told;
+      settled = still_settled (files_of old) (files_of new) reads.files on.settled;
       writer = still_writer (files_of old) (files_of new) v reads.files (put_writer (files_of old) w v page (omega (arith, at, it.there.last)) on.writer whole puts);
       stored = subst (λ (c : Catalog). Stores (view_of (files_of new) v) (tables_of c) m.made) (sym reads.catalog) (subst (λ (x : View). Stores x (tables_of old.catalog) m.made) (sym view)
           (stores_put (view_at (files_of old) (snapshot_of w)) w v (tables_of old.catalog) db m.made page i.table t inserted.added on.stored puts named at inserted.holds m.lists m.only));

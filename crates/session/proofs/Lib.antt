@@ -6,6 +6,7 @@ pub mod SchemaTable
 mod SchemaRows
 pub mod Besides
 pub mod Whys
+pub mod Settled
 pub mod Stepping
 pub mod Showing
 pub mod Selecting
@@ -15,6 +16,7 @@ pub mod Working
 pub mod Writing
 pub mod Creating
 pub mod Committing
+pub mod CommitStops
 pub mod CommitSteps
 pub mod Inserting
 pub mod InsertWorks

@@ -5,7 +5,6 @@ use Rattle.std.specs.List.{find}
 use Rattle.sqlval.specs.Names.{is_same_name}
 use Rattle.page.specs.Leaf.{Entry}
 use Rattle.record.specs.Record.{IsRecord}
-use Rattle.syntax.specs.declared.create.TableDefinition.{TableDefinition}
 use Rattle.catalog.specs.Database.{Database, Name, Object, ATable}
 use Rattle.catalog.specs.Listed.{described, is_table, plain_column, plain_table, table_named}
 use Rattle.catalog.specs.declared.tables.Column.{Column}
@@ -13,11 +12,11 @@ use Rattle.catalog.specs.declared.tables.Table.{Table}
 use Rattle.bind.specs.Bound.{is_twice_named}
 use Rattle.rowprog.specs.Rows.{Holds, TableRow}
 use Rattle.pager.specs.Views.{View, IsPage}
-use Rattle.session.specs.NewTables.{IsMadeBeside, schema_row}
+use Rattle.session.specs.NewTables.{schema_row}
 use Rattle.session.specs.Schema.{AreRowsOf, AreSameTables, IsRowOf, IsSameTable}
 use Rattle.session.specs.Stored.{IsStored, Stores}
 
-abbrev AreSameFound : Option Table → Option Table → Type 0
+abbrev pub AreSameFound : Option Table → Option Table → Type 0
 AreSameFound None None = ⊤
 AreSameFound None (Some u) = ⊥
 AreSameFound (Some t) None = ⊥
@@ -27,7 +26,7 @@ picked : (t u : Table) (a b : Option Table) (test : Bool) → AreSameFound a b �
 picked t u a b true rest is = is
 picked t u a b false rest is = rest
 
-same_found : (name : Name) (ts us : List Table) → AreSameTables ts us → AreSameFound (table_named name ts) (table_named name us)
+pub same_found : (name : Name) (ts us : List Table) → AreSameTables ts us → AreSameFound (table_named name ts) (table_named name us)
 same_found name [] [] same = tt
 same_found name [] (u ∷ us) same = absurd same
 same_found name (t ∷ ts) [] same = absurd same
@@ -54,12 +53,12 @@ found_back None (Some v) u same is = absurd same
 found_back (Some t) None u same is = absurd same
 found_back (Some t) (Some v) u same is = record { table = t; found = refl; same = subst (IsSameTable t) (same_some v u is) same }
 
-not_found : (a b : Option Table) → AreSameFound a b → a ≡ None → b ≡ None
+pub not_found : (a b : Option Table) → AreSameFound a b → a ≡ None → b ≡ None
 not_found None None same is = refl
 not_found None (Some u) same is = absurd same
 not_found (Some t) b same is = no_table t (sym is)
 
-same_push : (ts us : List Table) (t u : Table) → AreSameTables ts us → IsSameTable t u → AreSameTables (ts ++ t ∷ []) (us ++ u ∷ [])
+pub same_push : (ts us : List Table) (t u : Table) → AreSameTables ts us → IsSameTable t u → AreSameTables (ts ++ t ∷ []) (us ++ u ∷ [])
 same_push [] [] t u same is = (is, tt)
 same_push [] (v ∷ us) t u same is = absurd same
 same_push (s ∷ ts) [] t u same is = absurd same

@@ -22,16 +22,19 @@ use Rattle.rowprog.specs.Rows.{Holds, TableRow, scan_of}
 use Rattle.rowprog.specs.declared.plan.Scan.TheVariants as scan
 use Rattle.pager.specs.Views.{IsPage, View, newest_view}
 use Rattle.session.specs.Built.{StepSoFar, is_query_built}
+use Rattle.session.specs.Holding.{HoldThroughout}
 use Rattle.session.specs.Known.{files_of}
 use Rattle.session.specs.Machine.{Machine, Idle, InTransactionOf, NoSnapshot, Reads, Writes, Rows, Refused, last_place, newest, with_connection}
 use Rattle.session.specs.Outcomes.{given, outcome, read_on}
 use Rattle.session.specs.Steps.{Allowed, Instead}
+use Rattle.session.specs.Stops.{MayShow}
 use Rattle.session.specs.Stored.{Stores}
 use Rattle.session.specs.Shown.{AnswersOrFails, AnswersRead, AreCommitted, FindsNoRoom, IsShown, IsTransaction, OnlyReads, ShowTheSame, StartsReading, StepsOn, StepsTo, is_begun, rows_reply, seen_in}
 use Rattle.session.specs.declared.transactions.Connections.{Connections}
 use Rattle.session.specs.declared.transactions.Transaction.{Transaction}
 use Rattle.session.specs.declared.transactions.Transaction.TheVariants as transaction
 use Rattle.session.proofs.SeenPages.{Rowed}
+use Rattle.session.proofs.Settled.{stop_still}
 use Rattle.session.proofs.Showing.{moved, still_newest, still_shown, the_same}
 use Rattle.session.proofs.Stepping.{by_outcome, first_is, instead, select_outcome}
 
@@ -121,6 +124,7 @@ module _ {D : Type 0} {g : Ghosts D} where
         next = m;
         step = select_step old m shown q f built s (answered m s.db shown s.stored);
         shown = inr (still_shown old new m shown (reads.files shown.told) reads.failed reads.catalog reads.transaction);
+        stop = stop_still old new m m shown (reads.files shown.told);
       }
 
   -- a SELECT that gives rows
@@ -134,6 +138,9 @@ module _ {D : Type 0} {g : Ghosts D} where
 
       same_files : ShowTheSame (files_of mid) (files_of new)
       same_files = subst (ShowTheSame (files_of mid)) (sym starts.files) (the_same (files_of mid) mid_shown.told)
+
+      stop_of : (next : Machine) → HoldThroughout (MayShow m next) (files_of old) (files_of new)
+      stop_of next = stop_still old new m next shown (subst (ShowTheSame (files_of old)) (sym starts.files) (reads.files shown.told))
 
       step_of : (s : Sees old m) → StepSoFar (FindsNoRoom old (statement.Select q)) m 1 (statement.Select q) (Rows rows) s.next
       step_of s = by_outcome (FindsNoRoom old (statement.Select q)) m (statement.Select q) built shown.running _ (Rows rows) s.next (s.is q) (given_rows m s.next rows (read_on s.db q) (answered m s.db shown s.stored))
@@ -150,10 +157,10 @@ module _ {D : Type 0} {g : Ghosts D} where
           (refl, subst AreCommitted (sym (starts.catalog ∙ reads.catalog)) all, still_newest (files_of mid) (files_of new) begun.0 same_files begun.2))
 
       by_case : (t : Transaction) → old.transaction ≡ t → IsTransaction (files_of old) old.catalog (last_place m) t shown.first → StepsTo old m 1 (statement.Select q) (Rows rows) new
-      by_case transaction.Idle is first = (let s = sees_by old m shown transaction.Idle is first in record { next = s.next; step = step_of s; shown = inr (other_shown transaction.Idle is refl) })
-      by_case transaction.Begun is first = (let s = sees_by old m shown transaction.Begun is first in record { next = s.next; step = step_of s; shown = inr (begun_shown is first.1) })
-      by_case (transaction.Reading t) is first = (let s = sees_by old m shown (transaction.Reading t) is first in record { next = s.next; step = step_of s; shown = inr (other_shown (transaction.Reading t) is refl) })
-      by_case (transaction.Writing w) is first = (let s = sees_by old m shown (transaction.Writing w) is first in record { next = s.next; step = step_of s; shown = inr (other_shown (transaction.Writing w) is refl) })
+      by_case transaction.Idle is first = (let s = sees_by old m shown transaction.Idle is first in record { next = s.next; step = step_of s; shown = inr (other_shown transaction.Idle is refl); stop = stop_of s.next })
+      by_case transaction.Begun is first = (let s = sees_by old m shown transaction.Begun is first in record { next = s.next; step = step_of s; shown = inr (begun_shown is first.1); stop = stop_of s.next })
+      by_case (transaction.Reading t) is first = (let s = sees_by old m shown (transaction.Reading t) is first in record { next = s.next; step = step_of s; shown = inr (other_shown (transaction.Reading t) is refl); stop = stop_of s.next })
+      by_case (transaction.Writing w) is first = (let s = sees_by old m shown (transaction.Writing w) is first in record { next = s.next; step = step_of s; shown = inr (other_shown (transaction.Writing w) is refl); stop = stop_of s.next })
 
 -- ---- what a bound query reads
 

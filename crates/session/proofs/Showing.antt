@@ -29,13 +29,14 @@ use Rattle.session.specs.Shown.{AreCommitted, FindsNoRoom, IsGivenUp, IsNewest, 
 use Rattle.session.specs.declared.transactions.Connections.{Connections}
 use Rattle.session.specs.declared.transactions.Transaction.{Transaction}
 use Rattle.session.specs.declared.transactions.Transaction.TheVariants as transaction
+use Rattle.session.proofs.Settled.{as_shown, still_settled, stop_still}
 use Rattle.session.proofs.Stepping.{by_outcome, begin_outcome, first_is, first_set, rollback_outcome}
 
 pub record IsBusy (k : Connection) : Type 0 where
   pub phase : Phase
   pub is : k ≡ InTransactionOf false [] phase
 
-take_twice : (n : ℕ) (ts : List Table) → take n (take n ts) ≡ take n ts
+pub take_twice : (n : ℕ) (ts : List Table) → take n (take n ts) ≡ take n ts
 take_twice n ts = take_all n (take n ts) (omega (arith, length-take n ts, min-le_left n (length ts)))
 
 -- what is seen, by the files' contents and what is known of them
@@ -63,7 +64,7 @@ module _ {D : Type 0} {g : Ghosts D} where
   -- ---- files that were read at most
 
   pub the_same : (files : Log D g) → Tells files → ShowTheSame files files
-  the_same files told = record { told = told; known = refl; newest = refl; at = λ s. refl }
+  the_same files told = record { told = told; known = refl; newest = refl; at = λ s. refl; db_file = refl; log_file = refl }
 
   pub read_files : (old new : Log D g) → Tells old → known_of new ≡ known_of old → Leaves g.tells g.file (db_of old) (db_of new) → Leaves g.tells g.file (log_of old) (log_of new) → ShowTheSame old new
   read_files old new told known db log =
@@ -74,6 +75,8 @@ module _ {D : Type 0} {g : Ghosts D} where
         known = known;
         newest = λ i. newest_by (same_db i) (same_log i) (known i);
         at = λ s i. at_by (same_db i) (same_log i) (known i) s;
+        db_file = db.same told.db;
+        log_file = log.same told.log;
       }
 
   pub still_newest : (old new : Log D g) (s : Snapshot) → ShowTheSame old new → IsNewest old s → IsNewest new s
@@ -96,8 +99,10 @@ module _ {D : Type 0} {g : Ghosts D} where
       → committed_in new.catalog ≤ length (tables_of new.catalog) → IsTransaction (files_of new) new.catalog (last_place m) new.transaction k → IsShown new (with_connection m 1 k)
   moved old new m k shown same failed tables listed is = record {
     running = shown.running;
+    sure = shown.sure;
     whole = failed ∙ shown.whole;
     told = same.told;
+    settled = still_settled (files_of old) (files_of new) same shown.settled;
     some = shown.some;
     listed = listed;
     stored = subst (λ (v : View). Stores v (take (committed_in new.catalog) (tables_of new.catalog)) (newest m)) (sym same.newest)
@@ -113,8 +118,10 @@ module _ {D : Type 0} {g : Ghosts D} where
   pub still_shown : (old new : Connections D g) (m : Machine) → IsShown old m → ShowTheSame (files_of old) (files_of new) → has_failed_in new ≡ has_failed_in old → new.catalog ≡ old.catalog → new.transaction ≡ old.transaction → IsShown new m
   still_shown old new m shown same failed catalog now = record {
     running = shown.running;
+    sure = shown.sure;
     whole = failed ∙ shown.whole;
     told = same.told;
+    settled = still_settled (files_of old) (files_of new) same shown.settled;
     some = shown.some;
     listed = subst (λ (c : Catalog). committed_in c ≤ length (tables_of c)) (sym catalog) shown.listed;
     stored = subst (λ (v : View). Stores v (take (committed_in new.catalog) (tables_of new.catalog)) (newest m)) (sym same.newest)
@@ -138,6 +145,7 @@ module _ {D : Type 0} {g : Ghosts D} where
         next = m;
         step = by_outcome (FindsNoRoom c statement.Rollback) m statement.Rollback refl shown.running (RefusedBy (NoTransaction ∷ [])) (Refused NoTransaction) m is (NoTransaction, (0, omega arith, refl), refl, refl);
         shown = inr shown;
+        stop = as_shown c m (inr shown);
       }
 
   pub rolled_back : (old new : Connections D g) → is_idle old.transaction ≡ false → IsGivenUp old new → StepsOn old statement.Rollback (Rows []) new
@@ -148,6 +156,7 @@ module _ {D : Type 0} {g : Ghosts D} where
         next = with_connection m 1 Idle;
         step = by_outcome (FindsNoRoom old statement.Rollback) m statement.Rollback refl shown.running (Gives [] (with_connection m 1 Idle)) (Rows []) (with_connection m 1 Idle) is (refl, refl);
         shown = inr (moved old new m Idle shown (subst (ShowTheSame (files_of old)) (sym gone.files) (the_same (files_of old) shown.told)) gone.failed (tables_same old new gone) (omega (arith, all_now gone)) (idle_now gone));
+        stop = stop_still old new m (with_connection m 1 Idle) shown (subst (ShowTheSame (files_of old)) (sym gone.files) (the_same (files_of old) shown.told));
       }
     where
       tables_same : (old new : Connections D g) → IsGivenUp old new → take (committed_in new.catalog) (tables_of new.catalog) ≡ take (committed_in old.catalog) (tables_of old.catalog)
@@ -169,6 +178,7 @@ module _ {D : Type 0} {g : Ghosts D} where
         next = m;
         step = by_outcome (FindsNoRoom c (statement.Begin mode)) m (statement.Begin mode) refl shown.running (RefusedBy (InTransaction ∷ [])) (Refused InTransaction) m is (InTransaction, (0, omega arith, refl), refl, refl);
         shown = inr shown;
+        stop = as_shown c m (inr shown);
       }
 
   -- what changes where a transaction begins
@@ -190,6 +200,7 @@ module _ {D : Type 0} {g : Ghosts D} where
             (subst (λ (c : Catalog). committed_in c ≤ length (tables_of c)) (sym begun.catalog) shown.listed)
             (subst (λ (t : Transaction). IsTransaction (files_of new) new.catalog (last_place m) t (InTransactionOf false [] NoSnapshot)) (sym begun.now)
             (refl, subst AreCommitted (sym begun.catalog) (committed_idle old.transaction shown.first shown.transaction idle))));
+        stop = stop_still old new m next shown (subst (ShowTheSame (files_of old)) (sym begun.files) (the_same (files_of old) shown.told));
       }
     where
       committed_idle : (t : Transaction) (j : Connection) → IsTransaction (files_of old) old.catalog (last_place m) t j → is_idle t ≡ true → AreCommitted old.catalog

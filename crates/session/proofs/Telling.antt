@@ -1,5 +1,5 @@
 -- Rows of page 1 that tell tables go on to tell them: with more pages, and with one row more.
-use Rattle.std.proofs.Common.{◌≡◌, ◌≤◌, sym, subst, ℕ, List, [], ◌∷◌, ◌++◌, arith}
+use Rattle.std.proofs.Common.{◌≤◌, sym, subst, ℕ, List, [], ◌∷◌, ◌++◌, arith}
 use Rattle.std.proofs.lemmas.List.{append-nil, append_assoc}
 use Rattle.page.specs.Leaf.{Entry}
 use Rattle.catalog.specs.declared.tables.Table.{Table}

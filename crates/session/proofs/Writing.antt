@@ -2,7 +2,7 @@
 use Rattle.std.proofs.Common.{◌≡◌, ◌⊎◌, ◌≤◌, ◌+◌, inl, inr, refl, sym, ap, subst, ◌∙◌, ℕ, List, [], length, take, true, false, arith}
 use Rattle.std.proofs.lemmas.List.{take_all}
 use Rattle.std.proofs.lemmas.Bool.{false≢true}
-use Rattle.std.specs.Prelude.{◌↔◌, ⊤, Result, Ok, Err, Some}
+use Rattle.std.specs.Prelude.{◌↔◌, ⊤, Result, Ok, Err}
 use Rattle.disk.specs.declared.device.Disk.{Ghosts}
 use Rattle.sqlval.specs.Refusals as refusal
 use Rattle.sqlval.specs.Refusals.{refusal_of}
@@ -23,7 +23,7 @@ use Rattle.session.specs.Known.{files_of, has_failed_in}
 use Rattle.session.specs.Machine.{Machine, Connection, Idle, InTransactionOf, NoSnapshot, Reads, Writes, Reply, Rows, Refused, last_place, newest}
 use Rattle.session.specs.NewTables.{HasRoomBehind, schema_row}
 use Rattle.session.specs.Outcomes.{Outcome, Work, Makes, IsRefused, Undoes, Binds, outcome}
-use Rattle.session.specs.Steps.{Allowed, after_commit, fails}
+use Rattle.session.specs.Steps.{Allowed, after_commit}
 use Rattle.session.specs.Stored.{HasNoRoom, Stores}
 use Rattle.session.specs.Shown.{AreCommitted, FindsNoRoom, IsShown, IsTransaction, OnlyReads, ShowTheSame, StepsOn, StepsTo, done_reply, is_idle, is_reading, seen_in, with_transaction}
 use Rattle.session.specs.Working.{CommitsWork, EndsAlone, HasWorked, IsDropped, IsUnworked, IsWorkRefusal, Reaches, Works, WorksOn, work_of, written}
@@ -34,6 +34,8 @@ use Rattle.session.specs.declared.transactions.Write.{Write}
 use Rattle.session.specs.declared.transactions.Write.TheVariants as write
 use Rattle.session.proofs.Beginning.{StartsWriting, writer_begins, writer_stores}
 use Rattle.session.proofs.CommitSteps.{committed_shown}
+use Rattle.session.proofs.CommitStops.{commit_stops, doubt_left, doubt_stops, doubted}
+use Rattle.session.proofs.Settled.{still_settled, stop_still}
 use Rattle.session.proofs.SeenPages.{at_newest}
 use Rattle.session.proofs.Selecting.{all_listed}
 use Rattle.session.proofs.Showing.{moved, still_shown, still_transaction}
@@ -76,10 +78,6 @@ alone_commits m made (IsRefused rs) is = absurd is
 alone_commits m made (Undoes r) is = absurd is
 alone_commits m made (Binds over ch w) is = inr (is.0, alone_commits m made w is.1)
 
--- the machine behind a commit of which a disk's call failed
-abbrev doubted : Machine → Database → Machine
-doubted m db = record (fails m) { in_doubt = Some db }
-
 alone_doubts : (m : Machine) (made : Database) (w : Work) → Reaches w made → Allowed m 1 (alone m w) (Refused refusal.Io) (doubted m made)
 alone_doubts m made (Makes db) is = (refl, inr (ap (doubted m) (sym is)))
 alone_doubts m made (IsRefused rs) is = absurd is
@@ -96,7 +94,7 @@ module _ {D : Type 0} {g : Ghosts D} where
   -- ---- what stays
 
   pub show_on : (a b c : Log D g) → ShowTheSame a b → ShowTheSame b c → ShowTheSame a c
-  show_on a b c first second = record { told = second.told; known = second.known ∙ first.known; newest = second.newest ∙ first.newest; at = λ s. second.at s ∙ first.at s }
+  show_on a b c first second = record { told = second.told; known = second.known ∙ first.known; newest = second.newest ∙ first.newest; at = λ s. second.at s ∙ first.at s; db_file = second.db_file ∙ first.db_file; log_file = second.log_file ∙ first.log_file }
 
   pub other_catalog : (files : Log D g) (a b : Catalog) (last : ℕ) (t : Transaction) (k : Connection) → committed_in b ≡ committed_in a → tables_of b ≡ tables_of a → IsTransaction files a last t k → IsTransaction files b last t k
   other_catalog files a b last transaction.Idle k same tables is = (is.0, same ∙ is.1 ∙ ap length (sym tables))
@@ -110,8 +108,10 @@ module _ {D : Type 0} {g : Ghosts D} where
       → IsTransaction (files_of new) new.catalog (last_place m) new.transaction shown.first → IsShown new m
   stays old new m shown same failed committed tables listed is = record {
     running = shown.running;
+    sure = shown.sure;
     whole = failed ∙ shown.whole;
     told = same.told;
+    settled = still_settled (files_of old) (files_of new) same shown.settled;
     some = shown.some;
     listed = listed;
     stored = subst (λ (v : View). Stores v (take (committed_in new.catalog) (tables_of new.catalog)) (newest m)) (sym same.newest)
@@ -133,12 +133,13 @@ module _ {D : Type 0} {g : Ghosts D} where
   why_of R s c w db f room (inr (inr (inr (inl why)))) = inr (inr (inr (inl why)))
   why_of R s c w db f room (inr (inr (inr (inr none)))) = inr (inr (inr (inr (none.0, none.1, none.2, room none.1 none.3))))
 
-  refused : (old new : Connections D g) (m : Machine) (w : Write) (finish : Work → Outcome) → IsShown old m → IsShown new m → is_built (written w) ≡ true → (ends : IsFinish m finish) (db : Database)
+  refused : (old new : Connections D g) (m : Machine) (w : Write) (finish : Work → Outcome) → IsShown old m → ShowTheSame (files_of old) (files_of new) → IsShown new m → is_built (written w) ≡ true → (ends : IsFinish m finish) (db : Database)
       → outcome m 1 (written w) ≡ finish (work_of (written w) db) → (f : Fault) → IsWhy (FindsNoRoom old (written w)) (work_of (written w) db) f → StepsTo old m 1 (written w) (Refused (refusal_of f)) new
-  refused old new m w finish before behind built ends db is f why = record {
+  refused old new m w finish before same behind built ends db is f why = record {
     next = m;
     step = refused_step (FindsNoRoom old (written w)) m (written w) built before.running finish ends (work_of (written w) db) is f why;
     shown = inr behind;
+    stop = stop_still old new m m before same;
   }
 
   -- ---- a statement that begins to write
@@ -182,7 +183,7 @@ module _ {D : Type 0} {g : Ghosts D} where
       → (finish : Machine → Work → Outcome) → ((m : Machine) → IsShown old m → Opening old m x (finish m)) → StepsOn old (written x) (Refused (refusal_of f)) new
   not_begun old new x f built reads why finish opens m shown =
       let opened = opens m shown in
-      refused old new m x (finish m) shown (still_shown old new m shown (reads.files shown.told) reads.failed reads.catalog reads.transaction) built opened.ends (newest m) opened.comes f (short (why m shown))
+      refused old new m x (finish m) shown (reads.files shown.told) (still_shown old new m shown (reads.files shown.told) reads.failed reads.catalog reads.transaction) built opened.ends (newest m) opened.comes f (short (why m shown))
     where
       short : (f ≡ fault.Memory) ⊎ (f ≡ fault.Io) → IsWhy (FindsNoRoom old (written x)) (work_of (written x) (newest m)) f
       short (inl memory) = inl memory
@@ -194,6 +195,7 @@ module _ {D : Type 0} {g : Ghosts D} where
   begun_works : (old mid : Connections D g) (m : Machine) (shown : IsShown old m) (w : Writer) (s : Snapshot) → Started old mid w s → AreCommitted old.catalog → WorksOn mid w (newest m)
   begun_works old mid m shown w s start all = record {
     told = start.files.told;
+    settled = still_settled (files_of old) (files_of mid) start.files shown.settled;
     writer = writer_begins old (with_transaction mid (transaction.Writing w)) w s start;
     stored = subst (λ (c : Catalog). Stores (view_of (files_of mid) w) (tables_of c) (newest m)) (sym start.catalog)
         (writer_stores old (with_transaction mid (transaction.Writing w)) w s (tables_of old.catalog) (newest m) start (all_listed old m shown all));
@@ -214,7 +216,7 @@ module _ {D : Type 0} {g : Ghosts D} where
       → ((m : Machine) → IsShown old m → Started old mid w s) → ((db : Database) → WorksOn mid w db → IsUnworked (written x) mid w db after left f)
       → (finish : Machine → Work → Outcome) → ((m : Machine) → IsShown old m → Opening old m x (finish m)) → StepsOn old (written x) (Refused (refusal_of f)) after
   begun_refused old mid after w left s x f built beside starts works finish opens m shown =
-      refused old after m x (finish m) shown still built opened.ends (newest m) opened.comes f
+      refused old after m x (finish m) shown same still built opened.ends (newest m) opened.comes f
       (why_of (FindsNoRoom old (written x)) (written x) mid w (newest m) f (begun_room old mid w s x start opened.sees) has.why)
     where
       opened : Opening old m x (finish m)
@@ -250,6 +252,7 @@ module _ {D : Type 0} {g : Ghosts D} where
         (show_on (files_of old) (files_of mid) (files_of after) start.files has.kept.files) (has.kept.failed ∙ start.failed)
         (ap (λ n. take n (tables_of after.catalog)) has.kept.committed ∙ subst (λ (c : Catalog). take (committed_in mid.catalog) (tables_of after.catalog) ≡ take (committed_in c) (tables_of c)) start.catalog has.kept.tables)
         has.works.listed (has.made, refl, has.works.writer, has.works.stored));
+    stop = stop_still old after m (working_on m has.made) shown (show_on (files_of old) (files_of mid) (files_of after) start.files has.kept.files);
   }
     where
       opened : Opening old m x (in_transaction m)
@@ -266,7 +269,7 @@ module _ {D : Type 0} {g : Ghosts D} where
   -- where its commit is refused, what it made is gone
   pub dropped : (old after : Connections D g) (kept : Catalog) (left : Writer) (db : Database) (f : Fault) → committed_in kept ≡ committed_in after.catalog → tables_of kept ≡ take (committed_in after.catalog) (tables_of after.catalog)
       → CommitsWork old db (Err f) after left → EndsAlone old db (Err f) (record after { catalog = kept })
-  dropped old after kept left db f committed tables (inl io) = inl io
+  dropped old after kept left db f committed tables (inl io) = inl (record { io = io.io; failed = io.failed; held = io.held; db_left = io.db_left; log_left = io.log_left })
   dropped old after kept left db f committed tables (inr none) = inr (record {
     why = none.why;
     files = none.kept.files;
@@ -297,9 +300,20 @@ module _ {D : Type 0} {g : Ghosts D} where
       is_alone : after.transaction ≡ transaction.Idle
       is_alone = has.kept.transaction ∙ beside ∙ idle_now old.transaction idle
 
+      worked : ShowTheSame (files_of old) (files_of after)
+      worked = show_on (files_of old) (files_of mid) (files_of after) start.files has.kept.files
+
+      committed_same : take (committed_in after.catalog) (tables_of after.catalog) ≡ take (committed_in old.catalog) (tables_of old.catalog)
+      committed_same =
+          ap (λ n. take n (tables_of after.catalog)) has.kept.committed
+          ∙ subst (λ (c : Catalog). take (committed_in mid.catalog) (tables_of after.catalog) ≡ take (committed_in c) (tables_of c)) start.catalog has.kept.tables
+
+      same_gone : (f : Fault) → IsDropped after new f → ShowTheSame (files_of old) (files_of new)
+      same_gone f gone = show_on (files_of old) (files_of after) (files_of new) worked gone.files
+
       dropped_shown : (f : Fault) → IsDropped after new f → IsShown new m
       dropped_shown f gone =
-          let same = show_on (files_of old) (files_of after) (files_of new) (show_on (files_of old) (files_of mid) (files_of after) start.files has.kept.files) gone.files in
+          let same = same_gone f gone in
           let committed : committed_in new.catalog ≡ committed_in old.catalog = gone.committed ∙ has.kept.committed ∙ ap committed_in start.catalog in
           let tables : tables_of new.catalog ≡ take (committed_in old.catalog) (tables_of old.catalog) =
           gone.tables ∙ ap (λ n. take n (tables_of after.catalog)) has.kept.committed
@@ -318,15 +332,17 @@ module _ {D : Type 0} {g : Ghosts D} where
       by_result (Ok done) ended = record {
         next = after_commit m 1 has.made;
         step = by_outcome (FindsNoRoom old (written x)) m (written x) built shown.running (alone m (work_of (written x) (newest m))) (Rows []) (after_commit m 1 has.made) opened.comes (alone_commits m has.made (work_of (written x) (newest m)) has.reaches);
-        shown = inr (committed_shown old after new m shown has.made failed ended (ended.transaction ∙ is_alone));
+        shown = inr (committed_shown old after new m shown has.made failed ended.0 (ended.0.transaction ∙ is_alone));
+        stop = commit_stops old after new m has.made shown worked committed_same ended.1;
       }
       by_result (Err f) (inl io) = record {
         next = doubted m has.made;
-        step = subst (λ (e : Fault). StepSoFar (FindsNoRoom old (written x)) m 1 (written x) (Refused (refusal_of e)) (doubted m has.made)) (sym io.0)
+        step = subst (λ (e : Fault). StepSoFar (FindsNoRoom old (written x)) m 1 (written x) (Refused (refusal_of e)) (doubted m has.made)) (sym io.io)
             (by_outcome (FindsNoRoom old (written x)) m (written x) built shown.running (alone m (work_of (written x) (newest m))) (Refused refusal.Io) (doubted m has.made) opened.comes (alone_doubts m has.made (work_of (written x) (newest m)) has.reaches));
-        shown = inl (io.1, refl);
+        shown = inl (io.failed, refl, doubt_left old after new m has.made shown worked committed_same io.held f io);
+        stop = doubt_stops old after new m has.made shown worked committed_same io.held;
       }
-      by_result (Err f) (inr gone) = refused old new m x (alone m) shown (dropped_shown f gone) built opened.ends (newest m) opened.comes f (short f gone.why)
+      by_result (Err f) (inr gone) = refused old new m x (alone m) shown (same_gone f gone) (dropped_shown f gone) built opened.ends (newest m) opened.comes f (short f gone.why)
 
   -- ---- a write of a transaction that writes
 
@@ -342,7 +358,7 @@ module _ {D : Type 0} {g : Ghosts D} where
       t = shown.transaction
 
       here : WorksOn mid writer t.0
-      here = record { told = shown.told; writer = t.2; stored = t.3; listed = shown.listed }
+      here = record { told = shown.told; settled = shown.settled; writer = t.2; stored = t.3; listed = shown.listed }
 
       comes : outcome m 1 (written w) ≡ in_transaction m (work_of (written w) t.0)
       comes = write_outcome_of w m (InTransactionOf false [] (Writes (last_place m) t.0)) (first_is m shown.first shown.others shown.connections ∙ t.1)
@@ -353,9 +369,10 @@ module _ {D : Type 0} {g : Ghosts D} where
         step = by_outcome (FindsNoRoom old (written w)) m (written w) built shown.running (in_transaction m (work_of (written w) t.0)) (Rows []) (working_on m has.made) comes (worked_gives m has.made (work_of (written w) t.0) has.reaches);
         shown = inr (moved old (with_transaction after (transaction.Writing left)) m (InTransactionOf false [] (Writes (last_place m) has.made)) shown has.kept.files has.kept.failed
             (ap (λ n. take n (tables_of after.catalog)) has.kept.committed ∙ has.kept.tables) has.works.listed (has.made, refl, has.works.writer, has.works.stored));
+        stop = stop_still old (with_transaction after (transaction.Writing left)) m (working_on m has.made) shown has.kept.files;
       }
       by_result (Err f) has =
-          refused old (with_transaction after (transaction.Writing left)) m w (in_transaction m) shown
+          refused old (with_transaction after (transaction.Writing left)) m w (in_transaction m) shown has.kept.files
           (stays old (with_transaction after (transaction.Writing left)) m shown has.kept.files has.kept.failed has.kept.committed has.kept.tables has.works.listed (t.0, t.1, has.works.writer, has.works.stored))
           built (finish_in m shown.first shown.others shown.connections) t.0 comes f
           (why_of (FindsNoRoom old (written w)) (written w) mid writer t.0 f (λ made none. none) has.why)

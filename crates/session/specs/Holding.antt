@@ -60,6 +60,7 @@ module _ {D : Type 0} {g : Ghosts D} where
   -- The files are as a failed commit leaves them: what a stop leaves of them holds a database that the machine may show, and so do
   -- they as they are.
   pub record IsLeftBy (files : Log D g) (m : Machine) : Type 0 where
+    pub some : 1 ≤ length m.history
     pub db_left : IsContentLeft (g.file (db_of files))
     pub log_left : IsContentLeft (g.file (log_of files))
     pub held : LeaveHeld (MayShow m m) (versions (g.file (db_of files))) (versions (g.file (log_of files)))

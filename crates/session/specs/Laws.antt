@@ -32,6 +32,7 @@ TextRefusalsAddNothing = (g : Grammar) (m : Machine) (c : ℕ) (text : List ℕ)
 -- snapshot and its savepoints, and the database at each place
 pub record IsBeside (old : Machine) (c : ℕ) (new : Machine) : Type 0 where
   pub others : (d : ℕ) → 1 ≤ d → (d ≡ c → ⊥) → connection new d ≡ connection old d
+  pub longer : length old.history ≤ length new.history
   pub kept : (i : ℕ) → i < length old.history → committed new i ≡ committed old i
 
 -- A statement of one connection leaves what the others see.

@@ -1,5 +1,5 @@
 -- Which machine the connections show.
-use Rattle.std.specs.Prelude.{◌≡◌, ◌⊎◌, ◌<◌, ◌≤◌, ⊤, ℕ, Bool, true, false, List, [], ◌∷◌, length, map, take, Result, Ok, Err, Vec, Contains}
+use Rattle.std.specs.Prelude.{◌≡◌, ◌⊎◌, ◌<◌, ◌≤◌, ⊤, ℕ, Bool, true, false, List, [], ◌∷◌, length, map, take, None, Result, Ok, Err, Vec, Contains}
 use Rattle.std.specs.declared.alloc.Global.{Global}
 use Rattle.smallvec.specs.SmallVec.{SmallVec}
 use Rattle.sqlval.specs.Refusals.{Answer, refusal_of}
@@ -11,7 +11,7 @@ use Rattle.disk.specs.declared.device.Disk.{Ghosts}
 use Rattle.syntax.specs.declared.statement.Statement.{Statement}
 use Rattle.wal.specs.declared.log.Log.{Log}
 use Rattle.wal.specs.declared.log.Snapshot.{Snapshot}
-use Rattle.wal.specs.Known.{known_of, seen_by, size_of}
+use Rattle.wal.specs.Known.{db_of, known_of, log_of, seen_by, size_of}
 use Rattle.catalog.specs.Listed.{committed_in, tables_of}
 use Rattle.catalog.specs.declared.tables.Catalog.{Catalog}
 use Rattle.catalog.specs.Database.{Database}
@@ -23,8 +23,10 @@ use Rattle.pager.specs.Views.{View, Tells, changes_of, newest_view, view_at, vie
 use Rattle.pager.specs.Writers.{IsWhole, snapshot_of}
 use Rattle.pager.specs.declared.writer.Writer.{Writer}
 use Rattle.session.specs.Built.{StepSoFar}
+use Rattle.session.specs.Holding.{HoldThroughout, IsLeftBy, IsSettled}
 use Rattle.session.specs.Known.{files_of, has_failed_in}
 use Rattle.session.specs.Machine.{Machine, Connection, Idle, InTransactionOf, NoSnapshot, Reads, Writes, Reply, Rows, Refused, last_place, newest}
+use Rattle.session.specs.Stops.{MayShow}
 use Rattle.session.specs.Stored.{HasNoRoom, Stores}
 use Rattle.session.specs.declared.transactions.Connections.{Connections}
 use Rattle.session.specs.declared.transactions.Transaction.{Transaction}
@@ -96,8 +98,10 @@ module _ {D : Type 0} {g : Ghosts D} where
   -- transaction is.
   pub record IsShown (c : Connections D g) (m : Machine) : Type 0 where
     pub running : m.failed ≡ false
+    pub sure : m.in_doubt ≡ None
     pub whole : has_failed_in c ≡ false
     pub told : Tells (files_of c)
+    pub settled : IsSettled (files_of c)
     pub some : 1 ≤ length m.history
     pub listed : committed_in c.catalog ≤ length (tables_of c.catalog)
     pub stored : Stores (newest_view (files_of c)) (take (committed_in c.catalog) (tables_of c.catalog)) (newest m)
@@ -111,9 +115,9 @@ module _ {D : Type 0} {g : Ghosts D} where
   abbrev pub with_transaction : Connections D g → Transaction → Connections D g
   with_transaction c t = record c { transaction = t }
 
-  -- behind a failed commit nothing more is shown than that
+  -- behind a failed commit nothing more is shown than that, and what is left of the files holds a database that the machine may show
   abbrev pub Shows : Connections D g → Machine → Type 0
-  Shows c m = (has_failed_in c ≡ true) × (m.failed ≡ true) ⊎ IsShown c m
+  Shows c m = (has_failed_in c ≡ true) × (m.failed ≡ true) × IsLeftBy (files_of c) m ⊎ IsShown c m
 
   -- what the first connection sees before a statement
   abbrev pub seen_in : Transaction → Log D g → View
@@ -124,11 +128,12 @@ module _ {D : Type 0} {g : Ghosts D} where
   abbrev pub FindsNoRoom : Connections D g → Statement → Database → Type 0
   FindsNoRoom c = HasNoRoom (seen_in c.transaction (files_of c)) (tables_of c.catalog)
 
-  -- This is a step from a machine to one that is shown behind it.
+  -- This is a step from a machine to one that is shown behind it, and at each moment of it a stop leaves a database that they may show.
   pub record StepsTo (old : Connections D g) (m : Machine) (connection : ℕ) (statement : Statement) (reply : Reply) (new : Connections D g) : Type 0 where
     pub next : Machine
     pub step : StepSoFar (FindsNoRoom old statement) m connection statement reply next
     pub shown : Shows new next
+    pub stop : HoldThroughout (MayShow m next) (files_of old) (files_of new)
 
   -- From each machine that was shown it is a step, and the machine behind it is shown.
   abbrev pub Steps : Connections D g → ℕ → Statement → Reply → Connections D g → Type 0
@@ -144,6 +149,8 @@ module _ {D : Type 0} {g : Ghosts D} where
     pub known : known_of new ≡ known_of old
     pub newest : newest_view new ≡ newest_view old
     pub at : (snapshot : Snapshot) → view_at new snapshot ≡ view_at old snapshot
+    pub db_file : g.file (db_of new) ≡ g.file (db_of old)
+    pub log_file : g.file (log_of new) ≡ g.file (log_of old)
 
   -- nothing but the files has changed, and these were read at most
   pub record OnlyReads (old new : Connections D g) : Type 0 where

@@ -5,6 +5,7 @@ use Rattle.sqlval.specs.Refusals.{Refusal, refusal_of}
 use Rattle.sqlval.specs.declared.fault.Fault.{Fault}
 use Rattle.sqlval.specs.declared.fault.Fault.TheVariants as fault
 use Rattle.sqlval.specs.declared.fault.Feature.TheVariants.{RowSize}
+use Rattle.disk.specs.File.{IsContentLeft}
 use Rattle.disk.specs.declared.device.Disk.{Ghosts}
 use Rattle.syntax.specs.declared.change.Change.TheVariants as change
 use Rattle.syntax.specs.declared.create.NewObject.TheVariants as new
@@ -14,10 +15,12 @@ use Rattle.catalog.specs.Database.{Database}
 use Rattle.catalog.specs.Listed.{committed_in, tables_of}
 use Rattle.catalog.specs.declared.tables.Table.{Table}
 use Rattle.rowprog.specs.Rows.{Holds, TableRow}
+use Rattle.wal.specs.Known.{db_of, log_of}
 use Rattle.wal.specs.declared.log.Log.{Log}
 use Rattle.pager.specs.Views.{IsPage, Tells, newest_view, view_of}
 use Rattle.pager.specs.declared.writer.Writer.{Writer}
 use Rattle.trigger.specs.Binding.{IsFault}
+use Rattle.session.specs.Holding.{HoldThroughout, IsSettled}
 use Rattle.session.specs.Known.{files_of, has_failed_in}
 use Rattle.session.specs.Outcomes.{Sort, Writing, Work, Makes, IsRefused, Binds, sort}
 use Rattle.session.specs.Shown.{AreCommitted, IsWriter, ShowTheSame}
@@ -59,6 +62,7 @@ module _ {D : Type 0} {g : Ghosts D} where
   -- the writer's pages hold this database, whose tables the catalog lists
   pub record WorksOn (c : Connections D g) (w : Writer) (db : Database) : Type 0 where
     pub told : Tells (files_of c)
+    pub settled : IsSettled (files_of c)
     pub writer : IsWriter (files_of c) w
     pub stored : Stores (view_of (files_of c) w) (tables_of c.catalog) db
     pub listed : committed_in c.catalog ≤ length (tables_of c.catalog)
@@ -108,11 +112,25 @@ module _ {D : Type 0} {g : Ghosts D} where
   -- the database is the newest committed one, and all its tables are committed
   pub record HasCommitted (old : Connections D g) (db : Database) (new : Connections D g) : Type 0 where
     pub told : Tells (files_of new)
+    pub settled : IsSettled (files_of new)
     pub failed : has_failed_in new ≡ has_failed_in old
     pub transaction : new.transaction ≡ old.transaction
     pub tables : tables_of new.catalog ≡ tables_of old.catalog
     pub all : AreCommitted new.catalog
     pub stored : Stores (newest_view (files_of new)) (tables_of new.catalog) db
+
+  -- At each moment of a commit a stop leaves the database that was the newest before it, or this one.
+  abbrev pub HoldsEither : Connections D g → Database → Connections D g → Type 0
+  HoldsEither old db new =
+      (was : Database) → Stores (newest_view (files_of old)) (take (committed_in old.catalog) (tables_of old.catalog)) was → HoldThroughout (λ d. (d ≡ was) ⊎ (d ≡ db)) (files_of old) (files_of new)
+
+  -- a call of a disk has failed, so that it is open which of the two the files hold
+  pub record IsInDoubt (old : Connections D g) (db : Database) (new : Connections D g) (f : Fault) : Type 0 where
+    pub io : f ≡ fault.Io
+    pub failed : has_failed_in new ≡ true
+    pub held : HoldsEither old db new
+    pub db_left : IsContentLeft (g.file (db_of (files_of new)))
+    pub log_left : IsContentLeft (g.file (log_of (files_of new)))
 
   -- nothing is committed, for want of memory or of room in the log, and the writer may commit later
   pub record IsUncommitted (old : Connections D g) (db : Database) (new : Connections D g) (left : Writer) (f : Fault) : Type 0 where
@@ -123,8 +141,8 @@ module _ {D : Type 0} {g : Ghosts D} where
 
   -- what a commit has come to; behind a failed call of a disk nothing more is served
   abbrev pub CommitsWork : Connections D g → Database → Result ⊤ Fault → Connections D g → Writer → Type 0
-  CommitsWork old db (Ok done) new left = HasCommitted old db new
-  CommitsWork old db (Err f) new left = (f ≡ fault.Io) × (has_failed_in new ≡ true) ⊎ IsUncommitted old db new left f
+  CommitsWork old db (Ok done) new left = HasCommitted old db new × HoldsEither old db new
+  CommitsWork old db (Err f) new left = IsInDoubt old db new f ⊎ IsUncommitted old db new left f
 
   -- nothing is committed, for want of memory or of room in the log, and of the tables the committed ones are left
   pub record IsDropped (old new : Connections D g) (f : Fault) : Type 0 where
@@ -137,5 +155,5 @@ module _ {D : Type 0} {g : Ghosts D} where
 
   -- what the commit of a statement of its own has come to
   abbrev pub EndsAlone : Connections D g → Database → Result ⊤ Fault → Connections D g → Type 0
-  EndsAlone old db (Ok done) new = HasCommitted old db new
-  EndsAlone old db (Err f) new = (f ≡ fault.Io) × (has_failed_in new ≡ true) ⊎ IsDropped old new f
+  EndsAlone old db (Ok done) new = HasCommitted old db new × HoldsEither old db new
+  EndsAlone old db (Err f) new = IsInDoubt old db new f ⊎ IsDropped old new f

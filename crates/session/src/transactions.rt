@@ -137,6 +137,7 @@ fn with_new_rows<D: Disk + Drop>(
 impl<D: Disk + Drop> Connections<D> {
     ghost use Rattle.session.specs.Shown.{AreCommitted, IsGivenUp, IsNewest, IsShown, OnlyReads, StartsReading, Steps, StepsOn, done_reply, is_begun, is_idle, is_reading, rows_reply, seen_in, with_transaction};
     ghost use Rattle.session.specs.declared.transactions.Transaction.TheVariants as transaction;
+    ghost use Rattle.session.specs.Holding.{IsSettled};
     ghost use Rattle.session.specs.Machine.{Machine, fresh};
     ghost use Rattle.syntax.specs.declared.change.Change.TheVariants as change;
     ghost use Rattle.syntax.specs.declared.create.NewObject.TheVariants as object;
@@ -149,7 +150,7 @@ impl<D: Disk + Drop> Connections<D> {
         ensures files { files_of result ≡ log }
         ensures whole { IsFalse (has_failed_in result) }
         // Where the files hold a database and the catalog lists its tables, they show the machine of it.
-        ensures shown { (db : Database) → Tells log → AreCommitted catalog → Stores (newest_view log) (tables_of catalog) db → IsShown result (fresh db) }
+        ensures shown { (db : Database) → Tells log → IsSettled log → AreCommitted catalog → Stores (newest_view log) (tables_of catalog) db → IsShown result (fresh db) }
     {
         Connections {
             alloc,

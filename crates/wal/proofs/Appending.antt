@@ -232,11 +232,12 @@ wrote h b mark end sum fs log new out bytes made front is_new is_end is_out is_m
 -- and what a commit has done then
 pub commits : (known : Known) (sum : Sum) (index : Index) (fs : List Framed) (old new : File) → LogStands known.header known.has_header known.frames sum index old.content → FrontOf known.header known.has_header known.frames sum old.content
     → IsGrown known.header known.frames (log_front known.header known.has_header known.frames old.content) fs new.content
-    → new.content ≡ log_front known.header known.has_header known.frames old.content ++ written known.header (sum_to known.header (log_front known.header known.has_header known.frames old.content) known.frames) fs → IsSynced new → Commits known fs old new
-commits known sum index fs old new stands front grown is synced = record {
+    → new.content ≡ log_front known.header known.has_header known.frames old.content ++ written known.header (sum_to known.header (log_front known.header known.has_header known.frames old.content) known.frames) fs → IsSynced new → known.frames + length fs ≤ 1000000 → Commits known fs old new
+commits known sum index fs old new stands front grown is synced few = record {
   content = is ∙ ap (λ (s : Sum). log_front known.header known.has_header known.frames old.content ++ written known.header s fs) (sym front.sum_is ∙ stands.sum_is);
   header_is = grown.header_is;
   committed = grown.committed;
   frames_are = grown.frames_are ∙ ap (λ (l : List Framed). l ++ fs) front.frames_are;
   synced = synced;
+  few = few;
 }

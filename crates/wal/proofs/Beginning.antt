@@ -1,8 +1,9 @@
 -- What a stop may leave while the two files are synced and read.
-use Rattle.std.proofs.Common.{◌≡◌, inl, inr, [], ◌∷◌, refl, sym, subst}
+use Rattle.std.proofs.Common.{◌≡◌, ◌≤◌, ℕ, inl, inr, [], ◌∷◌, refl, sym, ap, subst, arith}
 use Rattle.std.specs.Prelude.{Result, Ok, Err, OnOk, OnErr}
-use Rattle.disk.specs.File.{File, Always, OnDb, OnLog, Throughout, whole, versions}
-use Rattle.disk.specs.Calls.{Syncs}
+use Rattle.disk.specs.Current.{syncs_left}
+use Rattle.disk.specs.File.{File, IsContentLeft, Always, OnDb, OnLog, Throughout, whole, versions}
+use Rattle.disk.specs.Calls.{Syncs, CountsFailure}
 use Rattle.disk.specs.Left.{left_synced}
 use Rattle.disk.specs.Moments.{elapses_refl, always_synced, always_weaker, always_end, stays}
 use Rattle.wal.specs.Opens.{LeavesOld, LeavesAsBefore}
@@ -32,3 +33,19 @@ both_synced db log new_db new_log first second = (
 pub both_read : (db log mid_db mid_log new_db new_log : File) → Throughout (LeavesAsBefore db log) db log mid_db mid_log → new_db ≡ mid_db → new_log ≡ mid_log → Throughout (LeavesAsBefore db log) db log new_db new_log
 both_read db log mid_db mid_log new_db new_log run same_db same_log =
     subst (λ (d : File). Throughout (LeavesAsBefore db log) db log d new_log) (sym same_db) (subst (λ (l : File). Throughout (LeavesAsBefore db log) db log mid_db l) (sym same_log) run)
+
+-- what a stop may leave behind a sync, done or failed
+pub sync_left : {T E : Type 0} (result : Result T E) (old new : File) → OnOk result (Syncs old new) → OnErr result (new ≡ old) → IsContentLeft old → IsContentLeft new
+sync_left (Ok x) old new done failed left = syncs_left old new done
+sync_left (Err e) old new done failed left = subst IsContentLeft (sym failed) left
+
+-- what it has then
+pub sync_same : {T E : Type 0} (result : Result T E) (old new : File) → OnOk result (Syncs old new) → OnErr result (new ≡ old) → new.content ≡ old.content
+sync_same (Ok x) old new done failed = done.content
+sync_same (Err e) old new done failed = ap (λ (f : File). f.content) failed
+
+-- and the count of failed calls
+pub counts_up : {T E : Type 0} (result : Result T E) (old new : ℕ) → CountsFailure result old new → old ≤ new
+counts_up (Ok x) old new count = omega (arith, count)
+counts_up (Err e) old new (inl one) = omega (arith, one)
+counts_up (Err e) old new (inr full) = omega (arith, full.1)

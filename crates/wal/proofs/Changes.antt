@@ -1,12 +1,12 @@
 -- The frames of a commit change its pages, and no others; a page has one content.
-use Rattle.std.proofs.Common.{◌≡◌, ◌⊎◌, inl, inr, ◌<◌, ◌≤◌, ◌+◌, ℕ, suc, List, [], ◌∷◌, ◌++◌, length, get_or, refl, sym, ◌∙◌, ap, subst, arith, length-append}
-use Rattle.std.proofs.lemmas.Bool.{cases_lt, cases_eq}
+use Rattle.std.proofs.Common.{◌≡◌, ◌⊎◌, inl, inr, ◌<◌, ◌≤◌, ◌+◌, ℕ, List, [], ◌∷◌, ◌++◌, length, get_or, refl, sym, ◌∙◌, ap, subst, arith, length-append}
+use Rattle.std.proofs.lemmas.Bool.{cases_lt}
 use Rattle.std.proofs.lemmas.List.{get_or_append_left, get_or_push, append-nil, append_assoc}
 use Rattle.walframe.specs.Written.{Framed}
 use Rattle.wal.specs.declared.pages.PageImage.{PageImage}
 use Rattle.wal.specs.Pages.{ArePages, framed, size_before}
-use Rattle.wal.specs.View.{IsPageIn, IsNewestIn, IsInFile, blank_frame}
-use Rattle.wal.specs.Laws.{IsAmong, IsNotAmong, IsChanged}
+use Rattle.wal.specs.View.{IsPageIn, IsNewestIn, blank_frame}
+use Rattle.wal.specs.Laws.{IsNotAmong, IsChanged}
 
 abbrev at : List Framed → ℕ → Framed
 at frames k = get_or frames k blank_frame

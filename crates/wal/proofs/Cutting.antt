@@ -1,7 +1,7 @@
 -- A log that is cut behind its committed frames.
 use Rattle.std.proofs.Common.{◌≡◌, inl, inr, ◌+◌, ◌-◌, ℕ, List, [], Bool, true, false, length, take, get_or, refl, sym, ◌∙◌, ap, subst, arith}
 use Rattle.std.proofs.lemmas.List.{append-nil}
-use Rattle.disk.specs.File.{File, Always}
+use Rattle.disk.specs.File.{File, IsSynced, Always}
 use Rattle.disk.specs.Moments.{always_weaker}
 use Rattle.walframe.specs.declared.heading.LogHeader.{LogHeader}
 use Rattle.walframe.specs.declared.framing.FrameHeader.{FrameHeader}
@@ -9,8 +9,11 @@ use Rattle.walframe.specs.declared.sums.Sum.{Sum}
 use Rattle.walframe.specs.Log.{header_in}
 use Rattle.walframe.specs.Accepted.{frame_start, head_at, sum_to}
 use Rattle.wal.specs.declared.index.Index.{Index}
-use Rattle.wal.specs.Committed.{HasCommits, frames_under}
+use Rattle.wal.specs.Committed.{HasCommits, AreCommitted, framed_to, frames_under}
+use Rattle.wal.specs.Commits.{IsCut}
 use Rattle.wal.specs.Index.{frames_of, IsIndexTo, IsPageNumber, HasFrame}
+use Rattle.wal.specs.Known.{known_in}
+use Rattle.wal.specs.declared.state.State.{State}
 use Rattle.wal.specs.Stands.{LogStands, header_where, log_end}
 use Rattle.wal.specs.Stops.{LeavesOneOf, LeavesCommits}
 use Rattle.wal.proofs.Appending.{FrontOf, front_of, no_frame_past}
@@ -64,3 +67,24 @@ cut_stop h b mark end page_size sum index old new stands size is_end trimmed =
       | inr cut ↦ subst (λ (l : List ℕ). HasCommits page_size l (frames_under (header_where b h) old.content mark)) (sym cut)
           (cut_commits h b mark end page_size sum index old.content stands (front_when h b mark sum index old.content stands) size is_end)
     ]) trimmed
+
+-- its committed frames are what they were
+pub cut_frames : (h : LogHeader) (b : Bool) (mark end : ℕ) (sum : Sum) (index : Index) (log : List ℕ) → LogStands h b mark sum index log → end ≡ log_end h b mark → frames_under (header_where b h) (take end log) mark ≡ frames_under (header_where b h) log mark
+cut_frames h true mark end sum index log stands is_end = ap (λ (n : ℕ). framed_to h (take n log) mark) is_end ∙ (front_when h true mark sum index log stands refl).frames_are
+cut_frames h false mark end sum index log stands is_end = refl
+
+pub stands_committed : (h : LogHeader) (b : Bool) (mark page_size : ℕ) (sum : Sum) (index : Index) (log : List ℕ) → LogStands h b mark sum index log → h.page_size ≡ page_size → AreCommitted log page_size (header_where b h) mark
+stands_committed h true mark page_size sum index log stands size = (size, stands.committed refl)
+stands_committed h false mark page_size sum index log stands size = stands.none refl
+
+-- the log of a call that cut it
+pub was_cut : (s : State) (end : ℕ) (old new : File) → LogStands s.header s.is_begun s.mark s.sum s.index old.content → end ≡ log_end s.header s.is_begun s.mark → new.content ≡ take end old.content → IsSynced new → IsCut (known_in s) old new
+was_cut s end old new stands is_end is synced =
+    let there : LogStands s.header s.is_begun s.mark s.sum s.index new.content = subst (λ (l : List ℕ). LogStands s.header s.is_begun s.mark s.sum s.index l) (sym is) (stands_cut s.header s.is_begun s.mark end s.sum s.index old.content stands s.indexed is_end) in
+    record {
+      content = is ∙ ap (λ (n : ℕ). take n old.content) is_end;
+      header_is = there.header_is;
+      committed = stands_committed s.header s.is_begun s.mark s.page_size s.sum s.index new.content there s.same_size;
+      frames = ap (λ (l : List ℕ). frames_under (header_where s.is_begun s.header) l s.mark) is ∙ cut_frames s.header s.is_begun s.mark end s.sum s.index old.content stands is_end;
+      synced = synced;
+    }

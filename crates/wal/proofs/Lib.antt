@@ -1,6 +1,7 @@
 pub mod Results
 pub mod Rooms
 pub mod Indexing
+pub mod Openable
 pub mod Opened
 pub mod Paging
 pub mod CommitLemmas
@@ -8,9 +9,11 @@ pub mod FrameLists
 pub mod Same
 pub mod Appending
 pub mod Halting
+pub mod Lefts
 pub mod Stopping
 pub mod Beginning
 pub mod Cutting
 pub mod Chance
 pub mod Views
 pub mod Changes
+pub mod Settled

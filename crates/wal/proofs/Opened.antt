@@ -102,23 +102,25 @@ opened log scan (Some g) h b sum index is sums indexed pages has =
 
 -- what is known then is the newest view
 pub known_read : (db log : List ℕ) (scan : Scan) (o : Option LogHeader) (known : Known) (counted : Option ℕ) → IsRead log scan o known.header known.has_header → known.header.page_size ≡ known.page_size → known.frames ≡ length scan.frames.items
-    → IsViewSize scan.frames.items counted (length db) known.page_size known.size → IsKnownOf counted db log known
-known_read db log scan None known counted is same_size count size =
+    → known.frames ≤ 1000000 → IsViewSize scan.frames.items counted (length db) known.page_size known.size → IsKnownOf counted db log known
+known_read db log scan None known counted is same_size count few size =
     let none : length scan.frames.items ≡ 0 = ap length is.reads.frames in
     let header : header_of known ≡ None = ap (λ (c : Bool). header_where c known.header) is.begun in
     record {
       header_is = is.header_is ∙ ap (λ (p : Option LogHeader). (let r : Result (Option LogHeader) Fault = Ok p in r)) (sym header);
       frames_are = subst (λ (p : Option LogHeader). AreCommitted log known.page_size p known.frames) (sym header) (count ∙ none);
+      few = few;
       size_is = subst (λ (p : Option LogHeader). IsViewSize (heads log p known.frames) counted (length db) known.page_size known.size) (sym header)
           (subst (λ (l : List FrameHeader). IsViewSize l counted (length db) known.page_size known.size) is.reads.frames size);
     }
-known_read db log scan (Some g) known counted is same_size count size =
+known_read db log scan (Some g) known counted is same_size count few size =
     let header : header_of known ≡ Some g = ap (λ (c : Bool). header_where c known.header) is.begun ∙ ap (λ (f : LogHeader). (let r : Option LogHeader = Some f in r)) is.same in
     let sizes : g.page_size ≡ known.page_size = ap (λ (f : LogHeader). f.page_size) (sym is.same) ∙ same_size in
     let committed = committed_read g log is.reads.accepted (length scan.frames.items) (subst (λ (f : LogHeader). IsPageSize f.page_size) is.same is.size) is.reads.are_accepted is.reads.are_committed in
     record {
       header_is = is.header_is ∙ ap (λ (p : Option LogHeader). (let r : Result (Option LogHeader) Fault = Ok p in r)) (sym header);
       frames_are = subst (λ (p : Option LogHeader). AreCommitted log known.page_size p known.frames) (sym header) (sizes, subst (HasCommitted g log) (sym count) committed);
+      few = few;
       size_is = subst (λ (p : Option LogHeader). IsViewSize (heads log p known.frames) counted (length db) known.page_size known.size) (sym header)
           (subst (λ (l : List FrameHeader). IsViewSize l counted (length db) known.page_size known.size) (is.reads.frames ∙ ap (heads_to g log) (sym count)) size);
     }

@@ -6,7 +6,7 @@ use Rattle.sqlval.specs.declared.fault.Fault.TheVariants.{Io}
 use Rattle.walframe.specs.Log.{header_in}
 use Rattle.walframe.specs.Accepted.{sum_to}
 use Rattle.walframe.specs.Written.{Framed, written}
-use Rattle.wal.specs.Committed.{HasCommitted, framed_to, frames_under}
+use Rattle.wal.specs.Committed.{HasCommitted, AreCommitted, framed_to, frames_under}
 use Rattle.wal.specs.Known.{Known, header_of}
 use Rattle.wal.specs.Stands.{log_front, log_end}
 
@@ -21,6 +21,7 @@ pub record Commits (known : Known) (fs : List Framed) (old new : File) : Type 0 
   pub committed : HasCommitted known.header new.content (known.frames + length fs)
   pub frames_are : framed_to known.header new.content (known.frames + length fs) ≡ commits_of known old.content ++ fs
   pub synced : IsSynced new
+  pub few : known.frames + length fs ≤ 1000000
 
 -- so many frames more count, and the database has this size
 abbrev pub grown : Known → ℕ → ℕ → Known
@@ -41,9 +42,12 @@ pub record KeepsDisks {D : Type 0} (tells : D → Bool) (failures : D → ℕ) (
   pub tells_same : tells new_log ≡ tells old_log
   pub counts : failures old_log ≤ failures new_log
 
--- the log was cut behind its committed frames, and synced
+-- the log was cut behind its committed frames, which are what they were, and synced
 pub record IsCut (known : Known) (old new : File) : Type 0 where
   pub content : new.content ≡ take (log_end known.header known.has_header known.frames) old.content
+  pub header_is : header_in new.content ≡ Ok (header_of known)
+  pub committed : AreCommitted new.content known.page_size (header_of known) known.frames
+  pub frames : commits_of known new.content ≡ commits_of known old.content
   pub synced : IsSynced new
 
 -- what is known after it was cut

@@ -1,10 +1,14 @@
 -- What opening makes of what was read of a log.
-use Rattle.std.specs.Prelude.{◌≡◌, ◌≤◌, ◌*◌, ℕ, List, [], ◌∷◌, length, slice_index_or, Option, Some, None, MatchOption}
+use Rattle.std.specs.Prelude.{◌≡◌, ◌≤◌, ◌+◌, ◌*◌, ℕ, List, [], ◌∷◌, length, slice_index_or, Option, Some, None, MatchOption}
 use Rattle.walframe.specs.declared.framing.FrameHeader.{FrameHeader}
 use Rattle.walframe.specs.declared.heading.LogHeader.{LogHeader}
 use Rattle.walframe.specs.declared.progress.Scan.{Scan}
 use Rattle.walframe.specs.declared.sums.Sum.{Sum}
 use Rattle.walframe.specs.Log.{header_sum}
+
+-- there is no header, or one of this page size
+abbrev pub IsOfSize : Option LogHeader → ℕ → Type 0
+IsOfSize header page_size = MatchOption header (Unit {0}) (λ h. h.page_size ≡ page_size)
 
 -- the header is the log's, where it has one
 abbrev pub IsHeaderOf : Scan → LogHeader → Type 0
@@ -24,3 +28,8 @@ IsViewSize (f ∷ fs) counted db_len page_size size = size ≡ (slice_index_or (
 pub record IsServedSize (page_size size : ℕ) : Type 0 where
   pub few : size ≤ 65536
   pub small : size * page_size ≤ 1073741824
+
+-- So many frames more, behind these, and pages of this size, so many of them, are within the limits.
+pub record IsWithinLimits (frames page_size count size : ℕ) : Type 0 where
+  pub few : frames + count ≤ 1000000
+  pub served : IsServedSize page_size size

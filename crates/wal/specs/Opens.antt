@@ -1,11 +1,12 @@
 -- What opening the two files tells of them.
 use Rattle.std.specs.Prelude.{◌≡◌, ◌≤◌, ◌⊎◌, ℕ, Bool, List, length, Option, Ok, Err, Result, IsTrue, IsFalse}
 use Rattle.disk.specs.declared.device.Disk.{Ghosts}
-use Rattle.disk.specs.File.{File, Version, IsLeft, versions}
+use Rattle.disk.specs.File.{File, Version, IsLeft, IsContentLeft, versions}
 use Rattle.walframe.specs.declared.heading.LogHeader.{LogHeader}
 use Rattle.walframe.specs.declared.heading.Salts.{Salts}
 use Rattle.walframe.specs.declared.sums.WordOrder.TheVariants.{Big}
 use Rattle.walframe.specs.Log.{header_in}
+use Rattle.walframe.specs.Accepted.{IsPageSize}
 use Rattle.wal.specs.declared.log.Log.{Log}
 use Rattle.wal.specs.declared.log.Refused.{Refused}
 use Rattle.wal.specs.Committed.{AreCommitted}
@@ -30,12 +31,28 @@ pub record IsOpened (page_size : ℕ) (salts : Salts) (known : Known) : Type 0 w
 pub record IsKnownOf (counted : Option ℕ) (db log : List ℕ) (known : Known) : Type 0 where
   pub header_is : header_in log ≡ Ok (header_of known)
   pub frames_are : AreCommitted log known.page_size (header_of known) known.frames
+  pub few : known.frames ≤ 1000000
   pub size_is : IsViewSize (heads log (header_of known) known.frames) counted (length db) known.page_size known.size
 
--- a call left the content of a disk's file
-pub record KeepsContent {D : Type 0} (tells : D → Bool) (file : D → File) (old new : D) : Type 0 where
+-- The contents can be opened: pages of this size are served; the log has no header, or one of this page size, with no more
+-- than 1,000,000 committed frames; and the newest view has a size that is served.
+pub record CanOpen (page_size : ℕ) (counted : Option ℕ) (db log : List ℕ) : Type 0 where
+  pub page_size_is : IsPageSize page_size
+  pub header : Option LogHeader
+  pub header_is : header_in log ≡ Ok header
+  pub frames : ℕ
+  pub frames_are : AreCommitted log page_size header frames
+  pub few : frames ≤ 1000000
+  pub size : ℕ
+  pub size_is : IsViewSize (heads log header frames) counted (length db) page_size size
+  pub served : IsServedSize page_size size
+
+-- A call left the content of a disk's file, which a stop may leave where it may have before, and the count of failed calls didn't fall.
+pub record KeepsContent {D : Type 0} (tells : D → Bool) (file : D → File) (failures : D → ℕ) (old new : D) : Type 0 where
   pub tells_same : tells new ≡ tells old
   pub same : IsTrue (tells old) → (file new).content ≡ (file old).content
+  pub left : IsTrue (tells old) → IsContentLeft (file old) → IsContentLeft (file new)
+  pub counts : failures old ≤ failures new
 
 -- a stop leaves of a file what it may have left before, or its content
 abbrev pub LeavesOld : File → List Version → Type 0

@@ -2,13 +2,13 @@
 
 ghost use Rattle.std.specs.Prelude.{◌≡◌, ◌<◌, ◌≤◌, ◌++◌, length, take, true, IsTrue, IsFalse, OnOk, OnErr, IfErr, if◌then◌else◌};
 ghost use Rattle.disk.specs.Calls.{Rose, Syncs};
-ghost use Rattle.disk.specs.File.{IsSynced, Always};
+ghost use Rattle.disk.specs.File.{IsSynced, IsContentLeft, Always};
 ghost use Rattle.sqlval.specs.declared.fault.Fault.TheVariants.{Io};
 ghost use Rattle.walframe.specs.Log.{header_bytes};
 ghost use Rattle.walframe.specs.Written.{HeaderFits};
 ghost use Rattle.wal.specs.Commits.{Commits, IsKnownAfter, IsKnownCut, IsCut, KeepsDisks, commits_of};
 ghost use Rattle.wal.specs.Pages.{ArePages, framed};
-ghost use Rattle.wal.specs.Refusals.{IsCommitRefusal, IsCutRefusal};
+ghost use Rattle.wal.specs.Refusals.{IsCommitRefusal, IsCutRefusal, IsWithin};
 ghost use Rattle.wal.specs.Stands.{front_at};
 ghost use Rattle.wal.specs.Stops.{LeavesOneOf, LeavesHeader, AreEither, LeavesWriting, LeavesEither, LeavesCommits};
 
@@ -36,6 +36,7 @@ fn trim<D: Disk>(log: &mut D, end: u64, is_cut: bool) -> R<()>
     ensures cut { IsTrue (D.tells log.old) → OnOk result ((D.file log.new).content ≡ take end (D.file log.old).content) }
     ensures synced { IsTrue (D.tells log.old) → IsSynced (D.file log.old) → OnOk result (IsSynced (D.file log.new)) }
     ensures stop { IsTrue (D.tells log.old) → IsSynced (D.file log.old) → Always (D.file log.old) (D.file log.new) (LeavesOneOf (D.file log.old).content (take end (D.file log.old).content)) }
+    ensures left { IsTrue (D.tells log.old) → IsSynced (D.file log.old) → IsContentLeft (D.file log.new) }
     ensures same { (D.tells log.new ≡ D.tells log.old) × (D.failures log.old ≤ D.failures log.new) }
     ensures refusal { IfErr result (λ e. (e ≡ Io) × Rose (D.failures log.old) (D.failures log.new)) }
 {
@@ -56,6 +57,7 @@ fn give_header<D: Disk>(log: &mut D, header: &LogHeader, is_begun: bool) -> R<()
     ensures fits { IsFalse is_begun → HeaderFits header.now }
     ensures synced { IsTrue (D.tells log.old) → IsSynced (D.file log.old) → OnOk result (IsSynced (D.file log.new)) }
     ensures stop { IsTrue (D.tells log.old) → IsSynced (D.file log.old) → Always (D.file log.old) (D.file log.new) (LeavesHeader header.now is_begun (D.file log.old).content) }
+    ensures left { IsTrue (D.tells log.old) → IsSynced (D.file log.old) → IsContentLeft (D.file log.new) }
     ensures same { (D.tells log.new ≡ D.tells log.old) × (D.failures log.old ≤ D.failures log.new) }
     ensures refusal { IfErr result (λ e. (e ≡ Io) × Rose (D.failures log.old) (D.failures log.new)) }
 {
@@ -72,6 +74,7 @@ fn append<D: Disk>(log: &mut D, at: u64, bytes: &[u8]) -> R<()>
     ensures written { IsTrue (D.tells log.old) → OnOk result ((D.file log.new).content ≡ (D.file log.old).content ++ bytes.now) }
     ensures synced { IsTrue (D.tells log.old) → OnOk result (IsSynced (D.file log.new)) }
     ensures stop { IsTrue (D.tells log.old) → IsSynced (D.file log.old) → Always (D.file log.old) (D.file log.new) (AreEither (D.file log.old).content ((D.file log.old).content ++ bytes.now)) }
+    ensures left { IsTrue (D.tells log.old) → IsSynced (D.file log.old) → IsContentLeft (D.file log.new) }
     ensures same { (D.tells log.new ≡ D.tells log.old) × (D.failures log.old ≤ D.failures log.new) }
     ensures refusal { IfErr result (λ e. (e ≡ Io) × Rose (D.failures log.old) (D.failures log.new)) }
 {
@@ -95,6 +98,7 @@ fn write_out<D: Disk>(
     ensures fits { HeaderFits header }
     ensures synced { IsTrue (D.tells log.old) → OnOk result (IsSynced (D.file log.new)) }
     ensures stop { IsTrue (D.tells log.old) → IsSynced (D.file log.old) → Always (D.file log.old) (D.file log.new) (LeavesWriting header is_begun end bytes.now (D.file log.old).content) }
+    ensures left { IsTrue (D.tells log.old) → IsSynced (D.file log.old) → IsContentLeft (D.file log.new) }
     ensures same { (D.tells log.new ≡ D.tells log.old) × (D.failures log.old ≤ D.failures log.new) }
     ensures refusal { IfErr result (λ e. (e ≡ Io) × Rose (D.failures log.old) (D.failures log.new)) }
 {
@@ -116,7 +120,9 @@ impl<D: Disk> Log<D> {
         ensures known { IsKnownAfter result (known_of self.old) (length pages.now) size (known_of self.new) }
         ensures stop { IsFalse (known_of self.old).has_failed → IsTrue (D.tells (log_of self.old)) → Always (D.file (log_of self.old)) (D.file (log_of self.new))
             (LeavesEither (known_of self.old).page_size (commits_of (known_of self.old) (D.file (log_of self.old)).content) (commits_of (known_of self.old) (D.file (log_of self.old)).content ++ framed pages.now size)) }
-        ensures refusal { IfErr result (λ e. IsCommitRefusal (known_of self.old).has_failed (ArePages 0 size (known_of self.old).page_size pages.now × (0 < length pages.now)) (log_of self.old) (log_of self.new) (D.failures (log_of self.old)) (D.failures (log_of self.new)) e) }
+        // What is on the log at each exit is what a stop may leave of it.
+        ensures left { IsFalse (known_of self.old).has_failed → IsTrue (D.tells (log_of self.old)) → IsContentLeft (D.file (log_of self.new)) }
+        ensures refusal { IfErr result (λ e. IsCommitRefusal (known_of self.old).has_failed (ArePages 0 size (known_of self.old).page_size pages.now × (0 < length pages.now)) (IsWithin (known_of self.old) (length pages.now) size) (log_of self.old) (log_of self.new) (D.failures (log_of self.old)) (D.failures (log_of self.new)) e) }
         ensures same { KeepsDisks D.tells D.failures (db_of self.old) (db_of self.new) (log_of self.old) (log_of self.new) }
         ensures reason { HasReason true result self.old self.new }
     {
@@ -151,7 +157,8 @@ impl<D: Disk> Log<D> {
         ensures known { IsKnownCut result (known_of self.old) (known_of self.new) }
         ensures stop { IsFalse (known_of self.old).has_failed → IsTrue (D.tells (log_of self.old)) → Always (D.file (log_of self.old)) (D.file (log_of self.new))
             (LeavesCommits (known_of self.old).page_size (commits_of (known_of self.old) (D.file (log_of self.old)).content)) }
-        ensures refusal { IfErr result (λ e. IsCutRefusal (log_of self.old) (log_of self.new) (D.failures (log_of self.old)) (D.failures (log_of self.new)) e) }
+        ensures left { IsFalse (known_of self.old).has_failed → IsTrue (D.tells (log_of self.old)) → IsContentLeft (D.file (log_of self.new)) }
+        ensures refusal { IfErr result (λ e. IsCutRefusal (known_of self.old).has_failed (log_of self.old) (log_of self.new) (D.failures (log_of self.old)) (D.failures (log_of self.new)) e) }
         ensures same { KeepsDisks D.tells D.failures (db_of self.old) (db_of self.new) (log_of self.old) (log_of self.new) }
     {
         if self.state.is_failed {

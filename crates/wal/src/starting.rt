@@ -1,10 +1,11 @@
 //! Opening the two files.
 
-ghost use Rattle.std.specs.Prelude.{◌≡◌, ◌<◌, ◌≤◌, ◌-◌, ℕ, length, IsTrue, IfOk, IfErr, IsFalse, IsNone, OnOk};
+ghost use Rattle.std.specs.Prelude.{◌≡◌, ◌⊎◌, ◌<◌, ◌≤◌, ◌-◌, ℕ, length, IsTrue, IfOk, IfErr, IsFalse, IsNone, OnOk};
+ghost use Rattle.disk.specs.Calls.{Rose};
 ghost use Rattle.disk.specs.File.{IsSynced, Always, Throughout};
 ghost use Rattle.walframe.specs.Accepted.{Leaves};
-ghost use Rattle.wal.specs.Opening.{IsHeaderOf, IsSumOf, IsViewSize};
-ghost use Rattle.wal.specs.Opens.{fresh_header, IsOpened, IsKnownOf, KeepsContent, Surveys, LeavesOld, LeavesAsBefore};
+ghost use Rattle.wal.specs.Opening.{IsHeaderOf, IsSumOf, IsViewSize, IsServedSize, IsOfSize};
+ghost use Rattle.wal.specs.Opens.{fresh_header, IsOpened, IsKnownOf, CanOpen, KeepsContent, Surveys, LeavesOld, LeavesAsBefore};
 ghost use Rattle.wal.specs.Known.{known_in};
 ghost use Rattle.wal.specs.Pages.{is_size};
 ghost use Rattle.wal.specs.Refusals.{IsOpenRefusal};
@@ -34,7 +35,7 @@ fn view_size(
 ) -> R<u32>
     requires { 0 < page_size }
     ensures size { IfOk result (λ size. IsViewSize frames.now counted_size db_len page_size size) }
-    ensures refusal { IfErr result (λ e. IsOpenRefusal e) }
+    ensures refusal { IfErr result (λ e. IsOpenRefusal ⊥ ((size : ℕ) → IsViewSize frames.now counted_size db_len page_size size → IsServedSize page_size size → ⊥) e) }
 {
     if let Some(last) = frames.last() {
         return Ok(last.size);
@@ -52,7 +53,7 @@ fn header_of(scanned: &Scan, page_size: u32, salts: Salts) -> R<LogHeader>
     ensures fresh { IsNone scanned.now.header → IfOk result (λ header. header ≡ fresh_header page_size salts) }
     ensures size { IfOk result (λ header. header.page_size ≡ page_size) }
     ensures found { IfOk result (λ header. IsHeaderOf scanned.now header) }
-    ensures refusal { IfErr result (λ e. IsOpenRefusal e) }
+    ensures refusal { IfErr result (λ e. IsOpenRefusal ⊥ (IsOfSize scanned.now.header page_size → ⊥) e) }
 {
     match scanned.header {
         Some(header) if header.page_size != page_size => Err(Fault::Damaged(Damage::Log, 0)),
@@ -78,12 +79,12 @@ fn sum_of(scanned: &Scan, header: &LogHeader) -> Sum
 
 // Syncs both files, so that a stop leaves what is read of them.
 fn sync_both<D: Disk>(db: &mut D, log: &mut D) -> R<()>
-    ensures db { KeepsContent D.tells D.file db.old db.new }
-    ensures log { KeepsContent D.tells D.file log.old log.new }
+    ensures db { KeepsContent D.tells D.file D.failures db.old db.new }
+    ensures log { KeepsContent D.tells D.file D.failures log.old log.new }
     ensures synced { OnOk result ((IsTrue (D.tells db.old) → IsSynced (D.file db.new)) × (IsTrue (D.tells log.old) → IsSynced (D.file log.new))) }
     ensures db_stop { IsTrue (D.tells db.old) → Always (D.file db.old) (D.file db.new) (LeavesOld (D.file db.old)) }
     ensures log_stop { IsTrue (D.tells log.old) → Always (D.file log.old) (D.file log.new) (LeavesOld (D.file log.old)) }
-    ensures refusal { IfErr result (λ e. e ≡ Fault.Io) }
+    ensures refusal { IfErr result (λ e. (e ≡ Fault.Io) × (Rose (D.failures db.old) (D.failures db.new) ⊎ Rose (D.failures log.old) (D.failures log.new))) }
 {
     db.sync()?;
     log.sync()
@@ -101,8 +102,8 @@ fn survey<D: Disk>(
     ensures log { IsTrue (D.tells log.new) → IfOk result (λ state. LogStands state.header state.is_begun state.mark state.sum state.index (D.file log.new).content) }
     ensures known { IfOk result (λ state. IsOpened page_size salts (known_in state) × IsFalse state.is_cut) }
     ensures view { IsTrue (D.tells db.new) → IsTrue (D.tells log.new) → IfOk result (λ state. IsKnownOf counted_size (D.file db.new).content (D.file log.new).content (known_in state)) }
-    ensures refusal { IfErr result (λ e. IsOpenRefusal e) }
-    ensures kept { Leaves D.tells D.file db.old db.new × Leaves D.tells D.file log.old log.new }
+    ensures refusal { IfErr result (λ e. IsOpenRefusal (Rose (D.failures db.old) (D.failures db.new) ⊎ Rose (D.failures log.old) (D.failures log.new)) (IsTrue (D.tells db.old) → IsTrue (D.tells log.old) → CanOpen page_size counted_size (D.file db.old).content (D.file log.old).content → ⊥) e) }
+    ensures kept { Leaves D.tells D.file db.old db.new × Leaves D.tells D.file log.old log.new × (D.failures db.old ≤ D.failures db.new) × (D.failures log.old ≤ D.failures log.new) }
 {
     if !is_page_size(page_size) {
         return Err(Fault::Unsupported(Feature::PageSize));
@@ -139,11 +140,11 @@ fn read_files<D: Disk>(
     salts: Salts,
 ) -> R<State>
     ensures found { IfOk result (λ state. Surveys D.tells D.file page_size counted_size salts db.new log.new state) }
-    ensures db_kept { KeepsContent D.tells D.file db.old db.new }
-    ensures log_kept { KeepsContent D.tells D.file log.old log.new }
+    ensures db_kept { KeepsContent D.tells D.file D.failures db.old db.new }
+    ensures log_kept { KeepsContent D.tells D.file D.failures log.old log.new }
     ensures synced { OnOk result ((IsTrue (D.tells db.old) → IsSynced (D.file db.new)) × (IsTrue (D.tells log.old) → IsSynced (D.file log.new))) }
     ensures stop { IsTrue (D.tells db.old) → IsTrue (D.tells log.old) → Throughout (LeavesAsBefore (D.file db.old) (D.file log.old)) (D.file db.old) (D.file log.old) (D.file db.new) (D.file log.new) }
-    ensures refusal { IfErr result (λ e. IsOpenRefusal e) }
+    ensures refusal { IfErr result (λ e. IsOpenRefusal (Rose (D.failures db.old) (D.failures db.new) ⊎ Rose (D.failures log.old) (D.failures log.new)) (IsTrue (D.tells db.old) → IsTrue (D.tells log.old) → CanOpen page_size counted_size (D.file db.old).content (D.file log.old).content → ⊥) e) }
 {
     sync_both(db, log)?;
     survey(alloc, db, log, page_size, counted_size, salts)
@@ -166,12 +167,13 @@ impl<D: Disk> Log<D> {
         counted_size: Option<u32>,
         salts: Salts,
     ) -> Result<Log<D>, Refused<D>>
-        ensures kept { KeepsContent D.tells D.file db (db_in result) × KeepsContent D.tells D.file log (log_in result) }
+        ensures kept { KeepsContent D.tells D.file D.failures db (db_in result) × KeepsContent D.tells D.file D.failures log (log_in result) }
         ensures synced { IfOk result (λ files. (IsTrue (D.tells db) → IsSynced (D.file (db_of files))) × (IsTrue (D.tells log) → IsSynced (D.file (log_of files)))) }
         ensures known { IfOk result (λ files. IsOpened page_size salts (known_of files)) }
         ensures view { IfOk result (λ files. IsTrue (D.tells db) → IsTrue (D.tells log) → IsKnownOf counted_size (D.file (db_of files)).content (D.file (log_of files)).content (known_of files)) }
         ensures stop { IsTrue (D.tells db) → IsTrue (D.tells log) → Throughout (LeavesAsBefore (D.file db) (D.file log)) (D.file db) (D.file log) (D.file (db_in result)) (D.file (log_in result)) }
-        ensures refusal { IfErr result (λ refused. IsOpenRefusal refused.fault) }
+        ensures refusal { IfErr result (λ refused. IsOpenRefusal (Rose (D.failures db) (D.failures refused.db) ⊎ Rose (D.failures log) (D.failures refused.log))
+            (IsTrue (D.tells db) → IsTrue (D.tells log) → CanOpen page_size counted_size (D.file db).content (D.file log).content → ⊥) refused.fault) }
     {
         let mut db = db;
         let mut log = log;

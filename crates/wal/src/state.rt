@@ -4,7 +4,7 @@ ghost use Rattle.std.specs.Prelude.{◌≡◌, ◌<◌, ◌≤◌, ◌+◌, ◌-
 ghost use Rattle.walframe.specs.Accepted.{frame_start};
 ghost use Rattle.walframe.specs.Written.{SaltsFit, written, sum_behind};
 ghost use Rattle.wal.specs.Index.{IsIndexTo, HasRooms, IsStrict};
-ghost use Rattle.wal.specs.Opening.{IsServedSize};
+ghost use Rattle.wal.specs.Opening.{IsServedSize, IsWithinLimits};
 ghost use Rattle.wal.specs.Stands.{log_end};
 ghost use Rattle.wal.specs.Pages.{framed, size_before, is_size, numbers_of};
 
@@ -23,7 +23,7 @@ const MOST_BYTES: u64 = 1_073_741_824;
 
 /// Whether a database of so many pages is within the limits.
 pub fn is_within_limits(size: u32, page_size: u32) -> bool
-    ensures { IsTrue result → IsServedSize page_size size }
+    ensures { IsTrue result ↔ IsServedSize page_size size }
 {
     size <= MOST_PAGES && size as u64 * page_size as u64 <= MOST_BYTES
 }
@@ -89,7 +89,7 @@ impl State {
     pub fn check_limits(&self, frames: usize, size: u32) -> R<()>
         ensures room { OnOk result (self.now.mark + frames ≤ 1000000) }
         ensures size { OnOk result (IsServedSize self.now.page_size size) }
-        ensures refusal { IfErr result (λ e. e ≡ Fault.Full) }
+        ensures refusal { IfErr result (λ e. (e ≡ Fault.Full) × (IsWithinLimits self.now.mark self.now.page_size frames size → ⊥)) }
     {
         if frames > MOST_FRAMES - self.mark as usize || !is_within_limits(size, self.page_size) {
             return Err(Fault::Full);

@@ -15,7 +15,7 @@ use Rattle.walframe.specs.declared.sums.Sum.{Sum}
 use Rattle.walframe.specs.declared.sums.WordOrder.{WordOrder}
 use Rattle.walframe.specs.Sums.{words, carried, zero_sum}
 use Rattle.walframe.specs.Log.{number_at, sum_at, salts_at, same_sum, order_told, fields_in, is_summed, header_of_format, header_by, header_in, summed, frame_of}
-use Rattle.walframe.specs.Accepted.{frame_start, frame_at, summed_to, sum_to, IsFrame, IsAccepted, HasAccepted, head_at, heads_to}
+use Rattle.walframe.specs.Accepted.{frame_start, frame_at, summed_to, sum_to, IsFrame, IsAccepted, head_at, heads_to}
 use Rattle.walframe.specs.Appended.{BeginsWithFrames, KeepsAcceptedFrames}
 
 big_front : (xs ys : List ℕ) → 4 ≤ length xs → big_number 4 (xs ++ ys) ≡ big_number 4 xs

@@ -1,11 +1,11 @@
 -- Reading a log.
 use Rattle.std.proofs.Common.{◌≡◌, ◌≤◌, ◌+◌, ◌*◌, ◌<◌, Bool, true, false, ℕ, zero, suc, List, [], ◌∷◌, ◌++◌, length, take, drop, refl, sym, ◌∙◌, ap, subst, arith, length-append, length-take, length-drop, inl, inr}
-use Rattle.std.specs.Prelude.{Option, Result, Ok, Err, IfErr, IfOk, ◌==◌, ◌&&◌, MatchBool}
+use Rattle.std.specs.Prelude.{◌⊎◌, Option, Result, Ok, Err, IfErr, IsErrAnd, IfOk, ◌==◌, ◌&&◌, MatchBool}
 use Rattle.std.proofs.lemmas.List.{take-append-drop, take_all, take-append-le, take_at}
 use Rattle.std.proofs.lemmas.Bool.{eqb-true, eq-eqb, cases_lt}
 use Rattle.sqlval.specs.declared.fault.Fault.{Fault}
-use Rattle.sqlval.specs.declared.fault.Fault.TheVariants.{Unsupported}
-use Rattle.sqlval.specs.declared.fault.Feature.TheVariants.{LogFormat}
+use Rattle.sqlval.specs.declared.fault.Fault.TheVariants.{Memory, Unsupported}
+use Rattle.sqlval.specs.declared.fault.Feature.TheVariants.{LogFormat, Limit}
 use Rattle.walframe.specs.declared.heading.LogHeader.{LogHeader}
 use Rattle.walframe.specs.declared.framing.FrameHeader.{FrameHeader}
 use Rattle.walframe.specs.declared.heading.Salts.{Salts}
@@ -14,7 +14,7 @@ use Rattle.walframe.specs.declared.progress.Scan.{Scan}
 use Rattle.walframe.specs.declared.sums.Sum.{Sum}
 use Rattle.walframe.specs.Sums.{zero_sum}
 use Rattle.walframe.specs.Log.{header_in, same_sum, same_salts, is_frame, sum_over, frame_of, summed, sum_at, salts_at}
-use Rattle.walframe.specs.Accepted.{IsRefusal, IsPageSize, IsFrame, HasAccepted, IsCommitted, Reads, frame_start, frame_at, summed_to, sum_to, head_at, heads_to}
+use Rattle.walframe.specs.Accepted.{IsRefusal, HasTooMany, IsPageSize, IsFrame, HasAccepted, IsCommitted, Reads, frame_start, frame_at, summed_to, sum_to, head_at, heads_to}
 use Rattle.walframe.specs.Progress.{SamePart, WholePart, Accepts, IsMeasured, IsRead, IsReadWhole}
 use Rattle.walframe.proofs.Fronts.{header_in_front, start_more}
 use Rattle.walframe.proofs.Carrying.{carried_both}
@@ -28,9 +28,16 @@ pub found_header : (result given : Result (Option LogHeader) Fault) → result �
 found_header (Ok header) given is = sym is
 found_header (Err e) given is = tt
 
-pub format_refusal : {T : Type 0} (result : Result T Fault) (old new : ℕ) → IfErr result (λ e. e ≡ Unsupported LogFormat) → IfErr result (λ e. IsRefusal e old new)
-format_refusal (Ok x) old new is = tt
-format_refusal (Err e) old new is = subst (λ (f : Fault). IsRefusal f old new) (sym is) tt
+pub format_refusal : (told : Type 0) (result given : Result (Option LogHeader) Fault) (old new : ℕ) → (told → result ≡ given) → IfErr result (λ e. e ≡ Unsupported LogFormat) → IfErr result (λ e. IsRefusal (told → given ≡ Err e) ⊥ e old new)
+format_refusal told (Ok x) given old new same is = tt
+format_refusal told (Err e) given old new same is = subst (λ (f : Fault). IsRefusal (told → given ≡ Err f) ⊥ f old new) (sym is) (λ t. sym (same t) ∙ ap (λ (f : Fault). (let r : Result (Option LogHeader) Fault = Err f in r)) is)
+
+-- a frame that is one too many
+pub limit_refusal : {T : Type 0} (many P Q : Type 0) (result : Result T Fault) (fault : Fault) (old new : ℕ) → IsErrAnd result (λ e. e ≡ fault) → (fault ≡ Memory) ⊎ (fault ≡ Unsupported Limit) × P × Q → (P → Q → many)
+    → IfErr result (λ e. IsRefusal ⊥ many e old new)
+limit_refusal many P Q (Ok x) fault old new same why more = tt
+limit_refusal many P Q (Err e) fault old new same (inl memory) more = subst (λ (f : Fault). IsRefusal ⊥ many f old new) (sym (same ∙ memory)) tt
+limit_refusal many P Q (Err e) fault old new same (inr limit) more = subst (λ (f : Fault). IsRefusal ⊥ many f old new) (sym (same ∙ limit.0)) (more limit.1 limit.2)
 
 -- equal, not only tested so
 
@@ -218,6 +225,24 @@ read_failed h log bytes sum progress size measured was inside is_bytes is_sum fa
     let same_bytes : bytes ≡ frame_at h log n = is_bytes ∙ ap (λ (k : ℕ). take (24 + h.page_size) (drop k log)) measured.at in
     let same : sum ≡ sum_to h log (suc n) = is_sum ∙ ap (λ (s : Sum). sum_over h s bytes) was.sum ∙ ap (sum_over h (sum_to h log n)) same_bytes ∙ sym (sum_more h log n size (omega (arith, inside, measured.at))) in
     inl (size, record { each = was.each; no_more = frame_fails h log n sum bytes same_bytes same fails })
+
+-- a frame that would be one too many
+pub one_too_many : (h : LogHeader) (log : List ℕ) (bytes : List ℕ) (sum : Sum) (frame : FrameHeader) (progress : Progress) → IsPageSize h.page_size → IsMeasured h progress → IsRead h log progress → progress.at + (24 + h.page_size) ≤ length log
+    → bytes ≡ take (24 + h.page_size) (drop progress.at log) → sum ≡ sum_over h progress.sum bytes → is_frame h sum bytes ≡ true → frame ≡ frame_of bytes → 1000000 ≤ length progress.frames.items → (frame.size ≡ 0 → ⊥) → HasTooMany h log
+one_too_many h log bytes sum frame progress size measured was inside is_bytes is_sum stands is_of many ends =
+    let n = length progress.frames.items in
+    let same_bytes : bytes ≡ frame_at h log n = is_bytes ∙ ap (λ (k : ℕ). take (24 + h.page_size) (drop k log)) measured.at in
+    let same : sum ≡ sum_to h log (suc n) = is_sum ∙ ap (λ (s : Sum). sum_over h s bytes) was.sum ∙ ap (sum_over h (sum_to h log n)) same_bytes ∙ sym (sum_more h log n size (omega (arith, inside, measured.at))) in
+    let last : IsFrame h log n = frame_stands h log n sum bytes same_bytes same (omega (arith, inside, measured.at, start_more h n)) stands in
+    record {
+      frame = n;
+      past = many;
+      right = λ k le. elim (cases_lt k n) [
+        | inl before ↦ was.each k before
+        | inr now ↦ (let here : n ≡ k = omega (arith, now, le) in subst (IsFrame h log) here last)
+      ];
+      ends = λ none. ends (ap (λ (f : FrameHeader). f.size) is_of ∙ ap (λ (l : List ℕ). (frame_of l).size) same_bytes ∙ none);
+    }
 
 -- the committed part of what was read
 pub finished : (h : LogHeader) (log : List ℕ) (progress : Progress) (scan : Scan) → IsMeasured h progress → IsReadWhole h log progress → scan.frames.items ≡ take progress.committed progress.frames.items → scan.sum ≡ progress.committed_sum → scan.end ≡ progress.end

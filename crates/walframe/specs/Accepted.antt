@@ -1,5 +1,5 @@
 -- Which frames of a log count (Database File Format, "WAL File Format" and "Checkpoint Algorithm").
-use Rattle.std.specs.Prelude.{◌≡◌, ◌⊎◌, ◌<◌, ◌≤◌, ◌+◌, ◌*◌, ℕ, zero, suc, Bool, List, [], ◌∷◌, ◌++◌, length, take, drop, MatchOption, Ok, IsTrue}
+use Rattle.std.specs.Prelude.{◌≡◌, ◌⊎◌, ◌<◌, ◌≤◌, ◌+◌, ◌*◌, ℕ, zero, suc, Bool, List, [], ◌∷◌, ◌++◌, length, take, drop, MatchOption, Some, Ok, IsTrue}
 use Rattle.disk.specs.Calls.{Rose}
 use Rattle.disk.specs.File.{File}
 use Rattle.sqlval.specs.declared.fault.Fault.{Fault}
@@ -81,13 +81,25 @@ pub record ReadsNone (scan : Scan) : Type 0 where
 abbrev pub IsScan : List ℕ → Scan → Type 0
 IsScan log scan = (header_in log ≡ Ok scan.header) × MatchOption scan.header (ReadsNone scan) (λ h. Reads h log scan)
 
--- A refusal of a call between these two counts of failed calls of a disk. `Io` comes only where a call of the disk failed.
-abbrev pub IsRefusal : Fault → ℕ → ℕ → Type 0
-IsRefusal Memory old new = Unit {0}
-IsRefusal Io old new = Rose old new
-IsRefusal (Unsupported LogFormat) old new = Unit {0}
-IsRefusal (Unsupported Limit) old new = Unit {0}
-IsRefusal _ old new = ⊥
+-- More than 1,000,000 frames are committed: one behind so many others ends a commit, and it and all before it are right.
+pub record HasTooMany (h : LogHeader) (log : List ℕ) : Type 0 where
+  pub frame : ℕ
+  pub past : 1000000 ≤ frame
+  pub right : (k : ℕ) → k ≤ frame → IsFrame h log k
+  pub ends : (head_at h log frame).size ≡ 0 → ⊥
+
+-- the log has a header, and more than 1,000,000 committed frames
+abbrev pub IsTooLong : List ℕ → Type 0
+IsTooLong log = (h : LogHeader) × (header_in log ≡ Ok (Some h)) × HasTooMany h log
+
+-- A refusal of a call between these two counts of failed calls of a disk. `Io` comes only where a call of the disk failed,
+-- `LogFormat` only where the log is of another format, and `Limit` only where it is too long.
+abbrev pub IsRefusal : Type 0 → Type 0 → Fault → ℕ → ℕ → Type 0
+IsRefusal is_other is_long Memory old new = Unit {0}
+IsRefusal is_other is_long Io old new = Rose old new
+IsRefusal is_other is_long (Unsupported LogFormat) old new = is_other
+IsRefusal is_other is_long (Unsupported Limit) old new = is_long
+IsRefusal is_other is_long _ old new = ⊥
 
 -- a call left the file of a disk as it was
 pub record Leaves {D : Type 0} (tells : D → Bool) (file : D → File) (old new : D) : Type 0 where

@@ -1,6 +1,5 @@
 -- What becomes of headers and frames that are written (Database File Format, "WAL File Format").
 use Rattle.std.specs.Prelude.{◌≡◌, ◌<◌, ◌≤◌, ◌+◌, ℕ, List, ◌++◌, map, length, Some, Ok}
-use Rattle.walframe.specs.declared.framing.FrameHeader.{FrameHeader}
 use Rattle.walframe.specs.declared.heading.LogHeader.{LogHeader}
 use Rattle.walframe.specs.Log.{header_in, header_bytes}
 use Rattle.walframe.specs.Accepted.{IsPageSize, IsFrame, HasAccepted, frame_start, frame_at, sum_to, heads_to}

@@ -1,9 +1,9 @@
 //! Reading a log.
 
-ghost use Rattle.std.specs.Prelude.{◌≡◌, ◌≤◌, ◌+◌, ◌↔◌, length, IsTrue, IfOk, IfErr, IsSome};
+ghost use Rattle.std.specs.Prelude.{◌≡◌, ◌≤◌, ◌+◌, ◌↔◌, length, IsTrue, IfOk, IfErr, IsSome, Err};
 ghost use Rattle.walframe.specs.Log.{header_in};
 ghost use Rattle.walframe.specs.Progress.{IsMeasured, IsReadWhole};
-ghost use Rattle.walframe.specs.Accepted.{IsPageSize, Leaves, Reads, IsScan, IsRefusal};
+ghost use Rattle.walframe.specs.Accepted.{IsPageSize, Leaves, Reads, IsScan, HasTooMany, IsTooLong, IsRefusal};
 
 use crate::framing::{FrameHeader, read_frame, stands, sum_of};
 use crate::heading::LogHeader;
@@ -25,7 +25,7 @@ fn read_header<D: Disk>(disk: &mut D, len: u64) -> R<Option<LogHeader>>
     ensures found { IsTrue (D.tells disk.old) → IfOk result (λ header. header_in (D.file disk.old).content ≡ Ok header) }
     ensures some { IfOk result (λ header. IsSome header → 32 ≤ len) }
     ensures kept { Leaves D.tells D.file disk.old disk.new }
-    ensures refusal { IfErr result (λ e. IsRefusal e (D.failures disk.old) (D.failures disk.new)) }
+    ensures refusal { IfErr result (λ e. IsRefusal (IsTrue (D.tells disk.old) → header_in (D.file disk.old).content ≡ Err e) ⊥ e (D.failures disk.old) (D.failures disk.new)) }
     ensures counts { D.failures disk.old ≤ D.failures disk.new }
 {
     if len < 32 {
@@ -43,7 +43,7 @@ fn read_accepted<D: Disk>(alloc: Global, disk: &mut D, header: &LogHeader, len: 
     ensures found { IsTrue (D.tells disk.old) → IfOk result (λ progress. IsReadWhole header.now (D.file disk.old).content progress) }
     ensures measured { IfOk result (λ progress. IsMeasured header.now progress) }
     ensures kept { Leaves D.tells D.file disk.old disk.new }
-    ensures refusal { IfErr result (λ e. IsRefusal e (D.failures disk.old) (D.failures disk.new)) }
+    ensures refusal { IfErr result (λ e. IsRefusal ⊥ (IsTrue (D.tells disk.old) → HasTooMany header.now (D.file disk.old).content) e (D.failures disk.old) (D.failures disk.new)) }
     ensures counts { D.failures disk.old ≤ D.failures disk.new }
 {
     let mut so_far = Progress::start(alloc, header);
@@ -70,7 +70,7 @@ fn read_frames<D: Disk>(alloc: Global, disk: &mut D, header: &LogHeader, len: u6
     ensures found { IsTrue (D.tells disk.old) → IfOk result (λ scan. Reads header.now (D.file disk.old).content scan) }
     ensures header { IfOk result (λ scan. (scan.header ≡ Some header.now) × (length scan.frames.items ≤ 1000000)) }
     ensures kept { Leaves D.tells D.file disk.old disk.new }
-    ensures refusal { IfErr result (λ e. IsRefusal e (D.failures disk.old) (D.failures disk.new)) }
+    ensures refusal { IfErr result (λ e. IsRefusal ⊥ (IsTrue (D.tells disk.old) → HasTooMany header.now (D.file disk.old).content) e (D.failures disk.old) (D.failures disk.new)) }
     ensures counts { D.failures disk.old ≤ D.failures disk.new }
 {
     let so_far = read_accepted(alloc, disk, header, len)?;
@@ -83,7 +83,7 @@ pub fn scan<D: Disk>(alloc: Global, disk: &mut D) -> R<Scan>
     ensures found { IsTrue (D.tells disk.old) → IfOk result (λ scan. IsScan (D.file disk.old).content scan) }
     ensures few { IfOk result (λ scan. length scan.frames.items ≤ 1000000) }
     ensures kept { Leaves D.tells D.file disk.old disk.new }
-    ensures refusal { IfErr result (λ e. IsRefusal e (D.failures disk.old) (D.failures disk.new)) }
+    ensures refusal { IfErr result (λ e. IsRefusal (IsTrue (D.tells disk.old) → header_in (D.file disk.old).content ≡ Err e) (IsTrue (D.tells disk.old) → IsTooLong (D.file disk.old).content) e (D.failures disk.old) (D.failures disk.new)) }
     ensures counts { D.failures disk.old ≤ D.failures disk.new }
 {
     let len = disk.len()?;

@@ -1,35 +1,43 @@
-use Rattle.std.proofs.Common.{sym, ap, subst, ◌∙◌, ℕ, List, [], arith}
+use Rattle.std.proofs.Common.{sym, ap, subst, ◌∙◌, ℕ, [], arith}
 use Rattle.dbheader.specs.declared.fields.Header.{Header}
-use Rattle.dbheader.specs.Header.{IsHeader, counted_of, empty_of}
+use Rattle.dbheader.specs.Header.{counted_of}
 use Rattle.wal.specs.Known.{Known}
-use Rattle.tabletree.specs.Lone.{IsLone}
-use Rattle.engine.proofs.EmptyOpening.{err_not_ok, is_there, lists_refused, ok_is, page_header_is, page_is_lone, sees_file, some_is}
+use Rattle.engine.proofs.EmptyOpening.{err_not_ok, ok_is, some_is}
+use Rattle.session.specs.Schema.{AreRowsOf}
+use Rattle.session.specs.Shown.{IsNewest}
+use Rattle.engine.proofs.FoundPages.{header_found, header_stored, page_there, rows_stored}
+use Rattle.engine.proofs.SchemaTables.{listed_all, listed_none}
 use Rattle.engine.proofs.opening.newest_schema.Goals as goal
 
-pub returns-in_err-page-clause-empty : goal.returns-in_err-page-clause-empty
-returns-in_err-page-clause-empty g c = λ page_size served nothing.
-    lists_refused c.from_residual.result c.in_err-page.field-0.0 c.from_residual.ensures.1
-    (c.in_err-page.ensures.there _ nothing.told (omega (arith, c.begin-snapshot.ensures.seen)) (is_there page_size c.args.log.now c.begin-snapshot.result served nothing c.begin-snapshot.ensures.size))
+pub returns-in_err-page-clause-listed : goal.returns-in_err-page-clause-listed
+returns-in_err-page-clause-listed g c = λ tables database told stored found.
+    let newest : IsNewest c.args.log.now c.begin-snapshot.result = record { seen = c.begin-snapshot.ensures.seen; sized = c.begin-snapshot.ensures.size } in
+    listed_none tables c.from_residual.result c.in_err-page.field-0.0 c.from_residual.ensures.1 (c.in_err-page.ensures.there _ told (omega (arith, c.begin-snapshot.ensures.seen)) (page_there c.args.log.now c.begin-snapshot.result newest tables database stored))
 
-pub returns-in_err-header-clause-empty : goal.returns-in_err-header-clause-empty
-returns-in_err-header-clause-empty g c = λ page_size served nothing.
-    let is = c.deref.ensures.value ∙ sees_file page_size c.args.log.now c.begin-snapshot.result _ served nothing (c.in_ok-page.ensures.read nothing.told (omega (arith, c.begin-snapshot.ensures.seen))) in
-    err_not_ok _ _ (c.in_err-header.ensures.only (empty_of page_size) (subst (λ (b : List ℕ). IsHeader b (empty_of page_size)) (sym is) (page_header_is page_size _ nothing.empty)))
+pub returns-in_err-header-clause-listed : goal.returns-in_err-header-clause-listed
+returns-in_err-header-clause-listed g c = λ tables database told stored found.
+    let newest : IsNewest c.args.log.now c.begin-snapshot.result = record { seen = c.begin-snapshot.ensures.seen; sized = c.begin-snapshot.ensures.size } in
+    let has = c.in_ok-page.ensures.read told (omega (arith, c.begin-snapshot.ensures.seen)) in
+    err_not_ok _ _ (c.in_err-header.ensures.only stored.first.header (header_stored c.args.log.now c.begin-snapshot.result newest tables database stored _ _ c.deref.ensures.value has))
 
-pub returns-then-header-page_size-clause-empty : goal.returns-then-header-page_size-clause-empty
-returns-then-header-page_size-clause-empty g c = λ page_size served nothing.
-    let is = c.deref.ensures.value ∙ sees_file page_size c.args.log.now c.begin-snapshot.result _ served nothing (c.in_ok-page.ensures.read nothing.told (omega (arith, c.begin-snapshot.ensures.seen))) in
-    let header = ok_is _ _ (c.in_ok-header.ensures.only (empty_of page_size) (subst (λ (b : List ℕ). IsHeader b (empty_of page_size)) (sym is) (page_header_is page_size _ nothing.empty))) in
-    absurd (omega (arith, c.if-header-page_size.true, ap (λ (h : Header). h.page_size) header, c.page_size.ensures, ap (λ (k : Known). k.page_size) c.read_page.ensures.kept.0, nothing.page_size_is))
+pub returns-then-header-page_size-clause-listed : goal.returns-then-header-page_size-clause-listed
+returns-then-header-page_size-clause-listed g c = λ tables database told stored found.
+    let newest : IsNewest c.args.log.now c.begin-snapshot.result = record { seen = c.begin-snapshot.ensures.seen; sized = c.begin-snapshot.ensures.size } in
+    let has = c.in_ok-page.ensures.read told (omega (arith, c.begin-snapshot.ensures.seen)) in
+    let header = ok_is _ _ (c.in_ok-header.ensures.only stored.first.header (header_stored c.args.log.now c.begin-snapshot.result newest tables database stored _ _ c.deref.ensures.value has)) in
+    absurd (omega (arith, c.if-header-page_size.true, ap (λ (h : Header). h.page_size) header, c.page_size.ensures, ap (λ (k : Known). k.page_size) c.read_page.ensures.kept.0, stored.first.sized))
 
-pub returns-in-Some-clause-empty : goal.returns-in-Some-clause-empty
-returns-in-Some-clause-empty g c = λ page_size served nothing.
-    let is = c.deref.ensures.value ∙ sees_file page_size c.args.log.now c.begin-snapshot.result _ served nothing (c.in_ok-page.ensures.read nothing.told (omega (arith, c.begin-snapshot.ensures.seen))) in
-    let header = ok_is _ _ (c.in_ok-header.ensures.only (empty_of page_size) (subst (λ (b : List ℕ). IsHeader b (empty_of page_size)) (sym is) (page_header_is page_size _ nothing.empty))) in
-    let one = some_is _ _ (sym (c.counted_size.ensures ∙ ap counted_of header) ∙ c.in-Some.is) in
-    absurd (omega (arith, c.if-size.true, one, c.size.ensures, c.begin-snapshot.ensures.size, nothing.size_is))
+pub returns-in-Some-clause-listed : goal.returns-in-Some-clause-listed
+returns-in-Some-clause-listed g c = λ tables database told stored found.
+    let newest : IsNewest c.args.log.now c.begin-snapshot.result = record { seen = c.begin-snapshot.ensures.seen; sized = c.begin-snapshot.ensures.size } in
+    let has = c.in_ok-page.ensures.read told (omega (arith, c.begin-snapshot.ensures.seen)) in
+    let header = ok_is _ _ (c.in_ok-header.ensures.only found.header (header_found c.args.log.now c.begin-snapshot.result newest tables database stored found _ _ c.deref.ensures.value has)) in
+    let counted = some_is _ _ (sym (c.counted_size.ensures ∙ ap counted_of header ∙ found.counted) ∙ c.in-Some.is) in
+    absurd (omega (arith, c.if-size.true, counted, c.size.ensures, c.begin-snapshot.ensures.size))
 
-pub returns-clause-empty : goal.returns-clause-empty
-returns-clause-empty g c = λ page_size served nothing.
-    let is = c.deref-in_default.ensures.value ∙ sees_file page_size c.args.log.now c.begin-snapshot.result _ served nothing (c.in_ok-page.ensures.read nothing.told (omega (arith, c.begin-snapshot.ensures.seen))) in
-    c.load.ensures.empty (subst (λ (b : List ℕ). IsLone b 1 []) (sym is) (page_is_lone page_size _ served nothing.empty))
+pub returns-clause-listed : goal.returns-clause-listed
+returns-clause-listed g c = λ tables database told stored found.
+    let newest : IsNewest c.args.log.now c.begin-snapshot.result = record { seen = c.begin-snapshot.ensures.seen; sized = c.begin-snapshot.ensures.size } in
+    let has = c.in_ok-page.ensures.read told (omega (arith, c.begin-snapshot.ensures.seen)) in
+    let sized = sym (c.size-in_default.ensures ∙ c.begin-snapshot.ensures.size) in
+    listed_all tables c.load.result (c.load.ensures.listed tables stored.first.rows (rows_stored c.args.log.now c.begin-snapshot.result newest tables database stored _ _ c.deref-in_default.ensures.value has) (subst (λ (n : ℕ). AreRowsOf n [] tables stored.first.rows) sized stored.first.tell))

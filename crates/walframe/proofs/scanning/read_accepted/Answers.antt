@@ -1,12 +1,12 @@
-use Rattle.std.proofs.Common.{◌≡◌, ◌+◌, ◌∙◌, List, ℕ, true, ap, sym, refl, subst, arith, rules, take, drop, length}
+use Rattle.std.proofs.Common.{◌≡◌, ◌≤◌, ◌+◌, ◌∙◌, List, ℕ, true, ap, sym, refl, subst, arith, rules, take, drop, length}
 use Rattle.std.specs.Prelude.{IsTrue}
 use Rattle.std.proofs.lemmas.Grind.{common_steps}
 use Rattle.disk.specs.File.{File}
-use Rattle.walframe.specs.Accepted.{frame_start}
+use Rattle.walframe.specs.Accepted.{frame_start, HasTooMany}
 use Rattle.walframe.specs.Log.{sum_over, is_frame, frame_of}
 use Rattle.walframe.specs.Progress.{Accepts}
 use Rattle.walframe.specs.declared.framing.FrameHeader.{FrameHeader}
-use Rattle.walframe.proofs.Reading.{read_none, read_short, read_failed, read_more, measured_more, read_over}
+use Rattle.walframe.proofs.Reading.{read_none, read_short, read_failed, read_more, measured_more, read_over, limit_refusal, one_too_many}
 use Rattle.walframe.proofs.scanning.read_accepted.Goals as goal
 
 pub returns-then-not-is_page_size-clause-found : goal.returns-then-not-is_page_size-clause-found
@@ -49,6 +49,26 @@ returns-then-not-stands-clause-found g c told =
           (omega (arith, c.frames-test.true, inv.inside, c.requires.told told)) is_read (c.sum_of-sum.ensures ∙ ap (sum_over h c.frames.so_far.sum) bytes)
           (ap (is_frame h c.sum_of-sum.result) (sym bytes_again) ∙ sym c.stands.ensures ∙ c.if-not-stands.true);
     }
+
+pub returns-in_err-accept-clause-refusal : goal.returns-in_err-accept-clause-refusal
+returns-in_err-accept-clause-refusal g c =
+    limit_refusal (IsTrue (g.D.Disk.tells c.args.disk.now) → HasTooMany c.args.header.now (g.D.Disk.file c.args.disk.now).content) (1000000 ≤ length c.frames.so_far.frames.items) (c.read_frame.result.size ≡ 0 → ⊥)
+    c.from_residual-in_err-accept.result _ _ _ c.from_residual-in_err-accept.ensures.1 c.in_err-accept.ensures.refusal
+    (λ many ends told.
+    let h = c.args.header.now in
+    let log = (g.D.Disk.file c.args.disk.now).content in
+    let inv = c.frames.invariant in
+    let told_now : IsTrue (g.D.Disk.tells c.frames.disk) = inv.kept.tells_same ∙ told in
+    let file_same = ap (λ (f : File). f.content) (inv.kept.same told) in
+    let size : length c.deref_mut.result.now ≡ 24 + h.page_size = ap length c.deref_mut.ensures.value ∙ inv.frame in
+    let kept_len : length c.read_at.new.buf ≡ c.frames.frame.len = omega (arith, c.read_at.auto.buf, c.deref_mut.ensures.len) in
+    let is_read = c.in_ok-read_at.ensures.read told_now ∙ ap (λ (n : ℕ). take n (drop c.frames.so_far.at (g.D.Disk.file c.frames.disk).content)) size ∙ ap (λ (l : List ℕ). take (24 + h.page_size) (drop c.frames.so_far.at l)) file_same in
+    let bytes : c.deref.result.now ≡ c.read_at.new.buf = c.deref.ensures.value ∙ read_over _ _ _ kept_len in
+    let bytes_again : c.deref-in-frames.result.now ≡ c.read_at.new.buf = c.deref-in-frames.ensures.value ∙ read_over _ _ _ kept_len in
+    let bytes_last : c.deref-in-frames-2.result.now ≡ c.read_at.new.buf = c.deref-in-frames-2.ensures.value ∙ read_over _ _ _ kept_len in
+    one_too_many h log c.read_at.new.buf c.sum_of-sum.result c.read_frame.result c.frames.so_far inv.page inv.measured (inv.read told)
+    (omega (arith, c.frames-test.true, inv.inside, c.requires.told told)) is_read (c.sum_of-sum.ensures ∙ ap (sum_over h c.frames.so_far.sum) bytes)
+    (ap (is_frame h c.sum_of-sum.result) (sym bytes_again) ∙ sym c.stands.ensures ∙ c.if-not-stands.false) (c.read_frame.ensures ∙ ap frame_of bytes_last) many ends)
 
 pub returns-clause-found : goal.returns-clause-found
 returns-clause-found g c told =

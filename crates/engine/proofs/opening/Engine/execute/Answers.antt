@@ -8,7 +8,7 @@ use Rattle.parser.proofs.Grammar.{exact_statement}
 use Rattle.parser.proofs.ParseLaws.{one_text}
 use Rattle.engine.proofs.Refusing.{full_of, never_answered}
 use Rattle.engine.specs.Shown.{StepsByText}
-use Rattle.engine.proofs.TextSteps.{executed, read_candidate, refused_text, text_fault}
+use Rattle.engine.proofs.TextSteps.{executed, read_candidate, refused_check, refused_text, text_fault}
 use Rattle.engine.proofs.opening.Engine.execute.Goals as goal
 
 pub returns-clause-full : goal.returns-clause-full
@@ -19,6 +19,13 @@ returns-clause-unbuilt g c = λ statement first is unbuilt.
     let same = one_text exact_statement c.args.text.now c.in_ok-statement.statement statement c.in_ok-statement.ensures.found.0 is in
     let kept = c.execute.ensures.unbuilt first (subst (λ (s : Statement). IsFalse (forms.is_built s && forms.is_served c.args.connection)) (sym same) unbuilt) in
     (never_answered c.execute.result kept.0, ap (λ connections. record c.args.self.now { connections = connections }) kept.1)
+
+pub returns-in_err-check-clause-step : goal.returns-in_err-check-clause-step
+returns-in_err-check-clause-step g c =
+    let fault = c.in_err-check.field-0.0 in
+    subst (λ (reply : Reply). StepsByText c.args.self.now c.args.connection c.args.text.now reply c.args.self.now)
+    (sym (refused_as c.from_residual.result fault c.from_residual.ensures.1))
+    (refused_check c.args.self.now c.args.connection c.args.text.now fault (sym c.in_err-check.ensures))
 
 pub returns-in_err-statement-clause-step : goal.returns-in_err-statement-clause-step
 returns-in_err-statement-clause-step g c =

@@ -1,21 +1,26 @@
-use Rattle.std.proofs.Common.{inr, ap, sym, subst, ◌∙◌, Err, ℕ, [], length}
-use Rattle.dbheader.specs.declared.fields.Header.{Header}
-use Rattle.dbheader.specs.Header.{counted_of}
+use Rattle.std.proofs.Common.{inr, refl, ap, sym, subst, ◌∙◌, Err}
 use Rattle.std.specs.Prelude.{IfErr, IfOk, IsFalse}
 use Rattle.std.proofs.lemmas.Result.{err_from_is_err_and}
 use Rattle.disk.specs.File.{File, Throughout}
 use Rattle.sqlval.specs.declared.fault.Fault.TheVariants.{Io}
-use Rattle.wal.specs.Known.{db_of, known_of, log_of}
-use Rattle.wal.specs.Opens.{IsKnownOf, IsOpened}
-use Rattle.pager.specs.Views.{newest_view}
-use Rattle.session.specs.Stored.{Stores}
-use Rattle.engine.specs.Creating.{IsEmptyDatabase}
-use Rattle.engine.specs.Fresh.{OpensEmpty}
-use Rattle.engine.proofs.EmptyOpening.{holds_nothing, opened_nothing}
+use Rattle.wal.specs.Known.{db_of, log_of}
+use Rattle.wal.specs.Opens.{CanOpen}
 use Rattle.engine.specs.Known.{has_failed_of}
-use Rattle.engine.specs.Opening.{KeepsBut, LeavesOpened, db_left, log_left}
-use Rattle.engine.proofs.Opened.{as_before, header_then, opened}
+use Rattle.engine.specs.Opening.{KeepsBut, LeavesOpened, Opens, db_left, log_left}
+use Rattle.engine.proofs.HeldOpening.{can_open, head_of, held_as, not_opened, opened_held, starts_shown}
+use Rattle.engine.proofs.Opened.{as_before, header_then, opened, unchanged}
 use Rattle.engine.proofs.opening.Engine.open.Goals as goal
+
+pub returns-in-Err : goal.returns-in-Err
+returns-in-Err g c =
+    let file = g.D.Disk.file in
+    let read = c.file_header.ensures.kept in
+    record {
+      stop = λ told_db told_log. unchanged (file c.args.db) (file c.args.log) (file c.file_header.new.db) (file c.args.log) (read.same told_db) refl;
+      kept = λ told_db told_log other. (ap (λ (f : File). f.content) (read.same told_db), refl);
+      whole = tt;
+      serves = λ database told_db told_log held. inr (c.in-Err.ensures.read held.found.head told_db (head_of _ _ database held));
+    }
 
 pub returns-in_err-log : goal.returns-in_err-log
 returns-in_err-log g c =
@@ -35,7 +40,13 @@ returns-in_err-log g c =
           subst (λ r. IfErr r (λ refused. KeepsBut Io db log (file refused.db) (file refused.log) refused.fault)) (sym is)
           (λ other. (kept.0.same told ∙ ap (λ (f : File). f.content) (read.same told_db), kept.1.same told_log));
       whole = subst (λ r. IfOk r (λ engine. IsFalse (has_failed_of engine))) (sym is) tt;
-      empty = λ page_size told_db told_log served e none. subst (λ r. OpensEmpty r) (sym is) tt;
+      serves = λ database told_db told_log held.
+          let header = c.in-Ok.ensures.read held.found.head told_db (head_of _ _ database held) in
+          let now = held_as db.content log.content (file c.file_header.new.db).content log.content database (ap (λ (f : File). f.content) (read.same told_db)) refl held in
+          let can = can_open (file c.file_header.new.db).content log.content database _ now header in
+          subst (λ r. Opens database r) (sym is)
+          (not_opened _ _ _ _ _ _ _ _ c.in_err-log.ensures.refusal (read.tells_same ∙ told_db) told_log
+          (subst (λ o. CanOpen c.in-Ok.header.page_size o (file c.file_header.new.db).content log.content) (sym c.counted_size.ensures) can));
     }
 
 pub returns-in-Ok-started : goal.returns-in-Ok-started
@@ -54,16 +65,16 @@ returns-in-Ok-started g c =
           (c.started.ensures.stop c.in_ok-log.ensures.known.whole (kept.0.tells_same ∙ told) (kept.1.tells_same ∙ told_log) (synced.0 told) (synced.1 told_log)));
       kept = λ told_db told_log. tt;
       whole = c.new.ensures.whole;
-      empty = λ page_size told_db told_log served e none.
+      serves = λ database told_db told_log held.
           let told = read.tells_same ∙ told_db in
           let kept = c.in_ok-log.ensures.kept in
-          let header = c.in-Ok.ensures.empty page_size told_db e in
-          let known = subst (λ (n : ℕ). IsOpened n c.args.salts (known_of c.in_ok-log.log)) (ap (λ (h : Header). h.page_size) header) c.in_ok-log.ensures.known in
-          let view = subst (λ o. IsKnownOf o (file (db_of c.in_ok-log.log)).content (file (log_of c.in_ok-log.log)).content (known_of c.in_ok-log.log)) (c.counted_size.ensures ∙ ap counted_of header) (c.in_ok-log.ensures.view told told_log) in
-          let same = kept.0.same told ∙ ap (λ (f : File). f.content) (read.same told_db) in
-          let nothing = opened_nothing page_size c.args.salts c.in_ok-log.log (kept.0.tells_same ∙ told) (kept.1.tells_same ∙ told_log) known view (subst (IsEmptyDatabase page_size) (sym same) e) (kept.1.same told_log ∙ none) in
-          let reads = c.in-Ok-started.ensures.empty page_size served nothing in
-          inr (c.new.ensures.shown [] reads.2.told (reads.1 ∙ sym (ap length reads.0)) (subst (λ ts. Stores (newest_view c.started.new.log) ts []) (sym reads.0) (holds_nothing page_size c.started.new.log served reads.2)));
+          let synced = c.in_ok-log.ensures.synced in
+          let files = c.in_ok-log.log in
+          let header = c.in-Ok.ensures.read held.found.head told_db (head_of _ _ database held) in
+          let now = held_as db.content log.content (file (db_of files)).content (file (log_of files)).content database (kept.0.same told ∙ ap (λ (f : File). f.content) (read.same told_db)) (kept.1.same told_log) held in
+          let is = opened_held c.args.salts files database c.in-Ok.header _ now header c.counted_size.ensures c.in_ok-log.ensures.known (c.in_ok-log.ensures.view told told_log)
+          (synced.0 told) (synced.1 told_log) (kept.0.tells_same ∙ told) (kept.1.tells_same ∙ told_log) in
+          starts_shown _ held.tables database c.started.new.log _ (c.in-Ok-started.ensures.serves held.tables database is.told is.settled is.stored) c.new.ensures.shown;
     }
 
 pub returns-in-Err-started : goal.returns-in-Err-started
@@ -90,5 +101,14 @@ returns-in-Err-started g c =
             ap (λ d. (file d).content) c.into_disks-db.ensures.log ∙ same.1 ∙ kept.1.same told_log,
           );
       whole = tt;
-      empty = λ page_size told_db told_log served e none. tt;
+      serves = λ database told_db told_log held.
+          let told = read.tells_same ∙ told_db in
+          let kept = c.in_ok-log.ensures.kept in
+          let synced = c.in_ok-log.ensures.synced in
+          let files = c.in_ok-log.log in
+          let header = c.in-Ok.ensures.read held.found.head told_db (head_of _ _ database held) in
+          let now = held_as db.content log.content (file (db_of files)).content (file (log_of files)).content database (kept.0.same told ∙ ap (λ (f : File). f.content) (read.same told_db)) (kept.1.same told_log) held in
+          let is = opened_held c.args.salts files database c.in-Ok.header _ now header c.counted_size.ensures c.in_ok-log.ensures.known (c.in_ok-log.ensures.view told told_log)
+          (synced.0 told) (synced.1 told_log) (kept.0.tells_same ∙ told) (kept.1.tells_same ∙ told_log) in
+          c.in-Err-started.ensures.serves held.tables database is.told is.settled is.stored;
     }

@@ -1,9 +1,9 @@
-use Rattle.std.proofs.Common.{◌≡◌, ◌∙◌, sym, subst}
+use Rattle.std.proofs.Common.{◌≡◌, ◌∙◌, inr, sym, subst}
 use Rattle.dbheader.specs.declared.fields.Header.{Header}
 use Rattle.pager.specs.Limits.{pages_of}
 use Rattle.pager.specs.Views.{changes_of}
 use Rattle.pager.specs.Writers.{IsNextHeader, Reheads, makes_objects}
-use Rattle.pager.proofs.CommitViews.{committed, has_pages, known_after, may_header, next_header_there, not_refused, refused_commit, same_header}
+use Rattle.pager.proofs.CommitViews.{committed, has_pages, known_after, left_either, may_header, next_header_there, not_refused, refused_commit, refused_leaves, same_header}
 use Rattle.pager.proofs.Reheading.{IsReheaded}
 use Rattle.pager.proofs.writer.Writer.commit.Goals as goal
 
@@ -39,3 +39,25 @@ returns-in-Err-clause-refused g c page header may =
     } in
     refused_commit c.args.log.now c.commit.new.self c.args.self.now c.set_header.new.self page header c.next_header-new.result may re c.set_header-in-Err.new.self c.deref.result.now c.in-Err.fault _ _ again c.deref.ensures.value
     c.in-Err.ensures.refusal c.in-Err.ensures.known c.commit.ensures.same
+
+pub returns-in_err-old-clause-stop : goal.returns-in_err-old-clause-stop
+returns-in_err-old-clause-stop g c page header may =
+    absurd (not_refused c.header.result header _ (c.header.ensures.only header may.whole (may_header c.args.log.now c.args.self.now page header may)) c.in_err-old.was)
+
+pub returns-clause-stop : goal.returns-clause-stop
+returns-clause-stop g c page header may =
+    let has = may_header c.args.log.now c.args.self.now page header may in
+    let re : IsReheaded c.args.self.now c.set_header.new.self c.next_header-new.result = record { pages = c.set_header.ensures.reheads header has; rest = c.set_header.ensures.rest } in
+    let is : c.in_ok-old.old ≡ header = same_header _ _ (sym c.in_ok-old.was ∙ c.header.ensures.only header may.whole has) in
+    let next = subst (λ (h : Header). IsNextHeader h c.next_header-new.result (makes_objects c.args.self.now) (pages_of c.args.self.now)) is (c.next_header-new.ensures.next (has_pages c.args.self.now may.whole)) in
+    inr (left_either c.args.log.now c.commit.new.self c.args.self.now c.set_header.new.self page header c.next_header-new.result may re c.deref.result.now c.deref.ensures.value
+    (c.in_default.ensures.done may.tells.log) c.in_default.ensures.known c.commit.ensures.same next (c.commit.ensures.stop may.tells.whole may.tells.log) (c.commit.ensures.left may.tells.whole may.tells.log))
+
+pub returns-in-Err-clause-stop : goal.returns-in-Err-clause-stop
+returns-in-Err-clause-stop g c page header may =
+    let has = may_header c.args.log.now c.args.self.now page header may in
+    let re : IsReheaded c.args.self.now c.set_header.new.self c.next_header-new.result = record { pages = c.set_header.ensures.reheads header has; rest = c.set_header.ensures.rest } in
+    let is : c.in_ok-old.old ≡ header = same_header _ _ (sym c.in_ok-old.was ∙ c.header.ensures.only header may.whole has) in
+    let next = subst (λ (h : Header). IsNextHeader h c.next_header-new.result (makes_objects c.args.self.now) (pages_of c.args.self.now)) is (c.next_header-new.ensures.next (has_pages c.args.self.now may.whole)) in
+    refused_leaves c.args.log.now c.commit.new.self c.args.self.now c.set_header.new.self page header c.next_header-new.result may re c.deref.result.now c.in-Err.fault _ _ c.deref.ensures.value
+    c.in-Err.ensures.refusal next (c.commit.ensures.stop may.tells.whole may.tells.log) (c.commit.ensures.left may.tells.whole may.tells.log)

@@ -1,7 +1,7 @@
-use Rattle.std.proofs.Common.{◌≡◌, ℕ, subst, sym}
+use Rattle.std.proofs.Common.{◌≡◌, ℕ, ap, subst, sym}
 use Rattle.session.specs.Machine.{Reply}
 use Rattle.session.specs.Shown.{Steps, rows_reply}
-use Rattle.session.proofs.Executing.{done_built, refused_first, steps_from}
+use Rattle.session.proofs.Executing.{done_built, not_built, not_served, refused_first, steps_from}
 use Rattle.session.proofs.Selecting.{refused_reply}
 use Rattle.session.proofs.transactions.Connections.execute.Goals as goal
 
@@ -9,6 +9,15 @@ pub returns-in_err-check-clause-step : goal.returns-in_err-check-clause-step
 returns-in_err-check-clause-step g c keeps =
     subst (λ (r : Reply). Steps c.args.self.now c.args.connection c.args.statement.now r c.args.self.now) (sym (refused_reply c.from_residual.result c.in_err-check.field-0.0 c.from_residual.ensures.1))
     (refused_first c.args.self.now c.args.connection c.args.statement.now c.in_err-check.field-0.0 (sym c.in_err-check.ensures))
+
+pub returns-then-not-is_built-clause-step : goal.returns-then-not-is_built-clause-step
+returns-then-not-is_built-clause-step g c keeps =
+    subst (λ (r : Reply). Steps c.args.self.now c.args.connection c.args.statement.now r c.args.self.now) (sym (ap rows_reply c.not_built.ensures))
+    (not_built c.args.self.now c.args.connection c.args.statement.now (sym c.in_ok-check.ensures) (sym c.if-not-is_built.ensures))
+
+pub returns-then-connection-ne1-clause-step : goal.returns-then-connection-ne1-clause-step
+returns-then-connection-ne1-clause-step g c keeps =
+    not_served c.args.self.now c.args.connection c.args.statement.now (sym c.in_ok-check.ensures) (sym c.if-not-is_built.ensures) c.if-connection-ne1.true
 
 pub returns-clause-step : goal.returns-clause-step
 returns-clause-step g c keeps =

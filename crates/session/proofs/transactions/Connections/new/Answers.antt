@@ -3,4 +3,4 @@ use Rattle.session.proofs.Fresh.{fresh_shown}
 use Rattle.session.proofs.transactions.Connections.new.Goals as goal
 
 pub returns-clause-shown : goal.returns-clause-shown
-returns-clause-shown g c db told all stored = fresh_shown _ db refl refl told all stored
+returns-clause-shown g c db told settled all stored = fresh_shown _ db refl refl told settled all stored

@@ -13,6 +13,7 @@ use Rattle.wal.proofs.CommitLemmas.{size_from, framed_fits, pages_len}
 use Rattle.wal.proofs.Rooms.{strict_pages}
 use Rattle.wal.proofs.Same.{stands_as, known_same, reserved, end_same, end_grown}
 use Rattle.wal.proofs.Stopping.{log_commits, leaves_either, still_either}
+use Rattle.disk.specs.Current.{synced_left}
 use Rattle.wal.proofs.log.Log.commit.Goals as goal
 
 pub invariant_of-self : goal.invariant_of-self
@@ -105,7 +106,8 @@ returns-clause-done g c told =
     let grown = grows s.header s.mark front_bytes fs new front.is (size_from s.header.page_size (ap is_size s.same_size ∙ s.size_is))
     (c.in_ok-sum.ensures.fits c.in_ok-check_pages.ensures.some) (framed_fits s.header 0 c.args.size c.args.pages.now c.ranges.size.fits are) (commit_of c.args.pages.now c.args.size s.header.page_size are c.in_ok-check_pages.ensures.some) is_new in
     subst (λ (k : Known). Commits k fs old_file (g.D.Disk.file c.write_out.new.log)) (known_same old s same)
-    (commits (known_in s) s.sum s.index fs old_file (g.D.Disk.file c.write_out.new.log) before front grown is_new (c.in_ok-write_out.ensures.synced told))
+    (commits (known_in s) s.sum s.index fs old_file (g.D.Disk.file c.write_out.new.log) before front grown is_new (c.in_ok-write_out.ensures.synced told)
+    (omega (arith, c.in_ok-check_limits.ensures.room, same.mark, pages_len c.args.pages.now c.args.size)))
 
 pub returns-in_err-check_pages-clause-stop : goal.returns-in_err-check_pages-clause-stop
 returns-in_err-check_pages-clause-stop g c whole told =
@@ -194,3 +196,24 @@ returns-clause-stop g c whole told =
     (always_weaker old_file new_file (LeavesEither s.page_size (commits_of (known_in s) log) (commits_of (known_in s) log ++ fs)) (LeavesWriting s.header s.is_begun c.end-end.result out log)
     (λ vs. leaves_either s.header s.is_begun s.mark c.end-end.result s.page_size s.sum s.index fs log out vs before front s.same_size grown is_commit c.end-end.ensures)
     (c.write_out.ensures.stop told (c.args.self.now.log_synced c.if-self.false told)))
+
+pub returns-in_err-check_pages-clause-left : goal.returns-in_err-check_pages-clause-left
+returns-in_err-check_pages-clause-left g c whole told = synced_left (g.D.Disk.file c.args.self.now.log) (c.args.self.now.log_synced c.if-self.false told)
+
+pub returns-in_err-check_limits-clause-left : goal.returns-in_err-check_limits-clause-left
+returns-in_err-check_limits-clause-left g c whole told = synced_left (g.D.Disk.file c.args.self.now.log) (c.args.self.now.log_synced c.if-self.false told)
+
+pub returns-in_err-reserve-clause-left : goal.returns-in_err-reserve-clause-left
+returns-in_err-reserve-clause-left g c whole told = synced_left (g.D.Disk.file c.args.self.now.log) (c.args.self.now.log_synced c.if-self.false told)
+
+pub returns-in_err-bytes-clause-left : goal.returns-in_err-bytes-clause-left
+returns-in_err-bytes-clause-left g c whole told = synced_left (g.D.Disk.file c.args.self.now.log) (c.args.self.now.log_synced c.if-self.false told)
+
+pub returns-in_err-sum-clause-left : goal.returns-in_err-sum-clause-left
+returns-in_err-sum-clause-left g c whole told = synced_left (g.D.Disk.file c.args.self.now.log) (c.args.self.now.log_synced c.if-self.false told)
+
+pub returns-in_err-write_out-clause-left : goal.returns-in_err-write_out-clause-left
+returns-in_err-write_out-clause-left g c whole told = c.write_out.ensures.left told (c.args.self.now.log_synced c.if-self.false told)
+
+pub returns-clause-left : goal.returns-clause-left
+returns-clause-left g c whole told = c.write_out.ensures.left told (c.args.self.now.log_synced c.if-self.false told)

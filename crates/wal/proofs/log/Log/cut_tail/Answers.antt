@@ -1,7 +1,7 @@
 use Rattle.std.proofs.Common.{◌∙◌, ℕ, List, length, ap, sym, subst}
 use Rattle.std.specs.Prelude.{IsTrue}
 use Rattle.wal.specs.Stands.{LogStands}
-use Rattle.wal.proofs.Cutting.{stands_cut, cut_end, cut_stop}
+use Rattle.wal.proofs.Cutting.{stands_cut, cut_end, cut_stop, was_cut}
 use Rattle.wal.proofs.log.Log.cut_tail.Goals as goal
 
 pub returns-in_err-trim-clause-stop : goal.returns-in_err-trim-clause-stop
@@ -28,3 +28,9 @@ returns-clause-stop g c whole told =
     let s = c.args.self.now.state in
     cut_stop s.header s.is_begun s.mark c.end-end.result s.page_size s.sum s.index (g.D.Disk.file c.args.self.now.log) (g.D.Disk.file c.trim.new.log) (c.args.self.now.log_there c.if-self.false told) s.same_size c.end-end.ensures
     (c.trim.ensures.stop told (c.args.self.now.log_synced c.if-self.false told))
+
+pub returns-clause-done : goal.returns-clause-done
+returns-clause-done g c told =
+    let s = c.args.self.now.state in
+    was_cut s c.end-end.result (g.D.Disk.file c.args.self.now.log) (g.D.Disk.file c.trim.new.log) (c.args.self.now.log_there c.if-self.false told) c.end-end.ensures (c.in_ok-trim.ensures.cut told)
+    (c.in_ok-trim.ensures.synced told (c.args.self.now.log_synced c.if-self.false told))

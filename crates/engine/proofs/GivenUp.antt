@@ -1,0 +1,33 @@
+-- Where the transaction is given up, the machine has its first connection idle.
+use Rattle.std.proofs.Common.{◌≡◌, ◌∙◌, inl, inr, refl, sym, ap, subst, length, take, arith}
+use Rattle.std.proofs.lemmas.List.{length-take-le}
+use Rattle.disk.specs.declared.device.Disk.{Ghosts}
+use Rattle.wal.specs.declared.log.Log.{Log}
+use Rattle.catalog.specs.Listed.{committed_in, tables_of}
+use Rattle.session.specs.Holding.{IsLeftBy}
+use Rattle.session.specs.Known.{files_of}
+use Rattle.session.specs.Machine.{Machine, Idle, last_place, with_connection}
+use Rattle.session.specs.Shown.{AreCommitted, IsGivenUp, IsShown, IsTransaction, ShowTheSame, Shows}
+use Rattle.session.specs.declared.transactions.Connections.{Connections}
+use Rattle.session.specs.declared.transactions.Transaction.{Transaction}
+use Rattle.session.proofs.Showing.{moved, take_twice, the_same}
+
+module _ {D : Type 0} {g : Ghosts D} (old new : Connections D g) (gone : IsGivenUp old new) (m : Machine) where
+  shown_idle : IsShown old m → IsShown new (with_connection m 1 Idle)
+  shown_idle shown = moved old new m Idle shown (subst (ShowTheSame (files_of old)) (sym gone.files) (the_same (files_of old) shown.told)) gone.failed tables_same (omega (arith, all_now)) idle_now
+    where
+      tables_same : take (committed_in new.catalog) (tables_of new.catalog) ≡ take (committed_in old.catalog) (tables_of old.catalog)
+      tables_same = ap (λ n. take n (tables_of new.catalog)) gone.committed ∙ ap (take (committed_in old.catalog)) gone.tables ∙ take_twice (committed_in old.catalog) (tables_of old.catalog)
+
+      all_now : AreCommitted new.catalog
+      all_now = gone.committed ∙ sym (length-take-le (committed_in old.catalog) (tables_of old.catalog) shown.listed) ∙ ap length (sym gone.tables)
+
+      idle_now : IsTransaction (files_of new) new.catalog (last_place m) new.transaction Idle
+      idle_now = subst (λ (t : Transaction). IsTransaction (files_of new) new.catalog (last_place m) t Idle) (sym gone.idle) (refl, all_now)
+
+  left_idle : IsLeftBy (files_of old) m → IsLeftBy (files_of new) (with_connection m 1 Idle)
+  left_idle left = subst (λ (files : Log D g). IsLeftBy files (with_connection m 1 Idle)) (sym gone.files) (record { some = left.some; db_left = left.db_left; log_left = left.log_left; held = left.held })
+
+  pub given_up_shows : Shows old m → Shows new (with_connection m 1 Idle)
+  given_up_shows (inl (failed, stopped, left)) = inl (gone.failed ∙ failed, stopped, left_idle left)
+  given_up_shows (inr shown) = inr (shown_idle shown)
