@@ -68,7 +68,7 @@ commits_under header log page_size n is are =
     let count = sym (length_under header log page_size n are) in
     record { header = header; header_is = is; committed = subst (AreCommitted log page_size header) count are; frames_are = ap (frames_under header log) count }
 
-one_count : (header : Option LogHeader) (log : List ℕ) (a b m n : ℕ) → AreCommitted log a header m → AreCommitted log b header n → m ≡ n
+pub one_count : (header : Option LogHeader) (log : List ℕ) (a b m n : ℕ) → AreCommitted log a header m → AreCommitted log b header n → m ≡ n
 one_count None log a b m n one other = one ∙ sym other
 one_count (Some h) log a b m n one other = committed_one h log m n one.1 other.1
 

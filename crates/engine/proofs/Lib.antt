@@ -1,7 +1,9 @@
 pub mod EmptyOpening
 pub mod HeldOpening
+pub mod HeldStops
 pub mod LineLaws
 pub mod LineReading
+pub mod CountedCalls
 pub mod NewFiles
 pub mod NewFileStops
 pub mod Opened

@@ -7,9 +7,10 @@ use Rattle.walframe.specs.Written.{Framed}
 use Rattle.wal.specs.Committed.{HasCommits}
 use Rattle.wal.specs.Opens.{LeavesAsBefore}
 use Rattle.wal.specs.Stops.{LeavesCommits}
-use Rattle.engine.specs.Opening.{LeavesOpened}
+use Rattle.dbheader.specs.Header.{IsHeader}
+use Rattle.engine.specs.Opening.{HasPages, LeavesOpened}
 
-synced_is : (file : File) → IsSynced file → (c : List ℕ) → IsLeft (versions file) c → c ≡ file.content
+pub synced_is : (file : File) → IsSynced file → (c : List ℕ) → IsLeft (versions file) c → c ≡ file.content
 synced_is file synced c left = left_synced (whole file.content) c (subst (λ (vs : List Version). IsLeft vs c) (alone file synced) left)
 
 whole_left : (bytes : List ℕ) → IsLeft (whole bytes ∷ []) bytes
@@ -32,13 +33,13 @@ read_commits page_size frames old new synced all =
     all.each (moment old) (omega arith) (later_moment old new all.elapses) old.content
     (subst (λ (vs : List Version). IsLeft vs old.content) (sym all.elapses.grows.1) (left_more (versions old) all.elapses.grows.0 old.content (content_left old synced)))
 
-pub cut_opened : (page_size : ℕ) (frames : List Framed) (db log new_db new_log : File) → IsSynced db → IsSynced log → new_db ≡ db → Always log new_log (LeavesCommits page_size frames)
+pub cut_opened : (page_size : ℕ) (frames : List Framed) (db log new_db new_log : File) → HasPages db.content page_size → IsSynced db → IsSynced log → new_db ≡ db → Always log new_log (LeavesCommits page_size frames)
     → Throughout (LeavesOpened db log) db log new_db new_log
-cut_opened page_size frames db log new_db new_log db_synced log_synced same cut =
+cut_opened page_size frames db log new_db new_log pages db_synced log_synced same cut =
     (OnLog new_log ∷ [], (always_weaker log new_log (λ vs. LeavesOpened db log (versions db) vs) (LeavesCommits page_size frames) at cut, (at (versions new_log) (always_end log new_log (LeavesCommits page_size frames) cut), same, refl)))
   where
     at : (vs : List Version) → LeavesCommits page_size frames vs → LeavesOpened db log (versions db) vs
-    at vs left = inr (record { db_read = synced_is db db_synced; page_size = page_size; frames = frames; read = read_commits page_size frames log new_log log_synced cut; left = left })
+    at vs left = inr (record { db_read = synced_is db db_synced; page_size = page_size; headed = pages; frames = frames; read = read_commits page_size frames log new_log log_synced cut; left = left })
 
 -- opened files are those that were read
 module _ (db log mid_db mid_log : File) (db_synced : IsSynced mid_db) (log_synced : IsSynced mid_log) (db_same : mid_db.content ≡ db.content) (log_same : mid_log.content ≡ log.content) where
@@ -55,6 +56,7 @@ module _ (db log mid_db mid_log : File) (db_synced : IsSynced mid_db) (log_synce
   earlier d l (inr cut) = inr (record {
     db_read = λ c left. cut.db_read c left ∙ db_same;
     page_size = cut.page_size;
+    headed = λ head is. cut.headed head (subst (λ (c : List ℕ). IsHeader c head) (sym db_same) is);
     frames = cut.frames;
     read = subst (λ (c : List ℕ). HasCommits cut.page_size c cut.frames) log_same cut.read;
     left = cut.left;
@@ -69,10 +71,10 @@ module _ (db log mid_db mid_log : File) (db_synced : IsSynced mid_db) (log_synce
 pub as_before : (db log new_db new_log : File) → Throughout (LeavesAsBefore db log) db log new_db new_log → Throughout (LeavesOpened db log) db log new_db new_log
 as_before db log new_db new_log one = (one.0, run_weaker (LeavesOpened db log) (LeavesAsBefore db log) (λ d l before. inl before) one.0 db log new_db new_log one.1)
 
-pub read_then_cut : (page_size : ℕ) (frames : List Framed) (db log mid_db mid_log new_db new_log : File) → IsSynced db → IsSynced log → mid_db ≡ db → mid_log ≡ log → new_db ≡ mid_db
+pub read_then_cut : (page_size : ℕ) (frames : List Framed) (db log mid_db mid_log new_db new_log : File) → HasPages db.content page_size → IsSynced db → IsSynced log → mid_db ≡ db → mid_log ≡ log → new_db ≡ mid_db
     → Always mid_log new_log (LeavesCommits page_size frames) → Throughout (LeavesOpened db log) db log new_db new_log
-read_then_cut page_size frames db log mid_db mid_log new_db new_log db_synced log_synced db_same log_same kept cut =
-    cut_opened page_size frames db log new_db new_log db_synced log_synced (kept ∙ db_same) (subst (λ (f : File). Always f new_log (LeavesCommits page_size frames)) log_same cut)
+read_then_cut page_size frames db log mid_db mid_log new_db new_log pages db_synced log_synced db_same log_same kept cut =
+    cut_opened page_size frames db log new_db new_log pages db_synced log_synced (kept ∙ db_same) (subst (λ (f : File). Always f new_log (LeavesCommits page_size frames)) log_same cut)
 
 pub header_then : (db log read_db new_db new_log : File) → read_db ≡ db → Throughout (LeavesOpened read_db log) read_db log new_db new_log → Throughout (LeavesOpened db log) db log new_db new_log
 header_then db log read_db new_db new_log same = subst (λ (f : File). Throughout (LeavesOpened f log) f log new_db new_log) same

@@ -1,6 +1,6 @@
 -- Why statements are refused: what isn't served is, and a database is full where it may be.
 use Rattle.std.proofs.Common.{◌≡◌, ◌⊎◌, inl, inr, refl, sym, subst, ◌∙◌, ℕ, Bool}
-use Rattle.std.specs.Prelude.{IsFalse, IsTrue, Result, Ok, Err, IfOk, IfErr, IsErrAnd}
+use Rattle.std.specs.Prelude.{IsFalse, IsTrue, Result, Ok, Err, IfOk, IfErr, OnOk, IsErrAnd}
 use Rattle.std.proofs.lemmas.Bool.{false≢true}
 use Rattle.sqlval.specs.declared.fault.Fault.{Fault}
 use Rattle.sqlval.specs.declared.fault.Fault.TheVariants.{Memory, Io, NotADatabase, Unsupported, Damaged, Full, Syntax, NoSuch, Exists, Ambiguous, Misuse, Busy, StaleSnapshot, NoTransaction, InTransaction, NoSavepoint, NotNull, Unique, Check, Raised, RealRefused, TypeRefused, RowidFull, RowidMismatch, TooLong, RowChangedBefore, ViewReadOnly, Failed, Blank}
@@ -21,6 +21,11 @@ never_answered (Err f) u = tt
 
 pub full_of : {T : Type 0} (flag : Bool) (result : Result T Fault) (a b c d : ℕ) → AreWhys flag result a b c d → result ≡ Err Full → IsTrue flag
 full_of flag result a b c d whys is = (let why : IsWhy flag a b c d Full = subst (λ r. IfErr r (IsWhy flag a b c d)) is whys.why in why.full refl)
+
+-- of a refused call nothing is to be shown where it answers Ok
+pub never_ok : {T : Type 0} (P : Type 0) (result : Result T Fault) (fault : Fault) → IsErrAnd result (λ e. e ≡ fault) → OnOk result P
+never_ok P (Ok x) fault is = absurd is
+never_ok P (Err e) fault is = tt
 
 -- what follows of the refusal that a call's refusal is
 pub on_err : {T : Type 0} (P : Fault → Type 0) (result : Result T Fault) (fault : Fault) → IsErrAnd result (λ e. e ≡ fault) → P fault → IfErr result P

@@ -1,6 +1,7 @@
 -- What creating a database leaves, and why it is refused.
-use Rattle.std.specs.Prelude.{◌≡◌, ◌⊎◌, ℕ, Bool, true, false, IsTrue, List, [], length, nat_lt, ◌==◌, if◌then◌else◌}
+use Rattle.std.specs.Prelude.{◌≡◌, ◌⊎◌, ◌≤◌, Result, IfErr, ℕ, Bool, true, false, IsTrue, List, [], length, nat_lt, ◌==◌, if◌then◌else◌}
 use Rattle.std.specs.List.{list_all}
+use Rattle.disk.specs.Calls.{Rose}
 use Rattle.disk.specs.File.{File, Version, IsSynced, IsLeft, Always}
 use Rattle.dbheader.specs.Header.{IsHeader, IsPageSize, empty_of}
 use Rattle.page.specs.Writing.{leaf_of}
@@ -14,6 +15,11 @@ use Rattle.sqlval.specs.declared.fault.Misuse.TheVariants.{NotBlank}
 pub record Stays {D : Type 0} (tells : D → Bool) (file : D → File) (old new : D) : Type 0 where
   pub told : tells new ≡ tells old
   pub same : IsTrue (tells old) → file new ≡ file old
+
+-- the count of failed calls didn't fall, and `Io` comes only where it rose
+pub record CountsIo {T : Type 0} (result : Result T Fault) (old new : ℕ) : Type 0 where
+  pub counts : old ≤ new
+  pub io : IfErr result (λ fault. fault ≡ Io → Rose old new)
 
 -- The bytes are page 1 of the empty database: a header that says so, and behind it a table leaf without cells (Database
 -- File Format, "The Database Header", "B-tree Pages").
@@ -48,14 +54,14 @@ pub record BecomesDatabase (page_size : ℕ) (old new : File) : Type 0 where
   pub moments : Always old new (LeavesBlankOrEmpty page_size)
   pub content : IsBlankOrEmpty page_size new.content
 
--- Why no database of this page size is made: memory, a disk's failure, a page size that isn't served, or a file that is
--- not blank.
-abbrev pub IsCreateRefusal : ℕ → Type 0 → Fault → Type 0
-IsCreateRefusal page_size IsNotBlank Memory = Unit {0}
-IsCreateRefusal page_size IsNotBlank Io = Unit {0}
-IsCreateRefusal page_size IsNotBlank (Unsupported PageSize) = IsPageSize page_size → ⊥
-IsCreateRefusal page_size IsNotBlank (Misuse NotBlank) = IsNotBlank
-IsCreateRefusal page_size IsNotBlank fault = ⊥
+-- Why no database of this page size is made: memory, a call of a disk that failed, a page size that isn't served, or a file
+-- that is not blank.
+abbrev pub IsCreateRefusal : ℕ → Type 0 → Type 0 → Fault → Type 0
+IsCreateRefusal page_size IsNotBlank CallFailed Memory = Unit {0}
+IsCreateRefusal page_size IsNotBlank CallFailed Io = CallFailed
+IsCreateRefusal page_size IsNotBlank CallFailed (Unsupported PageSize) = IsPageSize page_size → ⊥
+IsCreateRefusal page_size IsNotBlank CallFailed (Misuse NotBlank) = IsNotBlank
+IsCreateRefusal page_size IsNotBlank CallFailed fault = ⊥
 
 -- Page 1 of the empty database, beside a log without a byte, holds the database of no objects.
 abbrev pub CreatedHold : Type 0

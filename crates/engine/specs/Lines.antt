@@ -48,7 +48,7 @@ abbrev pub HasRead : Bool → Option (List ℕ) → Option (List ℕ) → List �
 HasRead true before after kept = HasReadLine before after kept
 HasRead false before after kept = Between IsEmptyStill before after
 
--- why an input is refused
+-- why an input is refused, and serving its lines: memory was short, or a call failed
 abbrev pub IsInputRefusal : Fault → Type 0
 IsInputRefusal fault = (fault ≡ Memory) ⊎ (fault ≡ Io)
 

@@ -1,7 +1,9 @@
 -- What a stop leaves of two files while they are opened, and what opening makes of them.
-use Rattle.std.specs.Prelude.{◌≡◌, ◌⊎◌, ℕ, List, Result, Ok, Err}
+use Rattle.std.specs.Prelude.{◌≡◌, ◌⊎◌, ℕ, IsFalse, List, Result, Ok, Err}
 use Rattle.disk.specs.File.{File, Version, IsLeft}
 use Rattle.disk.specs.declared.device.Disk.{Ghosts}
+use Rattle.dbheader.specs.Header.{IsHeader}
+use Rattle.dbheader.specs.declared.fields.Header.{Header}
 use Rattle.sqlval.specs.declared.fault.Fault.{Fault}
 use Rattle.sqlval.specs.declared.fault.Fault.TheVariants.{Memory, Io}
 use Rattle.catalog.specs.Database.{Database}
@@ -9,8 +11,9 @@ use Rattle.catalog.specs.Listed.{tables_of}
 use Rattle.catalog.specs.declared.tables.Catalog.{Catalog}
 use Rattle.catalog.specs.declared.tables.Table.{Table}
 use Rattle.walframe.specs.Written.{Framed}
+use Rattle.walframe.specs.declared.heading.Salts.{Salts}
 use Rattle.wal.specs.Committed.{HasCommits}
-use Rattle.wal.specs.Known.{db_of, log_of}
+use Rattle.wal.specs.Known.{db_of, known_of, log_of}
 use Rattle.wal.specs.Opens.{LeavesAsBefore}
 use Rattle.wal.specs.Stops.{LeavesCommits}
 use Rattle.wal.specs.declared.log.Log.{Log}
@@ -25,10 +28,15 @@ use Rattle.session.specs.Stored.{Stores}
 use Rattle.engine.specs.Known.{connections_of}
 use Rattle.engine.specs.declared.opening.Engine.{Engine}
 
+-- a header that a database file begins with says this page size
+abbrev pub HasPages : List ℕ → ℕ → Type 0
+HasPages bytes page_size = (head : Header) → IsHeader bytes head → head.page_size ≡ page_size
+
 -- The database file as it was read, beside a log that has the commits of the one that was read and no others.
 pub record LeavesCut (db log : File) (db_versions log_versions : List Version) : Type 0 where
   pub db_read : (c : List ℕ) → IsLeft db_versions c → c ≡ db.content
   pub page_size : ℕ
+  pub headed : HasPages db.content page_size
   pub frames : List Framed
   pub read : HasCommits page_size log.content frames
   pub left : LeavesCommits page_size frames log_versions
@@ -51,6 +59,10 @@ module _ {D : Type 0} {g : Ghosts D} where
   abbrev pub log_left : Result (Engine D g) (Refused D) → D
   log_left (Ok engine) = log_of (files_of engine.connections)
   log_left (Err refused) = refused.log
+
+  -- a log that has no header is to get one with these salts
+  abbrev pub TakesSalts : Salts → Engine D g → Type 0
+  TakesSalts salts engine = IsFalse (known_of (files_of engine.connections)).has_header → (known_of (files_of engine.connections)).header.salts ≡ salts
 
   -- The catalog lists these tables, all of them committed, and the files are settled and hold the database.
   pub record StartsWith (tables : List Table) (database : Database) (files : Log D g) (catalog : Catalog) : Type 0 where

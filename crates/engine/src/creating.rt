@@ -1,11 +1,12 @@
 //! Blank files, and the empty database.
 
-ghost use Rattle.std.specs.Prelude.{◌≡◌, ◌≢◌, ℕ, List, [], true, false, IsTrue, IfOk, IfErr, OnOk, length};
+ghost use Rattle.std.specs.Prelude.{◌≡◌, ◌≢◌, ◌⊎◌, ℕ, List, [], true, false, IsTrue, IfOk, IfErr, OnOk, OnErr, length};
 ghost use Rattle.std.specs.List.{list_all};
 ghost use Rattle.dbheader.specs.Header.{IsPageSize};
 ghost use Rattle.sqlval.specs.declared.fault.Fault.TheVariants.{Io, Memory};
+ghost use Rattle.disk.specs.Calls.{Rose};
 ghost use Rattle.disk.specs.File.{IsSynced};
-ghost use Rattle.engine.specs.Creating.{is_blank_content, is_zero_byte, BecomesDatabase, CreatedHold, IsCreateRefusal, IsEmptyDatabase, IsSyncedAs, Stays};
+ghost use Rattle.engine.specs.Creating.{is_blank_content, is_zero_byte, BecomesDatabase, CountsIo, CreatedHold, IsCreateRefusal, IsEmptyDatabase, IsSyncedAs, Stays};
 
 use dbheader::{Header, is_page_size};
 use disk::Disk;
@@ -32,6 +33,7 @@ fn is_zero<D: Disk>(db: &mut D, len: u64) -> R<bool>
     ensures zero { IsTrue (D.tells db.old) → IfOk result (λ zero. zero ≡ list_all is_zero_byte (D.file db.old).content) }
     ensures kept { Stays D.tells D.file db.old db.new }
     ensures refused { IfErr result (λ fault. fault ≡ Io) }
+    ensures counted { CountsIo result (D.failures db.old) (D.failures db.new) }
 {
     let mut piece = [0u8; PIECE];
     let mut at = 0;
@@ -52,6 +54,7 @@ pub fn is_blank<D: Disk>(db: &mut D) -> R<bool>
     ensures blank { IsTrue (D.tells db.old) → IfOk result (λ blank. blank ≡ is_blank_content (D.file db.old).content) }
     ensures kept { Stays D.tells D.file db.old db.new }
     ensures refused { IfErr result (λ fault. fault ≡ Io) }
+    ensures counted { CountsIo result (D.failures db.old) (D.failures db.new) }
 {
     let len = db.len()?;
     if len > MAX_BLANK {
@@ -76,6 +79,7 @@ fn put_empty<D: Disk>(db: &mut D, log: &mut D, page: &[u8]) -> R<()>
     ensures emptied { IsTrue (D.tells log.old) → OnOk result (IsSyncedAs [] (D.file log.new)) }
     ensures stop { (size : ℕ) → IsPageSize size → IsEmptyDatabase size page.now → IsTrue (D.tells db.old) → IsSynced (D.file db.old) → is_blank_content (D.file db.old).content ≡ true → BecomesDatabase size (D.file db.old) (D.file db.new) }
     ensures refused { IfErr result (λ fault. fault ≡ Io) }
+    ensures called { OnErr result (Rose (D.failures db.old) (D.failures db.new) ⊎ Rose (D.failures log.old) (D.failures log.new)) }
 {
     log.cut(0)?;
     log.sync()?;
@@ -92,7 +96,8 @@ pub fn create<D: Disk>(alloc: Global, db: &mut D, log: &mut D, page_size: u32) -
     ensures emptied { IsTrue (D.tells log.old) → OnOk result (IsSyncedAs [] (D.file log.new)) }
     // Nothing but a blank file is written over, and a blank one isn't refused for what it holds.
     ensures blank { IsTrue (D.tells db.old) → OnOk result (is_blank_content (D.file db.old).content ≡ true) }
-    ensures refused { IfErr result (λ fault. IsCreateRefusal page_size (IsTrue (D.tells db.old) → is_blank_content (D.file db.old).content ≡ false) fault) }
+    ensures refused { IfErr result (λ fault. IsCreateRefusal page_size (IsTrue (D.tells db.old) → is_blank_content (D.file db.old).content ≡ false)
+        (Rose (D.failures db.old) (D.failures db.new) ⊎ Rose (D.failures log.old) (D.failures log.new)) fault) }
     // A refusal but for a disk's failure changes nothing.
     ensures kept { IfErr result (λ fault. fault ≢ Io → Stays D.tells D.file db.old db.new × Stays D.tells D.file log.old log.new) }
     // Of a blank file, synced before, a stop at any moment leaves a blank file or the empty database, and so it is on each exit.

@@ -1,6 +1,6 @@
 //! Opening a database file with its log.
 
-ghost use Rattle.std.specs.Prelude.{◌≡◌, ◌⊎◌, ◌&&◌, List, Ok, Err, IfOk, IfErr, IsTrue, IsFalse};
+ghost use Rattle.std.specs.Prelude.{◌≡◌, ◌⊎◌, ◌&&◌, List, Ok, Err, IfOk, IfErr, OnOk, IsTrue, IsFalse, false};
 ghost use Rattle.dbheader.specs.Header.{IsHeader};
 ghost use Rattle.dbheader.specs.declared.fields.Header.{Header as FileHeader};
 ghost use Rattle.catalog.specs.Database.{Database};
@@ -12,7 +12,9 @@ ghost use Rattle.engine.specs.Loading.{ListsTables, ReadsHeader};
 ghost use Rattle.disk.specs.File.{IsSynced, Throughout};
 ghost use Rattle.walframe.specs.Accepted.{Leaves};
 ghost use Rattle.wal.specs.Known.{db_of, known_of, log_of};
-ghost use Rattle.engine.specs.Opening.{KeepsBut, LeavesOpened, StartsOn};
+ghost use Rattle.wal.specs.Whys.{HasReason};
+ghost use Rattle.engine.specs.Creating.{CountsIo};
+ghost use Rattle.engine.specs.Opening.{HasPages, KeepsBut, LeavesOpened, StartsOn};
 ghost use Rattle.sqlval.specs.declared.fault.Fault.TheVariants.{Io};
 ghost use Rattle.disk.specs.Calls.{Rose};
 ghost use Rattle.syntax.specs.declared.statement.Statement.{Statement};
@@ -45,6 +47,7 @@ pub struct Engine<D: Disk + Drop> {
 fn file_header<D: Disk>(db: &mut D) -> R<Header>
     ensures kept { Leaves D.tells D.file db.old db.new }
     ensures read { (head : FileHeader) → IsTrue (D.tells db.old) → IsHeader (D.file db.old).content head → ReadsHeader head result }
+    ensures counted { CountsIo result (D.failures db.old) (D.failures db.new) }
 {
     if is_blank(db)? {
         return Err(Fault::Blank);
@@ -61,6 +64,7 @@ fn file_header<D: Disk>(db: &mut D) -> R<Header>
 fn newest_schema<D: Disk + Drop>(alloc: Global, log: &mut Log<D>) -> R<Catalog>
     ensures kept { (known_of log.new ≡ known_of log.old) × Leaves D.tells D.file (db_of log.old) (db_of log.new) × Leaves D.tells D.file (log_of log.old) (log_of log.new) }
     ensures listed { (tables : List Table) (database : Database) → Tells log.old → Stores (newest_view log.old) tables database → IsFound (newest_view log.old) → ListsTables tables result }
+    ensures reason { HasReason false result log.old log.new }
 {
     let snapshot = log.begin();
     let page = read_page(alloc, log, snapshot, 1)?;
@@ -76,11 +80,13 @@ fn newest_schema<D: Disk + Drop>(alloc: Global, log: &mut Log<D>) -> R<Catalog>
 
 /// Checks the newest view, and then takes off the log what stands behind its committed frames.
 fn started<D: Disk + Drop>(alloc: Global, log: &mut Log<D>) -> R<Catalog>
-    ensures stop { IsFalse (known_of log.old).has_failed → IsTrue (D.tells (db_of log.old)) → IsTrue (D.tells (log_of log.old)) → IsSynced (D.file (db_of log.old)) → IsSynced (D.file (log_of log.old))
+    ensures stop { IsFalse (known_of log.old).has_failed → HasPages (D.file (db_of log.old)).content (known_of log.old).page_size → IsTrue (D.tells (db_of log.old)) → IsTrue (D.tells (log_of log.old)) → IsSynced (D.file (db_of log.old)) → IsSynced (D.file (log_of log.old))
         → Throughout (LeavesOpened (D.file (db_of log.old)) (D.file (log_of log.old))) (D.file (db_of log.old)) (D.file (log_of log.old)) (D.file (db_of log.new)) (D.file (log_of log.new)) }
+    ensures known { OnOk result (known_of log.new ≡ known_of log.old) }
     ensures kept { IsTrue (D.tells (db_of log.old)) → IsTrue (D.tells (log_of log.old)) → IfErr result (KeepsBut Io (D.file (db_of log.old)) (D.file (log_of log.old)) (D.file (db_of log.new)) (D.file (log_of log.new))) }
     // Of settled files that hold a database the tables are listed, and they stay so.
     ensures serves { (tables : List Table) (database : Database) → Tells log.old → IsSettled log.old → Stores (newest_view log.old) tables database → StartsOn tables database log.new result }
+    ensures reason { HasReason false result log.old log.new }
 {
     let catalog = newest_schema(alloc, log)?;
     log.cut_tail()?;
@@ -90,8 +96,8 @@ fn started<D: Disk + Drop>(alloc: Global, log: &mut Log<D>) -> R<Catalog>
 impl<D: Disk + Drop> Engine<D> {
     ghost use Rattle.session.specs.Known.{IsNoConnection, first_refusal};
     ghost use Rattle.engine.specs.Known.{db_disk, has_failed_of, log_disk};
-    ghost use Rattle.session.specs.Holding.{Hold};
-    ghost use Rattle.engine.specs.Opening.{Opens, db_left, log_left};
+    ghost use Rattle.session.specs.Holding.{Hold, LeaveHeld};
+    ghost use Rattle.engine.specs.Opening.{Opens, TakesSalts, db_left, log_left};
     ghost use Rattle.engine.specs.Serving.{GivesUp};
     ghost use Rattle.engine.specs.Shown.{StepsByText};
     ghost use Rattle.session.specs.Shown.{rows_reply};
@@ -102,9 +108,15 @@ impl<D: Disk + Drop> Engine<D> {
     pub fn open(alloc: Global, db: D, log: D, salts: Salts) -> Result<Engine<D>, Refused<D>>
         // A stop leaves what was there before, or what was read of it; or the database file that was read, with a log of the same commits.
         ensures stop { IsTrue (D.tells db) → IsTrue (D.tells log) → Throughout (LeavesOpened (D.file db) (D.file log)) (D.file db) (D.file log) (D.file (db_left result)) (D.file (log_left result)) }
+        // Files that hold a database, as a stop left them, hold it at each moment.
+        ensures holds { (database : Database) → IsTrue (D.tells db) → IsTrue (D.tells log) → IsSynced (D.file db) → IsSynced (D.file log) → Hold (D.file db).content (D.file log).content database
+            → Throughout (LeaveHeld (λ d. d ≡ database)) (D.file db) (D.file log) (D.file (db_left result)) (D.file (log_left result)) }
         // Refused, the files hold what they held, but for a call of a disk that failed.
         ensures kept { IsTrue (D.tells db) → IsTrue (D.tells log) → IfErr result (λ refused. KeepsBut Io (D.file db) (D.file log) (D.file refused.db) (D.file refused.log) refused.fault) }
-        ensures whole { IfOk result (λ engine. IsFalse (has_failed_of engine)) }
+        // What is opened hasn't failed, and a log that has no header is to get one with these salts.
+        ensures whole { IfOk result (λ engine. IsFalse (has_failed_of engine) × TakesSalts salts engine) }
+        // A call of one of the two disks failed, and was counted, where `Io` comes.
+        ensures io { IfErr result (λ refused. refused.fault ≡ Io → Rose (D.failures db) (D.failures refused.db) ⊎ Rose (D.failures log) (D.failures refused.log)) }
         // Files that hold a database show exactly that one, with 16 idle connections, but for want of memory or a failed call of a disk.
         ensures serves { (database : Database) → IsTrue (D.tells db) → IsTrue (D.tells log) → Hold (D.file db).content (D.file log).content database → Opens database result }
     {

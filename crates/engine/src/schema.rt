@@ -1,6 +1,6 @@
 //! The objects of the schema: the tables, as page 1 lists them.
 
-ghost use Rattle.std.specs.Prelude.{◌≡◌, ◌<◌, ◌≤◌, ◌++◌, ◌∷◌, ℕ, List, [], Ok, None, IsOkAnd, true, false, pos, codes, length, map};
+ghost use Rattle.std.specs.Prelude.{◌≡◌, ◌<◌, ◌≤◌, ◌++◌, ◌∷◌, ℕ, List, [], Ok, None, IfErr, IsOkAnd, true, false, pos, codes, length, map};
 ghost use Rattle.sqlval.specs.Fields.{value_of};
 ghost use Rattle.sqlval.specs.declared.value.Value.TheVariants as value;
 ghost use Rattle.page.specs.Leaf.{Entry};
@@ -12,6 +12,7 @@ ghost use Rattle.parser.specs.Texts.{Is};
 ghost use Rattle.syntax.specs.declared.create.Create.{Create as Made};
 ghost use Rattle.sqlval.specs.Names.{is_same_name};
 ghost use Rattle.session.specs.Built as built;
+ghost use Rattle.catalog.specs.Faults.{IsNoFileFault};
 ghost use Rattle.catalog.specs.Listed as listed;
 ghost use Rattle.catalog.specs.Listed.{defined, described, has_doubled, tables_of};
 ghost use Rattle.tabletree.specs.Lone.{IsLone};
@@ -38,13 +39,16 @@ struct SchemaRow<'a> {
 }
 
 /// A row of the schema table breaks the format.
-fn damaged() -> Fault {
+fn damaged() -> Fault
+    ensures { IsNoFileFault result }
+{
     Fault::Damaged(Damage::Schema, 1)
 }
 
 /// The schema's texts are outside the profile, but for the want of memory.
 fn outside(fault: Fault) -> Fault
-    ensures { fault ≡ Fault.Memory → result ≡ Fault.Memory }
+    ensures memory { fault ≡ Fault.Memory → result ≡ Fault.Memory }
+    ensures calm { IsNoFileFault result }
 {
     match fault {
         Fault::Memory => Fault::Memory,
@@ -54,7 +58,8 @@ fn outside(fault: Fault) -> Fault
 
 /// The row is that of a table.
 fn is_of_table(kind: Field<'_>) -> R<()>
-    ensures { value_of kind.entry ≡ value.Text (codes "table") → result ≡ Ok tt }
+    ensures tells { value_of kind.entry ≡ value.Text (codes "table") → result ≡ Ok tt }
+    ensures calm { IfErr result (λ fault. IsNoFileFault fault) }
 {
     match kind {
         Field::Text("table") => Ok(()),
@@ -66,7 +71,8 @@ fn is_of_table(kind: Field<'_>) -> R<()>
 }
 
 fn text_of<'a>(field: Field<'a>) -> R<&'a str>
-    ensures { (text : List ℕ) → value_of field.entry ≡ value.Text text → IsOkAnd result (λ found. found.now ≡ text) }
+    ensures tells { (text : List ℕ) → value_of field.entry ≡ value.Text text → IsOkAnd result (λ found. found.now ≡ text) }
+    ensures calm { IfErr result (λ fault. IsNoFileFault fault) }
 {
     match field {
         Field::Text(text) => Ok(text),
@@ -76,7 +82,8 @@ fn text_of<'a>(field: Field<'a>) -> R<&'a str>
 
 /// A page behind the first, in a database of so many.
 fn root_of(field: Field<'_>, size: u32) -> R<u32>
-    ensures { (root : ℕ) → value_of field.entry ≡ value.Int (pos root) → 1 < root → root ≤ size → result ≡ Ok root }
+    ensures tells { (root : ℕ) → value_of field.entry ≡ value.Int (pos root) → 1 < root → root ≤ size → result ≡ Ok root }
+    ensures calm { IfErr result (λ fault. IsNoFileFault fault) }
 {
     let Field::Int(root) = field else {
         return Err(damaged());
@@ -88,7 +95,8 @@ fn root_of(field: Field<'_>, size: u32) -> R<u32>
 }
 
 fn row_of<'a>(row: &Record<'a>, size: u32) -> R<SchemaRow<'a>>
-    ensures { (name : List ℕ) (root : ℕ) (sql : List ℕ) → row.now ≡ schema_row name root sql → 1 < root → root ≤ size → IsOkAnd result (HasParts name root sql) }
+    ensures tells { (name : List ℕ) (root : ℕ) (sql : List ℕ) → row.now ≡ schema_row name root sql → 1 < root → root ≤ size → IsOkAnd result (HasParts name root sql) }
+    ensures calm { IfErr result (λ fault. IsNoFileFault fault) }
 {
     if row.len() != 5 {
         return Err(Fault::Unsupported(Feature::ColumnCount));
@@ -103,7 +111,8 @@ fn row_of<'a>(row: &Record<'a>, size: u32) -> R<SchemaRow<'a>>
 }
 
 fn statement_of(alloc: Global, sql: &str) -> R<Statement>
-    ensures { (statement : Parsed) → Is sql.now statement → is_statement_within statement ≡ true → length sql.now ≤ 65536 → IsOrMemory (λ found. found ≡ statement) result }
+    ensures tells { (statement : Parsed) → Is sql.now statement → is_statement_within statement ≡ true → length sql.now ≤ 65536 → IsOrMemory (λ found. found ≡ statement) result }
+    ensures calm { IfErr result (λ fault. IsNoFileFault fault) }
 {
     match parse(alloc, sql) {
         Ok(statement) => Ok(statement),
@@ -112,7 +121,8 @@ fn statement_of(alloc: Global, sql: &str) -> R<Statement>
 }
 
 fn created_by(statement: Statement) -> R<NewObject>
-    ensures { (made : Made) → statement ≡ parsed.Create made → result ≡ Ok made.object }
+    ensures tells { (made : Made) → statement ≡ parsed.Create made → result ≡ Ok made.object }
+    ensures calm { IfErr result (λ fault. IsNoFileFault fault) }
 {
     let Statement::Create(create) = statement else {
         return Err(Fault::Unsupported(Feature::SchemaObject));
@@ -122,7 +132,8 @@ fn created_by(statement: Statement) -> R<NewObject>
 }
 
 fn table_in(object: NewObject) -> R<TableDefinition>
-    ensures { (definition : TableDefinition) → object ≡ new.Table definition → result ≡ Ok definition }
+    ensures tells { (definition : TableDefinition) → object ≡ new.Table definition → result ≡ Ok definition }
+    ensures calm { IfErr result (λ fault. IsNoFileFault fault) }
 {
     match object {
         NewObject::Table(definition) => Ok(definition),
@@ -131,7 +142,8 @@ fn table_in(object: NewObject) -> R<TableDefinition>
 }
 
 fn definition_of(alloc: Global, sql: &str) -> R<TableDefinition>
-    ensures { (definition : TableDefinition) → IsCreateOf sql.now (new.Table definition) → IsOrMemory (λ found. found ≡ definition) result }
+    ensures tells { (definition : TableDefinition) → IsCreateOf sql.now (new.Table definition) → IsOrMemory (λ found. found ≡ definition) result }
+    ensures calm { IfErr result (λ fault. IsNoFileFault fault) }
 {
     let statement = statement_of(alloc, sql)?;
     let object = created_by(statement)?;
@@ -139,7 +151,8 @@ fn definition_of(alloc: Global, sql: &str) -> R<TableDefinition>
 }
 
 fn columns_in(alloc: Global, definition: &TableDefinition) -> R<Vec<Column>>
-    ensures { (columns : List Column) → has_doubled definition.now.columns ≡ false → map described columns ≡ map defined definition.now.columns → IsOrMemory (λ found. found.items ≡ columns) result }
+    ensures tells { (columns : List Column) → has_doubled definition.now.columns ≡ false → map described columns ≡ map defined definition.now.columns → IsOrMemory (λ found. found.items ≡ columns) result }
+    ensures calm { IfErr result (λ fault. IsNoFileFault fault) }
 {
     match columns_of(alloc, definition) {
         Ok(columns) => Ok(columns),
@@ -149,8 +162,9 @@ fn columns_in(alloc: Global, definition: &TableDefinition) -> R<Vec<Column>>
 
 /// The definition is one that is served, under the row's name.
 fn is_of_row(definition: &TableDefinition, row: &SchemaRow<'_>) -> R<()>
-    ensures { built.is_table_built definition.now ≡ true → is_same_name definition.now.name row.now.name.now ≡ true → is_same_name definition.now.name row.now.table_name.now ≡ true
+    ensures tells { built.is_table_built definition.now ≡ true → is_same_name definition.now.name row.now.name.now ≡ true → is_same_name definition.now.name row.now.table_name.now ≡ true
         → listed.is_reserved row.now.name.now ≡ false → result ≡ Ok tt }
+    ensures calm { IfErr result (λ fault. IsNoFileFault fault) }
 {
     if !is_table_built(definition) {
         return Err(Fault::Unsupported(Feature::NotBuilt));
@@ -168,7 +182,8 @@ fn is_of_row(definition: &TableDefinition, row: &SchemaRow<'_>) -> R<()>
 }
 
 fn table_of(alloc: Global, row: &SchemaRow<'_>) -> R<Table>
-    ensures { (before : List Table) (table : Table) → TellsTable before table row.now → IsOrMemory (IsSameTable table) result }
+    ensures tells { (before : List Table) (table : Table) → TellsTable before table row.now → IsOrMemory (IsSameTable table) result }
+    ensures calm { IfErr result (λ fault. IsNoFileFault fault) }
 {
     let definition = definition_of(alloc, row.sql)?;
     is_of_row(&definition, row)?;
@@ -182,7 +197,8 @@ fn table_of(alloc: Global, row: &SchemaRow<'_>) -> R<Table>
 }
 
 fn is_new(catalog: &Catalog, table: &Table) -> R<()>
-    ensures { listed.table_named table.now.name (tables_of catalog.now) ≡ None → result ≡ Ok tt }
+    ensures tells { listed.table_named table.now.name (tables_of catalog.now) ≡ None → result ≡ Ok tt }
+    ensures calm { IfErr result (λ fault. IsNoFileFault fault) }
 {
     if catalog.table(table.name.as_str()).is_some() {
         return Err(Fault::Unsupported(Feature::SchemaObject));
@@ -195,6 +211,7 @@ fn add_row(alloc: Global, catalog: &mut Catalog, payload: &[u8], size: u32) -> R
     // The table of such a row stands behind the others, but for the want of memory.
     ensures tells { (before : List Table) (table : Table) (entry : Entry) → AreSameTables before (tables_of catalog.old) → entry.payload ≡ payload.now → IsRowOf size before table entry
         → AddsTables (before ++ table ∷ []) result catalog.new }
+    ensures calm { IfErr result (λ fault. IsNoFileFault fault) }
 {
     let found = Record::over(alloc, payload)?;
     let row = row_of(&found, size)?;
@@ -205,7 +222,8 @@ fn add_row(alloc: Global, catalog: &mut Catalog, payload: &[u8], size: u32) -> R
 
 /// The tables that these rows of the schema tell.
 fn tables_in(alloc: Global, leaf: &Leaf<'_>, size: u32) -> R<Catalog>
-    ensures { (tables : List Table) → AreRowsOf size [] tables leaf.now → IsOrMemory (λ catalog. AreSameTables tables (tables_of catalog)) result }
+    ensures tells { (tables : List Table) → AreRowsOf size [] tables leaf.now → IsOrMemory (λ catalog. AreSameTables tables (tables_of catalog)) result }
+    ensures calm { IfErr result (λ fault. IsNoFileFault fault) }
 {
     let mut catalog = Catalog::empty(alloc);
     'rows: for index in 0..leaf.len() {
@@ -218,6 +236,7 @@ fn tables_in(alloc: Global, leaf: &Leaf<'_>, size: u32) -> R<Catalog>
 pub fn load(alloc: Global, page: &[u8], size: u32) -> R<Catalog>
     // Where page 1's rows tell tables, these are loaded, but for the want of memory.
     ensures listed { (tables : List Table) (rows : List Entry) → IsLone page.now 1 rows → AreRowsOf size [] tables rows → LoadsTables tables result }
+    ensures calm { IfErr result (λ fault. IsNoFileFault fault) }
 {
     let leaf = Leaf::over(alloc, page, 1)?;
     let mut catalog = tables_in(alloc, &leaf, size)?;

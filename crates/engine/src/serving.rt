@@ -1,7 +1,8 @@
 //! Lines of text served.
 
-ghost use Rattle.std.specs.Prelude.{◌≡◌, ◌++◌, IfOk, OnOk, OnErr};
+ghost use Rattle.std.specs.Prelude.{◌≡◌, ◌++◌, IfErr, IfOk, OnOk, OnErr};
 ghost use Rattle.std.specs.Io.KnownBytes.{Appends, Keeps};
+ghost use Rattle.engine.specs.Lines.{IsInputRefusal};
 ghost use Rattle.engine.specs.Output.{reply_text};
 ghost use Rattle.engine.specs.Replies.{reply_of};
 ghost use Rattle.engine.specs.Serving.{AnswersKept, AppendsPart, HasRun, HasRunInPart, HasServed, HasServedInPart, HasWritten};
@@ -19,6 +20,7 @@ use std::io::{BufRead, ErrorKind, Write};
 fn write_some<'a, O: Write>(output: &mut O, text: &'a [u8]) -> R<&'a [u8]>
     ensures written { IfOk result (λ rest. HasWritten (O.contents output.old) (O.contents output.new) text.now rest.now) }
     ensures refused { OnErr result (Keeps (O.contents output.old) (O.contents output.new)) }
+    ensures why { IfErr result IsInputRefusal }
 {
     match output.write(text) {
         Ok(0) => Err(Fault::Io),
@@ -36,6 +38,7 @@ fn write_some<'a, O: Write>(output: &mut O, text: &'a [u8]) -> R<&'a [u8]>
 fn write_text<O: Write>(output: &mut O, text: &[u8]) -> R<()>
     ensures written { OnOk result (Appends (O.contents output.old) (O.contents output.new) text.now) }
     ensures refused { OnErr result (AppendsPart (O.contents output.old) (O.contents output.new) text.now) }
+    ensures why { IfErr result IsInputRefusal }
 {
     let mut rest = text;
     'writes: for _ in 0..u64::MAX {
@@ -56,6 +59,7 @@ fn write_reply<O: Write>(
 ) -> R<()>
     ensures written { OnOk result (Appends (O.contents output.old) (O.contents output.new) (reply_text (reply_of reply.now))) }
     ensures refused { OnErr result (AppendsPart (O.contents output.old) (O.contents output.new) (reply_text (reply_of reply.now))) }
+    ensures why { IfErr result IsInputRefusal }
 {
     text.clear();
     put_reply(alloc, text, reply)?;
@@ -83,6 +87,7 @@ impl<D: Disk + Drop> Engine<D> {
     pub fn run<I: BufRead, O: Write>(&mut self, input: &mut I, output: &mut O) -> R<()>
         ensures served { OnOk result (HasRun self.old (I.remaining input.old) (I.remaining input.new) (O.contents output.old) (O.contents output.new) self.new) }
         ensures refused { OnErr result (HasRunInPart self.old (I.remaining input.old) (O.contents output.old) (O.contents output.new) self.new) }
+        ensures why { IfErr result IsInputRefusal }
     {
         let result = self.serve(input, output);
         self.give_up();
@@ -92,6 +97,7 @@ impl<D: Disk + Drop> Engine<D> {
     fn serve<I: BufRead, O: Write>(&mut self, input: &mut I, output: &mut O) -> R<()>
         ensures served { OnOk result (HasServed self.old (I.remaining input.old) (I.remaining input.new) (O.contents output.old) (O.contents output.new) self.new) }
         ensures refused { OnErr result (HasServedInPart self.old (I.remaining input.old) (O.contents output.old) (O.contents output.new) self.new) }
+        ensures why { IfErr result IsInputRefusal }
     {
         let alloc = self.allocator();
         let mut line = Vec::new(alloc);

@@ -1,8 +1,9 @@
-use Rattle.std.proofs.Common.{rules, ◌∙◌, ap, sym, IsTrue, length, ◌+◌, take, drop}
+use Rattle.std.proofs.Common.{rules, arith, ◌∙◌, ap, sym, IsTrue, length, ◌+◌, take, drop}
 use Rattle.std.specs.List.{list_all}
 use Rattle.disk.specs.File.{File}
 use Rattle.engine.specs.Creating.{Stays, is_zero_byte}
 use Rattle.engine.proofs.NewFiles.{piece_decides, rest_decides}
+use Rattle.engine.proofs.CountedCalls.{call_refused}
 use Rattle.engine.proofs.creating.is_zero.Goals as goal
 
 pub returns-then-not-are_zero-clause-zero : goal.returns-then-not-are_zero-clause-zero
@@ -26,4 +27,14 @@ pieces-preserved g c =
           let more = rest_decides _ _ c.pieces.at c.min-count.result (read ∙ sized) (sym (c.if-not-are_zero.ensures)) (c.pieces.invariant.2 (before told)) in
           ap (λ (f : File). list_all is_zero_byte (drop (c.pieces.at + c.min-count.result) f.content)) (c.read_at.ensures.same (before told))
           ∙ (more ∙ ap (λ (f : File). list_all is_zero_byte f.content) (sym (c.read_at.ensures.same (before told)))),
+      omega (arith, c.pieces.invariant.3, c.in_ok-read_at.ensures.count),
     )
+
+pub returns-in_err-read_at-clause-counted : goal.returns-in_err-read_at-clause-counted
+returns-in_err-read_at-clause-counted g c = call_refused _ _ _ _ c.pieces.invariant.3 c.in_err-read_at.ensures.count
+
+pub returns-then-not-are_zero-clause-counted : goal.returns-then-not-are_zero-clause-counted
+returns-then-not-are_zero-clause-counted g c = record { counts = omega (arith, c.pieces.invariant.3, c.in_ok-read_at.ensures.count); io = tt }
+
+pub returns-clause-counted : goal.returns-clause-counted
+returns-clause-counted g c = record { counts = c.pieces.invariant.3; io = tt }

@@ -1,8 +1,10 @@
-use Rattle.std.proofs.Common.{refl, sym, ap, subst, ◌∙◌, length, take, drop, arith}
+use Rattle.std.proofs.Common.{rules, refl, sym, ap, subst, ◌∙◌, length, take, drop, arith}
 use Rattle.disk.specs.File.{File}
 use Rattle.pager.proofs.HeaderFronts.{front_of, header_moves}
 use Rattle.engine.specs.Loading.{ReadsHeader}
 use Rattle.engine.proofs.EmptyOpening.{clash, header_not_blank}
+use Rattle.pager.proofs.Headers.{header_fault}
+use Rattle.engine.proofs.CountedCalls.{call_refused, calm_refused, part_refused}
 use Rattle.engine.proofs.opening.file_header.Goals as goal
 
 pub returns-then-branch-clause-read : goal.returns-then-branch-clause-read
@@ -22,3 +24,22 @@ returns-clause-read g c = λ head told is.
     let same = c.in_ok-len.ensures.same told_len ∙ kept.same told in
     let front = c.in_ok-read_at.ensures.read told_read ∙ ap (λ (f : File). take 100 (drop 0 f.content)) same in
     subst (ReadsHeader head) (sym (c.read.ensures.only head (header_moves _ _ head (sym (front_of _ _ front)) is))) refl
+
+pub returns-in_err-is_blank-clause-counted : goal.returns-in_err-is_blank-clause-counted
+returns-in_err-is_blank-clause-counted g c = part_refused _ c.in_err-is_blank.field-0.0 _ _ c.from_residual.ensures.1 c.in_err-is_blank.ensures.counted.counts c.in_err-is_blank.ensures.counted.io
+
+pub returns-then-branch-clause-counted : goal.returns-then-branch-clause-counted
+returns-then-branch-clause-counted g c = calm_refused _ _ _ c.in_ok-is_blank.ensures.counted.counts (search rules)
+
+pub returns-in_err-len-clause-counted : goal.returns-in_err-len-clause-counted
+returns-in_err-len-clause-counted g c = call_refused _ _ _ _ c.in_ok-is_blank.ensures.counted.counts c.in_err-len.ensures.count
+
+pub returns-then-branch-2-clause-counted : goal.returns-then-branch-2-clause-counted
+returns-then-branch-2-clause-counted g c = calm_refused _ _ _ (omega (arith, c.in_ok-is_blank.ensures.counted.counts, c.in_ok-len.ensures.count)) (search rules)
+
+pub returns-in_err-read_at-clause-counted : goal.returns-in_err-read_at-clause-counted
+returns-in_err-read_at-clause-counted g c = call_refused _ _ _ _ (omega (arith, c.in_ok-is_blank.ensures.counted.counts, c.in_ok-len.ensures.count)) c.in_err-read_at.ensures.count
+
+pub returns-clause-counted : goal.returns-clause-counted
+returns-clause-counted g c =
+    calm_refused _ _ _ (omega (arith, c.in_ok-is_blank.ensures.counted.counts, c.in_ok-len.ensures.count, c.in_ok-read_at.ensures.count)) (header_fault _ c.read.result c.read.ensures.exact)

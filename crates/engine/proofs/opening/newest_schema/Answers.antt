@@ -1,4 +1,4 @@
-use Rattle.std.proofs.Common.{sym, ap, subst, ◌∙◌, ℕ, [], arith}
+use Rattle.std.proofs.Common.{rules, sym, ap, subst, ◌∙◌, ℕ, [], arith}
 use Rattle.dbheader.specs.declared.fields.Header.{Header}
 use Rattle.dbheader.specs.Header.{counted_of}
 use Rattle.wal.specs.Known.{Known}
@@ -7,6 +7,9 @@ use Rattle.session.specs.Schema.{AreRowsOf}
 use Rattle.session.specs.Shown.{IsNewest}
 use Rattle.engine.proofs.FoundPages.{header_found, header_stored, page_there, rows_stored}
 use Rattle.engine.proofs.SchemaTables.{listed_all, listed_none}
+use Rattle.catalog.specs.Faults.{IsNoFileFault}
+use Rattle.engine.proofs.CountedCalls.{whys_calm, whys_passed}
+use Rattle.engine.proofs.Refusing.{on_err}
 use Rattle.engine.proofs.opening.newest_schema.Goals as goal
 
 pub returns-in_err-page-clause-listed : goal.returns-in_err-page-clause-listed
@@ -41,3 +44,20 @@ returns-clause-listed g c = λ tables database told stored found.
     let has = c.in_ok-page.ensures.read told (omega (arith, c.begin-snapshot.ensures.seen)) in
     let sized = sym (c.size-in_default.ensures ∙ c.begin-snapshot.ensures.size) in
     listed_all tables c.load.result (c.load.ensures.listed tables stored.first.rows (rows_stored c.args.log.now c.begin-snapshot.result newest tables database stored _ _ c.deref-in_default.ensures.value has) (subst (λ (n : ℕ). AreRowsOf n [] tables stored.first.rows) sized stored.first.tell))
+
+pub returns-in_err-page-clause-reason : goal.returns-in_err-page-clause-reason
+returns-in_err-page-clause-reason g c = whys_passed _ c.in_err-page.field-0.0 _ _ _ _ c.from_residual.ensures.1 c.in_err-page.ensures.reason
+
+pub returns-in_err-header-clause-reason : goal.returns-in_err-header-clause-reason
+returns-in_err-header-clause-reason g c =
+    whys_calm _ _ _ _ _ c.in_ok-page.ensures.reason.db_counts c.in_ok-page.ensures.reason.log_counts
+    (on_err (λ f. IsNoFileFault f) _ c.in_err-header.field-0.0 c.from_residual-in_err-header.ensures.1 c.in_err-header.ensures.refused)
+
+pub returns-then-header-page_size-clause-reason : goal.returns-then-header-page_size-clause-reason
+returns-then-header-page_size-clause-reason g c = whys_calm _ _ _ _ _ c.in_ok-page.ensures.reason.db_counts c.in_ok-page.ensures.reason.log_counts (search rules)
+
+pub returns-in-Some-clause-reason : goal.returns-in-Some-clause-reason
+returns-in-Some-clause-reason g c = whys_calm _ _ _ _ _ c.in_ok-page.ensures.reason.db_counts c.in_ok-page.ensures.reason.log_counts (search rules)
+
+pub returns-clause-reason : goal.returns-clause-reason
+returns-clause-reason g c = whys_calm _ _ _ _ _ c.in_ok-page.ensures.reason.db_counts c.in_ok-page.ensures.reason.log_counts c.load.ensures.calm

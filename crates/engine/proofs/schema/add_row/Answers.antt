@@ -3,47 +3,37 @@ use Rattle.engine.proofs.EmptyOpening.{err_not_ok, ok_is}
 use Rattle.engine.proofs.SchemaTables.{added_none, is_free, record_is, refused_alone, row_added, row_tells, values_of}
 use Rattle.engine.proofs.schema.add_row.Goals as goal
 
-pub returns-in_err-found : goal.returns-in_err-found
-returns-in_err-found c = record {
-  tells = λ before table entry same is tells.
-      added_none (before ++ table ∷ []) c.args.catalog.now c.from_residual.result c.in_err-found.field-0.0 c.from_residual.ensures.1
-      (refused_alone c.in_err-found.field-0.0 (values_of c.args.size before table entry tells) (c.in_err-found.ensures.only (values_of c.args.size before table entry tells) (record_is c.args.size before table entry tells c.args.payload.now is)));
-}
+pub returns-in_err-found-clause-tells : goal.returns-in_err-found-clause-tells
+returns-in_err-found-clause-tells c = λ before table entry same is tells.
+    added_none (before ++ table ∷ []) c.args.catalog.now c.from_residual.result c.in_err-found.field-0.0 c.from_residual.ensures.1
+    (refused_alone c.in_err-found.field-0.0 (values_of c.args.size before table entry tells) (c.in_err-found.ensures.only (values_of c.args.size before table entry tells) (record_is c.args.size before table entry tells c.args.payload.now is)))
 
-pub returns-in_err-row : goal.returns-in_err-row
-returns-in_err-row c = record {
-  tells = λ before table entry same is tells.
-      let values = values_of c.args.size before table entry tells in
-      let read = sym (ok_is _ _ (c.in_ok-found.ensures.only values (record_is c.args.size before table entry tells c.args.payload.now is))) in
-      absurd (c.in_err-row.ensures tells.definition.name table.root tells.sql read tells.above tells.within);
-}
+pub returns-in_err-row-clause-tells : goal.returns-in_err-row-clause-tells
+returns-in_err-row-clause-tells c = λ before table entry same is tells.
+    let values = values_of c.args.size before table entry tells in
+    let read = sym (ok_is _ _ (c.in_ok-found.ensures.only values (record_is c.args.size before table entry tells c.args.payload.now is))) in
+    absurd (c.in_err-row.ensures.tells tells.definition.name table.root tells.sql read tells.above tells.within)
 
-pub returns-in_err-table : goal.returns-in_err-table
-returns-in_err-table c = record {
-  tells = λ before table entry same is tells.
-      let values = values_of c.args.size before table entry tells in
-      let read = sym (ok_is _ _ (c.in_ok-found.ensures.only values (record_is c.args.size before table entry tells c.args.payload.now is))) in
-      let parts = c.in_ok-row.ensures tells.definition.name table.root tells.sql read tells.above tells.within in
-      added_none (before ++ table ∷ []) c.args.catalog.now c.from_residual-in_err-table.result c.in_err-table.field-0.0 c.from_residual-in_err-table.ensures.1
-      (c.in_err-table.ensures before table (row_tells c.args.size before table entry tells c.in_ok-row.row parts));
-}
+pub returns-in_err-table-clause-tells : goal.returns-in_err-table-clause-tells
+returns-in_err-table-clause-tells c = λ before table entry same is tells.
+    let values = values_of c.args.size before table entry tells in
+    let read = sym (ok_is _ _ (c.in_ok-found.ensures.only values (record_is c.args.size before table entry tells c.args.payload.now is))) in
+    let parts = c.in_ok-row.ensures.tells tells.definition.name table.root tells.sql read tells.above tells.within in
+    added_none (before ++ table ∷ []) c.args.catalog.now c.from_residual-in_err-table.result c.in_err-table.field-0.0 c.from_residual-in_err-table.ensures.1
+    (c.in_err-table.ensures.tells before table (row_tells c.args.size before table entry tells c.in_ok-row.row parts))
 
-pub returns-in_err-is_new : goal.returns-in_err-is_new
-returns-in_err-is_new c = record {
-  tells = λ before table entry same is tells.
-      let values = values_of c.args.size before table entry tells in
-      let read = sym (ok_is _ _ (c.in_ok-found.ensures.only values (record_is c.args.size before table entry tells c.args.payload.now is))) in
-      let parts = c.in_ok-row.ensures tells.definition.name table.root tells.sql read tells.above tells.within in
-      let made = c.in_ok-table.ensures before table (row_tells c.args.size before table entry tells c.in_ok-row.row parts) in
-      err_not_ok _ _ (c.in_err-is_new.ensures (is_free c.args.size before table entry tells c.in_ok-table.table _ made same));
-}
+pub returns-in_err-is_new-clause-tells : goal.returns-in_err-is_new-clause-tells
+returns-in_err-is_new-clause-tells c = λ before table entry same is tells.
+    let values = values_of c.args.size before table entry tells in
+    let read = sym (ok_is _ _ (c.in_ok-found.ensures.only values (record_is c.args.size before table entry tells c.args.payload.now is))) in
+    let parts = c.in_ok-row.ensures.tells tells.definition.name table.root tells.sql read tells.above tells.within in
+    let made = c.in_ok-table.ensures.tells before table (row_tells c.args.size before table entry tells c.in_ok-row.row parts) in
+    err_not_ok _ _ (c.in_err-is_new.ensures.tells (is_free c.args.size before table entry tells c.in_ok-table.table _ made same))
 
-pub returns : goal.returns
-returns c = record {
-  tells = λ before table entry same is tells.
-      let values = values_of c.args.size before table entry tells in
-      let read = sym (ok_is _ _ (c.in_ok-found.ensures.only values (record_is c.args.size before table entry tells c.args.payload.now is))) in
-      let parts = c.in_ok-row.ensures tells.definition.name table.root tells.sql read tells.above tells.within in
-      let made = c.in_ok-table.ensures before table (row_tells c.args.size before table entry tells c.in_ok-row.row parts) in
-      row_added before table c.in_ok-table.table c.args.catalog.now c.add.new.self c.add.result same made c.add.ensures.added c.add.ensures.refused;
-}
+pub returns-clause-tells : goal.returns-clause-tells
+returns-clause-tells c = λ before table entry same is tells.
+    let values = values_of c.args.size before table entry tells in
+    let read = sym (ok_is _ _ (c.in_ok-found.ensures.only values (record_is c.args.size before table entry tells c.args.payload.now is))) in
+    let parts = c.in_ok-row.ensures.tells tells.definition.name table.root tells.sql read tells.above tells.within in
+    let made = c.in_ok-table.ensures.tells before table (row_tells c.args.size before table entry tells c.in_ok-row.row parts) in
+    row_added before table c.in_ok-table.table c.args.catalog.now c.add.new.self c.add.result same made c.add.ensures.added c.add.ensures.refused

@@ -7,18 +7,18 @@ use Rattle.engine.proofs.EmptyOpening.{err_not_ok, ok_is}
 use Rattle.engine.proofs.SchemaTables.{passed_on}
 use Rattle.engine.proofs.schema.definition_of.Goals as goal
 
-pub returns-in_err-statement : goal.returns-in_err-statement
-returns-in_err-statement c = λ definition creates.
+pub returns-in_err-statement-clause-tells : goal.returns-in_err-statement-clause-tells
+returns-in_err-statement-clause-tells c = λ definition creates.
     passed_on (λ found. found ≡ definition) c.from_residual.result c.in_err-statement.field-0.0 c.from_residual.ensures.1
-    (c.in_err-statement.ensures (parsed.Create (record { sql = creates.sql; object = new.Table definition })) creates.is creates.within creates.short)
+    (c.in_err-statement.ensures.tells (parsed.Create (record { sql = creates.sql; object = new.Table definition })) creates.is creates.within creates.short)
 
-pub returns-in_err-object : goal.returns-in_err-object
-returns-in_err-object c = λ definition creates.
+pub returns-in_err-object-clause-tells : goal.returns-in_err-object-clause-tells
+returns-in_err-object-clause-tells c = λ definition creates.
     let made : Create = record { sql = creates.sql; object = new.Table definition } in
-    err_not_ok _ _ (c.in_err-object.ensures made (c.in_ok-statement.ensures (parsed.Create made) creates.is creates.within creates.short))
+    err_not_ok _ _ (c.in_err-object.ensures.tells made (c.in_ok-statement.ensures.tells (parsed.Create made) creates.is creates.within creates.short))
 
-pub returns : goal.returns
-returns c = λ definition creates.
+pub returns-clause-tells : goal.returns-clause-tells
+returns-clause-tells c = λ definition creates.
     let made : Create = record { sql = creates.sql; object = new.Table definition } in
-    let object = ok_is _ _ (c.in_ok-object.ensures made (c.in_ok-statement.ensures (parsed.Create made) creates.is creates.within creates.short)) in
-    subst (IsOrMemory (λ found. found ≡ definition)) (sym (c.table_in.ensures definition object)) refl
+    let object = ok_is _ _ (c.in_ok-object.ensures.tells made (c.in_ok-statement.ensures.tells (parsed.Create made) creates.is creates.within creates.short)) in
+    subst (IsOrMemory (λ found. found ≡ definition)) (sym (c.table_in.ensures.tells definition object)) refl

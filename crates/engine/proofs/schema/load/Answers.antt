@@ -4,23 +4,17 @@ use Rattle.engine.proofs.EmptyOpening.{ok_is}
 use Rattle.engine.proofs.SchemaTables.{loaded_none, refused_alone}
 use Rattle.engine.proofs.schema.load.Goals as goal
 
-pub returns-in_err-leaf : goal.returns-in_err-leaf
-returns-in_err-leaf c = record {
-  listed = λ tables rows lone tell.
-      loaded_none tables c.from_residual.result c.in_err-leaf.field-0.0 c.from_residual.ensures.1 (refused_alone c.in_err-leaf.field-0.0 rows (c.in_err-leaf.ensures.only rows lone));
-}
+pub returns-in_err-leaf-clause-listed : goal.returns-in_err-leaf-clause-listed
+returns-in_err-leaf-clause-listed c = λ tables rows lone tell.
+    loaded_none tables c.from_residual.result c.in_err-leaf.field-0.0 c.from_residual.ensures.1 (refused_alone c.in_err-leaf.field-0.0 rows (c.in_err-leaf.ensures.only rows lone))
 
-pub returns-in_err-catalog : goal.returns-in_err-catalog
-returns-in_err-catalog c = record {
-  listed = λ tables rows lone tell.
-      loaded_none tables c.from_residual-in_err-catalog.result c.in_err-catalog.field-0.0 c.from_residual-in_err-catalog.ensures.1
-      (c.in_err-catalog.ensures tables (subst (AreRowsOf c.args.size [] tables) (ok_is _ _ (c.in_ok-leaf.ensures.only rows lone)) tell));
-}
+pub returns-in_err-catalog-clause-listed : goal.returns-in_err-catalog-clause-listed
+returns-in_err-catalog-clause-listed c = λ tables rows lone tell.
+    loaded_none tables c.from_residual-in_err-catalog.result c.in_err-catalog.field-0.0 c.from_residual-in_err-catalog.ensures.1
+    (c.in_err-catalog.ensures.tells tables (subst (AreRowsOf c.args.size [] tables) (ok_is _ _ (c.in_ok-leaf.ensures.only rows lone)) tell))
 
-pub returns : goal.returns
-returns c = record {
-  listed = λ tables rows lone tell. (
-    subst (AreSameTables tables) (sym c.keep.ensures.tables) (c.in_ok-catalog.ensures tables (subst (AreRowsOf c.args.size [] tables) (ok_is _ _ (c.in_ok-leaf.ensures.only rows lone)) tell)),
-    c.keep.ensures.committed ∙ ap length (sym c.keep.ensures.tables),
-  );
-}
+pub returns-clause-listed : goal.returns-clause-listed
+returns-clause-listed c = λ tables rows lone tell. (
+  subst (AreSameTables tables) (sym c.keep.ensures.tables) (c.in_ok-catalog.ensures.tells tables (subst (AreRowsOf c.args.size [] tables) (ok_is _ _ (c.in_ok-leaf.ensures.only rows lone)) tell)),
+  c.keep.ensures.committed ∙ ap length (sym c.keep.ensures.tables),
+)
