@@ -1,5 +1,5 @@
 -- Worked examples of what is refused when names are looked up.
-use Rattle.std.specs.Prelude.{◌≡◌, refl, pos, Ok, Err, codes, None, Some, List, [], ◌∷◌, length}
+use Rattle.std.specs.Prelude.{◌≡◌, refl, true, false, pos, Ok, Err, codes, None, Some, List, [], ◌∷◌, length}
 use Rattle.sqlval.specs.Conversion.{word}
 use Rattle.sqlval.specs.Refusals.{NoSuch, Misuse, Ambiguous, Exists}
 use Rattle.sqlval.specs.declared.collation.Collation.{Collation}
@@ -7,20 +7,22 @@ use Rattle.sqlval.specs.declared.value.Value.{Value}
 use Rattle.syntax.specs.Tree.{Tree, Call, CallAll, Paren, Binary, Collate, Raise, End, More}
 use Rattle.syntax.specs.declared.create.ColumnRule.TheVariants as column
 use Rattle.syntax.specs.declared.create.TableRule.TheVariants as rule
+use Rattle.syntax.specs.declared.create.TriggerDefinition.{TriggerDefinition}
 use Rattle.syntax.specs.declared.create.TriggerEvent.TheVariants.{Update}
-use Rattle.syntax.specs.declared.create.TriggerTime.TheVariants.{After}
+use Rattle.syntax.specs.declared.create.TriggerTime.{TriggerTime}
+use Rattle.syntax.specs.declared.create.TriggerTime.TheVariants.{After, InsteadOf}
 use Rattle.syntax.specs.declared.expr.Operator.TheVariants as op
 use Rattle.syntax.specs.declared.expr.RaiseAction.TheVariants.{Abort}
 use Rattle.syntax.specs.declared.query.JoinKind.TheVariants.{Inner}
 use Rattle.syntax.specs.declared.query.ResultItem.TheVariants.{All, AllOf}
 use Rattle.catalog.specs.Database.{Name, Database, AView, with_object}
-use Rattle.bind.specs.Known.{faults}
+use Rattle.bind.specs.Checked.{faults}
 use Rattle.bind.specs.Queries.{resolve_query}
-use Rattle.bind.specs.Schema.{create_table, create_trigger}
+use Rattle.bind.specs.Schema.{create_index, create_table, create_trigger}
 use Rattle.bind.specs.Terms.{CountAll}
 use Rattle.bind.specs.Values.{aggregated}
 use Rattle.bind.specs.Views.{answer, look_up}
-use Rattle.bind.proofs.Written.{number, named, named_of, from, joined, select, result, rising, col, table, int, column_with, table_with}
+use Rattle.bind.proofs.Written.{number, named, named_of, from, from_as, joined, select, result, rising, col, table, int, column_with, table_with}
 
 abbrev a : Name
 a = codes "a"
@@ -129,3 +131,40 @@ missing_table = refl
 -- a name that is in two known sources is ambiguous beside an unknown one, and a name that is in none isn't refused
 pub beside_unknown : faults (resolve_query (look_up two) [] (select (result (named a) ∷ result (named b) ∷ []) (from t ∷ from u ∷ from no ∷ []))) ≡ NoSuch ∷ Ambiguous ∷ []
 beside_unknown = refl
+
+-- SELECT nosuch(*): there is no such function, and `*` stands in count alone
+pub star_of_no_function : faults (resolve_query (look_up two) [] (select (result (CallAll no) ∷ []) [])) ≡ Misuse ∷ NoSuch ∷ []
+star_of_no_function = refl
+
+-- ---- rowid is no column of a definition
+
+abbrev rowid : Name
+rowid = codes "rowid"
+
+-- CREATE INDEX i ON t(rowid)
+pub index_on_rowid : faults (create_index two (record { is_unique = false; name = codes "i"; table = t; columns = record { name = rowid; collation = None } ∷ [] })) ≡ NoSuch ∷ []
+index_on_rowid = refl
+
+-- CREATE TABLE s(a, PRIMARY KEY(rowid))
+pub key_on_rowid : faults (create_table two (table_with (codes "s") (column_with a [] [] ∷ []) (rule.PrimaryKey (rowid ∷ []) ∷ []))) ≡ NoSuch ∷ []
+key_on_rowid = refl
+
+-- SELECT rowid FROM v
+pub rowid_of_view : faults (resolve_query (look_up (view_of (named a))) [] (select (result (named rowid) ∷ []) (from v ∷ []))) ≡ NoSuch ∷ []
+rowid_of_view = refl
+
+-- CREATE TRIGGER g AFTER UPDATE OF rowid ON t, and INSTEAD OF UPDATE OF rowid ON v, whose list isn't looked up
+abbrev of_rowid : TriggerTime → Name → TriggerDefinition
+of_rowid time n = record { name = codes "g"; time = time; event = Update (Some (rowid ∷ [])); target = n; condition = None; body = [] }
+
+pub update_of_rowid : faults (create_trigger two (of_rowid After t)) ≡ NoSuch ∷ []
+update_of_rowid = refl
+
+pub update_of_rowid_of_view : faults (create_trigger (view_of (named a)) (of_rowid InsteadOf v)) ≡ []
+update_of_rowid_of_view = refl
+
+-- ---- NEW and OLD beside a source of their name
+
+-- SELECT NEW.x FROM u AS new in the program of a view that is refused: u has no column x
+pub hidden_new_is_known : faults (resolve_query (look_up two) (record { name = codes "new"; columns = []; has_rowid = false; needs_name = true; is_known = false } ∷ []) (select (result (named_of (codes "NEW") (codes "x")) ∷ []) (from_as u (codes "new") ∷ []))) ≡ NoSuch ∷ []
+hidden_new_is_known = refl

@@ -18,7 +18,7 @@ use Rattle.catalog.specs.Listed.{is_column, plain_column, place_named}
 use Rattle.catalog.specs.declared.tables.Column.{Column}
 use Rattle.catalog.specs.declared.tables.Table.{Table}
 use Rattle.bind.specs.Bound.{IsTheOne, Means, IsFaultOf, is_twice_named, source_seen}
-use Rattle.bind.specs.Known.{Known, faults, the_one}
+use Rattle.bind.specs.Checked.{Checked, faults, the_one}
 use Rattle.bind.specs.Scopes.{ScopeColumn, named_from, named_in, fits, resolve_column, table_scope}
 use Rattle.bind.specs.Terms.{Term, Const, Cell, At, RowId}
 use Rattle.bind.specs.declared.queries.Output.{Output}
@@ -131,7 +131,7 @@ module _ (n as_name : List ℕ) (t : Table) (once : is_twice_named t.columns.ite
   pub none_shown : place_named n t.columns.items ≡ None → is_same_name n (codes "rowid") ≡ false → named_in 0 n (source_seen as_name t) ≡ []
   none_shown h r = ap (or_rowid n) (none h) ∙ ap (λ b. cond b (Cell 0 RowId (Some kind.Integer) Binary ∷ []) []) r
 
-  abbrev among : Bool → List Term → Known Term
+  abbrev among : Bool → List Term → Checked Term
   among b ts = the_one ((b && false) || false) (Const Null) ((if b then ts else []) ++ [])
 
   -- the source is meant, and the name has a meaning there

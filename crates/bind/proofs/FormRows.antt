@@ -1,8 +1,8 @@
 -- Worked examples of well-formed databases, of limits, and of calm conditions.
-use Rattle.std.specs.Prelude.{◌≡◌, refl, ℕ, zero, suc, true, false, codes, Some, List, [], ◌∷◌}
+use Rattle.std.specs.Prelude.{◌≡◌, ◌==◌, refl, ℕ, zero, suc, true, false, codes, Some, List, [], ◌∷◌}
 use Rattle.std.specs.Fmt.{digits}
 use Rattle.std.proofs.Common.{inl, arith}
-use Rattle.sqlval.specs.Affinity.{is_number, behind_digits, ends_number, ends_exponent}
+use Rattle.sqlval.specs.Affinity.{is_number, rest_after_digits, ends_number, ends_exponent}
 use Rattle.sqlval.specs.declared.affinity.Affinity.{Affinity}
 use Rattle.sqlval.specs.declared.affinity.Affinity.TheVariants as kind
 use Rattle.sqlval.specs.declared.collation.Collation.TheVariants.{Binary}
@@ -14,7 +14,7 @@ use Rattle.syntax.specs.declared.create.NewObject.TheVariants as new
 use Rattle.syntax.specs.declared.create.TableRule.TheVariants as rule
 use Rattle.catalog.specs.Database.{Name, Database}
 use Rattle.bind.specs.Calm.{is_calm, is_search}
-use Rattle.bind.specs.Known.{meant}
+use Rattle.bind.specs.Checked.{meant}
 use Rattle.bind.specs.Limits.{within_object, within_query}
 use Rattle.bind.specs.Schema.{create_table}
 use Rattle.bind.specs.Terms.{Term, Const, Digits, Cell, At, RowId, One, Two, Compare, Less, Greater, Equal, And, Negated}
@@ -91,7 +91,7 @@ pub calm_text : is_calm (Two (Compare Equal) (cell kind.Integer) (Const (Text (c
 calm_text = refl
 
 pub not_calm_text : is_calm (Two (Compare Equal) (cell kind.Integer) (Const (Text (codes "1.5")))) ≡ false
-unfolding is_number behind_digits ends_number ends_exponent
+unfolding is_number rest_after_digits ends_number ends_exponent
 not_calm_text = refl
 
 -- an INTEGER column beside a TEXT column; -1; a column as a truth value
@@ -108,8 +108,26 @@ not_calm_truth = refl
 abbrev by_rowid : Term
 by_rowid = Two (Compare Equal) (Cell 0 RowId (Some kind.Integer) Binary) (Digits 5)
 
-pub search : is_search (λ k. false) (Two And by_rowid (Two (Compare Less) (cell kind.Blob) (Digits 1))) ≡ true
+pub search : is_search 0 (λ k. false) (Two And by_rowid (Two (Compare Less) (cell kind.Blob) (Digits 1))) ≡ true
 search = refl
 
-pub no_search : is_search (λ k. false) (Two And by_rowid (Two (Compare Greater) (cell kind.Blob) (One Negated (Digits 1)))) ≡ false
+pub no_search : is_search 0 (λ k. false) (Two And by_rowid (Two (Compare Greater) (cell kind.Blob) (One Negated (Digits 1)))) ≡ false
 no_search = refl
+
+-- c = 5 is a search where an index begins with c
+pub search_by_index : is_search 0 (λ k. k == 0) (Two (Compare Equal) (cell kind.Blob) (Digits 5)) ≡ true
+search_by_index = refl
+
+pub no_index : is_search 0 (λ k. false) (Two (Compare Equal) (cell kind.Blob) (Digits 5)) ≡ false
+no_index = refl
+
+-- in a trigger's program: SELECT a FROM t WHERE OLD.rowid = 1, and WHERE NEW.a = 5 beside an index on a, read all of t
+pub no_search_by_old : is_search 1 (λ k. true) (Two (Compare Equal) (Cell 0 RowId (Some kind.Integer) Binary) (Digits 1)) ≡ false
+no_search_by_old = refl
+
+pub no_search_by_new : is_search 1 (λ k. true) (Two (Compare Equal) (cell kind.Blob) (Digits 5)) ≡ false
+no_search_by_new = refl
+
+-- SELECT a FROM t WHERE rowid = 1 there is a search
+pub search_beside_old : is_search 1 (λ k. false) (Two (Compare Equal) (Cell 1 RowId (Some kind.Integer) Binary) (Digits 1)) ≡ true
+search_beside_old = refl

@@ -12,7 +12,7 @@ use Rattle.sqlval.specs.Names.{is_same_name}
 use Rattle.sqlval.specs.Refusals.{Refusal, refusal_of, Answer, ◌then◌, all_answers, RealRefused, NoSuch}
 use Rattle.sqlval.specs.declared.fault.Fault.{Fault}
 use Rattle.sqlval.specs.declared.fault.Fault.TheVariants as fault
-use Rattle.sqlval.specs.declared.fault.Feature.TheVariants.{NotBuilt}
+use Rattle.sqlval.specs.declared.fault.Feature.TheVariants.{StatementForm}
 use Rattle.sqlval.specs.declared.value.Value.{Value}
 use Rattle.syntax.specs.Tree.{Tree}
 use Rattle.syntax.specs.declared.change.Insert.{Insert}
@@ -23,7 +23,7 @@ use Rattle.catalog.specs.declared.tables.Table.{Table}
 use Rattle.bind.specs.Bound.{AreGiven, EachOf, IsValueOf, count_wanted, is_literal}
 use Rattle.bind.specs.Expressions.{resolve}
 use Rattle.bind.specs.Inserts.{AreColumns, IsInsertFault, IsListRefusal, IsRowsFault, has_unknown, places_in, written_values}
-use Rattle.bind.specs.Known.{meant}
+use Rattle.bind.specs.Checked.{meant}
 use Rattle.bind.specs.Readings.{env_of}
 use Rattle.bind.specs.Scopes.{ScopeSource}
 use Rattle.bind.specs.Values.{Environment, value}
@@ -98,10 +98,10 @@ module _ {A B C : Type 0} (P : A → B → Type 0) (f : B → Answer C) (g : A �
       ∙ ap (λ a. a then λ zs. Ok (g x ∷ zs)) (refused_at xs zs i y r (omega (arith, lt)) e h.1 k)
 
   abbrev IsRefused : (B → Bool) → B → Fault → Type 0
-  IsRefused lit y w = (w ≡ fault.Memory) ⊎ (w ≡ fault.Unsupported NotBuilt) × (lit y ≡ false) ⊎ (w ≡ fault.RealRefused) × (f y ≡ Err RealRefused)
+  IsRefused lit y w = (w ≡ fault.Memory) ⊎ (w ≡ fault.Unsupported StatementForm) × (lit y ≡ false) ⊎ (w ≡ fault.RealRefused) × (f y ≡ Err RealRefused)
 
   abbrev AreRefused : (B → Bool) → List B → Fault → Type 0
-  AreRefused lit ys w = (w ≡ fault.Memory) ⊎ (w ≡ fault.Unsupported NotBuilt) × (list_all lit ys ≡ false) ⊎ (w ≡ fault.RealRefused) × (all_answers (map f ys) ≡ Err RealRefused)
+  AreRefused lit ys w = (w ≡ fault.Memory) ⊎ (w ≡ fault.Unsupported StatementForm) × (list_all lit ys ≡ false) ⊎ (w ≡ fault.RealRefused) × (all_answers (map f ys) ≡ Err RealRefused)
 
   -- the refusal of one is that of all
   pub refused_by : (lit : B → Bool) (xs : List A) (ys : List B) (i : ℕ) (y : B) (w : Fault) → i < length ys → y ≡ get_or ys i y → EachOf P xs (take i ys) → IsRefused lit y w → AreRefused lit ys w
@@ -130,23 +130,23 @@ pub row_given : (vs : List Value) (es : List Tree) → EachOf IsValueOf vs es �
 row_given vs es h = at_once es ∙ (all_given IsValueOf one_value (λ v. v) value_of_one vs es h ∙ ap Ok (same_items vs))
 
 abbrev pub IsRowFault : List Tree → Fault → Type 0
-IsRowFault es w = (w ≡ fault.Memory) ⊎ (w ≡ fault.Unsupported NotBuilt) × (list_all is_literal es ≡ false) ⊎ (w ≡ fault.RealRefused) × (written_values es ≡ Err RealRefused)
+IsRowFault es w = (w ≡ fault.Memory) ⊎ (w ≡ fault.Unsupported StatementForm) × (list_all is_literal es ≡ false) ⊎ (w ≡ fault.RealRefused) × (written_values es ≡ Err RealRefused)
 
 abbrev pub AreRowsFault : List (List Tree) → Fault → Type 0
-AreRowsFault rows w = (w ≡ fault.Memory) ⊎ (w ≡ fault.Unsupported NotBuilt) × (list_all (list_all is_literal) rows ≡ false) ⊎ (w ≡ fault.RealRefused) × (all_answers (map written_values rows) ≡ Err RealRefused)
+AreRowsFault rows w = (w ≡ fault.Memory) ⊎ (w ≡ fault.Unsupported StatementForm) × (list_all (list_all is_literal) rows ≡ false) ⊎ (w ≡ fault.RealRefused) × (all_answers (map written_values rows) ≡ Err RealRefused)
 
 one_refused : (e : Tree) (w : Fault)
-    → (w ≡ fault.Memory) ⊎ (w ≡ fault.Unsupported NotBuilt) × (is_literal e ≡ false) ⊎ (w ≡ fault.RealRefused) × ((totals : Bool) (scope : List ScopeSource) (env : Environment) → value (meant (resolve totals scope e)) env ≡ Err RealRefused)
-    → (w ≡ fault.Memory) ⊎ (w ≡ fault.Unsupported NotBuilt) × (is_literal e ≡ false) ⊎ (w ≡ fault.RealRefused) × (one_value e ≡ Err RealRefused)
+    → (w ≡ fault.Memory) ⊎ (w ≡ fault.Unsupported StatementForm) × (is_literal e ≡ false) ⊎ (w ≡ fault.RealRefused) × ((totals : Bool) (scope : List ScopeSource) (env : Environment) → value (meant (resolve totals scope e)) env ≡ Err RealRefused)
+    → (w ≡ fault.Memory) ⊎ (w ≡ fault.Unsupported StatementForm) × (is_literal e ≡ false) ⊎ (w ≡ fault.RealRefused) × (one_value e ≡ Err RealRefused)
 one_refused e w (inl h) = inl h
 one_refused e w (inr (inl h)) = inr (inl h)
 one_refused e w (inr (inr h)) = inr (inr (h.0, h.1 false [] (env_of [])))
 
 -- one of a row's values is refused
 pub row_refused : (vs : List Value) (es : List Tree) (i : ℕ) (e : Tree) (w : Fault) → i < length es → e ≡ get_or es i e → EachOf IsValueOf vs (take i es)
-    → (w ≡ fault.Memory) ⊎ (w ≡ fault.Unsupported NotBuilt) × (is_literal e ≡ false) ⊎ (w ≡ fault.RealRefused) × ((totals : Bool) (scope : List ScopeSource) (env : Environment) → value (meant (resolve totals scope e)) env ≡ Err RealRefused) → IsRowFault es w
+    → (w ≡ fault.Memory) ⊎ (w ≡ fault.Unsupported StatementForm) × (is_literal e ≡ false) ⊎ (w ≡ fault.RealRefused) × ((totals : Bool) (scope : List ScopeSource) (env : Environment) → value (meant (resolve totals scope e)) env ≡ Err RealRefused) → IsRowFault es w
 row_refused vs es i e w lt is h why =
-    subst (λ a. (w ≡ fault.Memory) ⊎ (w ≡ fault.Unsupported NotBuilt) × (list_all is_literal es ≡ false) ⊎ (w ≡ fault.RealRefused) × (a ≡ Err RealRefused)) (sym (at_once es))
+    subst (λ a. (w ≡ fault.Memory) ⊎ (w ≡ fault.Unsupported StatementForm) × (list_all is_literal es ≡ false) ⊎ (w ≡ fault.RealRefused) × (a ≡ Err RealRefused)) (sym (at_once es))
     (refused_by IsValueOf one_value (λ v. v) value_of_one is_literal vs es i e w lt is h (one_refused e w why))
 
 abbrev IsRow : Vec Value Global → List Tree → Type 0

@@ -11,7 +11,8 @@ pub mod PlainFlows
 pub mod PlainReading
 mod QueryRows
 pub mod ResultItems
-pub mod ServedRefusals
+mod ResultRows
+pub mod SupportedRefusals
 mod ViewRows
 pub mod Written
 mod Plain

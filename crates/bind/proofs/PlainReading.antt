@@ -14,7 +14,7 @@ use Rattle.catalog.specs.Database.{Name}
 use Rattle.catalog.specs.declared.tables.Table.{Table}
 use Rattle.bind.specs.Bound.{AreOnce, AreShown, GivesEach, HasOneSource, IsBound, IsOnce, IsPlain, IsQueryFault, IsScope, IsSource, Knows, ShowsAll, columns_seen, looked_up, source_seen, sources_seen, terms_of}
 use Rattle.bind.specs.Grouping.{has, has_total, is_own_cell, keyed}
-use Rattle.bind.specs.Known.{Known, Meant, good, meant, faults, also, ◌and_then◌, unless}
+use Rattle.bind.specs.Checked.{Checked, Meant, good, meant, faults, also, ◌and_then◌, unless}
 use Rattle.bind.specs.Queries.{Lookup, as_reading, is_open_item, resolve_items}
 use Rattle.bind.specs.Readings.{Reading, Condition, Always}
 use Rattle.bind.specs.Scopes.{ScopeColumn}
@@ -54,7 +54,7 @@ few : (n : ℕ) → n ≤ 64 → nat_lt 64 n ≡ false
 few n h = grind (arith, nat_tests)
 
 module _ (outputs : List Output) (small : length outputs ≤ 64) where
-  abbrev reading : Bool → Bool → Bool → List (Name × Condition) → List (Term × ScopeColumn) → Known Reading
+  abbrev reading : Bool → Bool → Bool → List (Name × Condition) → List (Term × ScopeColumn) → Checked Reading
   reading g long open_item sources results =
       unless (g && list_any (λ t. has false (is_own_cell 0) (if g then keyed [] t else t)) (map (λ r. r.0) results ++ [])) Misuse
       (unless false Misuse
@@ -73,10 +73,10 @@ module _ (outputs : List Output) (small : length outputs ≤ 64) where
         offset = 0;
       })))))
 
-  abbrev IsGood : List (Name × Condition) → Known Reading → Type 0
+  abbrev IsGood : List (Name × Condition) → Checked Reading → Type 0
   IsGood sources k = (faults k ≡ []) × GivesEach sources outputs (meant k)
 
-  read : (items : List ResultItem) (from : Option FromClause) (open_item : Bool) (sources : List (Name × Condition)) (k : Known (List (Term × ScopeColumn))) → AreShown outputs k
+  read : (items : List ResultItem) (from : Option FromClause) (open_item : Bool) (sources : List (Name × Condition)) (k : Checked (List (Term × ScopeColumn))) → AreShown outputs k
       → IsGood sources (k and_then λ results. as_reading 0 (plain items from) open_item sources None [] results [])
   read items from open_item sources (Meant results rs) h =
       subst (λ fs. IsGood sources (also fs (as_reading 0 (plain items from) open_item sources None [] results []))) (sym h.0)
@@ -84,10 +84,10 @@ module _ (outputs : List Output) (small : length outputs ≤ 64) where
       (subst (λ b. IsGood sources (also [] (reading false b open_item sources results))) (sym (few (length results) (omega (arith, small, as_many outputs (map (λ r. r.0) results) h.1, count_kept results))))
       (refl, record { reads = refl; unfiltered = refl; ungrouped = refl; unordered = refl; repeats = refl; unlimited = refl; shows = h.1 })))
 
-  unmoved : (sources : List (Name × Condition)) (k : Known Reading) → IsGood sources k → IsGood sources (also [] (also [] (also [] k)))
+  unmoved : (sources : List (Name × Condition)) (k : Checked Reading) → IsGood sources k → IsGood sources (also [] (also [] (also [] k)))
   unmoved sources (Meant r rs) h = h
 
-  one_source : (s : Source) (items : List ResultItem) (t : Table) (k : Known (List ScopeColumn × Bool)) → k ≡ good (columns_seen t) → AreShown outputs (resolve_items (source_seen (unwrap_or s.alias s.name) t ∷ []) items)
+  one_source : (s : Source) (items : List ResultItem) (t : Table) (k : Checked (List ScopeColumn × Bool)) → k ≡ good (columns_seen t) → AreShown outputs (resolve_items (source_seen (unwrap_or s.alias s.name) t ∷ []) items)
       → IsBound (λ n. k) (plain items (Some (record { first = s; joins = [] }))) outputs
   one_source s items t k e shown =
       subst (λ k. IsBound (λ n. k) (plain items (Some (record { first = s; joins = [] }))) outputs) (sym e)

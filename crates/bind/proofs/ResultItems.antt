@@ -8,7 +8,7 @@ use Rattle.sqlval.specs.Names.{folded, is_same_name}
 use Rattle.sqlval.specs.Refusals.{refusal_of, Misuse, NoSuch}
 use Rattle.sqlval.specs.declared.fault.Fault.{Fault}
 use Rattle.sqlval.specs.declared.fault.Fault.TheVariants.{Memory, Unsupported}
-use Rattle.sqlval.specs.declared.fault.Feature.TheVariants.{NotBuilt}
+use Rattle.sqlval.specs.declared.fault.Feature.TheVariants.{StatementForm}
 use Rattle.syntax.specs.Tree.{Tree}
 use Rattle.catalog.specs.Listed.{plain_column}
 use Rattle.catalog.specs.declared.tables.Column.{Column}
@@ -16,8 +16,8 @@ use Rattle.catalog.specs.declared.tables.Table.{Table}
 use Rattle.syntax.specs.declared.query.ResultItem.{ResultItem}
 use Rattle.syntax.specs.declared.query.ResultItem.TheVariants as item_of
 use Rattle.syntax.specs.declared.query.ResultItem.TheVariants.{AllOf}
-use Rattle.bind.specs.Bound.{IsFaultOf, IsOf, IsValueFault, Means, is_column, is_literal, ShowsAll, AreShown, IsShownBehind, columns_from, source_seen}
-use Rattle.bind.specs.Known.{Known, Meant, good, known_map, both, unless, faults}
+use Rattle.bind.specs.Bound.{IsFaultOf, IsOf, IsValueFault, Means, is_column, is_literal, ShowsAll, AreShown, IsShownAfter, columns_from, source_seen}
+use Rattle.bind.specs.Checked.{Checked, Meant, good, known_map, both, unless, faults}
 use Rattle.bind.specs.Queries.{cells_from, resolve_item, resolve_items, result_column}
 use Rattle.bind.specs.Scopes.{ScopeColumn, ScopeSource, table_scope}
 use Rattle.bind.specs.Terms.{Term}
@@ -73,15 +73,15 @@ module _ (before after : List Output) (name : List ℕ) (t : Table) (pushed : af
   shown ts h = subst (λ os. ShowsAll os (ts ++ map (λ r. r.0) (cells_from 0 0 (seen t.columns.items) ++ []))) (sym pushed)
       (shows_append before (columns_from 0 t.columns.items) ts _ h (subst (ShowsAll (columns_from 0 t.columns.items)) (sym (stars t.columns.items)) (columns_show 0 t.columns.items)))
 
-  pub all_shown : IsShownBehind before after (resolve_item (source_seen name t ∷ []) item_of.All)
+  pub all_shown : IsShownAfter before after (resolve_item (source_seen name t ∷ []) item_of.All)
   all_shown = (refl, shown)
 
-  abbrev item : List ℕ → Bool → Bool → Known (List (Term × ScopeColumn))
+  abbrev item : List ℕ → Bool → Bool → Checked (List (Term × ScopeColumn))
   item q own same = unless false Misuse (unless (not (own || false)) NoSuch (good ((if same && true then cells_from 0 0 (seen t.columns.items) else []) ++ [])))
 
   -- the query's table by its name
-  pub named_shown : (q : List ℕ) → is_same_name q name ≡ true → IsShownBehind before after (resolve_item (source_seen name t ∷ []) (AllOf q))
-  named_shown q h = subst (IsShownBehind before after)
+  pub named_shown : (q : List ℕ) → is_same_name q name ≡ true → IsShownAfter before after (resolve_item (source_seen name t ∷ []) (AllOf q))
+  named_shown q h = subst (IsShownAfter before after)
       (sym (ap (λ b. item q b (is_same_name (folded q) (folded name))) (same_folded q name ∙ h)
       ∙ ap (item q true) (same_folded (folded q) name ∙ (ap (λ x. bytes_eq x (folded name)) (folded_twice q) ∙ h))))
       (refl, shown)
@@ -103,11 +103,11 @@ on_ok (Err e) P Q f h = h
 -- ---- values
 
 -- one more output
-pub value_shown : (before : List Output) (o : Output) (e : Tree) (as_name : Option (List ℕ)) (k : Known Term) → Means o k → IsShownBehind before (before ++ o ∷ []) (known_map (λ t. result_column e as_name t ∷ []) k)
+pub value_shown : (before : List Output) (o : Output) (e : Tree) (as_name : Option (List ℕ)) (k : Checked Term) → Means o k → IsShownAfter before (before ++ o ∷ []) (known_map (λ t. result_column e as_name t ∷ []) k)
 value_shown before o e as_name (Meant t rs) h = (h.0, λ ts s. shows_append before (o ∷ []) ts (t ∷ []) s (h.1, tt))
 
 -- what is no column and no literal
-pub no_value : (s : List ScopeSource) (e : Tree) (f : Fault) → is_column e ≡ false → (f ≡ Memory) ⊎ (f ≡ Unsupported NotBuilt) × (is_literal e ≡ false) → IsValueFault s e f
+pub no_value : (s : List ScopeSource) (e : Tree) (f : Fault) → is_column e ≡ false → (f ≡ Memory) ⊎ (f ≡ Unsupported StatementForm) × (is_literal e ≡ false) → IsValueFault s e f
 no_value s e f h (inl m) = inl (inl m)
 no_value s e f h (inr (u, l)) = inr (u, λ i. h i || l i)
 
@@ -116,25 +116,25 @@ no_value s e f h (inr (u, l)) = inr (u, λ i. h i || l i)
 abbrev Results : Type 0
 Results = List (Term × ScopeColumn)
 
-abbrev behind : Known Results → Known Results → Known Results
+abbrev behind : Checked Results → Checked Results → Checked Results
 behind = both (λ x y. x ++ y)
 
-behind_behind : (k l m : Known Results) → behind k (behind l m) ≡ behind (behind k l) m
+behind_behind : (k l m : Checked Results) → behind k (behind l m) ≡ behind (behind k l) m
 behind_behind (Meant x rs) (Meant y ss) (Meant z us) = ap (λ v. Meant v (rs ++ (ss ++ us))) (sym (append_assoc x y z)) ∙ ap (λ v. Meant ((x ++ y) ++ z) v) (sym (append_assoc rs ss us))
 
-behind_none : (k : Known Results) → behind k (good []) ≡ behind (good []) k
+behind_none : (k : Checked Results) → behind k (good []) ≡ behind (good []) k
 behind_none (Meant x rs) = ap (λ v. Meant v (rs ++ [])) (append-nil x) ∙ ap (λ v. Meant x v) (append-nil rs)
 
 items_push : (s : List ScopeSource) (is : List ResultItem) (i : ResultItem) → resolve_items s (is ++ i ∷ []) ≡ behind (resolve_items s is) (resolve_item s i)
 items_push s [] i = behind_none (resolve_item s i)
 items_push s (j ∷ is) i = ap (behind (resolve_item s j)) (items_push s is i) ∙ behind_behind (resolve_item s j) (resolve_items s is) (resolve_item s i)
 
-joined : (before after : List Output) (k l : Known Results) → AreShown before k → IsShownBehind before after l → AreShown after (behind k l)
+joined : (before after : List Output) (k l : Checked Results) → AreShown before k → IsShownAfter before after l → AreShown after (behind k l)
 joined before after (Meant x rs) (Meant y ss) h m = (ap (λ z. z ++ ss) h.0 ∙ m.0, subst (ShowsAll after) (sym (map-append (λ r. r.0) x y)) (m.1 (map (λ r. r.0) x) h.1))
 
 -- one more result
 pub next_item : (s : List ScopeSource) (items : List ResultItem) (n : ℕ) (item : ResultItem) (before after : List Output) → n < length items → item ≡ get_or items n item
-    → AreShown before (resolve_items s (take n items)) → IsShownBehind before after (resolve_item s item) → AreShown after (resolve_items s (take (n + 1) items))
+    → AreShown before (resolve_items s (take n items)) → IsShownAfter before after (resolve_item s item) → AreShown after (resolve_items s (take (n + 1) items))
 next_item s items n item before after lt e h m =
     subst (AreShown after) (sym (ap (resolve_items s) (take_more items n item lt ∙ ap (λ x. take n items ++ x ∷ []) (sym e)) ∙ items_push s (take n items) item))
     (joined before after (resolve_items s (take n items)) (resolve_item s item) h m)

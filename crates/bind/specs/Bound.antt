@@ -7,7 +7,7 @@ use Rattle.sqlval.specs.Refusals.{Refusal, refusal_of, Answer, NoSuch, RealRefus
 use Rattle.sqlval.specs.declared.fault.Fault.{Fault}
 use Rattle.sqlval.specs.declared.fault.Fault.TheVariants.{Memory, Unsupported}
 use Rattle.sqlval.specs.declared.fault.Fault.TheVariants as fault
-use Rattle.sqlval.specs.declared.fault.Feature.TheVariants.{NotBuilt}
+use Rattle.sqlval.specs.declared.fault.Feature.TheVariants.{StatementForm}
 use Rattle.sqlval.specs.declared.value.Value.{Value}
 use Rattle.syntax.specs.Tree as tree
 use Rattle.syntax.specs.Tree.{Tree}
@@ -24,7 +24,7 @@ use Rattle.catalog.specs.declared.tables.Column.{Column}
 use Rattle.catalog.specs.declared.tables.Table.{Table}
 use Rattle.bind.specs.Expressions.{resolve}
 use Rattle.bind.specs.Grouping.{has_total}
-use Rattle.bind.specs.Known.{Known, good, bad, meant, faults}
+use Rattle.bind.specs.Checked.{Checked, good, bad, meant, faults}
 use Rattle.bind.specs.Queries.{Lookup, resolve_item, resolve_items, resolve_query}
 use Rattle.bind.specs.Readings.{Reading, Condition, Always}
 use Rattle.bind.specs.Scopes.{ScopeColumn, ScopeSource, source_of, table_scope}
@@ -42,7 +42,7 @@ abbrev pub columns_seen : Table → List ScopeColumn × Bool
 columns_seen t = (table_scope (plain_table t []), true)
 
 -- what a name stands for that this table has, or none
-abbrev pub looked_up : Option Table → Known (List ScopeColumn × Bool)
+abbrev pub looked_up : Option Table → Checked (List ScopeColumn × Bool)
 looked_up None = bad ([], false) NoSuch
 looked_up (Some t) = good (columns_seen t)
 
@@ -88,7 +88,7 @@ ShowsAll (o ∷ os) (t ∷ ts) = Shows o t × ShowsAll os ts
 ShowsAll _ _ = ⊥
 
 -- the text stands for a term that the output shows, and isn't refused
-abbrev pub Means : Output → Known Term → Type 0
+abbrev pub Means : Output → Checked Term → Type 0
 Means o k = (faults k ≡ []) × Shows o (meant k)
 
 -- the output shows the one term of the list; without it there is none
@@ -102,15 +102,15 @@ columns_from i [] = []
 columns_from i (c ∷ cs) = out.Column i ∷ columns_from (suc i) cs
 
 -- the terms of results
-abbrev pub terms_of : Known (List (Term × ScopeColumn)) → List Term
+abbrev pub terms_of : Checked (List (Term × ScopeColumn)) → List Term
 terms_of k = map (λ r. r.0) (meant k)
 
--- The result isn't refused, and the outputs behind those before show its terms.
-abbrev pub IsShownBehind : List Output → List Output → Known (List (Term × ScopeColumn)) → Type 0
-IsShownBehind before after k = (faults k ≡ []) × ((ts : List Term) → ShowsAll before ts → ShowsAll after (ts ++ terms_of k))
+-- The result isn't refused, and the outputs after those before show its terms.
+abbrev pub IsShownAfter : List Output → List Output → Checked (List (Term × ScopeColumn)) → Type 0
+IsShownAfter before after k = (faults k ≡ []) × ((ts : List Term) → ShowsAll before ts → ShowsAll after (ts ++ terms_of k))
 
 -- the results aren't refused, and the outputs show their terms
-abbrev pub AreShown : List Output → Known (List (Term × ScopeColumn)) → Type 0
+abbrev pub AreShown : List Output → Checked (List (Term × ScopeColumn)) → Type 0
 AreShown outputs k = (faults k ≡ []) × ShowsAll outputs (terms_of k)
 
 -- The output is of a row of so many values; where no row is read it is of none.
@@ -132,11 +132,11 @@ width_of (Some s) = Some s.width
 
 -- ---- refusals
 
--- one of these refusals, or the want of memory
+-- one of these refusals, or the lack of memory
 abbrev pub IsFaultOf : List Refusal → Fault → Type 0
 IsFaultOf rs f = (f ≡ Memory) ⊎ Contains rs (refusal_of f)
 
--- the answer, or its refusal or the want of memory
+-- the answer, or its refusal or the lack of memory
 abbrev pub Answers : {A : Type 0} → Answer A → Result A Fault → Type 0
 Answers answer (Ok x) = answer ≡ Ok x
 Answers answer (Err f) = (f ≡ Memory) ⊎ answer ≡ Err (refusal_of f)
@@ -159,7 +159,7 @@ is_column _ = false
 
 -- why a result is refused: as its text is, or since it is no column or literal
 abbrev pub IsValueFault : List ScopeSource → Tree → Fault → Type 0
-IsValueFault scope e f = IsFaultOf (faults (resolve true scope e)) f ⊎ (f ≡ Unsupported NotBuilt) × ((is_column e || is_literal e) ≡ false)
+IsValueFault scope e f = IsFaultOf (faults (resolve true scope e)) f ⊎ (f ≡ Unsupported StatementForm) × ((is_column e || is_literal e) ≡ false)
 
 -- why an item of the results is refused
 abbrev pub IsItemFault : List ScopeSource → Fault → ResultItem → Type 0
@@ -242,12 +242,12 @@ abbrev pub IsValueOf : Value → Tree → Type 0
 IsValueOf v e = Means (out.Literal v) (resolve false [] e)
 
 -- so many values, of the expressions of a row
-abbrev pub IsRowOf : ℕ → Vec Value Global → List Tree → Type 0
-IsRowOf n row es = (length es ≡ n) × EachOf IsValueOf row.items es
+abbrev pub AreValuesOf : ℕ → Vec Value Global → List Tree → Type 0
+AreValuesOf n row es = (length es ≡ n) × EachOf IsValueOf row.items es
 
 -- the rows of VALUES
 abbrev pub AreGiven : ℕ → List (Vec Value Global) → InsertSource → Type 0
-AreGiven n rows (given.Rows written) = EachOf (IsRowOf n) rows written
+AreGiven n rows (given.Rows written) = EachOf (AreValuesOf n) rows written
 AreGiven n rows (given.Query q) = ⊥
 
 -- how many values each row has: one for each listed column, or for each of the table

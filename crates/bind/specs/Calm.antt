@@ -1,5 +1,5 @@
 -- Conditions that can't be refused, so that a plan may leave rows unread.
-use Rattle.std.specs.Prelude.{ℕ, Bool, true, false, ◌&&◌, List, [], ◌∷◌, ◌++◌, pos, Option, Some, None, is_ok}
+use Rattle.std.specs.Prelude.{ℕ, Bool, true, false, ◌&&◌, ◌==◌, List, [], ◌∷◌, ◌++◌, pos, Option, Some, None, is_ok}
 use Rattle.std.specs.List.{list_all, list_any}
 use Rattle.sqlval.specs.Conversion.{is_word, converted}
 use Rattle.sqlval.specs.declared.affinity.Affinity.{Affinity}
@@ -70,12 +70,13 @@ abbrev pub parts : Term → List Term
 parts (Two And a b) = parts a ++ parts b
 parts t = t ∷ []
 
--- `rowid = k`, or `c = k` where an index begins with c
-abbrev pub finds : (ℕ → Bool) → Term → Bool
-finds begins (Two (Compare Equal) (Cell s RowId a c) (Digits k)) = true
-finds begins (Two (Compare Equal) (Cell s (At i) a c) (Digits k)) = begins i
-finds begins _ = false
+-- `rowid = k` of the source of this number, or `c = k` where an index of that source begins with its column c
+abbrev pub finds : ℕ → (ℕ → Bool) → Term → Bool
+finds n begins (Two (Compare Equal) (Cell s RowId a c) (Digits k)) = s == n
+finds n begins (Two (Compare Equal) (Cell s (At i) a c) (Digits k)) = s == n && begins i
+finds n begins _ = false
 
--- the plan of a SELECT from one table with this WHERE is a search
-abbrev pub is_search : (ℕ → Bool) → Term → Bool
-is_search begins t = is_calm t && list_any (finds begins) (parts t)
+-- The plan of a SELECT from one table with this WHERE is a search. The table is the source of this number: in a trigger's program NEW
+-- and OLD stand before it, and what is asked of them finds no row of the table.
+abbrev pub is_search : ℕ → (ℕ → Bool) → Term → Bool
+is_search n begins t = is_calm t && list_any (finds n begins) (parts t)

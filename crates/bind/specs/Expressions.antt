@@ -11,14 +11,14 @@ use Rattle.syntax.specs.Tree.{Tree, Trees}
 use Rattle.syntax.specs.declared.expr.Operator.{Operator}
 use Rattle.syntax.specs.declared.expr.Operator.TheVariants as op
 use Rattle.catalog.specs.Database.{Name}
-use Rattle.bind.specs.Known.{Known, good, bad, both, all_three, known_map, unless}
+use Rattle.bind.specs.Checked.{Checked, good, bad, both, all_three, known_map, unless}
 use Rattle.bind.specs.Scopes.{ScopeSource, resolve_column}
 use Rattle.bind.specs.Terms.{Term, Terms, Const, Digits, Apply, Total, One, Two, Collate, In, Between, Raise, End, More, Function, Abs, Coalesce, Length, Lower, Upper, TypeOf, Aggregate, CountAll, Count, Sum, Min, Max, Equal, NotEqual, Less, LessOrEqual, Greater, GreaterOrEqual, Add, Subtract, Multiply, Divide, Remainder, Negated, Not, TwoSided, Compare, Calculate, Is, IsNot, And, Or, Concatenate}
 
 -- ---- collations and functions
 
 -- one of the three by name (Datatypes In SQLite, "Collating Sequences")
-abbrev pub resolve_collation : Name → Known Collation
+abbrev pub resolve_collation : Name → Checked Collation
 resolve_collation n =
     if is_same_name n (codes "binary") then good Binary
     else if is_same_name n (codes "nocase") then good NoCase
@@ -31,7 +31,7 @@ pub data Called : Type 0 where
   OfFunction : Function → ℕ → Bool → Called
   OfAggregate : Aggregate → Called
 
--- the functions that are served
+-- the functions that are supported
 abbrev pub function_named : Name → Option Called
 function_named n =
     if is_same_name n (codes "abs") then Some (OfFunction Abs 1 false)
@@ -59,13 +59,14 @@ first_of End = Const Null
 first_of (More e es) = e
 
 -- a call with so many arguments, where aggregates may stand or not
-abbrev called : Bool → Option Called → ℕ → Known (Terms → Term)
+abbrev called : Bool → Option Called → ℕ → Checked (Terms → Term)
 called totals None n = bad (λ es. Const Null) NoSuch
 called totals (Some (OfAggregate g)) n = unless (not totals) Misuse (unless (not (n == 1)) Misuse (good (λ es. Total g (first_of es))))
 called totals (Some (OfFunction f m more)) n = unless (not (n == m || (more && nat_lt m n))) Misuse (good (Apply f))
 
-abbrev called_star : Bool → Option Called → Known Term
-called_star totals None = bad (Const Null) NoSuch
+-- `*` stands in count alone, whether or not there is a function of the name
+abbrev called_star : Bool → Option Called → Checked Term
+called_star totals None = unless true Misuse (bad (Const Null) NoSuch)
 called_star totals (Some (OfAggregate Count)) = unless (not totals) Misuse (good (Total CountAll (Const Null)))
 called_star totals _ = bad (Const Null) Misuse
 
@@ -94,7 +95,7 @@ two_sided op.Concatenate = Concatenate
 
 -- whether an aggregate may stand there, and the sources that are seen; only a trigger's program sees NEW or OLD
 abbrev mutual
-  pub resolve : Bool → List ScopeSource → Tree → Known Term
+  pub resolve : Bool → List ScopeSource → Tree → Checked Term
   resolve totals s tree.Null = good (Const Null)
   resolve totals s (tree.Integer n) = good (Digits n)
   resolve totals s (tree.Text t) = good (Const (Text t))
@@ -113,6 +114,6 @@ abbrev mutual
   resolve totals s (tree.Between n a b c) = all_three (Between n) (resolve totals s a) (resolve totals s b) (resolve totals s c)
   resolve totals s (tree.Raise k t) = unless (not (list_any (λ x. x.needs_name) s)) Misuse (good (Raise k t))
 
-  pub resolve_all : Bool → List ScopeSource → Trees → Known Terms
+  pub resolve_all : Bool → List ScopeSource → Trees → Checked Terms
   resolve_all totals s tree.End = good End
   resolve_all totals s (tree.More e es) = both More (resolve totals s e) (resolve_all totals s es)

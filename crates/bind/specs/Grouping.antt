@@ -23,7 +23,7 @@ abbrev pub is_total : Term → Bool
 is_total (Total g e) = true
 is_total _ = false
 
--- a column of a source behind the first n
+-- a column of a source after the first n
 abbrev pub is_own_cell : ℕ → Term → Bool
 is_own_cell n (Cell s p a c) = not (nat_lt s n)
 is_own_cell n _ = false

@@ -6,14 +6,14 @@ pub mod Expressions
 pub mod Grouping
 pub mod Inserts
 pub mod Keys
-pub mod Known
+pub mod Checked
 pub mod Laws
 pub mod Limits
 pub mod Queries
 pub mod Readings
 pub mod Schema
 pub mod Scopes
-pub mod Served
+pub mod Supported
 pub mod Tables
 pub mod Terms
 pub mod Values

@@ -18,29 +18,29 @@ use Rattle.syntax.specs.declared.query.Source.{Source}
 use Rattle.catalog.specs.Database.{Name}
 use Rattle.bind.specs.Expressions.{resolve}
 use Rattle.bind.specs.Grouping.{has, has_total, is_own_cell, keyed}
-use Rattle.bind.specs.Known.{Known, good, bad, meant, faults, is_good, noted, also, both, known_map, known_all, ◌and_then◌, unless}
+use Rattle.bind.specs.Checked.{Checked, good, bad, meant, faults, is_good, noted, also, both, known_map, known_all, ◌and_then◌, unless}
 use Rattle.bind.specs.Readings.{Reading, Condition, Always, Where, OrNulls}
 use Rattle.bind.specs.Scopes.{ScopeColumn, ScopeSource, source_of, beside}
 use Rattle.bind.specs.Terms.{Term, Const, Cell, At, affinity, collation, same_term}
 
 -- what a table's or view's name stands for: its columns, and whether it has a rowid
 abbrev pub Lookup : Type 0
-Lookup = Name → Known (List ScopeColumn × Bool)
+Lookup = Name → Checked (List ScopeColumn × Bool)
 
 abbrev source_name : Source → Name
 source_name s = folded (unwrap_or s.alias s.name)
 
--- the sources of a query in the order of their text, the first as though behind a comma
+-- the sources of a query in the order of their text, the first as though after a comma
 abbrev pub sources_of : Query → List Join
 sources_of q = elim q.from [ None ↦ [] | Some f ↦ record { kind = join.Comma; source = f.first; condition = None } ∷ f.joins ]
 
-abbrev resolve_join : List ScopeSource → JoinKind → Option Tree → Known Condition
+abbrev resolve_join : List ScopeSource → JoinKind → Option Tree → Checked Condition
 resolve_join scope kind None = good Always
 resolve_join scope join.Left (Some e) = known_map OrNulls (resolve false scope e)
 resolve_join scope kind (Some e) = known_map Where (resolve false scope e)
 
 -- the sources that are seen, and each with its condition
-abbrev pub resolve_sources : Lookup → List ScopeSource → List Join → Known (List ScopeSource × List (Name × Condition))
+abbrev pub resolve_sources : Lookup → List ScopeSource → List Join → Checked (List ScopeSource × List (Name × Condition))
 resolve_sources look before [] = good (before, [])
 resolve_sources look before (j ∷ js) =
     noted (look j.source.name) and_then λ found.
@@ -80,7 +80,7 @@ is_open_item scope (AllOf q) = list_any (λ s. is_own (Some q) s && not s.is_kno
 is_open_item scope (Of e n) = false
 
 -- a result, which may stand for several
-abbrev pub resolve_item : List ScopeSource → ResultItem → Known (List (Term × ScopeColumn))
+abbrev pub resolve_item : List ScopeSource → ResultItem → Checked (List (Term × ScopeColumn))
 resolve_item scope All = unless (not (list_any (is_own None) scope)) Misuse (good (stars_from 0 (λ n. true) scope))
 resolve_item scope (AllOf q) =
     unless (not (list_any (is_own None) scope)) Misuse
@@ -88,7 +88,7 @@ resolve_item scope (AllOf q) =
 resolve_item scope (Of e n) = known_map (λ t. result_column e n t ∷ []) (resolve true scope e)
 
 -- the results in the order of their text
-abbrev pub resolve_items : List ScopeSource → List ResultItem → Known (List (Term × ScopeColumn))
+abbrev pub resolve_items : List ScopeSource → List ResultItem → Checked (List (Term × ScopeColumn))
 resolve_items scope [] = good []
 resolve_items scope (i ∷ is) = both (λ x y. x ++ y) (resolve_item scope i) (resolve_items scope is)
 
@@ -99,7 +99,7 @@ as_named n (Of e (Some m) ∷ is) = if is_same_name n m then Some e else as_name
 as_named n (_ ∷ is) = as_named n is
 
 -- a place among the results, an AS name of theirs, or an expression
-abbrev resolve_order : List ScopeSource → List ResultItem → List (Term × ScopeColumn) → Tree → Known Term
+abbrev resolve_order : List ScopeSource → List ResultItem → List (Term × ScopeColumn) → Tree → Checked Term
 resolve_order scope items results (tree.Integer zero) = bad (Const Null) Misuse
 resolve_order scope items results (tree.Integer (suc k)) =
     elim (slice_get results k) [ None ↦ unless (not (list_any (is_open_item scope) items)) Misuse (good (Const Null)) | Some r ↦ good r.0 ]
@@ -107,12 +107,12 @@ resolve_order scope items results (tree.Column None n) = resolve true scope (unw
 resolve_order scope items results e = resolve true scope e
 
 -- a WHERE, in which no aggregate may stand
-abbrev pub resolve_filter : List ScopeSource → Option Tree → Known (Option Term)
+abbrev pub resolve_filter : List ScopeSource → Option Tree → Checked (Option Term)
 resolve_filter scope None = good None
 resolve_filter scope (Some e) = known_map Some (resolve false scope e)
 
 -- an ORDER BY expression that is none of the results
-abbrev is_other : List (Term × ScopeColumn) → Known Term → Bool
+abbrev is_other : List (Term × ScopeColumn) → Checked Term → Bool
 is_other results k = is_good k && not (list_any (λ r. same_term r.0 (meant k)) results)
 
 abbrev offset_of : Option Limit → ℕ
@@ -120,7 +120,7 @@ offset_of None = 0
 offset_of (Some l) = unwrap_or l.offset 0
 
 -- the reading of a query, where its sources and expressions are looked up; so many sources of a trigger stand before its own
-abbrev pub as_reading : ℕ → Query → Bool → List (Name × Condition) → Option Term → List Term → List (Term × ScopeColumn) → List (Known Term × Bool) → Known Reading
+abbrev pub as_reading : ℕ → Query → Bool → List (Name × Condition) → Option Term → List Term → List (Term × ScopeColumn) → List (Checked Term × Bool) → Checked Reading
 as_reading outer q is_open sources filter keys results orders =
     let order : List (Term × Bool) = map (λ o. (meant o.0, o.1)) orders in
     let all : List Term = map (λ r. r.0) results ++ map (λ o. o.0) order in
@@ -144,7 +144,7 @@ as_reading outer q is_open sources filter keys results orders =
     })))))
 
 -- a query, where tables and views are looked up; a trigger's NEW and OLD stand before its sources
-abbrev pub resolve_query : Lookup → List ScopeSource → Query → Known Reading
+abbrev pub resolve_query : Lookup → List ScopeSource → Query → Checked Reading
 resolve_query look outer q =
     resolve_sources look (beside outer (map (λ j. source_name j.source) (sources_of q))) (sources_of q) and_then λ s.
     resolve_filter s.0 q.condition and_then λ filter.

@@ -10,7 +10,7 @@ use Rattle.sqlval.specs.declared.collation.Collation.{Collation}
 use Rattle.sqlval.specs.declared.collation.Collation.TheVariants.{Binary}
 use Rattle.sqlval.specs.declared.value.Value.TheVariants.{Null}
 use Rattle.catalog.specs.Database.{Name, Table}
-use Rattle.bind.specs.Known.{Known, good, meant, is_good, known_all, unless, the_one}
+use Rattle.bind.specs.Checked.{Checked, good, meant, is_good, known_all, unless, the_one}
 use Rattle.bind.specs.Terms.{Term, Const, Cell, At, RowId}
 
 -- a column that a name may mean
@@ -32,15 +32,15 @@ pub record ScopeSource : Type 0 where
   pub is_known : Bool
 
 -- a source as its table or view gives it: its columns, and whether it has a rowid
-abbrev pub source_of : Name → Known (List ScopeColumn × Bool) → ScopeSource
+abbrev pub source_of : Name → Checked (List ScopeColumn × Bool) → ScopeSource
 source_of n k = record { name = n; columns = (meant k).0; has_rowid = (meant k).1; needs_name = false; is_known = is_good k }
 
--- NEW and OLD can't be reached where a source of the statement has that name
+-- NEW and OLD can't be reached where a source of the statement has that name: a column of that name is the source's, or there is none
 abbrev pub beside : List ScopeSource → List Name → List ScopeSource
 beside outer names = map shown outer
   where
     shown : ScopeSource → ScopeSource
-    shown s = if list_any (is_same_name s.name) names then record s { columns = []; has_rowid = false } else s
+    shown s = if list_any (is_same_name s.name) names then record s { columns = []; has_rowid = false; is_known = true } else s
 
 abbrev is_named : Name → Option Name → Bool
 is_named n None = false
@@ -70,7 +70,7 @@ found s q n [] = []
 found s q n (source ∷ sources) = (if fits q source then named_in s n source else []) ++ found (suc s) q n sources
 
 -- the column that a name means, with the source that is written before it or none
-abbrev pub resolve_column : List ScopeSource → Option Name → Name → Known Term
+abbrev pub resolve_column : List ScopeSource → Option Name → Name → Checked Term
 resolve_column scope q n = the_one (list_any (λ s. fits q s && not s.is_known) scope) (Const Null) (found 0 q n scope)
 
 -- a table's columns
@@ -88,7 +88,7 @@ places_from i n (c ∷ cs) =
     elim c.name [ None ↦ rest | Some m ↦ (if is_same_name n m then (i ∷ rest) else rest) ]
 
 -- the place of a column by name
-abbrev pub place_of : ScopeSource → Name → Known ℕ
+abbrev pub place_of : ScopeSource → Name → Checked ℕ
 place_of s n = the_one (not s.is_known) 0 (places_from 0 n s.columns)
 
 -- one name twice
@@ -96,5 +96,5 @@ abbrev pub is_doubled : List Name → Bool
 is_doubled = any_twice is_same_name
 
 -- the places of a list of columns, none of them twice
-abbrev pub resolve_places : ScopeSource → List Name → Known (List ℕ)
+abbrev pub resolve_places : ScopeSource → List Name → Checked (List ℕ)
 resolve_places s ns = unless (is_doubled ns) Misuse (known_all (map (place_of s) ns))

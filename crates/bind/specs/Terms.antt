@@ -46,7 +46,7 @@ pub data Aggregate : Type 0 where
 mutual
   pub data Term : Type 0 where
     Const : Value → Term
-    -- the number behind a minus, at most 2 ^ 63
+    -- the number after a minus, at most 2 ^ 63
     Digits : ℕ → Term
     -- of a source, with the column's affinity and collation
     Cell : ℕ → Place → Option Affinity → Collation → Term

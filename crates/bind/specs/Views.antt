@@ -7,7 +7,7 @@ use Rattle.sqlval.specs.declared.value.Value.{Value}
 use Rattle.sqlval.specs.declared.value.Value.TheVariants.{Null, Int}
 use Rattle.syntax.specs.declared.query.Query.{Query}
 use Rattle.catalog.specs.Database.{Name, Database, object, Object, ATable, AView, Table, View}
-use Rattle.bind.specs.Known.{Known, good, bad, unless, ◌and_then◌, known_then}
+use Rattle.bind.specs.Checked.{Checked, good, bad, unless, ◌and_then◌, known_then}
 use Rattle.bind.specs.Queries.{Lookup, resolve_query}
 use Rattle.bind.specs.Readings.{Reading, Condition, rows_over}
 use Rattle.bind.specs.Scopes.{ScopeColumn, table_scope}
@@ -20,17 +20,17 @@ renamed (n ∷ ns) [] = []
 renamed (n ∷ ns) (c ∷ cs) = record c { name = Some n } ∷ renamed ns cs
 
 -- the columns of a table, or of a view as it is looked at
-abbrev pub columns_of_object : (View → Known (List ScopeColumn × Bool)) → Option Object → Known (List ScopeColumn × Bool)
+abbrev pub columns_of_object : (View → Checked (List ScopeColumn × Bool)) → Option Object → Checked (List ScopeColumn × Bool)
 columns_of_object view (Some (ATable t)) = good (table_scope t, true)
 columns_of_object view (Some (AView v)) = view v
 columns_of_object view _ = bad ([], false) NoSuch
 
 -- a view that stands in itself is refused before one that stands too deep
-abbrev pub unless_around : List Name → Name → Known (List ScopeColumn × Bool) → Known (List ScopeColumn × Bool)
+abbrev pub unless_around : List Name → Name → Checked (List ScopeColumn × Bool) → Checked (List ScopeColumn × Bool)
 unless_around around name k = if list_any (is_same_name name) around then bad ([], false) Misuse else k
 
 -- the columns of a table or a view, with room for so many views one within another; around are the views that this one stands in
-abbrev pub columns_of : ℕ → Database → List Name → Name → Known (List ScopeColumn × Bool)
+abbrev pub columns_of : ℕ → Database → List Name → Name → Checked (List ScopeColumn × Bool)
 columns_of zero db around name = columns_of_object (λ v. unless_around around name (bad ([], false) TooLong)) (object db name)
 columns_of (suc n) db around name =
     columns_of_object (λ v. unless_around around name (

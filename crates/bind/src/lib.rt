@@ -1,5 +1,5 @@
 //! What names, expressions and queries mean on a database, and what CREATE and DROP make of it, as definitions; and the names
-//! of the statements that are served, looked up.
+//! of the statements that are supported, looked up.
 #![tactic(auto)]
 
 mod inserting;
@@ -10,7 +10,7 @@ mod queries;
 ghost use Rattle.bind.specs.Comprehension.{IsComprehension};
 ghost use Rattle.bind.specs.Creating.{KeepsNamesOnce, MakesListedTable, RefusesTableAsDefined};
 ghost use Rattle.bind.specs.Laws.{CalmIsNotRefused, KnowsListed};
-ghost use Rattle.bind.specs.Served.{RefusesAsDefined};
+ghost use Rattle.bind.specs.Supported.{RefusesAsDefined};
 
 pub use inserting::{BoundInsert, bind_insert};
 pub use queries::{BoundQuery, BoundSource, Output, bind_query};
@@ -31,8 +31,8 @@ pub fn listed_tables_are_known()
     ensures { KnowsListed }
 {}
 
-/// A query of the form that is served is refused only as its text is, or for want of memory.
-pub fn served_queries_are_refused_as_defined()
+/// A query of a supported form is refused only for what its text is refused for, or if out of memory.
+pub fn supported_queries_are_refused_as_defined()
     ensures { RefusesAsDefined }
 {}
 

@@ -1,12 +1,12 @@
 //! The values of literals.
 
-ghost use Rattle.catalog.specs.Faults.{IsNoFileFault};
+ghost use Rattle.sqlval.specs.Faults.{IsNotDiskFault};
 ghost use Rattle.std.specs.Prelude.{◌≡◌, ◌⊎◌, [], pos, neg_ℤ, true, false, Bool, List, IfOk, IfErr, Ok, Err};
 ghost use Rattle.sqlval.specs.Conversion.{word};
 ghost use Rattle.sqlval.specs.Refusals as refusal;
 ghost use Rattle.bind.specs.Bound.{Answers, Means, is_literal};
 ghost use Rattle.bind.specs.Expressions.{resolve};
-ghost use Rattle.bind.specs.Known.{meant};
+ghost use Rattle.bind.specs.Checked.{meant};
 ghost use Rattle.bind.specs.Scopes.{ScopeSource};
 ghost use Rattle.bind.specs.Values.{Environment, value as value_of};
 ghost use Rattle.bind.specs.declared.queries.Output.TheVariants as out;
@@ -18,7 +18,7 @@ use syntax::{Expr, Node};
 /// The integer of a number.
 fn positive(number: u64) -> R<Value>
     ensures value { Answers (word (pos number)) result }
-    ensures calm { IfErr result (λ fault. IsNoFileFault fault) }
+    ensures not_disk { IfErr result (λ fault. IsNotDiskFault fault) }
 {
     match i64::try_from(number) {
         Ok(number) => Ok(Value::Int(number)),
@@ -26,10 +26,10 @@ fn positive(number: u64) -> R<Value>
     }
 }
 
-/// The integer of a number behind a minus.
+/// The integer of a number after a minus.
 fn negative(number: u64) -> R<Value>
     ensures value { Answers (word (neg_ℤ (pos number))) result }
-    ensures calm { IfErr result (λ fault. IsNoFileFault fault) }
+    ensures not_disk { IfErr result (λ fault. IsNotDiskFault fault) }
 {
     if number == 1 << 63 {
         return Ok(Value::Int(i64::MIN));
@@ -40,14 +40,14 @@ fn negative(number: u64) -> R<Value>
     }
 }
 
-/// The value of a literal. `RealRefused` where its number is past 64 bits, `Unsupported(NotBuilt)` of another expression.
+/// The value of a literal. `RealRefused` where its number is past 64 bits, `Unsupported(StatementForm)` of another expression.
 pub fn literal(alloc: Global, value: &Expr) -> R<Value>
     ensures found { IfOk result (λ v. (totals : Bool) (scope : List ScopeSource) → Means (out.Literal v) (resolve totals scope value.now)) }
     ensures refused { IfErr result (λ fault. (fault ≡ Fault.Memory)
-        ⊎ (fault ≡ Fault.Unsupported Feature.NotBuilt) × (is_literal value.now ≡ false)
+        ⊎ (fault ≡ Fault.Unsupported Feature.StatementForm) × (is_literal value.now ≡ false)
         ⊎ (fault ≡ Fault.RealRefused) × ((totals : Bool) (scope : List ScopeSource) (env : Environment) → value_of (meant (resolve totals scope value.now)) env ≡ Err refusal.RealRefused)) }
     ensures overflow { IfErr result (λ fault. fault ≡ Fault.RealRefused → (totals : Bool) (scope : List ScopeSource) → Means out.Overflow (resolve totals scope value.now)) }
-    ensures calm { IfErr result (λ fault. IsNoFileFault fault) }
+    ensures not_disk { IfErr result (λ fault. IsNotDiskFault fault) }
 {
     match &value.node {
         Node::Null => Ok(Value::Null),
@@ -56,8 +56,8 @@ pub fn literal(alloc: Global, value: &Expr) -> R<Value>
         Node::Blob(bytes) => Ok(Value::Blob(bytes.copy(alloc)?)),
         Node::Negated(operand) => match &operand.node {
             Node::Integer(number) => negative(*number),
-            _ => Err(Fault::Unsupported(Feature::NotBuilt)),
+            _ => Err(Fault::Unsupported(Feature::StatementForm)),
         },
-        _ => Err(Fault::Unsupported(Feature::NotBuilt)),
+        _ => Err(Fault::Unsupported(Feature::StatementForm)),
     }
 }

@@ -1,4 +1,5 @@
 -- What is read is a header, and a header is read.
+use Rattle.sqlval.specs.PageSizes.{is_size}
 use Rattle.std.proofs.Common.{◌≡◌, ℕ, Bool, true, false, cond, not, ◌&&◌, nat_le, List, [], ◌∷◌, length, Option, Some, None, Result, Ok, Err, refl, ap, subst, ◌∙◌}
 use Rattle.std.specs.Str.{bytes_eq}
 use Rattle.std.proofs.lemmas.Bool.{eqb-true, leb-true, le-leb}
@@ -7,8 +8,8 @@ use Rattle.sqlval.specs.declared.fault.Fault.{Fault}
 use Rattle.sqlval.specs.declared.fault.Feature.{Feature}
 use Rattle.dbheader.specs.declared.fields.Header.{Header}
 use Rattle.dbheader.specs.Header.{two_at, four_at, part, IsHeader}
-use Rattle.dbheader.specs.Reading.{is_size, has_text, feature_of, is_fixed, fields_of, unless, header_at}
-use Rattle.dbheader.proofs.SizeLemmas.{size_is, size_served}
+use Rattle.dbheader.specs.Reading.{has_text, feature_of, is_fixed, fields_of, unless, header_at}
+use Rattle.sqlval.proofs.PageSizeLemmas.{size_is, size_tested}
 
 both : (a b : Bool) → (a && b) ≡ true → (a ≡ true) × (b ≡ true)
 both true b e = (refl, e)
@@ -48,9 +49,9 @@ pub record Served (bytes : List ℕ) : Type 0 where
   pub vacuum : four_at 64 bytes ≡ 0
   pub encoding : four_at 56 bytes ≡ 1
 
-is_served : (bytes : List ℕ) → feature_of bytes ≡ None → Served bytes
+is_supported : (bytes : List ℕ) → feature_of bytes ≡ None → Served bytes
 unfolding feature_of
-is_served bytes e =
+is_supported bytes e =
     let a = passes _ _ _ e in
     let b = passes _ _ _ a.1 in
     let c = passes _ _ _ b.1 in
@@ -81,7 +82,7 @@ header_is bytes h e =
     let fixed = kept _ _ _ h served.1 in
     let t = both _ _ text.0 in
     let f = both _ _ fixed.0 in
-    let s = is_served bytes served.0 in
+    let s = is_supported bytes served.0 in
     let fields : fields_of bytes ≡ h = header_of fixed.1 in
     subst (IsHeader bytes) fields (record {
       long = leb-true _ _ t.0;
@@ -112,7 +113,7 @@ pub header_again : (bytes : List ℕ) (h : Header) → IsHeader bytes h → head
 unfolding header_at has_text is_fixed fields_of
 header_again bytes h i =
     let none = none_unserved bytes (record {
-      size = ap is_size i.page_size ∙ size_served h.page_size i.served;
+      size = ap is_size i.page_size ∙ size_tested h.page_size i.served;
       versions = i.versions;
       reserved = i.reserved;
       schema_format = i.schema_format;

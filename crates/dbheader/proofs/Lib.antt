@@ -1,3 +1,2 @@
-pub mod SizeLemmas
 pub mod HeaderLemmas
 pub mod SpellingLemmas

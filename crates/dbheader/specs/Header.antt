@@ -1,14 +1,8 @@
 -- What the first 100 bytes of a database file say (Database File Format, "The Database Header").
+use Rattle.sqlval.specs.PageSizes.{IsPageSize}
 use Rattle.std.specs.Prelude.{◌≡◌, ◌≤◌, ◌^◌, ◌&&◌, ℕ, List, [], ◌∷◌, ◌++◌, length, take, drop, replicate, codes, not, ◌==◌, Option, Some, None, if◌then◌else◌}
 use Rattle.byteorder.specs.Endian.{big_number}
 use Rattle.dbheader.specs.declared.fields.Header.{Header}
-
--- a page size that is served: a power of two from 512 to 32768 (Database File Format, "Page Size")
-pub record IsPageSize (size : ℕ) : Type 0 where
-  pub exponent : ℕ
-  pub low : 9 ≤ exponent
-  pub high : exponent ≤ 15
-  pub power : size ≡ 2 ^ exponent
 
 -- the text at the front and a zero byte (Database File Format, "Magic Header String")
 abbrev pub magic : List ℕ

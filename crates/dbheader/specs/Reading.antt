@@ -1,4 +1,5 @@
 -- Reading a header, with the first refusal.
+use Rattle.sqlval.specs.PageSizes.{is_size}
 use Rattle.std.specs.Prelude.{ℕ, List, [], ◌∷◌, length, replicate, Bool, ◌==◌, ◌&&◌, ◌||◌, nat_le, not, Option, Some, None, Result, Ok, Err, if◌then◌else◌}
 use Rattle.std.specs.Str.{bytes_eq}
 use Rattle.sqlval.specs.declared.fault.Fault.{Fault}
@@ -8,15 +9,11 @@ use Rattle.sqlval.specs.declared.fault.Damage.TheVariants as Damage
 use Rattle.dbheader.specs.declared.fields.Header.{Header}
 use Rattle.dbheader.specs.Header.{magic, two_at, four_at, part}
 
--- whether a page size is served
-unfoldable pub is_size : ℕ → Bool
-is_size size = size == 512 || (size == 1024 || (size == 2048 || (size == 4096 || (size == 8192 || (size == 16384 || size == 32768)))))
-
 -- whether the bytes are long enough and begin as those of a database file do
 unfoldable pub has_text : List ℕ → Bool
 has_text bytes = nat_le 100 (length bytes) && bytes_eq (part 0 16 bytes) magic
 
--- the first thing outside what is served
+-- the first thing outside what is supported
 unfoldable pub feature_of : List ℕ → Option Feature
 feature_of bytes =
     if not (is_size (two_at 16 bytes)) then Some Feature.PageSize
@@ -48,7 +45,7 @@ fields_of bytes =
       writer_version = four_at 96 bytes;
     }
 
--- a refusal for a feature that isn't served
+-- a refusal for a feature that isn't supported
 abbrev pub unless : Option Feature → Result Header Fault → Result Header Fault
 unless None read = read
 unless (Some feature) read = Err (Unsupported feature)

@@ -1,21 +1,20 @@
 //! What a header says.
 
 ghost use Rattle.std.specs.Prelude.{◌≡◌, ◌↔◌, IsTrue};
-ghost use Rattle.dbheader.specs.Header.{IsPageSize, empty_of, counted_of};
-ghost use Rattle.dbheader.specs.Reading.{is_size};
+ghost use Rattle.dbheader.specs.Header.{empty_of, counted_of};
 
 /// What the header of a database file says. All numbers are kept as they stand there.
 #[derive(Clone, Copy, Debug, PartialEq, Eq)]
 pub struct Header {
-    /// How many bytes a page has: a power of two from 512 to 32768.
+    /// Bytes of a page: a power of two from 512 to 32768.
     pub page_size: u32,
     /// How often the database was changed.
     pub change_counter: u32,
-    /// The number of pages, where it counts: see `counted_size`.
+    /// The size in pages, if it is valid: see `counted_size`.
     pub size: u32,
     /// The first trunk page of the freelist, or 0.
     pub freelist_trunk: u32,
-    /// How many pages the freelist has.
+    /// The number of pages in the freelist.
     pub freelist_count: u32,
     /// How often the schema was changed.
     pub schema_cookie: u32,
@@ -29,20 +28,6 @@ pub struct Header {
     pub version_valid_for: u32,
     /// The version number of the library that wrote last.
     pub writer_version: u32,
-}
-
-#[tactic(auto, unfolding(crate::specs::Reading::is_size))]
-pub fn is_size_served(page_size: u32) -> bool
-    ensures { result ≡ is_size page_size }
-{
-    matches!(page_size, 512 | 1024 | 2048 | 4096 | 8192 | 16384 | 32768)
-}
-
-/// Whether a page size is served: a power of two from 512 to 32768.
-pub fn is_page_size(page_size: u32) -> bool
-    ensures { IsTrue result ↔ IsPageSize page_size }
-{
-    is_size_served(page_size)
 }
 
 impl Header {
@@ -65,7 +50,7 @@ impl Header {
         }
     }
 
-    /// The number of pages, where it counts: where it isn't 0 and was written at the last change.
+    /// The size in pages, if it is valid: it isn't 0 and was written at the last change.
     pub fn counted_size(&self) -> Option<u32>
         ensures { result ≡ counted_of self.now }
     {

@@ -6,9 +6,9 @@ ghost use Rattle.dbheader.specs.declared.fields.Header.{Header};
 ghost use Rattle.dbheader.specs.Header.{IsHeader, two_at, four_at, part};
 ghost use Rattle.dbheader.specs.Reading.{has_text, feature_of, is_fixed, fields_of, header_at};
 
-use crate::fields::{Header, is_size_served};
+use crate::fields::Header;
 use byteorder::{BigEndian, ByteOrder};
-use sqlval::{Damage, Fault, Feature, R};
+use sqlval::{Damage, Fault, Feature, R, is_page_size};
 
 /// The number in the two bytes from an offset on.
 #[tactic(auto, unfolding(crate::specs::Header::two_at))]
@@ -44,13 +44,13 @@ fn is_database(bytes: &[u8]) -> bool
     bytes.len() >= 100 && is_at(bytes, 0, b"SQLite format 3\0".as_slice())
 }
 
-/// The first thing outside what is served.
+/// The first thing outside what is supported.
 #[tactic(auto, unfolding(crate::specs::Reading::feature_of))]
-fn unserved(bytes: &[u8]) -> Option<Feature>
+fn unsupported(bytes: &[u8]) -> Option<Feature>
     requires { 100 ≤ length bytes.now }
     ensures { result ≡ feature_of bytes.now }
 {
-    if !is_size_served(u16_at(bytes, 16)) {
+    if !is_page_size(u16_at(bytes, 16)) {
         Some(Feature::PageSize)
     } else if !is_at(bytes, 18, &[2, 2]) {
         Some(Feature::FileVersion)
@@ -106,7 +106,7 @@ fn header(bytes: &[u8]) -> R<Header>
     if !is_database(bytes) {
         return Err(Fault::NotADatabase);
     }
-    if let Some(feature) = unserved(bytes) {
+    if let Some(feature) = unsupported(bytes) {
         return Err(Fault::Unsupported(feature));
     }
     if !has_fixed_bytes(bytes) {

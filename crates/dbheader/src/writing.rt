@@ -1,9 +1,10 @@
 //! Writing a header.
 
+ghost use Rattle.sqlval.specs.PageSizes.{IsPageSize};
 ghost use Rattle.std.specs.Prelude.{◌≡◌, ℕ, List, length, take};
 ghost use Rattle.byteorder.specs.Endian.{big_number};
 ghost use Rattle.dbheader.specs.declared.fields.Header.{Header};
-ghost use Rattle.dbheader.specs.Header.{IsPageSize, IsHeader};
+ghost use Rattle.dbheader.specs.Header.{IsHeader};
 ghost use Rattle.dbheader.specs.Writing.{IsBytes, IsOnlySpelling};
 
 use crate::fields::Header;

@@ -1,4 +1,4 @@
--- What picks choose, and what a stop may leave.
+-- What picks choose, and what a crash may leave.
 use Rattle.std.proofs.Common.{◌≡◌, ◌<◌, ◌≤◌, ◌+◌, ◌-◌, ◌/◌, ◌%◌, ◌^◌, ℕ, zero, suc, Bool, true, false, List, [], ◌∷◌, length, drop, map, get_or, inl, inr, refl, sym, ◌∙◌, ap, arith, length-drop, add-one, drop-cons}
 use Rattle.std.proofs.lemmas.List.{get_or-drop}
 use Rattle.std.proofs.lemmas.List.Elements.{All-from_get_or}
@@ -22,8 +22,8 @@ before_end vs i past = none (drop i vs) (omega (arith, length-drop i vs))
     none [] is = refl
     none (w ∷ ws) is = absurd (omega arith)
 
-pub before_stop : (vs : List Version) (i : ℕ) → i < length vs → (version_at vs i).is_cut ≡ true → before_cut (drop i vs) ≡ 0
-before_stop vs i lt cut = ap before_cut (drop-cons vs i blank_version lt) ∙ at_cut (version_at vs i) (drop (suc i) vs) cut
+pub before_crash : (vs : List Version) (i : ℕ) → i < length vs → (version_at vs i).is_cut ≡ true → before_cut (drop i vs) ≡ 0
+before_crash vs i lt cut = ap before_cut (drop-cons vs i blank_version lt) ∙ at_cut (version_at vs i) (drop (suc i) vs) cut
 
 pub before_next : (vs : List Version) (i : ℕ) → i < length vs → (version_at vs i).is_cut ≡ false → before_cut (drop i vs) ≡ before_cut (drop (i + 1) vs) + 1
 before_next vs i lt no_cut = ap before_cut (drop-cons vs i blank_version lt) ∙ at_write (version_at vs i) (drop (suc i) vs) no_cut ∙ ap (λ j. before_cut (drop j vs) + 1) (sym (add-one i))
@@ -75,7 +75,7 @@ choices_above vs from source within none =
       | inr below ↦ omega arith
     ]
 
--- picks choose what a stop may leave
+-- picks choose what a crash may leave
 pub picks_left : (vs : List Version) (picks : List ℕ) → 0 < length vs → IsLeft vs (left_by vs picks)
 picks_left vs picks some =
     let from : ℕ = length_source vs picks in
@@ -97,7 +97,7 @@ picks_left vs picks some =
           };
     }
 
--- what a stop may leave, some picks choose
+-- what a crash may leave, some picks choose
 pub left_picked : (vs : List Version) (c : List ℕ) → length vs < 2 ^ 32 → IsLeft vs c → IsPicked vs c
 left_picked vs c many left = record {
   picks = picks;

@@ -1,11 +1,8 @@
 pub mod Calls
 pub mod File
-pub mod Kept
+pub mod StoredVersion
 pub mod Picked
-pub mod Left
-pub mod More
-pub mod Moments
-pub mod Current
-pub mod Invented
 pub mod Replay
 pub mod Memory
+pub mod Landing
+pub mod Schedule

@@ -1,4 +1,4 @@
--- The file that picks choose among those that a stop may leave.
+-- The file that picks choose among those that a crash may leave.
 use Rattle.std.specs.Prelude.{◌≡◌, ◌<◌, ◌≤◌, ◌+◌, ◌/◌, ◌%◌, ◌^◌, ℕ, List, [], ◌∷◌, length, drop, map, slice_index, if◌then◌else◌}
 use Rattle.std.specs.List.{range_with_len, All}
 use Rattle.disk.specs.File.{Version, version_at}
@@ -12,7 +12,7 @@ abbrev pub before_cut : List Version → ℕ
 before_cut [] = 0
 before_cut (v ∷ vs) = if v.is_cut then 0 else before_cut vs + 1
 
--- how many versions, from the oldest on, a sector may come from where this one gives the length: those before the next cut behind it
+-- how many versions, from the oldest on, a sector may come from where this one gives the length: those before the next cut after it
 abbrev pub choices : List Version → ℕ → ℕ
 choices versions from = from + 1 + before_cut (drop (from + 1) versions)
 

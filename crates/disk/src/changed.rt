@@ -3,6 +3,7 @@
 ghost use Rattle.std.specs.Prelude.{◌≡◌, ◌⊎◌, ◌+◌, ◌≤◌, ◌++◌, [], ◌∷◌, true, false, OnOk, OnErr, IfOk, IsTrue, IsFalse, take, drop, length, ℕ, Vec};
 ghost use Rattle.std.specs.declared.alloc.Global.{Global};
 ghost use Rattle.disk.specs.Calls.{overwritten};
+ghost use Rattle.disk.specs.Landing.{has_landed};
 ghost use Rattle.disk.specs.declared.change.Change.TheVariants.{Write, Cut, Sync};
 
 use crate::change::Change;
@@ -38,27 +39,33 @@ fn copy_of(alloc: Global, bytes: &[u8]) -> Result<Vec<u8>, AllocError>
     bytes.to_vec(alloc)
 }
 
-// Records a write of these bytes, and puts them into the content if it is to land. Answers whether it did.
+/// Records a write of these bytes, and puts them into the content if it is to land.
 fn record_write(
     changes: &mut Vec<Change>,
     content: &mut Vec<u8>,
     at: u64,
     bytes: Vec<u8>,
     lands: bool,
-) -> bool
-    ensures landed { IsTrue result → (changes.new.items ≡ changes.old.items ++ Write at bytes true ∷ []) × (content.new.items ≡ overwritten at bytes.items content.old.items) }
-    ensures not_landed { IsFalse result → (content.new.items ≡ content.old.items)
-        × ((changes.new.items ≡ changes.old.items) ⊎ (changes.new.items ≡ changes.old.items ++ Write at bytes false ∷ [])) }
+) -> Result<(), AllocError>
+    ensures landed { IsTrue lands → OnOk result (content.new.items ≡ overwritten at bytes.items content.old.items) }
+    ensures not_landed { IsFalse lands → content.new.items ≡ content.old.items }
+    ensures recorded { OnOk result (changes.new.items ≡ changes.old.items ++ Write at bytes lands ∷ []) }
+    ensures refused { OnErr result ((content.new.items ≡ content.old.items) × (changes.new.items ≡ changes.old.items)) }
 {
-    if changes.reserve(1).is_err() {
-        return false;
+    changes.reserve(1)?;
+    if lands {
+        put(content, at, &bytes)?;
     }
-    let landed = lands && put(content, at, &bytes).is_ok();
-    let noted = changes.push(Change::Write { at, bytes, landed }).is_ok();
-    noted && landed
+    changes
+        .push(Change::Write {
+            at,
+            bytes,
+            landed: lands,
+        })
+        .map_err(AllocError::from)
 }
 
-/// Records a write, and makes it the content if it is to land. Answers whether it did.
+/// Records a write, unless the file is gone, and makes it the content if it is to land. Answers whether it did.
 pub fn overwrite(
     alloc: Global,
     changes: &mut Vec<Change>,
@@ -67,45 +74,54 @@ pub fn overwrite(
     bytes: &[u8],
     is_gone: bool,
     lands: bool,
-) -> bool
-    ensures landed { IsTrue result → (v : Vec ℕ Global) × (v.items ≡ bytes.now) × (changes.new.items ≡ changes.old.items ++ Write at v true ∷ []) × (content.new.items ≡ overwritten at bytes.now content.old.items) }
-    ensures not_landed { IsFalse result → (content.new.items ≡ content.old.items)
+) -> Result<bool, AllocError>
+    requires { IsTrue is_gone → IsFalse lands }
+    ensures landed { IsTrue (has_landed result) → (v : Vec ℕ Global) × (v.items ≡ bytes.now) × (changes.new.items ≡ changes.old.items ++ Write at v true ∷ []) × (content.new.items ≡ overwritten at bytes.now content.old.items) }
+    ensures not_landed { IsFalse (has_landed result) → (content.new.items ≡ content.old.items)
         × ((changes.new.items ≡ changes.old.items) ⊎ ((v : Vec ℕ Global) × (v.items ≡ bytes.now) × (changes.new.items ≡ changes.old.items ++ Write at v false ∷ []))) }
+    ensures recorded { IsFalse is_gone → OnOk result ((v : Vec ℕ Global) × (v.items ≡ bytes.now) × (changes.new.items ≡ changes.old.items ++ Write at v lands ∷ [])) }
+    ensures answer { IfOk result (λ landed. landed ≡ lands) }
 {
-    if is_gone {
-        return false;
+    if !is_gone {
+        record_write(changes, content, at, copy_of(alloc, bytes)?, lands)?;
     }
-    match copy_of(alloc, bytes) {
-        Ok(kept) => record_write(changes, content, at, kept, lands),
-        Err(_) => false,
-    }
+    Ok(lands)
 }
 
-/// Records a cut, and makes it the content if it is to land. Answers whether it did.
+/// Records a cut, unless the file is gone, and makes it the content if it is to land. Answers whether it did.
 pub fn cut_to(
     changes: &mut Vec<Change>,
     content: &mut Vec<u8>,
     len: u64,
     is_gone: bool,
     lands: bool,
-) -> bool
-    ensures landed { IsTrue result → (changes.new.items ≡ changes.old.items ++ Cut len true ∷ []) × (content.new.items ≡ take len content.old.items) }
-    ensures not_landed { IsFalse result → (content.new.items ≡ content.old.items)
+) -> Result<bool, AllocError>
+    requires { IsTrue is_gone → IsFalse lands }
+    ensures landed { IsTrue (has_landed result) → (changes.new.items ≡ changes.old.items ++ Cut len true ∷ []) × (content.new.items ≡ take len content.old.items) }
+    ensures not_landed { IsFalse (has_landed result) → (content.new.items ≡ content.old.items)
         × ((changes.new.items ≡ changes.old.items) ⊎ (changes.new.items ≡ changes.old.items ++ Cut len false ∷ [])) }
+    ensures recorded { IsFalse is_gone → OnOk result (changes.new.items ≡ changes.old.items ++ Cut len lands ∷ []) }
+    ensures answer { IfOk result (λ landed. landed ≡ lands) }
 {
-    if is_gone || changes.push(Change::Cut { len, landed: lands }).is_err() {
-        return false;
+    if !is_gone {
+        changes
+            .push(Change::Cut { len, landed: lands })
+            .map_err(AllocError::from)?;
     }
     if lands {
         shorten(content, len);
     }
-    lands
+    Ok(lands)
 }
 
 /// Records a sync, if it is to succeed. Answers whether it did.
-pub fn note_sync(changes: &mut Vec<Change>, ok: bool) -> bool
-    ensures landed { IsTrue result → changes.new.items ≡ changes.old.items ++ Sync ∷ [] }
-    ensures not_landed { IsFalse result → changes.new.items ≡ changes.old.items }
+pub fn note_sync(changes: &mut Vec<Change>, ok: bool) -> Result<bool, AllocError>
+    ensures landed { IsTrue (has_landed result) → changes.new.items ≡ changes.old.items ++ Sync ∷ [] }
+    ensures not_landed { IsFalse (has_landed result) → changes.new.items ≡ changes.old.items }
+    ensures answer { IfOk result (λ landed. landed ≡ ok) }
 {
-    ok && changes.push(Change::Sync).is_ok()
+    if ok {
+        changes.push(Change::Sync).map_err(AllocError::from)?;
+    }
+    Ok(ok)
 }

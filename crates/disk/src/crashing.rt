@@ -1,23 +1,27 @@
-//! What a stop may leave of a file in memory.
+//! What a crash may leave of a file in memory.
 
 ghost use Rattle.std.specs.Prelude.{◌≡◌, ◌++◌, ◌+◌, drop, take, ◌^◌, ◌≤◌, ◌<◌, ℕ, List, length, IfOk, OnOk, slice_index};
 ghost use Rattle.disk.specs.File.{File, Version, IsLeft, version_at, versions};
 ghost use Rattle.disk.specs.Calls.{overwritten};
-ghost use Rattle.disk.specs.Kept.{versions_of, Stands};
+ghost use Rattle.disk.specs.StoredVersion.{versions_of, Stands};
 ghost use Rattle.disk.specs.Picked.{picked, choices, left_by, IsPicked};
 ghost use Rattle.disk.specs.Replay.{file_of, step};
 
 use crate::change::Change;
 use crate::changed::{put, shorten};
-use crate::kept::{Kept, Time};
+use crate::versions::{StoredVersion, VersionsSinceSync};
 use std::alloc::{AllocError, Global};
 
-// The contents since the last sync.
-pub fn last_time(alloc: Global, start: &[u8], changes: &[Change]) -> Result<Time, AllocError>
+/// The contents since the last sync.
+pub fn last_time(
+    alloc: Global,
+    start: &[u8],
+    changes: &[Change],
+) -> Result<VersionsSinceSync, AllocError>
     ensures { IfOk result (λ t. versions_of t ≡ versions (file_of start.now changes.now)) }
 {
     let mut content = start.to_vec(alloc)?;
-    let mut time = Time {
+    let mut time = VersionsSinceSync {
         first: start.to_vec(alloc)?,
         later: Vec::new(alloc),
     };
@@ -27,7 +31,7 @@ pub fn last_time(alloc: Global, start: &[u8], changes: &[Change]) -> Result<Time
     Ok(time)
 }
 
-// A copy of the content, with one more change.
+/// A copy of the content, with one more change.
 fn after_write(alloc: Global, content: &[u8], at: u64, bytes: &[u8]) -> Result<Vec<u8>, AllocError>
     ensures { IfOk result (λ v. v.items ≡ overwritten at bytes.now content.now) }
 {
@@ -47,7 +51,7 @@ fn after_cut(alloc: Global, content: &[u8], len: u64) -> Result<Vec<u8>, AllocEr
 fn apply(
     alloc: Global,
     content: &mut Vec<u8>,
-    time: &mut Time,
+    time: &mut VersionsSinceSync,
     change: &Change,
 ) -> Result<(), AllocError>
     ensures { OnOk result ((f : File) → Stands content.old.items time.old f → Stands content.new.items time.new (step f change.now)) }
@@ -55,7 +59,7 @@ fn apply(
     match change {
         Change::Write { at, bytes, landed } => {
             let next = after_write(alloc, content, *at, bytes)?;
-            time.later.push(Kept {
+            time.later.push(StoredVersion {
                 is_cut: false,
                 bytes: next.to_vec(alloc)?,
             })?;
@@ -65,7 +69,7 @@ fn apply(
         }
         Change::Cut { len, landed } => {
             let next = after_cut(alloc, content, *len)?;
-            time.later.push(Kept {
+            time.later.push(StoredVersion {
                 is_cut: true,
                 bytes: next.to_vec(alloc)?,
             })?;
@@ -74,7 +78,7 @@ fn apply(
             }
         }
         Change::Sync => {
-            *time = Time {
+            *time = VersionsSinceSync {
                 first: content.to_vec(alloc)?,
                 later: Vec::new(alloc),
             };
@@ -83,7 +87,7 @@ fn apply(
     Ok(())
 }
 
-impl Time {
+impl VersionsSinceSync {
     fn bytes_at(&self, at: usize) -> &[u8]
         requires { at ≤ length self.now.later.items }
         ensures { result.now ≡ (version_at (versions_of self.now) at).bytes }
@@ -106,7 +110,7 @@ impl Time {
         }
     }
 
-    // How many versions a sector may come from, where this one gives the length.
+    /// How many versions a sector may come from, where this one gives the length.
     fn count_choices(&self, from: usize) -> usize
         requires { from ≤ length self.now.later.items }
         ensures exact { result ≡ choices (versions_of self.now) from }
@@ -121,7 +125,7 @@ impl Time {
         count + 1
     }
 
-    // What a stop may leave, by these picks.
+    /// What a crash may leave, by these picks.
     pub fn left(&self, alloc: Global, picks: &[u32]) -> Result<Vec<u8>, AllocError>
         ensures exact { IfOk result (λ c. c.items ≡ left_by (versions_of self.now) picks.now) }
         ensures left { IfOk result (λ c. IsLeft (versions_of self.now) c.items) }
@@ -137,7 +141,7 @@ impl Time {
     }
 }
 
-// The byte at a place, which counts as zero past the end.
+/// The byte at a place, which counts as zero past the end.
 fn byte_at(bytes: &[u8], at: usize) -> u8
     ensures { result ≡ slice_index bytes.now at }
 {
@@ -154,7 +158,7 @@ fn pick(picks: &[u32], at: usize, count: usize) -> usize
     }
 }
 
-/// The picks of `MemDisk::crash` reach each file that a stop may leave, and no other. (`Picked`.)
+/// The picks of `MemDisk::crash` reach each file that a crash may leave, and no other.
 pub fn every_left_file_is_picked()
     ensures reached { (versions : List Version) (c : List ℕ) → length versions < 2 ^ 32 → IsLeft versions c → IsPicked versions c }
     ensures no_other { (versions : List Version) (picks : List ℕ) → 0 < length versions → IsLeft versions (left_by versions picks) }

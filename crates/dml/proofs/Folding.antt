@@ -23,7 +23,7 @@ use Rattle.catalog.specs.declared.tables.Table.{Table}
 use Rattle.rowprog.specs.Rows.{TableRow}
 use Rattle.dml.specs.Agreement.{IsStill, IsSetFor, InsertsRows}
 use Rattle.dml.specs.Constraints.{table_of, with_affinity, default_values, set_values, stored, next_rowid}
-use Rattle.dml.specs.Inserting.{given_at, values_given, row_stored, rowid_behind, row_added, rows_added, last_rowid}
+use Rattle.dml.specs.Inserting.{given_at, values_given, row_stored, rowid_after, row_added, rows_added, last_rowid}
 use Rattle.dml.specs.RowChanges.{Fire, insert_row}
 use Rattle.dml.proofs.Rising.{Rises, AreBelow, held_rows_rise, greatest_is_last, next_for, next_is, rows_below, rises_on, last_of_more, not_found, put_behind}
 use Rattle.dml.proofs.StoredRows.{row_parts}
@@ -62,10 +62,10 @@ no_indexes ((n, AnIndex i) ∷ db) name h = absurd (false≢true h)
 no_indexes ((n, AView v) ∷ db) name h = absurd (false≢true h)
 no_indexes ((n, ATrigger t) ∷ db) name h = absurd (false≢true h)
 
-next_of : (table : Table) (rows : List TableRow) → Rises rows → next_rowid (plain_table table rows) ≡ rowid_behind (last_rowid rows)
+next_of : (table : Table) (rows : List TableRow) → Rises rows → next_rowid (plain_table table rows) ≡ rowid_after (last_rowid rows)
 next_of table rows rises = ap next_for (greatest_is_last rows rises) ∙ next_is (last_rowid rows)
 
--- the row is stored behind the others
+-- the row is stored after the others
 stored_behind : (db : Database) (name : Name) (table : Table) (rows : List TableRow) (rowid : ℤ) (values : List Value) → has_only_tables db ≡ true → AreBelow rowid rows
     → stored db name (plain_table table rows) rowid values ≡ Ok (with_object db name (ATable (plain_table table (rows ++ (rowid, values) ∷ []))))
 stored_behind db name table rows rowid values only below =
@@ -106,7 +106,7 @@ module _ (fire : Fire) (name : Name) (places : List ℕ) (table : Table) (by_col
       stored_is : with_affinity (map plain_column table.columns.items) (set_values (default_values (plain_table table [])) (zip places given)) ≡ row_stored table.columns.items by_column given
       stored_is = ap (with_affinity (map plain_column table.columns.items)) (given_at_each table.columns.items by_column given (set_values (default_values (plain_table table [])) (zip places given)) set.full set.each)
 
-      by_rowid : (values : List Value) → row_stored table.columns.items by_column given ≡ Ok values → (r : Answer ℤ) → rowid_behind (last_rowid rows) ≡ r
+      by_rowid : (values : List Value) → row_stored table.columns.items by_column given ≡ Ok values → (r : Answer ℤ) → rowid_after (last_rowid rows) ≡ r
           → insert_row fire name places db given ≡ (added_to rows given then λ row. Ok (with_rows db (rows ++ row ∷ [])))
       by_rowid values e (Ok rowid) h =
           let below : AreBelow rowid rows = rows_below rowid rows rises h in
@@ -119,7 +119,7 @@ module _ (fire : Fire) (name : Name) (places : List ℕ) (table : Table) (by_col
           rw (is, stored_is, e, still, is, next, h) refl
 
       by_values : (s : Answer (List Value)) → row_stored table.columns.items by_column given ≡ s → insert_row fire name places db given ≡ (added_to rows given then λ row. Ok (with_rows db (rows ++ row ∷ [])))
-      by_values (Ok values) e = by_rowid values e (rowid_behind (last_rowid rows)) refl
+      by_values (Ok values) e = by_rowid values e (rowid_after (last_rowid rows)) refl
       by_values (Err r) e = rw (is, stored_is, e) refl
 
   row_rises : (rows : List TableRow) (given : List Value) (row : TableRow) → Rises rows → added_to rows given ≡ Ok row → Rises (rows ++ row ∷ [])

@@ -21,15 +21,15 @@ use Rattle.catalog.specs.Database.{Name, Database}
 use Rattle.catalog.specs.Listed.{table_named, plain_column}
 use Rattle.catalog.specs.declared.tables.Column.{Column}
 use Rattle.catalog.specs.declared.tables.Table.{Table}
-use Rattle.bind.specs.Bound.{AreGiven, AreOnce, EachOf, IsRowOf, IsValueOf, Knows, columns_seen, count_wanted, is_literal, is_twice_named, looked_up, source_seen}
+use Rattle.bind.specs.Bound.{AreGiven, AreOnce, EachOf, AreValuesOf, IsValueOf, Knows, columns_seen, count_wanted, is_literal, is_twice_named, looked_up, source_seen}
 use Rattle.bind.specs.Expressions.{resolve}
 use Rattle.bind.specs.Inserts.{AreColumns, IsInsertFault, IsListRefusal, IsNameRefusal, is_of_literals, places_in, written_values}
-use Rattle.bind.specs.Known.{Known, Meant, good, bad, meant, faults, noted, also, both, known_map, known_all, ◌and_then◌, unless}
+use Rattle.bind.specs.Checked.{Checked, Meant, good, bad, meant, faults, noted, also, both, known_map, known_all, ◌and_then◌, unless}
 use Rattle.bind.specs.Readings.{env_of, values}
 use Rattle.bind.specs.Scopes.{ScopeColumn, ScopeSource, source_of, resolve_places, table_scope}
 use Rattle.bind.specs.Terms.{Term}
 use Rattle.bind.specs.Views.{look_up}
-use Rattle.dml.specs.Binding.{IsGivenAs, IsRealRefused, StandsFor, row_values, row_with}
+use Rattle.dml.specs.Binding.{IsGivenAs, IsRealRefused, IsInsertOf, row_values, row_with}
 use Rattle.dml.specs.Changes.{Given, GivenRows, Inserts, Resolved, no_outer, resolve_change}
 use Rattle.dml.specs.Inserting.{given_at}
 use Rattle.dml.proofs.PlacesByName.{column_place, list_places, listed_row, own_row, unknown_list, doubled_list}
@@ -45,7 +45,7 @@ terms rows = map (map term) rows
 abbrev AreGood : List Tree → Type 0
 AreGood es = AllByRecursion (λ e. faults (resolve false [] e) ≡ []) es
 
-is_good : {A : Type 0} (k : Known A) → faults k ≡ [] → k ≡ good (meant k)
+is_good : {A : Type 0} (k : Checked A) → faults k ≡ [] → k ≡ good (meant k)
 is_good (Meant x rs) h = ap (Meant x) h
 
 row_good : (es : List Tree) → AreGood es → known_all (map (resolve false []) es) ≡ good (map term es)
@@ -117,7 +117,7 @@ module _ (n : ℕ) where
   values_good (v ∷ vs) [] h = absurd h
   values_good (v ∷ vs) (e ∷ es) h = (h.0.0, values_good vs es h.1)
 
-  given_good : (rows : List (Vec Value Global)) (written : List (List Tree)) → EachOf (IsRowOf n) rows written → AllByRecursion AreGood written
+  given_good : (rows : List (Vec Value Global)) (written : List (List Tree)) → EachOf (AreValuesOf n) rows written → AllByRecursion AreGood written
   given_good [] [] h = tt
   given_good [] (r ∷ written) h = absurd h
   given_good (row ∷ rows) [] h = absurd h
@@ -131,7 +131,7 @@ module _ (n : ℕ) where
       ap (λ a. a then λ z. values (env_of []) (map term es) then λ zs. Ok (z ∷ zs)) (h.0.1.1 (env_of []))
       ∙ ap (λ a. a then λ zs. Ok (v ∷ zs)) (one_answer vs es h.1)
 
-  pub answers : (rows : List (Vec Value Global)) (written : List (List Tree)) → EachOf (IsRowOf n) rows written → row_values (terms written) ≡ Ok (map (λ row. row.items) rows)
+  pub answers : (rows : List (Vec Value Global)) (written : List (List Tree)) → EachOf (AreValuesOf n) rows written → row_values (terms written) ≡ Ok (map (λ row. row.items) rows)
   answers [] [] h = refl
   answers [] (r ∷ written) h = absurd h
   answers (row ∷ rows) [] h = absurd h
@@ -146,7 +146,7 @@ module _ (n : ℕ) where
   value_count (v ∷ vs) (e ∷ es) h = ap suc (value_count vs es h.1)
 
   -- what holds of each row of so many values holds of the rows given
-  pub each_row : (P : List Value → Type 0) → ((vs : List Value) → length vs ≡ n → P vs) → (rows : List (Vec Value Global)) (written : List (List Tree)) → EachOf (IsRowOf n) rows written
+  pub each_row : (P : List Value → Type 0) → ((vs : List Value) → length vs ≡ n → P vs) → (rows : List (Vec Value Global)) (written : List (List Tree)) → EachOf (AreValuesOf n) rows written
       → AllByRecursion P (map (λ row. row.items) rows)
   each_row P f [] [] h = tt
   each_row P f [] (r ∷ written) h = absurd h
@@ -177,13 +177,13 @@ counts_differ n [] = refl
 counts_differ n (r ∷ written) =
     ap (λ b. not (n == length r) || b) (counts_differ n written) ∙ one_differs n (length r) (length r == n) (list_all (λ row. length row == n) written) refl
 
-given_counts : (n : ℕ) (rows : List (Vec Value Global)) (written : List (List Tree)) → EachOf (IsRowOf n) rows written → list_all (λ row. length row == n) written ≡ true
+given_counts : (n : ℕ) (rows : List (Vec Value Global)) (written : List (List Tree)) → EachOf (AreValuesOf n) rows written → list_all (λ row. length row == n) written ≡ true
 given_counts n [] [] h = refl
 given_counts n [] (r ∷ written) h = absurd h
 given_counts n (row ∷ rows) [] h = absurd h
 given_counts n (row ∷ rows) (r ∷ written) h = ap (λ b. b && list_all (λ row. length row == n) written) (is_number (length r) n h.0.0) ∙ given_counts n rows written h.1
 
-abbrev rows_known : Option ℕ → List (List Tree) → Known Given
+abbrev rows_known : Option ℕ → List (List Tree) → Checked Given
 rows_known n written =
     unless (list_any (λ r. differs n (length r)) written) Misuse
     (known_map GivenRows (known_all (map (λ r. known_all (map (resolve false []) r)) written)))
@@ -193,7 +193,7 @@ rows_stand n written c h =
     ap (λ b. unless b Misuse (known_map GivenRows (known_all (map (λ r. known_all (map (resolve false []) r)) written)))) (counts_differ n written ∙ ap not c)
     ∙ ap (λ k. unless false Misuse (known_map GivenRows k)) (rows_good written h)
 
-unless_faults : {A : Type 0} (b : Bool) (r : Refusal) (k : Known A) → b ≡ true → Contains (faults (unless b r k)) r
+unless_faults : {A : Type 0} (b : Bool) (r : Refusal) (k : Checked A) → b ≡ true → Contains (faults (unless b r k)) r
 unless_faults b r (Meant x rs) h = subst (λ b. Contains (faults (unless b r (Meant x rs))) r) (sym h) (0, omega arith, refl)
 
 count_refused : (n : ℕ) (written : List (List Tree)) → list_all (λ row. length row == n) written ≡ false → Contains (faults (rows_known (Some n) written)) Misuse
@@ -201,19 +201,19 @@ count_refused n written c = unless_faults _ Misuse (known_map GivenRows (known_a
 
 -- ---- the target
 
-abbrev targeted : Name → Known (List ScopeColumn × Bool) → (ScopeSource → Known Resolved) → Known Resolved
+abbrev targeted : Name → Checked (List ScopeColumn × Bool) → (ScopeSource → Checked Resolved) → Checked Resolved
 targeted n k f = (noted k and_then λ found. good (source_of (folded n) found)) and_then f
 
-also_none : {A : Type 0} (k : Known A) → also [] k ≡ k
+also_none : {A : Type 0} (k : Checked A) → also [] k ≡ k
 also_none (Meant x rs) = refl
 
-target_known : (n : Name) (k : Known (List ScopeColumn × Bool)) (t : Table) (f : ScopeSource → Known Resolved) → k ≡ good (columns_seen t) → targeted n k f ≡ f (source_seen n t)
+target_known : (n : Name) (k : Checked (List ScopeColumn × Bool)) (t : Table) (f : ScopeSource → Checked Resolved) → k ≡ good (columns_seen t) → targeted n k f ≡ f (source_seen n t)
 target_known n k t f e = ap (λ k. targeted n k f) e ∙ also_none (f (source_seen n t))
 
-also_front : {A : Type 0} (r : Refusal) (k : Known A) → Contains (faults (also (r ∷ []) k)) r
+also_front : {A : Type 0} (r : Refusal) (k : Checked A) → Contains (faults (also (r ∷ []) k)) r
 also_front r (Meant x rs) = (0, omega arith, refl)
 
-target_missing : (n : Name) (k : Known (List ScopeColumn × Bool)) (f : ScopeSource → Known Resolved) → k ≡ bad ([], false) NoSuch → Contains (faults (targeted n k f)) NoSuch
+target_missing : (n : Name) (k : Checked (List ScopeColumn × Bool)) (f : ScopeSource → Checked Resolved) → k ≡ bad ([], false) NoSuch → Contains (faults (targeted n k f)) NoSuch
 target_missing n k f e = subst (λ k. Contains (faults (targeted n k f)) NoSuch) (sym e) (also_front NoSuch (f (source_of (folded n) (bad ([], false) NoSuch))))
 
 -- ---- the insertion
@@ -222,7 +222,7 @@ abbrev all_from : ℕ → List ScopeColumn → List ℕ
 all_from i [] = []
 all_from i (c ∷ cs) = i ∷ all_from (suc i) cs
 
-abbrev places_known : ScopeSource → Option (List Name) → Known (List ℕ)
+abbrev places_known : ScopeSource → Option (List Name) → Checked (List ℕ)
 places_known s None = good (all_from 0 s.columns)
 places_known s (Some ns) = resolve_places s ns
 
@@ -230,7 +230,7 @@ abbrev wanted : ScopeSource → Option (List Name) → Option ℕ
 wanted s None = if s.is_known then Some (length s.columns) else None
 wanted s (Some ns) = Some (length ns)
 
-abbrev rest : Name → Option (List Name) → List (List Tree) → ScopeSource → Known Resolved
+abbrev rest : Name → Option (List Name) → List (List Tree) → ScopeSource → Checked Resolved
 rest n columns written s = both (Inserts (folded n)) (places_known s columns) (rows_known (wanted s columns) written)
 
 abbrev insertion : Name → Option (List Name) → InsertSource → Insert
@@ -259,7 +259,7 @@ rows_fused : (written : List (List Tree)) → row_values (terms written) ≡ all
 rows_fused [] = refl
 rows_fused (r ∷ written) = ap (λ a. values (env_of []) (map term r) then λ z. a then λ zs. Ok (z ∷ zs)) (rows_fused written)
 
-both_faults : {A B C : Type 0} (f : A → B → C) (k : Known A) (l : Known B) → faults (both f k l) ≡ faults k ++ faults l
+both_faults : {A B C : Type 0} (f : A → B → C) (k : Checked A) (l : Checked B) → faults (both f k l) ≡ faults k ++ faults l
 both_faults f (Meant x rs) (Meant y ss) = refl
 
 module _ (db : Database) (n : Name) (written : List (List Tree)) (t : Table) (found : look_up db n ≡ good (columns_seen t)) (once : is_twice_named t.columns.items ≡ false) where
@@ -272,7 +272,7 @@ module _ (db : Database) (n : Name) (written : List (List Tree)) (t : Table) (fo
   places_stand (Some ns) l = list_places n t once ns l.0 l.1
 
   pub stands : (columns : Option (List Name)) → AreColumns t.columns.items columns → list_all (λ row. length row == count_wanted columns t) written ≡ true → AllByRecursion AreGood written
-      → StandsFor db (insertion n columns (given.Rows written)) (value_places t columns) (terms written)
+      → IsInsertOf db (insertion n columns (given.Rows written)) (value_places t columns) (terms written)
   stands columns l c h =
       target_known n (look_up db n) t (rest n columns written) found
       ∙ (ap (λ p. both (Inserts (folded n)) p (rows_known (wanted (source_seen n t) columns) written)) (places_stand columns l)
@@ -284,7 +284,7 @@ module _ (db : Database) (n : Name) (written : List (List Tree)) (t : Table) (fo
   row_is None l vs k = own_row t vs k
   row_is (Some ns) l vs k = listed_row t ns vs once l.0 l.1 k
 
-  pub rows_given : (columns : Option (List Name)) (rows : List (Vec Value Global)) → AreColumns t.columns.items columns → EachOf (IsRowOf (count_wanted columns t)) rows written
+  pub rows_given : (columns : Option (List Name)) (rows : List (Vec Value Global)) → AreColumns t.columns.items columns → EachOf (AreValuesOf (count_wanted columns t)) rows written
       → IsGivenAs db (insertion n columns (given.Rows written)) t (places_in t.columns.items columns) (map (λ row. row.items) rows)
   rows_given columns rows l h = record {
     at = value_places t columns;

@@ -1,4 +1,4 @@
--- The rows of a page with those that are added behind them.
+-- The rows of a page with those that are added after them.
 use Rattle.std.proofs.Common.{◌≡◌, ◌⊎◌, inl, inr, ℕ, zero, suc, ℤ, ◌<ℤ◌, ◌+◌, ◌-◌, ◌<◌, ◌≤◌, List, [], ◌∷◌, ◌++◌, Option, Some, None, Result, Ok, Err, length, map, take, slice_index_or, refl, sym, ap, subst, ◌∙◌, append_assoc, arith}
 use Rattle.std.specs.Prelude.{unwrap_or, IsNone, IfSome, IfOk, IfErr}
 use Rattle.std.proofs.lemmas.List.{append-nil, map_push, take_more, get_or-map, length-map}
@@ -10,10 +10,10 @@ use Rattle.sqlval.specs.declared.value.Value.{Value}
 use Rattle.record.specs.Writing.{AreStorable}
 use Rattle.page.specs.Leaf.{Entry, IsTableLeaf}
 use Rattle.tabletree.specs.Cells.{Pairwise, start_of}
-use Rattle.tabletree.specs.Lone.{AreRising, IsLone, IsLeafRefusal, IsTooFull}
+use Rattle.tabletree.specs.SingleLeaf.{AreRising, IsSingleLeaf, IsLeafRefusal, IsTooFull}
 use Rattle.catalog.specs.declared.tables.Column.{Column}
 use Rattle.rowprog.specs.Rows.{TableRow, IsRow, Holds}
-use Rattle.dml.specs.Inserting.{row_added, rows_added, rowid_behind, last_rowid, entry_for, AllStorable, EndsAt, IsInserted, IsInsertRefusal, IsRefusedAs, FindNoRoom}
+use Rattle.dml.specs.Inserting.{row_added, rows_added, rowid_after, last_rowid, entry_for, AllStorable, EndsAt, IsInserted, IsInsertRefusal, IsRefusedAs, FindNoRoom}
 use Rattle.dml.specs.NewRows.{IsWritten}
 use Rattle.dml.proofs.Rising.{Rises, held_rows_rise, rises_on, rows_below, last_of_more}
 use Rattle.dml.proofs.StoredRows.{long_values, no_rows, row_parts, rows_parts}
@@ -46,19 +46,19 @@ last_is width (entry ∷ next ∷ entries) (row ∷ row' ∷ rows) (Some n) each
     at_end k = omega arith
 
 abbrev Only : List ℕ → ℕ → List Entry → Type 0
-Only page number held = (entries : List Entry) → IsLone page number entries → held ≡ entries
+Only page number held = (entries : List Entry) → IsSingleLeaf page number entries → held ≡ entries
 
 pub ends_at : (page : List ℕ) (number width : ℕ) (held : List Entry) (last : Option ℤ) → EndsWith held last → Only page number held → EndsAt page number width last
-ends_at page number width held last ends only rows holds = last_is width holds.entries rows last holds.each (subst (λ entries. EndsWith entries last) (only holds.entries holds.lone) ends)
+ends_at page number width held last ends only rows holds = last_is width holds.entries rows last holds.each (subst (λ entries. EndsWith entries last) (only holds.entries holds.single_leaf) ends)
 
 -- ---- the rows that are added
 
--- the added rows rise behind the others
+-- the added rows rise after the others
 rise_on : (columns : List Column) (places : List (Option ℕ)) (given : List (List Value)) (rows added : List TableRow) (last : Option ℤ) → last_rowid rows ≡ last → Rises rows → rows_added columns places last given ≡ Ok added → Rises (rows ++ added)
 rise_on columns places [] rows added last is rises e = subst (λ more. Rises (rows ++ more)) (no_rows added e) (subst Rises (sym (append-nil rows)) rises)
 rise_on columns places (g ∷ given) rows added last is rises e =
     let parts = rows_parts columns places last g given added e in
-    let below = rows_below parts.row.0 rows rises (ap rowid_behind is ∙ (row_parts columns places last g parts.row parts.first_is).1) in
+    let below = rows_below parts.row.0 rows rises (ap rowid_after is ∙ (row_parts columns places last g parts.row parts.first_is).1) in
     let further = rise_on columns places given (rows ++ parts.row ∷ []) parts.more (Some parts.row.0) (last_of_more rows parts.row) (rises_on parts.row.0 parts.row.1 rows rises below) parts.more_is in
     subst (λ more. Rises (rows ++ more)) parts.are (subst Rises (append_assoc rows (parts.row ∷ []) parts.more) further)
 
@@ -118,7 +118,7 @@ rising_of width (entry ∷ next ∷ entries) (row ∷ row' ∷ rows) each rises 
 
 pub inserted : (page new : List ℕ) (number : ℕ) (columns : List Column) (places : List (Option ℕ)) (given : List (List Value)) (last : Option ℤ) (held : List Entry) (added : List TableRow) (more : List Entry)
     → EndsWith held last → Only page number held → rows_added columns places last given ≡ Ok added → Pairwise IsWritten added more
-    → ((entries : List Entry) → IsLone page number entries → IsTableLeaf new (start_of number) (entries ++ more))
+    → ((entries : List Entry) → IsSingleLeaf page number entries → IsTableLeaf new (start_of number) (entries ++ more))
     → (rows : List TableRow) → Holds page number (length columns) rows → IsInserted new number columns places given rows
 inserted page new number columns places given last held added more ends only answer written leaf rows holds =
     let last_is = ends_at page number (length columns) held last ends only rows holds in
@@ -128,7 +128,7 @@ inserted page new number columns places given last held added more ends only ans
       answer = subst (λ n. rows_added columns places n given ≡ Ok added) (sym last_is) answer;
       holds = record {
         entries = holds.entries ++ more;
-        lone = record { leaf = leaf holds.entries holds.lone; rising = rising_of (length columns) (holds.entries ++ more) (rows ++ added) each (rise_on columns places given rows added last last_is (held_rows_rise page number (length columns) rows holds) answer) };
+        single_leaf = record { leaf = leaf holds.entries holds.single_leaf; rising = rising_of (length columns) (holds.entries ++ more) (rows ++ added) each (rise_on columns places given rows added last last_is (held_rows_rise page number (length columns) rows holds) answer) };
         each = each;
       };
     }
@@ -162,31 +162,31 @@ module _ (page : List ℕ) (number : ℕ) (columns : List Column) (places : List
 
   module _ {X : Type 0} (view : X → List ℕ) where
     pub rows_inserted : (r : Result X Fault) (added : List TableRow) (more : List Entry) → rows_added columns places last given ≡ Ok added → Pairwise IsWritten added more
-        → IfOk r (λ new. (entries : List Entry) → IsLone page number entries → IsTableLeaf (view new) (start_of number) (entries ++ more))
+        → IfOk r (λ new. (entries : List Entry) → IsSingleLeaf page number entries → IsTableLeaf (view new) (start_of number) (entries ++ more))
         → IfOk r (λ new. (rows : List TableRow) → Holds page number (length columns) rows → IsInserted (view new) number columns places given rows)
     rows_inserted (Ok new) added more answer written leaf = inserted page (view new) number columns places given last held added more ends only answer written leaf
     rows_inserted (Err fault) added more answer written leaf = tt
 
   pub page_refused : {X : Type 0} (r : Result X Fault) (added : List TableRow) (more : List Entry) → rows_added columns places last given ≡ Ok added → Pairwise IsWritten added more
-      → IfErr r (λ fault. (fault ≡ f.Memory) ⊎ (IsLeafRefusal number fault ⊎ IsTooFull page number more fault)) → IfErr r (λ fault. (entries : List Entry) → IsLone page number entries → (fault ≡ f.Memory) ⊎ IsTooFull page number more fault)
+      → IfErr r (λ fault. (fault ≡ f.Memory) ⊎ (IsLeafRefusal number fault ⊎ IsTooFull page number more fault)) → IfErr r (λ fault. (entries : List Entry) → IsSingleLeaf page number entries → (fault ≡ f.Memory) ⊎ IsTooFull page number more fault)
       → IfErr r (λ fault. IsInsertRefusal page number columns places given fault)
-  page_refused (Ok new) added more answer written refused lone = tt
-  page_refused (Err fault) added more answer written refused lone = elim refused [
+  page_refused (Ok new) added more answer written refused single_leaf = tt
+  page_refused (Err fault) added more answer written refused single_leaf = elim refused [
     | inl e ↦ inl e
-    | inr (inl leaf) ↦ inr (inl (leaf, λ rows holds. not_leaf page number more fault leaf (lone holds.entries holds.lone)))
+    | inr (inl leaf) ↦ inr (inl (leaf, λ rows holds. not_leaf page number more fault leaf (single_leaf holds.entries holds.single_leaf)))
     | inr (inr full) ↦ no_room added fault answer (inr (subst (λ m. IsTooFull page number m fault) (are_entries added more written) full))
   ]
 
--- a page that holds rows is refused for want of memory alone
+-- a page that holds rows is refused when out of memory alone
 over_leaf : (number : ℕ) (rows : List Entry) (fault : Fault) → IsLeafRefusal number fault → Refuses fault (Ok rows) → ⊥
 over_leaf number rows fault (inl h) r = let e = subst (λ x. Refuses x (Ok rows)) h r in absurd cc
 over_leaf number rows fault (inr (inl h)) r = let e = subst (λ x. Refuses x (Ok rows)) h r in absurd cc
 over_leaf number rows fault (inr (inr h)) r = let e = subst (λ x. Refuses x (Ok rows)) h r in absurd cc
 
-pub over_refused : (page : List ℕ) (number : ℕ) (columns : List Column) (places : List (Option ℕ)) (given : List (List Value)) (fault : Fault) → ((rows : List Entry) → IsLone page number rows → Refuses fault (Ok rows))
+pub over_refused : (page : List ℕ) (number : ℕ) (columns : List Column) (places : List (Option ℕ)) (given : List (List Value)) (fault : Fault) → ((rows : List Entry) → IsSingleLeaf page number rows → Refuses fault (Ok rows))
     → (fault ≡ f.Memory) ⊎ IsLeafRefusal number fault → IsInsertRefusal page number columns places given fault
 over_refused page number columns places given fault only (inl e) = inl e
-over_refused page number columns places given fault only (inr leaf) = inr (inl (leaf, λ rows holds. over_leaf number holds.entries fault leaf (only holds.entries holds.lone)))
+over_refused page number columns places given fault only (inr leaf) = inr (inl (leaf, λ rows holds. over_leaf number holds.entries fault leaf (only holds.entries holds.single_leaf)))
 
 -- ---- lists that grow
 

@@ -21,7 +21,7 @@ use Rattle.catalog.specs.declared.tables.Column.{Column}
 use Rattle.catalog.specs.declared.tables.Table.{Table}
 use Rattle.bind.specs.Bound.{is_twice_named, source_seen}
 use Rattle.bind.specs.Inserts.{has_unknown, places_in}
-use Rattle.bind.specs.Known.{Known, Meant, good, faults, both, known_all, the_one, unless}
+use Rattle.bind.specs.Checked.{Checked, Meant, good, faults, both, known_all, the_one, unless}
 use Rattle.bind.specs.Scopes.{ScopeColumn, table_scope, place_of, resolve_places, is_doubled}
 use Rattle.dml.specs.Binding.{row_with}
 use Rattle.dml.specs.Constraints.{set_values}
@@ -144,7 +144,7 @@ module _ (as_name : List ℕ) (t : Table) (once : is_twice_named t.columns.items
   in_front : (rs : List Refusal) (r : Refusal) (k : List Refusal) → k ≡ r ∷ [] → Contains (k ++ rs) r
   in_front rs r k e = subst (λ k. Contains (k ++ rs) r) (sym e) (0, omega arith, refl)
 
-  both_faults : {A B C : Type 0} (f : A → B → C) (k : Known A) (l : Known B) → faults (both f k l) ≡ faults k ++ faults l
+  both_faults : {A B C : Type 0} (f : A → B → C) (k : Checked A) (l : Checked B) → faults (both f k l) ≡ faults k ++ faults l
   both_faults f (Meant x rs) (Meant y ss) = refl
 
   unknown_refused : (names : List (List ℕ)) → has_unknown t.columns.items names ≡ true → Contains (faults (known_all (map (place_of (source_seen as_name t)) names))) NoSuch
@@ -156,7 +156,7 @@ module _ (as_name : List ℕ) (t : Table) (once : is_twice_named t.columns.items
         | inr e ↦ Contains-append_right (faults (place_of (source_seen as_name t) n)) (faults (known_all (map (place_of (source_seen as_name t)) ns))) NoSuch (unknown_refused ns e)
       ])
 
-  unless_faults : {A : Type 0} (b : Bool) (r : Refusal) (k : Known A) → faults (unless b r k) ≡ (if b then (r ∷ []) else []) ++ faults k
+  unless_faults : {A : Type 0} (b : Bool) (r : Refusal) (k : Checked A) → faults (unless b r k) ≡ (if b then (r ∷ []) else []) ++ faults k
   unless_faults b r (Meant x rs) = refl
 
   -- a list with a name that no column has is refused
@@ -256,9 +256,9 @@ shift test i [] = refl
 shift test i (x ∷ xs) = shift_by (test x) i (position_from test (i + 1 + 1) xs) (position_from test (i + 1) xs) (shift test (i + 1) xs)
 
 -- one item at most passes
-abbrev IsLone : {X : Type 0} → (X → Bool) → List X → Type 0
-IsLone test [] = ⊤
-IsLone test (x ∷ xs) = (test x ≡ true → position_from test 0 xs ≡ None) × IsLone test xs
+abbrev IsSingleLeaf : {X : Type 0} → (X → Bool) → List X → Type 0
+IsSingleLeaf test [] = ⊤
+IsSingleLeaf test (x ∷ xs) = (test x ≡ true → position_from test 0 xs ≡ None) × IsSingleLeaf test xs
 
 module _ {X : Type 0} (test : X → Bool) (place : X → ℕ) (k : ℕ) where
   step : (x : X) (xs : List X) (v : Value) (vs ds : List Value) → (place x == k) ≡ test x → (test x ≡ true → position_from test 0 xs ≡ None) → k < length ds
@@ -269,7 +269,7 @@ module _ {X : Type 0} (test : X → Bool) (place : X → ℕ) (k : ℕ) where
       ap (λ d. picked vs d (position_from test 0 xs)) (get_or-set_other ds (place x) k v Null (λ same. false≢true (sym (a ∙ e) ∙ is_number (place x) k (sym same))))
       ∙ (sym (picked_later v vs (get_or ds k Null) (position_from test 0 xs)) ∙ ap (picked (v ∷ vs) (get_or ds k Null)) (sym (shift test 0 xs)))
 
-  written : (xs : List X) (vs ds : List Value) → length vs ≡ length xs → AllByRecursion (λ x. (place x == k) ≡ test x) xs → IsLone test xs → k < length ds
+  written : (xs : List X) (vs ds : List Value) → length vs ≡ length xs → AllByRecursion (λ x. (place x == k) ≡ test x) xs → IsSingleLeaf test xs → k < length ds
       → get_or (set_values ds (zip (map place xs) vs)) k Null ≡ picked vs (get_or ds k Null) (position_from test 0 xs)
   written [] vs ds l a h lt = refl
   written (x ∷ xs) [] ds l a h lt = absurd (omega (arith, l))
@@ -295,7 +295,7 @@ same_count ds (p ∷ ps) = same_count (set ds p.0 p.1) ps ∙ length-set ds p.0 
 -- the values at the places of their columns are the columns' values
 module _ {X : Type 0} (t : Table) (place : X → ℕ) (xs : List X) (places : List (Option ℕ)) where
   row_given : (vs : List Value) → length vs ≡ length xs → length places ≡ length t.columns.items
-      → ((k : ℕ) → k < length t.columns.items → (test : X → Bool) × AllByRecursion (λ x. (place x == k) ≡ test x) xs × IsLone test xs × (get_or places k None ≡ position_from test 0 xs))
+      → ((k : ℕ) → k < length t.columns.items → (test : X → Bool) × AllByRecursion (λ x. (place x == k) ≡ test x) xs × IsSingleLeaf test xs × (get_or places k None ≡ position_from test 0 xs))
       → row_with t (map place xs) vs ≡ map (given_at vs) places
   row_given vs l count f =
       ext_get_or Null (row_with t (map place xs) vs) (map (given_at vs) places) (long ∙ sym (length-map places (given_at vs) ∙ count))
@@ -315,9 +315,9 @@ none_in_range j i zero k lt = refl
 none_in_range j i (suc n) k lt =
     ap (λ b. cond b (Some j) (position_from (λ p. p == k) (j + 1) (range_with_len (i + 1) n))) (other_number k i lt) ∙ none_in_range (j + 1) (i + 1) n k (omega (arith, lt))
 
-range_lone : (i n k : ℕ) → IsLone (λ p. p == k) (range_with_len i n)
-range_lone i zero k = tt
-range_lone i (suc n) k = (λ h. (let e : i ≡ k = same_number i k h in none_in_range 0 (i + 1) n k (omega (arith, e))), range_lone (i + 1) n k)
+range_single : (i n k : ℕ) → IsSingleLeaf (λ p. p == k) (range_with_len i n)
+range_single i zero k = tt
+range_single i (suc n) k = (λ h. (let e : i ≡ k = same_number i k h in none_in_range 0 (i + 1) n k (omega (arith, e))), range_single (i + 1) n k)
 
 in_range : (i j m n k : ℕ) → k ≡ i + m → m < n → position_from (λ p. p == k) j (range_with_len i n) ≡ Some (j + m)
 in_range i j m zero k e lt = absurd (omega (arith, lt))
@@ -338,7 +338,7 @@ own_row t vs l =
     (λ k lt. (
       λ p. p == k,
       all_same (λ p. p == k) (range_with_len 0 n),
-      range_lone 0 n k,
+      range_single 0 n k,
       get_or-map-range_with_len Some 0 n k k None lt (omega arith) ∙ (ap Some (omega arith) ∙ sym (in_range 0 0 k n k (omega arith) lt)),
     ))
 
@@ -350,9 +350,9 @@ none_after i n c (m ∷ ns) h k =
     ap (λ b. cond b (Some i) (position_from (λ m. is_same_name m c) (i + 1) ns)) (same_by n c m h ∙ or_left (is_same_name n m) (list_any (is_same_name n) ns) k)
     ∙ none_after (i + 1) n c ns h (or_right (is_same_name n m) (list_any (is_same_name n) ns) k)
 
-names_lone : (c : List ℕ) (ns : List (List ℕ)) → is_doubled ns ≡ false → IsLone (λ m. is_same_name m c) ns
-names_lone c [] h = tt
-names_lone c (n ∷ ns) h = (λ e. none_after 0 n c ns e (or_left (list_any (is_same_name n) ns) (is_doubled ns) h), names_lone c ns (or_right (list_any (is_same_name n) ns) (is_doubled ns) h))
+names_single : (c : List ℕ) (ns : List (List ℕ)) → is_doubled ns ≡ false → IsSingleLeaf (λ m. is_same_name m c) ns
+names_single c [] h = tt
+names_single c (n ∷ ns) h = (λ e. none_after 0 n c ns e (or_left (list_any (is_same_name n) ns) (is_doubled ns) h), names_single c ns (or_right (list_any (is_same_name n) ns) (is_doubled ns) h))
 
 place_by : (cs : List Column) (name : List ℕ) (k : ℕ) (b : Bool) (o : Option ℕ) → is_none o ≡ false → ((p : ℕ) → o ≡ Some p → (p == k) ≡ b) → (unwrap_or o 0 == k) ≡ b
 place_by cs name k b None h f = absurd (false≢true (sym h))
@@ -381,6 +381,6 @@ listed_row t ns vs once h two l =
     (λ k lt. (
       λ name. is_same_name name (get_or t.columns.items k (column_in t.columns.items k lt)).name,
       names_agree t k (column_in t.columns.items k lt) ns once lt h,
-      names_lone (get_or t.columns.items k (column_in t.columns.items k lt)).name ns two,
+      names_single (get_or t.columns.items k (column_in t.columns.items k lt)).name ns two,
       get_or-map (λ c. position_from (λ name. is_same_name name c.name) 0 ns) t.columns.items k (column_in t.columns.items k lt) None lt,
     ))

@@ -1,4 +1,4 @@
--- Rows by rising rowid: the last rowid is the greatest, and a row behind it comes last.
+-- Rows by rising rowid: the last rowid is the greatest, and a row after it comes last.
 use Rattle.std.proofs.Common.{◌≡◌, ℕ, zero, suc, ℤ, pos, ◌+ℤ◌, ◌<ℤ◌, ◌-◌, ◌^◌, Bool, true, false, cond, List, [], ◌∷◌, ◌++◌, Option, Some, None, Ok, Err, map, slice_index_or, refl, sym, ap, subst, ◌∙◌, arith}
 use Rattle.std.specs.Prelude.{unwrap_or, int_lt, if◌then◌else◌, ⊤}
 use Rattle.std.specs.Cmp.{int_cmp_is}
@@ -9,11 +9,11 @@ use Rattle.sqlval.specs.Refusals.{Answer, RowidFull}
 use Rattle.sqlval.specs.declared.value.Value.{Value}
 use Rattle.page.specs.Leaf.{Entry}
 use Rattle.tabletree.specs.Cells.{Pairwise}
-use Rattle.tabletree.specs.Lone.{AreRising}
+use Rattle.tabletree.specs.SingleLeaf.{AreRising}
 use Rattle.rowprog.specs.Rows.{TableRow, IsRow, Holds}
-use Rattle.dml.specs.Agreement.{NextIsBehind}
+use Rattle.dml.specs.Agreement.{NextIsGreater}
 use Rattle.dml.specs.Constraints.{greatest}
-use Rattle.dml.specs.Inserting.{rowid_behind, last_rowid}
+use Rattle.dml.specs.Inserting.{rowid_after, last_rowid}
 
 -- the rowids go up from above one
 abbrev pub Climbs : ℤ → List TableRow → Type 0
@@ -50,7 +50,7 @@ rows_rise width (entry ∷ entries) (row ∷ rows) rising each = subst (λ n. Cl
 
 -- the rows of a page rise
 pub held_rows_rise : (page : List ℕ) (number width : ℕ) (rows : List TableRow) → Holds page number width rows → Rises rows
-held_rows_rise page number width rows holds = rows_rise width holds.entries rows holds.lone.rising holds.each
+held_rows_rise page number width rows holds = rows_rise width holds.entries rows holds.single_leaf.rising holds.each
 
 less : (a b : ℤ) → a <ℤ b → int_lt a b ≡ true
 less a b lt = grind (arith)
@@ -75,14 +75,14 @@ greatest_is_last (row ∷ rows) rises = greatest_of row rows rises
 abbrev pub next_for : Option ℤ → Answer ℤ
 next_for last = elim last [ None ↦ Ok (pos 1) | Some x ↦ (if int_lt x (pos (2 ^ 63 - 1)) then Ok (x +ℤ pos 1) else Err RowidFull) ]
 
-pub next_is : (last : Option ℤ) → next_for last ≡ rowid_behind last
+pub next_is : (last : Option ℤ) → next_for last ≡ rowid_after last
 next_is None = refl
 next_is (Some x) = refl
 
-pub next_is_behind : NextIsBehind
-next_is_behind page number width t holds = ap next_for (greatest_is_last t.rows (held_rows_rise page number width t.rows holds)) ∙ next_is (last_rowid t.rows)
+pub next_is_greater : NextIsGreater
+next_is_greater page number width t holds = ap next_for (greatest_is_last t.rows (held_rows_rise page number width t.rows holds)) ∙ next_is (last_rowid t.rows)
 
--- ---- one row behind them
+-- ---- one row after them
 
 -- each rowid is below this one
 abbrev pub AreBelow : ℤ → List TableRow → Type 0
@@ -117,14 +117,14 @@ no_last : (rowid : ℤ) (rows : List TableRow) → last_rowid rows ≡ None → 
 no_last rowid [] e = tt
 no_last rowid (row ∷ rows) e = absurd cc
 
--- the rows are below the rowid behind them
-pub rows_below : (rowid : ℤ) (rows : List TableRow) → Rises rows → rowid_behind (last_rowid rows) ≡ Ok rowid → AreBelow rowid rows
+-- the rows are below the rowid after them
+pub rows_below : (rowid : ℤ) (rows : List TableRow) → Rises rows → rowid_after (last_rowid rows) ≡ Ok rowid → AreBelow rowid rows
 rows_below rowid rows rises e = by_last (last_rowid rows) refl
   where
     by_last : (last : Option ℤ) → last_rowid rows ≡ last → AreBelow rowid rows
     by_last None h = no_last rowid rows h
     by_last (Some n) h =
-        some_below rowid rows rises n h (one_up n rowid (is_next (int_lt n (pos (2 ^ 63 - 1))) n rowid (sym (ap rowid_behind h) ∙ e)))
+        some_below rowid rows rises n h (one_up n rowid (is_next (int_lt n (pos (2 ^ 63 - 1))) n rowid (sym (ap rowid_after h) ∙ e)))
 
 climbs_on : (low rowid : ℤ) (values : List Value) (rows : List TableRow) → low <ℤ rowid → Climbs low rows → AreBelow rowid rows → Climbs low (rows ++ (rowid, values) ∷ [])
 climbs_on low rowid values [] lt climb below = (lt, tt)
@@ -150,7 +150,7 @@ pub not_found : (rowid : ℤ) (rows : List TableRow) → AreBelow rowid rows →
 not_found rowid [] below = refl
 not_found rowid (row ∷ rows) below = ap (λ o. cond (is_eq o) (Some row.1) (find int_cmp rowid rows)) (greater rowid row.0 below.0) ∙ not_found rowid rows below.1
 
--- it is put behind them
+-- it is put after them
 pub put_behind : (rowid : ℤ) (values : List Value) (rows : List TableRow) → AreBelow rowid rows → put int_cmp rowid values rows ≡ rows ++ (rowid, values) ∷ []
 put_behind rowid values [] below = refl
 put_behind rowid values (row ∷ rows) below =

@@ -1,6 +1,6 @@
 -- Worked examples of single rows, where no trigger stands.
 use Rattle.std.specs.Prelude.{◌≡◌, refl, true, pos, Ok, Err, codes, None, Some, List, [], ◌∷◌, ℤ}
-use Rattle.sqlval.specs.Affinity.{is_number, behind_digits, ends_number, ends_exponent}
+use Rattle.sqlval.specs.Affinity.{is_number, rest_after_digits, ends_number, ends_exponent}
 use Rattle.sqlval.specs.Refusals.{NoSuch, Misuse, NotNull, Check, Unique, RowidFull, RowidMismatch}
 use Rattle.sqlval.specs.declared.affinity.Affinity.TheVariants as kind
 use Rattle.sqlval.specs.declared.collation.Collation.TheVariants.{Binary}
@@ -11,7 +11,7 @@ use Rattle.syntax.specs.declared.change.Change.TheVariants as change
 use Rattle.syntax.specs.declared.change.InsertSource.TheVariants as source
 use Rattle.syntax.specs.declared.expr.Operator.TheVariants as op
 use Rattle.catalog.specs.Database.{Name, Database, ATable, AnIndex, with_object}
-use Rattle.bind.specs.Known.{faults}
+use Rattle.bind.specs.Checked.{faults}
 use Rattle.bind.specs.Terms.{Digits}
 use Rattle.bind.proofs.Written.{number, named, insert, col, table, int}
 use Rattle.dml.specs.Changes.{no_outer, resolve_change}
@@ -70,7 +70,7 @@ pub rowid_full : insert_row still t (0 ∷ []) (own_rowid ((pos 9223372036854775
 rowid_full = refl
 
 pub rowid_mismatch : insert_row still t (0 ∷ []) (own_rowid []) (Text (codes "x") ∷ []) ≡ Err RowidMismatch
-unfolding is_number behind_digits ends_number ends_exponent
+unfolding is_number rest_after_digits ends_number ends_exponent
 rowid_mismatch = refl
 
 pub greatest_rowid : greatest (pos 5 ∷ pos 9 ∷ pos 3 ∷ []) ≡ Some (pos 9)

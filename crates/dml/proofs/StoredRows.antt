@@ -14,7 +14,7 @@ use Rattle.sqlval.specs.declared.value.Value.TheVariants.{Null}
 use Rattle.catalog.specs.Laws.{ConvertsAsRelated, RefusesReals}
 use Rattle.catalog.specs.declared.tables.Column.{Column}
 use Rattle.rowprog.specs.Rows.{TableRow}
-use Rattle.dml.specs.Inserting.{given_at, row_stored, rowid_behind, row_added, rows_added}
+use Rattle.dml.specs.Inserting.{given_at, row_stored, rowid_after, row_added, rows_added}
 
 -- ---- one value
 
@@ -85,40 +85,40 @@ column_refused columns places given values index column place fault long each lt
 -- ---- row by row
 
 -- with these rows in front
-abbrev pub behind_rows : List TableRow → Answer (List TableRow) → Answer (List TableRow)
-behind_rows rows answer = answer then λ more. Ok (rows ++ more)
+abbrev pub after_rows : List TableRow → Answer (List TableRow) → Answer (List TableRow)
+after_rows rows answer = answer then λ more. Ok (rows ++ more)
 
-pub nothing_in_front : (answer : Answer (List TableRow)) → answer ≡ behind_rows [] answer
+pub nothing_in_front : (answer : Answer (List TableRow)) → answer ≡ after_rows [] answer
 nothing_in_front (Ok rows) = refl
 nothing_in_front (Err r) = refl
 
-one_in_front : (rows : List TableRow) (row : TableRow) (answer : Answer (List TableRow)) → behind_rows rows (answer then λ more. Ok (row ∷ more)) ≡ behind_rows (rows ++ row ∷ []) answer
+one_in_front : (rows : List TableRow) (row : TableRow) (answer : Answer (List TableRow)) → after_rows rows (answer then λ more. Ok (row ∷ more)) ≡ after_rows (rows ++ row ∷ []) answer
 one_in_front rows row (Ok more) = ap (λ (xs : List TableRow). Ok xs) (sym (append_assoc rows (row ∷ []) more))
 one_in_front rows row (Err r) = refl
 
-pub row_behind : (columns : List Column) (places : List (Option ℕ)) (last : Option ℤ) (given : List Value) (rest : List (List Value)) (rows : List TableRow) (row : TableRow) → row_added columns places last given ≡ Ok row
-    → behind_rows rows (rows_added columns places last (given ∷ rest)) ≡ behind_rows (rows ++ row ∷ []) (rows_added columns places (Some row.0) rest)
-row_behind columns places last given rest rows row e =
-    ap (λ (a : Answer TableRow). behind_rows rows (a then λ row. rows_added columns places (Some row.0) rest then λ added. Ok (row ∷ added))) e
+pub row_after : (columns : List Column) (places : List (Option ℕ)) (last : Option ℤ) (given : List Value) (rest : List (List Value)) (rows : List TableRow) (row : TableRow) → row_added columns places last given ≡ Ok row
+    → after_rows rows (rows_added columns places last (given ∷ rest)) ≡ after_rows (rows ++ row ∷ []) (rows_added columns places (Some row.0) rest)
+row_after columns places last given rest rows row e =
+    ap (λ (a : Answer TableRow). after_rows rows (a then λ row. rows_added columns places (Some row.0) rest then λ added. Ok (row ∷ added))) e
     ∙ one_in_front rows row (rows_added columns places (Some row.0) rest)
 
 pub refused_behind : (columns : List Column) (places : List (Option ℕ)) (last : Option ℤ) (given : List Value) (rest : List (List Value)) (rows : List TableRow) (r : Refusal) → row_added columns places last given ≡ Err r
-    → behind_rows rows (rows_added columns places last (given ∷ rest)) ≡ Err r
+    → after_rows rows (rows_added columns places last (given ∷ rest)) ≡ Err r
 refused_behind columns places last given rest rows r e =
-    ap (λ (a : Answer TableRow). behind_rows rows (a then λ row. rows_added columns places (Some row.0) rest then λ added. Ok (row ∷ added))) e
+    ap (λ (a : Answer TableRow). after_rows rows (a then λ row. rows_added columns places (Some row.0) rest then λ added. Ok (row ∷ added))) e
 
-pub nothing_behind : (columns : List Column) (places : List (Option ℕ)) (last : Option ℤ) (rows : List TableRow) (rest : List (List Value)) → rest ≡ [] → behind_rows rows (rows_added columns places last rest) ≡ Ok rows
-nothing_behind columns places last rows rest e = ap (λ xs. behind_rows rows (rows_added columns places last xs)) e ∙ ap (λ (xs : List TableRow). Ok xs) (append-nil rows)
+pub nothing_behind : (columns : List Column) (places : List (Option ℕ)) (last : Option ℤ) (rows : List TableRow) (rest : List (List Value)) → rest ≡ [] → after_rows rows (rows_added columns places last rest) ≡ Ok rows
+nothing_behind columns places last rows rest e = ap (λ xs. after_rows rows (rows_added columns places last xs)) e ∙ ap (λ (xs : List TableRow). Ok xs) (append-nil rows)
 
--- one row on, the rows so far and those behind them are still those of all
+-- one row on, the rows so far and those after them are still those of all
 pub rows_go_on : {R N : Type 0} (columns : List Column) (places : List (Option ℕ)) (g : R → List Value) (h : N → TableRow) (rows : List R) (i : ℕ) (row : R) (done : List N) (new : N) (before after : Option ℤ) (all : Answer (List TableRow))
     → i < length rows → row ≡ slice_index_or rows i row → row_added columns places before (g row) ≡ Ok (h new) → after ≡ Some (h new).0
-    → behind_rows (map h done) (rows_added columns places before (map g (drop i rows))) ≡ all → behind_rows (map h (done ++ new ∷ [])) (rows_added columns places after (map g (drop (i + 1) rows))) ≡ all
+    → after_rows (map h done) (rows_added columns places before (map g (drop i rows))) ≡ all → after_rows (map h (done ++ new ∷ [])) (rows_added columns places after (map g (drop (i + 1) rows))) ≡ all
 rows_go_on columns places g h rows i row done new before after all lt is one after_is so_far =
-    ap (λ rs. behind_rows rs (rows_added columns places after (map g (drop (i + 1) rows)))) (map_push h done new)
-    ∙ (ap (λ last. behind_rows (map h done ++ h new ∷ []) (rows_added columns places last (map g (drop (i + 1) rows)))) after_is
-    ∙ (sym (row_behind columns places before (g row) (map g (drop (i + 1) rows)) (map h done) (h new) one)
-    ∙ (ap (λ rs. behind_rows (map h done) (rows_added columns places before (map g rs))) (sym (drop_more rows i row lt ∙ ap (λ r. r ∷ drop (i + 1) rows) (sym is))) ∙ so_far)))
+    ap (λ rs. after_rows rs (rows_added columns places after (map g (drop (i + 1) rows)))) (map_push h done new)
+    ∙ (ap (λ last. after_rows (map h done ++ h new ∷ []) (rows_added columns places last (map g (drop (i + 1) rows)))) after_is
+    ∙ (sym (row_after columns places before (g row) (map g (drop (i + 1) rows)) (map h done) (h new) one)
+    ∙ (ap (λ rs. after_rows (map h done) (rows_added columns places before (map g rs))) (sym (drop_more rows i row lt ∙ ap (λ r. r ∷ drop (i + 1) rows) (sym is))) ∙ so_far)))
 
 -- ---- the parts of an answer
 
@@ -142,15 +142,15 @@ same_values a b e = cc
 
 -- what a row is made of
 pub row_parts : (columns : List Column) (places : List (Option ℕ)) (last : Option ℤ) (given : List Value) (row : TableRow) → row_added columns places last given ≡ Ok row
-    → (row_stored columns places given ≡ Ok row.1) × (rowid_behind last ≡ Ok row.0)
-row_parts columns places last given row e = by (row_stored columns places given) (rowid_behind last) e
+    → (row_stored columns places given ≡ Ok row.1) × (rowid_after last ≡ Ok row.0)
+row_parts columns places last given row e = by (row_stored columns places given) (rowid_after last) e
   where
     by : (a : Answer (List Value)) (b : Answer ℤ) → (a then λ values. b then λ rowid. Ok (rowid, values)) ≡ Ok row → (a ≡ Ok row.1) × (b ≡ Ok row.0)
     by (Ok values) (Ok rowid) h = (ap (λ (r : TableRow). Ok r.1) (same_row (rowid, values) row h), ap (λ (r : TableRow). Ok r.0) (same_row (rowid, values) row h))
     by (Ok values) (Err r) h = absurd cc
     by (Err r) b h = absurd cc
 
--- the first row and those behind it
+-- the first row and those after it
 pub record Parts (columns : List Column) (places : List (Option ℕ)) (last : Option ℤ) (given : List Value) (rest : List (List Value)) (rows : List TableRow) : Type 0 where
   pub row : TableRow
   pub more : List TableRow

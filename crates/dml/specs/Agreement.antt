@@ -11,12 +11,12 @@ use Rattle.catalog.specs.declared.tables.Column.{Column}
 use Rattle.catalog.specs.declared.tables.Table.{Table}
 use Rattle.rowprog.specs.Rows.{Holds, TableRow}
 use Rattle.dml.specs.Constraints.{next_rowid, table_of, default_values, set_values}
-use Rattle.dml.specs.Inserting.{given_at, rowid_behind, last_rowid, rows_added}
+use Rattle.dml.specs.Inserting.{given_at, rowid_after, last_rowid, rows_added}
 use Rattle.dml.specs.RowChanges.{Fire, Firing, insert_row}
 
--- the rowid that a row without one gets in a table is the next behind those of the table's page
-abbrev pub NextIsBehind : Type 0
-NextIsBehind = (page : List ℕ) (number width : ℕ) (t : database.Table) → Holds page number width t.rows → next_rowid t ≡ rowid_behind (last_rowid t.rows)
+-- the rowid that a row without one gets in a table is the next after those of the table's page
+abbrev pub NextIsGreater : Type 0
+NextIsGreater = (page : List ℕ) (number width : ℕ) (t : database.Table) → Holds page number width t.rows → next_rowid t ≡ rowid_after (last_rowid t.rows)
 
 -- where there are only tables, nothing is set off
 abbrev pub IsStill : Fire → Type 0
@@ -31,7 +31,7 @@ pub record AreGivenFor (columns : List Column) (places : List (Option ℕ)) (giv
 abbrev pub IsSetFor : Table → List (Option ℕ) → List ℕ → List Value → Type 0
 IsSetFor table by_column places given = AreGivenFor table.columns.items by_column given (set_values (default_values (plain_table table [])) (zip places given))
 
--- An INSERT of rows into a listed table, where nothing is set off, leaves it with those that the rows become behind its own, or
+-- An INSERT of rows into a listed table, where nothing is set off, leaves it with those that the rows become after its own, or
 -- is refused as these are.
 abbrev pub InsertsRows : Type 0
 InsertsRows = (fire : Fire) (name : Name) (places : List ℕ) (db : Database) (table : Table) (by_column : List (Option ℕ)) (rows : List TableRow) (given : List (List Value)) (page : List ℕ) (number : ℕ)

@@ -14,7 +14,7 @@ use Rattle.catalog.specs.Listed.{Lists, plain_table, table_named}
 use Rattle.catalog.specs.declared.tables.Table.{Table}
 use Rattle.bind.specs.Bound.{AreGiven, AreOnce, count_wanted}
 use Rattle.bind.specs.Inserts.{AreColumns, IsInsertFault, is_of_literals, places_in}
-use Rattle.bind.specs.Known.{Meant, faults}
+use Rattle.bind.specs.Checked.{Meant, faults}
 use Rattle.bind.specs.Readings.{env_of, values}
 use Rattle.bind.specs.Terms.{Term}
 use Rattle.dml.specs.Changes.{no_outer, GivenRows, Inserts, resolve_change}
@@ -22,8 +22,8 @@ use Rattle.dml.specs.Constraints.{default_values, set_values}
 use Rattle.dml.specs.Inserting.{given_at}
 
 -- the text stands for these rows of terms, each value for the column of its place, and isn't refused
-abbrev pub StandsFor : Database → Insert → List ℕ → List (List Term) → Type 0
-StandsFor db i at terms = resolve_change db no_outer (change.Insert i) ≡ Meant (Inserts (folded i.table) at (GivenRows terms)) []
+abbrev pub IsInsertOf : Database → Insert → List ℕ → List (List Term) → Type 0
+IsInsertOf db i at terms = resolve_change db no_outer (change.Insert i) ≡ Meant (Inserts (folded i.table) at (GivenRows terms)) []
 
 -- the values of terms that see no row, row by row
 abbrev pub row_values : List (List Term) → Answer (List (List Value))
@@ -38,7 +38,7 @@ row_with t at vs = set_values (default_values (plain_table t [])) (zip at vs)
 pub record IsGivenAs (db : Database) (i : Insert) (t : Table) (places : List (Option ℕ)) (rows : List (List Value)) : Type 0 where
   pub at : List ℕ
   pub terms : List (List Term)
-  pub stands : StandsFor db i at terms
+  pub stands : IsInsertOf db i at terms
   pub answered : row_values terms ≡ Ok rows
   pub placed : AllByRecursion (λ vs. row_with t at vs ≡ map (given_at vs) places) rows
 
@@ -46,7 +46,7 @@ pub record IsGivenAs (db : Database) (i : Insert) (t : Table) (places : List (Op
 pub record IsRealRefused (db : Database) (i : Insert) : Type 0 where
   pub at : List ℕ
   pub terms : List (List Term)
-  pub stands : StandsFor db i at terms
+  pub stands : IsInsertOf db i at terms
   pub refused : row_values terms ≡ Err RealRefused
 
 -- an insertion that is looked up among the tables that are listed of a database gives what its text stands for there

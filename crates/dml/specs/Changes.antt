@@ -10,7 +10,7 @@ use Rattle.syntax.specs.declared.change.InsertSource.{InsertSource}
 use Rattle.syntax.specs.declared.change.InsertSource.TheVariants as source
 use Rattle.catalog.specs.Database.{Name, Database}
 use Rattle.bind.specs.Expressions.{resolve}
-use Rattle.bind.specs.Known.{Known, good, noted, both, known_map, known_all, ◌and_then◌, unless}
+use Rattle.bind.specs.Checked.{Checked, good, noted, both, known_map, known_all, ◌and_then◌, unless}
 use Rattle.bind.specs.Queries.{resolve_query, resolve_filter}
 use Rattle.bind.specs.Readings.{Reading}
 use Rattle.bind.specs.Scopes.{ScopeColumn, ScopeSource, source_of, beside, resolve_places}
@@ -46,7 +46,7 @@ abbrev all_places : ℕ → List ScopeColumn → List ℕ
 all_places i [] = []
 all_places i (c ∷ cs) = i ∷ all_places (suc i) cs
 
-abbrev insert_places : ScopeSource → Option (List Name) → Known (List ℕ)
+abbrev insert_places : ScopeSource → Option (List Name) → Checked (List ℕ)
 insert_places s None = good (all_places 0 s.columns)
 insert_places s (Some ns) = resolve_places s ns
 
@@ -59,18 +59,18 @@ abbrev differs : Option ℕ → ℕ → Bool
 differs None n = false
 differs (Some m) n = not (m == n)
 
-abbrev resolve_given : Database → Outer → Option ℕ → InsertSource → Known Given
+abbrev resolve_given : Database → Outer → Option ℕ → InsertSource → Checked Given
 resolve_given db outer n (source.Rows rows) =
     unless (list_any (λ r. differs n (length r)) rows) Misuse
     (known_map GivenRows (known_all (map (λ r. known_all (map (resolve false outer.scope) r)) rows)))
 resolve_given db outer n (source.Query q) =
     resolve_query (look_up db) outer.scope q and_then λ r. unless (not r.is_open && differs n (length r.results)) Misuse (good (GivenQuery r))
 
-abbrev resolve_sets : List ScopeSource → ScopeSource → List Assignment → Known (List (ℕ × Term))
+abbrev resolve_sets : List ScopeSource → ScopeSource → List Assignment → Checked (List (ℕ × Term))
 resolve_sets scope s sets = both zip (resolve_places s (map (λ x. x.column) sets)) (known_all (map (λ x. resolve false scope x.value) sets))
 
 -- the table or view that a change is for, as a source
-abbrev target : Database → Name → Known ScopeSource
+abbrev target : Database → Name → Checked ScopeSource
 target db n = noted (look_up db n) and_then λ found. good (source_of (folded n) found)
 
 -- what UPDATE and DELETE see of a row
@@ -78,7 +78,7 @@ abbrev row_scope : Outer → ScopeSource → List ScopeSource
 row_scope outer s = beside outer.scope (s.name ∷ []) ++ s ∷ []
 
 -- a change by its places, with what it sees of a trigger around it
-abbrev pub resolve_change : Database → Outer → Change → Known Resolved
+abbrev pub resolve_change : Database → Outer → Change → Checked Resolved
 resolve_change db outer (Insert i) =
     target db i.table and_then λ s. both (Inserts (folded i.table)) (insert_places s i.columns) (resolve_given db outer (wanted s i.columns) i.source)
 resolve_change db outer (Update u) =

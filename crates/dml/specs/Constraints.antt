@@ -9,7 +9,7 @@ use Rattle.syntax.specs.Tree.{Tree}
 use Rattle.catalog.specs.Database.{Name, Database, object, with_object, ATable, Table, TableColumn, Index, row, with_row, indexes_of}
 use Rattle.bind.specs.Expressions.{resolve}
 use Rattle.bind.specs.Keys.{is_null, clash}
-use Rattle.bind.specs.Known.{known_then}
+use Rattle.bind.specs.Checked.{known_then}
 use Rattle.bind.specs.Readings.{holds}
 use Rattle.bind.specs.Scopes.{table_source}
 use Rattle.bind.specs.Values.{Row}

@@ -8,7 +8,7 @@ use Rattle.sqlval.specs.declared.value.Value.{Value}
 use Rattle.sqlval.specs.declared.value.Value.TheVariants.{Null}
 use Rattle.record.specs.Writing.{AreStorable, record_of}
 use Rattle.page.specs.Leaf.{Entry}
-use Rattle.tabletree.specs.Lone.{IsLeafRefusal, IsTooFull}
+use Rattle.tabletree.specs.SingleLeaf.{IsLeafRefusal, IsTooFull}
 use Rattle.catalog.specs.Listed.{plain_column}
 use Rattle.catalog.specs.declared.tables.Column.{Column}
 use Rattle.rowprog.specs.Rows.{TableRow, Holds}
@@ -31,16 +31,16 @@ values_given (column ∷ columns) (place ∷ places) given = given_at given plac
 abbrev pub row_stored : List Column → List (Option ℕ) → List Value → Answer (List Value)
 row_stored columns places given = with_affinity (map plain_column columns) (values_given columns places given)
 
--- The rowid behind the last: 1 where there is none. The greatest of all, 9223372036854775807, has none behind it.
-abbrev pub rowid_behind : Option ℤ → Answer ℤ
-rowid_behind None = Ok (pos 1)
-rowid_behind (Some last) = if int_lt last (pos (2 ^ 63 - 1)) then Ok (last +ℤ pos 1) else Err RowidFull
+-- The rowid after the last: 1 where there is none. The greatest of all, 9223372036854775807, has none after it.
+abbrev pub rowid_after : Option ℤ → Answer ℤ
+rowid_after None = Ok (pos 1)
+rowid_after (Some last) = if int_lt last (pos (2 ^ 63 - 1)) then Ok (last +ℤ pos 1) else Err RowidFull
 
--- the row that a row given becomes behind the last rowid: what its columns store, and then the next rowid
+-- the row that a row given becomes after the last rowid: what its columns store, and then the next rowid
 abbrev pub row_added : List Column → List (Option ℕ) → Option ℤ → List Value → Answer TableRow
-row_added columns places last given = row_stored columns places given then λ values. rowid_behind last then λ rowid. Ok (rowid, values)
+row_added columns places last given = row_stored columns places given then λ values. rowid_after last then λ rowid. Ok (rowid, values)
 
--- the rows that the rows given become, one behind another, up to the first refusal
+-- the rows that the rows given become, one after another, up to the first refusal
 abbrev pub rows_added : List Column → List (Option ℕ) → Option ℤ → List (List Value) → Answer (List TableRow)
 rows_added columns places last [] = Ok []
 rows_added columns places last (given ∷ rows) =
@@ -53,7 +53,7 @@ last_rowid (row ∷ rows) = Some (unwrap_or (last_rowid rows) row.0)
 
 -- ---- the page
 
--- Behind these rows, the page holds those that the rows given become.
+-- After these rows, the page holds those that the rows given become.
 pub record IsInserted (page : List ℕ) (number : ℕ) (columns : List Column) (places : List (Option ℕ)) (given : List (List Value)) (rows : List TableRow) : Type 0 where
   pub added : List TableRow
   pub answer : rows_added columns places (last_rowid rows) given ≡ Ok added
@@ -71,7 +71,7 @@ AllStorable rows = All (λ row. AreStorable row.1) rows
 abbrev pub EndsAt : List ℕ → ℕ → ℕ → Option ℤ → Type 0
 EndsAt page number width last = (rows : List TableRow) → Holds page number width rows → last_rowid rows ≡ last
 
--- a refusal of the rows given, as the definition's answer is: a real, or no rowid behind the last
+-- a refusal of the rows given, as the definition's answer is: a real, or no rowid after the last
 abbrev pub IsRefusedAs : {A : Type 0} → Answer A → Fault → Type 0
 IsRefusedAs answer f = ((f ≡ fault.RealRefused) ⊎ (f ≡ fault.RowidFull)) × (answer ≡ Err (refusal_of f))
 
@@ -97,7 +97,7 @@ pub record HasNoRoom (page : List ℕ) (number : ℕ) (columns : List Column) (p
 abbrev pub HoldsNoRows : List ℕ → ℕ → ℕ → Fault → Type 0
 HoldsNoRows page number width f = IsLeafRefusal number f × ((rows : List TableRow) → Holds page number width rows → ⊥)
 
--- Why rows aren't inserted: for want of memory, because the page is no leaf of rows, because what they become is refused, or
+-- Why rows aren't inserted: when out of memory, because the page is no leaf of rows, because what they become is refused, or
 -- because there is no room for it.
 abbrev pub IsInsertRefusal : List ℕ → ℕ → List Column → List (Option ℕ) → List (List Value) → Fault → Type 0
 IsInsertRefusal page number columns places given f =

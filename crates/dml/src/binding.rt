@@ -1,10 +1,10 @@
-//! What an insertion's text stands for, and what is looked up of it.
+//! The meaning of an INSERT's names and values.
 
 ghost use Rattle.dml.specs.Binding.{GivesAsMeant, RefusesAsMeant};
 
 use bind::listed_tables_are_known;
 
-/// An insertion of literals that is looked up among listed tables gives the rows, or has the refusal, that its text stands for.
+/// Binding an INSERT of literals gives the rows, or the refusal, that its text means.
 pub fn insertions_are_bound_as_meant()
     ensures gives { GivesAsMeant }
     ensures refuses { RefusesAsMeant }

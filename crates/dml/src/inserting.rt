@@ -1,6 +1,6 @@
 //! Changes of a table's rows.
 
-ghost use Rattle.catalog.specs.Faults.{IsNoFileFault};
+ghost use Rattle.sqlval.specs.Faults.{IsNotDiskFault};
 ghost use Rattle.std.specs.Prelude.{◌≡◌, ◌⊎◌, List, length, map, take, slice_index_or, None, Some, Ok, Err, IfOk, IfErr};
 ghost use Rattle.sqlval.specs.Conversion.{converted};
 ghost use Rattle.sqlval.specs.Refusals as refusal;
@@ -9,14 +9,14 @@ ghost use Rattle.record.specs.Writing.{AreStorable, record_of};
 ghost use Rattle.page.specs.Leaf.{entry_of};
 ghost use Rattle.tabletree.specs.Cells.{Pairwise, start_of};
 ghost use Rattle.rowprog.specs.Rows.{Holds, TableRow};
-ghost use Rattle.dml.specs.Agreement.{NextIsBehind, InsertsRows};
+ghost use Rattle.dml.specs.Agreement.{NextIsGreater, InsertsRows};
 ghost use Rattle.dml.specs.Inserting.{AllStorable, IsInserted, IsInsertRefusal, IsRefusedAs, given_at, row_added, row_stored, rows_added};
 ghost use Rattle.dml.specs.NewRows.{IsWritten, entry_in, row_of};
 
 use bind::BoundInsert;
 use catalog::{Column, conversion_is_one, other_rows_are_listed};
 use page::Cell;
-use record::{encode, is_storable};
+use record::encode_row;
 use sqlval::{Fault, Feature, R, Value, apply};
 use std::alloc::Global;
 use tabletree::{Leaf, next_rowid, with_rows};
@@ -78,7 +78,7 @@ fn stored_values(
     Ok(values)
 }
 
-/// The row that a row given becomes behind this rowid: its values are stored first, and then it takes the next rowid.
+/// Builds the row to insert after `last`: converts each value to its column's affinity, then takes the next rowid.
 fn new_row(
     alloc: Global,
     columns: &[Column],
@@ -101,7 +101,7 @@ fn last_after(row: &NewRow) -> Option<i64>
     Some(row.rowid)
 }
 
-/// The rows that the rows given become, one behind another.
+/// Builds the rows to insert, in order.
 fn new_rows(
     alloc: Global,
     columns: &[Column],
@@ -129,18 +129,6 @@ struct RowRecord {
     payload: Vec<u8>,
 }
 
-/// The record of these values. What no record can hold finds no room on a page.
-fn encoded(alloc: Global, values: &[Value]) -> R<Vec<u8>>
-    ensures is { IfOk result (λ payload. IsRecord payload.items values.now) }
-    ensures exact { IfOk result (λ payload. payload.items ≡ record_of values.now) }
-    ensures refused { IfErr result (λ fault. (fault ≡ Fault.Memory) ⊎ ((fault ≡ Fault.Unsupported Feature.RowSize) × (AreStorable values.now → ⊥))) }
-{
-    if !is_storable(values) {
-        return Err(Fault::Unsupported(Feature::RowSize));
-    }
-    encode(alloc, values)
-}
-
 /// The record of a new row.
 fn record_for(alloc: Global, row: &NewRow) -> R<RowRecord>
     ensures written { IfOk result (λ made. IsWritten (row_of row.now) (entry_in made)) }
@@ -148,7 +136,7 @@ fn record_for(alloc: Global, row: &NewRow) -> R<RowRecord>
 {
     Ok(RowRecord {
         rowid: row.rowid,
-        payload: encoded(alloc, &row.values)?,
+        payload: encode_row(alloc, &row.values)?,
     })
 }
 
@@ -179,15 +167,15 @@ fn cells_of(alloc: Global, records: &[RowRecord]) -> R<Vec<Cell<'_>>>
     Ok(cells)
 }
 
-/// The bytes of a table's page of this number with the new rows behind those that it has; what stands before the tree's node stays.
-/// A page that is no leaf of rising rows is refused as `Leaf::over` does. Row by row, a value that is a real is `RealRefused`, and a
-/// row behind the greatest rowid of all `RowidFull`; only then, where the rows don't fit, `Unsupported(RowSize)`.
+/// Builds a table's page `number` anew with the new rows after its own; what stands before the tree's node stays. A page that is
+/// no leaf of rising rows is refused as by `Leaf::over`. Row by row, a real is `RealRefused`, and a row after the greatest rowid
+/// of all is `RowidFull`; only then rows that don't fit are `Unsupported(RowSize)`.
 pub fn insert(alloc: Global, page: &[u8], number: u32, insert: BoundInsert<'_>) -> R<Vec<u8>>
     ensures inserted { IfOk result (λ new. (rows : List TableRow) → Holds page.now number (length insert.entry.table.now.columns.items) rows → IsInserted new.items number insert.entry.table.now.columns.items insert.entry.places.items (map (λ row. row.items) insert.entry.rows.items) rows) }
     ensures size { IfOk result (λ new. length new.items ≡ length page.now) }
     ensures front { IfOk result (λ new. take (start_of number) new.items ≡ take (start_of number) page.now) }
     ensures refused { IfErr result (λ fault. IsInsertRefusal page.now number insert.entry.table.now.columns.items insert.entry.places.items (map (λ row. row.items) insert.entry.rows.items) fault) }
-    ensures calm { IfErr result (λ fault. IsNoFileFault fault) }
+    ensures not_disk { IfErr result (λ fault. IsNotDiskFault fault) }
 {
     let BoundInsert {
         table,
@@ -201,12 +189,12 @@ pub fn insert(alloc: Global, page: &[u8], number: u32, insert: BoundInsert<'_>) 
     with_rows(alloc, page, number, &cells)
 }
 
-/// The rowid that a row without one gets in a table is the next behind those of the table's page.
-pub fn next_rowid_is_behind()
-    ensures { NextIsBehind }
+/// A new row's rowid is the next one after those of the table's page.
+pub fn next_rowid_is_greater()
+    ensures { NextIsGreater }
 {}
 
-/// An INSERT of rows, where nothing is set off, leaves the table with what the rows become behind its own, or is refused as they are.
+/// An INSERT that sets off no trigger appends its rows to the table, or is refused as they are.
 pub fn insert_adds_its_rows()
     ensures { InsertsRows }
 {

@@ -1,9 +1,9 @@
 //! What a change is once its names are known, and what it does to one row of a table, as definitions; and insertion into the
-//! tables that are served.
+//! tables that are supported.
 #![tactic(auto)]
 
 mod binding;
 mod inserting;
 
 pub use binding::insertions_are_bound_as_meant;
-pub use inserting::{insert, insert_adds_its_rows, next_rowid_is_behind};
+pub use inserting::{insert, insert_adds_its_rows, next_rowid_is_greater};

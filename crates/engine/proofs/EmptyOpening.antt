@@ -1,4 +1,5 @@
 -- The files that creating a database leaves are read as the empty database.
+use Rattle.sqlval.specs.PageSizes.{IsPageSize}
 use Rattle.std.proofs.Common.{◌≡◌, ◌≤◌, ◌*◌, ◌-◌, inr, refl, sym, ap, subst, ◌∙◌, ℕ, List, [], ◌∷◌, ◌^◌, length, take, drop, Bool, true, false, arith}
 use Rattle.std.specs.Prelude.{Some, None, Result, Ok, Err, nat_lt, if◌then◌else◌}
 use Rattle.std.specs.List.{list_all}
@@ -6,14 +7,14 @@ use Rattle.std.proofs.lemmas.List.{take_all, take_at}
 use Rattle.std.proofs.Math.Nat.{pow-le-pow_right}
 use Rattle.sqlval.specs.declared.fault.Fault.{Fault}
 use Rattle.dbheader.specs.declared.fields.Header.{Header}
-use Rattle.dbheader.specs.Header.{IsHeader, IsPageSize, empty_of, magic, part}
+use Rattle.dbheader.specs.Header.{IsHeader, empty_of, magic, part}
 use Rattle.page.specs.Leaf.{IsTableLeaf}
 use Rattle.page.specs.Writing.{leaf_of}
 use Rattle.page.proofs.BuiltLemmas.{leaf_built}
-use Rattle.tabletree.specs.Lone.{IsLone}
-use Rattle.wal.specs.Opening.{IsServedSize}
+use Rattle.tabletree.specs.SingleLeaf.{IsSingleLeaf}
+use Rattle.wal.specs.Sizes.{IsSizeWithinLimits}
 use Rattle.wal.specs.View.{IsInFile}
-use Rattle.pager.specs.Views.{IsPage, View}
+use Rattle.pager.specs.Views.{IsViewPage, View}
 use Rattle.pager.proofs.HeaderFronts.{header_moves}
 use Rattle.session.specs.Holding.{Hold}
 use Rattle.session.proofs.Fresh.{nothing_stored}
@@ -32,11 +33,11 @@ front_is page_size bytes e = ap (take 100) e.page ∙ front_of e.header page_siz
 pub page_header_is : (page_size : ℕ) (bytes : List ℕ) → IsEmptyDatabase page_size bytes → IsHeader bytes (empty_of page_size)
 page_header_is page_size bytes e = header_moves e.header bytes (empty_of page_size) (take_all 100 e.header (omega (arith, e.sized)) ∙ sym (front_is page_size bytes e)) e.says
 
-pub page_is_lone : (page_size : ℕ) (bytes : List ℕ) → IsPageSize page_size → IsEmptyDatabase page_size bytes → IsLone bytes 1 []
-page_is_lone page_size bytes served e =
-    let built = leaf_built e.header page_size [] (fits_empty page_size (length e.header) served e.sized) tt in
+pub page_is_single : (page_size : ℕ) (bytes : List ℕ) → IsPageSize page_size → IsEmptyDatabase page_size bytes → IsSingleLeaf bytes 1 []
+page_is_single page_size bytes served e =
+    let supported_forms = leaf_built e.header page_size [] (fits_empty page_size (length e.header) served e.sized) tt in
     record {
-      leaf = subst (λ (n : ℕ). IsTableLeaf bytes n []) e.sized (subst (λ (b : List ℕ). IsTableLeaf b (length e.header) []) (sym e.page) built.0);
+      leaf = subst (λ (n : ℕ). IsTableLeaf bytes n []) e.sized (subst (λ (b : List ℕ). IsTableLeaf b (length e.header) []) (sym e.page) supported_forms.0);
       rising = λ i d low high. absurd (omega (arith, low, high));
     }
 
@@ -75,10 +76,10 @@ ok_is a b h = cc
 from_start : (n : ℕ) (bytes : List ℕ) → take n (drop ((1 - 1) * n) bytes) ≡ take n bytes
 from_start n bytes = (let none : (1 - 1) * n ≡ 0 = omega arith in ap (λ (k : ℕ). take n (drop k bytes)) none)
 
-small : (page_size size n : ℕ) → IsPageSize page_size → n ≡ page_size → size ≡ 1 → IsServedSize n size
+small : (page_size size n : ℕ) → IsPageSize page_size → n ≡ page_size → size ≡ 1 → IsSizeWithinLimits n size
 small page_size size n served is one =
     let high : 2 ^ served.exponent ≤ 2 ^ 15 = pow-le-pow_right (omega arith) served.high in
-    subst (λ (s : ℕ). IsServedSize n s) (sym one) (record { few = omega arith; small = omega (arith, is, served.power, high) })
+    subst (λ (s : ℕ). IsSizeWithinLimits n s) (sym one) (record { few = omega arith; small = omega (arith, is, served.power, high) })
 
 pub some_is : (a b : ℕ) → Some a ≡ Some b → a ≡ b
 some_is a b h = cc
@@ -97,7 +98,7 @@ whole_page page_size page served e = (let long = page_is_long page_size page ser
 abbrev page_view : ℕ → List ℕ → View
 page_view page_size page = record { db = page; frames = []; page_size = page_size; size = 1 }
 
-first_page : (page_size : ℕ) (page : List ℕ) → IsPageSize page_size → IsEmptyDatabase page_size page → IsPage (page_view page_size page) 1 page
+first_page : (page_size : ℕ) (page : List ℕ) → IsPageSize page_size → IsEmptyDatabase page_size page → IsViewPage (page_view page_size page) 1 page
 first_page page_size page served e = record {
   first = omega arith;
   last = omega arith;
@@ -129,7 +130,7 @@ created_hold page_size page served e = record {
     header_is = page_header_is page_size page e;
     sized = refl;
     rows = [];
-    lone = page_is_lone page_size page served e;
+    single_leaf = page_is_single page_size page served e;
     tell = tt;
   }) (small page_size 1 page_size served refl refl);
 }

@@ -5,15 +5,15 @@ use Rattle.disk.specs.declared.device.Disk.{Ghosts}
 use Rattle.wal.specs.declared.log.Log.{Log}
 use Rattle.catalog.specs.Listed.{committed_in, tables_of}
 use Rattle.session.specs.Holding.{IsLeftBy}
-use Rattle.session.specs.Known.{files_of}
+use Rattle.session.specs.ConnectionState.{files_of}
 use Rattle.session.specs.Machine.{Machine, Idle, last_place, with_connection}
-use Rattle.session.specs.Shown.{AreCommitted, IsGivenUp, IsShown, IsTransaction, ShowTheSame, Shows}
+use Rattle.session.specs.Representation.{AreCommitted, IsGivenUp, RepresentsRunning, IsTransaction, ShowTheSame, Represents}
 use Rattle.session.specs.declared.transactions.Connections.{Connections}
 use Rattle.session.specs.declared.transactions.Transaction.{Transaction}
 use Rattle.session.proofs.Showing.{moved, take_twice, the_same}
 
 module _ {D : Type 0} {g : Ghosts D} (old new : Connections D g) (gone : IsGivenUp old new) (m : Machine) where
-  shown_idle : IsShown old m → IsShown new (with_connection m 1 Idle)
+  shown_idle : RepresentsRunning old m → RepresentsRunning new (with_connection m 1 Idle)
   shown_idle shown = moved old new m Idle shown (subst (ShowTheSame (files_of old)) (sym gone.files) (the_same (files_of old) shown.told)) gone.failed tables_same (omega (arith, all_now)) idle_now
     where
       tables_same : take (committed_in new.catalog) (tables_of new.catalog) ≡ take (committed_in old.catalog) (tables_of old.catalog)
@@ -28,6 +28,6 @@ module _ {D : Type 0} {g : Ghosts D} (old new : Connections D g) (gone : IsGiven
   left_idle : IsLeftBy (files_of old) m → IsLeftBy (files_of new) (with_connection m 1 Idle)
   left_idle left = subst (λ (files : Log D g). IsLeftBy files (with_connection m 1 Idle)) (sym gone.files) (record { some = left.some; db_left = left.db_left; log_left = left.log_left; held = left.held })
 
-  pub given_up_shows : Shows old m → Shows new (with_connection m 1 Idle)
+  pub given_up_shows : Represents old m → Represents new (with_connection m 1 Idle)
   given_up_shows (inl (failed, stopped, left)) = inl (gone.failed ∙ failed, stopped, left_idle left)
   given_up_shows (inr shown) = inr (shown_idle shown)

@@ -1,24 +1,25 @@
 -- Files that hold a database are opened as holding it.
+use Rattle.sqlval.specs.PageSizes.{IsPageSize}
 use Rattle.std.proofs.Common.{◌≡◌, ◌⊎◌, ◌<◌, ◌+◌, ◌-◌, ◌^◌, ◌++◌, inl, inr, refl, sym, ap, subst, ◌∙◌, ℕ, zero, suc, Bool, List, [], ◌∷◌, length, map, arith}
 use Rattle.std.specs.Prelude.{Option, Some, None, Result, Ok, Err, IsTrue, IsErrAnd}
 use Rattle.disk.specs.declared.device.Disk.{Ghosts}
 use Rattle.disk.specs.File.{IsSynced}
 use Rattle.sqlval.specs.declared.fault.Fault.{Fault}
 use Rattle.sqlval.specs.declared.fault.Fault.TheVariants.{Memory, Io}
-use Rattle.dbheader.specs.Header.{IsHeader, IsPageSize, counted_of}
+use Rattle.dbheader.specs.Header.{IsHeader, counted_of}
 use Rattle.dbheader.specs.declared.fields.Header.{Header}
 use Rattle.walframe.specs.Accepted as accepted
 use Rattle.walframe.specs.Accepted.{head_at, heads_to}
 use Rattle.walframe.specs.Log.{header_in}
 use Rattle.walframe.specs.Written.{Framed}
-use Rattle.walframe.specs.declared.framing.FrameHeader.{FrameHeader}
-use Rattle.walframe.specs.declared.heading.LogHeader.{LogHeader}
-use Rattle.walframe.specs.declared.heading.Salts.{Salts}
+use Rattle.walframe.specs.declared.frame.FrameHeader.{FrameHeader}
+use Rattle.walframe.specs.declared.log_header.LogHeader.{LogHeader}
+use Rattle.walframe.specs.declared.log_header.Salts.{Salts}
 use Rattle.wal.specs.Committed.{AreCommitted, HasCommits, framed_at, framed_to, frames_under}
 use Rattle.wal.specs.Commits.{IsCut, commits_of}
-use Rattle.wal.specs.Known.{Known, db_of, header_of, known_of, log_of}
-use Rattle.wal.specs.Opening.{IsViewSize}
-use Rattle.wal.specs.Opens.{CanOpen, IsKnownOf, IsOpened}
+use Rattle.wal.specs.LogState.{LogState, db_of, header_of, state_of, log_of}
+use Rattle.wal.specs.Sizes.{IsViewSize}
+use Rattle.wal.specs.Opened.{CanOpen, IsStateOf, IsOpened}
 use Rattle.wal.specs.Refusals.{IsOpenRefusal}
 use Rattle.wal.specs.View.{heads}
 use Rattle.wal.specs.declared.log.Log.{Log}
@@ -32,30 +33,14 @@ use Rattle.pager.specs.Views.{Tells, View, newest_view}
 use Rattle.session.specs.Holding.{Hold, IsFound, IsSettled}
 use Rattle.session.specs.Machine.{fresh}
 use Rattle.session.specs.Schema.{AreSameTables}
-use Rattle.session.specs.Shown.{AreCommitted as AllCommitted, IsShown, ShowTheSame, Shows}
+use Rattle.session.specs.Representation.{AreCommitted as AllCommitted, RepresentsRunning, ShowTheSame, Represents}
 use Rattle.session.specs.Stored.{Stores}
 use Rattle.session.specs.declared.transactions.Connections.{Connections}
 use Rattle.session.proofs.SameTables.{stores_same}
 use Rattle.session.proofs.Settled.{still_settled}
-use Rattle.engine.specs.Opening.{StartsOn, StartsWith}
+use Rattle.engine.specs.Opening.{StartsWith}
+use Rattle.sqlval.specs.Faults.{IsOrOutside, IsOutside}
 use Rattle.engine.proofs.Refusing.{open_why}
-
--- ---- page sizes
-
-powers : (j : ℕ) → j < 7 → accepted.IsPageSize (2 ^ (9 + j))
-powers zero lt = inl refl
-powers (suc zero) lt = inr (inl refl)
-powers (suc (suc zero)) lt = inr (inr (inl refl))
-powers (suc (suc (suc zero))) lt = inr (inr (inr (inl refl)))
-powers (suc (suc (suc (suc zero)))) lt = inr (inr (inr (inr (inl refl))))
-powers (suc (suc (suc (suc (suc zero))))) lt = inr (inr (inr (inr (inr (inl refl)))))
-powers (suc (suc (suc (suc (suc (suc zero)))))) lt = inr (inr (inr (inr (inr (inr refl)))))
-powers (suc (suc (suc (suc (suc (suc (suc k))))))) lt = absurd (omega (arith, lt))
-
-size_of_pages : (n : ℕ) → IsPageSize n → accepted.IsPageSize n
-size_of_pages n s =
-    let same : 9 + (s.exponent - 9) ≡ s.exponent = omega (arith, s.low) in
-    subst accepted.IsPageSize (ap (λ (k : ℕ). 2 ^ k) same ∙ sym s.power) (powers (s.exponent - 9) (omega (arith, s.high, s.low)))
 
 -- ---- a log's committed frames
 
@@ -114,7 +99,7 @@ pub can_open : (db log : List ℕ) (database : Database) (head : Header) (held :
 can_open db log database head held is =
     subst (λ (h : Header). CanOpen h.page_size (counted_of h) db log) (sym is)
     (subst (λ (n : ℕ). CanOpen n (counted_of held.found.head) db log) (sym held.found.head_size) (record {
-      page_size_is = size_of_pages held.view.page_size (subst IsPageSize held.found.head_size held.found.head_is.served);
+      page_size_is = subst IsPageSize held.found.head_size held.found.head_is.served;
       header = held.commits.header;
       header_is = held.commits.header_is;
       frames = length held.view.frames;
@@ -128,12 +113,12 @@ can_open db log database head held is =
 ok_is : {A E : Type 0} (a b : A) → ◌≡◌ {A = Result A E} (Ok a) (Ok b) → a ≡ b
 ok_is a b h = cc
 
-abbrev known_view : List ℕ → List ℕ → Known → View
+abbrev known_view : List ℕ → List ℕ → LogState → View
 known_view db log known = record { db = db; frames = frames_under (header_of known) log known.frames; page_size = known.page_size; size = known.size }
 
 -- what is known of them is the view that they hold
-pub known_held : (db log : List ℕ) (database : Database) (known : Known) (counted : Option ℕ) (held : Hold db log database) → known.page_size ≡ held.view.page_size → counted ≡ counted_of held.found.head
-    → IsKnownOf counted db log known → known_view db log known ≡ held.view
+pub known_held : (db log : List ℕ) (database : Database) (known : LogState) (counted : Option ℕ) (held : Hold db log database) → known.page_size ≡ held.view.page_size → counted ≡ counted_of held.found.head
+    → IsStateOf counted db log known → known_view db log known ≡ held.view
 known_held db log database known counted held sized counts is =
     λ i. record { db = sym held.db_is i; frames = frames i; page_size = sized i; size = size i }
   where
@@ -154,56 +139,56 @@ known_held db log database known counted held sized counts is =
 
     size : known.size ≡ held.view.size
     size =
-        let some = some_size held.view.page_size (size_of_pages held.view.page_size (subst IsPageSize held.found.head_size held.found.head_is.served)) in
+        let some = some_size held.view.page_size (subst IsPageSize held.found.head_size held.found.head_is.served) in
         one_size (heads log held.commits.header (length held.view.frames)) (counted_of held.found.head) (length db) held.view.page_size known.size held.view.size some was (held_size db log database held)
 
-abbrev seen_of : List ℕ → List Framed → Known → View
+abbrev seen_of : List ℕ → List Framed → LogState → View
 seen_of db frames known = record { db = db; frames = frames; page_size = known.page_size; size = known.size }
 
 module _ {D : Type 0} {g : Ghosts D} where
   -- ---- what was opened
 
   pub opened_settled : (files : Log D g) (counted : Option ℕ) (view : View) → newest_view files ≡ view → IsFound view → IsSynced (g.file (db_of files)) → IsSynced (g.file (log_of files))
-      → IsKnownOf counted (g.file (db_of files)).content (g.file (log_of files)).content (known_of files) → IsSettled files
+      → IsStateOf counted (g.file (db_of files)).content (g.file (log_of files)).content (state_of files) → IsSettled files
   opened_settled files counted view same found db_synced log_synced known = record {
     db_synced = db_synced;
     log_synced = log_synced;
-    commits = commits_under (header_of (known_of files)) (g.file (log_of files)).content (known_of files).page_size (known_of files).frames known.header_is known.frames_are;
+    commits = commits_under (header_of (state_of files)) (g.file (log_of files)).content (state_of files).page_size (state_of files).frames known.header_is known.frames_are;
     found = subst IsFound (sym same) found;
   }
 
   -- ---- a log that was cut
 
-  cut_same : (old new : Log D g) → known_of new ≡ known_of old → db_of new ≡ db_of old → IsCut (known_of old) (g.file (log_of old)) (g.file (log_of new)) → newest_view new ≡ newest_view old
+  cut_same : (old new : Log D g) → state_of new ≡ state_of old → db_of new ≡ db_of old → IsCut (state_of old) (g.file (log_of old)) (g.file (log_of new)) → newest_view new ≡ newest_view old
   cut_same old new known db cut =
-      let frames : commits_of (known_of new) (g.file (log_of new)).content ≡ commits_of (known_of old) (g.file (log_of old)).content =
-      ap (λ (k : Known). commits_of k (g.file (log_of new)).content) known ∙ cut.frames in
+      let frames : commits_of (state_of new) (g.file (log_of new)).content ≡ commits_of (state_of old) (g.file (log_of old)).content =
+      ap (λ (k : LogState). commits_of k (g.file (log_of new)).content) known ∙ cut.frames in
       λ i. seen_of (g.file (db i)).content (frames i) (known i)
 
-  cut_settled : (old new : Log D g) → known_of new ≡ known_of old → db_of new ≡ db_of old → IsCut (known_of old) (g.file (log_of old)) (g.file (log_of new)) → IsSettled old → IsSettled new
+  cut_settled : (old new : Log D g) → state_of new ≡ state_of old → db_of new ≡ db_of old → IsCut (state_of old) (g.file (log_of old)) (g.file (log_of new)) → IsSettled old → IsSettled new
   cut_settled old new known db cut settled = record {
     db_synced = subst (λ (d : D). IsSynced (g.file d)) (sym db) settled.db_synced;
     log_synced = cut.synced;
-    commits = subst (λ (k : Known). HasCommits k.page_size (g.file (log_of new)).content (commits_of k (g.file (log_of new)).content)) (sym known)
-        (commits_under (header_of (known_of old)) (g.file (log_of new)).content (known_of old).page_size (known_of old).frames cut.header_is cut.committed);
+    commits = subst (λ (k : LogState). HasCommits k.page_size (g.file (log_of new)).content (commits_of k (g.file (log_of new)).content)) (sym known)
+        (commits_under (header_of (state_of old)) (g.file (log_of new)).content (state_of old).page_size (state_of old).frames cut.header_is cut.committed);
     found = subst IsFound (sym (cut_same old new known db cut)) settled.found;
   }
 
   -- files that were read at most, and whose log was cut then, start with what was listed
   pub starts : (tables : List Table) (database : Database) (old mid new : Log D g) (catalog : Catalog) → ShowTheSame old mid → IsSettled old → Stores (newest_view old) tables database
-      → known_of new ≡ known_of mid → db_of new ≡ db_of mid → g.tells (log_of new) ≡ g.tells (log_of mid) → IsCut (known_of mid) (g.file (log_of mid)) (g.file (log_of new))
+      → state_of new ≡ state_of mid → db_of new ≡ db_of mid → g.tells (log_of new) ≡ g.tells (log_of mid) → IsCut (state_of mid) (g.file (log_of mid)) (g.file (log_of new))
       → AreSameTables tables (tables_of catalog) × AllCommitted catalog → StartsWith tables database new catalog
   starts tables database old mid new catalog same settled stored known db tells cut lists = record {
     listed = lists.0;
     committed = lists.1;
-    told = record { db = subst (λ (d : D). IsTrue (g.tells d)) (sym db) same.told.db; log = tells ∙ same.told.log; whole = ap (λ (k : Known). k.has_failed) known ∙ same.told.whole };
+    told = record { db = subst (λ (d : D). IsTrue (g.tells d)) (sym db) same.told.db; log = tells ∙ same.told.log; whole = ap (λ (k : LogState). k.has_failed) known ∙ same.told.whole };
     settled = cut_settled mid new known db cut (still_settled old mid same settled);
     stored = subst (λ (v : View). Stores v tables database) (sym (cut_same mid new known db cut ∙ same.newest)) stored;
   }
 
-  pub not_started : (tables : List Table) (database : Database) (files : Log D g) (result : Result Catalog Fault) (fault : Fault) → IsErrAnd result (λ e. e ≡ fault) → (fault ≡ Memory) ⊎ (fault ≡ Io) → StartsOn tables database files result
+  pub not_started : (tables : List Table) (database : Database) (files : Log D g) (result : Result Catalog Fault) (fault : Fault) → IsErrAnd result (λ e. e ≡ fault) → IsOutside fault → IsOrOutside (StartsWith tables database files) result
   not_started tables database files (Ok catalog) fault is why = absurd is
-  not_started tables database files (Err e) fault is why = subst (λ (f : Fault). (f ≡ Memory) ⊎ (f ≡ Io)) (sym is) why
+  not_started tables database files (Err e) fault is why = subst IsOutside (sym is) why
 
   -- the files tell what they hold, and it is this
   pub record IsHeld (tables : List Table) (database : Database) (files : Log D g) : Type 0 where
@@ -213,11 +198,11 @@ module _ {D : Type 0} {g : Ghosts D} where
 
   -- so they were opened
   pub opened_held : (salts : Salts) (files : Log D g) (database : Database) (head : Header) (counted : Option ℕ) (held : Hold (g.file (db_of files)).content (g.file (log_of files)).content database) → head ≡ held.found.head → counted ≡ counted_of head
-      → IsOpened head.page_size salts (known_of files) → IsKnownOf counted (g.file (db_of files)).content (g.file (log_of files)).content (known_of files)
+      → IsOpened head.page_size salts (state_of files) → IsStateOf counted (g.file (db_of files)).content (g.file (log_of files)).content (state_of files)
       → IsSynced (g.file (db_of files)) → IsSynced (g.file (log_of files)) → IsTrue (g.tells (db_of files)) → IsTrue (g.tells (log_of files)) → IsHeld held.tables database files
   opened_held salts files database head counted held is counts opened known db_synced log_synced told_db told_log =
       let sized = opened.page_size_is ∙ ap (λ (h : Header). h.page_size) is ∙ held.found.head_size in
-      let same : newest_view files ≡ held.view = known_held (g.file (db_of files)).content (g.file (log_of files)).content database (known_of files) counted held sized (counts ∙ ap counted_of is) known in
+      let same : newest_view files ≡ held.view = known_held (g.file (db_of files)).content (g.file (log_of files)).content database (state_of files) counted held sized (counts ∙ ap counted_of is) known in
       record {
         told = record { db = told_db; log = told_log; whole = opened.whole };
         settled = opened_settled files counted held.view same held.found db_synced log_synced known;
@@ -226,11 +211,11 @@ module _ {D : Type 0} {g : Ghosts D} where
 
   -- what was started shows the database
   pub starts_shown : (connections : Connections D g) (tables : List Table) (database : Database) (files : Log D g) (catalog : Catalog) → StartsWith tables database files catalog
-      → ((db : Database) → Tells files → IsSettled files → AllCommitted catalog → Stores (newest_view files) (tables_of catalog) db → IsShown connections (fresh db)) → Shows connections (fresh database)
+      → ((db : Database) → Tells files → IsSettled files → AllCommitted catalog → Stores (newest_view files) (tables_of catalog) db → RepresentsRunning connections (fresh db)) → Represents connections (fresh database)
   starts_shown connections tables database files catalog start shown =
       inr (shown database start.told start.settled start.committed (stores_same (newest_view files) tables (tables_of catalog) database start.listed start.stored))
 
--- contents that can be opened are refused for want of memory, or where a call fails
+-- contents that can be opened are refused when out of memory, or where a call fails
 pub not_opened : (has_called : Type 0) (page_size : ℕ) (counted : Option ℕ) (db log : List ℕ) (told_db told_log : Bool) (fault : Fault)
     → IsOpenRefusal has_called (IsTrue told_db → IsTrue told_log → CanOpen page_size counted db log → ⊥) fault → IsTrue told_db → IsTrue told_log → CanOpen page_size counted db log → (fault ≡ Memory) ⊎ (fault ≡ Io)
 not_opened has_called page_size counted db log told_db told_log fault refusal db_is log_is can =

@@ -4,15 +4,14 @@ use Rattle.lexer.specs.Lex.{Lexed}
 use Rattle.syntax.specs.declared.create.Create.{Create}
 use Rattle.syntax.specs.declared.statement.Statement.{Statement}
 use Rattle.syntax.specs.declared.statement.Statement.TheVariants as statement
-use Rattle.expressions.specs.Pieces.{Piece}
-use Rattle.parser.specs.Parsing.{body_end, sql_in}
-use Rattle.parser.specs.Statements as s
-use Rattle.parser.specs.Statements.{IsStatement, IsText, is_statement_within}
-use Rattle.parser.specs.Texts.{Is}
+use Rattle.expressions.specs.Symbols.{Symbol}
+use Rattle.grammar.specs.Statements as s
+use Rattle.grammar.specs.Statements.{IsStatement, IsText, is_statement_within}
+use Rattle.grammar.specs.Texts.{IsStatementText, body_end, sql_in}
 use Rattle.parser.proofs.KeptText.{kept_text}
 use Rattle.session.specs.Schema.{KeepsItsText}
 
-kept_is : (sql : List ℕ) (us : List Piece) (c : Create) (x : Statement) → IsStatement sql us x → x ≡ statement.Create c → c.sql ≡ sql
+kept_is : (sql : List ℕ) (us : List Symbol) (c : Create) (x : Statement) → IsStatement sql us x → x ≡ statement.Create c → c.sql ≡ sql
 kept_is sql _ c _ (s.create {us = us} {o = o} d) e = sym (ap (λ (c : Create). c.sql) (same_create (record { sql = sql; object = o }) c e))
   where
     same_create : (a b : Create) → statement.Create a ≡ statement.Create b → a ≡ b
@@ -28,7 +27,7 @@ kept_is sql _ c _ s.savepoint e = absurd cc
 kept_is sql _ c _ (s.release t) e = absurd cc
 kept_is sql _ c _ (s.checkpoint p m) e = absurd cc
 
-text_is : (sql : List ℕ) (ps : List Piece) (c : Create) (x : Statement) → IsText sql ps x → x ≡ statement.Create c → c.sql ≡ sql
+text_is : (sql : List ℕ) (ps : List Symbol) (c : Create) (x : Statement) → IsText sql ps x → x ≡ statement.Create c → c.sql ≡ sql
 text_is sql _ c x (s.text {us = us} made closing) e = kept_is sql us c x made e
 
 cut_short : (n k : ℕ) (z : List ℕ) → length (take n (drop k z)) ≤ length z
@@ -38,7 +37,7 @@ part_short : (z : List ℕ) (ts : List Lexed) → length (sql_in z ts) ≤ lengt
 part_short z [] = omega arith
 part_short z (t ∷ ts) = cut_short (body_end t.start (t ∷ ts) - t.start) t.start z
 
-pub keeps_text : (z : List ℕ) (x : Statement) → Is z x → is_statement_within x ≡ true → length z ≤ 65536 → KeepsItsText x
+pub keeps_text : (z : List ℕ) (x : Statement) → IsStatementText z x → is_statement_within x ≡ true → length z ≤ 65536 → KeepsItsText x
 keeps_text z (statement.Create c) is within short = record {
   sql = c.sql;
   is = kept_text z c is;

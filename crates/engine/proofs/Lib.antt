@@ -1,12 +1,15 @@
 pub mod EmptyOpening
 pub mod HeldOpening
-pub mod HeldStops
+pub mod HeldCrashes
+pub mod Crashed
 pub mod LineLaws
 pub mod LineReading
 pub mod CountedCalls
 pub mod NewFiles
-pub mod NewFileStops
+pub mod NewFileCrashes
 pub mod Opened
+pub mod BlankFiles
+pub mod OpenAnswers
 pub mod Refusing
 pub mod KeptTexts
 pub mod TextSteps
@@ -15,3 +18,4 @@ pub mod GivenUp
 pub mod Served
 pub mod SchemaTables
 pub mod FoundPages
+pub mod Marked

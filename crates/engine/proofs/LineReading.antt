@@ -7,7 +7,7 @@ use Rattle.std.proofs.KnownBytes.{Consumes-nil, Consumes-kept, Consumes-trans}
 use Rattle.sqlval.specs.declared.fault.Fault.{Fault}
 use Rattle.engine.specs.declared.lines.Met.{Met}
 use Rattle.engine.specs.declared.lines.Met.TheVariants.{Nothing, LineFeed, End}
-use Rattle.engine.specs.Lines.{Between, BeganWith, HasPart, HasRead, IsEmptyStill, IsNoLineFeed, IsThere, kept_of, tail_of}
+use Rattle.engine.specs.Lines.{Between, BeganWith, HasPart, HasRead, IsEmptyStill, IsNoLineFeed, IsPresent, kept_of, tail_of}
 
 -- nothing was read, and the input is kept
 nothing_read : (a b : Option (List ℕ)) (line : List ℕ) → Keeps a b → HasPart Nothing a b line line
@@ -30,7 +30,7 @@ end_there (Some x) None bs read end = absurd read
 end_there (Some x) (Some y) bs read end = end
 
 is_there : (met : Met) (a c : Option (List ℕ)) (shown bs : List ℕ) → (met ≡ End → length shown ≡ 0) → Consumes a c bs
-    → (length shown ≡ 0 → OnSome a (IsAtEnd c)) → IsThere met a c
+    → (length shown ≡ 0 → OnSome a (IsAtEnd c)) → IsPresent met a c
 is_there Nothing a c shown bs none read end = tt
 is_there LineFeed a c shown bs none read end = tt
 is_there End a c shown bs none read end = end_there a c bs read (end (none refl))

@@ -1,4 +1,4 @@
--- Why statements are refused: what isn't served is, and a database is full where it may be.
+-- Why statements are refused: what isn't supported is, and a database is full where it may be.
 use Rattle.std.proofs.Common.{◌≡◌, ◌⊎◌, inl, inr, refl, sym, subst, ◌∙◌, ℕ, Bool}
 use Rattle.std.specs.Prelude.{IsFalse, IsTrue, Result, Ok, Err, IfOk, IfErr, OnOk, IsErrAnd}
 use Rattle.std.proofs.lemmas.Bool.{false≢true}
@@ -6,21 +6,21 @@ use Rattle.sqlval.specs.declared.fault.Fault.{Fault}
 use Rattle.sqlval.specs.declared.fault.Fault.TheVariants.{Memory, Io, NotADatabase, Unsupported, Damaged, Full, Syntax, NoSuch, Exists, Ambiguous, Misuse, Busy, StaleSnapshot, NoTransaction, InTransaction, NoSavepoint, NotNull, Unique, Check, Raised, RealRefused, TypeRefused, RowidFull, RowidMismatch, TooLong, RowChangedBefore, ViewReadOnly, Failed, Blank}
 use Rattle.sqlval.specs.declared.fault.Damage.TheVariants as damages
 use Rattle.sqlval.specs.declared.fault.Feature.TheVariants as features
-use Rattle.session.specs.Known.{IsUnserved}
+use Rattle.session.specs.ConnectionState.{AnswersUnsupported}
 use Rattle.wal.specs.Refusals.{IsCutRefusal, IsOpenRefusal}
-use Rattle.wal.specs.Whys.{AreWhys, IsWhy}
+use Rattle.wal.specs.ErrorCauses.{AreErrorCauses, IsErrorCause}
 
 an_answer : {T : Type 0} (x : T) (f : Fault) → Ok x ≡ Err f → ⊥
 an_answer x f h = cc
 
--- what isn't served isn't answered
-pub never_answered : {T : Type 0} (result : Result T Fault) → IsUnserved result → IfOk result (λ x. ⊥)
+-- what isn't supported isn't answered
+pub never_answered : {T : Type 0} (result : Result T Fault) → AnswersUnsupported result → IfOk result (λ x. ⊥)
 never_answered (Ok x) (inl e) = an_answer x _ e
 never_answered (Ok x) (inr e) = an_answer x _ e
 never_answered (Err f) u = tt
 
-pub full_of : {T : Type 0} (flag : Bool) (result : Result T Fault) (a b c d : ℕ) → AreWhys flag result a b c d → result ≡ Err Full → IsTrue flag
-full_of flag result a b c d whys is = (let why : IsWhy flag a b c d Full = subst (λ r. IfErr r (IsWhy flag a b c d)) is whys.why in why.full refl)
+pub full_of : {T : Type 0} (flag : Bool) (result : Result T Fault) (a b c d : ℕ) → AreErrorCauses flag result a b c d → result ≡ Err Full → IsTrue flag
+full_of flag result a b c d whys is = (let why : IsErrorCause flag a b c d Full = subst (λ r. IfErr r (IsErrorCause flag a b c d)) is whys.why in why.full refl)
 
 -- of a refused call nothing is to be shown where it answers Ok
 pub never_ok : {T : Type 0} (P : Type 0) (result : Result T Fault) (fault : Fault) → IsErrAnd result (λ e. e ≡ fault) → OnOk result P
@@ -64,7 +64,7 @@ cut_why has_failed old new failed fails ViewReadOnly refusal = absurd refusal
 cut_why has_failed old new failed fails Blank refusal = absurd refusal
 cut_why has_failed old new failed fails Memory refusal = absurd refusal
 
--- a refusal but for a failed call left the log as it was
+-- a refusal except for a failed call left the log as it was
 pub cut_kept : {D : Type 0} (has_failed : Bool) (old new : D) (failed fails : ℕ) (fault : Fault) → IsCutRefusal has_failed old new failed fails fault → (fault ≡ Io → ⊥) → new ≡ old
 cut_kept has_failed old new failed fails fault refusal other = elim (cut_why has_failed old new failed fails fault refusal) [ inl io ↦ absurd (other io) | inr kept ↦ kept.0 ]
 
@@ -72,7 +72,7 @@ cut_kept has_failed old new failed fails fault refusal other = elim (cut_why has
 pub cut_failed : {D : Type 0} (has_failed : Bool) (old new : D) (failed fails : ℕ) (fault : Fault) → IsCutRefusal has_failed old new failed fails fault → IsFalse has_failed → fault ≡ Io
 cut_failed has_failed old new failed fails fault refusal whole = elim (cut_why has_failed old new failed fails fault refusal) [ inl io ↦ io | inr kept ↦ absurd (false≢true (sym whole ∙ kept.1)) ]
 
--- files that can be opened are refused for want of memory, or where a call fails
+-- files that can be opened are refused when out of memory, or where a call fails
 pub open_why : (has_called cannot : Type 0) (fault : Fault) → IsOpenRefusal has_called cannot fault → (fault ≡ Memory) ⊎ (fault ≡ Io) ⊎ cannot
 open_why has_called cannot Memory refusal = inl refl
 open_why has_called cannot Io refusal = inr (inl refl)
@@ -100,7 +100,7 @@ open_why has_called cannot (Unsupported features.ColumnCount) refusal = absurd r
 open_why has_called cannot (Unsupported features.SchemaObject) refusal = absurd refusal
 open_why has_called cannot (Unsupported features.Limit) refusal = inr (inr refusal)
 open_why has_called cannot (Unsupported features.Statement) refusal = absurd refusal
-open_why has_called cannot (Unsupported features.NotBuilt) refusal = absurd refusal
+open_why has_called cannot (Unsupported features.StatementForm) refusal = absurd refusal
 open_why has_called cannot (Unsupported features.Connection) refusal = absurd refusal
 open_why has_called cannot (Unsupported features.RowSize) refusal = absurd refusal
 open_why has_called cannot Full refusal = absurd refusal

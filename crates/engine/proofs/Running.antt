@@ -1,26 +1,26 @@
--- Replies to lines are a run from each machine that was shown, and what a stop leaves is one of its databases.
+-- Replies to lines are a run from each machine that was shown, and what a crash leaves is one of its databases.
 use Rattle.std.proofs.Common.{◌≡◌, ◌≤◌, ◌<◌, ◌∙◌, inl, inr, refl, sym, ap, subst, ℕ, zero, suc, Bool, true, false, List, [], ◌∷◌, length, Option, Some, None, arith}
 use Rattle.std.specs.Prelude.{IsTrue, IsFalse, slice_get, unwrap_or}
 use Rattle.std.proofs.lemmas.Bool.{false≢true}
 use Rattle.disk.specs.declared.device.Disk.{Ghosts}
-use Rattle.disk.specs.Moments.{throughout_both}
+use Rattle.disk.proofs.Moments.{throughout_both}
 use Rattle.syntax.specs.declared.statement.Statement.{Statement}
 use Rattle.catalog.specs.Database.{Database}
-use Rattle.session.specs.Built.{StepSoFar}
+use Rattle.session.specs.Supported.{StepSoFar}
 use Rattle.session.specs.Holding.{HoldThroughout, LeaveHeld}
 use Rattle.session.specs.Laws.{IsBeside}
 use Rattle.session.specs.Machine.{Machine, Reply, committed, last_place, newest}
-use Rattle.session.specs.Shown.{FindsNoRoom}
-use Rattle.session.specs.Stops.{MayShow, MayShowInRun}
+use Rattle.session.specs.Representation.{FindsNoRoom}
+use Rattle.session.specs.Crashes.{MayShow, MayShowInRun}
 use Rattle.session.specs.Texts.{StepByText}
 use Rattle.session.proofs.Besides.{beside_itself, moved, others_stay_beside}
 use Rattle.session.proofs.Settled.{as_shown, held_weaker}
-use Rattle.engine.specs.Known.{has_failed_of}
+use Rattle.engine.specs.EngineState.{has_failed_of}
 use Rattle.engine.specs.Language.{grammar}
 use Rattle.engine.specs.Lines.{kept_of}
 use Rattle.engine.specs.Serving as serving
 use Rattle.engine.specs.Serving.{Answers, AnswersFrom, AreReplies, IsExecuted, RunsTo, Runs, machine_reply}
-use Rattle.engine.specs.Shown.{ShowsIn, files_in}
+use Rattle.engine.specs.Representation.{EngineRepresents, files_in}
 use Rattle.engine.specs.declared.opening.Engine.{Engine}
 
 -- ---- machines
@@ -92,15 +92,15 @@ one_shows m db some (inr (inr (inr doubt))) = inr doubt
 -- ---- engines
 
 module _ {D : Type 0} {g : Ghosts D} where
-  sound_of : (e : Engine D g) (m : Machine) → ShowsIn e m → IsSound m
+  sound_of : (e : Engine D g) (m : Machine) → EngineRepresents e m → IsSound m
   sound_of e m (inl (failed, stopped, left)) = record { some = left.some; sure = λ on. absurd (false≢true (sym on ∙ stopped)) }
   sound_of e m (inr shown) = record { some = shown.some; sure = λ on. shown.sure }
 
-  running_of : (e : Engine D g) (m : Machine) → ShowsIn e m → IsFalse (has_failed_of e) → m.failed ≡ false
+  running_of : (e : Engine D g) (m : Machine) → EngineRepresents e m → IsFalse (has_failed_of e) → m.failed ≡ false
   running_of e m (inl h) on = absurd (false≢true (sym on ∙ h.0))
   running_of e m (inr shown) on = shown.running
 
-  failed_of : (e : Engine D g) (m : Machine) → ShowsIn e m → m.failed ≡ true → IsTrue (has_failed_of e)
+  failed_of : (e : Engine D g) (m : Machine) → EngineRepresents e m → m.failed ≡ true → IsTrue (has_failed_of e)
   failed_of e m (inl h) stopped = h.0
   failed_of e m (inr shown) stopped = absurd (false≢true (sym shown.running ∙ stopped))
 
@@ -120,13 +120,13 @@ module _ {D : Type 0} {g : Ghosts D} where
     keeps : Keeps m to.end
     stays : m.failed ≡ true → to.end ≡ m
 
-  ran_nothing : (old new : Engine D g) (m : Machine) → new ≡ old → ShowsIn old m → Ran old m [] [] new
+  ran_nothing : (old new : Engine D g) (m : Machine) → new ≡ old → EngineRepresents old m → Ran old m [] [] new
   ran_nothing old new m is shows = subst (Ran old m [] []) (sym is) (record {
     to = record {
       end = m;
       runs = (refl, refl);
       shown = shows;
-      stop = held_weaker (MayShow m m) (MayShowInRun m m) (λ db. one_shows m db (sound_of old m shows).some) (files_in old) (files_in old) (as_shown old.connections m shows);
+      crash = held_weaker (MayShow m m) (MayShowInRun m m) (λ db. one_shows m db (sound_of old m shows).some) (files_in old) (files_in old) (as_shown old.connections m shows);
     };
     keeps = keeps_itself m;
     stays = λ failed. refl;
@@ -140,14 +140,14 @@ module _ {D : Type 0} {g : Ghosts D} where
       end = rest.to.end;
       runs = (mid, m, answers, rest.to.runs);
       shown = rest.to.shown;
-      stop = subst (λ (e : Engine D g). HoldThroughout (MayShowInRun m rest.to.end) (files_in e) (files_in new)) is rest.to.stop;
+      crash = subst (λ (e : Engine D g). HoldThroughout (MayShowInRun m rest.to.end) (files_in e) (files_in new)) is rest.to.crash;
     };
     keeps = rest.keeps;
     stays = rest.stays;
   }
 
   -- a line whose statement was executed
-  ran_step : (old mid new : Engine D g) (m : Machine) (line : List ℕ) (reply : serving.Reply) (lines : List (List ℕ)) (replies : List serving.Reply) (shows : ShowsIn old m) → IsFalse (has_failed_of old)
+  ran_step : (old mid new : Engine D g) (m : Machine) (line : List ℕ) (reply : serving.Reply) (lines : List (List ℕ)) (replies : List serving.Reply) (shows : EngineRepresents old m) → IsFalse (has_failed_of old)
       → (ex : IsExecuted old (kept_of line) reply mid) → Ran mid (ex.step m shows).next lines replies new → Ran old m (line ∷ lines) (reply ∷ replies) new
   ran_step old mid new m line reply lines replies shows on ex rest =
       let to = ex.step m shows in
@@ -158,24 +158,24 @@ module _ {D : Type 0} {g : Ghosts D} where
           end = rest.to.end;
           runs = (mid, to.next, inr (inr (on, record { connection = ex.connection; statement = ex.statement; says = ex.says; fits = ex.fits; to = to; next_is = refl })), rest.to.runs);
           shown = rest.to.shown;
-          stop = throughout_both (LeaveHeld May) (LeaveHeld May) (λ d l h. h) _ _ _ _ _ _
-              (held_weaker (MayShow m to.next) May (λ db. step_shows m to.next rest.to.end db (sound_of old m shows) (sound_of mid to.next to.shown) (running_of old m shows on) first rest.keeps rest.stays) (files_in old) (files_in mid) to.stop)
-              (held_weaker (MayShowInRun to.next rest.to.end) May (λ db. later_show m to.next rest.to.end db first) (files_in mid) (files_in new) rest.to.stop);
+          crash = throughout_both (LeaveHeld May) (LeaveHeld May) (λ d l h. h) _ _ _ _ _ _
+              (held_weaker (MayShow m to.next) May (λ db. step_shows m to.next rest.to.end db (sound_of old m shows) (sound_of mid to.next to.shown) (running_of old m shows on) first rest.keeps rest.stays) (files_in old) (files_in mid) to.crash)
+              (held_weaker (MayShowInRun to.next rest.to.end) May (λ db. later_show m to.next rest.to.end db first) (files_in mid) (files_in new) rest.to.crash);
         };
         keeps = keeps_both m to.next rest.to.end first rest.keeps;
         stays = λ failed. absurd (false≢true (sym (running_of old m shows on) ∙ failed));
       }
 
   -- by the answer to the first line, where the rest runs from wherever that leads
-  by_answer : (old mid new : Engine D g) (m : Machine) (line : List ℕ) (reply : serving.Reply) (lines : List (List ℕ)) (replies : List serving.Reply) → ShowsIn old m → Answers old line reply mid
-      → ((n : Machine) → ShowsIn mid n → Ran mid n lines replies new) → Ran old m (line ∷ lines) (reply ∷ replies) new
+  by_answer : (old mid new : Engine D g) (m : Machine) (line : List ℕ) (reply : serving.Reply) (lines : List (List ℕ)) (replies : List serving.Reply) → EngineRepresents old m → Answers old line reply mid
+      → ((n : Machine) → EngineRepresents mid n → Ran mid n lines replies new) → Ran old m (line ∷ lines) (reply ∷ replies) new
   by_answer old mid new m line reply lines replies shows (inl (failed, is, same)) rest =
-      ran_still old mid new m line reply lines replies same (inl (failed, is, same, refl)) (rest m (subst (λ (e : Engine D g). ShowsIn e m) (sym same) shows))
+      ran_still old mid new m line reply lines replies same (inl (failed, is, same, refl)) (rest m (subst (λ (e : Engine D g). EngineRepresents e m) (sym same) shows))
   by_answer old mid new m line reply lines replies shows (inr (inl (on, is, same))) rest =
-      ran_still old mid new m line reply lines replies same (inr (inl (on, is, same, refl))) (rest m (subst (λ (e : Engine D g). ShowsIn e m) (sym same) shows))
+      ran_still old mid new m line reply lines replies same (inr (inl (on, is, same, refl))) (rest m (subst (λ (e : Engine D g). EngineRepresents e m) (sym same) shows))
   by_answer old mid new m line reply lines replies shows (inr (inr (on, ex))) rest = ran_step old mid new m line reply lines replies shows on ex (rest (ex.step m shows).next (ex.step m shows).shown)
 
-  ran : (old : Engine D g) (lines : List (List ℕ)) (replies : List serving.Reply) (new : Engine D g) → AreReplies old lines replies new → (m : Machine) → ShowsIn old m → Ran old m lines replies new
+  ran : (old : Engine D g) (lines : List (List ℕ)) (replies : List serving.Reply) (new : Engine D g) → AreReplies old lines replies new → (m : Machine) → EngineRepresents old m → Ran old m lines replies new
   ran old [] [] new are m shows = ran_nothing old new m are shows
   ran old [] (r ∷ rs) new are m shows = absurd are
   ran old (l ∷ ls) [] new are m shows = absurd are

@@ -25,7 +25,8 @@ use Rattle.catalog.specs.declared.tables.Table.{Table}
 use Rattle.session.specs.NewTables.{schema_row}
 use Rattle.session.specs.Schema.{AreRowsOf, AreSameTables, IsCreateOf, IsRowOf, IsSameTable}
 use Rattle.session.proofs.SameTables.{not_found, same_found, same_push}
-use Rattle.engine.specs.Loading.{AddsTables, HasParts, IsOrMemory, ListsTables, LoadsTables, TellsTable}
+use Rattle.engine.specs.Loading.{AddsTables, HasParts, ListsCommitted, TellsTable}
+use Rattle.sqlval.specs.Faults.{IsOrMemory, IsOrOutside, IsOutside}
 use Rattle.engine.specs.declared.schema.SchemaRow.{SchemaRow}
 
 -- ---- refusals
@@ -97,15 +98,11 @@ pub added_none : {Y : Type 0} (tables : List Table) (catalog : Catalog) (result 
 added_none tables catalog (Ok y) f is why = absurd is
 added_none tables catalog (Err e) f is why = is ∙ why
 
-pub loaded_none : (tables : List Table) (result : Result Catalog Fault) (f : Fault) → IsErrAnd result (λ e. e ≡ f) → f ≡ fault.Memory → LoadsTables tables result
-loaded_none tables (Ok y) f is why = absurd is
-loaded_none tables (Err e) f is why = is ∙ why
-
-pub listed_none : (tables : List Table) (result : Result Catalog Fault) (f : Fault) → IsErrAnd result (λ e. e ≡ f) → (f ≡ fault.Memory) ⊎ (f ≡ fault.Io) → ListsTables tables result
+pub listed_none : (tables : List Table) (result : Result Catalog Fault) (f : Fault) → IsErrAnd result (λ e. e ≡ f) → IsOutside f → IsOrOutside (ListsCommitted tables) result
 listed_none tables (Ok y) f is why = absurd is
-listed_none tables (Err e) f is why = subst (λ (x : Fault). (x ≡ fault.Memory) ⊎ (x ≡ fault.Io)) (sym is) why
+listed_none tables (Err e) f is why = subst IsOutside (sym is) why
 
-pub listed_all : (tables : List Table) (result : Result Catalog Fault) → LoadsTables tables result → ListsTables tables result
+pub listed_all : (tables : List Table) (result : Result Catalog Fault) → IsOrMemory (ListsCommitted tables) result → IsOrOutside (ListsCommitted tables) result
 listed_all tables (Ok y) is = is
 listed_all tables (Err e) is = inl is
 
@@ -204,7 +201,7 @@ module _ (size : ℕ) (before : List Table) (table : Table) (entry : Entry) (tel
   record_is payload is = subst (λ (b : List ℕ). IsRecord b values_of) is tells.row_is
 
   pub row_tells : (row : SchemaRow) → HasParts tells.definition.name table.root tells.sql row → TellsTable before table row
-  row_tells row parts = record { definition = tells.definition; text = tells.sql; parts = parts; creates = tells.creates; built = tells.built; made = tells.made }
+  row_tells row parts = record { definition = tells.definition; text = tells.sql; parts = parts; creates = tells.creates; supported_forms = tells.supported_forms; made = tells.made }
 
   pub is_free : (found : Table) (others : List Table) → IsSameTable table found → AreSameTables before others → table_named found.name others ≡ None
   is_free found others is same =

@@ -8,7 +8,7 @@ use Rattle.std.specs.declared.alloc.Global.{Global}
 use Rattle.smallvec.specs.SmallVec.{SmallVec}
 use Rattle.sqlval.specs.declared.fault.Fault.{Fault}
 use Rattle.sqlval.specs.declared.value.Value.{Value}
-use Rattle.session.specs.Shown.{rows_reply}
+use Rattle.session.specs.Representation.{rows_reply}
 use Rattle.disk.specs.declared.device.Disk.{Ghosts}
 use Rattle.engine.specs.Lines.{AreLines, Between, BeganWith, HasRead, HasReadLine, IsNoLineFeed}
 use Rattle.engine.specs.Output.{output_text, reply_text}
@@ -53,11 +53,16 @@ text_more (r ∷ rs) reply = ap (λ (l : List ℕ). reply_text r ++ l) (text_mor
 abbrev MayGoOn : List ℕ → List (List ℕ) → List ℕ → Type 0
 MayGoOn beginning lines rest = (rest ≡ []) ⊎ ((next : List ℕ) (more : List (List ℕ)) → AreLines next more → AreLines (beginning ++ next) (lines ++ more))
 
+-- the last line ends with a line feed, or with the input; or there is none
+abbrev AreEnded : List ℕ → List ℕ → Type 0
+AreEnded beginning rest = (rest ≡ []) ⊎ (beginning ≡ []) ⊎ ((front : List ℕ) × (beginning ≡ front ++ 10 ∷ []))
+
 -- the lines with one more, and the input's bytes with those of the line
 record Longer (input rest beginning : List ℕ) (lines : List (List ℕ)) (line : List ℕ) : Type 0 where
   pub longer : List ℕ
   pub whole : input ≡ longer ++ rest
   pub are_lines : AreLines longer (lines ++ line ∷ [])
+  pub are_ended : AreEnded longer rest
   pub may_go_on : MayGoOn longer (lines ++ line ∷ []) rest
 
 not_empty : (line rest : List ℕ) → [] ≡ line ++ 10 ∷ rest → ⊥
@@ -74,6 +79,7 @@ fed_longer input left rest beginning lines line whole none on is =
       longer = beginning ++ (line ++ 10 ∷ []);
       whole = whole ∙ ap (λ (l : List ℕ). beginning ++ l) is ∙ shifted rest;
       are_lines = on (line ++ 10 ∷ []) (line ∷ []) (AreLines.ended_line none AreLines.no_lines);
+      are_ended = inr (inr (beginning ++ line, sym (append_assoc beginning line (10 ∷ []))));
       may_go_on = inr (λ next more are.
           subst (λ (l : List ℕ). AreLines l ((lines ++ line ∷ []) ++ more)) (shifted next)
           (subst (λ (ls : List (List ℕ)). AreLines (beginning ++ (line ++ 10 ∷ next)) ls) (sym (append_assoc lines (line ∷ []) more))
@@ -91,6 +97,7 @@ last_longer input left rest beginning lines line whole none on is end some = rec
   longer = beginning ++ line;
   whole = whole ∙ ap (λ (l : List ℕ). beginning ++ l) is ∙ sym (append-nil (beginning ++ line)) ∙ ap (λ (l : List ℕ). (beginning ++ line) ++ l) (sym end);
   are_lines = on line (line ∷ []) (last_are line some none);
+  are_ended = inl end;
   may_go_on = inl end;
 }
 
@@ -115,23 +122,24 @@ pub record IsReadTo (lines : List (List ℕ)) (input rest : List ℕ) : Type 0 w
   pub beginning : List ℕ
   pub whole : input ≡ beginning ++ rest
   pub are_lines : AreLines beginning lines
+  pub are_ended : AreEnded beginning rest
   pub may_go_on : (rest ≡ []) ⊎ ((next : List ℕ) (more : List (List ℕ)) → AreLines next more → AreLines (beginning ++ next) (lines ++ more))
 
-abbrev pub IsBehind : List Reply → List ℕ → List ℕ → Type 0
-IsBehind replies before after = after ≡ before ++ output_text replies
+abbrev pub IsAfter : List Reply → List ℕ → List ℕ → Type 0
+IsAfter replies before after = after ≡ before ++ output_text replies
 
 begins_reading : (given : Option (List ℕ)) → Between (IsReadTo []) given given
 begins_reading None = tt
-begins_reading (Some input) = record { beginning = []; whole = refl; are_lines = AreLines.no_lines; may_go_on = inr (λ next more are. are) }
+begins_reading (Some input) = record { beginning = []; whole = refl; are_lines = AreLines.no_lines; are_ended = inr (inl refl); may_go_on = inr (λ next more are. are) }
 
-begins_writing : (before : Option (List ℕ)) → Between (IsBehind []) before before
+begins_writing : (before : Option (List ℕ)) → Between (IsAfter []) before before
 begins_writing None = tt
 begins_writing (Some b) = sym (append-nil b)
 
 read_over : (input left rest : List ℕ) (lines : List (List ℕ)) (line : List ℕ) → IsReadTo lines input left → AllByRecursion IsNoLineFeed line → BeganWith line left rest → IsReadTo (lines ++ line ∷ []) input rest
 read_over input left rest lines line has none read =
     let to = longer_by input left rest has.beginning lines line has.whole none has.may_go_on read in
-    record { beginning = to.longer; whole = to.whole; are_lines = to.are_lines; may_go_on = to.may_go_on }
+    record { beginning = to.longer; whole = to.whole; are_lines = to.are_lines; are_ended = to.are_ended; may_go_on = to.may_go_on }
 
 reads_on : (given left rest : Option (List ℕ)) (lines : List (List ℕ)) (line : List ℕ) → Between (IsReadTo lines) given left → AllByRecursion IsNoLineFeed line → Between (BeganWith line) left rest
     → Between (IsReadTo (lines ++ line ∷ [])) given rest
@@ -140,18 +148,18 @@ reads_on (Some i) None rest lines line has none read = absurd has
 reads_on (Some i) (Some l) None lines line has none read = absurd read
 reads_on (Some i) (Some l) (Some n) lines line has none read = read_over i l n lines line has none read
 
-writes_over : (before after further : List ℕ) (replies : List Reply) (reply : Reply) → IsBehind replies before after → further ≡ after ++ reply_text reply → IsBehind (replies ++ reply ∷ []) before further
+writes_over : (before after further : List ℕ) (replies : List Reply) (reply : Reply) → IsAfter replies before after → further ≡ after ++ reply_text reply → IsAfter (replies ++ reply ∷ []) before further
 writes_over before after further replies reply has written =
     written ∙ ap (λ (l : List ℕ). l ++ reply_text reply) has ∙ append_assoc before (output_text replies) (reply_text reply) ∙ ap (λ (l : List ℕ). before ++ l) (sym (text_more replies reply))
 
-writes_more : (before after further : Option (List ℕ)) (replies : List Reply) (reply : Reply) → Between (IsBehind replies) before after → Appends after further (reply_text reply)
-    → Between (IsBehind (replies ++ reply ∷ [])) before further
+writes_more : (before after further : Option (List ℕ)) (replies : List Reply) (reply : Reply) → Between (IsAfter replies) before after → Appends after further (reply_text reply)
+    → Between (IsAfter (replies ++ reply ∷ [])) before further
 writes_more None after further replies reply has written = tt
 writes_more (Some b) None further replies reply has written = absurd has
 writes_more (Some b) (Some a) None replies reply has written = absurd written
 writes_more (Some b) (Some a) (Some f) replies reply has written = writes_over b a f replies reply has written
 
-part_over : (before after further : List ℕ) (replies : List Reply) (reply : Reply) (part unwritten : List ℕ) → IsBehind replies before after → reply_text reply ≡ part ++ unwritten → further ≡ after ++ part
+part_over : (before after further : List ℕ) (replies : List Reply) (reply : Reply) (part unwritten : List ℕ) → IsAfter replies before after → reply_text reply ≡ part ++ unwritten → further ≡ after ++ part
     → EndsWithPart (output_text (replies ++ reply ∷ [])) before further
 part_over before after further replies reply part unwritten has text written = record {
   part = output_text replies ++ part;
@@ -160,17 +168,17 @@ part_over before after further replies reply part unwritten has text written = r
   written = written ∙ ap (λ (l : List ℕ). l ++ part) has ∙ append_assoc before (output_text replies) part;
 }
 
-writes_part : (before after further : Option (List ℕ)) (replies : List Reply) (reply : Reply) → Between (IsBehind replies) before after → AppendsPart after further (reply_text reply)
+writes_part : (before after further : Option (List ℕ)) (replies : List Reply) (reply : Reply) → Between (IsAfter replies) before after → AppendsPart after further (reply_text reply)
     → Between (EndsWithPart (output_text (replies ++ reply ∷ []))) before further
 writes_part before after further replies reply has cut = by before after further has cut.written
   where
-    by : (before after further : Option (List ℕ)) → Between (IsBehind replies) before after → Appends after further cut.part → Between (EndsWithPart (output_text (replies ++ reply ∷ []))) before further
+    by : (before after further : Option (List ℕ)) → Between (IsAfter replies) before after → Appends after further cut.part → Between (EndsWithPart (output_text (replies ++ reply ∷ []))) before further
     by None after further h w = tt
     by (Some b) None further h w = absurd h
     by (Some b) (Some a) None h w = absurd w
     by (Some b) (Some a) (Some f) h w = part_over b a f replies reply cut.part cut.unwritten h cut.is w
 
-writes_whole : (before after : Option (List ℕ)) (replies : List Reply) → Between (IsBehind replies) before after → Between (EndsWithPart (output_text replies)) before after
+writes_whole : (before after : Option (List ℕ)) (replies : List Reply) → Between (IsAfter replies) before after → Between (EndsWithPart (output_text replies)) before after
 writes_whole None after replies has = tt
 writes_whole (Some b) None replies has = absurd has
 writes_whole (Some b) (Some a) replies has = record { part = output_text replies; unwritten = []; is = sym (append-nil (output_text replies)); written = has }
@@ -178,7 +186,7 @@ writes_whole (Some b) (Some a) replies has = record { part = output_text replies
 reads_part : (given left : Option (List ℕ)) (lines : List (List ℕ)) → Between (IsReadTo lines) given left → IfSome given (BeginsWithLines lines)
 reads_part None left lines has = tt
 reads_part (Some i) None lines has = absurd has
-reads_part (Some i) (Some l) lines has = record { beginning = has.beginning; unanswered = l; whole = has.whole; are_lines = has.are_lines }
+reads_part (Some i) (Some l) lines has = record { beginning = has.beginning; unanswered = l; whole = has.whole; are_lines = has.are_lines; are_ended = has.are_ended }
 
 end_over : (input left : List ℕ) (lines : List (List ℕ)) → IsReadTo lines input left → left ≡ [] → AreLines input lines
 end_over input left lines has none = subst (λ (l : List ℕ). AreLines l lines) (sym (has.whole ∙ ap (λ (l : List ℕ). has.beginning ++ l) none ∙ append-nil has.beginning)) has.are_lines
@@ -197,7 +205,7 @@ module _ {D : Type 0} {g : Ghosts D} where
     pub replies : List Reply
     pub are_replies : AreReplies old lines replies now
     pub read : Between (IsReadTo lines) given left
-    pub written : Between (IsBehind replies) before after
+    pub written : Between (IsAfter replies) before after
 
   pub begins : (old : Engine D g) (given before : Option (List ℕ)) → IsServing old given given before before old
   begins old given before = record { lines = []; replies = []; are_replies = refl; read = begins_reading given; written = begins_writing before }
@@ -271,7 +279,7 @@ module _ {D : Type 0} {g : Ghosts D} where
   stops_short old mid new true given left rest before after further kept seen reply e same has read answered cut =
       cut_short old mid new given left rest before after further kept reply has read (subst (λ (k : List ℕ). AnswersKept mid k reply new) same answered) cut
 
-  -- behind a run the transaction is given up
+  -- after a run the transaction is given up
   pub ran : {A B : Type 0} (old end new : Engine D g) (result : Result A B) (given left before after : Option (List ℕ)) → OnOk result (HasServed old given left before after end) → GivesUp end new
       → OnOk result (HasRun old given left before after new)
   ran old end new (Ok x) given left before after has gone = record { end = end; served = has; gone = gone }

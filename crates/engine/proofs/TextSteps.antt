@@ -13,24 +13,24 @@ use Rattle.lexer.specs.Lex.{Lexed, tokens}
 use Rattle.syntax.specs.declared.statement.Statement.{Statement}
 use Rattle.expressions.specs.declared.refusal.Refusal.{Refusal}
 use Rattle.expressions.specs.declared.refusal.Refusal.TheVariants as reading
-use Rattle.parser.specs.Parsing.{answered, parsed_by, pieces_of, sql_in}
+use Rattle.parser.specs.Parsing.{answered, parsed_by}
 use Rattle.parser.specs.StatementReading.{whole_from}
-use Rattle.parser.specs.Refusals.{IsRefused}
-use Rattle.parser.specs.Statements.{is_statement_within}
-use Rattle.parser.specs.Texts.{Is, IsNotServed}
-use Rattle.session.specs.Built.{StepSoFar}
-use Rattle.session.specs.Known.{first_refusal}
+use Rattle.parser.specs.Refusals.{IsTextRefusal}
+use Rattle.grammar.specs.Statements.{is_statement_within}
+use Rattle.grammar.specs.Texts.{IsStatementText, IsUnsupportedText, pieces_of, sql_in}
+use Rattle.session.specs.Supported.{StepSoFar}
+use Rattle.session.specs.ConnectionState.{first_refusal}
 use Rattle.session.specs.Machine.{Machine, Reply, Refused}
 use Rattle.session.specs.Schema.{KeepsItsText}
-use Rattle.session.specs.Shown.{FindsNoRoom, Steps}
+use Rattle.session.specs.Representation.{FindsNoRoom, Steps}
 use Rattle.session.specs.Steps.{is_connection}
 use Rattle.session.specs.Texts.{IsCandidate, IsTextFault, StepByText, is_long}
 use Rattle.session.specs.declared.transactions.Connections.{Connections}
 use Rattle.session.proofs.Executing.{either, first_by, no_connection, not_both, one_fault, passes_by, served_for}
 use Rattle.session.proofs.Settled.{as_shown}
-use Rattle.engine.specs.Known.{has_failed_of}
+use Rattle.engine.specs.EngineState.{has_failed_of}
 use Rattle.engine.specs.Language.{grammar, token_refusal}
-use Rattle.engine.specs.Shown.{ShowsIn, StepsByText, StepsByTextTo}
+use Rattle.engine.specs.Representation.{EngineRepresents, StepsByText, StepsByTextTo}
 use Rattle.engine.specs.declared.opening.Engine.{Engine}
 use Rattle.engine.proofs.KeptTexts.{keeps_text}
 
@@ -39,8 +39,8 @@ use Rattle.engine.proofs.KeptTexts.{keeps_text}
 abbrev Read : Type 0
 Read = Result Statement Fault
 
-abbrev unserved : Read
-unserved = Err (fault.Unsupported feature.Statement)
+abbrev unsupported : Read
+unsupported = Err (fault.Unsupported feature.Statement)
 
 refused_or : (f : Fault) (given : Read) → Refuses f given → (f ≡ fault.Memory) ⊎ (given ≡ Err f)
 refused_or fault.Memory given h = inl refl
@@ -59,10 +59,10 @@ same_fault a b left p q = cc
 one_or_other : (f : Fault) (s : Statement) (read : Read) → read ≡ Err f → read ≡ Ok s → ⊥
 one_or_other f s read p q = absurd cc
 
-two_faults : (place : ℕ) → unserved ≡ Err (fault.Syntax place) → ⊥
+two_faults : (place : ℕ) → unsupported ≡ Err (fault.Syntax place) → ⊥
 two_faults place is = absurd cc
 
-late_fault : unserved ≡ Err fault.TooLong → ⊥
+late_fault : unsupported ≡ Err fault.TooLong → ⊥
 late_fault is = absurd cc
 
 -- tokens that are none of a statement aren't refused as a real
@@ -77,11 +77,11 @@ module _ (text : List ℕ) where
   abbrev read : Read
   read = parsed_by text (tokens text)
 
-  candidate : (ts : List Lexed) → is_long text ≡ false → tokens text ≡ Ok ts → (IsNotServed text → ⊥) → IsCandidate grammar text
+  candidate : (ts : List Lexed) → is_long text ≡ false → tokens text ≡ Ok ts → (IsUnsupportedText text → ⊥) → IsCandidate grammar text
   candidate ts short cut served = (short, ap token_refusal cut, served)
 
   -- a text whose tokens stand, by its refusal
-  behind : (f : Fault) (ts : List Lexed) → is_long text ≡ false → tokens text ≡ Ok ts → read ≡ Err f → IsRefused text f → (IsNotServed text → length text ≤ 65536 → Refuses f unserved)
+  behind : (f : Fault) (ts : List Lexed) → is_long text ≡ false → tokens text ≡ Ok ts → read ≡ Err f → IsTextRefusal text f → (IsUnsupportedText text → length text ≤ 65536 → Refuses f unsupported)
       → (f ≡ fault.Memory) ⊎ IsTextFault grammar text (refusal_of f)
   behind fault.Memory ts short cut is why other = inl refl
   behind (fault.Syntax place) ts short cut is why other =
@@ -94,7 +94,7 @@ module _ (text : List ℕ) where
   behind f ts short cut is why other = absurd why
 
   -- why a text is refused
-  pub text_fault : (f : Fault) → Refuses f read → IsRefused text f → (IsNotServed text → length text ≤ 65536 → Refuses f unserved)
+  pub text_fault : (f : Fault) → Refuses f read → IsTextRefusal text f → (IsUnsupportedText text → length text ≤ 65536 → Refuses f unsupported)
       → (f ≡ fault.Memory) ⊎ IsTextFault grammar text (refusal_of f)
   text_fault f given why other = by_memory (refused_or f read given)
     where
@@ -115,11 +115,11 @@ module _ (text : List ℕ) where
       by_memory (inr is) = by_length (is_long text) refl is
 
   -- what a text is that is read as a statement
-  pub read_candidate : (s : Statement) → read ≡ Ok s → (IsNotServed text → length text ≤ 65536 → unserved ≡ Ok s) → IsCandidate grammar text
+  pub read_candidate : (s : Statement) → read ≡ Ok s → (IsUnsupportedText text → length text ≤ 65536 → unsupported ≡ Ok s) → IsCandidate grammar text
   read_candidate s is other = by_length (is_long text) refl
     where
       by_tokens : (t : Result (List Lexed) Fault) → tokens text ≡ t → is_long text ≡ false → IsCandidate grammar text
-      by_tokens (Ok ts) cut short = candidate ts short cut (λ x. one_or_other (fault.Unsupported feature.Statement) s unserved refl (other x (short_text text short)))
+      by_tokens (Ok ts) cut short = candidate ts short cut (λ x. one_or_other (fault.Unsupported feature.Statement) s unsupported refl (other x (short_text text short)))
       by_tokens (Err e) cut short = absurd (one_or_other e s read (ap (parsed_by text) cut) is)
 
       by_length : (long : Bool) → is_long text ≡ long → IsCandidate grammar text
@@ -135,8 +135,8 @@ module _ {D : Type 0} {g : Ghosts D} (e : Engine D g) (n : ℕ) (text : List ℕ
   abbrev Step : Machine → Reply → Machine → Type 0
   Step m reply next = StepByText (λ before c s answer after. StepSoFar (FindsNoRoom e.connections s) before c s answer after) grammar m n text reply next
 
-  stays : (m : Machine) (f : Fault) → ShowsIn e m → Step m (Refused (refusal_of f)) m → StepsByTextTo e m n text (Refused (refusal_of f)) e
-  stays m f shows step = record { next = m; step = step; shown = shows; stop = as_shown e.connections m shows }
+  stays : (m : Machine) (f : Fault) → EngineRepresents e m → Step m (Refused (refusal_of f)) m → StepsByTextTo e m n text (Refused (refusal_of f)) e
+  stays m f shows step = record { next = m; step = step; shown = shows; crash = as_shown e.connections m shows }
 
   -- refused before the text is looked at
   pub refused_check : (f : Fault) → first_refusal (has_failed_of e) n ≡ Err f → StepsByText e n text (Refused (refusal_of f)) e
@@ -151,7 +151,7 @@ module _ {D : Type 0} {g : Ghosts D} (e : Engine D g) (n : ℕ) (text : List ℕ
       whole : first_refusal false n ≡ Err f
       whole = ap (λ b. first_refusal b n) (sym shown.whole) ∙ is
 
-  -- refused for the text, or for want of memory
+  -- refused for the text, or when out of memory
   pub refused_text : (f : Fault) → first_refusal (has_failed_of e) n ≡ done → (f ≡ fault.Memory) ⊎ IsTextFault grammar text (refusal_of f)
       → StepsByText e n text (Refused (refusal_of f)) e
   refused_text f is why m shows = by_why why
@@ -164,9 +164,9 @@ module _ {D : Type 0} {g : Ghosts D} (e : Engine D g) (n : ℕ) (text : List ℕ
       by_why (inr of_text) = stays m f shows (inr (inr (served.0, served.1, inr (inl (refusal_of f, of_text, refl, refl)))))
 
   -- executed as the statement that the text is
-  pub executed : (s : Statement) (reply : Reply) (new : Connections D g) → first_refusal (has_failed_of e) n ≡ done → IsCandidate grammar text → Is text s → is_statement_within s ≡ true
+  pub executed : (s : Statement) (reply : Reply) (new : Connections D g) → first_refusal (has_failed_of e) n ≡ done → IsCandidate grammar text → IsStatementText text s → is_statement_within s ≡ true
       → (KeepsItsText s → Steps e.connections n s reply new) → StepsByText e n text reply (record e { connections = new })
   executed s reply new is stands reads within steps m shows =
       let served = served_for e.connections m n is shows in
       let to = steps (keeps_text text s reads within (short_text text stands.0)) m shows in
-      record { next = to.next; step = inr (inr (served.0, served.1, inr (inr (stands, s, reads, within, to.step)))); shown = to.shown; stop = to.stop }
+      record { next = to.next; step = inr (inr (served.0, served.1, inr (inr (stands, s, reads, within, to.step)))); shown = to.shown; crash = to.crash }

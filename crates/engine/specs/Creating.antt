@@ -1,9 +1,10 @@
 -- What creating a database leaves, and why it is refused.
-use Rattle.std.specs.Prelude.{◌≡◌, ◌⊎◌, ◌≤◌, Result, IfErr, ℕ, Bool, true, false, IsTrue, List, [], length, nat_lt, ◌==◌, if◌then◌else◌}
+use Rattle.sqlval.specs.PageSizes.{IsPageSize}
+use Rattle.std.specs.Prelude.{◌≡◌, ◌⊎◌, ◌≤◌, Result, IfErr, OnOk, ℕ, Bool, true, false, IsTrue, List, [], length, nat_lt, ◌==◌, if◌then◌else◌}
 use Rattle.std.specs.List.{list_all}
 use Rattle.disk.specs.Calls.{Rose}
-use Rattle.disk.specs.File.{File, Version, IsSynced, IsLeft, Always}
-use Rattle.dbheader.specs.Header.{IsHeader, IsPageSize, empty_of}
+use Rattle.disk.specs.File.{File, Version, IsSynced, IsLeft, Always, Throughout}
+use Rattle.dbheader.specs.Header.{IsHeader, empty_of}
 use Rattle.page.specs.Writing.{leaf_of}
 use Rattle.session.specs.Holding.{Hold}
 use Rattle.sqlval.specs.declared.fault.Fault.{Fault}
@@ -16,12 +17,13 @@ pub record Stays {D : Type 0} (tells : D → Bool) (file : D → File) (old new 
   pub told : tells new ≡ tells old
   pub same : IsTrue (tells old) → file new ≡ file old
 
--- the count of failed calls didn't fall, and `Io` comes only where it rose
+-- the count of failed calls didn't fall; it is what it was where the answer is no refusal, and `Io` comes only where it rose
 pub record CountsIo {T : Type 0} (result : Result T Fault) (old new : ℕ) : Type 0 where
   pub counts : old ≤ new
+  pub none_failed : OnOk result (new ≡ old)
   pub io : IfErr result (λ fault. fault ≡ Io → Rose old new)
 
--- The bytes are page 1 of the empty database: a header that says so, and behind it a table leaf without cells (Database
+-- The bytes are page 1 of the empty database: a header that says so, and after it a table leaf without cells (Database
 -- File Format, "The Database Header", "B-tree Pages").
 pub record IsEmptyDatabase (page_size : ℕ) (bytes : List ℕ) : Type 0 where
   pub header : List ℕ
@@ -29,7 +31,7 @@ pub record IsEmptyDatabase (page_size : ℕ) (bytes : List ℕ) : Type 0 where
   pub says : IsHeader header (empty_of page_size)
   pub page : bytes ≡ leaf_of header page_size []
 
--- the file's content is these bytes, and a stop leaves them and nothing else
+-- the file's content is these bytes, and a crash leaves them and nothing else
 pub record IsSyncedAs (bytes : List ℕ) (file : File) : Type 0 where
   pub content : file.content ≡ bytes
   pub synced : IsSynced file
@@ -41,27 +43,45 @@ is_zero_byte byte = byte == 0
 abbrev pub is_blank_content : List ℕ → Bool
 is_blank_content bytes = if nat_lt 65536 (length bytes) then false else list_all is_zero_byte bytes
 
--- a blank file, or page 1 of the empty database
-abbrev pub IsBlankOrEmpty : ℕ → List ℕ → Type 0
-IsBlankOrEmpty page_size bytes = (is_blank_content bytes ≡ true) ⊎ IsEmptyDatabase page_size bytes
+-- a crash leaves a blank file, or this page
+abbrev pub LeavesBlankOr : List ℕ → List Version → Type 0
+LeavesBlankOr page versions = (c : List ℕ) → IsLeft versions c → (is_blank_content c ≡ true) ⊎ (c ≡ page)
 
--- a stop leaves a blank file or the empty database
-abbrev pub LeavesBlankOrEmpty : ℕ → List Version → Type 0
-LeavesBlankOrEmpty page_size versions = (c : List ℕ) → IsLeft versions c → IsBlankOrEmpty page_size c
+-- At each moment until now a crash leaves a blank file or this page, and the content is one of them too.
+pub record BecomesPage (page : List ℕ) (old new : File) : Type 0 where
+  pub moments : Always old new (LeavesBlankOr page)
+  pub content : (is_blank_content new.content ≡ true) ⊎ (new.content ≡ page)
 
--- At each moment until now a stop leaves a blank file or the empty database, and the content is one of them too.
-pub record BecomesDatabase (page_size : ℕ) (old new : File) : Type 0 where
-  pub moments : Always old new (LeavesBlankOrEmpty page_size)
-  pub content : IsBlankOrEmpty page_size new.content
+-- a blank database file beside any log, or page 1 of the empty database beside a log without a byte
+abbrev pub IsBlankOrCreated : ℕ → List ℕ → List ℕ → Type 0
+IsBlankOrCreated page_size db log = (is_blank_content db ≡ true) ⊎ IsEmptyDatabase page_size db × (log ≡ [])
 
--- Why no database of this page size is made: memory, a call of a disk that failed, a page size that isn't served, or a file
+-- each pair of files that a crash may leave is such
+abbrev pub LeavesBlankOrCreated : ℕ → List Version → List Version → Type 0
+LeavesBlankOrCreated page_size dbs logs = (db log : List ℕ) → IsLeft dbs db → IsLeft logs log → IsBlankOrCreated page_size db log
+
+-- At each moment until now a crash leaves a blank database file, or the empty database beside a log without a byte; and so are the
+-- two contents now.
+pub record BecomesDatabase (page_size : ℕ) (db log new_db new_log : File) : Type 0 where
+  pub moments : Throughout (LeavesBlankOrCreated page_size) db log new_db new_log
+  pub contents : IsBlankOrCreated page_size new_db.content new_log.content
+
+-- The empty database was made of a blank file: a crash leaves page 1 beside a log without a byte, and no call failed.
+pub record HasCreated {D : Type 0} (tells : D → Bool) (file : D → File) (failures : D → ℕ) (page_size : ℕ) (db log new_db new_log : D) : Type 0 where
+  pub blank : IsTrue (tells db) → is_blank_content (file db).content ≡ true
+  pub made : IsTrue (tells db) → (page : List ℕ) × IsEmptyDatabase page_size page × IsSyncedAs page (file new_db)
+  pub emptied : IsTrue (tells log) → IsSyncedAs [] (file new_log)
+  pub db_counts : failures new_db ≡ failures db
+  pub log_counts : failures new_log ≡ failures log
+
+-- Why no database of this page size is made: memory, a call of a disk that failed, a page size that isn't supported, or a file
 -- that is not blank.
-abbrev pub IsCreateRefusal : ℕ → Type 0 → Type 0 → Fault → Type 0
-IsCreateRefusal page_size IsNotBlank CallFailed Memory = Unit {0}
-IsCreateRefusal page_size IsNotBlank CallFailed Io = CallFailed
-IsCreateRefusal page_size IsNotBlank CallFailed (Unsupported PageSize) = IsPageSize page_size → ⊥
-IsCreateRefusal page_size IsNotBlank CallFailed (Misuse NotBlank) = IsNotBlank
-IsCreateRefusal page_size IsNotBlank CallFailed fault = ⊥
+abbrev pub IsNewFileRefusal : ℕ → Type 0 → Type 0 → Fault → Type 0
+IsNewFileRefusal page_size IsNotBlank CallFailed Memory = Unit {0}
+IsNewFileRefusal page_size IsNotBlank CallFailed Io = CallFailed
+IsNewFileRefusal page_size IsNotBlank CallFailed (Unsupported PageSize) = IsPageSize page_size → ⊥
+IsNewFileRefusal page_size IsNotBlank CallFailed (Misuse NotBlank) = IsNotBlank
+IsNewFileRefusal page_size IsNotBlank CallFailed fault = ⊥
 
 -- Page 1 of the empty database, beside a log without a byte, holds the database of no objects.
 abbrev pub CreatedHold : Type 0

@@ -9,11 +9,11 @@ use Rattle.sqlval.specs.declared.fault.Fault.TheVariants as fault
 use Rattle.syntax.specs.declared.create.NewObject.{NewObject}
 use Rattle.syntax.specs.declared.create.NewObject.TheVariants as object
 use Rattle.catalog.specs.Database.{Name, Database}
-use Rattle.bind.specs.Known.{faults}
+use Rattle.bind.specs.Checked.{faults}
 use Rattle.bind.specs.Schema.{create}
 use Rattle.parser.specs.Parsing.{parsed_by}
-use Rattle.parser.specs.Statements.{is_statement_within}
-use Rattle.parser.specs.Texts.{Is, IsNotServed}
+use Rattle.grammar.specs.Statements.{is_statement_within}
+use Rattle.grammar.specs.Texts.{IsStatementText, IsUnsupportedText}
 use Rattle.filecheck.specs.Schema.{Language}
 use Rattle.session.specs.Schema.{IsCreateOf}
 use Rattle.session.specs.Texts.{Grammar}
@@ -26,15 +26,15 @@ token_refusal (Ok ts) = None
 token_refusal (Err e) = Some (refusal_of e)
 
 -- the text is outside the grammar, from this byte on
-abbrev pub Leaves : List ℕ → ℕ → Type 0
-Leaves text place = parsed_by text (tokens text) ≡ Err (fault.Syntax place)
+abbrev pub IsSyntaxOffset : List ℕ → ℕ → Type 0
+IsSyntaxOffset text place = parsed_by text (tokens text) ≡ Err (fault.Syntax place)
 
 -- the text is refused for a limit: this is the reading function's own answer
 abbrev pub Passes : List ℕ → Type 0
 Passes text = parsed_by text (tokens text) ≡ Err fault.TooLong
 
--- the second text goes on behind the tokens of the first
-pub record Begins (front text : List ℕ) : Type 0 where
+-- the second text goes on after the tokens of the first
+pub record IsBeginning (front text : List ℕ) : Type 0 where
   pub tokens : List Lexed
   pub more : List Lexed
   pub front_cut : Cuts 0 false front tokens
@@ -44,12 +44,12 @@ pub record Begins (front text : List ℕ) : Type 0 where
 abbrev pub grammar : Grammar
 grammar = record {
   refused_token = λ text. token_refusal (tokens text);
-  IsUnserved = IsNotServed;
-  Reads = Is;
+  IsUnserved = IsUnsupportedText;
+  Reads = IsStatementText;
   within = is_statement_within;
-  Leaves = Leaves;
+  Leaves = IsSyntaxOffset;
   Passes = Passes;
-  Begins = Begins;
+  Begins = IsBeginning;
 }
 
 -- ---- texts of the schema

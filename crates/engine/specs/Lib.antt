@@ -1,10 +1,12 @@
 pub mod Creating
-pub mod Known
+pub mod EngineState
+pub mod Failing
 pub mod Language
 pub mod Lines
 pub mod Opening
 pub mod Output
+pub mod Promises
 pub mod Replies
-pub mod Shown
+pub mod Representation
 pub mod Serving
 pub mod Loading

@@ -24,7 +24,7 @@ Between P None new = ⊤
 Between P (Some before) None = ⊥
 Between P (Some before) (Some after) = P before after
 
--- The input began with this line, and is behind it now: behind its line feed, or at its end where the line isn't empty.
+-- The input began with this line, and is after it now: after its line feed, or at its end where the line isn't empty.
 abbrev pub BeganWith : List ℕ → List ℕ → List ℕ → Type 0
 BeganWith line before after = (before ≡ line ++ 10 ∷ after) ⊎ ((before ≡ line) × (after ≡ []) × (0 < length line))
 
@@ -52,50 +52,51 @@ HasRead false before after kept = Between IsEmptyStill before after
 abbrev pub IsInputRefusal : Fault → Type 0
 IsInputRefusal fault = (fault ≡ Memory) ⊎ (fault ≡ Io)
 
--- the bytes of what was met behind a part of a line
+-- the bytes of what was met after a part of a line
 abbrev pub tail_of : Met → List ℕ
 tail_of Nothing = []
 tail_of LineFeed = 10 ∷ []
 tail_of End = []
 
 -- nothing is left where the end was met
-abbrev pub IsThere : Met → Option (List ℕ) → Option (List ℕ) → Type 0
-IsThere Nothing before after = ⊤
-IsThere LineFeed before after = ⊤
-IsThere End before after = Between (λ some none. none ≡ []) before after
+abbrev pub IsPresent : Met → Option (List ℕ) → Option (List ℕ) → Type 0
+IsPresent Nothing before after = ⊤
+IsPresent LineFeed before after = ⊤
+IsPresent End before after = Between (λ some none. none ≡ []) before after
 
--- A part of a line was read with what was met behind it, and kept behind what was kept before, where there was room.
+-- A part of a line was read with what was met after it, and kept after what was kept before, where there was room.
 pub record HasPart (met : Met) (before after : Option (List ℕ)) (kept_before kept : List ℕ) : Type 0 where
   pub part : List ℕ
   pub one_line : AllByRecursion IsNoLineFeed part
   pub read : Consumes before after (part ++ tail_of met)
-  pub there : IsThere met before after
+  pub there : IsPresent met before after
   pub kept_is : kept ≡ kept_before ++ take (65540 - length kept_before) part
 
 -- the line is the number of a connection, 1 to 16 in decimal, a space, and a statement
-pub record Says (line : List ℕ) (connection : ℕ) (statement : List ℕ) : Type 0 where
+pub record IsInputLine (line : List ℕ) (connection : ℕ) (statement : List ℕ) : Type 0 where
   pub least : 1 ≤ connection
   pub greatest : connection ≤ 16
   pub spelled : line ≡ decimal connection ++ 32 ∷ statement
 
 -- the line has no such form
 abbrev pub SaysNothing : List ℕ → Type 0
-SaysNothing line = (connection : ℕ) (statement : List ℕ) → Says line connection statement → ⊥
+SaysNothing line = (connection : ℕ) (statement : List ℕ) → IsInputLine line connection statement → ⊥
 
--- Why a line is refused: it has no such form, its statement has more than 65,536 bytes, or it isn't UTF-8.
+-- Why a line is refused: its statement has more than 65,536 bytes; or it has no such form, or one whose statement has no more bytes
+-- and isn't UTF-8.
 abbrev pub IsLineRefusal : List ℕ → Fault → Type 0
-IsLineRefusal line TooLong = (connection : ℕ) × (statement : List ℕ) × Says line connection statement × (65536 < length statement)
+IsLineRefusal line TooLong = (connection : ℕ) × (statement : List ℕ) × IsInputLine line connection statement × (65536 < length statement)
 IsLineRefusal line (Misuse InputLine) =
-    SaysNothing line ⊎ ((connection : ℕ) × (statement : List ℕ) × Says line connection statement × (IsUtf8 statement → ⊥))
+    SaysNothing line ⊎ ((connection : ℕ) × (statement : List ℕ) × IsInputLine line connection statement × (length statement ≤ 65536) × (IsUtf8 statement → ⊥))
 IsLineRefusal line fault = ⊥
 
--- the number behind a 1 and before a space, and what follows the space
+-- the number after a 1 and before a space, and what follows the space
 abbrev pub second_digit : ℕ → ℕ → List ℕ → Option (ℕ × List ℕ)
 second_digit a b [] = None
 second_digit a b (c ∷ rest) = if a == 49 && (nat_le 48 b && (nat_le b 54 && c == 32)) then Some (10 + (b - 48), rest) else None
 
 -- the number at the front before a space, and what follows the space
-unfoldable pub number_at : List ℕ → Option (ℕ × List ℕ)
-number_at [] = None
-number_at (a ∷ []) = None
-number_at (a ∷ b ∷ rest) = if nat_le 49 a && (nat_le a 57 && b == 32) then Some (a - 48, rest) else second_digit a b rest
+unfoldable pub line_number_at : List ℕ → Option (ℕ × List ℕ)
+line_number_at [] = None
+line_number_at (a ∷ []) = None
+line_number_at (a ∷ b ∷ rest) = if nat_le 49 a && (nat_le a 57 && b == 32) then Some (a - 48, rest) else second_digit a b rest

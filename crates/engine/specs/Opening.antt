@@ -1,54 +1,79 @@
--- What a stop leaves of two files while they are opened, and what opening makes of them.
-use Rattle.std.specs.Prelude.{◌≡◌, ◌⊎◌, ℕ, IsFalse, List, Result, Ok, Err}
-use Rattle.disk.specs.File.{File, Version, IsLeft}
+-- What a crash leaves of two files while they are opened, and what opening makes of them.
+use Rattle.std.specs.Prelude.{◌≡◌, ◌⊎◌, ℕ, Bool, true, IsFalse, IsTrue, List, take, Result, Ok, Err}
+use Rattle.disk.specs.Calls.{Rose}
+use Rattle.disk.specs.File.{File, Version, IsLeft, IsSynced}
 use Rattle.disk.specs.declared.device.Disk.{Ghosts}
 use Rattle.dbheader.specs.Header.{IsHeader}
 use Rattle.dbheader.specs.declared.fields.Header.{Header}
+use Rattle.sqlval.specs.Faults.{IsOutside}
 use Rattle.sqlval.specs.declared.fault.Fault.{Fault}
-use Rattle.sqlval.specs.declared.fault.Fault.TheVariants.{Memory, Io}
+use Rattle.sqlval.specs.declared.fault.Fault.TheVariants.{Io, Blank}
 use Rattle.catalog.specs.Database.{Database}
 use Rattle.catalog.specs.Listed.{tables_of}
 use Rattle.catalog.specs.declared.tables.Catalog.{Catalog}
 use Rattle.catalog.specs.declared.tables.Table.{Table}
 use Rattle.walframe.specs.Written.{Framed}
-use Rattle.walframe.specs.declared.heading.Salts.{Salts}
+use Rattle.walframe.specs.declared.log_header.Salts.{Salts}
 use Rattle.wal.specs.Committed.{HasCommits}
-use Rattle.wal.specs.Known.{db_of, known_of, log_of}
-use Rattle.wal.specs.Opens.{LeavesAsBefore}
-use Rattle.wal.specs.Stops.{LeavesCommits}
+use Rattle.wal.specs.LogState.{LogState, db_of, state_of, log_of}
+use Rattle.wal.specs.Stands.{log_end}
+use Rattle.wal.specs.Opened.{LeavesAsBefore}
+use Rattle.wal.specs.Crashes.{LeavesCommits}
 use Rattle.wal.specs.declared.log.Log.{Log}
 use Rattle.wal.specs.declared.log.Refused.{Refused}
 use Rattle.pager.specs.Views.{Tells, newest_view}
-use Rattle.session.specs.Holding.{IsSettled}
-use Rattle.session.specs.Known.{files_of}
+use Rattle.session.specs.Holding.{Hold, IsSettled}
+use Rattle.session.specs.ConnectionState.{files_of}
 use Rattle.session.specs.Machine.{fresh}
 use Rattle.session.specs.Schema.{AreSameTables}
-use Rattle.session.specs.Shown.{AreCommitted, Shows}
+use Rattle.session.specs.Representation.{AreCommitted, Represents}
 use Rattle.session.specs.Stored.{Stores}
-use Rattle.engine.specs.Known.{connections_of}
+use Rattle.engine.specs.Creating.{is_blank_content}
+use Rattle.engine.specs.EngineState.{connections_of, db_disk, has_failed_of, log_disk}
 use Rattle.engine.specs.declared.opening.Engine.{Engine}
 
 -- a header that a database file begins with says this page size
-abbrev pub HasPages : List ℕ → ℕ → Type 0
-HasPages bytes page_size = (head : Header) → IsHeader bytes head → head.page_size ≡ page_size
+abbrev pub HasPageSize : List ℕ → ℕ → Type 0
+HasPageSize bytes page_size = (head : Header) → IsHeader bytes head → head.page_size ≡ page_size
 
 -- The database file as it was read, beside a log that has the commits of the one that was read and no others.
 pub record LeavesCut (db log : File) (db_versions log_versions : List Version) : Type 0 where
   pub db_read : (c : List ℕ) → IsLeft db_versions c → c ≡ db.content
   pub page_size : ℕ
-  pub headed : HasPages db.content page_size
+  pub headed : HasPageSize db.content page_size
   pub frames : List Framed
   pub read : HasCommits page_size log.content frames
   pub left : LeavesCommits page_size frames log_versions
 
--- A stop leaves of each file what it may have left before, or what was read of it; or the database file as it was read, beside a
+-- A crash leaves of each file what it may have left before, or what was read of it; or the database file as it was read, beside a
 -- log of the same commits.
 abbrev pub LeavesOpened : File → File → List Version → List Version → Type 0
 LeavesOpened db log db_versions log_versions = LeavesAsBefore db log db_versions log_versions ⊎ LeavesCut db log db_versions log_versions
 
+-- Whatever refusal but one comes, both files are as they were.
+abbrev pub KeepsFilesBut : Fault → File → File → File → File → Fault → Type 0
+KeepsFilesBut but db log new_db new_log fault = (fault ≡ but → ⊥) → (new_db ≡ db) × (new_log ≡ log)
+
+-- The log's content is what it was, cut after the committed frames, of which this is known.
+abbrev pub IsCutTo : LogState → List ℕ → List ℕ → Type 0
+IsCutTo known old new = new ≡ take (log_end known.header known.has_header known.frames) old
+
+-- A blank file is refused as such, except that a call may fail; and no other is.
+pub record TellsBlank (bytes : List ℕ) (fault : Fault) : Type 0 where
+  pub only : fault ≡ Blank → is_blank_content bytes ≡ true
+  pub always : is_blank_content bytes ≡ true → (fault ≡ Blank) ⊎ (fault ≡ Io)
+
 -- Whatever refusal but one comes, both files hold what they held.
 abbrev pub KeepsBut : Fault → File → File → File → File → Fault → Type 0
 KeepsBut but db log new_db new_log fault = (fault ≡ but → ⊥) → (new_db.content ≡ db.content) × (new_log.content ≡ log.content)
+
+-- What a refusal leaves, and why it comes: both files hold what they held and are synced, except where a call failed; that is `Io`,
+-- and it was counted. A blank file is refused as such, and no other.
+pub record IsRefusedOpen {D : Type 0} (tells : D → Bool) (file : D → File) (failures : D → ℕ) (db log : D) (refused : Refused D) : Type 0 where
+  pub kept : IsTrue (tells db) → IsTrue (tells log) → KeepsBut Io (file db) (file log) (file refused.db) (file refused.log) refused.fault
+  pub synced : IsTrue (tells db) → IsTrue (tells log) → (refused.fault ≡ Io → ⊥) → IsSynced (file refused.db) × IsSynced (file refused.log)
+  pub io : refused.fault ≡ Io → Rose (failures db) (failures refused.db) ⊎ Rose (failures log) (failures refused.log)
+  pub blank : IsTrue (tells db) → TellsBlank (file db).content refused.fault
 
 module _ {D : Type 0} {g : Ghosts D} where
   -- the disks of what was opened, or given back
@@ -62,7 +87,17 @@ module _ {D : Type 0} {g : Ghosts D} where
 
   -- a log that has no header is to get one with these salts
   abbrev pub TakesSalts : Salts → Engine D g → Type 0
-  TakesSalts salts engine = IsFalse (known_of (files_of engine.connections)).has_header → (known_of (files_of engine.connections)).header.salts ≡ salts
+  TakesSalts salts engine = IsFalse (state_of (files_of engine.connections)).has_header → (state_of (files_of engine.connections)).header.salts ≡ salts
+
+  -- What was opened hasn't failed, its database file wasn't blank, and no call failed. The log has its committed frames and no more; one
+  -- that has no header is to get one with these salts.
+  pub record IsOpenedFrom (db log : D) (salts : Salts) (engine : Engine D g) : Type 0 where
+    pub whole : IsFalse (has_failed_of engine)
+    pub not_blank : IsTrue (g.tells db) → is_blank_content (g.file db).content ≡ true → ⊥
+    pub cut : IsTrue (g.tells log) → IsCutTo (state_of (files_of engine.connections)) (g.file log).content (g.file (log_disk engine)).content
+    pub takes : TakesSalts salts engine
+    pub db_counts : g.failures (db_disk engine) ≡ g.failures db
+    pub log_counts : g.failures (log_disk engine) ≡ g.failures log
 
   -- The catalog lists these tables, all of them committed, and the files are settled and hold the database.
   pub record StartsWith (tables : List Table) (database : Database) (files : Log D g) (catalog : Catalog) : Type 0 where
@@ -72,12 +107,11 @@ module _ {D : Type 0} {g : Ghosts D} where
     pub settled : IsSettled files
     pub stored : Stores (newest_view files) tables database
 
-  -- so it is; or memory was short, or a disk's call failed
-  abbrev pub StartsOn : List Table → Database → Log D g → Result Catalog Fault → Type 0
-  StartsOn tables database files (Ok catalog) = StartsWith tables database files catalog
-  StartsOn tables database files (Err fault) = (fault ≡ Memory) ⊎ (fault ≡ Io)
-
   -- What was opened shows the one database; or memory was short, or a disk's call failed.
   abbrev pub Opens : Database → Result (Engine D g) (Refused D) → Type 0
-  Opens database (Ok engine) = Shows (connections_of engine) (fresh database)
-  Opens database (Err refused) = (refused.fault ≡ Memory) ⊎ (refused.fault ≡ Io)
+  Opens database (Ok engine) = Represents (connections_of engine) (fresh database)
+  Opens database (Err refused) = IsOutside refused.fault
+
+  -- An answer of opening: where the files tell what they hold, and hold a database, it is opened.
+  abbrev pub IsOpenOf : D → D → Result (Engine D g) (Refused D) → Type 0
+  IsOpenOf db log result = (database : Database) → IsTrue (g.tells db) → IsTrue (g.tells log) → Hold (g.file db).content (g.file log).content database → Opens database result

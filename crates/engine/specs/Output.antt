@@ -4,7 +4,8 @@ use Rattle.std.specs.Fmt.{signed_decimal}
 use Rattle.std.specs.List.{flat_map}
 use Rattle.hex.specs.Hex.{encode_upper}
 use Rattle.sqlval.specs.declared.fault.Fault.{Fault}
-use Rattle.sqlval.specs.declared.fault.Fault.TheVariants.{Memory, Io, NotADatabase, Unsupported, Damaged, Full, Syntax, NoSuch, Exists, Ambiguous, Misuse, Busy, StaleSnapshot, NoTransaction, InTransaction, NoSavepoint, NotNull, Unique, Check, Raised, RealRefused, TypeRefused, RowidFull, RowidMismatch, TooLong, RowChangedBefore, ViewReadOnly, Failed, Blank}
+use Rattle.sqlval.specs.declared.fault.Fault.TheVariants.{Syntax, Raised}
+use Rattle.sqlval.specs.Titles.{title_of}
 use Rattle.sqlval.specs.declared.value.Value.{Value}
 use Rattle.sqlval.specs.declared.value.Value.TheVariants as value
 
@@ -32,38 +33,6 @@ row_text (value ∷ values) = literal value ++ flat_map (λ next. 124 ∷ litera
 abbrev pub row_line : List Value → List ℕ
 row_line row = row_text row ++ 10 ∷ []
 
--- the number and the name of a refusal
-abbrev pub title_of : Fault → List ℕ
-title_of Memory = codes "E1 Memory"
-title_of Io = codes "E2 Io"
-title_of NotADatabase = codes "E3 NotADatabase"
-title_of (Unsupported feature) = codes "E4 Unsupported"
-title_of (Damaged damage page) = codes "E5 Damaged"
-title_of Full = codes "E6 Full"
-title_of (Syntax at) = codes "E7 Syntax"
-title_of (NoSuch kind name) = codes "E8 NoSuch"
-title_of (Exists name) = codes "E9 Exists"
-title_of (Ambiguous name) = codes "E10 Ambiguous"
-title_of (Misuse misuse) = codes "E11 Misuse"
-title_of Busy = codes "E12 Busy"
-title_of StaleSnapshot = codes "E13 StaleSnapshot"
-title_of NoTransaction = codes "E14 NoTransaction"
-title_of InTransaction = codes "E15 InTransaction"
-title_of NoSavepoint = codes "E16 NoSavepoint"
-title_of NotNull = codes "E17 NotNull"
-title_of Unique = codes "E18 Unique"
-title_of Check = codes "E19 Check"
-title_of (Raised text) = codes "E20 Raised"
-title_of RealRefused = codes "E21 RealRefused"
-title_of TypeRefused = codes "E22 TypeRefused"
-title_of RowidFull = codes "E23 RowidFull"
-title_of RowidMismatch = codes "E24 RowidMismatch"
-title_of TooLong = codes "E25 TooLong"
-title_of RowChangedBefore = codes "E26 RowChangedBefore"
-title_of ViewReadOnly = codes "E27 ViewReadOnly"
-title_of Failed = codes "E28 Failed"
-title_of Blank = codes "E29 Blank"
-
 -- what is said of a refusal besides: where a syntax error begins, and the text that was raised
 abbrev pub detail_of : Fault → List ℕ
 detail_of (Syntax at) = 32 ∷ decimal at
@@ -79,6 +48,6 @@ abbrev pub reply_text : Result (List (List Value)) Fault → List ℕ
 reply_text (Ok rows) = flat_map row_line rows ++ codes "ok" ++ 10 ∷ []
 reply_text (Err fault) = refusal_line fault
 
--- the replies to the lines of an input, one behind another
+-- the replies to the lines of an input, one after another
 abbrev pub output_text : List (Result (List (List Value)) Fault) → List ℕ
 output_text replies = flat_map reply_text replies

@@ -1,4 +1,4 @@
--- What is read and written where an input's lines are served.
+-- What is read and written where an input's lines are supported.
 use Rattle.std.specs.Prelude.{◌≡◌, ◌⊎◌, ◌≤◌, ℕ, List, [], ◌∷◌, ◌++◌, length, Option, IfSome, IsTrue, IsFalse, Result, Ok, Err}
 use Rattle.std.specs.Io.KnownBytes.{Appends}
 use Rattle.disk.specs.declared.device.Disk.{Ghosts}
@@ -9,12 +9,13 @@ use Rattle.sqlval.specs.declared.value.Value.{Value}
 use Rattle.session.specs.Machine as machine
 use Rattle.session.specs.Holding.{HoldThroughout}
 use Rattle.session.specs.Machine.{Machine, Idle, Rows, Refused, with_connection}
-use Rattle.session.specs.Shown.{IsGivenUp}
-use Rattle.session.specs.Stops.{MayShowInRun}
-use Rattle.engine.specs.Known.{connections_of, has_failed_of}
-use Rattle.engine.specs.Lines.{AreLines, Between, IsLineRefusal, Says, kept_of}
+use Rattle.session.specs.Representation.{IsGivenUp}
+use Rattle.session.specs.Crashes.{MayShowInRun}
+use Rattle.engine.specs.EngineState.{connections_of, has_failed_of}
+use Rattle.engine.specs.Failing.{MarksWhereCounted}
+use Rattle.engine.specs.Lines.{AreLines, Between, IsLineRefusal, IsInputLine, kept_of}
 use Rattle.engine.specs.Output.{output_text}
-use Rattle.engine.specs.Shown.{ShowsIn, StepsByText, StepsByTextTo, files_in}
+use Rattle.engine.specs.Representation.{EngineRepresents, StepsByText, StepsByTextTo, files_in}
 use Rattle.engine.specs.declared.opening.Engine.{Engine}
 
 -- the rows' values, or a refusal
@@ -27,19 +28,20 @@ machine_reply (Ok rows) = Rows rows
 machine_reply (Err fault) = Refused (refusal_of fault)
 
 -- The line has no statement that could be executed, and the reply says why.
-pub record IsRefused (line : List ℕ) (reply : Reply) : Type 0 where
+pub record IsRefusedLine (line : List ℕ) (reply : Reply) : Type 0 where
   pub fault : Fault
   pub why : IsLineRefusal line fault
   pub is : reply ≡ Err fault
 
--- The input begins with these lines.
+-- The input begins with these lines, each of them whole: the last one ends with a line feed, or with the input.
 pub record BeginsWithLines (lines : List (List ℕ)) (input : List ℕ) : Type 0 where
   pub beginning : List ℕ
   pub unanswered : List ℕ
   pub whole : input ≡ beginning ++ unanswered
   pub are_lines : AreLines beginning lines
+  pub are_ended : (unanswered ≡ []) ⊎ (beginning ≡ []) ⊎ ((front : List ℕ) × (beginning ≡ front ++ 10 ∷ []))
 
--- Behind what was before stands a beginning of the text.
+-- After what was before stands a beginning of the text.
 pub record EndsWithPart (text before after : List ℕ) : Type 0 where
   pub part : List ℕ
   pub unwritten : List ℕ
@@ -47,19 +49,21 @@ pub record EndsWithPart (text before after : List ℕ) : Type 0 where
   pub written : after ≡ before ++ part
 
 module _ {D : Type 0} {g : Ghosts D} where
-  -- The line has a statement, and the reply to it is a step of the machines that the engine shows.
+  -- The line has a statement, and the reply to it is a step of the machines that the engine shows. Where it marks the engine as failed, a
+  -- call of a disk has failed.
   pub record IsExecuted (old : Engine D g) (line : List ℕ) (reply : Reply) (new : Engine D g) : Type 0 where
     pub connection : ℕ
     pub statement : List ℕ
-    pub says : Says line connection statement
+    pub says : IsInputLine line connection statement
     pub fits : length statement ≤ 65536
     pub step : StepsByText old connection statement (machine_reply reply) new
+    pub counted : MarksWhereCounted old new
 
   -- A reply to what was kept of a line: the engine had failed, or the line is refused, and nothing changes; or its statement was executed.
   abbrev pub AnswersKept : Engine D g → List ℕ → Reply → Engine D g → Type 0
   AnswersKept old kept reply new =
       IsTrue (has_failed_of old) × (reply ≡ Err Failed) × (new ≡ old)
-      ⊎ IsFalse (has_failed_of old) × IsRefused kept reply × (new ≡ old)
+      ⊎ IsFalse (has_failed_of old) × IsRefusedLine kept reply × (new ≡ old)
       ⊎ IsFalse (has_failed_of old) × IsExecuted old kept reply new
 
   -- A reply to a line, of which the first 65,540 bytes decide: one more than a number, a space and a statement may have.
@@ -77,7 +81,7 @@ module _ {D : Type 0} {g : Ghosts D} where
   pub record Executes (old : Engine D g) (m : Machine) (line : List ℕ) (reply : Reply) (new : Engine D g) (next : Machine) : Type 0 where
     pub connection : ℕ
     pub statement : List ℕ
-    pub says : Says line connection statement
+    pub says : IsInputLine line connection statement
     pub fits : length statement ≤ 65536
     pub to : StepsByTextTo old m connection statement (machine_reply reply) new
     pub next_is : next ≡ to.next
@@ -86,7 +90,7 @@ module _ {D : Type 0} {g : Ghosts D} where
   abbrev pub AnswersFrom : Engine D g → Machine → List ℕ → Reply → Engine D g → Machine → Type 0
   AnswersFrom old m line reply new next =
       IsTrue (has_failed_of old) × (reply ≡ Err Failed) × (new ≡ old) × (next ≡ m)
-      ⊎ IsFalse (has_failed_of old) × IsRefused (kept_of line) reply × (new ≡ old) × (next ≡ m)
+      ⊎ IsFalse (has_failed_of old) × IsRefusedLine (kept_of line) reply × (new ≡ old) × (next ≡ m)
       ⊎ IsFalse (has_failed_of old) × Executes old m (kept_of line) reply new next
 
   -- one reply to each line, in order, from machine to machine
@@ -96,19 +100,19 @@ module _ {D : Type 0} {g : Ghosts D} where
   RunsBy old m (line ∷ lines) [] new end = ⊥
   RunsBy old m (line ∷ lines) (reply ∷ replies) new end = (mid : Engine D g) × (next : Machine) × AnswersFrom old m line reply mid next × RunsBy mid next lines replies new end
 
-  -- From a machine the replies are a run to a machine that is shown then; and at each moment a stop leaves a database that the run may show:
+  -- From a machine the replies are a run to a machine that is shown then; and at each moment a crash leaves a database that the run may show:
   -- one that was committed from the acknowledged one on, or one that a commit left in doubt.
   pub record RunsTo (old : Engine D g) (m : Machine) (lines : List (List ℕ)) (replies : List Reply) (new : Engine D g) : Type 0 where
     pub end : Machine
     pub runs : RunsBy old m lines replies new end
-    pub shown : ShowsIn new end
-    pub stop : HoldThroughout (MayShowInRun m end) (files_in old) (files_in new)
+    pub shown : EngineRepresents new end
+    pub crash : HoldThroughout (MayShowInRun m end) (files_in old) (files_in new)
 
   -- the same from each machine that was shown
   abbrev pub Runs : Engine D g → List (List ℕ) → List Reply → Engine D g → Type 0
-  Runs old lines replies new = (m : Machine) → ShowsIn old m → RunsTo old m lines replies new
+  Runs old lines replies new = (m : Machine) → EngineRepresents old m → RunsTo old m lines replies new
 
-  -- Lines were read and replied to: the whole input where its bytes are known, and behind what was written before stand the replies.
+  -- Lines were read and replied to: the whole input where its bytes are known, and after what was written before stand the replies.
   pub record HasServed (old : Engine D g) (given left before after : Option (List ℕ)) (new : Engine D g) : Type 0 where
     pub lines : List (List ℕ)
     pub replies : List Reply
@@ -117,7 +121,7 @@ module _ {D : Type 0} {g : Ghosts D} where
     pub read : Between (λ input rest. (rest ≡ []) × AreLines input lines) given left
     pub written : Between (λ b a. a ≡ b ++ output_text replies) before after
 
-  -- Lines were read and replied to: those of a beginning of the input, and behind what was written before stands a beginning of the replies.
+  -- Lines were read and replied to: those of a beginning of the input, and after what was written before stands a beginning of the replies.
   pub record HasServedInPart (old : Engine D g) (given before after : Option (List ℕ)) (new : Engine D g) : Type 0 where
     pub lines : List (List ℕ)
     pub replies : List Reply
@@ -129,7 +133,7 @@ module _ {D : Type 0} {g : Ghosts D} where
   -- The transaction that is open is given up: the files are as they were, and the machine has the first connection idle.
   pub record GivesUp (old new : Engine D g) : Type 0 where
     pub gone : IsGivenUp (connections_of old) (connections_of new)
-    pub shown : (m : Machine) → ShowsIn old m → ShowsIn new (with_connection m 1 Idle)
+    pub shown : (m : Machine) → EngineRepresents old m → EngineRepresents new (with_connection m 1 Idle)
 
   -- All lines were served, and then the transaction given up.
   pub record HasRun (old : Engine D g) (given left before after : Option (List ℕ)) (new : Engine D g) : Type 0 where

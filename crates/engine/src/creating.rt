@@ -1,23 +1,23 @@
 //! Blank files, and the empty database.
 
+ghost use Rattle.sqlval.specs.PageSizes.{IsPageSize};
 ghost use Rattle.std.specs.Prelude.{◌≡◌, ◌≢◌, ◌⊎◌, ℕ, List, [], true, false, IsTrue, IfOk, IfErr, OnOk, OnErr, length};
 ghost use Rattle.std.specs.List.{list_all};
-ghost use Rattle.dbheader.specs.Header.{IsPageSize};
 ghost use Rattle.sqlval.specs.declared.fault.Fault.TheVariants.{Io, Memory};
 ghost use Rattle.disk.specs.Calls.{Rose};
-ghost use Rattle.disk.specs.File.{IsSynced};
-ghost use Rattle.engine.specs.Creating.{is_blank_content, is_zero_byte, BecomesDatabase, CountsIo, CreatedHold, IsCreateRefusal, IsEmptyDatabase, IsSyncedAs, Stays};
+ghost use Rattle.disk.specs.File.{Elapses, IsSynced};
+ghost use Rattle.engine.specs.Creating.{is_blank_content, is_zero_byte, BecomesDatabase, BecomesPage, CountsIo, CreatedHold, HasCreated, IsNewFileRefusal, IsEmptyDatabase, IsSyncedAs, Stays};
 
-use dbheader::{Header, is_page_size};
+use dbheader::Header;
 use disk::Disk;
 use page::build;
-use sqlval::{Fault, Feature, Misuse, R};
+use sqlval::{Fault, Feature, Misuse, R, is_page_size};
 use std::alloc::Global;
 
 /// The most bytes of a blank file.
 const MAX_BLANK: u64 = 65_536;
 
-/// How many bytes are looked at together.
+/// The bytes that are read at once.
 const PIECE: usize = 4096;
 
 /// Whether these bytes are zero.
@@ -73,35 +73,60 @@ fn empty_page(alloc: Global, page_size: u32) -> R<Vec<u8>>
     build(alloc, &header, page_size as usize, &[])
 }
 
-/// Writes page 1 of the empty database in the place of what the two files have.
-fn put_empty<D: Disk>(db: &mut D, log: &mut D, page: &[u8]) -> R<()>
-    ensures made { IsTrue (D.tells db.old) → OnOk result (IsSyncedAs page.now (D.file db.new)) }
+/// Cuts a log to nothing and syncs it.
+fn empty_log<D: Disk>(log: &mut D) -> R<()>
     ensures emptied { IsTrue (D.tells log.old) → OnOk result (IsSyncedAs [] (D.file log.new)) }
-    ensures stop { (size : ℕ) → IsPageSize size → IsEmptyDatabase size page.now → IsTrue (D.tells db.old) → IsSynced (D.file db.old) → is_blank_content (D.file db.old).content ≡ true → BecomesDatabase size (D.file db.old) (D.file db.new) }
+    ensures moments { IsTrue (D.tells log.old) → Elapses (D.file log.old) (D.file log.new) }
     ensures refused { IfErr result (λ fault. fault ≡ Io) }
-    ensures called { OnErr result (Rose (D.failures db.old) (D.failures db.new) ⊎ Rose (D.failures log.old) (D.failures log.new)) }
+    ensures counted { CountsIo result (D.failures log.old) (D.failures log.new) }
 {
     log.cut(0)?;
-    log.sync()?;
+    log.sync()
+}
+
+/// Makes a page the content of a blank file and syncs it.
+fn put_page<D: Disk>(db: &mut D, page: &[u8]) -> R<()>
+    ensures made { IsTrue (D.tells db.old) → OnOk result (IsSyncedAs page.now (D.file db.new)) }
+    ensures crash { (size : ℕ) → IsPageSize size → IsEmptyDatabase size page.now → IsTrue (D.tells db.old) → IsSynced (D.file db.old) → is_blank_content (D.file db.old).content ≡ true
+        → BecomesPage page.now (D.file db.old) (D.file db.new) }
+    ensures refused { IfErr result (λ fault. fault ≡ Io) }
+    ensures counted { CountsIo result (D.failures db.old) (D.failures db.new) }
+{
     db.cut(0)?;
     db.write_at(0, page)?;
     db.sync()
 }
 
+/// Empties the log, and makes page 1 of the empty database the content of the database file.
+fn put_empty<D: Disk>(db: &mut D, log: &mut D, page: &[u8]) -> R<()>
+    ensures made { IsTrue (D.tells db.old) → OnOk result (IsSyncedAs page.now (D.file db.new)) }
+    ensures emptied { IsTrue (D.tells log.old) → OnOk result (IsSyncedAs [] (D.file log.new)) }
+    ensures none_failed { OnOk result ((D.failures db.new ≡ D.failures db.old) × (D.failures log.new ≡ D.failures log.old)) }
+    ensures crash { (size : ℕ) → IsPageSize size → IsEmptyDatabase size page.now → IsTrue (D.tells db.old) → IsTrue (D.tells log.old) → IsSynced (D.file db.old) → is_blank_content (D.file db.old).content ≡ true
+        → BecomesDatabase size (D.file db.old) (D.file log.old) (D.file db.new) (D.file log.new) }
+    ensures refused { IfErr result (λ fault. fault ≡ Io) }
+    ensures called { OnErr result (Rose (D.failures db.old) (D.failures db.new) ⊎ Rose (D.failures log.old) (D.failures log.new)) }
+{
+    empty_log(log)?;
+    put_page(db, page)
+}
+
 /// Makes the empty database of a blank file: the log is cut to nothing, then page 1 is written. Refusals: `Misuse` where
 /// the file isn't blank, `Unsupported` where the page size is no power of two from 512 to 32768, `Memory`; then nothing
-/// has changed. `Io`: the database file is blank or the empty database, where it was blank before.
+/// has changed. `Io`: of a blank file the database file is blank still, or the empty database beside a log without a byte;
+/// any other file is as it was, and so is its log.
 pub fn create<D: Disk>(alloc: Global, db: &mut D, log: &mut D, page_size: u32) -> R<()>
-    ensures made { IsTrue (D.tells db.old) → OnOk result ((page : List ℕ) × IsEmptyDatabase page_size page × IsSyncedAs page (D.file db.new)) }
-    ensures emptied { IsTrue (D.tells log.old) → OnOk result (IsSyncedAs [] (D.file log.new)) }
-    // Nothing but a blank file is written over, and a blank one isn't refused for what it holds.
-    ensures blank { IsTrue (D.tells db.old) → OnOk result (is_blank_content (D.file db.old).content ≡ true) }
-    ensures refused { IfErr result (λ fault. IsCreateRefusal page_size (IsTrue (D.tells db.old) → is_blank_content (D.file db.old).content ≡ false)
+    ensures made { OnOk result (HasCreated D.tells D.file D.failures page_size db.old log.old db.new log.new) }
+    // A blank file isn't refused for what it holds.
+    ensures refused { IfErr result (λ fault. IsNewFileRefusal page_size (IsTrue (D.tells db.old) → is_blank_content (D.file db.old).content ≡ false)
         (Rose (D.failures db.old) (D.failures db.new) ⊎ Rose (D.failures log.old) (D.failures log.new)) fault) }
-    // A refusal but for a disk's failure changes nothing.
+    // A refusal other than a disk's failure changes nothing.
     ensures kept { IfErr result (λ fault. fault ≢ Io → Stays D.tells D.file db.old db.new × Stays D.tells D.file log.old log.new) }
-    // Of a blank file, synced before, a stop at any moment leaves a blank file or the empty database, and so it is on each exit.
-    ensures stop { IsTrue (D.tells db.old) → IsSynced (D.file db.old) → is_blank_content (D.file db.old).content ≡ true → BecomesDatabase page_size (D.file db.old) (D.file db.new) }
+    // Whatever the answer, nothing but a blank file is written over, and its log alone is cut.
+    ensures untouched { IsTrue (D.tells db.old) → is_blank_content (D.file db.old).content ≡ false → Stays D.tells D.file db.old db.new × Stays D.tells D.file log.old log.new }
+    // Of a blank file, synced before, a crash at any moment leaves a blank database file, or the empty database beside a log without a byte; and so does each exit.
+    ensures crash { IsTrue (D.tells db.old) → IsTrue (D.tells log.old) → IsSynced (D.file db.old) → is_blank_content (D.file db.old).content ≡ true
+        → BecomesDatabase page_size (D.file db.old) (D.file log.old) (D.file db.new) (D.file log.new) }
 {
     if !is_page_size(page_size) {
         return Err(Fault::Unsupported(Feature::PageSize));
@@ -113,7 +138,7 @@ pub fn create<D: Disk>(alloc: Global, db: &mut D, log: &mut D, page_size: u32) -
     put_empty(db, log, &page)
 }
 
-/// What `create` leaves holds the database of no objects.
+/// The files that `create` leaves hold the empty database.
 pub fn created_files_hold_nothing()
     ensures { CreatedHold }
 {}

@@ -1,7 +1,8 @@
-//! The engine: files opened and created, statements executed, and lines of text served.
+//! The engine: creates and opens databases, executes statements, and runs lines of text.
 #![tactic(auto)]
 
 mod creating;
+mod laws;
 mod lines;
 mod literals;
 mod opening;
@@ -11,13 +12,9 @@ mod schema;
 mod serving;
 
 pub use creating::{create, created_files_hold_nothing};
+pub use laws::{crash_keeps_commits, held_earlier, represented_files_hold};
 pub use opening::Engine;
 pub use output::put_reply;
 pub use rowprog::Rows;
 pub use wal::Refused;
 pub use walframe::Salts;
-
-#[cfg(test)]
-mod stops;
-#[cfg(test)]
-mod tests;

@@ -1,20 +1,18 @@
 //! Lines of input.
 
 ghost use Rattle.std.specs.Prelude.{◌≡◌, ◌≤◌, ◌+◌, ◌-◌, ◌++◌, All, IfOk, IfErr, OnOk, length, option_map, take};
-ghost use Rattle.engine.specs.Lines.{HasPart, HasRead, IsInputRefusal, IsLineRefusal, IsNoLineFeed, Says, number_at, tail_of};
+ghost use Rattle.engine.specs.Lines.{HasPart, HasRead, IsInputRefusal, IsLineRefusal, IsNoLineFeed, IsInputLine, line_number_at, tail_of};
 
+use sqlval::limits::MAX_STATEMENT_BYTES;
 use sqlval::{Fault, Misuse, R};
 use std::alloc::AllocError;
 use std::io;
 use std::io::{BufRead, ErrorKind};
 
-/// The most bytes of a statement.
-pub const MAX_STATEMENT: usize = 65536;
-
 /// What is kept of a line: a number, a space and one byte more than a statement may have.
-const MAX_KEPT: usize = MAX_STATEMENT + 4;
+const MAX_KEPT: usize = MAX_STATEMENT_BYTES + 4;
 
-/// What stands behind the bytes of a line that were shown.
+/// What stands after the bytes of a line that were read.
 #[derive(Drop)]
 enum Met {
     Nothing,
@@ -23,7 +21,7 @@ enum Met {
 }
 
 impl Met {
-    /// How many bytes it is.
+    /// The bytes that it takes.
     fn len(&self) -> usize
         ensures { result ≡ length (tail_of self.now) }
     {
@@ -46,7 +44,7 @@ fn not_shown(error: io::Error) -> R<Met>
     }
 }
 
-/// How many bytes of a line are shown, and what stands behind them.
+/// How many bytes of a line are shown, and what stands after them.
 fn line_end(shown: &[u8]) -> (usize, Met)
     ensures within { result.0 + length (tail_of result.1) ≤ length shown.now }
     ensures line { All IsNoLineFeed (take result.0 shown.now) }
@@ -66,7 +64,7 @@ fn line_end(shown: &[u8]) -> (usize, Met)
     (shown.len(), Met::Nothing)
 }
 
-/// Keeps of a line's bytes those that there is room for.
+/// Keeps those bytes of a line that there is room for.
 fn keep(line: &mut Vec<u8>, part: &[u8]) -> Result<(), AllocError>
     ensures { OnOk result (line.new.items ≡ line.old.items ++ take (65540 - length line.old.items) part.now) }
 {
@@ -75,7 +73,7 @@ fn keep(line: &mut Vec<u8>, part: &[u8]) -> Result<(), AllocError>
     line.extend_from_slice(&part[..kept])
 }
 
-/// Reads what the input has at hand of a line, and says what it met behind that.
+/// Reads what the input has at hand of a line, and says what it met after that.
 fn read_part<I: BufRead>(input: &mut I, line: &mut Vec<u8>) -> R<Met>
     ensures part { IfOk result (λ met. HasPart met (I.remaining input.old) (I.remaining input.new) line.old.items line.new.items) }
     ensures refused { IfErr result IsInputRefusal }
@@ -108,9 +106,9 @@ pub fn read_line<I: BufRead>(input: &mut I, line: &mut Vec<u8>) -> R<bool>
 }
 
 /// The connection's number and the statement's bytes.
-#[tactic(auto, unfolding(crate::specs::Lines::number_at))]
+#[tactic(auto, unfolding(crate::specs::Lines::line_number_at))]
 fn split_number(line: &[u8]) -> Option<(u32, &[u8])>
-    ensures { option_map (λ found. (found.0, found.1.now)) result ≡ number_at line.now }
+    ensures { option_map (λ found. (found.0, found.1.now)) result ≡ line_number_at line.now }
 {
     match line {
         [digit @ b'1'..=b'9', b' ', rest @ ..] => Some((u32::from(*digit - b'0'), rest)),
@@ -121,13 +119,13 @@ fn split_number(line: &[u8]) -> Option<(u32, &[u8])>
 
 /// The connection's number and the statement of a line.
 pub fn split_line(line: &[u8]) -> R<(u32, &str)>
-    ensures found { IfOk result (λ found. Says line.now found.0 found.1.now × (length found.1.now ≤ 65536)) }
+    ensures found { IfOk result (λ found. IsInputLine line.now found.0 found.1.now × (length found.1.now ≤ 65536)) }
     ensures refused { IfErr result (IsLineRefusal line.now) }
 {
     let Some((connection, statement)) = split_number(line) else {
         return Err(Fault::Misuse(Misuse::InputLine));
     };
-    if statement.len() > MAX_STATEMENT {
+    if statement.len() > MAX_STATEMENT_BYTES {
         return Err(Fault::TooLong);
     }
     match str::from_utf8(statement) {

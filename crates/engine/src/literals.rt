@@ -52,7 +52,7 @@ fn put_literal(alloc: Global, out: &mut Vec<u8>, value: &Value) -> Result<(), Al
     }
 }
 
-/// Writes values, each behind a bar.
+/// Writes values, each after a bar.
 fn put_others(alloc: Global, out: &mut Vec<u8>, values: &[Value]) -> Result<(), AllocError>
     ensures { OnOk result (out.new.items ≡ out.old.items ++ flat_map (λ next. 124 ∷ literal next) values.now) }
 {

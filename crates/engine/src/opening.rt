@@ -1,25 +1,26 @@
 //! Opening a database file with its log.
 
-ghost use Rattle.std.specs.Prelude.{◌≡◌, ◌⊎◌, ◌&&◌, List, Ok, Err, IfOk, IfErr, OnOk, IsTrue, IsFalse, false};
+ghost use Rattle.std.specs.Prelude.{◌≡◌, ◌⊎◌, ◌&&◌, List, Ok, Err, IfOk, IfErr, OnOk, MatchResult, IsTrue, IsFalse, true, false};
 ghost use Rattle.dbheader.specs.Header.{IsHeader};
+ghost use Rattle.sqlval.specs.Faults.{IsOrOutside};
 ghost use Rattle.dbheader.specs.declared.fields.Header.{Header as FileHeader};
 ghost use Rattle.catalog.specs.Database.{Database};
 ghost use Rattle.catalog.specs.declared.tables.Table.{Table};
 ghost use Rattle.pager.specs.Views.{Tells, newest_view};
 ghost use Rattle.session.specs.Holding.{IsFound, IsSettled};
 ghost use Rattle.session.specs.Stored.{Stores};
-ghost use Rattle.engine.specs.Loading.{ListsTables, ReadsHeader};
-ghost use Rattle.disk.specs.File.{IsSynced, Throughout};
-ghost use Rattle.walframe.specs.Accepted.{Leaves};
-ghost use Rattle.wal.specs.Known.{db_of, known_of, log_of};
-ghost use Rattle.wal.specs.Whys.{HasReason};
-ghost use Rattle.engine.specs.Creating.{CountsIo};
-ghost use Rattle.engine.specs.Opening.{HasPages, KeepsBut, LeavesOpened, StartsOn};
+ghost use Rattle.engine.specs.Loading.{ListsCommitted, ReadsHeader};
+ghost use Rattle.disk.specs.File.{IsContentLeft, IsSynced, Throughout};
+ghost use Rattle.walframe.specs.Accepted.{KeepsFile};
+ghost use Rattle.wal.specs.LogState.{db_of, state_of, log_of};
+ghost use Rattle.wal.specs.ErrorCauses.{HasCause};
+ghost use Rattle.engine.specs.Creating.{CountsIo, is_blank_content};
+ghost use Rattle.engine.specs.Opening.{HasPageSize, IsCutTo, KeepsFilesBut, LeavesOpened, StartsWith, TellsBlank};
 ghost use Rattle.sqlval.specs.declared.fault.Fault.TheVariants.{Io};
 ghost use Rattle.disk.specs.Calls.{Rose};
 ghost use Rattle.syntax.specs.declared.statement.Statement.{Statement};
-ghost use Rattle.parser.specs.Texts.{Is};
-ghost use Rattle.session.specs.Built as forms;
+ghost use Rattle.grammar.specs.Texts.{IsStatementText};
+ghost use Rattle.session.specs.Supported as forms;
 ghost use Rattle.session.specs.Limits.{may_be_full};
 
 use crate::creating::is_blank;
@@ -27,13 +28,14 @@ use crate::schema::load;
 use catalog::Catalog;
 use dbheader::Header;
 use disk::Disk;
-use pager::{HEADER_LEN, header_of, read_page};
+use pager::{header_of, read_page};
 use parser::parse;
 use rowprog::Rows;
 use session::Connections;
+use sqlval::limits::DATABASE_HEADER_LEN;
 use sqlval::{Damage, Fault, Misuse, R};
 use std::alloc::Global;
-use wal::{Log, Refused};
+use wal::{Log, Refused, Synced, sync_both};
 use walframe::Salts;
 
 /// An open database.
@@ -45,26 +47,28 @@ pub struct Engine<D: Disk + Drop> {
 
 /// The header of a database file.
 fn file_header<D: Disk>(db: &mut D) -> R<Header>
-    ensures kept { Leaves D.tells D.file db.old db.new }
+    ensures kept { KeepsFile D.tells D.file db.old db.new }
     ensures read { (head : FileHeader) → IsTrue (D.tells db.old) → IsHeader (D.file db.old).content head → ReadsHeader head result }
     ensures counted { CountsIo result (D.failures db.old) (D.failures db.new) }
+    ensures blank { IsTrue (D.tells db.old) → MatchResult result (λ _. is_blank_content (D.file db.old).content ≡ true → ⊥) (TellsBlank (D.file db.old).content) }
 {
     if is_blank(db)? {
         return Err(Fault::Blank);
     }
-    if db.len()? < HEADER_LEN as u64 {
+    if db.len()? < DATABASE_HEADER_LEN as u64 {
         return Err(Fault::NotADatabase);
     }
-    let mut front = [0u8; HEADER_LEN];
+    let mut front = [0u8; DATABASE_HEADER_LEN];
     db.read_at(0, &mut front)?;
     dbheader::read(&front)
 }
 
-/// The schema of the newest view, whose page 1 has to say the view's size and page size.
+/// The schema of the newest snapshot, whose page 1 must have the snapshot's size and page size.
 fn newest_schema<D: Disk + Drop>(alloc: Global, log: &mut Log<D>) -> R<Catalog>
-    ensures kept { (known_of log.new ≡ known_of log.old) × Leaves D.tells D.file (db_of log.old) (db_of log.new) × Leaves D.tells D.file (log_of log.old) (log_of log.new) }
-    ensures listed { (tables : List Table) (database : Database) → Tells log.old → Stores (newest_view log.old) tables database → IsFound (newest_view log.old) → ListsTables tables result }
-    ensures reason { HasReason false result log.old log.new }
+    ensures kept { (state_of log.new ≡ state_of log.old) × KeepsFile D.tells D.file (db_of log.old) (db_of log.new) × KeepsFile D.tells D.file (log_of log.old) (log_of log.new) }
+    ensures listed { (tables : List Table) (database : Database) → Tells log.old → Stores (newest_view log.old) tables database → IsFound (newest_view log.old) → IsOrOutside (ListsCommitted tables) result }
+    ensures cause { HasCause false result log.old log.new }
+    ensures not_blank { IfErr result (λ fault. fault ≡ Fault.Blank → ⊥) }
 {
     let snapshot = log.begin();
     let page = read_page(alloc, log, snapshot, 1)?;
@@ -78,15 +82,18 @@ fn newest_schema<D: Disk + Drop>(alloc: Global, log: &mut Log<D>) -> R<Catalog>
     }
 }
 
-/// Checks the newest view, and then takes off the log what stands behind its committed frames.
-fn started<D: Disk + Drop>(alloc: Global, log: &mut Log<D>) -> R<Catalog>
-    ensures stop { IsFalse (known_of log.old).has_failed → HasPages (D.file (db_of log.old)).content (known_of log.old).page_size → IsTrue (D.tells (db_of log.old)) → IsTrue (D.tells (log_of log.old)) → IsSynced (D.file (db_of log.old)) → IsSynced (D.file (log_of log.old))
+/// Loads the schema of the newest snapshot, then truncates the log after its last committed frame.
+fn load_and_truncate<D: Disk + Drop>(alloc: Global, log: &mut Log<D>) -> R<Catalog>
+    ensures crash { IsFalse (state_of log.old).has_failed → HasPageSize (D.file (db_of log.old)).content (state_of log.old).page_size → IsTrue (D.tells (db_of log.old)) → IsTrue (D.tells (log_of log.old)) → IsSynced (D.file (db_of log.old)) → IsSynced (D.file (log_of log.old))
         → Throughout (LeavesOpened (D.file (db_of log.old)) (D.file (log_of log.old))) (D.file (db_of log.old)) (D.file (log_of log.old)) (D.file (db_of log.new)) (D.file (log_of log.new)) }
-    ensures known { OnOk result (known_of log.new ≡ known_of log.old) }
-    ensures kept { IsTrue (D.tells (db_of log.old)) → IsTrue (D.tells (log_of log.old)) → IfErr result (KeepsBut Io (D.file (db_of log.old)) (D.file (log_of log.old)) (D.file (db_of log.new)) (D.file (log_of log.new))) }
-    // Of settled files that hold a database the tables are listed, and they stay so.
-    ensures serves { (tables : List Table) (database : Database) → Tells log.old → IsSettled log.old → Stores (newest_view log.old) tables database → StartsOn tables database log.new result }
-    ensures reason { HasReason false result log.old log.new }
+    ensures cut { OnOk result ((state_of log.new ≡ state_of log.old) × (IsTrue (D.tells (log_of log.old)) → IsCutTo (state_of log.old) (D.file (log_of log.old)).content (D.file (log_of log.new)).content)) }
+    ensures left { IsFalse (state_of log.old).has_failed → IsTrue (D.tells (db_of log.old)) → IsTrue (D.tells (log_of log.old)) → IsContentLeft (D.file (db_of log.old)) → IsContentLeft (D.file (log_of log.old))
+        → IsContentLeft (D.file (db_of log.new)) × IsContentLeft (D.file (log_of log.new)) }
+    ensures kept { IsTrue (D.tells (db_of log.old)) → IsTrue (D.tells (log_of log.old)) → IfErr result (KeepsFilesBut Io (D.file (db_of log.old)) (D.file (log_of log.old)) (D.file (db_of log.new)) (D.file (log_of log.new))) }
+    // Of settled files that hold a database the catalog lists the tables, and the files stay settled.
+    ensures opens { (tables : List Table) (database : Database) → Tells log.old → IsSettled log.old → Stores (newest_view log.old) tables database → IsOrOutside (StartsWith tables database log.new) result }
+    ensures cause { HasCause false result log.old log.new }
+    ensures not_blank { IfErr result (λ fault. fault ≡ Fault.Blank → ⊥) }
 {
     let catalog = newest_schema(alloc, log)?;
     log.cut_tail()?;
@@ -94,32 +101,33 @@ fn started<D: Disk + Drop>(alloc: Global, log: &mut Log<D>) -> R<Catalog>
 }
 
 impl<D: Disk + Drop> Engine<D> {
-    ghost use Rattle.session.specs.Known.{IsNoConnection, first_refusal};
-    ghost use Rattle.engine.specs.Known.{db_disk, has_failed_of, log_disk};
+    ghost use Rattle.session.specs.ConnectionState.{IsNoConnection, first_refusal};
+    ghost use Rattle.engine.specs.EngineState.{db_disk, has_failed_of, log_disk};
+    ghost use Rattle.engine.specs.Failing.{CountsFailures};
     ghost use Rattle.session.specs.Holding.{Hold, LeaveHeld};
-    ghost use Rattle.engine.specs.Opening.{Opens, TakesSalts, db_left, log_left};
+    ghost use Rattle.engine.specs.Opening.{IsOpenOf, IsOpenedFrom, IsRefusedOpen, db_left, log_left};
     ghost use Rattle.engine.specs.Serving.{GivesUp};
-    ghost use Rattle.engine.specs.Shown.{StepsByText};
-    ghost use Rattle.session.specs.Shown.{rows_reply};
+    ghost use Rattle.engine.specs.Representation.{StepsByText};
+    ghost use Rattle.session.specs.Representation.{rows_reply};
 
     /// Opens a database: syncs both files, checks them, and cuts the log to its committed frames. A log that has no valid
-    /// header gets one with these salts at the first commit. Refusals give the files back, with no byte changed but for `Io`
+    /// header gets one with these salts at the first commit. Refusals give the files back, with no byte changed except for `Io`
     /// in the cut: `Blank`, `NotADatabase`, `Unsupported`, `Damaged`, `Io`, `Memory`.
     pub fn open(alloc: Global, db: D, log: D, salts: Salts) -> Result<Engine<D>, Refused<D>>
-        // A stop leaves what was there before, or what was read of it; or the database file that was read, with a log of the same commits.
-        ensures stop { IsTrue (D.tells db) → IsTrue (D.tells log) → Throughout (LeavesOpened (D.file db) (D.file log)) (D.file db) (D.file log) (D.file (db_left result)) (D.file (log_left result)) }
-        // Files that hold a database, as a stop left them, hold it at each moment.
+        // A crash leaves what was there before, or what was read of it; or the database file that was read, with a log of the same commits.
+        ensures crash { IsTrue (D.tells db) → IsTrue (D.tells log) → Throughout (LeavesOpened (D.file db) (D.file log)) (D.file db) (D.file log) (D.file (db_left result)) (D.file (log_left result)) }
+        // Files that hold a database, as a crash left them, hold it at each moment.
         ensures holds { (database : Database) → IsTrue (D.tells db) → IsTrue (D.tells log) → IsSynced (D.file db) → IsSynced (D.file log) → Hold (D.file db).content (D.file log).content database
             → Throughout (LeaveHeld (λ d. d ≡ database)) (D.file db) (D.file log) (D.file (db_left result)) (D.file (log_left result)) }
-        // Refused, the files hold what they held, but for a call of a disk that failed.
-        ensures kept { IsTrue (D.tells db) → IsTrue (D.tells log) → IfErr result (λ refused. KeepsBut Io (D.file db) (D.file log) (D.file refused.db) (D.file refused.log) refused.fault) }
-        // What is opened hasn't failed, and a log that has no header is to get one with these salts.
-        ensures whole { IfOk result (λ engine. IsFalse (has_failed_of engine) × TakesSalts salts engine) }
-        // A call of one of the two disks failed, and was counted, where `Io` comes.
-        ensures io { IfErr result (λ refused. refused.fault ≡ Io → Rose (D.failures db) (D.failures refused.db) ⊎ Rose (D.failures log) (D.failures refused.log)) }
-        // Files that hold a database show exactly that one, with 16 idle connections, but for want of memory or a failed call of a disk.
-        ensures serves { (database : Database) → IsTrue (D.tells db) → IsTrue (D.tells log) → Hold (D.file db).content (D.file log).content database → Opens database result }
+        // What is in the files then, also where a call failed, a crash may leave.
+        ensures left { IsTrue (D.tells db) → IsTrue (D.tells log) → IsContentLeft (D.file db) → IsContentLeft (D.file log) → IsContentLeft (D.file (db_left result)) × IsContentLeft (D.file (log_left result)) }
+        ensures opened { IfOk result (IsOpenedFrom db log salts) }
+        ensures refused { IfErr result (IsRefusedOpen D.tells D.file D.failures db log) }
+        // Files that hold a database are opened with it and 16 idle connections, unless memory runs out or a disk's call fails.
+        ensures opens { IsOpenOf db log result }
     {
+        let files = sync_both(db, log)?;
+        let Synced { db, log } = files;
         let mut db = db;
         let header = match file_header(&mut db) {
             Ok(header) => header,
@@ -127,13 +135,12 @@ impl<D: Disk + Drop> Engine<D> {
         };
         let mut log = Log::open(
             alloc,
-            db,
-            log,
+            Synced { db, log },
             header.page_size,
             header.counted_size(),
             salts,
         )?;
-        match started(alloc, &mut log) {
+        match load_and_truncate(alloc, &mut log) {
             Ok(catalog) => Ok(Engine {
                 alloc,
                 connections: Connections::new(alloc, log, catalog),
@@ -145,7 +152,7 @@ impl<D: Disk + Drop> Engine<D> {
         }
     }
 
-    /// Gives the files back. Open transactions are given up.
+    /// Gives the two disks back. Open transactions are dropped.
     pub fn into_disks(self) -> (D, D)
         ensures db { result.0 ≡ db_disk self }
         ensures log { result.1 ≡ log_disk self }
@@ -157,19 +164,19 @@ impl<D: Disk + Drop> Engine<D> {
         connections.into_disks()
     }
 
-    /// Executes a statement on a connection, 1 to 16. A refused one changes nothing, but for `Io` in a commit, after which
+    /// Executes a statement on a connection, 1 to 16. A refused one changes nothing, except for `Io` in a commit, after which
     /// every statement answers `Failed`.
     pub fn execute(&mut self, connection: u32, text: &str) -> R<Rows>
-        // Behind a failed commit nothing is served, and nothing changes any more.
+        // After a failed commit every statement is refused, and nothing changes any more.
         ensures failed { IsTrue (has_failed_of self.old) → (result ≡ Err Fault.Failed) × (self.new ≡ self.old) }
         ensures numbered { IsFalse (has_failed_of self.old) → IsNoConnection connection → (result ≡ Err (Fault.Misuse Misuse.Connection)) × (self.new ≡ self.old) }
-        // A statement that isn't served yet, by its form or its connection, is refused and changes nothing.
-        ensures unbuilt { (statement : Statement) → first_refusal (has_failed_of self.old) connection ≡ Ok tt → Is text.now statement → IsFalse (forms.is_built statement && forms.is_served connection) → IfOk result (λ _. ⊥) × (self.new ≡ self.old) }
-        // A call of one of the two disks failed, and was counted, where `Io` comes.
-        ensures io { result ≡ Err Fault.Io → Rose (D.failures (db_disk self.old)) (D.failures (db_disk self.new)) ⊎ Rose (D.failures (log_disk self.old)) (D.failures (log_disk self.new)) }
+        // A statement that isn't supported yet, by its form or its connection, is refused and changes nothing.
+        ensures unsupported { (statement : Statement) → first_refusal (has_failed_of self.old) connection ≡ Ok tt → IsStatementText text.now statement → IsFalse (forms.is_supported statement && forms.is_connection_supported connection) → IfOk result (λ _. ⊥) × (self.new ≡ self.old) }
+        // What the counts of the two disks' failed calls say of the answer, and of the mark of a failed engine.
+        ensures counted { CountsFailures result self.old self.new }
         // What only reads, begins or rolls back is never refused as `Full`.
-        ensures full { result ≡ Err Fault.Full → (statement : Statement) × Is text.now statement × IsTrue (may_be_full statement) }
-        // The reply to the text is a step of each machine that was shown, and the machine behind the step is shown.
+        ensures full { result ≡ Err Fault.Full → (statement : Statement) × IsStatementText text.now statement × IsTrue (may_be_full statement) }
+        // The reply to the text is a step of each machine that was represented, and the machine after it is represented then.
         ensures step { StepsByText self.old connection text.now (rows_reply result) self.new }
     {
         self.connections.check(connection)?;
@@ -177,14 +184,14 @@ impl<D: Disk + Drop> Engine<D> {
         self.connections.execute(connection, &statement)
     }
 
-    /// Whether a commit has failed, so that the files are to be opened anew.
+    /// Whether a commit has failed, so that the files must be opened again.
     pub(crate) fn has_failed(&self) -> bool
         ensures { result ≡ has_failed_of self.now }
     {
         self.connections.has_failed()
     }
 
-    /// Gives up the transactions that are open.
+    /// Drops the open transactions.
     pub(crate) fn give_up(&mut self)
         ensures { GivesUp self.old self.new }
     {

@@ -7,23 +7,23 @@ ghost use Rattle.page.specs.Leaf.{Entry};
 ghost use Rattle.syntax.specs.declared.create.NewObject.TheVariants as new;
 ghost use Rattle.syntax.specs.declared.statement.Statement.{Statement as Parsed};
 ghost use Rattle.syntax.specs.declared.statement.Statement.TheVariants as parsed;
-ghost use Rattle.parser.specs.Statements.{is_statement_within};
-ghost use Rattle.parser.specs.Texts.{Is};
+ghost use Rattle.grammar.specs.Statements.{is_statement_within};
+ghost use Rattle.grammar.specs.Texts.{IsStatementText};
 ghost use Rattle.syntax.specs.declared.create.Create.{Create as Made};
 ghost use Rattle.sqlval.specs.Names.{is_same_name};
-ghost use Rattle.session.specs.Built as built;
-ghost use Rattle.catalog.specs.Faults.{IsNoFileFault};
+ghost use Rattle.session.specs.Supported as supported_forms;
+ghost use Rattle.sqlval.specs.Faults.{IsOrMemory};
 ghost use Rattle.catalog.specs.Listed as listed;
 ghost use Rattle.catalog.specs.Listed.{defined, described, has_doubled, tables_of};
-ghost use Rattle.tabletree.specs.Lone.{IsLone};
+ghost use Rattle.tabletree.specs.SingleLeaf.{IsSingleLeaf};
 ghost use Rattle.session.specs.NewTables.{schema_row};
 ghost use Rattle.session.specs.Schema.{AreRowsOf, AreSameTables, IsCreateOf, IsRowOf, IsSameTable};
-ghost use Rattle.engine.specs.Loading.{AddsTables, HasParts, IsOrMemory, LoadsTables, TellsTable};
+ghost use Rattle.engine.specs.Loading.{AddsTables, HasParts, IsSchemaFault, ListsCommitted, TellsTable};
 
 use catalog::{Catalog, Column, Table, columns_of, is_reserved};
 use parser::parse;
 use record::Record;
-use session::is_table_built;
+use session::is_table_supported;
 use sqlval::{Damage, Fault, Feature, Field, Name, R};
 use std::alloc::Global;
 use syntax::{Create, NewObject, Statement, TableDefinition};
@@ -38,17 +38,17 @@ struct SchemaRow<'a> {
     sql: &'a str,
 }
 
-/// A row of the schema table breaks the format.
+/// The refusal of a schema row that breaks the format.
 fn damaged() -> Fault
-    ensures { IsNoFileFault result }
+    ensures { IsSchemaFault result }
 {
     Fault::Damaged(Damage::Schema, 1)
 }
 
-/// The schema's texts are outside the profile, but for the want of memory.
+/// The refusal of a schema text: unsupported, or `Memory`.
 fn outside(fault: Fault) -> Fault
     ensures memory { fault ≡ Fault.Memory → result ≡ Fault.Memory }
-    ensures calm { IsNoFileFault result }
+    ensures not_disk { IsSchemaFault result }
 {
     match fault {
         Fault::Memory => Fault::Memory,
@@ -56,15 +56,15 @@ fn outside(fault: Fault) -> Fault
     }
 }
 
-/// The row is that of a table.
+/// Checks that the row is that of a table.
 fn is_of_table(kind: Field<'_>) -> R<()>
     ensures tells { value_of kind.entry ≡ value.Text (codes "table") → result ≡ Ok tt }
-    ensures calm { IfErr result (λ fault. IsNoFileFault fault) }
+    ensures not_disk { IfErr result (λ fault. IsSchemaFault fault) }
 {
     match kind {
         Field::Text("table") => Ok(()),
         Field::Text("index") | Field::Text("view") | Field::Text("trigger") => {
-            Err(Fault::Unsupported(Feature::NotBuilt))
+            Err(Fault::Unsupported(Feature::StatementForm))
         }
         _ => Err(damaged()),
     }
@@ -72,7 +72,7 @@ fn is_of_table(kind: Field<'_>) -> R<()>
 
 fn text_of<'a>(field: Field<'a>) -> R<&'a str>
     ensures tells { (text : List ℕ) → value_of field.entry ≡ value.Text text → IsOkAnd result (λ found. found.now ≡ text) }
-    ensures calm { IfErr result (λ fault. IsNoFileFault fault) }
+    ensures not_disk { IfErr result (λ fault. IsSchemaFault fault) }
 {
     match field {
         Field::Text(text) => Ok(text),
@@ -80,10 +80,10 @@ fn text_of<'a>(field: Field<'a>) -> R<&'a str>
     }
 }
 
-/// A page behind the first, in a database of so many.
+/// A root page: from 2 to `size`.
 fn root_of(field: Field<'_>, size: u32) -> R<u32>
     ensures tells { (root : ℕ) → value_of field.entry ≡ value.Int (pos root) → 1 < root → root ≤ size → result ≡ Ok root }
-    ensures calm { IfErr result (λ fault. IsNoFileFault fault) }
+    ensures not_disk { IfErr result (λ fault. IsSchemaFault fault) }
 {
     let Field::Int(root) = field else {
         return Err(damaged());
@@ -96,7 +96,7 @@ fn root_of(field: Field<'_>, size: u32) -> R<u32>
 
 fn row_of<'a>(row: &Record<'a>, size: u32) -> R<SchemaRow<'a>>
     ensures tells { (name : List ℕ) (root : ℕ) (sql : List ℕ) → row.now ≡ schema_row name root sql → 1 < root → root ≤ size → IsOkAnd result (HasParts name root sql) }
-    ensures calm { IfErr result (λ fault. IsNoFileFault fault) }
+    ensures not_disk { IfErr result (λ fault. IsSchemaFault fault) }
 {
     if row.len() != 5 {
         return Err(Fault::Unsupported(Feature::ColumnCount));
@@ -111,8 +111,8 @@ fn row_of<'a>(row: &Record<'a>, size: u32) -> R<SchemaRow<'a>>
 }
 
 fn statement_of(alloc: Global, sql: &str) -> R<Statement>
-    ensures tells { (statement : Parsed) → Is sql.now statement → is_statement_within statement ≡ true → length sql.now ≤ 65536 → IsOrMemory (λ found. found ≡ statement) result }
-    ensures calm { IfErr result (λ fault. IsNoFileFault fault) }
+    ensures tells { (statement : Parsed) → IsStatementText sql.now statement → is_statement_within statement ≡ true → length sql.now ≤ 65536 → IsOrMemory (λ found. found ≡ statement) result }
+    ensures not_disk { IfErr result (λ fault. IsSchemaFault fault) }
 {
     match parse(alloc, sql) {
         Ok(statement) => Ok(statement),
@@ -122,7 +122,7 @@ fn statement_of(alloc: Global, sql: &str) -> R<Statement>
 
 fn created_by(statement: Statement) -> R<NewObject>
     ensures tells { (made : Made) → statement ≡ parsed.Create made → result ≡ Ok made.object }
-    ensures calm { IfErr result (λ fault. IsNoFileFault fault) }
+    ensures not_disk { IfErr result (λ fault. IsSchemaFault fault) }
 {
     let Statement::Create(create) = statement else {
         return Err(Fault::Unsupported(Feature::SchemaObject));
@@ -133,17 +133,17 @@ fn created_by(statement: Statement) -> R<NewObject>
 
 fn table_in(object: NewObject) -> R<TableDefinition>
     ensures tells { (definition : TableDefinition) → object ≡ new.Table definition → result ≡ Ok definition }
-    ensures calm { IfErr result (λ fault. IsNoFileFault fault) }
+    ensures not_disk { IfErr result (λ fault. IsSchemaFault fault) }
 {
     match object {
         NewObject::Table(definition) => Ok(definition),
-        _ => Err(Fault::Unsupported(Feature::NotBuilt)),
+        _ => Err(Fault::Unsupported(Feature::StatementForm)),
     }
 }
 
 fn definition_of(alloc: Global, sql: &str) -> R<TableDefinition>
     ensures tells { (definition : TableDefinition) → IsCreateOf sql.now (new.Table definition) → IsOrMemory (λ found. found ≡ definition) result }
-    ensures calm { IfErr result (λ fault. IsNoFileFault fault) }
+    ensures not_disk { IfErr result (λ fault. IsSchemaFault fault) }
 {
     let statement = statement_of(alloc, sql)?;
     let object = created_by(statement)?;
@@ -152,7 +152,7 @@ fn definition_of(alloc: Global, sql: &str) -> R<TableDefinition>
 
 fn columns_in(alloc: Global, definition: &TableDefinition) -> R<Vec<Column>>
     ensures tells { (columns : List Column) → has_doubled definition.now.columns ≡ false → map described columns ≡ map defined definition.now.columns → IsOrMemory (λ found. found.items ≡ columns) result }
-    ensures calm { IfErr result (λ fault. IsNoFileFault fault) }
+    ensures not_disk { IfErr result (λ fault. IsSchemaFault fault) }
 {
     match columns_of(alloc, definition) {
         Ok(columns) => Ok(columns),
@@ -160,14 +160,14 @@ fn columns_in(alloc: Global, definition: &TableDefinition) -> R<Vec<Column>>
     }
 }
 
-/// The definition is one that is served, under the row's name.
+/// Checks that the definition is supported and has the row's name.
 fn is_of_row(definition: &TableDefinition, row: &SchemaRow<'_>) -> R<()>
-    ensures tells { built.is_table_built definition.now ≡ true → is_same_name definition.now.name row.now.name.now ≡ true → is_same_name definition.now.name row.now.table_name.now ≡ true
+    ensures tells { supported_forms.is_table_supported definition.now ≡ true → is_same_name definition.now.name row.now.name.now ≡ true → is_same_name definition.now.name row.now.table_name.now ≡ true
         → listed.is_reserved row.now.name.now ≡ false → result ≡ Ok tt }
-    ensures calm { IfErr result (λ fault. IsNoFileFault fault) }
+    ensures not_disk { IfErr result (λ fault. IsSchemaFault fault) }
 {
-    if !is_table_built(definition) {
-        return Err(Fault::Unsupported(Feature::NotBuilt));
+    if !is_table_supported(definition) {
+        return Err(Fault::Unsupported(Feature::StatementForm));
     }
     if !definition.name.is_same(row.name) {
         return Err(damaged());
@@ -183,7 +183,7 @@ fn is_of_row(definition: &TableDefinition, row: &SchemaRow<'_>) -> R<()>
 
 fn table_of(alloc: Global, row: &SchemaRow<'_>) -> R<Table>
     ensures tells { (before : List Table) (table : Table) → TellsTable before table row.now → IsOrMemory (IsSameTable table) result }
-    ensures calm { IfErr result (λ fault. IsNoFileFault fault) }
+    ensures not_disk { IfErr result (λ fault. IsSchemaFault fault) }
 {
     let definition = definition_of(alloc, row.sql)?;
     is_of_row(&definition, row)?;
@@ -198,7 +198,7 @@ fn table_of(alloc: Global, row: &SchemaRow<'_>) -> R<Table>
 
 fn is_new(catalog: &Catalog, table: &Table) -> R<()>
     ensures tells { listed.table_named table.now.name (tables_of catalog.now) ≡ None → result ≡ Ok tt }
-    ensures calm { IfErr result (λ fault. IsNoFileFault fault) }
+    ensures not_disk { IfErr result (λ fault. IsSchemaFault fault) }
 {
     if catalog.table(table.name.as_str()).is_some() {
         return Err(Fault::Unsupported(Feature::SchemaObject));
@@ -206,12 +206,12 @@ fn is_new(catalog: &Catalog, table: &Table) -> R<()>
     Ok(())
 }
 
-/// Adds the table that a row of the schema tells.
+/// Adds the table that a row of the schema table describes.
 fn add_row(alloc: Global, catalog: &mut Catalog, payload: &[u8], size: u32) -> R<()>
-    // The table of such a row stands behind the others, but for the want of memory.
+    // The table of such a row is listed after the others, unless memory runs out.
     ensures tells { (before : List Table) (table : Table) (entry : Entry) → AreSameTables before (tables_of catalog.old) → entry.payload ≡ payload.now → IsRowOf size before table entry
         → AddsTables (before ++ table ∷ []) result catalog.new }
-    ensures calm { IfErr result (λ fault. IsNoFileFault fault) }
+    ensures not_disk { IfErr result (λ fault. IsSchemaFault fault) }
 {
     let found = Record::over(alloc, payload)?;
     let row = row_of(&found, size)?;
@@ -220,10 +220,10 @@ fn add_row(alloc: Global, catalog: &mut Catalog, payload: &[u8], size: u32) -> R
     catalog.add(table)
 }
 
-/// The tables that these rows of the schema tell.
+/// The tables that these rows of the schema table describe.
 fn tables_in(alloc: Global, leaf: &Leaf<'_>, size: u32) -> R<Catalog>
     ensures tells { (tables : List Table) → AreRowsOf size [] tables leaf.now → IsOrMemory (λ catalog. AreSameTables tables (tables_of catalog)) result }
-    ensures calm { IfErr result (λ fault. IsNoFileFault fault) }
+    ensures not_disk { IfErr result (λ fault. IsSchemaFault fault) }
 {
     let mut catalog = Catalog::empty(alloc);
     'rows: for index in 0..leaf.len() {
@@ -232,14 +232,14 @@ fn tables_in(alloc: Global, leaf: &Leaf<'_>, size: u32) -> R<Catalog>
     Ok(catalog)
 }
 
-/// The tables that page 1 of a database of this many pages lists.
+/// The tables that page 1 lists, of a database of `size` pages.
 pub fn load(alloc: Global, page: &[u8], size: u32) -> R<Catalog>
-    // Where page 1's rows tell tables, these are loaded, but for the want of memory.
-    ensures listed { (tables : List Table) (rows : List Entry) → IsLone page.now 1 rows → AreRowsOf size [] tables rows → LoadsTables tables result }
-    ensures calm { IfErr result (λ fault. IsNoFileFault fault) }
+    // Where page 1's rows describe tables, these are loaded, unless memory runs out.
+    ensures listed { (tables : List Table) (rows : List Entry) → IsSingleLeaf page.now 1 rows → AreRowsOf size [] tables rows → IsOrMemory (ListsCommitted tables) result }
+    ensures not_disk { IfErr result (λ fault. IsSchemaFault fault) }
 {
     let leaf = Leaf::over(alloc, page, 1)?;
     let mut catalog = tables_in(alloc, &leaf, size)?;
-    catalog.keep();
+    catalog.commit();
     Ok(catalog)
 }

@@ -1,4 +1,4 @@
-//! Lines of text served.
+//! Running lines of text.
 
 ghost use Rattle.std.specs.Prelude.{◌≡◌, ◌++◌, IfErr, IfOk, OnOk, OnErr};
 ghost use Rattle.std.specs.Io.KnownBytes.{Appends, Keeps};
@@ -16,7 +16,7 @@ use sqlval::{Fault, R};
 use std::alloc::Global;
 use std::io::{BufRead, ErrorKind, Write};
 
-/// Writes a beginning of a text that isn't empty, and answers the rest: the whole where the output was interrupted.
+/// Writes some bytes of a text, and returns the rest: the whole text if the output was interrupted.
 fn write_some<'a, O: Write>(output: &mut O, text: &'a [u8]) -> R<&'a [u8]>
     ensures written { IfOk result (λ rest. HasWritten (O.contents output.old) (O.contents output.new) text.now rest.now) }
     ensures refused { OnErr result (Keeps (O.contents output.old) (O.contents output.new)) }
@@ -71,6 +71,8 @@ fn write_reply<O: Write>(
 }
 
 impl<D: Disk + Drop> Engine<D> {
+    ghost use Rattle.engine.specs.Failing.{MarksWhereCounted};
+
     /// The reply to a line: a connection's number, a space and a statement.
     fn answer(&mut self, line: &[u8]) -> R<Rows>
         ensures { AnswersKept self.old line.now (reply_of result) self.new }
@@ -82,12 +84,14 @@ impl<D: Disk + Drop> Engine<D> {
         self.execute(connection, text)
     }
 
-    /// Serves lines until the input ends, and writes the reply to each. Then open transactions are given up. Refusals:
-    /// `Memory`, `Io` where the input or the output fails; what is written is then a beginning of the replies.
+    /// Executes lines until the input ends, and writes the reply to each. Then open transactions are dropped. `Memory`, or
+    /// `Io` if the input or the output fails; what is written is then a beginning of the replies.
     pub fn run<I: BufRead, O: Write>(&mut self, input: &mut I, output: &mut O) -> R<()>
         ensures served { OnOk result (HasRun self.old (I.remaining input.old) (I.remaining input.new) (O.contents output.old) (O.contents output.new) self.new) }
         ensures refused { OnErr result (HasRunInPart self.old (I.remaining input.old) (O.contents output.old) (O.contents output.new) self.new) }
         ensures why { IfErr result IsInputRefusal }
+        // The engine is marked as failed only where a call of a disk failed.
+        ensures marked { MarksWhereCounted self.old self.new }
     {
         let result = self.serve(input, output);
         self.give_up();

@@ -12,7 +12,7 @@ use Rattle.syntax.specs.declared.expr.Operator.TheVariants as op
 use Rattle.syntax.specs.Tree as tree
 use Rattle.syntax.specs.Tree.{Tree, Trees, trees}
 use Rattle.expressions.specs.Depth.{deep, deepest, list_of}
-use Rattle.expressions.specs.Pieces.{Piece, Plain, Name, Text, Blob}
+use Rattle.expressions.specs.Symbols.{Symbol, Plain, Name, Text, Blob}
 use Rattle.expressions.specs.Follows.{ends_name, Follows, ends_list, EndsList}
 use Rattle.expressions.specs.Grammar as g
 use Rattle.expressions.specs.Grammar.{level_of, operator, At, Tail, Items}
@@ -41,7 +41,7 @@ deep_some (tree.Raise r z) = omega arith
 
 -- ---- what an expression begins with
 
-abbrev pub begins : List Piece → Bool
+abbrev pub begins : List Symbol → Bool
 begins (Plain (t.Word w.Null) ∷ ts) = true
 begins (Plain (t.Word w.Raise) ∷ ts) = true
 begins (Plain (t.Integer n) ∷ ts) = true
@@ -53,7 +53,7 @@ begins (Plain t.Minus ∷ ts) = true
 begins (Plain (t.Word w.Not) ∷ ts) = true
 begins _ = false
 
-pub first : {r : ℕ} {ts : List Piece} {e : Tree} → At r ts e → (rest : List Piece) (k : ℕ) → r < k → is_prefixed k (ts ++ rest) ≡ false
+pub first : {r : ℕ} {ts : List Symbol} {e : Tree} → At r ts e → (rest : List Symbol) (k : ℕ) → r < k → is_prefixed k (ts ++ rest) ≡ false
 unfolding is_prefixed
 first g.null rest k lt = ne_eqb 0 k (λ h. omega arith)
 first g.integer rest k lt = ne_eqb 0 k (λ h. omega arith)
@@ -72,7 +72,7 @@ first (g.not d) rest k lt = ne_eqb 8 k (λ h. omega arith)
 first (g.up d) rest k lt = first d rest k (omega arith)
 first (g.chain {us = us} {vs = vs} d x) rest k lt = rw (append_assoc us vs rest) (first d (vs ++ rest) k lt)
 
-pub begun : {r : ℕ} {ts : List Piece} {e : Tree} → At r ts e → (rest : List Piece) → begins (ts ++ rest) ≡ true
+pub begun : {r : ℕ} {ts : List Symbol} {e : Tree} → At r ts e → (rest : List Symbol) → begins (ts ++ rest) ≡ true
 begun g.null rest = refl
 begun g.integer rest = refl
 begun g.text rest = refl
@@ -92,11 +92,11 @@ begun (g.chain {us = us} {vs = vs} d x) rest = rw (append_assoc us vs rest) (beg
 
 -- ---- steps
 
-pub over_fits : (room : ℕ) (e : Tree) (d : ℕ) (ts : List Piece) → suc d ≤ room → over room e d ts ≡ Ok (record { tree = e; depth = suc d }, ts)
+pub over_fits : (room : ℕ) (e : Tree) (d : ℕ) (ts : List Symbol) → suc d ≤ room → over room e d ts ≡ Ok (record { tree = e; depth = suc d }, ts)
 unfolding over
 over_fits room e d ts le = rw (le-leb (suc d) room le) refl
 
-pub never_one : (ts : List Piece) → goes_on 1 ts ≡ false
+pub never_one : (ts : List Symbol) → goes_on 1 ts ≡ false
 unfolding goes_on
 never_one [] = refl
 never_one (Plain s ∷ ts) = never_one_of s
@@ -106,7 +106,7 @@ never_one (Plain s ∷ ts) = never_one_of s
     never_one_of _ = refl
 never_one (_ ∷ ts) = refl
 
-pub never_eight : (ts : List Piece) → goes_on 8 ts ≡ false
+pub never_eight : (ts : List Symbol) → goes_on 8 ts ≡ false
 unfolding goes_on
 never_eight [] = refl
 never_eight (Plain s ∷ ts) = never_eight_of s
@@ -116,54 +116,54 @@ never_eight (Plain s ∷ ts) = never_eight_of s
     never_eight_of _ = refl
 never_eight (_ ∷ ts) = refl
 
-pub follows_by : (r : ℕ) (s : Piece) (rest : List Piece) → ends_name (s ∷ rest) ≡ true → ((k : ℕ) → 0 < k → k < r → binds s ≡ k → ⊥) → Follows r (s ∷ rest)
+pub follows_by : (r : ℕ) (s : Symbol) (rest : List Symbol) → ends_name (s ∷ rest) ≡ true → ((k : ℕ) → 0 < k → k < r → binds s ≡ k → ⊥) → Follows r (s ∷ rest)
 unfolding goes_on
 follows_by r s rest e ne = record { alone = e; quiet = λ k p q. ne_eqb (binds s) k (ne k p q) }
 
-pub Follows-less : (r : ℕ) (rest : List Piece) → Follows (suc r) rest → Follows r rest
+pub Follows-less : (r : ℕ) (rest : List Symbol) → Follows (suc r) rest → Follows r rest
 Follows-less r rest f = record { alone = f.alone; quiet = λ k p q. f.quiet k p (omega arith) }
 
-pub Follows-one : (rest : List Piece) → Follows 1 rest → Follows 2 rest
+pub Follows-one : (rest : List Symbol) → Follows 1 rest → Follows 2 rest
 Follows-one rest f = record { alone = f.alone; quiet = λ k p q. let e : k ≡ 1 = omega arith in rw e (never_one rest) }
 
-pub Follows-eight : (rest : List Piece) → Follows 8 rest → Follows 9 rest
+pub Follows-eight : (rest : List Symbol) → Follows 8 rest → Follows 9 rest
 Follows-eight rest f = record { alone = f.alone; quiet = λ k p q. at_most k p q (eqb_tells k 8) }
   where
     at_most : (k : ℕ) → 0 < k → k < 9 → ((eqb k 8 ≡ true) × (k ≡ 8)) ⊎ ((eqb k 8 ≡ false) × (k ≢ 8)) → goes_on k rest ≡ false
     at_most k p q (inl h) = let e : k ≡ 8 = h.1 in rw e (never_eight rest)
     at_most k p q (inr h) = let ne : k ≢ 8 = h.1 in f.quiet k p (omega arith)
 
-module _ (inner : ℕ → List Piece → Read Deep) (room : ℕ) where
-  pub tails_stop : (n r : ℕ) (d : Deep) (rest : List Piece) → goes_on (suc r) rest ≡ false → tails inner room n r d rest ≡ Ok (d, rest)
+module _ (inner : ℕ → List Symbol → Read Deep) (room : ℕ) where
+  pub tails_stop : (n r : ℕ) (d : Deep) (rest : List Symbol) → goes_on (suc r) rest ≡ false → tails inner room n r d rest ≡ Ok (d, rest)
   unfolding tails
   tails_stop zero r d rest q = rw q refl
   tails_stop (suc n) r d rest q = rw q refl
 
-  pub tails_go : (n r : ℕ) (d e : Deep) (ts rest : List Piece) → goes_on (suc r) ts ≡ true → tail inner room r d ts ≡ Ok (e, rest) → tails inner room (suc n) r d ts ≡ tails inner room n r e rest
+  pub tails_go : (n r : ℕ) (d e : Deep) (ts rest : List Symbol) → goes_on (suc r) ts ≡ true → tail inner room r d ts ≡ Ok (e, rest) → tails inner room (suc n) r d ts ≡ tails inner room n r e rest
   unfolding tails
   tails_go n r d e ts rest q h = rw (q, h) refl
 
-  pub named_alone : (c : List ℕ) (rest : List Piece) → ends_name rest ≡ true → named inner room c rest ≡ Ok (leaf (tree.Column None c), rest)
+  pub named_alone : (c : List ℕ) (rest : List Symbol) → ends_name rest ≡ true → named inner room c rest ≡ Ok (leaf (tree.Column None c), rest)
   unfolding named
   named_alone c [] e = refl
   named_alone c (Plain t.Dot ∷ ts) e = absurd cc
   named_alone c (Plain t.LeftParen ∷ ts) e = absurd cc
   named_alone c (_ ∷ ts) e = refl
 
-  pub call_begun : (f : List ℕ) (ts : List Piece) → begins ts ≡ true → call inner room f ts ≡ (items inner room ts >>= λ found. over room (tree.Call f (trees found.0.trees)) found.0.depth found.1)
+  pub call_begun : (f : List ℕ) (ts : List Symbol) → begins ts ≡ true → call inner room f ts ≡ (items inner room ts >>= λ found. over room (tree.Call f (trees found.0.trees)) found.0.depth found.1)
   unfolding call
   call_begun f [] e = absurd cc
   call_begun f (Plain t.RightParen ∷ ts) e = absurd cc
   call_begun f (Plain t.Star ∷ ts) e = absurd cc
   call_begun f (_ ∷ ts) e = refl
 
-  pub is_alone : (r : ℕ) (d : Deep) (ts : List Piece) → is_prefixed 8 ts ≡ false → tail inner room r d (Plain (t.Word w.Is) ∷ ts) ≡ operand inner room r op.Is d ts
+  pub is_alone : (r : ℕ) (d : Deep) (ts : List Symbol) → is_prefixed 8 ts ≡ false → tail inner room r d (Plain (t.Word w.Is) ∷ ts) ≡ operand inner room r op.Is d ts
   unfolding tail is_prefixed
   is_alone r d [] e = refl
   is_alone r d (Plain (t.Word w.Not) ∷ ts) e = absurd cc
   is_alone r d (_ ∷ ts) e = refl
 
-  pub by_tail : (r : ℕ) (d : Deep) (s : Kind) (o : Operator) (ts : List Piece) → operator s ≡ Some o → tail inner room r d (Plain s ∷ ts) ≡ operand inner room r o d ts
+  pub by_tail : (r : ℕ) (d : Deep) (s : Kind) (o : Operator) (ts : List Symbol) → operator s ≡ Some o → tail inner room r d (Plain s ∷ ts) ≡ operand inner room r o d ts
   unfolding tail
   by_tail r d (t.Word w.Collate) o ts e = absurd cc
   by_tail r d (t.Word w.Is) o ts e = absurd cc
@@ -174,29 +174,29 @@ module _ (inner : ℕ → List Piece → Read Deep) (room : ℕ) where
 
 -- ---- what reading comes to where an expression stands at the front
 
-abbrev pub Opened : ℕ → ℕ → Tree → List Piece → List Piece → Type 0
+abbrev pub Opened : ℕ → ℕ → Tree → List Symbol → List Symbol → Type 0
 Opened room zero e all rest = ladder (level_at room) (suc room) zero all ≡ Ok (deepened e, rest)
 Opened room (suc r) e all rest =
     (n : ℕ) × (suc room ≤ n + deep e) × (ladder (level_at room) (suc room) (suc r) all ≡ tails (level_at room) (suc room) n r (deepened e) rest)
 
-pub closed : (room r : ℕ) (e : Tree) (all rest : List Piece) → Opened room r e all rest → Follows (suc r) rest → ladder (level_at room) (suc room) r all ≡ Ok (deepened e, rest)
+pub closed : (room r : ℕ) (e : Tree) (all rest : List Symbol) → Opened room r e all rest → Follows (suc r) rest → ladder (level_at room) (suc room) r all ≡ Ok (deepened e, rest)
 closed room zero e all rest o f = o
 closed room (suc r) e all rest o f = o.2 ∙ tails_stop (level_at room) (suc room) o.0 r (deepened e) rest (f.quiet (suc r) (omega arith) (omega arith))
 
-pub nested : (room r : ℕ) (e : Tree) (all rest : List Piece) → ((m : ℕ) → deep e ≤ suc m → Opened m r e all rest) → deep e ≤ room → Follows (suc r) rest → level_at room r all ≡ Ok (deepened e, rest)
+pub nested : (room r : ℕ) (e : Tree) (all rest : List Symbol) → ((m : ℕ) → deep e ≤ suc m → Opened m r e all rest) → deep e ≤ room → Follows (suc r) rest → level_at room r all ≡ Ok (deepened e, rest)
 unfolding level_at
 nested zero r e all rest d le f = absurd (omega (arith, deep_some e))
 nested (suc m) r e all rest d le f = closed m r e all rest (d m le) f
 
 -- one level further up
-pub raised : (room r : ℕ) (e : Tree) (all rest : List Piece) → Opened room r e all rest → Follows (suc r) rest → is_prefixed (suc r) all ≡ false → Opened room (suc r) e all rest
+pub raised : (room r : ℕ) (e : Tree) (all rest : List Symbol) → Opened room r e all rest → Follows (suc r) rest → is_prefixed (suc r) all ≡ false → Opened room (suc r) e all rest
 unfolding ladder
 raised room r e all rest o f bare =
     let c = closed room r e all rest o f in
     (suc room, omega arith, rw (bare, c) refl)
 
--- an expression that stands behind a token before its operand
-pub prefixed : (room r : ℕ) (s : Piece) (e : Tree) (ts rest : List Piece) → is_prefixed (suc r) (s ∷ ts) ≡ true → level_at room (suc r) ts ≡ Ok (deepened e, rest) → deep e ≤ room → deep (wrap s e) ≡ suc (deep e)
+-- an expression that stands after a token before its operand
+pub prefixed : (room r : ℕ) (s : Symbol) (e : Tree) (ts rest : List Symbol) → is_prefixed (suc r) (s ∷ ts) ≡ true → level_at room (suc r) ts ≡ Ok (deepened e, rest) → deep e ≤ room → deep (wrap s e) ≡ suc (deep e)
     → goes_on (suc r) rest ≡ false → Opened room (suc r) (wrap s e) (s ∷ ts) rest
 unfolding ladder prefix
 prefixed room r s e ts rest is_one h le same quiet =
@@ -209,27 +209,27 @@ pub list-trees : (es : Trees) → trees (list_of es) ≡ es
 list-trees tree.End = refl
 list-trees (tree.More e es) = ap (tree.More e) (list-trees es)
 
-pub items_stop : (go : Deeps → List Piece → Read Deeps) (found : Deeps) (rest : List Piece) → ends_list rest ≡ true → spec.next_item go found rest ≡ Ok (found, rest)
+pub items_stop : (go : Deeps → List Symbol → Read Deeps) (found : Deeps) (rest : List Symbol) → ends_list rest ≡ true → spec.next_item go found rest ≡ Ok (found, rest)
 items_stop go found [] e = refl
 items_stop go found (Plain t.Comma ∷ ts) e = absurd cc
 items_stop go found (_ ∷ ts) e = refl
 
-pub items_end : (inner : ℕ → List Piece → Read Deep) (room n : ℕ) (found : Deeps) (e : Deep) (ts rest : List Piece) → inner 10 ts ≡ Ok (e, rest) → ends_list rest ≡ true
+pub items_end : (inner : ℕ → List Symbol → Read Deep) (room n : ℕ) (found : Deeps) (e : Deep) (ts rest : List Symbol) → inner 10 ts ≡ Ok (e, rest) → ends_list rest ≡ true
     → items_upto inner room (suc n) found ts ≡ Ok (spec.with_item found e, rest)
 unfolding items_upto
 items_end inner room n found e ts rest h ends = rw h (items_stop (items_upto inner room n) (spec.with_item found e) rest ends)
 
-pub items_next : (inner : ℕ → List Piece → Read Deep) (room n : ℕ) (found : Deeps) (e : Deep) (ts rest : List Piece) → inner 10 ts ≡ Ok (e, Plain t.Comma ∷ rest)
+pub items_next : (inner : ℕ → List Symbol → Read Deep) (room n : ℕ) (found : Deeps) (e : Deep) (ts rest : List Symbol) → inner 10 ts ≡ Ok (e, Plain t.Comma ∷ rest)
     → items_upto inner room (suc n) found ts ≡ items_upto inner room n (spec.with_item found e) rest
 unfolding items_upto
 items_next inner room n found e ts rest h = rw h refl
 
-pub items_begun : {ts : List Piece} {es : Trees} → Items ts es → (rest : List Piece) → begins (ts ++ rest) ≡ true
+pub items_begun : {ts : List Symbol} {es : Trees} → Items ts es → (rest : List Symbol) → begins (ts ++ rest) ≡ true
 items_begun (g.last d) rest = begun d rest
 items_begun (g.next {ts = ts} {us = us} d i) rest = rw (append_assoc ts (Plain t.Comma ∷ us) rest) (begun d (Plain t.Comma ∷ us ++ rest))
 
 -- a tail goes on with the chain, and makes the tree deeper
-pub tail_on : {r : ℕ} {a e : Tree} {vs : List Piece} → Tail r a vs e → (rest : List Piece) → goes_on (suc r) (vs ++ rest) ≡ true
+pub tail_on : {r : ℕ} {a e : Tree} {vs : List Symbol} → Tail r a vs e → (rest : List Symbol) → goes_on (suc r) (vs ++ rest) ≡ true
 unfolding goes_on
 tail_on (g.binary s o b is d) rest = rw b (eqb_same _)
   where
@@ -243,7 +243,7 @@ tail_on (g.among i) rest = refl
 tail_on (g.not_among i) rest = refl
 tail_on g.collate rest = refl
 
-pub tail_deeper : {r : ℕ} {a e : Tree} {vs : List Piece} → Tail r a vs e → deep a < deep e
+pub tail_deeper : {r : ℕ} {a e : Tree} {vs : List Symbol} → Tail r a vs e → deep a < deep e
 tail_deeper (g.binary s o b is d) = omega arith
 tail_deeper (g.is d) = omega arith
 tail_deeper (g.is_not d) = omega arith
@@ -253,12 +253,12 @@ tail_deeper (g.among i) = omega arith
 tail_deeper (g.not_among i) = omega arith
 tail_deeper g.collate = omega arith
 
-pub operator_alone : (s : Kind) (o : Operator) (ts : List Piece) → operator s ≡ Some o → ends_name (Plain s ∷ ts) ≡ true
+pub operator_alone : (s : Kind) (o : Operator) (ts : List Symbol) → operator s ≡ Some o → ends_name (Plain s ∷ ts) ≡ true
 operator_alone t.Dot o ts e = absurd cc
 operator_alone t.LeftParen o ts e = absurd cc
 operator_alone _ o ts e = refl
 
-pub tail_follows : {r : ℕ} {a e : Tree} {vs : List Piece} → Tail r a vs e → (rest : List Piece) → Follows (suc r) (vs ++ rest)
+pub tail_follows : {r : ℕ} {a e : Tree} {vs : List Symbol} → Tail r a vs e → (rest : List Symbol) → Follows (suc r) (vs ++ rest)
 tail_follows (g.binary {r = r} {bs = bs} s o b is d) rest = follows_by _ (Plain s) (bs ++ rest) (operator_alone s o (bs ++ rest) is) (λ k p q h. omega arith)
 tail_follows (g.is d) rest = follows_by _ (Plain (t.Word w.Is)) _ refl (λ k p q h. omega arith)
 tail_follows (g.is_not d) rest = follows_by _ (Plain (t.Word w.Is)) _ refl (λ k p q h. omega arith)
@@ -270,19 +270,19 @@ tail_follows g.collate rest = follows_by _ (Plain (t.Word w.Collate)) _ refl (λ
 
 -- ---- the law
 
-pub follows_paren : (r : ℕ) (rest : List Piece) → Follows r (Plain t.RightParen ∷ rest)
+pub follows_paren : (r : ℕ) (rest : List Symbol) → Follows r (Plain t.RightParen ∷ rest)
 follows_paren r rest = follows_by r (Plain t.RightParen) rest refl (λ k p q h. omega arith)
 
-pub follows_comma : (r : ℕ) (rest : List Piece) → Follows r (Plain t.Comma ∷ rest)
+pub follows_comma : (r : ℕ) (rest : List Symbol) → Follows r (Plain t.Comma ∷ rest)
 follows_comma r rest = follows_by r (Plain t.Comma) rest refl (λ k p q h. omega arith)
 
-pub follows_and : (rest : List Piece) → Follows 7 (Plain (t.Word w.And) ∷ rest)
+pub follows_and : (rest : List Symbol) → Follows 7 (Plain (t.Word w.And) ∷ rest)
 follows_and rest = follows_by 7 (Plain (t.Word w.And)) rest refl (λ k p q h. omega arith)
 
-pub ends_paren : (rest : List Piece) → EndsList (Plain t.RightParen ∷ rest)
+pub ends_paren : (rest : List Symbol) → EndsList (Plain t.RightParen ∷ rest)
 ends_paren rest = (follows_paren 11 rest, refl)
 
-pub At_some : {r : ℕ} {ts : List Piece} {e : Tree} → At r ts e → 0 < length ts
+pub At_some : {r : ℕ} {ts : List Symbol} {e : Tree} → At r ts e → 0 < length ts
 At_some g.null = omega arith
 At_some g.integer = omega arith
 At_some g.text = omega arith
@@ -300,7 +300,7 @@ At_some (g.not d) = omega arith
 At_some (g.up d) = At_some d
 At_some (g.chain {us = us} {vs = vs} d x) = omega (arith, length-append us vs, At_some d)
 
-pub items_of : (inner : ℕ → List Piece → Read Deep) (room : ℕ) (ts : List Piece) (es : Trees) (rest : List Piece)
+pub items_of : (inner : ℕ → List Symbol → Read Deep) (room : ℕ) (ts : List Symbol) (es : Trees) (rest : List Symbol)
     → items_upto inner room (length (ts ++ Plain t.RightParen ∷ rest)) spec.no_items (ts ++ Plain t.RightParen ∷ rest) ≡ Ok (record { trees = [] ++ list_of es; depth = max 0 (deepest es) }, Plain t.RightParen ∷ rest)
     → items inner room (ts ++ Plain t.RightParen ∷ rest) ≡ Ok (record { trees = list_of es; depth = deepest es }, rest)
 unfolding items mark_from
@@ -308,24 +308,24 @@ items_of inner room ts es rest h =
     let d : max 0 (deepest es) ≡ deepest es = omega arith in
     rw h (ap (λ (k : ℕ). Ok (record { trees = list_of es; depth = k }, rest)) d)
 
-pub among_fits : (inner : ℕ → List Piece → Read Deep) (room : ℕ) (n : Bool) (a : Tree) (ts : List Piece) (es : Trees) (rest : List Piece) → suc (max (deep a) (deepest es)) ≤ room
+pub among_fits : (inner : ℕ → List Symbol → Read Deep) (room : ℕ) (n : Bool) (a : Tree) (ts : List Symbol) (es : Trees) (rest : List Symbol) → suc (max (deep a) (deepest es)) ≤ room
     → items inner room (ts ++ Plain t.RightParen ∷ rest) ≡ Ok (record { trees = list_of es; depth = deepest es }, rest)
     → among inner room n (deepened a) (Plain t.LeftParen ∷ (ts ++ Plain t.RightParen ∷ rest)) ≡ Ok (deepened (tree.In n a es), rest)
 unfolding among mark_from
 among_fits inner room n a ts es rest le h =
     rw (h, list-trees es) (over_fits room (tree.In n a es) (max (deep a) (deepest es)) rest le)
 
-pub between_fits : (inner : ℕ → List Piece → Read Deep) (room : ℕ) (n : Bool) (a b c : Tree) (ts us rest : List Piece) → deep (tree.Between n a b c) ≤ room
+pub between_fits : (inner : ℕ → List Symbol → Read Deep) (room : ℕ) (n : Bool) (a b c : Tree) (ts us rest : List Symbol) → deep (tree.Between n a b c) ≤ room
     → inner 6 ts ≡ Ok (deepened b, Plain (t.Word w.And) ∷ us) → inner 6 us ≡ Ok (deepened c, rest) → between inner room 6 n (deepened a) ts ≡ Ok (deepened (tree.Between n a b c), rest)
 unfolding between word_from after_word
 between_fits inner room n a b c ts us rest le h k = rw (h, k) (over_fits room (tree.Between n a b c) (max (deep a) (max (deep b) (deep c))) rest le)
 
-pub operand_fits : (inner : ℕ → List Piece → Read Deep) (room r : ℕ) (o : Operator) (a b : Tree) (ts rest : List Piece) → deep (tree.Binary o a b) ≤ room
+pub operand_fits : (inner : ℕ → List Symbol → Read Deep) (room r : ℕ) (o : Operator) (a b : Tree) (ts rest : List Symbol) → deep (tree.Binary o a b) ≤ room
     → inner r ts ≡ Ok (deepened b, rest) → operand inner room r o (deepened a) ts ≡ Ok (deepened (tree.Binary o a b), rest)
 unfolding operand
 operand_fits inner room r o a b ts rest le h = rw h (over_fits room (tree.Binary o a b) (max (deep a) (deep b)) rest le)
 
-pub paren_fits : (inner : ℕ → List Piece → Read Deep) (room : ℕ) (e : Tree) (ts rest : List Piece) → suc (deep e) ≤ room
+pub paren_fits : (inner : ℕ → List Symbol → Read Deep) (room : ℕ) (e : Tree) (ts rest : List Symbol) → suc (deep e) ≤ room
     → inner 10 ts ≡ Ok (deepened e, Plain t.RightParen ∷ rest) → paren inner room ts ≡ Ok (deepened (tree.Paren e), rest)
 unfolding paren mark_from
 paren_fits inner room e ts rest le h = rw h (over_fits room (tree.Paren e) (deep e) rest le)
@@ -333,7 +333,7 @@ paren_fits inner room e ts rest le h = rw h (over_fits room (tree.Paren e) (deep
 mutual
   unfolding ladder atom named call raise_from action_from text_from mark_from name_from tail collate is_prefixed
 
-  pub opens : {r : ℕ} {ts : List Piece} {e : Tree} → At r ts e → (room : ℕ) (rest : List Piece) → deep e ≤ suc room → Follows r rest → Opened room r e (ts ++ rest) rest
+  pub opens : {r : ℕ} {ts : List Symbol} {e : Tree} → At r ts e → (room : ℕ) (rest : List Symbol) → deep e ≤ suc room → Follows r rest → Opened room r e (ts ++ rest) rest
   opens g.null room rest le f = refl
   opens g.integer room rest le f = refl
   opens g.text room rest le f = refl
@@ -352,7 +352,7 @@ mutual
       let all = append_assoc ts (Plain t.RightParen ∷ []) rest in
       let l = listed i room (Plain t.RightParen ∷ rest) (length (ts ++ Plain t.RightParen ∷ rest)) spec.no_items (omega arith) (omega (arith, length-append ts (Plain t.RightParen ∷ rest))) (ends_paren rest) in
       let c = items_of (level_at room) (suc room) ts es rest l in
-      ap (λ (us : List Piece). call (level_at room) (suc room) name us) all
+      ap (λ (us : List Symbol). call (level_at room) (suc room) name us) all
       ∙ call_begun (level_at room) (suc room) name (ts ++ Plain t.RightParen ∷ rest) (items_begun i (Plain t.RightParen ∷ rest))
       ∙ rw (c, list-trees es) (over_fits (suc room) (tree.Call name es) (deepest es) rest le)
   opens (g.minus {ts = ts} {e = e} d) room rest le f =
@@ -370,7 +370,7 @@ mutual
       let step = tails_go (level_at room) (suc room) (n - 1) r (deepened a) (deepened e) (vs ++ rest) rest (tail_on x rest) (tailed x room rest le f) in
       (n - 1, omega (arith, o.1), ap (ladder (level_at room) (suc room) (suc r)) all ∙ o.2 ∙ ap (λ (k : ℕ). tails (level_at room) (suc room) k r (deepened a) (vs ++ rest)) some ∙ step)
 
-  pub tailed : {r : ℕ} {a e : Tree} {vs : List Piece} → Tail r a vs e → (room : ℕ) (rest : List Piece) → deep e ≤ suc room → Follows (suc r) rest → tail (level_at room) (suc room) r (deepened a) (vs ++ rest) ≡ Ok (deepened e, rest)
+  pub tailed : {r : ℕ} {a e : Tree} {vs : List Symbol} → Tail r a vs e → (room : ℕ) (rest : List Symbol) → deep e ≤ suc room → Follows (suc r) rest → tail (level_at room) (suc room) r (deepened a) (vs ++ rest) ≡ Ok (deepened e, rest)
   tailed (g.binary {r = r} {a = a} {b = b} {bs = bs} s o bd is d) room rest le f =
       by_tail (level_at room) (suc room) r (deepened a) s o (bs ++ rest) is
       ∙ operand_fits (level_at room) (suc room) r o a b (bs ++ rest) rest le (nested room r b (bs ++ rest) rest (λ m l. opens d m rest l (Follows-less r rest f)) (omega arith) f)
@@ -392,16 +392,16 @@ mutual
   tailed (g.among {a = a} {ts = ts} {es = es} i) room rest le f =
       let all = append_assoc ts (Plain t.RightParen ∷ []) rest in
       let l = listed i room (Plain t.RightParen ∷ rest) (length (ts ++ Plain t.RightParen ∷ rest)) spec.no_items (omega arith) (omega (arith, length-append ts (Plain t.RightParen ∷ rest))) (ends_paren rest) in
-      ap (λ (us : List Piece). among (level_at room) (suc room) false (deepened a) (Plain t.LeftParen ∷ us)) all
+      ap (λ (us : List Symbol). among (level_at room) (suc room) false (deepened a) (Plain t.LeftParen ∷ us)) all
       ∙ among_fits (level_at room) (suc room) false a ts es rest le (items_of (level_at room) (suc room) ts es rest l)
   tailed (g.not_among {a = a} {ts = ts} {es = es} i) room rest le f =
       let all = append_assoc ts (Plain t.RightParen ∷ []) rest in
       let l = listed i room (Plain t.RightParen ∷ rest) (length (ts ++ Plain t.RightParen ∷ rest)) spec.no_items (omega arith) (omega (arith, length-append ts (Plain t.RightParen ∷ rest))) (ends_paren rest) in
-      ap (λ (us : List Piece). among (level_at room) (suc room) true (deepened a) (Plain t.LeftParen ∷ us)) all
+      ap (λ (us : List Symbol). among (level_at room) (suc room) true (deepened a) (Plain t.LeftParen ∷ us)) all
       ∙ among_fits (level_at room) (suc room) true a ts es rest le (items_of (level_at room) (suc room) ts es rest l)
   tailed (g.collate {a = a} {c = c}) room rest le f = over_fits (suc room) (tree.Collate a c) (deep a) rest le
 
-  pub listed : {ts : List Piece} {es : Trees} → Items ts es → (room : ℕ) (rest : List Piece) (n : ℕ) (found : Deeps) → deepest es ≤ room → length ts ≤ n → EndsList rest
+  pub listed : {ts : List Symbol} {es : Trees} → Items ts es → (room : ℕ) (rest : List Symbol) (n : ℕ) (found : Deeps) → deepest es ≤ room → length ts ≤ n → EndsList rest
       → items_upto (level_at room) (suc room) n found (ts ++ rest) ≡ Ok (record { trees = found.trees ++ list_of es; depth = max found.depth (deepest es) }, rest)
   listed (g.last {ts = ts} {e = e} d) room rest n found le long ends =
       let some : n ≡ suc (n - 1) = omega (arith, At_some d) in
@@ -424,22 +424,22 @@ mutual
       ∙ ap (λ (k : ℕ). Ok (record { trees = (found.trees ++ e ∷ []) ++ list_of es; depth = k }, rest)) same
       ∙ ap (λ (x : List Tree). Ok (record { trees = x; depth = max found.depth (max (deep e) (deepest es)) }, rest)) (append_assoc found.trees (e ∷ []) (list_of es))
 
-pub read_again : {r : ℕ} {ts : List Piece} {e : Tree} → At r ts e → (room : ℕ) (rest : List Piece) → deep e ≤ room → Follows (suc r) rest → level_at room r (ts ++ rest) ≡ Ok (deepened e, rest)
+pub read_again : {r : ℕ} {ts : List Symbol} {e : Tree} → At r ts e → (room : ℕ) (rest : List Symbol) → deep e ≤ room → Follows (suc r) rest → level_at room r (ts ++ rest) ≡ Ok (deepened e, rest)
 read_again {r} {ts} {e} d room rest le f = nested room r e (ts ++ rest) rest (λ m l. opens d m rest l (Follows-less r rest f)) le f
 
 pub follows_end : (r : ℕ) → Follows r []
 unfolding goes_on
 follows_end r = record { alone = refl; quiet = λ k p q. refl }
 
-pub read_whole : (ts : List Piece) (e : Tree) → At 10 ts e → (room : ℕ) → deep e ≤ room → level_at room 10 ts ≡ Ok (deepened e, [])
+pub read_whole : (ts : List Symbol) (e : Tree) → At 10 ts e → (room : ℕ) → deep e ≤ room → level_at room 10 ts ≡ Ok (deepened e, [])
 read_whole ts e d room le = ap (level_at room 10) (sym (append-nil ts)) ∙ read_again d room [] le (follows_end 11)
 
-abbrev pub tree_in : Result (Deep × List Piece) Refusal → Tree
+abbrev pub tree_in : Result (Deep × List Symbol) Refusal → Tree
 tree_in (Ok x) = x.0.tree
 tree_in (Err f) = tree.Null
 
 -- the pieces are one expression at most
-pub one_tree : (ts : List Piece) (a b : Tree) → At 10 ts a → At 10 ts b → a ≡ b
+pub one_tree : (ts : List Symbol) (a b : Tree) → At 10 ts a → At 10 ts b → a ≡ b
 one_tree ts a b d x =
     let room = max (deep a) (deep b) in
     let h = read_whole ts a d room (omega arith) in
@@ -447,6 +447,6 @@ one_tree ts a b d x =
     ap tree_in (sym h ∙ k)
 
 -- an expression within the limit is read
-pub expression_again : (ts : List Piece) (e : Tree) (rest : List Piece) → At 10 ts e → deep e ≤ 100 → Follows 11 rest → expression_from (ts ++ rest) ≡ Ok (e, rest)
+pub expression_again : (ts : List Symbol) (e : Tree) (rest : List Symbol) → At 10 ts e → deep e ≤ 100 → Follows 11 rest → expression_from (ts ++ rest) ≡ Ok (e, rest)
 unfolding expression_from
 expression_again ts e rest d le f = let h = read_again d 100 rest le f in rw h refl

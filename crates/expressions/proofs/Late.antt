@@ -9,7 +9,7 @@ use Rattle.syntax.specs.declared.expr.Operator.TheVariants as op
 use Rattle.syntax.specs.Tree as tree
 use Rattle.syntax.specs.Tree.{Tree, Trees, trees}
 use Rattle.expressions.specs.Depth.{deep, deepest, list_of}
-use Rattle.expressions.specs.Pieces.{Piece, Plain}
+use Rattle.expressions.specs.Symbols.{Symbol, Plain}
 use Rattle.expressions.specs.Follows.{Follows}
 use Rattle.expressions.specs.Grammar as g
 use Rattle.expressions.specs.Grammar.{level_of, operator, At, Tail, Items}
@@ -19,75 +19,75 @@ use Rattle.expressions.proofs.Again.{deepened, list-trees, Follows-less, first, 
 
 -- ---- past the limit
 
-over_late : (room : ℕ) (e : Tree) (d : ℕ) (ts : List Piece) → room < suc d → over room e d ts ≡ Err TooLong
+over_late : (room : ℕ) (e : Tree) (d : ℕ) (ts : List Symbol) → room < suc d → over room e d ts ≡ Err TooLong
 unfolding over
 over_late room e d ts lt = rw (lt-leb (suc d) room lt) refl
 
-nested_late : (room r : ℕ) (e : Tree) (all : List Piece) → ((m : ℕ) → suc m < deep e → ladder (level_at m) (suc m) r all ≡ Err TooLong) → room < deep e → level_at room r all ≡ Err TooLong
+nested_late : (room r : ℕ) (e : Tree) (all : List Symbol) → ((m : ℕ) → suc m < deep e → ladder (level_at m) (suc m) r all ≡ Err TooLong) → room < deep e → level_at room r all ≡ Err TooLong
 unfolding level_at
 nested_late zero r e all d lt = refl
 nested_late (suc m) r e all d lt = d m lt
 
 -- a nested expression is read, or passes the limit
-abbrev Either : ℕ → ℕ → Tree → List Piece → List Piece → Type 0
+abbrev Either : ℕ → ℕ → Tree → List Symbol → List Symbol → Type 0
 Either room r e all rest = ((deep e ≤ room) × (level_at room r all ≡ Ok (deepened e, rest))) ⊎ ((room < deep e) × (level_at room r all ≡ Err TooLong))
 
-either : {r : ℕ} {ts : List Piece} {e : Tree} → At r ts e → (room : ℕ) (rest : List Piece) → Follows (suc r) rest → ((m : ℕ) → suc m < deep e → ladder (level_at m) (suc m) r (ts ++ rest) ≡ Err TooLong) → Either room r e (ts ++ rest) rest
+either : {r : ℕ} {ts : List Symbol} {e : Tree} → At r ts e → (room : ℕ) (rest : List Symbol) → Follows (suc r) rest → ((m : ℕ) → suc m < deep e → ladder (level_at m) (suc m) r (ts ++ rest) ≡ Err TooLong) → Either room r e (ts ++ rest) rest
 either {r} {ts} {e} d room rest f late =
     elim (cases_lt room (deep e)) [
       | inl lt ↦ inr (lt, nested_late room r e (ts ++ rest) late lt)
       | inr le ↦ inl (le, read_again d room rest le f)
     ]
 
-operand_late : (m r : ℕ) (o : Operator) (a b : Tree) (ts rest : List Piece) → suc m < deep (tree.Binary o a b) → Either m r b ts rest → operand (level_at m) (suc m) r o (deepened a) ts ≡ Err TooLong
+operand_late : (m r : ℕ) (o : Operator) (a b : Tree) (ts rest : List Symbol) → suc m < deep (tree.Binary o a b) → Either m r b ts rest → operand (level_at m) (suc m) r o (deepened a) ts ≡ Err TooLong
 unfolding operand
 operand_late m r o a b ts rest lt (inl h) = let e = h.1 in rw e (over_late (suc m) (tree.Binary o a b) (max (deep a) (deep b)) rest lt)
 operand_late m r o a b ts rest lt (inr h) = let e = h.1 in rw e refl
 
-between_late : (m : ℕ) (n : Bool) (a b c : Tree) (ts us rest : List Piece) → suc m < deep (tree.Between n a b c) → Either m 6 b ts (Plain (t.Word w.And) ∷ us) → Either m 6 c us rest → between (level_at m) (suc m) 6 n (deepened a) ts ≡ Err TooLong
+between_late : (m : ℕ) (n : Bool) (a b c : Tree) (ts us rest : List Symbol) → suc m < deep (tree.Between n a b c) → Either m 6 b ts (Plain (t.Word w.And) ∷ us) → Either m 6 c us rest → between (level_at m) (suc m) 6 n (deepened a) ts ≡ Err TooLong
 unfolding between word_from after_word
 between_late m n a b c ts us rest lt (inr h) k = let e = h.1 in rw e refl
 between_late m n a b c ts us rest lt (inl h) (inr k) = let e = h.1 in let x = k.1 in rw (e, x) refl
 between_late m n a b c ts us rest lt (inl h) (inl k) = let e = h.1 in let x = k.1 in rw (e, x) (over_late (suc m) (tree.Between n a b c) (max (deep a) (max (deep b) (deep c))) rest lt)
 
-abbrev EitherList : ℕ → Trees → List Piece → List Piece → Type 0
+abbrev EitherList : ℕ → Trees → List Symbol → List Symbol → Type 0
 EitherList m es all rest = ((deepest es ≤ m) × (items (level_at m) (suc m) all ≡ Ok (record { trees = list_of es; depth = deepest es }, rest))) ⊎ ((m < deepest es) × (items (level_at m) (suc m) all ≡ Err TooLong))
 
-among_late : (m : ℕ) (n : Bool) (a : Tree) (ts : List Piece) (es : Trees) (rest : List Piece) → suc m < deep (tree.In n a es) → EitherList m es (ts ++ Plain t.RightParen ∷ rest) rest → among (level_at m) (suc m) n (deepened a) (Plain t.LeftParen ∷ (ts ++ Plain t.RightParen ∷ rest)) ≡ Err TooLong
+among_late : (m : ℕ) (n : Bool) (a : Tree) (ts : List Symbol) (es : Trees) (rest : List Symbol) → suc m < deep (tree.In n a es) → EitherList m es (ts ++ Plain t.RightParen ∷ rest) rest → among (level_at m) (suc m) n (deepened a) (Plain t.LeftParen ∷ (ts ++ Plain t.RightParen ∷ rest)) ≡ Err TooLong
 unfolding among mark_from
 among_late m n a ts es rest lt (inl h) = let e = h.1 in rw (e, list-trees es) (over_late (suc m) (tree.In n a es) (max (deep a) (deepest es)) rest lt)
 among_late m n a ts es rest lt (inr h) = let e = h.1 in rw e refl
 
-tails_late : (m n r : ℕ) (d : Deep) (ts : List Piece) → goes_on (suc r) ts ≡ true → tail (level_at m) (suc m) r d ts ≡ Err TooLong → tails (level_at m) (suc m) n r d ts ≡ Err TooLong
+tails_late : (m n r : ℕ) (d : Deep) (ts : List Symbol) → goes_on (suc r) ts ≡ true → tail (level_at m) (suc m) r d ts ≡ Err TooLong → tails (level_at m) (suc m) n r d ts ≡ Err TooLong
 unfolding tails
 tails_late m zero r d ts q h = rw q refl
 tails_late m (suc n) r d ts q h = rw (q, h) refl
 
-items_late : (m n : ℕ) (found : Deeps) (ts : List Piece) → level_at m 10 ts ≡ Err TooLong → items_upto (level_at m) (suc m) (suc n) found ts ≡ Err TooLong
+items_late : (m n : ℕ) (found : Deeps) (ts : List Symbol) → level_at m 10 ts ≡ Err TooLong → items_upto (level_at m) (suc m) (suc n) found ts ≡ Err TooLong
 unfolding items_upto
 items_late m n found ts h = rw h refl
 
-items_fail : (m : ℕ) (ts : List Piece) → items_upto (level_at m) (suc m) (length ts) spec.no_items ts ≡ Err TooLong → items (level_at m) (suc m) ts ≡ Err TooLong
+items_fail : (m : ℕ) (ts : List Symbol) → items_upto (level_at m) (suc m) (length ts) spec.no_items ts ≡ Err TooLong → items (level_at m) (suc m) ts ≡ Err TooLong
 unfolding items
 items_fail m ts h = rw h refl
 
-prefixed_late : (m r : ℕ) (s : Piece) (ts : List Piece) → is_prefixed (suc r) (s ∷ ts) ≡ true → level_at m (suc r) ts ≡ Err TooLong → ladder (level_at m) (suc m) (suc r) (s ∷ ts) ≡ Err TooLong
+prefixed_late : (m r : ℕ) (s : Symbol) (ts : List Symbol) → is_prefixed (suc r) (s ∷ ts) ≡ true → level_at m (suc r) ts ≡ Err TooLong → ladder (level_at m) (suc m) (suc r) (s ∷ ts) ≡ Err TooLong
 unfolding ladder prefix
 prefixed_late m r s ts is_one h = rw (is_one, h) refl
 
-raised_late : (m r : ℕ) (all : List Piece) → is_prefixed (suc r) all ≡ false → ladder (level_at m) (suc m) r all ≡ Err TooLong → ladder (level_at m) (suc m) (suc r) all ≡ Err TooLong
+raised_late : (m r : ℕ) (all : List Symbol) → is_prefixed (suc r) all ≡ false → ladder (level_at m) (suc m) r all ≡ Err TooLong → ladder (level_at m) (suc m) (suc r) all ≡ Err TooLong
 unfolding ladder
 raised_late m r all bare h = rw (bare, h) refl
 
-paren_late : (m : ℕ) (ts : List Piece) → level_at m 10 ts ≡ Err TooLong → paren (level_at m) (suc m) ts ≡ Err TooLong
+paren_late : (m : ℕ) (ts : List Symbol) → level_at m 10 ts ≡ Err TooLong → paren (level_at m) (suc m) ts ≡ Err TooLong
 unfolding paren
 paren_late m ts h = rw h refl
 
-read_list : {ts : List Piece} {es : Trees} → Items ts es → (m : ℕ) (rest : List Piece) → deepest es ≤ m → items (level_at m) (suc m) (ts ++ Plain t.RightParen ∷ rest) ≡ Ok (record { trees = list_of es; depth = deepest es }, rest)
+read_list : {ts : List Symbol} {es : Trees} → Items ts es → (m : ℕ) (rest : List Symbol) → deepest es ≤ m → items (level_at m) (suc m) (ts ++ Plain t.RightParen ∷ rest) ≡ Ok (record { trees = list_of es; depth = deepest es }, rest)
 read_list {ts} {es} i m rest le =
     items_of (level_at m) (suc m) ts es rest (listed i m (Plain t.RightParen ∷ rest) (length (ts ++ Plain t.RightParen ∷ rest)) spec.no_items le (omega (arith, length-append ts (Plain t.RightParen ∷ rest))) (ends_paren rest))
 
-either_list : {ts : List Piece} {es : Trees} → Items ts es → (m : ℕ) (rest : List Piece) → (m < deepest es → items_upto (level_at m) (suc m) (length (ts ++ Plain t.RightParen ∷ rest)) spec.no_items (ts ++ Plain t.RightParen ∷ rest) ≡ Err TooLong) → EitherList m es (ts ++ Plain t.RightParen ∷ rest) rest
+either_list : {ts : List Symbol} {es : Trees} → Items ts es → (m : ℕ) (rest : List Symbol) → (m < deepest es → items_upto (level_at m) (suc m) (length (ts ++ Plain t.RightParen ∷ rest)) spec.no_items (ts ++ Plain t.RightParen ∷ rest) ≡ Err TooLong) → EitherList m es (ts ++ Plain t.RightParen ∷ rest) rest
 either_list {ts} {es} i m rest late =
     elim (cases_lt m (deepest es)) [
       | inl lt ↦ inr (lt, items_fail m (ts ++ Plain t.RightParen ∷ rest) (late lt))
@@ -97,7 +97,7 @@ either_list {ts} {es} i m rest late =
 mutual
   unfolding ladder atom named call raise_from action_from text_from mark_from name_from tail collate is_prefixed
 
-  late : {r : ℕ} {ts : List Piece} {e : Tree} → At r ts e → (m : ℕ) (rest : List Piece) → suc m < deep e → Follows r rest → ladder (level_at m) (suc m) r (ts ++ rest) ≡ Err TooLong
+  late : {r : ℕ} {ts : List Symbol} {e : Tree} → At r ts e → (m : ℕ) (rest : List Symbol) → suc m < deep e → Follows r rest → ladder (level_at m) (suc m) r (ts ++ rest) ≡ Err TooLong
   late g.null m rest lt f = absurd (omega arith)
   late g.integer m rest lt f = absurd (omega arith)
   late g.text m rest lt f = absurd (omega arith)
@@ -113,7 +113,7 @@ mutual
   late g.empty_call m rest lt f = absurd (omega arith)
   late (g.call {f = name} {ts = ts} {es = es} i) m rest lt f =
       let h = items_fail m (ts ++ Plain t.RightParen ∷ rest) (listed_late i m (Plain t.RightParen ∷ rest) (length (ts ++ Plain t.RightParen ∷ rest)) spec.no_items (omega arith) (omega (arith, length-append ts (Plain t.RightParen ∷ rest))) (follows_paren 11 rest)) in
-      ap (λ (us : List Piece). call (level_at m) (suc m) name us) (append_assoc ts (Plain t.RightParen ∷ []) rest)
+      ap (λ (us : List Symbol). call (level_at m) (suc m) name us) (append_assoc ts (Plain t.RightParen ∷ []) rest)
       ∙ call_begun (level_at m) (suc m) name (ts ++ Plain t.RightParen ∷ rest) (items_begun i (Plain t.RightParen ∷ rest))
       ∙ rw h refl
   late (g.minus {ts = ts} {e = e} d) m rest lt f =
@@ -131,7 +131,7 @@ mutual
             all ∙ o.2 ∙ tails_late m o.0 r (deepened a) (vs ++ rest) (tail_on x rest) (tail_late x m rest lt f)
       ]
 
-  tail_late : {r : ℕ} {a e : Tree} {vs : List Piece} → Tail r a vs e → (m : ℕ) (rest : List Piece) → suc m < deep e → Follows (suc r) rest → tail (level_at m) (suc m) r (deepened a) (vs ++ rest) ≡ Err TooLong
+  tail_late : {r : ℕ} {a e : Tree} {vs : List Symbol} → Tail r a vs e → (m : ℕ) (rest : List Symbol) → suc m < deep e → Follows (suc r) rest → tail (level_at m) (suc m) r (deepened a) (vs ++ rest) ≡ Err TooLong
   tail_late (g.binary {r = r} {a = a} {b = b} {bs = bs} s o bd is d) m rest lt f =
       by_tail (level_at m) (suc m) r (deepened a) s o (bs ++ rest) is ∙ operand_late m r o a b (bs ++ rest) rest lt (either d m rest f (λ k l. late d k rest l (Follows-less r rest f)))
   tail_late (g.is {a = a} {b = b} {bs = bs} d) m rest lt f =
@@ -150,14 +150,14 @@ mutual
       ∙ between_late m true a b c (bs ++ after) (cs ++ rest) rest lt
       (either d m after (follows_and (cs ++ rest)) (λ k l. late d k after l (Follows-less 6 _ (follows_and (cs ++ rest))))) (either x m rest f (λ k l. late x k rest l (Follows-less 6 rest f)))
   tail_late (g.among {a = a} {ts = ts} {es = es} i) m rest lt f =
-      ap (λ (us : List Piece). among (level_at m) (suc m) false (deepened a) (Plain t.LeftParen ∷ us)) (append_assoc ts (Plain t.RightParen ∷ []) rest)
+      ap (λ (us : List Symbol). among (level_at m) (suc m) false (deepened a) (Plain t.LeftParen ∷ us)) (append_assoc ts (Plain t.RightParen ∷ []) rest)
       ∙ among_late m false a ts es rest lt (either_list i m rest (λ big. listed_late i m (Plain t.RightParen ∷ rest) (length (ts ++ Plain t.RightParen ∷ rest)) spec.no_items big (omega (arith, length-append ts (Plain t.RightParen ∷ rest))) (follows_paren 11 rest)))
   tail_late (g.not_among {a = a} {ts = ts} {es = es} i) m rest lt f =
-      ap (λ (us : List Piece). among (level_at m) (suc m) true (deepened a) (Plain t.LeftParen ∷ us)) (append_assoc ts (Plain t.RightParen ∷ []) rest)
+      ap (λ (us : List Symbol). among (level_at m) (suc m) true (deepened a) (Plain t.LeftParen ∷ us)) (append_assoc ts (Plain t.RightParen ∷ []) rest)
       ∙ among_late m true a ts es rest lt (either_list i m rest (λ big. listed_late i m (Plain t.RightParen ∷ rest) (length (ts ++ Plain t.RightParen ∷ rest)) spec.no_items big (omega (arith, length-append ts (Plain t.RightParen ∷ rest))) (follows_paren 11 rest)))
   tail_late (g.collate {a = a} {c = c}) m rest lt f = over_late (suc m) (tree.Collate a c) (deep a) rest lt
 
-  pub listed_late : {ts : List Piece} {es : Trees} → Items ts es → (m : ℕ) (rest : List Piece) (n : ℕ) (found : Deeps) → m < deepest es → length ts ≤ n → Follows 11 rest → items_upto (level_at m) (suc m) n found (ts ++ rest) ≡ Err TooLong
+  pub listed_late : {ts : List Symbol} {es : Trees} → Items ts es → (m : ℕ) (rest : List Symbol) (n : ℕ) (found : Deeps) → m < deepest es → length ts ≤ n → Follows 11 rest → items_upto (level_at m) (suc m) n found (ts ++ rest) ≡ Err TooLong
   listed_late (g.last {ts = ts} {e = e} d) m rest n found lt long f =
       let some : n ≡ suc (n - 1) = omega (arith, At_some d) in
       ap (λ (k : ℕ). items_upto (level_at m) (suc m) k found (ts ++ rest)) some
@@ -175,7 +175,7 @@ mutual
       ]
 
 -- an expression past the limit is refused for that
-pub expression_late : (ts : List Piece) (e : Tree) (rest : List Piece) → At 10 ts e → 100 < deep e → Follows 11 rest → expression_from (ts ++ rest) ≡ Err TooLong
+pub expression_late : (ts : List Symbol) (e : Tree) (rest : List Symbol) → At 10 ts e → 100 < deep e → Follows 11 rest → expression_from (ts ++ rest) ≡ Err TooLong
 unfolding expression_from
 expression_late ts e rest d lt f =
     let h = nested_late 100 10 e (ts ++ rest) (λ m l. late d m rest l (Follows-less 10 rest f)) lt in rw h refl

@@ -3,21 +3,21 @@ use Rattle.std.proofs.Common.{◌≡◌, Bool, true, false, refl, cond, List, []
 use Rattle.lexer.specs.declared.token.Kind.{Kind}
 use Rattle.lexer.specs.declared.token.Kind.TheVariants as t
 use Rattle.expressions.specs.declared.refusal.Refusal.{Refusal}
-use Rattle.expressions.specs.Pieces.{Piece, Plain, same_kind, is_mark}
+use Rattle.expressions.specs.Symbols.{Symbol, Plain, same_kind, is_mark}
 use Rattle.expressions.specs.Reading.{mark_from, fail}
 
 abbrev done : {A : Type 0} → A → Result A Refusal
 done x = Ok x
 
-same_rest : (us vs : List Piece) → done us ≡ done vs → us ≡ vs
+same_rest : (us vs : List Symbol) → done us ≡ done vs → us ≡ vs
 same_rest us vs h = cc
 
 -- the test of this mark finds no other piece
 abbrev pub Tells : Kind → Type 0
-Tells kind = (s : Piece) → is_mark kind s ≡ true → s ≡ Plain kind
+Tells kind = (s : Symbol) → is_mark kind s ≡ true → s ≡ Plain kind
 
 -- a mark that is read is that mark
-pub mark_from_is : (kind : Kind) → Tells kind → (ts rest : List Piece) → mark_from kind ts ≡ Ok rest → ts ≡ Plain kind ∷ rest
+pub mark_from_is : (kind : Kind) → Tells kind → (ts rest : List Symbol) → mark_from kind ts ≡ Ok rest → ts ≡ Plain kind ∷ rest
 unfolding mark_from
 mark_from_is kind tells [] rest h = absurd cc
 mark_from_is kind tells (s ∷ ts) rest h = by_test (is_mark kind s) refl h

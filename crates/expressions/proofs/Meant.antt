@@ -15,7 +15,7 @@ use Rattle.lexer.specs.declared.keyword.Keyword.{Keyword}
 use Rattle.lexer.specs.declared.token.Kind.{Kind}
 use Rattle.lexer.specs.declared.token.Kind.TheVariants as t
 use Rattle.expressions.specs.Meaning.{Means, plain_name, quoted_name, text, blob, plain}
-use Rattle.expressions.specs.Pieces.{Piece, Plain, Name, Text, Blob, meant, is_plain}
+use Rattle.expressions.specs.Symbols.{Symbol, Plain, Name, Text, Blob, meant, is_plain}
 use Rattle.expressions.specs.Spelling.{between_quotes, undoubled, name_by, name_spelled, or_whole, text_spelled, blob_digits, or_nothing, blob_spelled}
 use Rattle.expressions.proofs.Quotes.{before_last_some, between_some}
 
@@ -64,7 +64,7 @@ meant_plain t.Blob z h = absurd cc
 meant_plain _ z h = refl
 
 -- what a token means is what it is taken for
-pub means_one : {kind : Kind} {z : List ℕ} {p : Piece} → Means kind z p → p ≡ meant kind z
+pub means_one : {kind : Kind} {z : List ℕ} {p : Symbol} → Means kind z p → p ≡ meant kind z
 means_one (plain_name {z = z} h) = ap Name (sym (name_plain z h))
 means_one (quoted_name z) = ap Name (sym (name_quoted z))
 means_one (text z) = ap Text (sym (text_quoted z))

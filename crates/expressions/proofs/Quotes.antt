@@ -5,7 +5,7 @@ use Rattle.std.specs.Borrow.{Bor}
 use Rattle.std.specs.Str.Pattern.{FindsCharPrefix, FindsCharSuffix}
 use Rattle.std.proofs.lemmas.Str.Pattern.{strip_prefix_char, strip_suffix_char}
 use Rattle.std.proofs.lemmas.Bool.{eq-eqb, ne_eqb}
-use Rattle.expressions.specs.Spelling.{with_first, before_last, between_quotes, undoubled, behind_quote, blob_digits}
+use Rattle.expressions.specs.Spelling.{with_first, before_last, between_quotes, undoubled, after_quote, blob_digits}
 
 pub before_last_some : (q : ℕ) (w : List ℕ) → before_last q (w ++ q ∷ []) ≡ Some w
 unfolding before_last
@@ -75,31 +75,31 @@ unfolding undoubled
 undoubled_free q [] f = refl
 undoubled_free q (b ∷ z) f = rw (free_first q b z f) (ap (λ (y : List ℕ). b ∷ y) (undoubled_free q z (free_rest q b z f)))
 
-pub undoubled_at : (q : ℕ) (front back : List ℕ) → Free q front → undoubled q (front ++ q ∷ back) ≡ front ++ q ∷ behind_quote q back
+pub undoubled_at : (q : ℕ) (front back : List ℕ) → Free q front → undoubled q (front ++ q ∷ back) ≡ front ++ q ∷ after_quote q back
 unfolding undoubled
 undoubled_at q [] back f = rw (eq-eqb q q refl) refl
 undoubled_at q (b ∷ front) back f = rw (free_first q b front f) (ap (λ (y : List ℕ). b ∷ y) (undoubled_at q front back (free_rest q b front f)))
 
-behind_none : (q : ℕ) (z : List ℕ) → ((rest : List ℕ) → z ≢ q ∷ rest) → behind_quote q z ≡ undoubled q z
+behind_none : (q : ℕ) (z : List ℕ) → ((rest : List ℕ) → z ≢ q ∷ rest) → after_quote q z ≡ undoubled q z
 unfolding undoubled
 behind_none q [] h = refl
 behind_none q (b ∷ z) h = rw (ne_eqb b q (λ e. h z (ap (λ x. x ∷ z) e))) refl
 
-behind_some : (q : ℕ) (z : List ℕ) → behind_quote q (q ∷ z) ≡ undoubled q z
+behind_some : (q : ℕ) (z : List ℕ) → after_quote q (q ∷ z) ≡ undoubled q z
 unfolding undoubled
 behind_some q z = rw (eq-eqb q q refl) refl
 
 -- the text after a quote that may be doubled
 pub behind_is : (q : ℕ) (back : Bor (List ℕ)) (r : Option (Bor (List ℕ))) → MatchOption r (FindsCharPrefix q back.now None) (λ x. (n : ℕ) × FindsCharPrefix q back.now (Some n) × (x.now ≡ drop n back.now) × (length x.now + n ≡ length back.now)) → q < 128
-    → behind_quote q back.now ≡ undoubled q (unwrap_or r back).now
+    → after_quote q back.now ≡ undoubled q (unwrap_or r back).now
 behind_is q back r h low = by_case r (strip_prefix_char q back.now r h low)
   where
-    by_case : (r : Option (Bor (List ℕ))) → MatchOption r ((rest : List ℕ) → back.now ≢ q ∷ rest) (λ x. back.now ≡ q ∷ x.now) → behind_quote q back.now ≡ undoubled q (unwrap_or r back).now
+    by_case : (r : Option (Bor (List ℕ))) → MatchOption r ((rest : List ℕ) → back.now ≢ q ∷ rest) (λ x. back.now ≡ q ∷ x.now) → after_quote q back.now ≡ undoubled q (unwrap_or r back).now
     by_case None k = behind_none q back.now k
-    by_case (Some x) k = ap (behind_quote q) k ∙ behind_some q x.now
+    by_case (Some x) k = ap (after_quote q) k ∙ behind_some q x.now
 
 -- one turn
-pub quotes_step : (q : ℕ) (text plain rest front back next : List ℕ) → plain ++ undoubled q rest ≡ undoubled q text → rest ≡ front ++ q ∷ back → Free q front → behind_quote q back ≡ undoubled q next
+pub quotes_step : (q : ℕ) (text plain rest front back next : List ℕ) → plain ++ undoubled q rest ≡ undoubled q text → rest ≡ front ++ q ∷ back → Free q front → after_quote q back ≡ undoubled q next
     → ((plain ++ front) ++ q ∷ []) ++ undoubled q next ≡ undoubled q text
 quotes_step q text plain rest front back next e parts f b =
     append_assoc (plain ++ front) (q ∷ []) (undoubled q next)

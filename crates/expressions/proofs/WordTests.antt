@@ -7,7 +7,7 @@ use Rattle.lexer.specs.declared.keyword.Keyword.{Keyword}
 use Rattle.lexer.specs.declared.keyword.Keyword.TheVariants as w
 use Rattle.lexer.specs.declared.token.Kind.TheVariants as t
 use Rattle.expressions.specs.declared.refusal.Refusal.{Refusal}
-use Rattle.expressions.specs.Pieces.{Piece, Plain, word, same_word}
+use Rattle.expressions.specs.Symbols.{Symbol, Plain, word, same_word}
 use Rattle.expressions.specs.Reading.{after_word, word_from, or_fail}
 
 -- the place of a word among all
@@ -106,12 +106,12 @@ pub word_self : (v : Keyword) → same_word v v ≡ true
 word_self v = eq-eqb (place v) (place v) refl
 
 -- a word that is read is that word
-pub after_word_is : (v : Keyword) (ts rest : List Piece) → after_word v ts ≡ Some rest → ts ≡ word v ∷ rest
+pub after_word_is : (v : Keyword) (ts rest : List Symbol) → after_word v ts ≡ Some rest → ts ≡ word v ∷ rest
 unfolding after_word
 after_word_is v [] rest h = absurd cc
 after_word_is v (Plain (t.Word u) ∷ ts) rest h = by_test (same_word u v) refl h
   where
-    some_is : (us vs : List Piece) → Some us ≡ Some vs → us ≡ vs
+    some_is : (us vs : List Symbol) → Some us ≡ Some vs → us ≡ vs
     some_is us vs h = cc
 
     by_test : (b : Bool) → same_word u v ≡ b → cond b (Some ts) None ≡ Some rest → Plain (t.Word u) ∷ ts ≡ word v ∷ rest
@@ -119,21 +119,21 @@ after_word_is v (Plain (t.Word u) ∷ ts) rest h = by_test (same_word u v) refl 
     by_test false e h = absurd cc
 after_word_is v (_ ∷ ts) rest h = absurd cc
 
-pub after_word_self : (v : Keyword) (ts : List Piece) → after_word v (word v ∷ ts) ≡ Some ts
+pub after_word_self : (v : Keyword) (ts : List Symbol) → after_word v (word v ∷ ts) ≡ Some ts
 unfolding after_word
 after_word_self v ts = rw (word_self v) refl
 
-pub word_from_is : (v : Keyword) (ts rest : List Piece) → word_from v ts ≡ Ok rest → ts ≡ word v ∷ rest
+pub word_from_is : (v : Keyword) (ts rest : List Symbol) → word_from v ts ≡ Ok rest → ts ≡ word v ∷ rest
 unfolding word_from
 word_from_is v ts rest h = by_found (after_word v ts) refl h
   where
-    ok_as : (us vs : List Piece) → done us ≡ done vs → us ≡ vs
+    ok_as : (us vs : List Symbol) → done us ≡ done vs → us ≡ vs
     ok_as us vs h = cc
 
-    by_found : (f : Option (List Piece)) → after_word v ts ≡ f → or_fail ts f ≡ Ok rest → ts ≡ word v ∷ rest
+    by_found : (f : Option (List Symbol)) → after_word v ts ≡ f → or_fail ts f ≡ Ok rest → ts ≡ word v ∷ rest
     by_found None e h = absurd cc
-    by_found (Some us) e h = after_word_is v ts us e ∙ ap (λ (ys : List Piece). word v ∷ ys) (ok_as us rest h)
+    by_found (Some us) e h = after_word_is v ts us e ∙ ap (λ (ys : List Symbol). word v ∷ ys) (ok_as us rest h)
 
-pub word_from_self : (v : Keyword) (ts : List Piece) → word_from v (word v ∷ ts) ≡ Ok ts
+pub word_from_self : (v : Keyword) (ts : List Symbol) → word_from v (word v ∷ ts) ≡ Ok ts
 unfolding word_from
 word_from_self v ts = rw (after_word_self v ts) refl

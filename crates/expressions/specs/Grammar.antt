@@ -8,7 +8,7 @@ use Rattle.syntax.specs.declared.expr.Operator.TheVariants as op
 use Rattle.syntax.specs.declared.expr.RaiseAction.TheVariants as raises
 use Rattle.syntax.specs.Tree as tree
 use Rattle.syntax.specs.Tree.{Tree, Trees, trees}
-use Rattle.expressions.specs.Pieces.{Piece, Plain, Name, Text, Blob, word, mark}
+use Rattle.expressions.specs.Symbols.{Symbol, Plain, Name, Text, Blob, word, mark}
 
 -- The levels, from the tightest: 0 atom, 1 unary, 2 coll, 3 cat, 4 prod, 5 sum, 6 rel, 7 eq, 8 not, 9 and, 10 or.
 
@@ -57,68 +57,68 @@ operator _ = None
 
 mutual
   -- the tokens are an expression of the level
-  pub data At : ℕ → List Piece → Tree → Type 0 where
+  pub data At : ℕ → List Symbol → Tree → Type 0 where
     null : At 0 (word w.Null ∷ []) tree.Null
     integer : {n : ℕ} → At 0 (mark (k.Integer n) ∷ []) (tree.Integer n)
     text : {z : List ℕ} → At 0 (Text z ∷ []) (tree.Text z)
     blob : {z : List ℕ} → At 0 (Blob z ∷ []) (tree.Blob z)
     column : {c : List ℕ} → At 0 (Name c ∷ []) (tree.Column None c)
     qualified : {s c : List ℕ} → At 0 (Name s ∷ mark k.Dot ∷ Name c ∷ []) (tree.Column (Some s) c)
-    paren : {ts : List Piece} {e : Tree} → At 10 ts e → At 0 (mark k.LeftParen ∷ ts ++ mark k.RightParen ∷ []) (tree.Paren e)
+    paren : {ts : List Symbol} {e : Tree} → At 10 ts e → At 0 (mark k.LeftParen ∷ ts ++ mark k.RightParen ∷ []) (tree.Paren e)
     call_of_all : {f : List ℕ} → At 0 (Name f ∷ mark k.LeftParen ∷ mark k.Star ∷ mark k.RightParen ∷ []) (tree.CallAll f)
     empty_call : {f : List ℕ} → At 0 (Name f ∷ mark k.LeftParen ∷ mark k.RightParen ∷ []) (tree.Call f tree.End)
-    call : {f : List ℕ} {ts : List Piece} {es : Trees} → Items ts es → At 0 (Name f ∷ mark k.LeftParen ∷ ts ++ mark k.RightParen ∷ []) (tree.Call f es)
+    call : {f : List ℕ} {ts : List Symbol} {es : Trees} → Items ts es → At 0 (Name f ∷ mark k.LeftParen ∷ ts ++ mark k.RightParen ∷ []) (tree.Call f es)
     abort : {z : List ℕ} → At 0 (word w.Raise ∷ mark k.LeftParen ∷ word w.Abort ∷ mark k.Comma ∷ Text z ∷ mark k.RightParen ∷ []) (tree.Raise raises.Abort z)
     rollback : {z : List ℕ} → At 0 (word w.Raise ∷ mark k.LeftParen ∷ word w.Rollback ∷ mark k.Comma ∷ Text z ∷ mark k.RightParen ∷ []) (tree.Raise raises.Rollback z)
-    minus : {ts : List Piece} {e : Tree} → At 1 ts e → At 1 (mark k.Minus ∷ ts) (tree.Negated e)
-    not : {ts : List Piece} {e : Tree} → At 8 ts e → At 8 (word w.Not ∷ ts) (tree.Not e)
+    minus : {ts : List Symbol} {e : Tree} → At 1 ts e → At 1 (mark k.Minus ∷ ts) (tree.Negated e)
+    not : {ts : List Symbol} {e : Tree} → At 8 ts e → At 8 (word w.Not ∷ ts) (tree.Not e)
     -- an expression of a tighter level
-    up : {r : ℕ} {ts : List Piece} {e : Tree} → At r ts e → At (suc r) ts e
+    up : {r : ℕ} {ts : List Symbol} {e : Tree} → At r ts e → At (suc r) ts e
     -- a chain that goes on
-    chain : {r : ℕ} {us vs : List Piece} {a e : Tree} → At (suc r) us a → Tail r a vs e → At (suc r) (us ++ vs) e
+    chain : {r : ℕ} {us vs : List Symbol} {a e : Tree} → At (suc r) us a → Tail r a vs e → At (suc r) (us ++ vs) e
 
   -- what goes on after a left operand of the level above r, and the whole
-  pub data Tail : ℕ → Tree → List Piece → Tree → Type 0 where
-    binary : {r : ℕ} {a b : Tree} {bs : List Piece} (s : Kind) (o : Operator) → level_of s ≡ suc r → operator s ≡ Some o → At r bs b → Tail r a (Plain s ∷ bs) (tree.Binary o a b)
-    is : {a b : Tree} {bs : List Piece} → At 6 bs b → Tail 6 a (word w.Is ∷ bs) (tree.Binary op.Is a b)
-    is_not : {a b : Tree} {bs : List Piece} → At 6 bs b → Tail 6 a (word w.Is ∷ word w.Not ∷ bs) (tree.Binary op.IsNot a b)
-    between : {a b c : Tree} {bs cs : List Piece} → At 6 bs b → At 6 cs c → Tail 6 a (word w.Between ∷ bs ++ word w.And ∷ cs) (tree.Between false a b c)
-    not_between : {a b c : Tree} {bs cs : List Piece} → At 6 bs b → At 6 cs c → Tail 6 a (word w.Not ∷ word w.Between ∷ bs ++ word w.And ∷ cs) (tree.Between true a b c)
-    among : {a : Tree} {ts : List Piece} {es : Trees} → Items ts es → Tail 6 a (word w.In ∷ mark k.LeftParen ∷ ts ++ mark k.RightParen ∷ []) (tree.In false a es)
-    not_among : {a : Tree} {ts : List Piece} {es : Trees} → Items ts es → Tail 6 a (word w.Not ∷ word w.In ∷ mark k.LeftParen ∷ ts ++ mark k.RightParen ∷ []) (tree.In true a es)
+  pub data Tail : ℕ → Tree → List Symbol → Tree → Type 0 where
+    binary : {r : ℕ} {a b : Tree} {bs : List Symbol} (s : Kind) (o : Operator) → level_of s ≡ suc r → operator s ≡ Some o → At r bs b → Tail r a (Plain s ∷ bs) (tree.Binary o a b)
+    is : {a b : Tree} {bs : List Symbol} → At 6 bs b → Tail 6 a (word w.Is ∷ bs) (tree.Binary op.Is a b)
+    is_not : {a b : Tree} {bs : List Symbol} → At 6 bs b → Tail 6 a (word w.Is ∷ word w.Not ∷ bs) (tree.Binary op.IsNot a b)
+    between : {a b c : Tree} {bs cs : List Symbol} → At 6 bs b → At 6 cs c → Tail 6 a (word w.Between ∷ bs ++ word w.And ∷ cs) (tree.Between false a b c)
+    not_between : {a b c : Tree} {bs cs : List Symbol} → At 6 bs b → At 6 cs c → Tail 6 a (word w.Not ∷ word w.Between ∷ bs ++ word w.And ∷ cs) (tree.Between true a b c)
+    among : {a : Tree} {ts : List Symbol} {es : Trees} → Items ts es → Tail 6 a (word w.In ∷ mark k.LeftParen ∷ ts ++ mark k.RightParen ∷ []) (tree.In false a es)
+    not_among : {a : Tree} {ts : List Symbol} {es : Trees} → Items ts es → Tail 6 a (word w.Not ∷ word w.In ∷ mark k.LeftParen ∷ ts ++ mark k.RightParen ∷ []) (tree.In true a es)
     collate : {a : Tree} {c : List ℕ} → Tail 1 a (word w.Collate ∷ Name c ∷ []) (tree.Collate a c)
 
   -- one or more expressions with commas between
-  pub data Items : List Piece → Trees → Type 0 where
-    last : {ts : List Piece} {e : Tree} → At 10 ts e → Items ts (tree.More e tree.End)
-    next : {ts us : List Piece} {e : Tree} {es : Trees} → At 10 ts e → Items us es → Items (ts ++ mark k.Comma ∷ us) (tree.More e es)
+  pub data Items : List Symbol → Trees → Type 0 where
+    last : {ts : List Symbol} {e : Tree} → At 10 ts e → Items ts (tree.More e tree.End)
+    next : {ts us : List Symbol} {e : Tree} {es : Trees} → At 10 ts e → Items us es → Items (ts ++ mark k.Comma ∷ us) (tree.More e es)
 
 -- an expression
-abbrev pub IsExpression : List Piece → Tree → Type 0
+abbrev pub IsExpression : List Symbol → Tree → Type 0
 IsExpression ts e = At 10 ts e
 
 -- one or more expressions with commas between
-abbrev pub AreExpressions : List Piece → List Tree → Type 0
+abbrev pub AreExpressions : List Symbol → List Tree → Type 0
 AreExpressions ts es = Items ts (trees es)
 
 -- a name
-abbrev pub IsName : List Piece → List ℕ → Type 0
+abbrev pub IsName : List Symbol → List ℕ → Type 0
 IsName ts c = ts ≡ Name c ∷ []
 
 -- one or more names with commas between
-pub data IsNames : List Piece → List (List ℕ) → Type 0 where
+pub data IsNames : List Symbol → List (List ℕ) → Type 0 where
   last_name : {c : List ℕ} → IsNames (Name c ∷ []) (c ∷ [])
-  next_name : {c : List ℕ} {ts : List Piece} {cs : List (List ℕ)} → IsNames ts cs → IsNames (Name c ∷ mark k.Comma ∷ ts) (c ∷ cs)
+  next_name : {c : List ℕ} {ts : List Symbol} {cs : List (List ℕ)} → IsNames ts cs → IsNames (Name c ∷ mark k.Comma ∷ ts) (c ∷ cs)
 
 -- a part in parentheses that are none of its own
-pub data Enclosed {A : Type 0} (Part : List Piece → A → Type 0) : List Piece → A → Type 0 where
-  enclosed : {ts : List Piece} {a : A} → Part ts a → Enclosed Part (mark k.LeftParen ∷ ts ++ mark k.RightParen ∷ []) a
+pub data Enclosed {A : Type 0} (Part : List Symbol → A → Type 0) : List Symbol → A → Type 0 where
+  enclosed : {ts : List Symbol} {a : A} → Part ts a → Enclosed Part (mark k.LeftParen ∷ ts ++ mark k.RightParen ∷ []) a
 
 -- a part that may be left out
-pub data Optional {A : Type 0} (Part : List Piece → A → Type 0) : List Piece → Option A → Type 0 where
+pub data Optional {A : Type 0} (Part : List Symbol → A → Type 0) : List Symbol → Option A → Type 0 where
   left_out : Optional Part [] None
-  given : {ts : List Piece} {a : A} → Part ts a → Optional Part ts (Some a)
+  given : {ts : List Symbol} {a : A} → Part ts a → Optional Part ts (Some a)
 
--- a part behind a piece
-pub data Behind {A : Type 0} (before : Piece) (Part : List Piece → A → Type 0) : List Piece → A → Type 0 where
-  behind : {ts : List Piece} {a : A} → Part ts a → Behind before Part (before ∷ ts) a
+-- a part after a piece
+pub data Preceded {A : Type 0} (before : Symbol) (Part : List Symbol → A → Type 0) : List Symbol → A → Type 0 where
+  preceded : {ts : List Symbol} {a : A} → Part ts a → Preceded before Part (before ∷ ts) a

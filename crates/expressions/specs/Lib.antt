@@ -4,7 +4,7 @@ pub mod Follows
 pub mod Grammar
 pub mod Limits
 pub mod Meaning
-pub mod Pieces
+pub mod Symbols
 pub mod Reading
 pub mod Seen
 pub mod Spelling

@@ -5,9 +5,9 @@ use Rattle.lexer.specs.Cut.{doubled}
 use Rattle.lexer.specs.Lex.{next_byte}
 use Rattle.lexer.specs.declared.token.Kind.{Kind}
 use Rattle.lexer.specs.declared.token.Kind.TheVariants as k
-use Rattle.expressions.specs.Pieces.{Piece, Plain, Name, Text, Blob, is_plain}
+use Rattle.expressions.specs.Symbols.{Symbol, Plain, Name, Text, Blob, is_plain}
 
-pub data Means : Kind → List ℕ → Piece → Type 0 where
+pub data Means : Kind → List ℕ → Symbol → Type 0 where
   -- a name without quotes is its spelling
   plain_name : {z : List ℕ} → next_byte z ≢ 34 → Means k.Name z (Name z)
   -- a name with quotes, its own quotes doubled

@@ -23,12 +23,12 @@ between_quotes q (b ∷ z) = if b == q then before_last q z else None
 unfoldable mutual
   pub undoubled : ℕ → List ℕ → List ℕ
   undoubled q [] = []
-  undoubled q (b ∷ z) = b ∷ (if b == q then behind_quote q z else undoubled q z)
+  undoubled q (b ∷ z) = b ∷ (if b == q then after_quote q z else undoubled q z)
 
   -- after a quote, which another may follow
-  pub behind_quote : ℕ → List ℕ → List ℕ
-  behind_quote q [] = []
-  behind_quote q (b ∷ z) = if b == q then undoubled q z else b ∷ undoubled q z
+  pub after_quote : ℕ → List ℕ → List ℕ
+  after_quote q [] = []
+  after_quote q (b ∷ z) = if b == q then undoubled q z else b ∷ undoubled q z
 
 -- a name by what stands between its quotes, where it has any
 abbrev pub name_by : List ℕ → Option (List ℕ) → List ℕ

@@ -6,16 +6,16 @@ ghost use Rattle.lexer.specs.declared.keyword.Keyword.{Keyword as Reserved};
 ghost use Rattle.lexer.specs.declared.token.Kind.{Kind};
 ghost use Rattle.syntax.specs.Tree.{Tree};
 ghost use Rattle.expressions.specs.Exact.{Exact, Single};
-ghost use Rattle.expressions.specs.Follows.{EndsExpression, EndsList, EndsBehind, Anything, ends_list, lacks_name, lacks_paren};
+ghost use Rattle.expressions.specs.Follows.{EndsExpression, EndsList, EndsAfter, Anything, ends_list, lacks_name, lacks_paren};
 ghost use Rattle.expressions.specs.Grammar as grammar;
 ghost use Rattle.expressions.specs.Limits.{unlimited, is_shallow, are_shallow, if_given};
 ghost use Rattle.expressions.specs.Meaning.{Means};
-ghost use Rattle.expressions.specs.Pieces.{Piece, meant, word};
+ghost use Rattle.expressions.specs.Symbols.{Symbol, meant, word};
 ghost use Rattle.expressions.specs.Reading as spec;
 
 /// Tokens are one expression at most, also where others follow.
 pub fn one_tree()
-    ensures whole { (ts : List Piece) (a b : Tree) → grammar.IsExpression ts a → grammar.IsExpression ts b → a ≡ b }
+    ensures whole { (ts : List Symbol) (a b : Tree) → grammar.IsExpression ts a → grammar.IsExpression ts b → a ≡ b }
     ensures first { Single grammar.IsExpression EndsExpression }
     ensures list { Single grammar.AreExpressions EndsList }
 {}
@@ -34,7 +34,7 @@ pub fn exact_reading()
 /// A token of the lexer means one piece, the one that the rules take it for.
 pub fn one_meaning()
     ensures some { (m : Bool) (kind : Kind) (z : List ℕ) (next : ℕ) → Spells m kind z next → Means kind z (meant kind z) }
-    ensures one { (kind : Kind) (z : List ℕ) (p : Piece) → Means kind z p → p ≡ meant kind z }
+    ensures one { (kind : Kind) (z : List ℕ) (p : Symbol) → Means kind z p → p ≡ meant kind z }
 {}
 
 /// The parts that may be left out, and lists of names, are read exactly too.
@@ -42,5 +42,5 @@ pub fn exact_parts()
     ensures names { Exact spec.names_from grammar.IsNames unlimited (λ rest. ends_list rest ≡ true) }
     ensures maybe_name { Exact spec.maybe_name_from (grammar.Optional grammar.IsName) unlimited (λ rest. lacks_name rest ≡ true) }
     ensures maybe_name_row { Exact spec.maybe_name_row_from (grammar.Optional (grammar.Enclosed grammar.IsNames)) unlimited (λ rest. lacks_paren rest ≡ true) }
-    ensures maybe_behind { (keyword : Reserved) → Exact (spec.maybe_behind_from keyword) (grammar.Optional (grammar.Behind (word keyword) grammar.IsExpression)) (if_given is_shallow) (EndsBehind keyword) }
+    ensures maybe_after { (keyword : Reserved) → Exact (spec.maybe_after_from keyword) (grammar.Optional (grammar.Preceded (word keyword) grammar.IsExpression)) (if_given is_shallow) (EndsAfter keyword) }
 {}

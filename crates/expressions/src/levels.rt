@@ -11,15 +11,15 @@ ghost use Rattle.expressions.specs.Follows.{EndsExpression};
 ghost use Rattle.expressions.specs.Grammar as grammar;
 ghost use Rattle.expressions.specs.Grammar.{IsExpression};
 ghost use Rattle.expressions.specs.Limits.{is_shallow};
-ghost use Rattle.expressions.specs.Pieces.{Piece, meant, seen, spelling_at};
+ghost use Rattle.expressions.specs.Symbols.{Symbol, meant, seen, spelling_at};
 ghost use Rattle.expressions.specs.Reading as spec;
-ghost use Rattle.expressions.specs.Reading.{Gives, level_at};
+ghost use Rattle.expressions.specs.Reading.{Gives, ReadsBy, level_at};
 ghost use Rattle.expressions.specs.Seen.{seen_all};
 
 use crate::literals::{blob_of, name_of, text_of};
 use crate::naming::name;
 use crate::refusal::{Read, Refusal, unexpected};
-use crate::token::{Spelled, Tok, Tokens, spelling};
+use crate::token::{Rest, SourceTokens, TokenAt, spelling};
 use crate::words::{after_word, mark, word};
 use crate::{keyword, kind};
 use lexer::{Keyword, Kind};
@@ -49,23 +49,23 @@ pub struct Deeps {
 }
 
 /// An expression, which ends where nothing goes on with it. One deeper than 100 is `TooLong`.
-pub fn expression<'a>(alloc: Global, spelled: Spelled<'_>, tokens: Tokens<'a>) -> Read<'a, Expr>
+pub fn expression<'a>(alloc: Global, spelled: SourceTokens<'_>, tokens: Rest<'a>) -> Read<'a, Expr>
     // What is read is an expression within the limit, and what is left follows it.
     ensures found { IfOk result (λ x. Used IsExpression is_shallow (seen spelled.now tokens.now) (x.0, seen spelled.now x.1.now)) }
     // An expression within the limit is read, unless memory runs out.
-    ensures only { (us : List Piece) (e : Tree) (rest : List Piece) → IsExpression us e → deep e ≤ 100 → EndsExpression rest → seen spelled.now tokens.now ≡ us ++ rest → Gives {Y = Tree × List Piece} (λ x. (x.0, seen spelled.now x.1.now)) result (Ok (e, rest)) }
+    ensures only { (us : List Symbol) (e : Tree) (rest : List Symbol) → IsExpression us e → deep e ≤ 100 → EndsExpression rest → seen spelled.now tokens.now ≡ us ++ rest → Gives {Y = Tree × List Symbol} (λ x. (x.0, seen spelled.now x.1.now)) result (Ok (e, rest)) }
     // An expression past the limit is refused for that.
-    ensures late { (us : List Piece) (e : Tree) (rest : List Piece) → IsExpression us e → 100 < deep e → EndsExpression rest → seen spelled.now tokens.now ≡ us ++ rest → Gives {Y = Tree × List Piece} (λ x. (x.0, seen spelled.now x.1.now)) result (Err TooLong) }
+    ensures late { (us : List Symbol) (e : Tree) (rest : List Symbol) → IsExpression us e → 100 < deep e → EndsExpression rest → seen spelled.now tokens.now ≡ us ++ rest → Gives {Y = Tree × List Symbol} (λ x. (x.0, seen spelled.now x.1.now)) result (Err TooLong) }
     // Which refusal it is, and what else is read.
-    ensures exact { Gives (λ x. (x.0, seen spelled.now x.1.now)) result (spec.expression_from (seen spelled.now tokens.now)) }
+    ensures exact { ReadsBy spelled.now tokens.now result spec.expression_from }
 {
     shallow(alloc, spelled, tokens)
 }
 
 /// An expression no deeper than 100.
 #[tactic(auto, unfolding(crate::specs::Reading::expression_from))]
-fn shallow<'a>(alloc: Global, spelled: Spelled<'_>, tokens: Tokens<'a>) -> Read<'a, Expr>
-    ensures { Gives (λ x. (x.0, seen spelled.now x.1.now)) result (spec.expression_from (seen spelled.now tokens.now)) }
+fn shallow<'a>(alloc: Global, spelled: SourceTokens<'_>, tokens: Rest<'a>) -> Read<'a, Expr>
+    ensures { ReadsBy spelled.now tokens.now result spec.expression_from }
 {
     let (found, rest) = level(alloc, spelled, DEEPEST, OR, tokens)?;
     Ok((found.tree, rest))
@@ -75,10 +75,10 @@ fn shallow<'a>(alloc: Global, spelled: Spelled<'_>, tokens: Tokens<'a>) -> Read<
 #[tactic(auto, unfolding(crate::specs::Reading::expressions_from))]
 pub fn expressions<'a>(
     alloc: Global,
-    spelled: Spelled<'_>,
-    tokens: Tokens<'a>,
+    spelled: SourceTokens<'_>,
+    tokens: Rest<'a>,
 ) -> Read<'a, Many<Expr>>
-    ensures { Gives (λ x. (x.0, seen spelled.now x.1.now)) result (spec.expressions_from (seen spelled.now tokens.now)) }
+    ensures { ReadsBy spelled.now tokens.now result spec.expressions_from }
 {
     let (found, rest) = items_from(alloc, spelled, DEEPEST + 1, tokens)?;
     Ok((Many::from_vec(found.trees), rest))
@@ -86,8 +86,8 @@ pub fn expressions<'a>(
 
 /// Expressions in parentheses.
 #[tactic(auto, unfolding(crate::specs::Reading::enclosed_by))]
-pub fn row<'a>(alloc: Global, spelled: Spelled<'_>, tokens: Tokens<'a>) -> Read<'a, Many<Expr>>
-    ensures { Gives (λ x. (x.0, seen spelled.now x.1.now)) result (spec.row_from (seen spelled.now tokens.now)) }
+pub fn row<'a>(alloc: Global, spelled: SourceTokens<'_>, tokens: Rest<'a>) -> Read<'a, Many<Expr>>
+    ensures { ReadsBy spelled.now tokens.now result spec.row_from }
 {
     let rest = mark(Kind::LeftParen, tokens)?;
     let (found, rest) = expressions(alloc, spelled, rest)?;
@@ -96,23 +96,23 @@ pub fn row<'a>(alloc: Global, spelled: Spelled<'_>, tokens: Tokens<'a>) -> Read<
 
 /// An expression in parentheses that are none of its own.
 #[tactic(auto, unfolding(crate::specs::Reading::enclosed_by))]
-pub fn enclosed<'a>(alloc: Global, spelled: Spelled<'_>, tokens: Tokens<'a>) -> Read<'a, Expr>
-    ensures { Gives (λ x. (x.0, seen spelled.now x.1.now)) result (spec.enclosed_from (seen spelled.now tokens.now)) }
+pub fn enclosed<'a>(alloc: Global, spelled: SourceTokens<'_>, tokens: Rest<'a>) -> Read<'a, Expr>
+    ensures { ReadsBy spelled.now tokens.now result spec.enclosed_from }
 {
     let rest = mark(Kind::LeftParen, tokens)?;
     let (found, rest) = shallow(alloc, spelled, rest)?;
     Ok((found, mark(Kind::RightParen, rest)?))
 }
 
-/// An expression behind a word, where the word comes next.
-#[tactic(auto, unfolding(crate::specs::Reading::maybe_behind_from))]
-pub fn maybe_behind<'a>(
+/// An expression after a word, where the word comes next.
+#[tactic(auto, unfolding(crate::specs::Reading::maybe_after_from))]
+pub fn maybe_after<'a>(
     alloc: Global,
-    spelled: Spelled<'_>,
+    spelled: SourceTokens<'_>,
     keyword: Keyword,
-    tokens: Tokens<'a>,
+    tokens: Rest<'a>,
 ) -> Read<'a, Option<Expr>>
-    ensures { Gives (λ x. (x.0, seen spelled.now x.1.now)) result (spec.maybe_behind_from keyword (seen spelled.now tokens.now)) }
+    ensures { ReadsBy spelled.now tokens.now result (spec.maybe_after_from keyword) }
 {
     match after_word(keyword, tokens) {
         Some(rest) => {
@@ -134,8 +134,8 @@ fn leaf(node: Node) -> Deep
 
 /// A tree over others, of which the deepest has this depth.
 #[tactic(auto, unfolding(crate::specs::Reading::over))]
-fn over<'a>(room: usize, node: Node, depth: usize, rest: Tokens<'a>) -> Read<'a, Deep>
-    ensures { (whole : List Spelling) → Gives (λ x. (x.0, seen whole x.1.now)) result (spec.over room (tree_of node) depth (seen whole rest.now)) }
+fn over<'a>(room: usize, node: Node, depth: usize, rest: Rest<'a>) -> Read<'a, Deep>
+    ensures { (whole : List Spelling) → ReadsBy whole rest.now result (spec.over room (tree_of node) depth) }
 {
     if depth < room {
         let tree = Expr { node };
@@ -204,7 +204,7 @@ fn prefixes(kind: Kind) -> u8
 }
 
 #[tactic(auto, unfolding(crate::specs::Reading::goes_on))]
-fn goes_on(rank: u8, tokens: Tokens<'_>) -> bool
+fn goes_on(rank: u8, tokens: Rest<'_>) -> bool
     ensures { (whole : List Spelling) → result ≡ spec.goes_on rank (seen whole tokens.now) }
 {
     match tokens {
@@ -214,7 +214,7 @@ fn goes_on(rank: u8, tokens: Tokens<'_>) -> bool
 }
 
 #[tactic(auto, unfolding(crate::specs::Reading::is_prefixed))]
-fn is_prefixed(rank: u8, tokens: Tokens<'_>) -> bool
+fn is_prefixed(rank: u8, tokens: Rest<'_>) -> bool
     ensures { (whole : List Spelling) → result ≡ spec.is_prefixed rank (seen whole tokens.now) }
 {
     match tokens {
@@ -228,13 +228,13 @@ fn is_prefixed(rank: u8, tokens: Tokens<'_>) -> bool
 #[cycle(expression)]
 fn level<'a>(
     alloc: Global,
-    spelled: Spelled<'_>,
+    spelled: SourceTokens<'_>,
     room: usize,
     rank: u8,
-    tokens: Tokens<'a>,
+    tokens: Rest<'a>,
 ) -> Read<'a, Deep>
     requires { rank ≤ 10 }
-    ensures { Gives (λ x. (x.0, seen spelled.now x.1.now)) result (level_at room rank (seen spelled.now tokens.now)) }
+    ensures { ReadsBy spelled.now tokens.now result (level_at room rank) }
 {
     if room == 0 {
         return Err(Refusal::TooLong);
@@ -247,14 +247,14 @@ fn level<'a>(
 #[cycle(expression)]
 fn ladder<'a>(
     alloc: Global,
-    spelled: Spelled<'_>,
+    spelled: SourceTokens<'_>,
     room: usize,
     rank: u8,
-    tokens: Tokens<'a>,
+    tokens: Rest<'a>,
 ) -> Read<'a, Deep>
     requires some { 0 < room }
     requires rank { rank ≤ 10 }
-    ensures { Gives (λ x. (x.0, seen spelled.now x.1.now)) result (spec.ladder (level_at (room - 1)) room rank (seen spelled.now tokens.now)) }
+    ensures { ReadsBy spelled.now tokens.now result (spec.ladder (level_at (room - 1)) room rank) }
 {
     if rank == 0 {
         return atom(alloc, spelled, room, tokens);
@@ -271,14 +271,14 @@ fn ladder<'a>(
 #[cycle(expression)]
 fn prefix<'a>(
     alloc: Global,
-    spelled: Spelled<'_>,
+    spelled: SourceTokens<'_>,
     room: usize,
     rank: u8,
-    tokens: Tokens<'a>,
+    tokens: Rest<'a>,
 ) -> Read<'a, Deep>
     requires some { 0 < room }
     requires rank { rank ≤ 10 }
-    ensures { Gives (λ x. (x.0, seen spelled.now x.1.now)) result (spec.prefix (level_at (room - 1)) room rank (seen spelled.now tokens.now)) }
+    ensures { ReadsBy spelled.now tokens.now result (spec.prefix (level_at (room - 1)) room rank) }
 {
     match tokens {
         [] => Err(Refusal::Syntax(0)),
@@ -300,15 +300,15 @@ fn prefix<'a>(
 #[cycle(expression)]
 fn tails<'a>(
     alloc: Global,
-    spelled: Spelled<'_>,
+    spelled: SourceTokens<'_>,
     room: usize,
     rank: u8,
     first: Deep,
-    tokens: Tokens<'a>,
+    tokens: Rest<'a>,
 ) -> Read<'a, Deep>
     requires some { 0 < room }
     requires rank { rank < 10 }
-    ensures { Gives (λ x. (x.0, seen spelled.now x.1.now)) result (spec.tails (level_at (room - 1)) room room rank first (seen spelled.now tokens.now)) }
+    ensures { ReadsBy spelled.now tokens.now result (spec.tails (level_at (room - 1)) room room rank first) }
 {
     let mut left = first;
     let mut rest = tokens;
@@ -331,15 +331,15 @@ fn tails<'a>(
 #[cycle(expression)]
 fn tail<'a>(
     alloc: Global,
-    spelled: Spelled<'_>,
+    spelled: SourceTokens<'_>,
     room: usize,
     rank: u8,
     left: Deep,
-    tokens: Tokens<'a>,
+    tokens: Rest<'a>,
 ) -> Read<'a, Deep>
     requires some { 0 < room }
     requires rank { rank < 10 }
-    ensures { Gives (λ x. (x.0, seen spelled.now x.1.now)) result (spec.tail (level_at (room - 1)) room rank left (seen spelled.now tokens.now)) }
+    ensures { ReadsBy spelled.now tokens.now result (spec.tail (level_at (room - 1)) room rank left) }
 {
     match tokens {
         [keyword!(Collate), rest @ ..] => collate(alloc, spelled, room, left, rest),
@@ -365,12 +365,12 @@ fn tail<'a>(
 #[tactic(auto, unfolding(crate::specs::Reading::collate))]
 fn collate<'a>(
     alloc: Global,
-    spelled: Spelled<'_>,
+    spelled: SourceTokens<'_>,
     room: usize,
     left: Deep,
-    tokens: Tokens<'a>,
+    tokens: Rest<'a>,
 ) -> Read<'a, Deep>
-    ensures { Gives (λ x. (x.0, seen spelled.now x.1.now)) result (spec.collate (level_at (room - 1)) room left (seen spelled.now tokens.now)) }
+    ensures { ReadsBy spelled.now tokens.now result (spec.collate (level_at (room - 1)) room left) }
 {
     let (collation, rest) = name(alloc, spelled, tokens)?;
     let node = Node::Collate(Box::new(alloc, left.tree)?, collation);
@@ -381,16 +381,16 @@ fn collate<'a>(
 #[cycle(expression)]
 fn operand<'a>(
     alloc: Global,
-    spelled: Spelled<'_>,
+    spelled: SourceTokens<'_>,
     room: usize,
     rank: u8,
     op: Operator,
     left: Deep,
-    tokens: Tokens<'a>,
+    tokens: Rest<'a>,
 ) -> Read<'a, Deep>
     requires some { 0 < room }
     requires rank { rank < 10 }
-    ensures { Gives (λ x. (x.0, seen spelled.now x.1.now)) result (spec.operand (level_at (room - 1)) room rank op left (seen spelled.now tokens.now)) }
+    ensures { ReadsBy spelled.now tokens.now result (spec.operand (level_at (room - 1)) room rank op left) }
 {
     let (right, rest) = level(alloc, spelled, room - 1, rank, tokens)?;
     let depth = left.depth.max(right.depth);
@@ -403,16 +403,16 @@ fn operand<'a>(
 #[cycle(expression)]
 fn between<'a>(
     alloc: Global,
-    spelled: Spelled<'_>,
+    spelled: SourceTokens<'_>,
     room: usize,
     rank: u8,
     is_negated: bool,
     left: Deep,
-    tokens: Tokens<'a>,
+    tokens: Rest<'a>,
 ) -> Read<'a, Deep>
     requires some { 0 < room }
     requires rank { rank < 10 }
-    ensures { Gives (λ x. (x.0, seen spelled.now x.1.now)) result (spec.between (level_at (room - 1)) room rank is_negated left (seen spelled.now tokens.now)) }
+    ensures { ReadsBy spelled.now tokens.now result (spec.between (level_at (room - 1)) room rank is_negated left) }
 {
     let (low, rest) = level(alloc, spelled, room - 1, rank, tokens)?;
     let rest = word(Keyword::And, rest)?;
@@ -428,14 +428,14 @@ fn between<'a>(
 #[cycle(expression)]
 fn among<'a>(
     alloc: Global,
-    spelled: Spelled<'_>,
+    spelled: SourceTokens<'_>,
     room: usize,
     is_negated: bool,
     left: Deep,
-    tokens: Tokens<'a>,
+    tokens: Rest<'a>,
 ) -> Read<'a, Deep>
     requires some { 0 < room }
-    ensures { Gives (λ x. (x.0, seen spelled.now x.1.now)) result (spec.among (level_at (room - 1)) room is_negated left (seen spelled.now tokens.now)) }
+    ensures { ReadsBy spelled.now tokens.now result (spec.among (level_at (room - 1)) room is_negated left) }
 {
     let rest = mark(Kind::LeftParen, tokens)?;
     let (found, rest) = items(alloc, spelled, room, rest)?;
@@ -449,9 +449,9 @@ fn among<'a>(
 #[cycle(expression)]
 fn items<'a>(
     alloc: Global,
-    spelled: Spelled<'_>,
+    spelled: SourceTokens<'_>,
     room: usize,
-    tokens: Tokens<'a>,
+    tokens: Rest<'a>,
 ) -> Read<'a, Deeps>
     requires some { 0 < room }
     ensures { Gives (λ x. (seen_all x.0, seen spelled.now x.1.now)) result (spec.items (level_at (room - 1)) room (seen spelled.now tokens.now)) }
@@ -465,9 +465,9 @@ fn items<'a>(
 #[cycle(expression)]
 fn items_from<'a>(
     alloc: Global,
-    spelled: Spelled<'_>,
+    spelled: SourceTokens<'_>,
     room: usize,
-    tokens: Tokens<'a>,
+    tokens: Rest<'a>,
 ) -> Read<'a, Deeps>
     requires some { 0 < room }
     ensures { Gives (λ x. (seen_all x.0, seen spelled.now x.1.now)) result (spec.items_from (level_at (room - 1)) room (seen spelled.now tokens.now)) }
@@ -489,9 +489,14 @@ fn items_from<'a>(
 
 #[tactic(auto, unfolding(crate::specs::Reading::atom))]
 #[cycle(expression)]
-fn atom<'a>(alloc: Global, spelled: Spelled<'_>, room: usize, tokens: Tokens<'a>) -> Read<'a, Deep>
+fn atom<'a>(
+    alloc: Global,
+    spelled: SourceTokens<'_>,
+    room: usize,
+    tokens: Rest<'a>,
+) -> Read<'a, Deep>
     requires some { 0 < room }
-    ensures { Gives (λ x. (x.0, seen spelled.now x.1.now)) result (spec.atom (level_at (room - 1)) room (seen spelled.now tokens.now)) }
+    ensures { ReadsBy spelled.now tokens.now result (spec.atom (level_at (room - 1)) room) }
 {
     match tokens {
         [kind!(LeftParen), rest @ ..] => paren(alloc, spelled, room, rest),
@@ -514,7 +519,11 @@ fn atom<'a>(alloc: Global, spelled: Spelled<'_>, room: usize, tokens: Tokens<'a>
 }
 
 /// An integer, a text, a blob or NULL.
-fn literal(alloc: Global, spelled: Spelled<'_>, token: Tok) -> Result<Option<Node>, Refusal>
+fn literal(
+    alloc: Global,
+    spelled: SourceTokens<'_>,
+    token: TokenAt,
+) -> Result<Option<Node>, Refusal>
     ensures { Gives (λ node. option_map tree_of node) result (Ok (spec.literal (meant token.kind (spelling_at spelled.now token.place)))) }
 {
     Ok(match token.kind {
@@ -528,9 +537,14 @@ fn literal(alloc: Global, spelled: Spelled<'_>, token: Tok) -> Result<Option<Nod
 
 #[tactic(auto, unfolding(crate::specs::Reading::paren))]
 #[cycle(expression)]
-fn paren<'a>(alloc: Global, spelled: Spelled<'_>, room: usize, tokens: Tokens<'a>) -> Read<'a, Deep>
+fn paren<'a>(
+    alloc: Global,
+    spelled: SourceTokens<'_>,
+    room: usize,
+    tokens: Rest<'a>,
+) -> Read<'a, Deep>
     requires some { 0 < room }
-    ensures { Gives (λ x. (x.0, seen spelled.now x.1.now)) result (spec.paren (level_at (room - 1)) room (seen spelled.now tokens.now)) }
+    ensures { ReadsBy spelled.now tokens.now result (spec.paren (level_at (room - 1)) room) }
 {
     let (inner, rest) = level(alloc, spelled, room - 1, OR, tokens)?;
     let rest = mark(Kind::RightParen, rest)?;
@@ -538,18 +552,18 @@ fn paren<'a>(alloc: Global, spelled: Spelled<'_>, room: usize, tokens: Tokens<'a
     over(room, node, inner.depth, rest)
 }
 
-/// What goes on behind a name: a column of a source, a function's arguments, or nothing.
+/// What goes on after a name: a column of a source, a function's arguments, or nothing.
 #[tactic(auto, unfolding(crate::specs::Reading::named))]
 #[cycle(expression)]
 fn named<'a>(
     alloc: Global,
-    spelled: Spelled<'_>,
+    spelled: SourceTokens<'_>,
     room: usize,
     first: Name,
-    tokens: Tokens<'a>,
+    tokens: Rest<'a>,
 ) -> Read<'a, Deep>
     requires some { 0 < room }
-    ensures { Gives (λ x. (x.0, seen spelled.now x.1.now)) result (spec.named (level_at (room - 1)) room first (seen spelled.now tokens.now)) }
+    ensures { ReadsBy spelled.now tokens.now result (spec.named (level_at (room - 1)) room first) }
 {
     match tokens {
         [kind!(Dot), rest @ ..] => {
@@ -561,18 +575,18 @@ fn named<'a>(
     }
 }
 
-/// What a function is called with, behind the parenthesis.
+/// What a function is called with, after the parenthesis.
 #[tactic(auto, unfolding(crate::specs::Reading::call))]
 #[cycle(expression)]
 fn call<'a>(
     alloc: Global,
-    spelled: Spelled<'_>,
+    spelled: SourceTokens<'_>,
     room: usize,
     function: Name,
-    tokens: Tokens<'a>,
+    tokens: Rest<'a>,
 ) -> Read<'a, Deep>
     requires some { 0 < room }
-    ensures { Gives (λ x. (x.0, seen spelled.now x.1.now)) result (spec.call (level_at (room - 1)) room function (seen spelled.now tokens.now)) }
+    ensures { ReadsBy spelled.now tokens.now result (spec.call (level_at (room - 1)) room function) }
 {
     match tokens {
         [kind!(RightParen), rest @ ..] => {
@@ -591,8 +605,8 @@ fn call<'a>(
 
 /// What RAISE undoes.
 #[tactic(auto, unfolding(crate::specs::Reading::action_from))]
-fn action<'a>(tokens: Tokens<'a>) -> Read<'a, RaiseAction>
-    ensures { (whole : List Spelling) → Gives (λ x. (x.0, seen whole x.1.now)) result (spec.action_from (seen whole tokens.now)) }
+fn action<'a>(tokens: Rest<'a>) -> Read<'a, RaiseAction>
+    ensures { (whole : List Spelling) → ReadsBy whole tokens.now result spec.action_from }
 {
     match tokens {
         [keyword!(Abort), rest @ ..] => Ok((RaiseAction::Abort, rest)),
@@ -603,8 +617,8 @@ fn action<'a>(tokens: Tokens<'a>) -> Read<'a, RaiseAction>
 
 /// A text.
 #[tactic(auto, unfolding(crate::specs::Reading::text_from))]
-fn text<'a>(alloc: Global, spelled: Spelled<'_>, tokens: Tokens<'a>) -> Read<'a, Text>
-    ensures { Gives (λ x. (x.0, seen spelled.now x.1.now)) result (spec.text_from (seen spelled.now tokens.now)) }
+fn text<'a>(alloc: Global, spelled: SourceTokens<'_>, tokens: Rest<'a>) -> Read<'a, Text>
+    ensures { ReadsBy spelled.now tokens.now result spec.text_from }
 {
     match tokens {
         [token @ kind!(Text), rest @ ..] => {
@@ -614,10 +628,10 @@ fn text<'a>(alloc: Global, spelled: Spelled<'_>, tokens: Tokens<'a>) -> Read<'a,
     }
 }
 
-/// What stands behind RAISE.
+/// What stands after RAISE.
 #[tactic(auto, unfolding(crate::specs::Reading::raise_from))]
-fn raise<'a>(alloc: Global, spelled: Spelled<'_>, tokens: Tokens<'a>) -> Read<'a, Deep>
-    ensures { Gives (λ x. (x.0, seen spelled.now x.1.now)) result (spec.raise_from (seen spelled.now tokens.now)) }
+fn raise<'a>(alloc: Global, spelled: SourceTokens<'_>, tokens: Rest<'a>) -> Read<'a, Deep>
+    ensures { ReadsBy spelled.now tokens.now result spec.raise_from }
 {
     let rest = mark(Kind::LeftParen, tokens)?;
     let (action, rest) = action(rest)?;

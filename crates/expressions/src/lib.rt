@@ -11,12 +11,9 @@ mod token;
 mod words;
 
 pub use laws::{exact_parts, exact_reading, one_meaning, one_tree};
-pub use levels::{enclosed, expression, expressions, maybe_behind, row};
+pub use levels::{enclosed, expression, expressions, maybe_after, row};
 pub use literals::{blob_of, name_of, text_of};
 pub use naming::{maybe_name, maybe_name_row, name, name_row, names};
 pub use refusal::{Read, Refusal, unexpected, within};
-pub use token::{Spelled, Tok, Tokens, all, spelling};
-pub use words::{after_word, mark, optional, word};
-
-#[cfg(test)]
-mod tests;
+pub use token::{Rest, SourceTokens, TokenAt, all, spelling};
+pub use words::{after_comma, after_paren, after_word, integer, mark, optional, word};

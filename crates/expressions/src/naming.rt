@@ -1,13 +1,12 @@
 //! Names.
 
-ghost use Rattle.expressions.specs.Pieces.{seen};
 ghost use Rattle.expressions.specs.Reading as spec;
-ghost use Rattle.expressions.specs.Reading.{Gives};
+ghost use Rattle.expressions.specs.Reading.{ReadsBy};
 
 use crate::kind;
 use crate::literals::name_of;
 use crate::refusal::{Read, Refusal, unexpected};
-use crate::token::{Spelled, Tokens, spelling};
+use crate::token::{Rest, SourceTokens, spelling};
 use crate::words::mark;
 use lexer::Kind;
 use sqlval::{Many, Name};
@@ -17,10 +16,10 @@ use std::alloc::Global;
 #[tactic(auto, unfolding(crate::specs::Reading::maybe_name_from))]
 pub fn maybe_name<'a>(
     alloc: Global,
-    spelled: Spelled<'_>,
-    tokens: Tokens<'a>,
+    spelled: SourceTokens<'_>,
+    tokens: Rest<'a>,
 ) -> Read<'a, Option<Name>>
-    ensures { Gives (λ x. (x.0, seen spelled.now x.1.now)) result (spec.maybe_name_from (seen spelled.now tokens.now)) }
+    ensures { ReadsBy spelled.now tokens.now result spec.maybe_name_from }
 {
     match tokens {
         [token @ (kind!(Name) | kind!(QuotedName)), rest @ ..] => {
@@ -32,8 +31,8 @@ pub fn maybe_name<'a>(
 
 /// A name.
 #[tactic(auto, unfolding(crate::specs::Reading::name_from))]
-pub fn name<'a>(alloc: Global, spelled: Spelled<'_>, tokens: Tokens<'a>) -> Read<'a, Name>
-    ensures { Gives (λ x. (x.0, seen spelled.now x.1.now)) result (spec.name_from (seen spelled.now tokens.now)) }
+pub fn name<'a>(alloc: Global, spelled: SourceTokens<'_>, tokens: Rest<'a>) -> Read<'a, Name>
+    ensures { ReadsBy spelled.now tokens.now result spec.name_from }
 {
     match tokens {
         [token @ (kind!(Name) | kind!(QuotedName)), rest @ ..] => {
@@ -45,8 +44,8 @@ pub fn name<'a>(alloc: Global, spelled: Spelled<'_>, tokens: Tokens<'a>) -> Read
 
 /// One or more names with commas between.
 #[tactic(auto, unfolding(crate::specs::Reading::names_upto))]
-pub fn names<'a>(alloc: Global, spelled: Spelled<'_>, tokens: Tokens<'a>) -> Read<'a, Many<Name>>
-    ensures { Gives (λ x. (x.0, seen spelled.now x.1.now)) result (spec.names_from (seen spelled.now tokens.now)) }
+pub fn names<'a>(alloc: Global, spelled: SourceTokens<'_>, tokens: Rest<'a>) -> Read<'a, Many<Name>>
+    ensures { ReadsBy spelled.now tokens.now result spec.names_from }
 {
     let mut names = Many::new(alloc);
     let mut rest = tokens;
@@ -54,7 +53,7 @@ pub fn names<'a>(alloc: Global, spelled: Spelled<'_>, tokens: Tokens<'a>) -> Rea
         let (next, after) = name(alloc, spelled, rest)?;
         names.push(next)?;
         match after {
-            [kind!(Comma), behind @ ..] => rest = behind,
+            [kind!(Comma), following @ ..] => rest = following,
             _ => return Ok((names, after)),
         }
     }
@@ -63,8 +62,12 @@ pub fn names<'a>(alloc: Global, spelled: Spelled<'_>, tokens: Tokens<'a>) -> Rea
 
 /// Names in parentheses.
 #[tactic(auto, unfolding(crate::specs::Reading::enclosed_by))]
-pub fn name_row<'a>(alloc: Global, spelled: Spelled<'_>, tokens: Tokens<'a>) -> Read<'a, Many<Name>>
-    ensures { Gives (λ x. (x.0, seen spelled.now x.1.now)) result (spec.name_row_from (seen spelled.now tokens.now)) }
+pub fn name_row<'a>(
+    alloc: Global,
+    spelled: SourceTokens<'_>,
+    tokens: Rest<'a>,
+) -> Read<'a, Many<Name>>
+    ensures { ReadsBy spelled.now tokens.now result spec.name_row_from }
 {
     let rest = mark(Kind::LeftParen, tokens)?;
     let (names, rest) = names(alloc, spelled, rest)?;
@@ -75,10 +78,10 @@ pub fn name_row<'a>(alloc: Global, spelled: Spelled<'_>, tokens: Tokens<'a>) -> 
 #[tactic(auto, unfolding(crate::specs::Reading::maybe_name_row_from))]
 pub fn maybe_name_row<'a>(
     alloc: Global,
-    spelled: Spelled<'_>,
-    tokens: Tokens<'a>,
+    spelled: SourceTokens<'_>,
+    tokens: Rest<'a>,
 ) -> Read<'a, Option<Many<Name>>>
-    ensures { Gives (λ x. (x.0, seen spelled.now x.1.now)) result (spec.maybe_name_row_from (seen spelled.now tokens.now)) }
+    ensures { ReadsBy spelled.now tokens.now result spec.maybe_name_row_from }
 {
     match tokens {
         [kind!(LeftParen), ..] => {

@@ -4,7 +4,7 @@
 #[macro_export]
 macro_rules! keyword {
     ($keyword:ident) => {
-        $crate::Tok {
+        $crate::TokenAt {
             kind: lexer::Kind::Word(lexer::Keyword::$keyword),
             ..
         }
@@ -15,7 +15,7 @@ macro_rules! keyword {
 #[macro_export]
 macro_rules! kind {
     ($kind:ident) => {
-        $crate::Tok {
+        $crate::TokenAt {
             kind: lexer::Kind::$kind,
             ..
         }

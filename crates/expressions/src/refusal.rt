@@ -3,11 +3,11 @@
 ghost use Rattle.std.specs.Prelude.{◌≡◌, ◌≤◌, length, nat_le, if◌then◌else◌, Ok, Err};
 ghost use Rattle.expressions.specs.declared.refusal.Refusal.TheVariants.{Memory, Syntax, TooLong};
 
-use crate::token::Tokens;
+use crate::token::Rest;
 use std::alloc::{AllocError, AllocFailed};
 
-/// What was read, and the tokens behind it.
-pub type Read<'a, T> = Result<(T, Tokens<'a>), Refusal>;
+/// What was read, and the tokens after it.
+pub type Read<'a, T> = Result<(T, Rest<'a>), Refusal>;
 
 /// Why tokens are refused: the first reason from left to right.
 #[derive(Clone, Copy, Debug)]
@@ -17,7 +17,7 @@ pub enum Refusal {
     Syntax(usize),
     /// Past a limit of depth or number.
     TooLong,
-    /// A statement that isn't served.
+    /// A statement that isn't supported.
     Unsupported,
 }
 
@@ -38,7 +38,7 @@ impl<T: Drop> From<AllocFailed<T>> for Refusal {
 }
 
 /// What is next goes on with no statement.
-pub fn unexpected(tokens: Tokens<'_>) -> Refusal
+pub fn unexpected(tokens: Rest<'_>) -> Refusal
     ensures { result ≡ Syntax (length tokens.now) }
 {
     Refusal::Syntax(tokens.len())

@@ -1,38 +1,38 @@
 //! Tokens as the rules take them.
 
 ghost use Rattle.std.specs.Prelude.{◌≡◌, IfOk};
-ghost use Rattle.expressions.specs.Pieces.{pieces, seen, spelling_at};
+ghost use Rattle.expressions.specs.Symbols.{symbols, seen, spelling_at};
 
 use lexer::{Kind, Token};
 use std::alloc::{AllocError, Global};
 
 /// The tokens of the whole statement, with their texts.
-pub type Spelled<'a> = &'a [Token<'a>];
+pub type SourceTokens<'a> = &'a [Token<'a>];
 
 /// What is left of the statement.
-pub type Tokens<'a> = &'a [Tok];
+pub type Rest<'a> = &'a [TokenAt];
 
 /// A token without its text, which stands at this place of the whole statement's tokens.
 #[derive(Clone, Copy, Debug)]
-pub struct Tok {
+pub struct TokenAt {
     pub kind: Kind,
     pub place: usize,
 }
 
 /// All tokens of a statement.
-pub fn all(alloc: Global, spelled: Spelled<'_>) -> Result<Vec<Tok>, AllocError>
-    ensures { IfOk result (λ tokens. seen spelled.now tokens.items ≡ pieces spelled.now) }
+pub fn all(alloc: Global, spelled: SourceTokens<'_>) -> Result<Vec<TokenAt>, AllocError>
+    ensures { IfOk result (λ tokens. seen spelled.now tokens.items ≡ symbols spelled.now) }
 {
     let mut tokens = Vec::new(alloc);
     for (place, token) in spelled.iter().enumerate() {
         let kind = token.kind;
-        tokens.push(Tok { kind, place })?;
+        tokens.push(TokenAt { kind, place })?;
     }
     Ok(tokens)
 }
 
 /// The text of a token.
-pub fn spelling<'a>(spelled: Spelled<'a>, token: Tok) -> &'a str
+pub fn spelling<'a>(spelled: SourceTokens<'a>, token: TokenAt) -> &'a str
     ensures { result.now ≡ spelling_at spelled.now token.place }
 {
     match spelled.get(token.place) {

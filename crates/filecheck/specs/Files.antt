@@ -1,21 +1,22 @@
 -- Which database the two files stand for together (Database File Format, "The Write-Ahead Log").
-use Rattle.std.specs.Prelude.{◌≡◌, ◌⊎◌, ℕ, Option, List}
+use Rattle.std.specs.Prelude.{◌≡◌, ◌≤◌, ◌⊎◌, ℕ, Option, List}
 use Rattle.disk.specs.File.{File, Version, versions, IsLeft}
 use Rattle.dbheader.specs.Header.{IsHeader, counted_of}
 use Rattle.dbheader.specs.declared.fields.Header.{Header}
-use Rattle.wal.specs.View.{IsFilesView, IsServed}
+use Rattle.wal.specs.View.{IsFilesView, AreWithinLimits}
 use Rattle.catalog.specs.Database.{Database}
 use Rattle.filecheck.specs.Schema.{Language}
 use Rattle.filecheck.specs.Stands.{StandsFor}
 
 -- The database file begins with a header that tells the size of a page; the file and the log make one view of pages,
--- within the limits; and these pages stand for the database.
+-- within the limits; no more than 1,000,000 frames of the log are committed; and these pages stand for the database.
 pub record FilesStandFor (language : Language) (db log : List ℕ) (database : Database) : Type 0 where
   pub header : Header
   pub header_is : IsHeader db header
   pub pages : List (List ℕ)
   pub view : IsFilesView header.page_size (counted_of header) db log pages
-  pub served : IsServed header.page_size pages
+  pub few : view.frames ≤ 1000000
+  pub served : AreWithinLimits header.page_size pages
   pub stands : StandsFor language header.page_size pages database
 
 -- two pairs of files make the same views
@@ -25,11 +26,11 @@ AreSameViews db log other_db other_log =
     → (IsFilesView page_size counted db log pages → IsFilesView page_size counted other_db other_log pages)
     × (IsFilesView page_size counted other_db other_log pages → IsFilesView page_size counted db log pages)
 
--- a stop could leave it before, or it is what a read gave
+-- a crash could leave it before, or it is what a read gave
 abbrev pub CouldBe : File → List ℕ → Type 0
 CouldBe file content = IsLeft (versions file) content ⊎ (content ≡ file.content)
 
--- What a stop may leave while two files are opened, where these are their versions by now: what it could leave before or
+-- What a crash may leave while two files are opened, where these are their versions by now: what it could leave before or
 -- what was read of each; or the database file as it was read, beside a log that makes the same views.
 abbrev pub OpensAsBefore : File → File → List Version → List Version → Type 0
 OpensAsBefore old_db old_log db_versions log_versions =

@@ -18,7 +18,7 @@ first_of (trunk ∷ trunks) = trunk.page
 abbrev pub pages_of : List Trunk → List ℕ
 pages_of trunks = flat_map (λ trunk. trunk.page ∷ trunk.leaves) trunks
 
--- A trunk page: the next trunk, 0 at the last, how many pages it lists, and their numbers, for which there is room but for
+-- A trunk page: the next trunk, 0 at the last, how many pages it lists, and their numbers, for which there is room except for
 -- two. What is on the pages that it lists doesn't matter.
 pub record IsTrunk (map : PageMap) (usable : ℕ) (trunk : Trunk) (next : ℕ) : Type 0 where
   pub has : Has map trunk.page
@@ -29,7 +29,7 @@ pub record IsTrunk (map : PageMap) (usable : ℕ) (trunk : Trunk) (next : ℕ) :
   pub leaves : AllByRecursion (Has map) trunk.leaves
   pub leaves_near : AllByRecursion (λ leaf. leaf < 2 ^ 32) trunk.leaves
 
--- these trunks stand one behind the other
+-- these trunks stand one after the other
 abbrev pub AreTrunks : PageMap → ℕ → List Trunk → Type 0
 AreTrunks map usable [] = ⊤
 AreTrunks map usable (trunk ∷ trunks) = IsTrunk map usable trunk (first_of trunks) × AreTrunks map usable trunks

@@ -104,7 +104,7 @@ is_integer_named name c = is_same_name name c.name && is_integer_word c.declared
 abbrev pub is_rowid_key : TableDefinition → Key → Bool
 is_rowid_key definition key = key.is_primary && elim key.columns [ [] ↦ false | name ∷ names ↦ length names == 0 && list_any (is_integer_named name) definition.columns ]
 
--- the place of the column of a name, behind so many others
+-- the place of the column of a name, after so many others
 abbrev pub place_from : ℕ → Name → List TableColumn → Option ℕ
 place_from n name [] = None
 place_from n name (c ∷ columns) = if is_same_name name c.name then Some n else place_from (n + 1) name columns

@@ -102,19 +102,19 @@ pub record IsTriggerRow (language : Language) (db : Database) (row : SchemaRow) 
   pub root : row.root ≡ 0
 
 -- the row says this object
-abbrev pub Says : Language → Database → SchemaRow → Object → Type 0
-Says language db row (ATable t) = IsTableRow language db row t
-Says language db row (AnIndex i) = IsIndexRow language db row i ⊎ IsAutomaticRow db row i
-Says language db row (AView v) = IsViewRow language db row v
-Says language db row (ATrigger t) = IsTriggerRow language db row t
+abbrev pub IsRowOfObject : Language → Database → SchemaRow → Object → Type 0
+IsRowOfObject language db row (ATable t) = IsTableRow language db row t
+IsRowOfObject language db row (AnIndex i) = IsIndexRow language db row i ⊎ IsAutomaticRow db row i
+IsRowOfObject language db row (AView v) = IsViewRow language db row v
+IsRowOfObject language db row (ATrigger t) = IsTriggerRow language db row t
 
 -- the row says the object of its name
-pub record IsRowOf (language : Language) (db : Database) (row : SchemaRow) : Type 0 where
+pub record IsSchemaRowOf (language : Language) (db : Database) (row : SchemaRow) : Type 0 where
   pub is : Object
   pub found : object db row.name ≡ Some is
-  pub says : Says language db row is
+  pub says : IsRowOfObject language db row is
 
 -- The rows are the objects of the database: one for each name, in any order, and each says the object of its name.
 pub record IsSchema (language : Language) (rows : List SchemaRow) (db : Database) : Type 0 where
   pub names : sorted name_order (map (λ row. folded row.name) rows) ≡ map (λ o. o.0) db
-  pub each : AllByRecursion (IsRowOf language db) rows
+  pub each : AllByRecursion (IsSchemaRowOf language db) rows

@@ -43,7 +43,7 @@ pub record Leaf : Type 0 where
   pub page : ℕ
   pub entries : List Held
 
--- an interior page over subtrees of the type T, with an entry behind each but the last
+-- an interior page over subtrees of the type T, with an entry after each but the last
 pub record Branch (T : Type 0) : Type 0 where
   pub page : ℕ
   pub kids : List (T × Held)
@@ -74,7 +74,7 @@ abbrev pub pages_of : (depth : ℕ) → Tree depth → List ℕ
 pages_of zero t = t.page ∷ flat_map (λ held. held.pages) t.entries
 pages_of (suc depth) t = t.page ∷ each_of (pages_of depth) (λ held. held.pages) t.kids t.last
 
--- the children of an interior page but for the last, each with the entry behind it
+-- the children of an interior page except for the last, each with the entry after it
 abbrev pub children : {T : Type 0} → (T → ℕ) → List (T × Held) → List (ℕ × Held)
 children page [] = []
 children page (kid ∷ kids) = (page kid.0, kid.1) ∷ children page kids

@@ -30,9 +30,9 @@ ends_word z n some le stops = (some, le, λ _. cut_before z n le (λ lt. not_in_
 pub cut_start : (z : List ℕ) → IsUtf8 z → IsCharBoundary z 0
 cut_start z utf8 = IsCharBoundary-start z utf8
 
--- behind what stands in front of it
-pub ends_behind : (z : List ℕ) (k b n : ℕ) → b < 128 → EndsOn b (slice_range z k (length z)) n → Ends z (n + k)
-ends_behind z k b n low ends =
+-- after what stands in front of it
+pub is_ended_after : (z : List ℕ) (k b n : ℕ) → b < 128 → EndsOn b (slice_range z k (length z)) n → Ends z (n + k)
+is_ended_after z k b n low ends =
     let len = length-drop k z in
     let same : slice_range z k (length z) ≡ drop k z = take_all (length z - k) (drop k z) (omega (arith, length-drop k z)) in
     let (some, in_rest, on) = subst (λ (y : List ℕ). EndsOn b y n) same ends in
@@ -48,7 +48,7 @@ pub space_cut : (z : List ℕ) → 0 < length z → is_space (slice_index z 0) �
 space_cut z some e utf8 = cut_after z 1 (lit< tt) (omega arith) (space_low (slice_index z 0) e) utf8
 
 pub comment_cut : (z : List ℕ) (n : ℕ) → comment (slice_range z 2 (length z)) ≡ Some n → IsUtf8 z → IsCharBoundary z (n + 2)
-comment_cut z n is utf8 = (ends_behind z 2 47 n (lit< tt) (comment_ends (slice_range z 2 (length z)) n is)).2 utf8
+comment_cut z n is utf8 = (is_ended_after z 2 47 n (lit< tt) (comment_ends (slice_range z 2 (length z)) n is)).2 utf8
 
 pub ends_mark : (z : List ℕ) (n : ℕ) → 2 ≤ length z → EndsMark (slice_index z 0) (slice_index z 1) n → Ends z n
 ends_mark z n le (inl (one, low)) = subst (Ends z) (sym one) (ends_after z 1 (lit< tt) (omega arith) low)

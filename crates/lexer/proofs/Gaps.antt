@@ -8,8 +8,8 @@ pub either : (b : Bool) → (b ≡ true) ⊎ (b ≡ false)
 either true = inl refl
 either false = inr refl
 
-pub one_behind : (c b : ℕ) (z : Text) (n m : ℕ) → EndsOn c z m → n ≡ 1 + m → EndsOn c (b ∷ z) n
-one_behind c b z n m (some, le, on) e =
+pub one_after : (c b : ℕ) (z : Text) (n m : ℕ) → EndsOn c z m → n ≡ 1 + m → EndsOn c (b ∷ z) n
+one_after c b z n m (some, le, on) e =
     let p : n - 1 ≡ suc (m - 1) = omega arith in
     (omega arith, omega arith, rw p on)
 
@@ -34,7 +34,7 @@ comment_ends (b ∷ z) n e = elim (either (b == 42 && next_byte z == 47)) [
   | inr h ↦
       let e' : plus 1 (comment z) ≡ Some n = rw h at e in
       let (m, is, long) = plus_some 1 n (comment z) e' in
-      one_behind 47 b z n m (comment_ends z m is) long
+      one_after 47 b z n m (comment_ends z m is) long
 ]
 
 stops : (n : ℕ) (z : Text) → piece z ≡ 0 → gap_from n z ≡ z

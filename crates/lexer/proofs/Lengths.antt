@@ -7,7 +7,7 @@ use Rattle.lexer.specs.Bytes.{is_in}
 use Rattle.lexer.specs.declared.class.Class.TheVariants as class
 use Rattle.lexer.specs.Lex.{Text, plus, next_byte, closing, second, blob, number_from}
 use Rattle.lexer.specs.Spans.{EndsOn}
-use Rattle.lexer.proofs.Gaps.{either, one_behind, plus_some}
+use Rattle.lexer.proofs.Gaps.{either, one_after, plus_some}
 
 front_is : (c : ℕ) (z : Text) → next_byte z ≡ c → 0 < c → (0 < length z) × (slice_index z 0 ≡ c)
 front_is c [] e some = absurd (omega (arith, e))
@@ -21,8 +21,8 @@ behind c k z e some =
     let there : slice_index z (k + 0) ≡ c = rw get_or-drop at is in
     (omega arith, omega arith, subst (λ (i : ℕ). slice_index z i ≡ c) p there)
 
-quote_behind : (n : ℕ) (z : Text) → (n % 2 == 0 && next_byte (drop n z) == 39) ≡ true → next_byte (drop n z) ≡ 39
-quote_behind n z e = let k : ℕ = next_byte (drop n z) in grind (arith, nat_tests)
+quote_after : (n : ℕ) (z : Text) → (n % 2 == 0 && next_byte (drop n z) == 39) ≡ true → next_byte (drop n z) ≡ 39
+quote_after n z e = let k : ℕ = next_byte (drop n z) in grind (arith, nat_tests)
 
 pub blob_ends : (z : Text) (n : ℕ) → blob z ≡ Some n → EndsOn 39 z n
 unfolding blob
@@ -31,7 +31,7 @@ blob_ends z n e =
     elim (either (k % 2 == 0 && next_byte (drop k z) == 39)) [
       | inl h ↦
           let long : k + 1 ≡ n = let e' : Some (k + 1) ≡ Some n = rw h at e in cc in
-          subst (EndsOn 39 z) long (behind 39 k z (quote_behind k z h) (lit< tt))
+          subst (EndsOn 39 z) long (behind 39 k z (quote_after k z h) (lit< tt))
       | inr h ↦ let e' : None ≡ Some n = rw h at e in absurd cc
     ]
 
@@ -48,7 +48,7 @@ mutual
     | inr h ↦
         let e' : plus 1 (closing q z) ≡ Some n = rw h at e in
         let (m, is, long) = plus_some 1 n (closing q z) e' in
-        one_behind q b z n m (closing_ends q z m is) long
+        one_after q b z n m (closing_ends q z m is) long
   ]
 
   second_ends : (q b : ℕ) (z : Text) (n : ℕ) → (b == q) ≡ true → second q z ≡ Some n → EndsOn q (b ∷ z) n
@@ -57,7 +57,7 @@ mutual
     | inl h' ↦
         let e' : plus 2 (closing q z) ≡ Some n = rw h' at e in
         let (m, is, long) = plus_some 2 n (closing q z) e' in
-        one_behind q b (c ∷ z) n (1 + m) (one_behind q c z (1 + m) m (closing_ends q z m is) refl) (omega arith)
+        one_after q b (c ∷ z) n (1 + m) (one_after q c z (1 + m) m (closing_ends q z m is) refl) (omega arith)
     | inr h' ↦ let e' : Some 1 ≡ Some n = rw h' at e in at_front q b (c ∷ z) n h cc
   ]
 

@@ -4,7 +4,7 @@ use Rattle.std.proofs.lemmas.Bool.Decides.{nat_tests}
 use Rattle.std.proofs.Math.Seq.{take-append-add, drop-append_seam}
 use Rattle.lexer.specs.declared.token.Kind.{Kind}
 use Rattle.lexer.specs.Cut as c
-use Rattle.lexer.specs.Cut.{IsGap, Spells, Cuts, end_behind, earlier}
+use Rattle.lexer.specs.Cut.{IsGap, Spells, Cuts, end_after, earlier}
 use Rattle.lexer.specs.Lex.{Text, Lexed, next_byte, is_minus, pair, single}
 
 short_word : (b next : ℕ) (z : Text) → (b == 88 && next_byte (z ++ next ∷ []) == 39) ≡ false → (b == 88 && next_byte (z ++ 0 ∷ []) == 39) ≡ false
@@ -24,7 +24,7 @@ at_end (c.blob z e even) = c.blob z e even
 at_end (c.two e) = c.two e
 at_end (c.one {b = b} {kind = kind} e none shut line) = c.one e (no_pair b kind e) (grind (arith, nat_tests)) (grind (arith, nat_tests))
 
--- a token may stand before a beginning of what stands behind it
+-- a token may stand before a beginning of what stands after it
 spells_before : {m : Bool} {kind : Kind} {s : Text} (n : ℕ) (rest : Text) → Spells m kind s (next_byte rest) → Spells m kind s (next_byte (take n rest))
 spells_before zero rest sp = at_end sp
 spells_before (suc n) [] sp = sp
@@ -32,9 +32,9 @@ spells_before (suc n) (b ∷ rest) sp = sp
 
 -- tokens at the front, of a text that begins so much earlier
 record Front (k base : ℕ) (m : Bool) (z : Text) (ts : List Lexed) : Type 0 where
-  grows : base + k ≤ end_behind (base + k) ts
-  ends : end_behind base (earlier k ts) ≡ end_behind (base + k) ts - k
-  cuts : Cuts base m (take (end_behind (base + k) ts - (base + k)) z) (earlier k ts)
+  grows : base + k ≤ end_after (base + k) ts
+  ends : end_after base (earlier k ts) ≡ end_after (base + k) ts - k
+  cuts : Cuts base m (take (end_after (base + k) ts - (base + k)) z) (earlier k ts)
 
 front_cuts : (ts : List Lexed) {at : ℕ} {m : Bool} {z : Text} {all : List Lexed} (k base : ℕ) (us : List Lexed) → Cuts at m z all → at ≡ base + k → all ≡ ts ++ us → Front k base m z ts
 front_cuts [] {m = m} {z = z} k base us d e same =
@@ -51,10 +51,10 @@ front_cuts (t ∷ ts) k base us (c.cut {at = at} {m = m} {g = g} {s = s} {rest =
   where
     one : Front k (base + length g + length s) (is_minus kind) rest ts → Front k base m (g ++ (s ++ rest)) (record { kind = kind; text = s; start = at + length g } ∷ ts)
     one inner =
-        let end : ℕ = end_behind (at + length g + length s) ts in
+        let end : ℕ = end_after (at + length g + length s) ts in
         let place : at + length g + length s ≡ (base + length g + length s) + k = omega (arith, e) in
-        let same_end : end ≡ end_behind ((base + length g + length s) + k) ts = ap (λ (n : ℕ). end_behind n ts) place in
-        let n : ℕ = end_behind ((base + length g + length s) + k) ts - ((base + length g + length s) + k) in
+        let same_end : end ≡ end_after ((base + length g + length s) + k) ts = ap (λ (n : ℕ). end_after n ts) place in
+        let n : ℕ = end_after ((base + length g + length s) + k) ts - ((base + length g + length s) + k) in
         let some = inner.grows in
         let count : end - (base + k) ≡ length g + (length s + n) = omega (arith, e) in
         let text : take (end - (base + k)) (g ++ (s ++ rest)) ≡ g ++ (s ++ take n rest) =
@@ -62,16 +62,16 @@ front_cuts (t ∷ ts) k base us (c.cut {at = at} {m = m} {g = g} {s = s} {rest =
         let start : at + length g - k ≡ base + length g = omega (arith, e) in
         record {
           grows = omega (arith, e);
-          ends = ap (λ (j : ℕ). end_behind (j + length s) (earlier k ts)) start ∙ inner.ends ∙ ap (λ (j : ℕ). j - k) (sym same_end);
+          ends = ap (λ (j : ℕ). end_after (j + length s) (earlier k ts)) start ∙ inner.ends ∙ ap (λ (j : ℕ). j - k) (sym same_end);
           cuts = rw (text, start) (c.cut d (spells_before n rest sp) inner.cuts);
         }
 
 -- the tokens of a part, and where the last of them ends in it
 record Part (z : Text) (t : Lexed) (ts : List Lexed) : Type 0 where
-  cuts : Cuts 0 false (slice_range z t.start (end_behind t.start (t ∷ ts))) (earlier t.start (t ∷ ts))
-  ends : end_behind 0 (earlier t.start (t ∷ ts)) ≡ end_behind t.start (t ∷ ts) - t.start
+  cuts : Cuts 0 false (slice_range z t.start (end_after t.start (t ∷ ts))) (earlier t.start (t ∷ ts))
+  ends : end_after 0 (earlier t.start (t ∷ ts)) ≡ end_after t.start (t ∷ ts) - t.start
 
--- the first token and those behind it, from where it begins
+-- the first token and those after it, from where it begins
 from_first : {at : ℕ} {z : Text} {all : List Lexed} (t : Lexed) (ts us : List Lexed) → Cuts at false z all → at ≡ 0 → all ≡ t ∷ (ts ++ us) → Part z t ts
 from_first t ts us (c.done d) e same = absurd cc
 from_first t ts us (c.ends_in_comment z d l) e same = absurd cc
@@ -87,15 +87,15 @@ from_first t ts us (c.cut {at = at} {g = g} {s = s} {rest = rest} {kind = kind} 
     let f = front_cuts (record { kind = kind; text = s; start = n } ∷ ts) n 0 us alone (omega arith) (ap (λ (x : List Lexed). record { kind = kind; text = s; start = n } ∷ x) left) in
     let text : drop n (g ++ (s ++ rest)) ≡ s ++ rest = drop-append_seam g (s ++ rest) in
     let none : 0 + n ≡ n = omega arith in
-    let cuts : Cuts 0 false (take (end_behind (n + length s) ts - n) (s ++ rest)) (earlier n (record { kind = kind; text = s; start = n } ∷ ts)) =
-    subst (λ (k : ℕ). Cuts 0 false (take (end_behind (n + length s) ts - k) (s ++ rest)) (earlier n (record { kind = kind; text = s; start = n } ∷ ts))) none f.cuts in
-    let here : Cuts 0 false (slice_range (g ++ (s ++ rest)) n (end_behind n (record { kind = kind; text = s; start = n } ∷ ts))) (earlier n (record { kind = kind; text = s; start = n } ∷ ts)) = rw text cuts in
-    let ends : end_behind 0 (earlier n (record { kind = kind; text = s; start = n } ∷ ts)) ≡ end_behind n (record { kind = kind; text = s; start = n } ∷ ts) - n = f.ends in
+    let cuts : Cuts 0 false (take (end_after (n + length s) ts - n) (s ++ rest)) (earlier n (record { kind = kind; text = s; start = n } ∷ ts)) =
+    subst (λ (k : ℕ). Cuts 0 false (take (end_after (n + length s) ts - k) (s ++ rest)) (earlier n (record { kind = kind; text = s; start = n } ∷ ts))) none f.cuts in
+    let here : Cuts 0 false (slice_range (g ++ (s ++ rest)) n (end_after n (record { kind = kind; text = s; start = n } ∷ ts))) (earlier n (record { kind = kind; text = s; start = n } ∷ ts)) = rw text cuts in
+    let ends : end_after 0 (earlier n (record { kind = kind; text = s; start = n } ∷ ts)) ≡ end_after n (record { kind = kind; text = s; start = n } ∷ ts) - n = f.ends in
     let part : Part (g ++ (s ++ rest)) (record { kind = kind; text = s; start = n }) ts = record { cuts = here; ends = ends } in
     subst (λ (t : Lexed). Part (g ++ (s ++ rest)) t ts) (sym first) part
 
-pub part_is_cut : (z : Text) (t : Lexed) (ts us : List Lexed) → Cuts 0 false z (t ∷ (ts ++ us)) → Cuts 0 false (slice_range z t.start (end_behind t.start (t ∷ ts))) (earlier t.start (t ∷ ts))
+pub part_is_cut : (z : Text) (t : Lexed) (ts us : List Lexed) → Cuts 0 false z (t ∷ (ts ++ us)) → Cuts 0 false (slice_range z t.start (end_after t.start (t ∷ ts))) (earlier t.start (t ∷ ts))
 part_is_cut z t ts us d = (from_first t ts us d refl refl).cuts
 
-pub part_ends : (z : Text) (t : Lexed) (ts us : List Lexed) → Cuts 0 false z (t ∷ (ts ++ us)) → end_behind 0 (earlier t.start (t ∷ ts)) ≡ end_behind t.start (t ∷ ts) - t.start
+pub part_ends : (z : Text) (t : Lexed) (ts us : List Lexed) → Cuts 0 false z (t ∷ (ts ++ us)) → end_after 0 (earlier t.start (t ∷ ts)) ≡ end_after t.start (t ∷ ts) - t.start
 part_ends z t ts us d = (from_first t ts us d refl refl).ends

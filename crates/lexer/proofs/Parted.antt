@@ -40,7 +40,7 @@ lined (b ∷ y) = by_test (b == 10) refl (lined y)
     by_test false e (last all) = last (ap not e, all)
     by_test false e (broken z w all is) = broken (b ∷ z) w (ap not e, all) (ap (λ (x : Text). b ∷ x) is)
 
--- a comment with what stands behind it
+-- a comment with what stands after it
 record Commented (y : Text) : Type 0 where
   body : Text
   rest : Text

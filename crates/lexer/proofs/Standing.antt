@@ -41,7 +41,7 @@ end_step z rest r len within end le below is =
     is ∙ ap (λ (y : List ℕ). drop (length (drop len rest) - length r) (drop len y)) end
     ∙ ap (drop (length (drop len rest) - length r)) (drop-drop len (length z - length rest) z) ∙ drop-drop _ _ z ∙ ap (λ (i : ℕ). drop i z) n
 
--- the tokens with those behind them
+-- the tokens with those after them
 pub stands_on : (at : ℕ) (z : List ℕ) (ts : List Token) → Stand at z ts → at ≤ length z
 stands_on at z [] le = le
 stands_on at z (t ∷ ts) (part, more) = omega (arith, stands_on (end_of t) z ts more)

@@ -308,8 +308,8 @@ front_stands m start b y kind n line e = elim (either (is_ascii_digit b)) [
       other_stands m b y kind n line (found_some start (other (b ∷ y)) (kind, n) e')
 ]
 
-minus_behind : (b d : ℕ) (y : Text) → (b == 45 && d == 45) ≡ true → piece (b ∷ d ∷ y) ≢ 0
-minus_behind b d y e p =
+minus_after : (b d : ℕ) (y : Text) → (b == 45 && d == 45) ≡ true → piece (b ∷ d ∷ y) ≢ 0
+minus_after b d y e p =
     let first : b ≡ 45 = grind (arith, nat_tests) in
     let is : b ∷ d ∷ y ≡ 45 ∷ 45 ∷ y = let next = both_hold b d 45 45 e in λ i. first i ∷ next i ∷ y in
     let none : piece (45 ∷ 45 ∷ y) ≡ 0 = ap piece (sym is) ∙ p in
@@ -317,4 +317,4 @@ minus_behind b d y e p =
 
 pub no_comment : (b : ℕ) (y : Text) → piece (b ∷ y) ≡ 0 → (b == 45 && next_byte y == 45) ≡ false
 no_comment b [] p = grind (arith, nat_tests)
-no_comment b (d ∷ y) p = elim (either (b == 45 && d == 45)) [ inl e ↦ absurd (minus_behind b d y e p) | inr e ↦ e ]
+no_comment b (d ∷ y) p = elim (either (b == 45 && d == 45)) [ inl e ↦ absurd (minus_after b d y e p) | inr e ↦ e ]

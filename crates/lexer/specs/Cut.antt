@@ -1,4 +1,4 @@
--- Which token lists a text has: what stands between tokens, how each is spelled, and what may not stand behind it.
+-- Which token lists a text has: what stands between tokens, how each is spelled, and what may not stand after it.
 use Rattle.std.specs.Prelude.{◌≡◌, ◌≢◌, ℕ, ◌+◌, ◌-◌, ◌%◌, Bool, true, false, not, ◌&&◌, if◌then◌else◌, ◌==◌, List, [], ◌∷◌, ◌++◌, length, map, Some, None}
 use Rattle.lexer.specs.Bytes.{is_space, begins_word, is_in}
 use Rattle.lexer.specs.declared.class.Class.TheVariants as class
@@ -30,7 +30,7 @@ pub data IsGap : Text → Type 0 where
   line : {g : Text} (z : Text) → Every not_line z → IsGap g → IsGap (45 ∷ 45 ∷ z ++ 10 ∷ g)
   block : {g : Text} (z : Text) → IsComment z → IsGap g → IsGap (47 ∷ 42 ∷ z ++ g)
 
--- How a token is spelled, behind a minus or not, and which byte may stand behind it (0 at the end).
+-- How a token is spelled, after a minus or not, and which byte may stand after it (0 at the end).
 pub data Spells : Bool → Kind → Text → ℕ → Type 0 where
   word : {m : Bool} {b next : ℕ} {z : Text} → begins_word b ≡ true → Every (is_in class.Word) z → is_in class.Word next ≡ false
       → (b == 88 && next_byte (z ++ next ∷ []) == 39) ≡ false → Spells m (word_kind (reserved (b ∷ z))) (b ∷ z) next
@@ -43,7 +43,7 @@ pub data Spells : Bool → Kind → Text → ℕ → Type 0 where
   one : {m : Bool} {b next : ℕ} {kind : Kind} → single b ≡ Some kind → pair b next ≡ None → (b == 47 && next == 42) ≡ false
       → (b == 45 && next == 45) ≡ false → Spells m kind (b ∷ []) next
 
--- the tokens of the text that begins at this place, behind a minus or not
+-- the tokens of the text that begins at this place, after a minus or not
 pub data Cuts : ℕ → Bool → Text → List Lexed → Type 0 where
   done : {at : ℕ} {m : Bool} {g : Text} → IsGap g → Cuts at m g []
   -- a last comment without a line feed
@@ -53,9 +53,9 @@ pub data Cuts : ℕ → Bool → Text → List Lexed → Type 0 where
       → Cuts at m (g ++ (s ++ rest)) (record { kind = kind; text = s; start = at + length g } ∷ ts)
 
 -- where the last of these tokens ends, or this place where there is none
-abbrev pub end_behind : ℕ → List Lexed → ℕ
-end_behind at [] = at
-end_behind at (t ∷ ts) = end_behind (t.start + length t.text) ts
+abbrev pub end_after : ℕ → List Lexed → ℕ
+end_after at [] = at
+end_after at (t ∷ ts) = end_after (t.start + length t.text) ts
 
 -- these tokens, each so much earlier
 abbrev pub earlier : ℕ → List Lexed → List Lexed

@@ -94,11 +94,11 @@ unfoldable mutual
   second q [] = Some 1
   second q (c ∷ z) = if c == q then plus 2 (closing q z) else Some 1
 
--- how many bytes a blob has behind `X'`
+-- how many bytes a blob has after `X'`
 unfoldable pub blob : Text → Option ℕ
 blob z = let n = prefix_len (is_in class.Hex) z in if n % 2 == 0 && next_byte (drop n z) == 39 then Some (n + 1) else None
 
--- the value of decimal digits behind those of a number
+-- the value of decimal digits after those of a number
 abbrev pub number_from : ℕ → Text → ℕ
 number_from n [] = n
 number_from n (b ∷ z) = number_from (n * 10 + (b - 48)) z
@@ -106,7 +106,7 @@ number_from n (b ∷ z) = number_from (n * 10 + (b - 48)) z
 abbrev pub digits : Text → ℕ
 digits z = prefix_len (is_in class.Digit) z
 
--- how many bytes a point and the digits behind it have
+-- how many bytes a point and the digits after it have
 unfoldable pub fraction : Text → ℕ
 fraction [] = 0
 fraction (b ∷ z) = if b == 46 then digits z + 1 else 0
@@ -120,7 +120,7 @@ exponent [] = 0
 exponent (b ∷ z) =
     if (b == 101 || b == 69) && nat_lt 0 (digits (drop (sign z) z)) then digits (drop (sign z) z) + (sign z + 1) else 0
 
--- whether a number of this value may stand, behind a minus or not
+-- whether a number of this value may stand, after a minus or not
 abbrev pub is_whole : Bool → ℕ → Bool
 is_whole after_minus n = nat_lt n (2 ^ 63) || (n == 2 ^ 63 && after_minus)
 

@@ -13,7 +13,7 @@ EndsOn b z n = (0 < n) × (n ≤ length z) × (slice_index z (n - 1) ≡ b)
 abbrev pub Ends : List ℕ → ℕ → Type 0
 Ends z n = (0 < n) × (n ≤ length z) × (IsUtf8 z → IsCharBoundary z n)
 
--- a mark that two bytes begin may end behind this many
+-- a mark that two bytes begin may end after this many
 abbrev pub EndsMark : ℕ → ℕ → ℕ → Type 0
 EndsMark b c n = ((n ≡ 1) × (b < 128)) ⊎ ((n ≡ 2) × (c < 128))
 

@@ -6,7 +6,7 @@ ghost use Rattle.lexer.specs.Lex as spec;
 
 use crate::class::{is_space, next_byte};
 
-/// How many bytes the line goes on, without its line feed.
+/// The bytes up to the line's end, without its line feed.
 fn line(text: &[u8]) -> usize
     ensures value { result ≡ spec.line text.now }
     ensures within { result ≤ length text.now }
@@ -44,7 +44,7 @@ fn comment(text: &[u8]) -> Option<usize>
     None
 }
 
-/// How many bytes the space or comment at the front has. A comment that isn't closed is none.
+/// The bytes of the space or comment at the front. A comment that isn't closed is none.
 #[tactic(auto, using(crate::proofs::Cuts::cut_after, crate::proofs::Cuts::cut_before, crate::proofs::Cuts::cut_start, std::proofs::lemmas::Grind::common_steps), unfolding(crate::specs::Lex::piece))]
 fn piece(text: &[u8]) -> usize
     ensures value { result ≡ spec.piece text.now }

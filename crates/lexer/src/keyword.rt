@@ -168,7 +168,7 @@ fn lookup(mut table: &[(&[u8], Keyword)], word: &[u8]) -> Option<Keyword>
     None
 }
 
-/// Whether both are the same but for the case of the ASCII letters.
+/// Whether both are the same except for the case of the ASCII letters.
 fn is_same(a: &[u8], b: &[u8]) -> bool
     ensures { result ≡ str_eq_ignore_ascii_case a.now b.now }
 {

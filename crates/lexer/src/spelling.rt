@@ -53,7 +53,7 @@ fn closing(quote: u8, text: &[u8]) -> Option<usize>
     None
 }
 
-/// How many bytes a blob has behind `X'`, its closing quote with them.
+/// How many bytes a blob has after `X'`, its closing quote with them.
 #[tactic(auto, unfolding(crate::specs::Lex::blob))]
 fn blob(text: &[u8]) -> Option<usize>
     ensures value { result ≡ spec.blob text.now }
@@ -94,7 +94,7 @@ fn value(digits: &[u8]) -> Option<u64>
     Some(value)
 }
 
-/// How many bytes a point and the digits behind it have, where they come next.
+/// How many bytes a point and the digits after it have, where they come next.
 #[tactic(auto, unfolding(crate::specs::Lex::fraction))]
 fn fraction(text: &[u8]) -> usize
     ensures value { result ≡ spec.fraction text.now }
@@ -133,7 +133,7 @@ fn exponent(text: &[u8]) -> usize
     }
 }
 
-/// How many bytes a number has behind its first digits, where it is a real.
+/// How many bytes a number has after its first digits, where it is a real.
 #[tactic(auto, unfolding(crate::specs::Lex::real_len))]
 fn real_len(text: &[u8]) -> usize
     ensures value { result ≡ spec.real_len text.now }
@@ -143,7 +143,7 @@ fn real_len(text: &[u8]) -> usize
     fraction + exponent(&text[fraction..])
 }
 
-/// A number; 9223372036854775808 only behind a minus.
+/// A number; 9223372036854775808 only after a minus.
 #[tactic(auto, using(crate::proofs::Cuts::ends_word), unfolding(crate::specs::Lex::number))]
 fn number(text: &[u8], start: usize, after_minus: bool) -> R<(Kind, usize)>
     requires { (0 < length text.now) × (bytes.is_in Class.Digit (slice_index text.now 0) ≡ true) }

@@ -14,11 +14,11 @@ pub enum Kind {
     Name,
     /// A name in double quotes.
     QuotedName,
-    /// A number; 9223372036854775808 stands only behind a minus.
+    /// A number; 9223372036854775808 stands only after a minus.
     Integer(u64),
     /// A text in single quotes.
     Text,
-    /// Hexadecimal digits in single quotes behind an X.
+    /// Hexadecimal digits in single quotes after an X.
     Blob,
     Dot,
     Comma,

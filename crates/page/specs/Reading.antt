@@ -45,12 +45,12 @@ number high low = from_be_bytes w16 (high ∷ low ∷ [])
 unfoldable pub is_whole : ℕ → ℕ → Bool
 is_whole page_size payload = nat_le (payload + 35) page_size
 
--- a payload of so many bytes, and the bytes behind it
+-- a payload of so many bytes, and the bytes after it
 unfoldable pub payload_at : ℕ → ℕ → List ℕ → Result (List ℕ × List ℕ) Wrong
 payload_at page_size size bytes =
     if is_whole page_size size then (if nat_lt (length bytes) size then Err Broken else Ok (take size bytes, drop size bytes)) else Err Kind
 
--- a cell at the front, and the bytes behind it
+-- a cell at the front, and the bytes after it
 unfoldable pub front_at : ℕ → List ℕ → Result (Entry × List ℕ) Wrong
 front_at page_size bytes = do
   size ← or_broken (varint_at bytes)
@@ -58,7 +58,7 @@ front_at page_size bytes = do
   payload ← payload_at page_size size.0 rowid.1
   Ok (record { rowid = cast_signed w64 rowid.0; payload = payload.0 }, payload.1)
 
--- the cell that begins at an offset, and the offset behind it
+-- the cell that begins at an offset, and the offset after it
 unfoldable pub cell_at : List ℕ → ℕ → Result (Entry × ℕ) Wrong
 cell_at page offset = if nat_lt (length page) offset then Err Broken else front_at (length page) (drop offset page) >>= λ cell. Ok (cell.0, length page - length cell.1)
 
@@ -85,7 +85,7 @@ kind_at kind = if kind == 13 then Ok tt else (if kind == 2 || (kind == 5 || kind
 abbrev pub front_of : ℕ → List ℕ → Result (List ℕ) Wrong
 front_of size bytes = if nat_lt (length bytes) size then Err Broken else Ok (take size bytes)
 
--- the array of pointers behind a header
+-- the array of pointers after a header
 unfoldable pub array_at : List ℕ → Result (List ℕ) Wrong
 array_at (kind ∷ freeblock_high ∷ freeblock_low ∷ high ∷ low ∷ content_high ∷ content_low ∷ fragments ∷ rest) = do
   leaf ← kind_at kind

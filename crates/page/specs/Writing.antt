@@ -49,13 +49,13 @@ spans_below end (entry ∷ entries) = record { from = end - cell_size entry; to 
 abbrev pub content_bytes : ℕ → List ℕ
 content_bytes content = to_be_bytes w16 (content % 65536)
 
--- the bytes of a table leaf behind so many bytes
+-- the bytes of a table leaf after so many bytes
 abbrev pub node_of : ℕ → ℕ → ℕ → List Entry → List ℕ
 node_of start page_size content entries =
     leaf_header (0 ∷ 0 ∷ []) (length entries) (content_bytes content) 0
     ++ (flat_map pointer (spans_below page_size entries)
     ++ (replicate (content - (start + 8 + 2 * length entries)) 0 ++ flat_map cell_text (reverse entries)))
 
--- the page that is written, behind what stands before its header
+-- the page that is written, after what stands before its header
 unfoldable pub leaf_of : List ℕ → ℕ → List Entry → List ℕ
 leaf_of front page_size entries = front ++ node_of (length front) page_size (page_size - sum_by cell_size entries) entries

@@ -16,10 +16,10 @@ pub struct Cell<'a> {
     pub payload: &'a [u8],
 }
 
-/// Why bytes are no page that is served.
+/// Why bytes are no page that is supported.
 #[derive(Clone, Copy)]
 pub enum Wrong {
-    /// A kind of page, or a use of one, that isn't served.
+    /// A kind of page, or a use of one, that isn't supported.
     Kind,
     /// The format is broken.
     Broken,
@@ -36,7 +36,7 @@ impl From<Wrong> for Fault {
     }
 }
 
-/// Whether a payload of so many bytes lies whole on a page of a table leaf.
+/// Whether a table leaf holds a payload of `payload` bytes whole, without overflow pages.
 #[tactic(auto, unfolding(crate::specs::Reading::is_whole))]
 pub fn is_local(page_size: usize, payload: usize) -> bool
     ensures { result ≡ is_whole page_size payload }
@@ -44,7 +44,7 @@ pub fn is_local(page_size: usize, payload: usize) -> bool
     page_size >= 35 && payload <= page_size - 35
 }
 
-/// The payload at the front, of so many bytes, and the bytes behind it.
+/// The payload of `size` bytes at the front, and the bytes after it.
 #[tactic(auto, unfolding(crate::specs::Reading::payload_at))]
 fn read_payload(page_size: usize, size: usize, bytes: &[u8]) -> Result<(&[u8], &[u8]), Wrong>
     ensures { Reads (λ found. (found.0.now, found.1.now)) result (payload_at page_size size bytes.now) }
@@ -58,7 +58,7 @@ fn read_payload(page_size: usize, size: usize, bytes: &[u8]) -> Result<(&[u8], &
     Ok(bytes.split_at(size))
 }
 
-/// The cell at the front, and the bytes behind it.
+/// The cell at the front, and the bytes after it.
 #[tactic(auto, unfolding(crate::specs::Reading::front_at))]
 fn read_front(page_size: usize, bytes: &[u8]) -> Result<(Cell<'_>, &[u8]), Wrong>
     ensures { Reads (λ found. (entry_of found.0, found.1.now)) result (front_at page_size bytes.now) }
@@ -77,7 +77,7 @@ fn read_front(page_size: usize, bytes: &[u8]) -> Result<(Cell<'_>, &[u8]), Wrong
     Ok((cell, rest))
 }
 
-/// The cell that begins at an offset of the page, and the offset behind it.
+/// The cell that begins at an offset of the page, and the offset after it.
 #[tactic(auto, unfolding(crate::specs::Reading::cell_at))]
 pub fn read_cell(page: &[u8], offset: usize) -> Result<(Cell<'_>, usize), Wrong>
     ensures exact { Reads (λ found. (entry_of found.0, found.1)) result (cell_at page.now offset) }

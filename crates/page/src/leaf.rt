@@ -23,7 +23,7 @@ fn check_kind(kind: u8) -> Result<(), Wrong>
     }
 }
 
-/// The array of pointers behind the header, given the bytes from the header on.
+/// The array of pointers after the header, given the bytes from the header on.
 #[tactic(auto, unfolding(crate::specs::Reading::array_at))]
 fn read_array(node: &[u8]) -> Result<&[u8], Wrong>
     ensures exact { Reads (λ array. array.now) result (array_at node.now) }
@@ -104,7 +104,7 @@ impl<'a> Node<'a> {
         read(alloc, page, start)
     }
 
-    /// How many cells there are.
+    /// The number of cells.
     pub fn len(&self) -> usize
         ensures { result ≡ length self.now }
     {

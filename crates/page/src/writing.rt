@@ -10,7 +10,7 @@ use record::{put_varint, varint_len};
 use sqlval::{Fault, Feature, R};
 use std::alloc::{AllocError, Global};
 
-/// How many bytes a cell takes.
+/// The bytes that a cell takes.
 #[tactic(auto, unfolding(crate::specs::Writing::cell_size))]
 fn cell_len(cell: &Cell<'_>) -> usize
     requires { length cell.now.payload.now ≤ 65536 }
@@ -61,7 +61,7 @@ fn content_start(page_size: usize, start: usize, cells: &[Cell<'_>]) -> Option<u
     Some(content)
 }
 
-/// Whether the cells fit a table leaf of a page of so many bytes, whose header begins at `start`.
+/// Whether the cells fit a table leaf of `page_size` bytes whose header begins at `start`.
 pub fn fits(page_size: usize, start: usize, cells: &[Cell<'_>]) -> bool
     ensures { IsTrue result ↔ Fits page_size start (map entry_of cells.now) }
 {
@@ -85,7 +85,7 @@ fn put_pointers(out: &mut Vec<u8>, end: usize, cells: &[Cell<'_>]) -> Result<(),
     Ok(())
 }
 
-/// Writes the header of a leaf with so many cells, of which the last begins at `content`.
+/// Writes the header of a leaf with `count` cells, of which the last begins at `content`.
 fn put_header(out: &mut Vec<u8>, count: usize, content: usize) -> Result<(), AllocError>
     requires { count < 2 ^ 16 }
     ensures { OnOk result (out.new.items ≡ out.old.items ++ leaf_header (0 ∷ 0 ∷ []) count (content_bytes content) 0) }
@@ -133,7 +133,7 @@ fn write(
 /// The page with these cells: `front`, which stands before its header, the header, the pointers, zeros, and the cells
 /// from the page's end downwards. Where they don't fit, the answer is `Fault::Unsupported(Feature::RowSize)`.
 pub fn build(alloc: Global, front: &[u8], page_size: usize, cells: &[Cell<'_>]) -> R<Vec<u8>>
-    // What is built is a table leaf of the cells, of the page's size,
+    // The page is a table leaf of the cells, of the page's size,
     ensures is { IfOk result (λ page. IsTableLeaf page.items (length front.now) (map entry_of cells.now) × (length page.items ≡ page_size)) }
     // byte for byte.
     ensures exact { IfOk result (λ page. page.items ≡ leaf_of front.now page_size (map entry_of cells.now)) }

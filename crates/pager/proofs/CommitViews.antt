@@ -14,19 +14,19 @@ use Rattle.wal.specs.declared.log.Snapshot.{Snapshot}
 use Rattle.wal.specs.declared.pages.PageImage.{PageImage}
 use Rattle.wal.specs.Commits.{Commits, KeepsDisks, after_refusal, commits_of, grown}
 use Rattle.wal.specs.Committed.{HasCommits, frames_under}
-use Rattle.wal.specs.Known.{Known, db_of, header_of, known_of, log_of, seen_by}
+use Rattle.wal.specs.LogState.{LogState, db_of, header_of, state_of, log_of, seen_by}
 use Rattle.wal.specs.Pages.{ArePages, framed}
-use Rattle.wal.specs.Opening.{IsViewSize}
+use Rattle.wal.specs.Sizes.{IsViewSize}
 use Rattle.wal.specs.Refusals.{IsCommitRefusal, IsWithin}
-use Rattle.wal.specs.Stops.{LeavesEither}
+use Rattle.wal.specs.Crashes.{LeavesEither}
 use Rattle.wal.proofs.Changes.{page_one}
 use Rattle.wal.proofs.Settled.{commit_sized, commits_settled, known_size, no_more_frames}
 use Rattle.wal.proofs.Views.{seen_grows, seen_stays}
 use Rattle.pager.specs.declared.writer.Writer.{Writer}
 use Rattle.pager.specs.Commits.{CommitsPages, IsCommittedOver, IsRefusedCommit, LeavesCommit, MayCommit}
 use Rattle.pager.specs.Limits.{pages_of, page_size_of}
-use Rattle.pager.specs.Views.{View, Has, changes_of, newest_view, view_at, view_of}
-use Rattle.pager.specs.Writers.{BeginAtPageOne, HasHeader, IsNextHeader, IsWhole, makes_objects, seen, snapshot_of}
+use Rattle.pager.specs.Views.{View, ViewHas, changes_of, newest_view, view_at, view_of}
+use Rattle.pager.specs.Writers.{BeginAtPageOne, HasHeader, IsNextHeader, IsConsistent, makes_objects, seen, snapshot_of}
 use Rattle.pager.proofs.Reheading.{IsFew, IsReheaded, few_keep, few_know, first_among, has_header, not_forth, refusal_is_few, reheaded_back, reheaded_first, reheaded_forth, reheaded_whole, reheads_has, reheads_length, reheads_twice}
 use Rattle.pager.proofs.Seeing.{seen_to}
 
@@ -46,7 +46,7 @@ some_pages : (size bytes : ℕ) (ps : List PageImage) → ArePages 0 size bytes 
 some_pages size bytes [] are first = absurd first
 some_pages size bytes (p ∷ ps) are first = (omega (arith, are.1, first), omega arith)
 
-pub has_pages : (writer : Writer) → IsWhole writer → 0 < pages_of writer
+pub has_pages : (writer : Writer) → IsConsistent writer → 0 < pages_of writer
 has_pages writer whole = (let some = some_pages (pages_of writer) (page_size_of writer) (changes_of writer) whole.pages whole.first in some.0)
 
 abbrev read_header : Header → Result Header Fault
@@ -68,35 +68,35 @@ module _ {D : Type 0} {g : Ghosts D} where
       has_header (pages_of writer) (page_size_of writer) (changes_of writer) header page may.whole.pages may.whole.first may.header_is (first_among (view_at files (snapshot_of writer)) writer page may.whole may.first)
 
   -- where page 1 is the same, and each other page is, all are
-  same_pages : (files : Log D g) (writer left : Writer) (page : List ℕ) (header : Header) (first : List ℕ) → Has (view_of files writer) 1 page → Has (view_of files left) 1 first → page ≡ first
-      → ((number : ℕ) (bytes : List ℕ) → (number ≡ 1 → ⊥) → Has (view_of files left) number bytes → Has (view_of files writer) number bytes)
-      → ((number : ℕ) (bytes : List ℕ) → (number ≡ 1 → ⊥) → Has (view_of files writer) number bytes → Has (view_of files left) number bytes)
-      → (number : ℕ) (bytes : List ℕ) → Has (view_of files left) number bytes ↔ Has (view_of files writer) number bytes
+  same_pages : (files : Log D g) (writer left : Writer) (page : List ℕ) (header : Header) (first : List ℕ) → ViewHas (view_of files writer) 1 page → ViewHas (view_of files left) 1 first → page ≡ first
+      → ((number : ℕ) (bytes : List ℕ) → (number ≡ 1 → ⊥) → ViewHas (view_of files left) number bytes → ViewHas (view_of files writer) number bytes)
+      → ((number : ℕ) (bytes : List ℕ) → (number ≡ 1 → ⊥) → ViewHas (view_of files writer) number bytes → ViewHas (view_of files left) number bytes)
+      → (number : ℕ) (bytes : List ℕ) → ViewHas (view_of files left) number bytes ↔ ViewHas (view_of files writer) number bytes
   same_pages files writer left page header first was is one forth back number bytes = elim (cases_eq number 1) [
     | inl at ↦ (
-      (λ has. subst (λ (n : ℕ). Has (view_of files writer) n bytes) (sym at)
-          (subst (Has (view_of files writer) 1) (one ∙ page_one _ _ _ 1 first bytes is (subst (λ (n : ℕ). Has (view_of files left) n bytes) at has)) was)),
-      (λ has. subst (λ (n : ℕ). Has (view_of files left) n bytes) (sym at)
-          (subst (Has (view_of files left) 1) (sym one ∙ page_one _ _ _ 1 page bytes was (subst (λ (n : ℕ). Has (view_of files writer) n bytes) at has)) is)),
+      (λ has. subst (λ (n : ℕ). ViewHas (view_of files writer) n bytes) (sym at)
+          (subst (ViewHas (view_of files writer) 1) (one ∙ page_one _ _ _ 1 first bytes is (subst (λ (n : ℕ). ViewHas (view_of files left) n bytes) at has)) was)),
+      (λ has. subst (λ (n : ℕ). ViewHas (view_of files left) n bytes) (sym at)
+          (subst (ViewHas (view_of files left) 1) (sym one ∙ page_one _ _ _ 1 page bytes was (subst (λ (n : ℕ). ViewHas (view_of files writer) n bytes) at has)) is)),
     )
     | inr other ↦ ((λ has. forth number bytes other has), (λ has. back number bytes other has))
   ]
 
   module _ (files new : Log D g) (writer mid : Writer) (page : List ℕ) (header next : Header) (may : MayCommit files writer page header) (re : IsReheaded writer mid next) where
-    mid_whole : IsWhole mid
+    mid_whole : IsConsistent mid
     mid_whole = reheaded_whole writer mid next re may.whole
 
     abbrev pub seen_view : View
     seen_view = view_at files (snapshot_of writer)
 
     abbrev before : List Framed
-    before = commits_of (known_of files) (g.file (log_of files)).content
+    before = commits_of (state_of files) (g.file (log_of files)).content
 
-    -- the frames behind those of the newest view
+    -- the frames after those of the newest view
     behind : (ps : List PageImage) → ps ≡ changes_of mid → before ++ framed ps (pages_of mid) ≡ (seen seen_view mid).frames
     behind ps ps_is =
-        ap (λ (n : ℕ). frames_under (header_of (known_of files)) (g.file (log_of files)).content n ++ framed ps (pages_of mid)) (sym may.newest)
-        ∙ ap (λ (l : List PageImage). frames_under (header_of (known_of files)) (g.file (log_of files)).content (seen_by (snapshot_of writer)) ++ framed l (pages_of mid)) ps_is
+        ap (λ (n : ℕ). frames_under (header_of (state_of files)) (g.file (log_of files)).content n ++ framed ps (pages_of mid)) (sym may.newest)
+        ∙ ap (λ (l : List PageImage). frames_under (header_of (state_of files)) (g.file (log_of files)).content (seen_by (snapshot_of writer)) ++ framed l (pages_of mid)) ps_is
 
     -- what the view with them shows
     over : IsNextHeader header next (makes_objects writer) (pages_of writer) → IsCommittedOver files writer page header (seen seen_view mid)
@@ -120,66 +120,66 @@ module _ {D : Type 0} {g : Ghosts D} where
         let some = some_pages (pages_of mid) (page_size_of mid) (changes_of mid) mid_whole.pages mid_whole.first in
         commit_sized seen_view.frames (changes_of mid) counted len seen_view.page_size (pages_of mid) some.1
 
-    few : (ps : List PageImage) → ps ≡ changes_of mid → (known_of files).frames + length ps ≤ 1000000 → length (seen seen_view mid).frames ≤ 1000000
+    few : (ps : List PageImage) → ps ≡ changes_of mid → (state_of files).frames + length ps ≤ 1000000 → length (seen seen_view mid).frames ≤ 1000000
     few ps ps_is le = omega (
       arith,
       le,
       ap length (behind ps ps_is),
       length-append before (framed ps (pages_of mid)),
       framed_count ps (pages_of mid),
-      no_more_frames (header_of (known_of files)) (g.file (log_of files)).content (known_of files).frames,
+      no_more_frames (header_of (state_of files)) (g.file (log_of files)).content (state_of files).frames,
     )
 
-    -- what a stop leaves
-    leaves : (ps : List PageImage) → ps ≡ changes_of mid → (known_of files).frames + length ps ≤ 1000000 → IsNextHeader header next (makes_objects writer) (pages_of writer)
-        → Always (g.file (log_of files)) (g.file (log_of new)) (LeavesEither (known_of files).page_size before (before ++ framed ps (pages_of mid))) → IsContentLeft (g.file (log_of new)) → LeavesCommit files writer page header new
-    leaves ps ps_is le next_is stop content = record {
+    -- what a crash leaves
+    leaves : (ps : List PageImage) → ps ≡ changes_of mid → (state_of files).frames + length ps ≤ 1000000 → IsNextHeader header next (makes_objects writer) (pages_of writer)
+        → Always (g.file (log_of files)) (g.file (log_of new)) (LeavesEither (state_of files).page_size before (before ++ framed ps (pages_of mid))) → IsContentLeft (g.file (log_of new)) → LeavesCommit files writer page header new
+    leaves ps ps_is le next_is crash content = record {
       view = seen seen_view mid;
       db_is = refl;
       page_size_is = refl;
       is = over next_is;
       sized = sized;
       few = few ps ps_is le;
-      stop = subst (λ (those : List Framed). Always (g.file (log_of files)) (g.file (log_of new)) (LeavesEither (known_of files).page_size before those)) (behind ps ps_is) stop;
+      crash = subst (λ (those : List Framed). Always (g.file (log_of files)) (g.file (log_of new)) (LeavesEither (state_of files).page_size before those)) (behind ps ps_is) crash;
       content = content;
     }
 
-    module _ (ps : List PageImage) (ps_is : ps ≡ changes_of mid) (commits : Commits (known_of files) (framed ps (pages_of mid)) (g.file (log_of files)) (g.file (log_of new)))
-        (known : known_of new ≡ grown (known_of files) (length ps) (pages_of mid)) (keeps : KeepsDisks g.tells g.failures (db_of files) (db_of new) (log_of files) (log_of new)) where
+    module _ (ps : List PageImage) (ps_is : ps ≡ changes_of mid) (commits : Commits (state_of files) (framed ps (pages_of mid)) (g.file (log_of files)) (g.file (log_of new)))
+        (known : state_of new ≡ grown (state_of files) (length ps) (pages_of mid)) (keeps : KeepsDisks g.tells g.failures (db_of files) (db_of new) (log_of files) (log_of new)) where
       db_is : (g.file (db_of new)).content ≡ (g.file (db_of files)).content
       db_is = ap (λ (d : D). (g.file d).content) keeps.db
 
-      page_size_is : (known_of new).page_size ≡ (known_of files).page_size
-      page_size_is = ap (λ (k : Known). k.page_size) known
+      page_size_is : (state_of new).page_size ≡ (state_of files).page_size
+      page_size_is = ap (λ (k : LogState). k.page_size) known
 
       frames_are : (newest_view new).frames ≡ (seen seen_view mid).frames
       frames_are =
-          ap (λ (k : Known). frames_under (header_of k) (g.file (log_of new)).content k.frames) known
-          ∙ seen_grows (known_of files) (framed ps (pages_of mid)) (g.file (log_of files)) (g.file (log_of new)) (length ps) (pages_of mid) commits (sym (framed_count ps (pages_of mid)))
+          ap (λ (k : LogState). frames_under (header_of k) (g.file (log_of new)).content k.frames) known
+          ∙ seen_grows (state_of files) (framed ps (pages_of mid)) (g.file (log_of files)) (g.file (log_of new)) (length ps) (pages_of mid) commits (sym (framed_count ps (pages_of mid)))
           ∙ behind ps ps_is
 
       newest_is : newest_view new ≡ seen seen_view mid
-      newest_is = view_is (newest_view new) (seen seen_view mid) db_is frames_are page_size_is (ap (λ (k : Known). k.size) known)
+      newest_is = view_is (newest_view new) (seen seen_view mid) db_is frames_are page_size_is (ap (λ (k : LogState). k.size) known)
 
-      stays : (snapshot : Snapshot) → seen_by snapshot ≤ (known_of files).frames → view_at new snapshot ≡ view_at files snapshot
+      stays : (snapshot : Snapshot) → seen_by snapshot ≤ (state_of files).frames → view_at new snapshot ≡ view_at files snapshot
       stays snapshot le = view_is (view_at new snapshot) (view_at files snapshot) db_is
-          (ap (λ (k : Known). frames_under (header_of k) (g.file (log_of new)).content (seen_by snapshot)) known
-          ∙ seen_stays (known_of files) (framed ps (pages_of mid)) (g.file (log_of files)) (g.file (log_of new)) (length ps) (pages_of mid) (seen_by snapshot) commits le)
+          (ap (λ (k : LogState). frames_under (header_of k) (g.file (log_of new)).content (seen_by snapshot)) known
+          ∙ seen_stays (state_of files) (framed ps (pages_of mid)) (g.file (log_of files)) (g.file (log_of new)) (length ps) (pages_of mid) (seen_by snapshot) commits le)
           page_size_is refl
 
-      count : (known_of files).frames + length ps ≤ 1000000
+      count : (state_of files).frames + length ps ≤ 1000000
       count = omega (arith, commits.few, framed_count ps (pages_of mid))
 
-      settled : HasCommits (known_of new).page_size (g.file (log_of new)).content (newest_view new).frames
+      settled : HasCommits (state_of new).page_size (g.file (log_of new)).content (newest_view new).frames
       settled =
           subst (λ (n : ℕ). HasCommits n (g.file (log_of new)).content (newest_view new).frames) (sym page_size_is)
-          (subst (λ (fs : List Framed). HasCommits (known_of files).page_size (g.file (log_of new)).content fs) (behind ps ps_is ∙ sym frames_are)
-          (commits_settled (known_of files) (framed ps (pages_of mid)) (g.file (log_of files)) (g.file (log_of new)) (known_size files) commits))
+          (subst (λ (fs : List Framed). HasCommits (state_of files).page_size (g.file (log_of new)).content fs) (behind ps ps_is ∙ sym frames_are)
+          (commits_settled (state_of files) (framed ps (pages_of mid)) (g.file (log_of files)) (g.file (log_of new)) (known_size files) commits))
 
       pub committed : IsNextHeader header next (makes_objects writer) (pages_of writer) → CommitsPages files writer page header new
       committed next_is =
           record {
-            tells = record { db = subst IsTrue (ap g.tells (sym keeps.db)) may.tells.db; log = subst IsTrue (sym keeps.tells_same) may.tells.log; whole = subst (λ (k : Known). IsFalse k.has_failed) (sym known) may.tells.whole };
+            tells = record { db = subst IsTrue (ap g.tells (sym keeps.db)) may.tells.db; log = subst IsTrue (sym keeps.tells_same) may.tells.log; whole = subst (λ (k : LogState). IsFalse k.has_failed) (sym known) may.tells.whole };
             left = subst (λ (v : View). IsCommittedOver files writer page header v) (sym newest_is) (over next_is);
             stay = stays;
             db_is = db_is;
@@ -190,67 +190,67 @@ module _ {D : Type 0} {g : Ghosts D} where
             synced = commits.synced;
           }
 
-      pub left_either : IsNextHeader header next (makes_objects writer) (pages_of writer) → Always (g.file (log_of files)) (g.file (log_of new)) (LeavesEither (known_of files).page_size before (before ++ framed ps (pages_of mid)))
+      pub left_either : IsNextHeader header next (makes_objects writer) (pages_of writer) → Always (g.file (log_of files)) (g.file (log_of new)) (LeavesEither (state_of files).page_size before (before ++ framed ps (pages_of mid)))
           → IsContentLeft (g.file (log_of new)) → LeavesCommit files writer page header new
-      left_either next_is stop content = leaves ps ps_is count next_is stop content
+      left_either next_is crash content = leaves ps ps_is count next_is crash content
 
-      pub known_after : known_of new ≡ grown (known_of files) (length (changes_of writer)) (pages_of writer)
-      known_after = known ∙ ap (λ (n : ℕ). grown (known_of files) n (pages_of mid)) (ap length ps_is ∙ reheads_length (changes_of writer) (changes_of mid) next re.pages)
-          ∙ ap (λ (n : ℕ). grown (known_of files) (length (changes_of writer)) n) re.rest.0
+      pub known_after : state_of new ≡ grown (state_of files) (length (changes_of writer)) (pages_of writer)
+      known_after = known ∙ ap (λ (n : ℕ). grown (state_of files) n (pages_of mid)) (ap length ps_is ∙ reheads_length (changes_of writer) (changes_of mid) next re.pages)
+          ∙ ap (λ (n : ℕ). grown (state_of files) (length (changes_of writer)) n) re.rest.0
 
     pub next_header_there : HasHeader (changes_of mid) next
     next_header_there = reheads_has (changes_of writer) (changes_of mid) next re.pages may.whole.first
 
-    are_pages : (ps : List PageImage) → ps ≡ changes_of mid → ArePages 0 (pages_of mid) (known_of files).page_size ps × (0 < length ps)
+    are_pages : (ps : List PageImage) → ps ≡ changes_of mid → ArePages 0 (pages_of mid) (state_of files).page_size ps × (0 < length ps)
     are_pages ps is =
         let some = some_pages (pages_of mid) (page_size_of mid) (changes_of mid) mid_whole.pages mid_whole.first in
-        subst (λ (l : List PageImage). ArePages 0 (pages_of mid) (known_of files).page_size l × (0 < length l)) (sym is)
+        subst (λ (l : List PageImage). ArePages 0 (pages_of mid) (state_of files).page_size l × (0 < length l)) (sym is)
         (subst (λ (n : ℕ). ArePages 0 (pages_of mid) n (changes_of mid)) (re.rest.1 ∙ may.page_size) mid_whole.pages, some.1)
 
     -- the limits of the commit of these pages are those of the writer's
-    within : (ps : List PageImage) → ps ≡ changes_of mid → IsWithin (known_of files) (length (changes_of writer)) (pages_of writer) → IsWithin (known_of files) (length ps) (pages_of mid)
+    within : (ps : List PageImage) → ps ≡ changes_of mid → IsWithin (state_of files) (length (changes_of writer)) (pages_of writer) → IsWithin (state_of files) (length ps) (pages_of mid)
     within ps ps_is is =
-        subst (λ (n : ℕ). IsWithin (known_of files) n (pages_of mid)) (sym (ap length ps_is ∙ reheads_length (changes_of writer) (changes_of mid) next re.pages))
-        (subst (λ (n : ℕ). IsWithin (known_of files) (length (changes_of writer)) n) (sym re.rest.0) is)
+        subst (λ (n : ℕ). IsWithin (state_of files) n (pages_of mid)) (sym (ap length ps_is ∙ reheads_length (changes_of writer) (changes_of mid) next re.pages))
+        (subst (λ (n : ℕ). IsWithin (state_of files) (length (changes_of writer)) n) (sym re.rest.0) is)
 
-    few_of : (ps : List PageImage) (fault : Fault) → ps ≡ changes_of mid → IsFew (IsWithin (known_of files) (length ps) (pages_of mid)) fault → IsFew (IsWithin (known_of files) (length (changes_of writer)) (pages_of writer)) fault
+    few_of : (ps : List PageImage) (fault : Fault) → ps ≡ changes_of mid → IsFew (IsWithin (state_of files) (length ps) (pages_of mid)) fault → IsFew (IsWithin (state_of files) (length (changes_of writer)) (pages_of writer)) fault
     few_of ps fault ps_is (inl is) = inl is
     few_of ps fault ps_is (inr (inl is)) = inr (inl is)
     few_of ps fault ps_is (inr (inr is)) = inr (inr (is.0, λ fits. is.1 (within ps ps_is fits)))
 
-    -- what a stop leaves of a refused one
+    -- what a crash leaves of a refused one
     pub refused_leaves : (ps : List PageImage) (fault : Fault) (failed fails : ℕ) → ps ≡ changes_of mid
-        → IsCommitRefusal (known_of files).has_failed (ArePages 0 (pages_of mid) (known_of files).page_size ps × (0 < length ps)) (IsWithin (known_of files) (length ps) (pages_of mid)) (log_of files) (log_of new) failed fails fault
-        → IsNextHeader header next (makes_objects writer) (pages_of writer) → Always (g.file (log_of files)) (g.file (log_of new)) (LeavesEither (known_of files).page_size before (before ++ framed ps (pages_of mid)))
+        → IsCommitRefusal (state_of files).has_failed (ArePages 0 (pages_of mid) (state_of files).page_size ps × (0 < length ps)) (IsWithin (state_of files) (length ps) (pages_of mid)) (log_of files) (log_of new) failed fails fault
+        → IsNextHeader header next (makes_objects writer) (pages_of writer) → Always (g.file (log_of files)) (g.file (log_of new)) (LeavesEither (state_of files).page_size before (before ++ framed ps (pages_of mid)))
         → IsContentLeft (g.file (log_of new)) → (log_of new ≡ log_of files) ⊎ LeavesCommit files writer page header new
-    refused_leaves ps fault failed fails ps_is why next_is stop content = by_fault (refusal_is_few (known_of files).has_failed _ Within (log_of files) (log_of new) failed fails fault may.tells.whole (are_pages ps ps_is) why)
+    refused_leaves ps fault failed fails ps_is why next_is crash content = by_fault (refusal_is_few (state_of files).has_failed _ Within (log_of files) (log_of new) failed fails fault may.tells.whole (are_pages ps ps_is) why)
       where
         Within : Type 0
-        Within = IsWithin (known_of files) (length ps) (pages_of mid)
+        Within = IsWithin (state_of files) (length ps) (pages_of mid)
 
         by_fault : IsFew Within fault → (log_of new ≡ log_of files) ⊎ LeavesCommit files writer page header new
-        by_fault (inl is) = inl (few_keep (known_of files).has_failed _ Within (log_of files) (log_of new) failed fails fault (inl is) (λ io. memory_not_io (sym is ∙ io)) why)
-        by_fault (inr (inl is)) = (let at : Rose failed fails × Within = subst (IsCommitRefusal (known_of files).has_failed _ Within (log_of files) (log_of new) failed fails) is why in inr (leaves ps ps_is at.1.few next_is stop content))
-        by_fault (inr (inr is)) = inl (few_keep (known_of files).has_failed _ Within (log_of files) (log_of new) failed fails fault (inr (inr is)) (λ io. full_not_io (sym is.0 ∙ io)) why)
+        by_fault (inl is) = inl (few_keep (state_of files).has_failed _ Within (log_of files) (log_of new) failed fails fault (inl is) (λ io. memory_not_io (sym is ∙ io)) why)
+        by_fault (inr (inl is)) = (let at : Rose failed fails × Within = subst (IsCommitRefusal (state_of files).has_failed _ Within (log_of files) (log_of new) failed fails) is why in inr (leaves ps ps_is at.1.few next_is crash content))
+        by_fault (inr (inr is)) = inl (few_keep (state_of files).has_failed _ Within (log_of files) (log_of new) failed fails fault (inr (inr is)) (λ io. full_not_io (sym is.0 ∙ io)) why)
 
     pub refused_commit : (left : Writer) (ps : List PageImage) (fault : Fault) (failed fails : ℕ) → IsReheaded mid left header → ps ≡ changes_of mid
-        → IsCommitRefusal (known_of files).has_failed (ArePages 0 (pages_of mid) (known_of files).page_size ps × (0 < length ps)) (IsWithin (known_of files) (length ps) (pages_of mid)) (log_of files) (log_of new) failed fails fault
-        → known_of new ≡ after_refusal (known_of files) fault → KeepsDisks g.tells g.failures (db_of files) (db_of new) (log_of files) (log_of new) → IsRefusedCommit files writer page header new left fault
+        → IsCommitRefusal (state_of files).has_failed (ArePages 0 (pages_of mid) (state_of files).page_size ps × (0 < length ps)) (IsWithin (state_of files) (length ps) (pages_of mid)) (log_of files) (log_of new) failed fails fault
+        → state_of new ≡ after_refusal (state_of files) fault → KeepsDisks g.tells g.failures (db_of files) (db_of new) (log_of files) (log_of new) → IsRefusedCommit files writer page header new left fault
     refused_commit left ps fault failed fails again ps_is why known keeps =
         let both : IsReheaded writer left header = record {
           pages = reheads_twice (changes_of writer) (changes_of mid) (changes_of left) next header re.pages again.pages may.whole.first;
           rest = (again.rest.0 ∙ re.rest.0, again.rest.1 ∙ re.rest.1, again.rest.2 ∙ re.rest.2, again.rest.3 ∙ re.rest.3);
         } in
-        let is_few = refusal_is_few (known_of files).has_failed _ _ (log_of files) (log_of new) failed fails fault may.tells.whole (are_pages ps ps_is) why in
+        let is_few = refusal_is_few (state_of files).has_failed _ _ (log_of files) (log_of new) failed fails fault may.tells.whole (are_pages ps ps_is) why in
         let first = reheaded_first seen_view writer left header both may.whole page may.first in
         let left_whole = reheaded_whole writer left header both may.whole in
-        let same : (number : ℕ) (bytes : List ℕ) → Has (seen seen_view left) number bytes → Has (view_of files left) number bytes =
-        λ number bytes has. subst (λ (s : Snapshot). Has (seen (view_at files s) left) number bytes) (sym both.rest.2) has in
-        let back : (number : ℕ) (bytes : List ℕ) → Has (view_of files left) number bytes → Has (seen seen_view left) number bytes =
-        λ number bytes has. subst (λ (s : Snapshot). Has (seen (view_at files s) left) number bytes) both.rest.2 has in
+        let same : (number : ℕ) (bytes : List ℕ) → ViewHas (seen seen_view left) number bytes → ViewHas (view_of files left) number bytes =
+        λ number bytes has. subst (λ (s : Snapshot). ViewHas (seen (view_at files s) left) number bytes) (sym both.rest.2) has in
+        let back : (number : ℕ) (bytes : List ℕ) → ViewHas (view_of files left) number bytes → ViewHas (seen seen_view left) number bytes =
+        λ number bytes has. subst (λ (s : Snapshot). ViewHas (seen (view_at files s) left) number bytes) both.rest.2 has in
         record {
           why = few_of ps fault ps_is is_few;
-          files = λ other. (keeps.db, few_keep (known_of files).has_failed _ _ (log_of files) (log_of new) failed fails fault is_few other why, few_know _ (known_of files) (known_of new) fault is_few other known);
+          files = λ other. (keeps.db, few_keep (state_of files).has_failed _ _ (log_of files) (log_of new) failed fails fault is_few other why, few_know _ (state_of files) (state_of new) fault is_few other known);
           whole = left_whole;
           size = both.rest.0;
           page_size = both.rest.1;

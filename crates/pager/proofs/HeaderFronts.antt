@@ -72,7 +72,7 @@ header_moves a b h is header = record {
 pub front_of : (page front : List ℕ) → front ≡ take 100 page → take 100 front ≡ take 100 page
 front_of page front is = ap (take 100) is ∙ take-take 100 100 page (omega arith)
 
--- a header before what stands behind it
+-- a header before what stands after it
 pub header_before : (front page : List ℕ) (h : Header) → length front ≡ 100 → IsHeader front h → IsHeader (front ++ drop 100 page) h
 header_before front page h len header = header_moves front (front ++ drop 100 page) h (sym (take-append-le 100 front (drop 100 page) (omega (arith, len)))) header
 

@@ -3,7 +3,8 @@ use Rattle.std.proofs.Common.{◌≡◌, ◌⊎◌, inl, inr, ℕ, List, ◌++�
 use Rattle.std.specs.Prelude.{IfErr, IsErrAnd, OnOk, Result, Ok, Err, Bool, true, false, IsTrue, IsFalse}
 use Rattle.std.proofs.lemmas.List.{take-append-le, take_all}
 use Rattle.sqlval.specs.declared.fault.Fault.{Fault}
-use Rattle.sqlval.specs.declared.fault.Fault.TheVariants.{Memory, Io}
+use Rattle.sqlval.specs.declared.fault.Fault.TheVariants.{Memory, Io, Failed, Damaged, Blank}
+use Rattle.sqlval.specs.declared.fault.Damage.TheVariants.{MissingPage}
 use Rattle.wal.specs.View as wal
 
 -- the front of what is written, where it fills the room
@@ -31,3 +32,13 @@ read_there (Err e) P Q go is = tt
 pub refused_on : {T : Type 0} (result : Result T Fault) (fault : Fault) → IsErrAnd result (λ e. e ≡ fault) → (fault ≡ Memory) ⊎ (fault ≡ Io) → IfErr result (λ e. (e ≡ Memory) ⊎ (e ≡ Io))
 refused_on (Ok x) fault is why = tt
 refused_on (Err e) fault is why = subst (λ f. (f ≡ Memory) ⊎ (f ≡ Io)) (sym is) why
+
+-- a page isn't refused as a blank file
+page_not_blank : (has_failed : Bool) (number : ℕ) (There : Type 0) (fault : Fault) → wal.IsPageRefusal has_failed number There fault → fault ≡ Blank → ⊥
+page_not_blank has_failed number There fault (inl io) blank = (let bad : Io ≡ Blank = sym io ∙ blank in cc)
+page_not_blank has_failed number There fault (inr (inl failed)) blank = (let bad : Failed ≡ Blank = sym failed.0 ∙ blank in cc)
+page_not_blank has_failed number There fault (inr (inr missing)) blank = (let bad : Damaged MissingPage number ≡ Blank = sym missing.0 ∙ blank in cc)
+
+pub refusal_not_blank : {T : Type 0} (result : Result T Fault) (has_failed : Bool) (number : ℕ) (There : Type 0) → IfErr result (wal.IsPageRefusal has_failed number There) → IfErr result (λ fault. fault ≡ Blank → ⊥)
+refusal_not_blank (Ok x) has_failed number There is = tt
+refusal_not_blank (Err fault) has_failed number There is = page_not_blank has_failed number There fault is

@@ -8,14 +8,14 @@ use Rattle.dbheader.specs.declared.fields.Header.{Header}
 use Rattle.dbheader.specs.Header.{IsHeader}
 use Rattle.wal.specs.declared.pages.PageImage.{PageImage}
 use Rattle.wal.specs.Commits.{after_refusal}
-use Rattle.wal.specs.Known.{Known}
+use Rattle.wal.specs.LogState.{LogState}
 use Rattle.wal.specs.Laws.{IsAmong, IsNotAmong, IsChanged}
 use Rattle.wal.specs.Pages.{ArePages}
 use Rattle.wal.specs.Refusals.{IsCommitRefusal}
 use Rattle.pager.specs.declared.writer.Writer.{Writer}
 use Rattle.pager.specs.Limits.{pages_of, page_size_of}
-use Rattle.pager.specs.Views.{View, Has, changes_of}
-use Rattle.pager.specs.Writers.{BeginAtPageOne, HasHeader, IsHeaded, IsWhole, Reheads, makes_objects, seen, snapshot_of}
+use Rattle.pager.specs.Views.{View, ViewHas, changes_of}
+use Rattle.pager.specs.Writers.{BeginAtPageOne, HasHeader, IsHeaded, IsConsistent, Reheads, makes_objects, seen, snapshot_of}
 use Rattle.pager.proofs.Seeing.{first_not_missing, seen_from, seen_to}
 use Rattle.pager.proofs.WriterPages.{among_and_not, others}
 
@@ -73,7 +73,7 @@ few_keep has_failed Are Within old new failed fails fault (inl is) other why = s
 few_keep has_failed Are Within old new failed fails fault (inr (inl is)) other why = absurd (other is)
 few_keep has_failed Are Within old new failed fails fault (inr (inr is)) other why = (let at : (new ≡ old) × (Within → ⊥) = subst (IsCommitRefusal has_failed Are Within old new failed fails) is.0 why in at.0)
 
-pub few_know : (Within : Type 0) (known new : Known) (fault : Fault) → IsFew Within fault → (fault ≡ Io → ⊥) → new ≡ after_refusal known fault → new ≡ known
+pub few_know : (Within : Type 0) (known new : LogState) (fault : Fault) → IsFew Within fault → (fault ≡ Io → ⊥) → new ≡ after_refusal known fault → new ≡ known
 few_know Within known new fault (inl is) other after = after ∙ ap (after_refusal known) is
 few_know Within known new fault (inr (inl is)) other after = absurd (other is)
 few_know Within known new fault (inr (inr is)) other after = after ∙ ap (after_refusal known) is.0
@@ -160,7 +160,7 @@ first_page size bytes (p ∷ ps) (q ∷ qs) h page are first re (inl here) = rec
 first_page size bytes (p ∷ ps) (q ∷ qs) h page are first re (inr rest) = absurd (among_and_not ps 1 page rest (others p.number size bytes 1 ps (omega (arith, first)) are.3))
 
 -- page 1 that a whole writer sees is among its changes
-pub first_among : (view : View) (writer : Writer) (page : List ℕ) → IsWhole writer → Has (seen view writer) 1 page → IsAmong (changes_of writer) 1 page
+pub first_among : (view : View) (writer : Writer) (page : List ℕ) → IsConsistent writer → ViewHas (seen view writer) 1 page → IsAmong (changes_of writer) 1 page
 first_among view writer page whole has = elim (seen_from view writer 1 page whole has) [
   | inl among ↦ among
   | inr none ↦ absurd (first_not_missing (changes_of writer) whole.first none.0)
@@ -172,14 +172,14 @@ pub record IsReheaded (old new : Writer) (h : Header) : Type 0 where
   pub pages : Reheads (changes_of old) (changes_of new) h
   pub rest : (pages_of new ≡ pages_of old) × (page_size_of new ≡ page_size_of old) × (snapshot_of new ≡ snapshot_of old) × (makes_objects new ≡ makes_objects old)
 
-pub reheaded_whole : (old new : Writer) (h : Header) → IsReheaded old new h → IsWhole old → IsWhole new
+pub reheaded_whole : (old new : Writer) (h : Header) → IsReheaded old new h → IsConsistent old → IsConsistent new
 reheaded_whole old new h re was = record {
   pages = subst (λ (n : ℕ). ArePages 0 n (page_size_of new) (changes_of new)) (sym re.rest.0)
       (subst (λ (n : ℕ). ArePages 0 (pages_of old) n (changes_of new)) (sym re.rest.1) (reheads_pages 0 (pages_of old) (page_size_of old) (changes_of old) (changes_of new) h re.pages was.pages));
   first = reheads_begin (changes_of old) (changes_of new) h re.pages was.first;
 }
 
-module _ (view : View) (old new : Writer) (h : Header) (re : IsReheaded old new h) (was : IsWhole old) where
+module _ (view : View) (old new : Writer) (h : Header) (re : IsReheaded old new h) (was : IsConsistent old) where
   abbrev pub Before : ℕ → List ℕ → Type 0
   Before number bytes = IsChanged view.db view.page_size view.frames (changes_of old) number bytes
 
@@ -194,11 +194,11 @@ module _ (view : View) (old new : Writer) (h : Header) (re : IsReheaded old new 
   back number bytes other (inl among) = inl (among_back (changes_of old) (changes_of new) h number bytes re.pages was.first other among)
   back number bytes other (inr none) = inr (not_back (changes_of old) (changes_of new) h number re.pages none.0, none.1)
 
-  pub reheaded_forth : (number : ℕ) (bytes : List ℕ) → (number ≡ 1 → ⊥) → Has (seen view new) number bytes → Has (seen view old) number bytes
+  pub reheaded_forth : (number : ℕ) (bytes : List ℕ) → (number ≡ 1 → ⊥) → ViewHas (seen view new) number bytes → ViewHas (seen view old) number bytes
   reheaded_forth number bytes other has = seen_to view old number bytes was (forth number bytes other (seen_from view new number bytes (reheaded_whole old new h re was) has))
 
-  pub reheaded_back : (number : ℕ) (bytes : List ℕ) → (number ≡ 1 → ⊥) → Has (seen view old) number bytes → Has (seen view new) number bytes
+  pub reheaded_back : (number : ℕ) (bytes : List ℕ) → (number ≡ 1 → ⊥) → ViewHas (seen view old) number bytes → ViewHas (seen view new) number bytes
   reheaded_back number bytes other has = seen_to view new number bytes (reheaded_whole old new h re was) (back number bytes other (seen_from view old number bytes was has))
 
-  pub reheaded_first : (page : List ℕ) → Has (seen view old) 1 page → IsFirst (changes_of new) page h
+  pub reheaded_first : (page : List ℕ) → ViewHas (seen view old) 1 page → IsFirst (changes_of new) page h
   reheaded_first page has = first_page (pages_of old) (page_size_of old) (changes_of old) (changes_of new) h page was.pages was.first re.pages (first_among view old page was has)

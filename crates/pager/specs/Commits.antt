@@ -11,33 +11,33 @@ use Rattle.wal.specs.declared.log.Log.{Log}
 use Rattle.wal.specs.declared.log.Snapshot.{Snapshot}
 use Rattle.walframe.specs.Written.{Framed}
 use Rattle.wal.specs.Committed.{HasCommits}
-use Rattle.wal.specs.Known.{db_of, log_of, known_of, seen_by}
+use Rattle.wal.specs.LogState.{db_of, log_of, state_of, seen_by}
 use Rattle.wal.specs.Laws.{IsNotAmong}
-use Rattle.wal.specs.Opening.{IsViewSize}
+use Rattle.wal.specs.Sizes.{IsViewSize}
 use Rattle.wal.specs.Refusals.{IsWithin}
-use Rattle.wal.specs.Stops.{LeavesEither}
+use Rattle.wal.specs.Crashes.{LeavesEither}
 use Rattle.pager.specs.declared.writer.Writer.{Writer}
 use Rattle.pager.specs.Limits.{pages_of, page_size_of}
-use Rattle.pager.specs.Views.{View, Has, Tells, changes_of, newest_view, view_at, view_of}
-use Rattle.pager.specs.Writers.{IsHeaded, IsNextHeader, IsWhole, makes_objects, snapshot_of}
+use Rattle.pager.specs.Views.{View, ViewHas, Tells, changes_of, newest_view, view_at, view_of}
+use Rattle.pager.specs.Writers.{IsHeaded, IsNextHeader, IsConsistent, makes_objects, snapshot_of}
 
 module _ {D : Type 0} {g : Ghosts D} where
   -- A writer may commit: its changes are whole, it stands on the newest snapshot, and page 1, as it sees it, has this header.
   pub record MayCommit (files : Log D g) (writer : Writer) (page : List ℕ) (header : Header) : Type 0 where
     pub tells : Tells files
-    pub whole : IsWhole writer
-    pub newest : seen_by (snapshot_of writer) ≡ (known_of files).frames
-    pub page_size : page_size_of writer ≡ (known_of files).page_size
-    pub first : Has (view_of files writer) 1 page
+    pub whole : IsConsistent writer
+    pub newest : seen_by (snapshot_of writer) ≡ (state_of files).frames
+    pub page_size : page_size_of writer ≡ (state_of files).page_size
+    pub first : ViewHas (view_of files writer) 1 page
     pub header_is : IsHeader page header
 
-  -- What a view shows that a writer's commit leaves: what the writer saw, but for the header on page 1, which is the next one.
+  -- What a view shows that a writer's commit leaves: what the writer saw, except for the header on page 1, which is the next one.
   pub record IsCommittedOver (old : Log D g) (writer : Writer) (page : List ℕ) (header : Header) (view : View) : Type 0 where
     pub size : view.size ≡ pages_of writer
-    pub others : (number : ℕ) (bytes : List ℕ) → (number ≡ 1 → ⊥) → Has view number bytes ↔ Has (view_of old writer) number bytes
+    pub others : (number : ℕ) (bytes : List ℕ) → (number ≡ 1 → ⊥) → ViewHas view number bytes ↔ ViewHas (view_of old writer) number bytes
     pub first : List ℕ
     pub next : Header
-    pub has_first : Has view 1 first
+    pub has_first : ViewHas view 1 first
     pub headed : IsHeaded page first next
     pub next_is : IsNextHeader header next (makes_objects writer) (pages_of writer)
 
@@ -46,15 +46,15 @@ module _ {D : Type 0} {g : Ghosts D} where
   pub record CommitsPages (old : Log D g) (writer : Writer) (page : List ℕ) (header : Header) (new : Log D g) : Type 0 where
     pub tells : Tells new
     pub left : IsCommittedOver old writer page header (newest_view new)
-    pub stay : (snapshot : Snapshot) → seen_by snapshot ≤ (known_of old).frames → view_at new snapshot ≡ view_at old snapshot
+    pub stay : (snapshot : Snapshot) → seen_by snapshot ≤ (state_of old).frames → view_at new snapshot ≡ view_at old snapshot
     pub db_is : (newest_view new).db ≡ (newest_view old).db
     pub page_size_is : (newest_view new).page_size ≡ (newest_view old).page_size
     pub sized : (counted : Option ℕ) (len : ℕ) → IsViewSize (map (λ (f : Framed). f.head) (newest_view new).frames) counted len (newest_view new).page_size (newest_view new).size
     pub few : length (newest_view new).frames ≤ 1000000
-    pub settled : HasCommits (known_of new).page_size (g.file (log_of new)).content (newest_view new).frames
+    pub settled : HasCommits (state_of new).page_size (g.file (log_of new)).content (newest_view new).frames
     pub synced : IsSynced (g.file (log_of new))
 
-  -- A commit that may write: the view that it would leave behind the newest one, and what a stop leaves of the log at each moment: the
+  -- A commit that may write: the view that it would leave after the newest one, and what a crash leaves of the log at each moment: the
   -- frames of the one or of the other.
   pub record LeavesCommit (old : Log D g) (writer : Writer) (page : List ℕ) (header : Header) (new : Log D g) : Type 0 where
     pub view : View
@@ -63,24 +63,24 @@ module _ {D : Type 0} {g : Ghosts D} where
     pub is : IsCommittedOver old writer page header view
     pub sized : (counted : Option ℕ) (len : ℕ) → IsViewSize (map (λ (f : Framed). f.head) view.frames) counted len view.page_size view.size
     pub few : length view.frames ≤ 1000000
-    pub stop : Always (g.file (log_of old)) (g.file (log_of new)) (LeavesEither (known_of old).page_size (newest_view old).frames view.frames)
+    pub crash : Always (g.file (log_of old)) (g.file (log_of new)) (LeavesEither (state_of old).page_size (newest_view old).frames view.frames)
     pub content : IsContentLeft (g.file (log_of new))
 
   -- What a refused commit leaves: nothing of the files has changed unless a call of theirs failed; and the writer sees what it saw, with
   -- the same header on page 1. It is `Full` only where it isn't within the limits.
   pub record IsRefusedCommit (old : Log D g) (writer : Writer) (page : List ℕ) (header : Header) (new : Log D g) (left : Writer) (fault : Fault) : Type 0 where
-    pub why : (fault ≡ Memory) ⊎ ((fault ≡ Io) ⊎ ((fault ≡ Full) × (IsWithin (known_of old) (length (changes_of writer)) (pages_of writer) → ⊥)))
-    pub files : (fault ≡ Io → ⊥) → (db_of new ≡ db_of old) × (log_of new ≡ log_of old) × (known_of new ≡ known_of old)
-    pub whole : IsWhole left
+    pub why : (fault ≡ Memory) ⊎ ((fault ≡ Io) ⊎ ((fault ≡ Full) × (IsWithin (state_of old) (length (changes_of writer)) (pages_of writer) → ⊥)))
+    pub files : (fault ≡ Io → ⊥) → (db_of new ≡ db_of old) × (log_of new ≡ log_of old) × (state_of new ≡ state_of old)
+    pub whole : IsConsistent left
     pub size : pages_of left ≡ pages_of writer
     pub page_size : page_size_of left ≡ page_size_of writer
     pub snapshot : snapshot_of left ≡ snapshot_of writer
     pub objects : makes_objects left ≡ makes_objects writer
     -- a page that isn't among its changes now wasn't before
     pub numbers : (number : ℕ) → IsNotAmong (changes_of left) number → IsNotAmong (changes_of writer) number
-    pub others : (number : ℕ) (bytes : List ℕ) → (number ≡ 1 → ⊥) → Has (view_of old left) number bytes ↔ Has (view_of old writer) number bytes
+    pub others : (number : ℕ) (bytes : List ℕ) → (number ≡ 1 → ⊥) → ViewHas (view_of old left) number bytes ↔ ViewHas (view_of old writer) number bytes
     pub first : List ℕ
-    pub has_first : Has (view_of old left) 1 first
+    pub has_first : ViewHas (view_of old left) 1 first
     pub headed : IsHeaded page first header
     -- where page 1 was of bytes, it is as it was too
-    pub same : IsBytes page → (number : ℕ) (bytes : List ℕ) → Has (view_of old left) number bytes ↔ Has (view_of old writer) number bytes
+    pub same : IsBytes page → (number : ℕ) (bytes : List ℕ) → ViewHas (view_of old left) number bytes ↔ ViewHas (view_of old writer) number bytes

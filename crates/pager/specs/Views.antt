@@ -6,7 +6,7 @@ use Rattle.wal.specs.declared.log.Log.{Log}
 use Rattle.wal.specs.declared.log.Snapshot.{Snapshot}
 use Rattle.wal.specs.declared.pages.PageImage.{PageImage}
 use Rattle.wal.specs.Committed.{frames_under}
-use Rattle.wal.specs.Known.{db_of, log_of, known_of, header_of, seen_by, size_of}
+use Rattle.wal.specs.LogState.{db_of, log_of, state_of, header_of, seen_by, size_of}
 use Rattle.wal.specs.Pages.{framed}
 use Rattle.wal.specs.View.{IsPageIn}
 use Rattle.pager.specs.declared.writer.Writer.{Writer}
@@ -19,18 +19,18 @@ pub record View : Type 0 where
   pub size : ℕ
 
 -- the page of this number has these bytes
-abbrev pub Has : View → ℕ → List ℕ → Type 0
-Has view number bytes = IsPageIn view.db view.page_size view.frames number bytes
+abbrev pub ViewHas : View → ℕ → List ℕ → Type 0
+ViewHas view number bytes = IsPageIn view.db view.page_size view.frames number bytes
 
--- the view where these pages are committed behind it, in a database of so many
+-- the view where these pages are committed after it, in a database of so many
 abbrev pub after : View → List PageImage → ℕ → View
 after view pages size = record view { frames = view.frames ++ framed pages size; size = size }
 
 -- a page of the view, which its readers can get
-pub record IsPage (view : View) (number : ℕ) (bytes : List ℕ) : Type 0 where
+pub record IsViewPage (view : View) (number : ℕ) (bytes : List ℕ) : Type 0 where
   pub first : 1 ≤ number
   pub last : number ≤ view.size
-  pub has : Has view number bytes
+  pub has : ViewHas view number bytes
 
 -- the pages that a writer has changed, and how many the database has then
 abbrev pub changes_of : Writer → List PageImage
@@ -41,8 +41,8 @@ module _ {D : Type 0} {g : Ghosts D} where
   abbrev pub view_at : Log D g → Snapshot → View
   view_at files snapshot = record {
     db = (g.file (db_of files)).content;
-    frames = frames_under (header_of (known_of files)) (g.file (log_of files)).content (seen_by snapshot);
-    page_size = (known_of files).page_size;
+    frames = frames_under (header_of (state_of files)) (g.file (log_of files)).content (seen_by snapshot);
+    page_size = (state_of files).page_size;
     size = size_of snapshot;
   }
 
@@ -50,9 +50,9 @@ module _ {D : Type 0} {g : Ghosts D} where
   abbrev pub newest_view : Log D g → View
   newest_view files = record {
     db = (g.file (db_of files)).content;
-    frames = frames_under (header_of (known_of files)) (g.file (log_of files)).content (known_of files).frames;
-    page_size = (known_of files).page_size;
-    size = (known_of files).size;
+    frames = frames_under (header_of (state_of files)) (g.file (log_of files)).content (state_of files).frames;
+    page_size = (state_of files).page_size;
+    size = (state_of files).size;
   }
 
   -- what a writer's transaction sees: its snapshot, and what it has changed
@@ -63,4 +63,4 @@ module _ {D : Type 0} {g : Ghosts D} where
   pub record Tells (files : Log D g) : Type 0 where
     pub db : IsTrue (g.tells (db_of files))
     pub log : IsTrue (g.tells (log_of files))
-    pub whole : IsFalse (known_of files).has_failed
+    pub whole : IsFalse (state_of files).has_failed

@@ -10,7 +10,7 @@ use Rattle.wal.specs.Laws.{IsAmong, IsNotAmong}
 use Rattle.wal.specs.Pages.{ArePages}
 use Rattle.pager.specs.declared.writer.Writer.{Writer}
 use Rattle.pager.specs.Limits.{pages_of, page_size_of}
-use Rattle.pager.specs.Views.{View, Has, after, changes_of}
+use Rattle.pager.specs.Views.{View, ViewHas, after, changes_of}
 
 -- the snapshot that a writer stands on
 abbrev pub snapshot_of : Writer → Snapshot
@@ -26,21 +26,21 @@ BeginAtPageOne [] = ⊥
 BeginAtPageOne (p ∷ ps) = p.number ≡ 1
 
 -- a writer's changes can be committed: they are pages by rising number within its size, each as long as a page is, and page 1 is the first
-pub record IsWhole (writer : Writer) : Type 0 where
+pub record IsConsistent (writer : Writer) : Type 0 where
   pub pages : ArePages 0 (pages_of writer) (page_size_of writer) (changes_of writer)
   pub first : BeginAtPageOne (changes_of writer)
 
--- what a writer sees over a view: the view with its changes committed behind it
+-- what a writer sees over a view: the view with its changes committed after it
 abbrev pub seen : View → Writer → View
 seen view writer = after view (changes_of writer) (pages_of writer)
 
 -- A writer that has changed nothing yet: it sees what the view shows.
 pub record IsBegun (view : View) (writer : Writer) : Type 0 where
-  pub whole : IsWhole writer
+  pub whole : IsConsistent writer
   pub size : pages_of writer ≡ view.size
   pub page_size : page_size_of writer ≡ view.page_size
   pub objects : IsFalse (makes_objects writer)
-  pub sees : (number : ℕ) (bytes : List ℕ) → Has (seen view writer) number bytes ↔ Has view number bytes
+  pub sees : (number : ℕ) (bytes : List ℕ) → ViewHas (seen view writer) number bytes ↔ ViewHas view number bytes
 
 -- the page of this number is at this place
 pub record IsAt (pages : List PageImage) (number index : ℕ) : Type 0 where
@@ -67,8 +67,8 @@ pub record IsUnchanged (old new : Writer) : Type 0 where
   pub objects : makes_objects new ≡ makes_objects old
 
 -- These pages were put: over whatever view the writer sees them, and at each other number what it saw before.
-pub record Puts (pages : List PageImage) (old new : Writer) : Type 0 where
-  pub sees : (view : View) (number : ℕ) (bytes : List ℕ) → Has (seen view new) number bytes ↔ (IsAmong pages number bytes ⊎ (IsNotAmong pages number × Has (seen view old) number bytes))
+pub record ReplacesPages (pages : List PageImage) (old new : Writer) : Type 0 where
+  pub sees : (view : View) (number : ℕ) (bytes : List ℕ) → ViewHas (seen view new) number bytes ↔ (IsAmong pages number bytes ⊎ (IsNotAmong pages number × ViewHas (seen view old) number bytes))
   pub size : pages_of new ≡ size_with pages (pages_of old)
   pub page_size : page_size_of new ≡ page_size_of old
   pub snapshot : snapshot_of new ≡ snapshot_of old
@@ -87,7 +87,7 @@ abbrev pub HasHeader : List PageImage → Header → Type 0
 HasHeader [] header = ⊥
 HasHeader (p ∷ ps) header = IsHeader p.bytes.items header
 
--- a page has this header, and is as it was behind it
+-- a page has this header, and is as it was after it
 pub record IsHeaded (old new : List ℕ) (header : Header) : Type 0 where
   pub header_is : IsHeader new header
   -- there is no other such page

@@ -4,5 +4,5 @@
 mod reading;
 mod writer;
 
-pub use reading::{HEADER_LEN, header_of, read_page};
+pub use reading::{header_of, read_page};
 pub use writer::Writer;

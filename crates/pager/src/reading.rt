@@ -1,34 +1,35 @@
 //! The pages of a snapshot.
 
+ghost use Rattle.sqlval.specs.PageSizes.{IsPageSize};
 ghost use Rattle.std.specs.Prelude.{◌≡◌, ◌⊎◌, ◌≤◌, ℕ, List, length, false, IfOk, IfErr, OnOk, Ok};
-ghost use Rattle.catalog.specs.Faults.{IsNoFileFault};
-ghost use Rattle.dbheader.specs.Header.{IsHeader, IsPageSize};
-ghost use Rattle.wal.specs.Known.{db_of, known_of, log_of, seen_by};
-ghost use Rattle.pager.specs.Views.{Has, IsPage, Tells, view_at};
-ghost use Rattle.walframe.specs.Accepted.{Leaves};
-ghost use Rattle.wal.specs.Whys.{HasReason};
+ghost use Rattle.sqlval.specs.Faults.{IsNotDiskFault, IsOutside};
+ghost use Rattle.dbheader.specs.Header.{IsHeader};
+ghost use Rattle.wal.specs.LogState.{db_of, state_of, log_of, seen_by, size_of};
+ghost use Rattle.pager.specs.Views.{ViewHas, IsViewPage, Tells, view_at};
+ghost use Rattle.walframe.specs.Accepted.{KeepsFile};
+ghost use Rattle.wal.specs.ErrorCauses.{HasCause};
 
 use dbheader::Header;
 use disk::Disk;
+use sqlval::limits::DATABASE_HEADER_LEN;
 use sqlval::{Fault, R};
 use std::alloc::Global;
 use wal::{Log, Snapshot};
 
-/// How many bytes the database's header has, at the front of page 1.
-pub const HEADER_LEN: usize = 100;
-
-/// Reads a page of a snapshot into room of its size.
+/// Reads a page of a snapshot into a buffer of the page size.
 fn read_into<D: Disk + Drop>(
     log: &mut Log<D>,
     snapshot: Snapshot,
     number: u32,
     page: &mut [u8],
 ) -> R<()>
-    ensures kept { (known_of log.new ≡ known_of log.old) × Leaves D.tells D.file (db_of log.old) (db_of log.new) × Leaves D.tells D.file (log_of log.old) (log_of log.new) }
-    ensures reason { HasReason false result log.old log.new }
-    ensures read { Tells log.old → seen_by snapshot ≤ (known_of log.old).frames → OnOk result (Has (view_at log.old snapshot) number page.new) }
-    ensures there { (bytes : List ℕ) → length page.old ≡ (known_of log.old).page_size → Tells log.old → seen_by snapshot ≤ (known_of log.old).frames → IsPage (view_at log.old snapshot) number bytes
-        → IfErr result (λ fault. (fault ≡ Fault.Memory) ⊎ (fault ≡ Fault.Io)) }
+    ensures kept { (state_of log.new ≡ state_of log.old) × KeepsFile D.tells D.file (db_of log.old) (db_of log.new) × KeepsFile D.tells D.file (log_of log.old) (log_of log.new) }
+    ensures cause { HasCause false result log.old log.new }
+    ensures read { Tells log.old → seen_by snapshot ≤ (state_of log.old).frames → OnOk result (ViewHas (view_at log.old snapshot) number page.new) }
+    ensures there { (bytes : List ℕ) → length page.old ≡ (state_of log.old).page_size → Tells log.old → seen_by snapshot ≤ (state_of log.old).frames → IsViewPage (view_at log.old snapshot) number bytes
+        → IfErr result IsOutside }
+    ensures within { OnOk result ((1 ≤ number) × (number ≤ size_of snapshot) × (length page.old ≡ (state_of log.old).page_size)) }
+    ensures not_blank { IfErr result (λ fault. fault ≡ Fault.Blank → ⊥) }
 {
     log.page(snapshot, number, page)
 }
@@ -40,13 +41,16 @@ pub fn read_page<D: Disk + Drop>(
     snapshot: Snapshot,
     number: u32,
 ) -> R<Vec<u8>>
-    ensures kept { (known_of log.new ≡ known_of log.old) × Leaves D.tells D.file (db_of log.old) (db_of log.new) × Leaves D.tells D.file (log_of log.old) (log_of log.new) }
-    ensures reason { HasReason false result log.old log.new }
-    ensures read { Tells log.old → seen_by snapshot ≤ (known_of log.old).frames → IfOk result (λ page. Has (view_at log.old snapshot) number page.items) }
-    // A page that is there is refused for want of memory or a failed call alone.
-    ensures there { (bytes : List ℕ) → Tells log.old → seen_by snapshot ≤ (known_of log.old).frames → IsPage (view_at log.old snapshot) number bytes
-        → IfErr result (λ fault. (fault ≡ Fault.Memory) ⊎ (fault ≡ Fault.Io)) }
-    ensures len { IfOk result (λ page. length page.items ≡ (known_of log.old).page_size) }
+    ensures kept { (state_of log.new ≡ state_of log.old) × KeepsFile D.tells D.file (db_of log.old) (db_of log.new) × KeepsFile D.tells D.file (log_of log.old) (log_of log.new) }
+    ensures cause { HasCause false result log.old log.new }
+    ensures read { Tells log.old → seen_by snapshot ≤ (state_of log.old).frames → IfOk result (λ page. ViewHas (view_at log.old snapshot) number page.items) }
+    // A page that exists is refused only if out of memory or if a disk's call failed.
+    ensures there { (bytes : List ℕ) → Tells log.old → seen_by snapshot ≤ (state_of log.old).frames → IsViewPage (view_at log.old snapshot) number bytes
+        → IfErr result IsOutside }
+    ensures len { IfOk result (λ page. length page.items ≡ (state_of log.old).page_size) }
+    // No page past the snapshot's size is read.
+    ensures within { OnOk result ((1 ≤ number) × (number ≤ size_of snapshot)) }
+    ensures not_blank { IfErr result (λ fault. fault ≡ Fault.Blank → ⊥) }
 {
     let mut page = vec![in alloc; 0; log.page_size() as usize]?;
     read_into(log, snapshot, number, page.as_mut_slice())?;
@@ -59,9 +63,10 @@ pub fn header_of(page: &[u8]) -> R<Header>
     // A header that is there is read.
     ensures only { (header : Header) → IsHeader page.now header → result ≡ Ok header }
     ensures found { IfOk result (λ header. IsHeader page.now header) }
-    ensures refused { IfErr result (λ fault. IsNoFileFault fault) }
+    ensures refused { IfErr result (λ fault. IsNotDiskFault fault) }
+    ensures not_blank { IfErr result (λ fault. fault ≡ Fault.Blank → ⊥) }
 {
-    match page.get(..HEADER_LEN) {
+    match page.get(..DATABASE_HEADER_LEN) {
         Some(front) => dbheader::read(front),
         None => Err(Fault::NotADatabase),
     }

@@ -1,30 +1,26 @@
 //! The pages that a transaction has changed.
 
+ghost use Rattle.sqlval.specs.PageSizes.{IsPageSize};
 ghost use Rattle.std.specs.Prelude.{◌≡◌, ◌⊎◌, ◌↔◌, ◌<◌, ◌≤◌, ℕ, List, [], ◌∷◌, ◌++◌, length, drop, Ok, true, false, IfOk, IfErr, IfSome, IfNone, IsTrue, OnOk};
-ghost use Rattle.catalog.specs.Faults.{IsNoFileFault};
-ghost use Rattle.dbheader.specs.Header.{IsPageSize};
+ghost use Rattle.sqlval.specs.Faults.{IsNotDiskFault, IsOutside};
 ghost use Rattle.sqlval.specs.declared.fault.Fault.TheVariants.{Memory, Io};
-ghost use Rattle.wal.specs.Commits.{IsKnownAfter, KeepsDisks};
-ghost use Rattle.wal.specs.Known.{db_of, known_of, log_of, seen_by, size_of};
+ghost use Rattle.wal.specs.Commits.{IsStateAfter, KeepsDisks};
+ghost use Rattle.wal.specs.LogState.{db_of, state_of, log_of, seen_by, size_of};
 ghost use Rattle.wal.specs.Laws.{IsAmong, IsNotAmong};
-ghost use Rattle.wal.specs.Whys.{HasReason};
-ghost use Rattle.walframe.specs.Accepted.{Leaves};
+ghost use Rattle.wal.specs.ErrorCauses.{HasCause};
+ghost use Rattle.walframe.specs.Accepted.{KeepsFile};
 ghost use Rattle.pager.specs.Commits.{CommitsPages, IsRefusedCommit, LeavesCommit, MayCommit};
 ghost use Rattle.pager.specs.Limits.{one_more, pages_of, page_size_of};
-ghost use Rattle.pager.specs.Views.{Has, IsPage, Tells, View, changes_of, view_at};
-ghost use Rattle.pager.specs.Writers.{AreObjectPages, HasHeader, IsAt, IsBegun, IsGapFor, IsHeaded, IsNextHeader, IsUnchanged, IsWhole, Puts, Reheads, makes_objects, seen, snapshot_of};
+ghost use Rattle.pager.specs.Views.{ViewHas, IsViewPage, Tells, View, changes_of, view_at};
+ghost use Rattle.pager.specs.Writers.{AreObjectPages, HasHeader, IsAt, IsBegun, IsGapFor, IsHeaded, IsNextHeader, IsUnchanged, IsConsistent, ReplacesPages, Reheads, makes_objects, seen, snapshot_of};
 
 use crate::reading::{header_of, read_page};
 use dbheader::Header;
 use disk::Disk;
+use sqlval::limits::{MAX_DATABASE_BYTES, MAX_PAGES};
 use sqlval::{Damage, Fault, R};
 use std::alloc::Global;
 use wal::{Log, PageImage, Snapshot};
-
-/// The most pages and bytes of a database.
-const MAX_PAGES: u32 = 65_536;
-
-const MAX_BYTES: u64 = 1_073_741_824;
 
 /// Writes bytes at the front of a page, as far as it has room.
 fn put_front(page: &mut [u8], front: &[u8])
@@ -34,7 +30,7 @@ fn put_front(page: &mut [u8], front: &[u8])
     page[..count].copy_from_slice(&front[..count]);
 }
 
-/// Gives a page this header.
+/// Writes a header at the front of a page.
 fn give_header(page: &mut PageImage, header: &Header)
     requires { IsPageSize header.now.page_size }
     ensures number { page.new.number ≡ page.old.number }
@@ -54,15 +50,15 @@ pub struct Writer {
 }
 
 impl Writer {
-    /// A writer that has changed nothing yet.
+    /// Starts a writer on a snapshot, with no change but a copy of page 1.
     pub fn begin<D: Disk + Drop>(alloc: Global, log: &mut Log<D>, snapshot: Snapshot) -> R<Writer>
-        ensures kept { (known_of log.new ≡ known_of log.old) × Leaves D.tells D.file (db_of log.old) (db_of log.new) × Leaves D.tells D.file (log_of log.old) (log_of log.new) }
-        ensures reason { HasReason false result log.old log.new }
+        ensures kept { (state_of log.new ≡ state_of log.old) × KeepsFile D.tells D.file (db_of log.old) (db_of log.new) × KeepsFile D.tells D.file (log_of log.old) (log_of log.new) }
+        ensures cause { HasCause false result log.old log.new }
         ensures stands { IfOk result (λ writer. snapshot_of writer ≡ snapshot) }
-        ensures begun { Tells log.old → seen_by snapshot ≤ (known_of log.old).frames → 1 ≤ size_of snapshot → IfOk result (λ writer. IsBegun (view_at log.old snapshot) writer) }
-        // Where page 1 is there, it is refused for want of memory or a failed call alone.
-        ensures there { (bytes : List ℕ) → Tells log.old → seen_by snapshot ≤ (known_of log.old).frames → IsPage (view_at log.old snapshot) 1 bytes
-            → IfErr result (λ fault. (fault ≡ Memory) ⊎ (fault ≡ Io)) }
+        ensures begun { Tells log.old → seen_by snapshot ≤ (state_of log.old).frames → 1 ≤ size_of snapshot → IfOk result (λ writer. IsBegun (view_at log.old snapshot) writer) }
+        // Where page 1 exists, it is refused only if out of memory or if a disk's call failed.
+        ensures there { (bytes : List ℕ) → Tells log.old → seen_by snapshot ≤ (state_of log.old).frames → IsViewPage (view_at log.old snapshot) 1 bytes
+            → IfErr result IsOutside }
     {
         let bytes = read_page(alloc, log, snapshot, 1)?;
         let mut pages = Vec::new(alloc);
@@ -76,29 +72,29 @@ impl Writer {
         })
     }
 
-    /// The snapshot that it stands on.
+    /// The snapshot that the writer started from.
     pub fn snapshot(&self) -> Snapshot
         ensures { result ≡ snapshot_of self.now }
     {
         self.snapshot
     }
 
-    /// Where a page is among the changed ones, or where it would go.
+    /// The place of a page among the changed ones, or the place where it would go.
     fn search(&self, number: u32) -> Result<usize, usize>
         ensures found { IfOk result (λ index. IsAt (changes_of self.now) number index) }
-        ensures gap { IsWhole self.now → IfErr result (λ index. IsGapFor (changes_of self.now) number index) }
+        ensures gap { IsConsistent self.now → IfErr result (λ index. IsGapFor (changes_of self.now) number index) }
         ensures within { IfErr result (λ index. index ≤ length (changes_of self.now)) }
     {
         self.pages.binary_search_by_key(&number, |page| page.number)
     }
 
-    /// A page, where it is among the changed ones.
+    /// The content of a changed page; None if the page isn't changed.
     pub fn find(&self, number: u32) -> Option<&[u8]>
         ensures found { IfSome result (λ page. IsAmong (changes_of self.now) number page.now) }
-        ensures none { IsWhole self.now → IfNone result (IsNotAmong (changes_of self.now) number) }
-        // So over whatever view it is what the writer sees, and where there is none, the writer sees what the view shows.
-        ensures shown { IsWhole self.now → IfSome result (λ page. (view : View) → Has (seen view self.now) number page.now) }
-        ensures below { IsWhole self.now → IfNone result ((view : View) (bytes : List ℕ) → Has (seen view self.now) number bytes ↔ Has view number bytes) }
+        ensures none { IsConsistent self.now → IfNone result (IsNotAmong (changes_of self.now) number) }
+        // So it is what the writer sees over any view; and where it is None, the writer sees what the view shows.
+        ensures shown { IsConsistent self.now → IfSome result (λ page. (view : View) → ViewHas (seen view self.now) number page.now) }
+        ensures below { IsConsistent self.now → IfNone result ((view : View) (bytes : List ℕ) → ViewHas (seen view self.now) number bytes ↔ ViewHas view number bytes) }
     {
         match self.search(number) {
             Ok(index) => Some(self.pages[index].bytes.as_slice()),
@@ -106,34 +102,34 @@ impl Writer {
         }
     }
 
-    /// The number of a page that is one past the present ones.
+    /// The number that a new page gets: one past the size. `Full` past the limits.
     pub fn next_number(&self) -> R<u32>
         ensures { result ≡ one_more (pages_of self.now) (page_size_of self.now) }
     {
         if self.size >= MAX_PAGES
-            || u64::from(self.size + 1) * u64::from(self.page_size) > MAX_BYTES
+            || u64::from(self.size + 1) * u64::from(self.page_size) > MAX_DATABASE_BYTES
         {
             return Err(Fault::Full);
         }
         Ok(self.size + 1)
     }
 
-    /// How many bytes a page has.
+    /// The page size, in bytes.
     pub fn page_size(&self) -> usize
         ensures { result ≡ page_size_of self.now }
     {
         self.page_size as usize
     }
 
-    /// Puts a page in the place of what it was, or behind all others.
+    /// Replaces a page, or adds one at the end.
     pub fn put(&mut self, page: PageImage) -> R<()>
-        ensures refused { IfErr result (λ fault. IsNoFileFault fault) }
-        ensures whole { IsWhole self.old → 1 ≤ page.number → length page.bytes.items ≡ page_size_of self.old → OnOk result (IsWhole self.new) }
-        ensures puts { IsWhole self.old → 1 ≤ page.number → length page.bytes.items ≡ page_size_of self.old → OnOk result (Puts (page ∷ []) self.old self.new) }
+        ensures refused { IfErr result (λ fault. IsNotDiskFault fault) }
+        ensures whole { IsConsistent self.old → 1 ≤ page.number → length page.bytes.items ≡ page_size_of self.old → OnOk result (IsConsistent self.new) }
+        ensures puts { IsConsistent self.old → 1 ≤ page.number → length page.bytes.items ≡ page_size_of self.old → OnOk result (ReplacesPages (page ∷ []) self.old self.new) }
         ensures unchanged { IfErr result (λ fault. (fault ≡ Memory) × IsUnchanged self.old self.new) }
         ensures objects { makes_objects self.new ≡ makes_objects self.old }
-        // A page that is among the changed ones is put without fail.
-        ensures replaced { IsWhole self.old → IfErr result (λ fault. IsNotAmong (changes_of self.old) page.number) }
+        // A page that is already changed is replaced without fail.
+        ensures replaced { IsConsistent self.old → IfErr result (λ fault. IsNotAmong (changes_of self.old) page.number) }
     {
         match self.search(page.number) {
             Ok(index) => self.pages[index] = page,
@@ -146,13 +142,13 @@ impl Writer {
         Ok(())
     }
 
-    /// Puts page 1 and a new page behind all others, both or neither.
+    /// Replaces page 1 and adds a new page at the end, both or neither.
     pub fn put_object(&mut self, schema: PageImage, root: PageImage) -> R<()>
-        ensures refused { IfErr result (λ fault. IsNoFileFault fault) }
-        ensures whole { IsWhole self.old → AreObjectPages (page_size_of self.old) schema root → OnOk result (IsWhole self.new) }
+        ensures refused { IfErr result (λ fault. IsNotDiskFault fault) }
+        ensures whole { IsConsistent self.old → AreObjectPages (page_size_of self.old) schema root → OnOk result (IsConsistent self.new) }
         ensures objects { OnOk result (IsTrue (makes_objects self.new)) }
-        ensures puts { IsWhole self.old → AreObjectPages (page_size_of self.old) schema root → OnOk result (Puts (schema ∷ root ∷ []) self.old self.new) }
-        ensures unchanged { IsWhole self.old → AreObjectPages (page_size_of self.old) schema root → IfErr result (λ fault. (fault ≡ Memory) × IsUnchanged self.old self.new) }
+        ensures puts { IsConsistent self.old → AreObjectPages (page_size_of self.old) schema root → OnOk result (ReplacesPages (schema ∷ root ∷ []) self.old self.new) }
+        ensures unchanged { IsConsistent self.old → AreObjectPages (page_size_of self.old) schema root → IfErr result (λ fault. (fault ≡ Memory) × IsUnchanged self.old self.new) }
     {
         self.put(root)?;
         self.put(schema)?;
@@ -165,11 +161,11 @@ impl Writer {
     pub fn commit<D: Disk + Drop>(&mut self, alloc: Global, log: &mut Log<D>) -> R<()>
         ensures commits { (page : List ℕ) (header : Header) → MayCommit log.old self.old page header → OnOk result (CommitsPages log.old self.old page header log.new) }
         ensures refused { (page : List ℕ) (header : Header) → MayCommit log.old self.old page header → IfErr result (IsRefusedCommit log.old self.old page header log.new self.new) }
-        // A stop leaves the frames of the newest view, or those of the one that the commit leaves, unless the log is as it was.
-        ensures stop { (page : List ℕ) (header : Header) → MayCommit log.old self.old page header → (log_of log.new ≡ log_of log.old) ⊎ LeavesCommit log.old self.old page header log.new }
-        ensures known { (page : List ℕ) (header : Header) → MayCommit log.old self.old page header → IsKnownAfter result (known_of log.old) (length (changes_of self.old)) (pages_of self.old) (known_of log.new) }
+        // A crash leaves the frames of the newest view, or those of the one that the commit leaves, unless the log is as it was.
+        ensures crash { (page : List ℕ) (header : Header) → MayCommit log.old self.old page header → (log_of log.new ≡ log_of log.old) ⊎ LeavesCommit log.old self.old page header log.new }
+        ensures known { (page : List ℕ) (header : Header) → MayCommit log.old self.old page header → IsStateAfter result (state_of log.old) (length (changes_of self.old)) (pages_of self.old) (state_of log.new) }
         ensures disks { KeepsDisks D.tells D.failures (db_of log.old) (db_of log.new) (log_of log.old) (log_of log.new) }
-        ensures reason { HasReason true result log.old log.new }
+        ensures cause { HasCause true result log.old log.new }
     {
         let old = self.header()?;
         let new = self.next_header(&old);
@@ -203,8 +199,8 @@ impl Writer {
 
     fn header(&self) -> R<Header>
         ensures size { IfOk result (λ header. IsPageSize header.page_size) }
-        ensures only { (header : Header) → IsWhole self.now → HasHeader (changes_of self.now) header → result ≡ Ok header }
-        ensures refused { IfErr result (λ fault. IsNoFileFault fault) }
+        ensures only { (header : Header) → IsConsistent self.now → HasHeader (changes_of self.now) header → result ≡ Ok header }
+        ensures refused { IfErr result (λ fault. IsNotDiskFault fault) }
     {
         match self.find(1) {
             Some(page) => header_of(page),

@@ -1,12 +1,12 @@
 -- Statements are read exactly: the parts put together.
 use Rattle.std.proofs.Common.{ℕ, List}
-use Rattle.parser.specs.Changes.{EndsStatement}
+use Rattle.grammar.specs.Changes.{EndsStatement}
 use Rattle.parser.specs.StatementReading.{statement_from}
-use Rattle.parser.specs.Statements.{IsStatement, is_statement_within}
-use Rattle.parser.proofs.InsertLaws.{exact_change}
-use Rattle.parser.proofs.Law.{Law}
+use Rattle.grammar.specs.Statements.{IsStatement, is_statement_within}
+use Rattle.queryparser.proofs.InsertLaws.{exact_change}
+use Rattle.grammar.proofs.Law.{Law}
 use Rattle.parser.proofs.NewObjectLaws.{exact_object}
-use Rattle.parser.proofs.SelectLaws.{exact_selection}
+use Rattle.queryparser.proofs.SelectLaws.{exact_selection}
 use Rattle.parser.proofs.StatementLaws as parts
 use Rattle.parser.proofs.ViewLaws.{exact_view}
 

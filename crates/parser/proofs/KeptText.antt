@@ -8,28 +8,27 @@ use Rattle.lexer.specs.Lex.{Lexed}
 use Rattle.syntax.specs.declared.create.Create.{Create}
 use Rattle.syntax.specs.declared.statement.Statement.{Statement}
 use Rattle.syntax.specs.declared.statement.Statement.TheVariants as statement
-use Rattle.expressions.specs.Pieces.{Piece, word, mark}
-use Rattle.parser.specs.NewObjects.{IsObject}
-use Rattle.parser.specs.Parsing.{pieces_of, sql_in}
-use Rattle.parser.specs.Parts.{said, unsaid}
-use Rattle.parser.specs.Statements as s
-use Rattle.parser.specs.Statements.{IsStatement, IsText}
-use Rattle.parser.specs.Texts.{Is}
+use Rattle.expressions.specs.Symbols.{Symbol, word, mark}
+use Rattle.grammar.specs.NewObjects.{IsObject}
+use Rattle.grammar.specs.Parts.{said, unsaid}
+use Rattle.grammar.specs.Statements as s
+use Rattle.grammar.specs.Statements.{IsStatement, IsText}
+use Rattle.grammar.specs.Texts.{IsStatementText, pieces_of, sql_in}
 use Rattle.parser.proofs.Quiet.{Quiet, behind_quiet}
 use Rattle.parser.proofs.QuietObjects.{quiet_object}
 use Rattle.parser.proofs.Kept.{Keeps, open_keeps, closed_keeps}
 
--- an object behind CREATE and its text
-record Makes (sql : List ℕ) (us : List Piece) (c : Create) : Type 0 where
-  pieces : List Piece
-  parts : us ≡ word w.Create ∷ pieces
-  object : IsObject pieces c.object
+-- an object after CREATE and its text
+record Makes (sql : List ℕ) (us : List Symbol) (c : Create) : Type 0 where
+  symbols : List Symbol
+  parts : us ≡ word w.Create ∷ symbols
+  object : IsObject symbols c.object
   kept : c.sql ≡ sql
 
-makes : (sql : List ℕ) (us : List Piece) (c : Create) (x : Statement) → IsStatement sql us x → x ≡ statement.Create c → Makes sql us c
+makes : (sql : List ℕ) (us : List Symbol) (c : Create) (x : Statement) → IsStatement sql us x → x ≡ statement.Create c → Makes sql us c
 makes sql _ c _ (s.create {us = us} {o = o} d) e =
     let same : record { sql = sql; object = o } ≡ c = cc in
-    subst (λ (c : Create). Makes sql (word w.Create ∷ us) c) same (record { pieces = us; parts = refl; object = d; kept = refl })
+    subst (λ (c : Create). Makes sql (word w.Create ∷ us) c) same (record { symbols = us; parts = refl; object = d; kept = refl })
 makes sql _ c _ (s.drop d) e = absurd cc
 makes sql _ c _ (s.change d) e = absurd cc
 makes sql _ c _ (s.select d) e = absurd cc
@@ -42,26 +41,26 @@ makes sql _ c _ (s.release t) e = absurd cc
 makes sql _ c _ (s.checkpoint p m) e = absurd cc
 
 -- the text of the tokens is the statement again
-again : (sql : List ℕ) (ps : List Piece) (c : Create) → Makes sql ps c → Keeps sql ps → Is c.sql (statement.Create c)
+again : (sql : List ℕ) (ps : List Symbol) (c : Create) → Makes sql ps c → Keeps sql ps → IsStatementText c.sql (statement.Create c)
 again sql ps c m k =
     let own : sql_in sql k.tokens ≡ c.sql = k.whole ∙ sym m.kept in
-    let made : IsStatement c.sql ps (statement.Create c) = subst (λ (us : List Piece). IsStatement c.sql us (statement.Create c)) (sym m.parts) (s.create m.object) in
-    let all : IsText c.sql ps (statement.Create c) = subst (λ (us : List Piece). IsText c.sql us (statement.Create c)) (append-nil ps) (s.text made unsaid) in
+    let made : IsStatement c.sql ps (statement.Create c) = subst (λ (us : List Symbol). IsStatement c.sql us (statement.Create c)) (sym m.parts) (s.create m.object) in
+    let all : IsText c.sql ps (statement.Create c) = subst (λ (us : List Symbol). IsText c.sql us (statement.Create c)) (append-nil ps) (s.text made unsaid) in
     let here : IsText (sql_in sql k.tokens) (pieces_of k.tokens) (statement.Create c) =
-    subst (λ (z : List ℕ). IsText z (pieces_of k.tokens) (statement.Create c)) (sym own) (subst (λ (us : List Piece). IsText c.sql us (statement.Create c)) (sym k.means) all) in
-    subst (λ (z : List ℕ). Is z (statement.Create c)) (sym m.kept) (record { tokens = k.tokens; cut = k.cuts; at = here })
+    subst (λ (z : List ℕ). IsText z (pieces_of k.tokens) (statement.Create c)) (sym own) (subst (λ (us : List Symbol). IsText c.sql us (statement.Create c)) (sym k.means) all) in
+    subst (λ (z : List ℕ). IsStatementText z (statement.Create c)) (sym m.kept) (record { tokens = k.tokens; cut = k.cuts; at = here })
 
-kept_by : (z : List ℕ) (ts : List Lexed) (ps : List Piece) (c : Create) (x : Statement) → Cuts 0 false z ts → IsText (sql_in z ts) ps x → pieces_of ts ≡ ps → x ≡ statement.Create c → Is c.sql (statement.Create c)
+kept_by : (z : List ℕ) (ts : List Lexed) (ps : List Symbol) (c : Create) (x : Statement) → Cuts 0 false z ts → IsText (sql_in z ts) ps x → pieces_of ts ≡ ps → x ≡ statement.Create c → IsStatementText c.sql (statement.Create c)
 kept_by z ts _ c x d (s.text {us = us} made unsaid) e is =
     let m = makes (sql_in z ts) us c x made is in
-    let quiet : Quiet (word w.Create ∷ m.pieces) = behind_quiet (word w.Create) m.pieces refl (quiet_object m.pieces c.object m.object) in
-    let here : pieces_of ts ≡ word w.Create ∷ m.pieces = e ∙ append-nil us ∙ m.parts in
-    again (sql_in z ts) us c m (subst (Keeps (sql_in z ts)) (sym m.parts) (open_keeps z ts (word w.Create) m.pieces d here quiet))
+    let quiet : Quiet (word w.Create ∷ m.symbols) = behind_quiet (word w.Create) m.symbols refl (quiet_object m.symbols c.object m.object) in
+    let here : pieces_of ts ≡ word w.Create ∷ m.symbols = e ∙ append-nil us ∙ m.parts in
+    again (sql_in z ts) us c m (subst (Keeps (sql_in z ts)) (sym m.parts) (open_keeps z ts (word w.Create) m.symbols d here quiet))
 kept_by z ts _ c x d (s.text {us = us} made said) e is =
     let m = makes (sql_in z ts) us c x made is in
-    let quiet : Quiet (word w.Create ∷ m.pieces) = behind_quiet (word w.Create) m.pieces refl (quiet_object m.pieces c.object m.object) in
-    let here : pieces_of ts ≡ word w.Create ∷ m.pieces ++ mark k.Semicolon ∷ [] = e ∙ ap (λ (vs : List Piece). vs ++ mark k.Semicolon ∷ []) m.parts in
-    again (sql_in z ts) us c m (subst (Keeps (sql_in z ts)) (sym m.parts) (closed_keeps z ts (word w.Create) m.pieces d here quiet))
+    let quiet : Quiet (word w.Create ∷ m.symbols) = behind_quiet (word w.Create) m.symbols refl (quiet_object m.symbols c.object m.object) in
+    let here : pieces_of ts ≡ word w.Create ∷ m.symbols ++ mark k.Semicolon ∷ [] = e ∙ ap (λ (vs : List Symbol). vs ++ mark k.Semicolon ∷ []) m.parts in
+    again (sql_in z ts) us c m (subst (Keeps (sql_in z ts)) (sym m.parts) (closed_keeps z ts (word w.Create) m.symbols d here quiet))
 
-pub kept_text : (z : List ℕ) (c : Create) → Is z (statement.Create c) → Is c.sql (statement.Create c)
+pub kept_text : (z : List ℕ) (c : Create) → IsStatementText z (statement.Create c) → IsStatementText c.sql (statement.Create c)
 kept_text z c x = kept_by z x.tokens (pieces_of x.tokens) c (statement.Create c) x.cut x.at refl refl

@@ -5,69 +5,69 @@ use Rattle.lexer.specs.declared.keyword.Keyword.TheVariants as w
 use Rattle.syntax.specs.declared.create.IndexDefinition.{IndexDefinition}
 use Rattle.syntax.specs.declared.create.NewObject.{NewObject}
 use Rattle.syntax.specs.declared.create.NewObject.TheVariants as object
-use Rattle.expressions.specs.Pieces.{Piece, same_word}
+use Rattle.expressions.specs.Symbols.{Symbol, same_word}
 use Rattle.expressions.specs.Reading.{after_word}
-use Rattle.parser.specs.Changes.{IsChange, is_change_within, EndsStatement}
-use Rattle.parser.specs.ChangeReading.{change_from}
-use Rattle.parser.specs.NewObjects as g
-use Rattle.parser.specs.NewObjects.{IsObject, is_object_within}
-use Rattle.parser.specs.Objects as o
-use Rattle.parser.specs.Objects.{IsIndex, IsView, is_view_within}
+use Rattle.grammar.specs.Changes.{IsChange, is_change_within, EndsStatement}
+use Rattle.queryparser.specs.ChangeReading.{change_from}
+use Rattle.grammar.specs.NewObjects as g
+use Rattle.grammar.specs.NewObjects.{IsObject, is_object_within}
+use Rattle.grammar.specs.Objects as o
+use Rattle.grammar.specs.Objects.{IsIndex, IsView, is_view_within}
 use Rattle.parser.specs.ObjectReading.{view_from, object_from}
-use Rattle.parser.specs.Parts.{said, unsaid}
-use Rattle.parser.specs.Queries.{IsSelection}
-use Rattle.parser.specs.QueryReading.{selection_from}
-use Rattle.parser.specs.Tables.{IsTable}
-use Rattle.parser.specs.Triggers.{IsTrigger}
-use Rattle.parser.specs.Within.{is_selection_within}
-use Rattle.parser.proofs.Chosen.{Made, Or, this, other, exact_making, exact_or, renamed}
-use Rattle.parser.proofs.Exact.{weaker}
-use Rattle.parser.proofs.Law.{Law}
-use Rattle.parser.proofs.ObjectLaws.{exact_index}
-use Rattle.parser.proofs.TableLaws.{exact_table}
+use Rattle.grammar.specs.Parts.{said, unsaid}
+use Rattle.grammar.specs.Queries.{IsSelection}
+use Rattle.queryparser.specs.QueryReading.{selection_from}
+use Rattle.grammar.specs.Tables.{IsTable}
+use Rattle.grammar.specs.Triggers.{IsTrigger}
+use Rattle.grammar.specs.Within.{is_selection_within}
+use Rattle.grammar.proofs.Chosen.{Made, Or, this, other, exact_making, exact_or, renamed}
+use Rattle.grammar.proofs.Exact.{weaker}
+use Rattle.grammar.proofs.Law.{Law}
+use Rattle.tableparser.proofs.IndexLaws.{exact_index}
+use Rattle.tableparser.proofs.TableLaws.{exact_table}
 use Rattle.parser.proofs.TriggerLaws.{exact_trigger}
 
-abbrev Table : List Piece → NewObject → Type 0
+abbrev Table : List Symbol → NewObject → Type 0
 Table = Made object.Table IsTable
 
-abbrev View : List Piece → NewObject → Type 0
+abbrev View : List Symbol → NewObject → Type 0
 View = Made object.View IsView
 
-abbrev Trigger : List Piece → NewObject → Type 0
+abbrev Trigger : List Symbol → NewObject → Type 0
 Trigger = Made object.Trigger IsTrigger
 
-abbrev Index : List Piece → NewObject → Type 0
+abbrev Index : List Symbol → NewObject → Type 0
 Index = Made object.Index IsIndex
 
-abbrev Created : List Piece → NewObject → Type 0
+abbrev Created : List Symbol → NewObject → Type 0
 Created = Or w.Table Table (Or w.View View (Or w.Trigger Trigger Index))
 
-index_lacks : (v : Keyword) → same_word w.Index v ≡ false → same_word w.Unique v ≡ false → (us : List Piece) (i : IndexDefinition) (rest : List Piece) → IsIndex us i → after_word v (us ++ rest) ≡ None
+index_lacks : (v : Keyword) → same_word w.Index v ≡ false → same_word w.Unique v ≡ false → (us : List Symbol) (i : IndexDefinition) (rest : List Symbol) → IsIndex us i → after_word v (us ++ rest) ≡ None
 unfolding after_word
 index_lacks v a b _ _ rest (o.index unsaid columns) = rw a refl
 index_lacks v a b _ _ rest (o.index said columns) = rw b refl
 
-not_trigger : (us : List Piece) (x : NewObject) (rest : List Piece) → Index us x → EndsStatement rest → after_word w.Trigger (us ++ rest) ≡ None
+not_trigger : (us : List Symbol) (x : NewObject) (rest : List Symbol) → Index us x → EndsStatement rest → after_word w.Trigger (us ++ rest) ≡ None
 not_trigger us x rest (i, r, same) f = index_lacks w.Trigger refl refl us i rest r
 
-not_view : (us : List Piece) (x : NewObject) (rest : List Piece) → Or w.Trigger Trigger Index us x → EndsStatement rest → after_word w.View (us ++ rest) ≡ None
+not_view : (us : List Symbol) (x : NewObject) (rest : List Symbol) → Or w.Trigger Trigger Index us x → EndsStatement rest → after_word w.View (us ++ rest) ≡ None
 unfolding after_word
 not_view _ x rest (this r) f = refl
 not_view us x rest (other (i, r, same)) f = index_lacks w.View refl refl us i rest r
 
-not_table : (us : List Piece) (x : NewObject) (rest : List Piece) → Or w.View View (Or w.Trigger Trigger Index) us x → EndsStatement rest → after_word w.Table (us ++ rest) ≡ None
+not_table : (us : List Symbol) (x : NewObject) (rest : List Symbol) → Or w.View View (Or w.Trigger Trigger Index) us x → EndsStatement rest → after_word w.Table (us ++ rest) ≡ None
 unfolding after_word
 not_table _ x rest (this r) f = refl
 not_table _ x rest (other (this r)) f = refl
 not_table us x rest (other (other (i, r, same))) f = index_lacks w.Table refl refl us i rest r
 
-object_forth : (us : List Piece) (x : NewObject) → Created us x → IsObject us x
+object_forth : (us : List Symbol) (x : NewObject) → Created us x → IsObject us x
 object_forth _ x (this (t, r, same)) = rw (← same) (g.makes_table r)
 object_forth _ x (other (this (v, r, same))) = rw (← same) (g.makes_view r)
 object_forth _ x (other (other (this (t, r, same)))) = rw (← same) (g.makes_trigger r)
 object_forth us x (other (other (other (i, r, same)))) = rw (← same) (g.makes_index r)
 
-object_back : (us : List Piece) (x : NewObject) → IsObject us x → Created us x
+object_back : (us : List Symbol) (x : NewObject) → IsObject us x → Created us x
 object_back _ _ (g.makes_table {t = t} r) = this (t, r, refl)
 object_back _ _ (g.makes_view {v = v} r) = other (this (v, r, refl))
 object_back _ _ (g.makes_trigger {t = t} r) = other (other (this (t, r, refl)))

@@ -13,14 +13,14 @@ use Rattle.lexer.specs.declared.token.Token.{Token}
 use Rattle.syntax.specs.declared.statement.Statement.{Statement}
 use Rattle.expressions.specs.declared.refusal.Refusal.{Refusal}
 use Rattle.expressions.specs.declared.refusal.Refusal.TheVariants.{Memory, Syntax, TooLong, Unsupported}
-use Rattle.expressions.specs.Pieces.{Piece, pieces}
+use Rattle.expressions.specs.Symbols.{Symbol, symbols}
 use Rattle.expressions.specs.Reading.{Gives}
 use Rattle.parser.specs.StatementReading.{whole_from, statement_from, end_from}
 use Rattle.parser.specs.Spelled.{is_closing, start_at, end_at, span, sql_of}
-use Rattle.parser.specs.Parsing as parsing
-use Rattle.parser.specs.Parsing.{pieces_of, body_end, sql_in, begins_at, place_of, fault_of, answered, parsed, parsed_by}
+use Rattle.parser.specs.Parsing.{begins_at, place_of, fault_of, answered, parsed, parsed_by}
+use Rattle.grammar.specs.Texts.{is_semicolon, pieces_of, body_end, sql_in}
 
-pub pieces_same : (ts : List Token) → pieces_of (map lex.seen ts) ≡ pieces ts
+pub pieces_same : (ts : List Token) → pieces_of (map lex.seen ts) ≡ symbols ts
 pieces_same [] = refl
 pieces_same (t ∷ ts) = rw (pieces_same ts) refl
 
@@ -33,11 +33,11 @@ there total [] i d lt = absurd (omega (arith, lt))
 there total (t ∷ ts) zero d lt = refl
 there total (t ∷ ts) (suc i) d lt = there total ts i d (omega (arith, lt))
 
-behind : (total : ℕ) (ts : List Token) (i : ℕ) → length ts ≤ i → total ≡ begins_at total (drop i (map lex.seen ts))
-behind total [] zero le = refl
-behind total [] (suc i) le = refl
-behind total (t ∷ ts) zero le = absurd (omega (arith, le))
-behind total (t ∷ ts) (suc i) le = behind total ts i (omega (arith, le))
+preceded : (total : ℕ) (ts : List Token) (i : ℕ) → length ts ≤ i → total ≡ begins_at total (drop i (map lex.seen ts))
+preceded total [] zero le = refl
+preceded total [] (suc i) le = refl
+preceded total (t ∷ ts) zero le = absurd (omega (arith, le))
+preceded total (t ∷ ts) (suc i) le = preceded total ts i (omega (arith, le))
 
 pub place_there : (total : ℕ) (ts : List Token) (left i : ℕ) (d : Token) → i ≡ length ts - left → i < length ts → (get_or ts i d).start ≡ place_of total (map lex.seen ts) left
 place_there total ts left i d e lt =
@@ -47,7 +47,7 @@ place_there total ts left i d e lt =
 pub place_behind : (total : ℕ) (ts : List Token) (left i : ℕ) → i ≡ length ts - left → length ts ≤ i → total ≡ place_of total (map lex.seen ts) left
 place_behind total ts left i e le =
     let same : i ≡ length (map lex.seen ts) - left = e ∙ ap (λ n. n - left) (sym (seen_count ts)) in
-    behind total ts i le ∙ ap (λ n. begins_at total (drop n (map lex.seen ts))) same
+    preceded total ts i le ∙ ap (λ n. begins_at total (drop n (map lex.seen ts))) same
 
 -- ---- the text of a statement
 
@@ -83,16 +83,16 @@ longer_text z t u us n false e c =
     open_end (suc (length us)) (t ∷ u ∷ us) t.start refl (subst (λ (n : ℕ). is_closing (slice_get (t ∷ u ∷ us) n) ≡ false) long c) in
     span_some z (t ∷ u ∷ us) (length (t ∷ u ∷ us)) (omega arith) ∙ ap (λ (m : ℕ). slice_range z t.start (end_at m (t ∷ u ∷ us))) (sym e ∙ long) ∙ ap (slice_range z t.start) ends
 
-one_text : (z : List ℕ) (t : Token) (b : Bool) → parsing.is_semicolon t.kind ≡ b → is_closing (Some t) ≡ b → sql_of z (t ∷ []) ≡ sql_in z (map lex.seen (t ∷ []))
+one_text : (z : List ℕ) (t : Token) (b : Bool) → is_semicolon t.kind ≡ b → is_closing (Some t) ≡ b → sql_of z (t ∷ []) ≡ sql_in z (map lex.seen (t ∷ []))
 one_text z t true e f = let none : t.start - t.start ≡ 0 = omega arith in rw (e, none) refl
 one_text z t false e f = rw e refl
 
 pub sql_same : (z : List ℕ) (ts : List Token) → sql_of z ts ≡ sql_in z (map lex.seen ts)
 sql_same z [] = refl
-sql_same z (t ∷ []) = one_text z t (parsing.is_semicolon t.kind) refl refl
+sql_same z (t ∷ []) = one_text z t (is_semicolon t.kind) refl refl
 sql_same z (t ∷ u ∷ us) = longer_text z t u us (length (t ∷ u ∷ us) - 1) (is_closing (slice_get (t ∷ u ∷ us) (length (t ∷ u ∷ us) - 1))) refl refl
 
-read_same : (z : List ℕ) (ts : List Token) (r : Result Statement Refusal) → whole_from (sql_of z ts) (pieces ts) ≡ r → parsed z (map lex.seen ts) ≡ answered (length z) (map lex.seen ts) r
+read_same : (z : List ℕ) (ts : List Token) (r : Result Statement Refusal) → whole_from (sql_of z ts) (symbols ts) ≡ r → parsed z (map lex.seen ts) ≡ answered (length z) (map lex.seen ts) r
 read_same z ts r e = rw (← sql_same z ts, pieces_same ts, e) refl
 
 -- what a text is answered whose tokens are these
@@ -107,11 +107,11 @@ pub parses_lexed : (z : List ℕ) (given : Result (List Lexed) Fault) (f : Fault
 parses_lexed z given fault.Memory h = tt
 parses_lexed z given f h = refused_first z given f h
 
-pub parses_ok : (z : List ℕ) (given : Result (List Lexed) Fault) (ts : List Token) (s : Statement) → given ≡ Ok (map lex.seen ts) → whole_from (sql_of z ts) (pieces ts) ≡ Ok s
+pub parses_ok : (z : List ℕ) (given : Result (List Lexed) Fault) (ts : List Token) (s : Statement) → given ≡ Ok (map lex.seen ts) → whole_from (sql_of z ts) (symbols ts) ≡ Ok s
     → Parses z given (Ok s)
 parses_ok z given ts s e h = rw e (read_same z ts (Ok s) h)
 
-refused_so : (z : List ℕ) (ts : List Token) (r : Refusal) → Gives {X = Statement} (λ s. s) (Err r) (whole_from (sql_of z ts) (pieces ts))
+refused_so : (z : List ℕ) (ts : List Token) (r : Refusal) → Gives {X = Statement} (λ s. s) (Err r) (whole_from (sql_of z ts) (symbols ts))
     → Parses z (Ok (map lex.seen ts)) (Err (fault_of (length z) (map lex.seen ts) r))
 refused_so z ts Memory h = tt
 refused_so z ts (Syntax n) h = read_same z ts (Err (Syntax n)) h
@@ -119,11 +119,11 @@ refused_so z ts TooLong h = read_same z ts (Err TooLong) h
 refused_so z ts Unsupported h = read_same z ts (Err Unsupported) h
 
 pub parses_err : (z : List ℕ) (given : Result (List Lexed) Fault) (ts : List Token) (r : Refusal) (f : Fault) → given ≡ Ok (map lex.seen ts)
-    → Gives {X = Statement} (λ s. s) (Err r) (whole_from (sql_of z ts) (pieces ts)) → f ≡ fault_of (length z) (map lex.seen ts) r → Parses z given (Err f)
+    → Gives {X = Statement} (λ s. s) (Err r) (whole_from (sql_of z ts) (symbols ts)) → f ≡ fault_of (length z) (map lex.seen ts) r → Parses z given (Err f)
 parses_err z given ts r f e h k = rw (e, k) (refused_so z ts r h)
 
--- a statement with more behind it than a closing semicolon is refused as what is behind it
-pub refused_behind : (sql : List ℕ) (ts rest : List Piece) (s : Statement) (r : Refusal) → statement_from sql ts ≡ Ok (s, rest) → Gives {X = Unit {0}} {Y = List Piece} (λ u. []) (Err r) (end_from rest)
+-- a statement with more after it than a closing semicolon is refused as what is after it
+pub refused_behind : (sql : List ℕ) (ts rest : List Symbol) (s : Statement) (r : Refusal) → statement_from sql ts ≡ Ok (s, rest) → Gives {X = Unit {0}} {Y = List Symbol} (λ u. []) (Err r) (end_from rest)
     → Gives {X = Statement} (λ s. s) (Err r) (whole_from sql ts)
 unfolding whole_from
 refused_behind sql ts rest s Memory h k = tt

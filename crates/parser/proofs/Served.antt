@@ -1,4 +1,4 @@
--- No part of a statement is refused as one that isn't served.
+-- No part of a statement is refused as one that isn't supported.
 use Rattle.std.proofs.Common.{◌≡◌, ℕ, zero, suc, max, Bool, true, false, if◌then◌else◌, nat_le, Option, Some, None, List, [], ◌∷◌, ◌++◌, length, Result, Ok, Err, refl}
 use Rattle.lexer.specs.declared.keyword.Keyword.{Keyword}
 use Rattle.lexer.specs.declared.keyword.Keyword.TheVariants as w
@@ -10,44 +10,44 @@ use Rattle.syntax.specs.declared.expr.Operator.{Operator}
 use Rattle.expressions.specs.Grammar.{operator}
 use Rattle.expressions.specs.declared.refusal.Refusal.{Refusal}
 use Rattle.expressions.specs.declared.refusal.Refusal.TheVariants.{TooLong, Unsupported}
-use Rattle.expressions.specs.Pieces.{Piece, Plain, Name, Text, is_mark}
+use Rattle.expressions.specs.Symbols.{Symbol, Plain, Name, Text, is_mark}
 use Rattle.expressions.specs.Reading as r
 use Rattle.expressions.specs.Reading.{Read, ◌>>=◌, Deeps, after_word, or_fail, word_from, mark_from, name_from, over}
 use Rattle.expressions.specs.declared.levels.Deep.{Deep}
-use Rattle.parser.specs.Readers.{Reader}
+use Rattle.grammar.specs.Readers.{Reader}
 
 abbrev pub is_unsupported : Refusal → Bool
 is_unsupported Unsupported = true
 is_unsupported _ = false
 
--- whether a statement isn't served
-abbrev pub unserved : {A : Type 0} → Result A Refusal → Bool
-unserved (Ok x) = false
-unserved (Err e) = is_unsupported e
+-- whether a statement isn't supported
+abbrev pub unsupported : {A : Type 0} → Result A Refusal → Bool
+unsupported (Ok x) = false
+unsupported (Err e) = is_unsupported e
 
 -- a reader that refuses nothing as that
 abbrev pub Serves : {A : Type 0} → Reader A → Type 0
-Serves p = (ts : List Piece) → unserved (p ts) ≡ false
+Serves p = (ts : List Symbol) → unsupported (p ts) ≡ false
 
-pub bind : {A B : Type 0} (x : Result A Refusal) (f : A → Result B Refusal) → unserved x ≡ false → ((a : A) → unserved (f a) ≡ false) → unserved (x >>= f) ≡ false
+pub bind : {A B : Type 0} (x : Result A Refusal) (f : A → Result B Refusal) → unsupported x ≡ false → ((a : A) → unsupported (f a) ≡ false) → unsupported (x >>= f) ≡ false
 bind (Ok a) f h l = l a
 bind (Err e) f h l = h
 
-by_bool : {A : Type 0} (b : Bool) (x y : Result A Refusal) → unserved x ≡ false → unserved y ≡ false → unserved (if b then x else y) ≡ false
+by_bool : {A : Type 0} (b : Bool) (x y : Result A Refusal) → unsupported x ≡ false → unsupported y ≡ false → unsupported (if b then x else y) ≡ false
 by_bool true x y h l = h
 by_bool false x y h l = l
 
 -- ---- words, marks and names
 
-by_found : (ts : List Piece) (o : Option (List Piece)) → unserved (or_fail ts o) ≡ false
+by_found : (ts : List Symbol) (o : Option (List Symbol)) → unsupported (or_fail ts o) ≡ false
 by_found ts (Some rest) = refl
 by_found ts None = refl
 
-pub word_serves : (v : Keyword) (ts : List Piece) → unserved (word_from v ts) ≡ false
+pub word_serves : (v : Keyword) (ts : List Symbol) → unsupported (word_from v ts) ≡ false
 unfolding word_from
 word_serves v ts = by_found ts (after_word v ts)
 
-pub mark_serves : (m : Kind) (ts : List Piece) → unserved (mark_from m ts) ≡ false
+pub mark_serves : (m : Kind) (ts : List Symbol) → unsupported (mark_from m ts) ≡ false
 unfolding mark_from
 mark_serves m [] = refl
 mark_serves m (p ∷ ts) = by_bool (is_mark m p) (Ok ts) (r.fail (p ∷ ts)) refl refl
@@ -64,7 +64,7 @@ maybe_name_serves [] = refl
 maybe_name_serves (Name c ∷ ts) = refl
 maybe_name_serves (_ ∷ ts) = refl
 
-next_name_serves : (go : List (List ℕ) → List Piece → Read (List (List ℕ))) → ((found : List (List ℕ)) → Serves (go found)) → (found : List (List ℕ)) → Serves (r.next_name go found)
+next_name_serves : (go : List (List ℕ) → List Symbol → Read (List (List ℕ))) → ((found : List (List ℕ)) → Serves (go found)) → (found : List (List ℕ)) → Serves (r.next_name go found)
 next_name_serves go s found [] = refl
 next_name_serves go s found (Plain k.Comma ∷ ts) = s found ts
 next_name_serves go s found (_ ∷ ts) = refl
@@ -95,7 +95,7 @@ over_serves : (room : ℕ) (e : Tree) (d : ℕ) → Serves (over room e d)
 unfolding over
 over_serves room e d ts = by_bool (nat_le (suc d) room) (Ok (record { tree = e; depth = suc d }, ts)) (Err TooLong) refl refl
 
-literal_serves : (o : Option Tree) (ts all : List Piece) → unserved (r.by_literal o ts all) ≡ false
+literal_serves : (o : Option Tree) (ts all : List Symbol) → unsupported (r.by_literal o ts all) ≡ false
 literal_serves (Some e) ts all = refl
 literal_serves None ts all = refl
 
@@ -116,15 +116,15 @@ raise_serves : Serves r.raise_from
 unfolding r.raise_from
 raise_serves ts =
     bind (mark_from k.LeftParen ts) _ (mark_serves k.LeftParen ts) (λ inside. bind (r.action_from inside) _ (action_serves inside) (λ action.
-    bind (mark_from k.Comma action.1) _ (mark_serves k.Comma action.1) (λ behind. bind (r.text_from behind) _ (text_serves behind) (λ message.
+    bind (mark_from k.Comma action.1) _ (mark_serves k.Comma action.1) (λ preceded. bind (r.text_from preceded) _ (text_serves preceded) (λ message.
     bind (mark_from k.RightParen message.1) _ (mark_serves k.RightParen message.1) (λ after. refl)))))
 
-next_item_serves : (go : Deeps → List Piece → Read Deeps) → ((found : Deeps) → Serves (go found)) → (found : Deeps) → Serves (r.next_item go found)
+next_item_serves : (go : Deeps → List Symbol → Read Deeps) → ((found : Deeps) → Serves (go found)) → (found : Deeps) → Serves (r.next_item go found)
 next_item_serves go s found [] = refl
 next_item_serves go s found (Plain k.Comma ∷ ts) = s found ts
 next_item_serves go s found (_ ∷ ts) = refl
 
-module _ (inner : ℕ → List Piece → Read Deep) (room : ℕ) (within : (level : ℕ) → Serves (inner level)) where
+module _ (inner : ℕ → List Symbol → Read Deep) (room : ℕ) (within : (level : ℕ) → Serves (inner level)) where
   items_upto_serve : (n : ℕ) (found : Deeps) → Serves (r.items_upto inner room n found)
   unfolding r.items_upto
   items_upto_serve zero found ts = refl
@@ -186,7 +186,7 @@ module _ (inner : ℕ → List Piece → Read Deep) (room : ℕ) (within : (leve
   unfolding r.collate
   collate_serves left ts = bind (name_from ts) _ (name_serves ts) (λ c. over_serves room (tree.Collate left.tree c.0) left.depth c.1)
 
-  operator_serves : (level : ℕ) (o : Option Operator) (left : Deep) (ts all : List Piece) → unserved (r.by_operator inner room level o left ts all) ≡ false
+  operator_serves : (level : ℕ) (o : Option Operator) (left : Deep) (ts all : List Symbol) → unsupported (r.by_operator inner room level o left ts all) ≡ false
   operator_serves level (Some o) left ts all = operand_serves level o left ts
   operator_serves level None left ts all = refl
 
@@ -230,10 +230,10 @@ pub expressions_serve : Serves r.expressions_from
 unfolding r.expressions_from
 expressions_serve ts = bind (r.items_from (r.level_at 100) 101 ts) _ (items_upto_serve (r.level_at 100) 101 (level_serves 100) (length ts) r.no_items ts) (λ x. refl)
 
-pub maybe_behind_serves : (v : Keyword) → Serves (r.maybe_behind_from v)
-unfolding r.maybe_behind_from
+pub maybe_behind_serves : (v : Keyword) → Serves (r.maybe_after_from v)
+unfolding r.maybe_after_from
 maybe_behind_serves v ts = by_place (after_word v ts)
   where
-    by_place : (o : Option (List Piece)) → unserved (r.maybe_by ts o) ≡ false
+    by_place : (o : Option (List Symbol)) → unsupported (r.maybe_by ts o) ≡ false
     by_place None = refl
     by_place (Some rest) = bind (r.expression_from rest) _ (expression_serves rest) (λ x. refl)

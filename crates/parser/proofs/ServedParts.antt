@@ -1,4 +1,4 @@
--- No part of a statement that readers are made of is refused as one that isn't served.
+-- No part of a statement that readers are made of is refused as one that isn't supported.
 use Rattle.std.proofs.Common.{◌≡◌, ℕ, zero, suc, Bool, true, false, if◌then◌else◌, ℤ, Option, Some, None, List, [], ◌∷◌, ◌++◌, length, Result, Ok, refl}
 use Rattle.lexer.specs.declared.keyword.Keyword.{Keyword}
 use Rattle.lexer.specs.declared.keyword.Keyword.TheVariants as w
@@ -9,19 +9,20 @@ use Rattle.syntax.specs.declared.query.JoinKind.{JoinKind}
 use Rattle.syntax.specs.declared.query.JoinKind.TheVariants as join
 use Rattle.syntax.specs.declared.query.ResultItem.TheVariants as item
 use Rattle.expressions.specs.declared.refusal.Refusal.{Refusal}
-use Rattle.expressions.specs.Pieces.{Piece, Plain, Text, Blob}
+use Rattle.expressions.specs.Symbols.{Symbol, Plain, Text, Blob}
 use Rattle.expressions.specs.Reading as r
-use Rattle.expressions.specs.Reading.{Read, ◌>>=◌, after_word, word_from, mark_from, name_from, optional_from}
-use Rattle.parser.specs.ChangeReading as c
+use Rattle.expressions.specs.Reading.{◌>>=◌, after_word, word_from, mark_from, name_from, optional_from, after_comma}
+use Rattle.queryparser.specs.ChangeReading as c
 use Rattle.parser.specs.ObjectReading as o
-use Rattle.parser.specs.QueryReading as q
-use Rattle.parser.specs.Readers.{Reader, yields, made, both, behind, behind_mark, before_mark, optionally, choose, choose_by, after_comma, choose_comma, maybe, next_by, listed_upto, listed, more_by, many_upto, many, limited_by, limited}
-use Rattle.parser.specs.TableReading as t
-use Rattle.parser.proofs.Served.{unserved, Serves, bind, word_serves, mark_serves, name_serves, maybe_name_serves, names_serve, enclosed_serves, maybe_row_serves, expression_serves, expressions_serve, maybe_behind_serves}
+use Rattle.queryparser.specs.QueryReading as q
+use Rattle.grammar.specs.Readers.{Reader, yields, made, both, preceded, after_mark, before_mark, optionally, choose, choose_by, choose_comma, maybe, next_by, listed_upto, listed, more_by, many_upto, many, limited_by, limited}
+use Rattle.tableparser.specs.IndexReading as index
+use Rattle.tableparser.specs.TableReading as t
+use Rattle.parser.proofs.Served.{unsupported, Serves, bind, word_serves, mark_serves, name_serves, maybe_name_serves, names_serve, enclosed_serves, maybe_row_serves, expression_serves, expressions_serve, maybe_behind_serves}
 
 -- ---- readers made of others
 
-by_bool : {A : Type 0} (b : Bool) (x y : Result A Refusal) → unserved x ≡ false → unserved y ≡ false → unserved (if b then x else y) ≡ false
+by_bool : {A : Type 0} (b : Bool) (x y : Result A Refusal) → unsupported x ≡ false → unsupported y ≡ false → unsupported (if b then x else y) ≡ false
 by_bool true x y h l = h
 by_bool false x y h l = l
 
@@ -34,12 +35,12 @@ module _ {A : Type 0} (p : Reader A) (P : Serves p) where
   unfolding made
   made_serves f ts = bind (p ts) _ (P ts) (λ a. refl)
 
-  pub behind_serves : (v : Keyword) → Serves (behind v p)
-  unfolding behind
+  pub behind_serves : (v : Keyword) → Serves (preceded v p)
+  unfolding preceded
   behind_serves v ts = bind (word_from v ts) p (word_serves v ts) P
 
-  behind_mark_serves : (m : Kind) → Serves (behind_mark m p)
-  unfolding behind_mark
+  behind_mark_serves : (m : Kind) → Serves (after_mark m p)
+  unfolding after_mark
   behind_mark_serves m ts = bind (mark_from m ts) p (mark_serves m ts) P
 
   pub before_mark_serves : (m : Kind) → Serves (before_mark m p)
@@ -54,11 +55,11 @@ module _ {A : Type 0} (p : Reader A) (P : Serves p) where
   unfolding limited
   limited_serves fits ts = bind (p ts) (λ a. limited_by a (fits a.0)) (P ts) (λ a. by_fit a (fits a.0))
     where
-      by_fit : (a : A × List Piece) (b : Bool) → unserved (limited_by a b) ≡ false
+      by_fit : (a : A × List Symbol) (b : Bool) → unsupported (limited_by a b) ≡ false
       by_fit a true = refl
       by_fit a false = refl
 
-  by_next : (go : List A → Reader (List A)) → ((found : List A) → Serves (go found)) → (found : List A) (ts : List Piece) (x : Option (List Piece)) → unserved (next_by go found ts x) ≡ false
+  by_next : (go : List A → Reader (List A)) → ((found : List A) → Serves (go found)) → (found : List A) (ts : List Symbol) (x : Option (List Symbol)) → unsupported (next_by go found ts x) ≡ false
   by_next go s found ts (Some rest) = s found rest
   by_next go s found ts None = refl
 
@@ -79,7 +80,7 @@ module _ {A B : Type 0} (p : Reader A) (q : Reader B) (P : Serves p) (Q : Serves
   both_serves ts = bind (p ts) _ (P ts) (λ a. bind (q a.1) _ (Q a.1) (λ b. refl))
 
 module _ {A : Type 0} (p q : Reader A) (P : Serves p) (Q : Serves q) where
-  pub choose_by_serves : (ts : List Piece) (x : Option (List Piece)) → unserved (choose_by p q ts x) ≡ false
+  pub choose_by_serves : (ts : List Symbol) (x : Option (List Symbol)) → unsupported (choose_by p q ts x) ≡ false
   choose_by_serves ts (Some rest) = P rest
   choose_by_serves ts None = Q ts
 
@@ -101,7 +102,7 @@ module _ {A : Type 0} (p : Reader (Option A)) (P : Serves p) where
   many_upto_serves zero found ts = refl
   many_upto_serves (suc n) found ts = bind (p ts) (λ a. more_by (many_upto p n) found a.0 a.1) (P ts) (λ a. by_more a.0 a.1 (many_upto_serves n))
     where
-      by_more : (x : Option A) (rest : List Piece) → ((found : List A) → Serves (many_upto p n found)) → unserved (more_by (many_upto p n) found x rest) ≡ false
+      by_more : (x : Option A) (rest : List Symbol) → ((found : List A) → Serves (many_upto p n found)) → unsupported (more_by (many_upto p n) found x rest) ≡ false
       by_more (Some a) rest s = s (found ++ a ∷ []) rest
       by_more None rest s = refl
 
@@ -111,8 +112,8 @@ module _ {A : Type 0} (p : Reader (Option A)) (P : Serves p) where
 
 -- ---- queries
 
-integer_serves : Serves q.integer_from
-unfolding q.integer_from
+integer_serves : Serves r.integer_from
+unfolding r.integer_from
 integer_serves [] = refl
 integer_serves (Plain (k.Integer n) ∷ ts) = refl
 integer_serves (_ ∷ ts) = refl
@@ -125,7 +126,7 @@ named_serves : Serves q.named_from
 unfolding q.named_from
 named_serves ts = by_all (q.after_all_of ts)
   where
-    by_all : (x : Option (List Piece)) → unserved (q.all_of_by ts x) ≡ false
+    by_all : (x : Option (List Symbol)) → unsupported (q.all_of_by ts x) ≡ false
     by_all (Some rest) = bind (name_from ts) _ (name_serves ts) (λ a. refl)
     by_all None = value_serves ts
 
@@ -161,7 +162,7 @@ next_join_serves : Serves q.next_join_from
 unfolding q.next_join_from
 next_join_serves ts = bind (q.join_kind_from ts) (λ a. q.join_by a.0 a.1) (join_kind_serves ts) (λ a. by_kind a.0 a.1)
   where
-    by_kind : (x : Option JoinKind) (rest : List Piece) → unserved (q.join_by x rest) ≡ false
+    by_kind : (x : Option JoinKind) (rest : List Symbol) → unsupported (q.join_by x rest) ≡ false
     by_kind None rest = refl
     by_kind (Some kind) rest = bind (q.join_from kind rest) _ (join_serves kind rest) (λ a. refl)
 
@@ -222,9 +223,9 @@ change_serves = choose_serves _ _ (made_serves _ insert_serves _) (choose_serves
 
 number_serves : (sign : ℕ → Option ℤ) → Serves (t.number_from sign)
 unfolding t.number_from
-number_serves sign ts = bind (q.integer_from ts) (λ a. t.number_by ts a.1 (sign a.0)) (integer_serves ts) (λ a. by_sign a.1 (sign a.0))
+number_serves sign ts = bind (r.integer_from ts) (λ a. t.number_by ts a.1 (sign a.0)) (integer_serves ts) (λ a. by_sign a.1 (sign a.0))
   where
-    by_sign : (rest : List Piece) (x : Option ℤ) → unserved (t.number_by ts rest x) ≡ false
+    by_sign : (rest : List Symbol) (x : Option ℤ) → unsupported (t.number_by ts rest x) ≡ false
     by_sign rest (Some z) = refl
     by_sign rest None = refl
 
@@ -243,7 +244,7 @@ sized_serves : Serves t.sized_from
 unfolding t.sized_from t.sizes_from t.second_from
 sized_serves ts =
     choose_by_serves _ _ (before_mark_serves _ (made_serves _ (both_serves _ _ integer_serves (choose_comma_serves _ _ (made_serves _ integer_serves (λ n. true)) (yields_serves false))) (λ n. true)) k.RightParen)
-    (yields_serves false) ts (t.after_paren ts)
+    (yields_serves false) ts (r.after_paren ts)
 
 declared_serves : Serves t.declared_from
 unfolding t.declared_from
@@ -263,7 +264,7 @@ next_column_serves : Serves t.next_column_from
 unfolding t.next_column_from
 next_column_serves ts = by_comma (after_comma ts)
   where
-    by_comma : (x : Option (List Piece)) → unserved (t.next_column_by ts x) ≡ false
+    by_comma : (x : Option (List Symbol)) → unsupported (t.next_column_by ts x) ≡ false
     by_comma (Some rest) = by_bool (t.begins_rule rest) (Ok (None, ts)) (t.column_from rest >>= λ a. Ok (Some a.0, a.1)) refl (bind (t.column_from rest) _ (column_serves rest) (λ a. refl))
     by_comma None = refl
 
@@ -294,11 +295,11 @@ view_serves : Serves o.view_from
 unfolding o.view_from o.view_columns_from
 view_serves = made_serves _ (both_serves _ _ (both_serves _ _ name_serves (limited_serves _ maybe_row_serves _)) (behind_serves _ query_serves w.As)) o.view
 
-index_serves : Serves o.index_from
-unfolding o.index_from o.unique_from o.index_column_from
+index_serves : Serves index.index_from
+unfolding index.index_from index.unique_from index.index_column_from
 index_serves =
     made_serves _ (both_serves _ _ (both_serves _ _ (both_serves _ _ (choose_serves _ _ (yields_serves true) (yields_serves false) w.Unique) (behind_serves _ name_serves w.Index)) (behind_serves _ name_serves w.On))
-    (behind_mark_serves _ (before_mark_serves _ (limited_serves _ (listed_serves _ (made_serves _ (both_serves _ _ name_serves (maybe_serves _ name_serves w.Collate)) o.index_column)) _) k.RightParen) k.LeftParen)) o.index
+    (behind_mark_serves _ (before_mark_serves _ (limited_serves _ (listed_serves _ (made_serves _ (both_serves _ _ name_serves (maybe_serves _ name_serves w.Collate)) index.index_column)) _) k.RightParen) k.LeftParen)) index.index
 
 time_serves : Serves o.time_from
 unfolding o.time_from
@@ -316,8 +317,8 @@ program_serves : Serves o.program_from
 unfolding o.program_from
 program_serves = choose_serves _ _ (made_serves _ selection_serves _) (made_serves _ change_serves _) w.Select
 
-by_end : (go : List TriggerStatement → Reader (List TriggerStatement)) → ((found : List TriggerStatement) → Serves (go found)) → (found : List TriggerStatement) (ts : List Piece) (x : Option (List Piece))
-    → unserved (o.end_by go found ts x) ≡ false
+by_end : (go : List TriggerStatement → Reader (List TriggerStatement)) → ((found : List TriggerStatement) → Serves (go found)) → (found : List TriggerStatement) (ts : List Symbol) (x : Option (List Symbol))
+    → unsupported (o.end_by go found ts x) ≡ false
 by_end go s found ts (Some rest) = refl
 by_end go s found ts None = s found ts
 

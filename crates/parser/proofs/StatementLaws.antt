@@ -7,84 +7,84 @@ use Rattle.syntax.specs.declared.statement.Statement.{Statement}
 use Rattle.syntax.specs.declared.statement.Statement.TheVariants as statement
 use Rattle.expressions.specs.declared.refusal.Refusal.TheVariants.{Syntax, Unsupported}
 use Rattle.expressions.specs.Exact.{Used}
-use Rattle.expressions.specs.Pieces.{Piece, Name, word}
+use Rattle.expressions.specs.Symbols.{Symbol, Name, word}
 use Rattle.expressions.specs.Reading.{fail, after_word, word_from}
 use Rattle.expressions.proofs.WordTests.{after_word_is}
-use Rattle.parser.specs.Changes.{IsChange, is_change_within, EndsStatement}
-use Rattle.parser.specs.ChangeReading.{change_from}
-use Rattle.parser.specs.NewObjects.{IsObject, is_object_within}
+use Rattle.grammar.specs.Changes.{IsChange, is_change_within, EndsStatement}
+use Rattle.queryparser.specs.ChangeReading.{change_from}
+use Rattle.grammar.specs.NewObjects.{IsObject, is_object_within}
 use Rattle.parser.specs.ObjectReading.{object_from}
-use Rattle.parser.specs.Parts.{pair}
-use Rattle.parser.specs.Queries.{IsSelection}
-use Rattle.parser.specs.QueryReading.{selection_from}
-use Rattle.parser.specs.Readers.{made, behind, choose, limited_by}
+use Rattle.grammar.specs.Parts.{pair}
+use Rattle.grammar.specs.Queries.{IsSelection}
+use Rattle.queryparser.specs.QueryReading.{selection_from}
+use Rattle.grammar.specs.Readers.{made, preceded, choose, limited_by}
 use Rattle.parser.specs.StatementReading as reading
-use Rattle.parser.specs.StatementReading.{kind_from, drop_from, mode_from, begin_from, rollback_from, release_from, given_from, argument_from, checkpoint_of, end_from, pragma_by, pragma_from, begins_unserved, is_unserved_word, served_from, transaction_from, statement_from}
-use Rattle.parser.specs.Statements as g
-use Rattle.parser.specs.Statements.{IsKind, IsMode, IsPragma, IsStatement, is_statement_within}
-use Rattle.parser.specs.Within.{is_selection_within}
-use Rattle.parser.proofs.Chosen.{Made, exact_making, renamed, Or, this, other, exact_or, turn, Begun, Begins, begun_none, begins_or}
-use Rattle.parser.proofs.Exact.{exactly, reads, weaker}
-use Rattle.parser.proofs.Law.{Law}
+use Rattle.parser.specs.StatementReading.{begins_unserved, served_from, transaction_from, statement_from}
+use Rattle.grammar.specs.Statements as g
+use Rattle.grammar.specs.Statements.{IsStatement, is_statement_within, is_unsupported_word}
+use Rattle.grammar.specs.Within.{is_selection_within}
+use Rattle.grammar.proofs.Chosen.{Made, exact_making, renamed, Or, this, other, exact_or, turn, Begun, Begins, begun_none, begins_or}
+use Rattle.grammar.proofs.Exact.{exactly, reads, weaker}
+use Rattle.grammar.proofs.Law.{Law}
 use Rattle.parser.proofs.ShortLaws.{IsDrop, exact_drop, IsBegin, exact_begin, IsCommit, exact_commit, Naming, exact_naming, IsRollback, exact_rollback, IsRelease, exact_release, IsCheckpoint, exact_pragma, pragma_is, pragma_named}
 
 -- ---- all statements
 
-abbrev IsChanged : List Piece → Statement → Type 0
+abbrev IsChanged : List Symbol → Statement → Type 0
 IsChanged = Made statement.Change IsChange
 
-abbrev IsLetGo : List Piece → Statement → Type 0
+abbrev IsLetGo : List Symbol → Statement → Type 0
 IsLetGo = Or w.Release IsRelease IsChanged
 
-abbrev IsSaved : List Piece → Statement → Type 0
+abbrev IsSaved : List Symbol → Statement → Type 0
 IsSaved = Or w.Savepoint (Naming statement.Savepoint) IsLetGo
 
-abbrev IsRolled : List Piece → Statement → Type 0
+abbrev IsRolled : List Symbol → Statement → Type 0
 IsRolled = Or w.Rollback IsRollback IsSaved
 
-abbrev IsCommitted : List Piece → Statement → Type 0
+abbrev IsCommitted : List Symbol → Statement → Type 0
 IsCommitted = Or w.Commit IsCommit IsRolled
 
-abbrev IsTransaction : List Piece → Statement → Type 0
+abbrev IsTransaction : List Symbol → Statement → Type 0
 IsTransaction = Or w.Begin IsBegin IsCommitted
 
-abbrev IsAsked : List Piece → Statement → Type 0
+abbrev IsAsked : List Symbol → Statement → Type 0
 IsAsked = Or w.Pragma IsCheckpoint IsTransaction
 
-abbrev IsSelected : List Piece → Statement → Type 0
+abbrev IsSelected : List Symbol → Statement → Type 0
 IsSelected = Or w.Select (Made statement.Select IsSelection) IsAsked
 
-abbrev IsDropped : List Piece → Statement → Type 0
+abbrev IsDropped : List Symbol → Statement → Type 0
 IsDropped = Or w.Drop IsDrop IsSelected
 
-abbrev IsAny : List ℕ → List Piece → Statement → Type 0
+abbrev IsAny : List ℕ → List Symbol → Statement → Type 0
 IsAny sql = Or w.Create (Made (reading.created sql) IsObject) IsDropped
 
-drop_forth : (sql : List ℕ) (us : List Piece) (s : Statement) → IsDrop us s → IsStatement sql (word w.Drop ∷ us) s
+drop_forth : (sql : List ℕ) (us : List Symbol) (s : Statement) → IsDrop us s → IsStatement sql (word w.Drop ∷ us) s
 drop_forth sql _ s (x, pair {us = us} {vs = vs} {a = kind} {b = n} k name, is) =
-    subst (λ (vs : List Piece). IsStatement sql (word w.Drop ∷ us ++ vs) s) (sym name) (subst (IsStatement sql (word w.Drop ∷ us ++ Name n ∷ [])) is (g.drop k))
+    subst (λ (vs : List Symbol). IsStatement sql (word w.Drop ∷ us ++ vs) s) (sym name) (subst (IsStatement sql (word w.Drop ∷ us ++ Name n ∷ [])) is (g.drop k))
 
-begin_forth : (sql : List ℕ) (us : List Piece) (s : Statement) → IsBegin us s → IsStatement sql (word w.Begin ∷ us) s
+begin_forth : (sql : List ℕ) (us : List Symbol) (s : Statement) → IsBegin us s → IsStatement sql (word w.Begin ∷ us) s
 begin_forth sql _ s (mode, (x, pair {us = us} {vs = ts} {a = m} {b = t} r said', same), is) =
     subst (IsStatement sql (word w.Begin ∷ us ++ ts)) (ap statement.Begin same ∙ is) (g.begin r said')
 
-commit_forth : (sql : List ℕ) (us : List Piece) (s : Statement) → IsCommit us s → IsStatement sql (word w.Commit ∷ us) s
+commit_forth : (sql : List ℕ) (us : List Symbol) (s : Statement) → IsCommit us s → IsStatement sql (word w.Commit ∷ us) s
 commit_forth sql _ s (x, pair {us = us} {vs = ts} {a = c} {b = t} r said', same) =
-    subst (λ (us : List Piece). IsStatement sql (word w.Commit ∷ us ++ ts) s) (sym r.0) (subst (IsStatement sql (word w.Commit ∷ ts)) (sym r.1 ∙ same) (g.commit said'))
+    subst (λ (us : List Symbol). IsStatement sql (word w.Commit ∷ us ++ ts) s) (sym r.0) (subst (IsStatement sql (word w.Commit ∷ ts)) (sym r.1 ∙ same) (g.commit said'))
 
-rollback_forth : (sql : List ℕ) (us : List Piece) (s : Statement) → IsRollback us s → IsStatement sql (word w.Rollback ∷ us) s
+rollback_forth : (sql : List ℕ) (us : List Symbol) (s : Statement) → IsRollback us s → IsStatement sql (word w.Rollback ∷ us) s
 rollback_forth sql _ s (x, pair {us = ts} {a = t} {b = a} r (this (y, pair {us = ss} {vs = vs} {a = b} {b = c} q (n, name, of), is)), same) =
-    subst (λ (vs : List Piece). IsStatement sql (word w.Rollback ∷ ts ++ (word w.To ∷ ss ++ vs)) s) (sym name)
+    subst (λ (vs : List Symbol). IsStatement sql (word w.Rollback ∷ ts ++ (word w.To ∷ ss ++ vs)) s) (sym name)
     (subst (IsStatement sql (word w.Rollback ∷ ts ++ (word w.To ∷ ss ++ Name n ∷ []))) (of ∙ is ∙ same) (g.rollback_to r q))
 rollback_forth sql _ s (x, pair {us = ts} {vs = vs} {a = t} {b = a} r (other e), same) =
-    subst (λ (us : List Piece). IsStatement sql (word w.Rollback ∷ us) s) (sym (append-nil ts) ∙ ap (λ (vs : List Piece). ts ++ vs) (sym e.0))
+    subst (λ (us : List Symbol). IsStatement sql (word w.Rollback ∷ us) s) (sym (append-nil ts) ∙ ap (λ (vs : List Symbol). ts ++ vs) (sym e.0))
     (subst (IsStatement sql (word w.Rollback ∷ ts)) (sym e.1 ∙ same) (g.rollback r))
 
-release_forth : (sql : List ℕ) (us : List Piece) (s : Statement) → IsRelease us s → IsStatement sql (word w.Release ∷ us) s
+release_forth : (sql : List ℕ) (us : List Symbol) (s : Statement) → IsRelease us s → IsStatement sql (word w.Release ∷ us) s
 release_forth sql _ s (x, pair {us = ss} {vs = vs} {a = b} {b = c} q (n, name, is), same) =
-    subst (λ (vs : List Piece). IsStatement sql (word w.Release ∷ ss ++ vs) s) (sym name) (subst (IsStatement sql (word w.Release ∷ ss ++ Name n ∷ [])) (is ∙ same) (g.release q))
+    subst (λ (vs : List Symbol). IsStatement sql (word w.Release ∷ ss ++ vs) s) (sym name) (subst (IsStatement sql (word w.Release ∷ ss ++ Name n ∷ [])) (is ∙ same) (g.release q))
 
-any_forth : (sql : List ℕ) (us : List Piece) (s : Statement) → IsAny sql us s → IsStatement sql us s
+any_forth : (sql : List ℕ) (us : List Symbol) (s : Statement) → IsAny sql us s → IsStatement sql us s
 any_forth sql _ s (this {us = us} (o, r, is)) = subst (IsStatement sql (word w.Create ∷ us)) is (g.create r)
 any_forth sql _ s (other (this {us = us} r)) = drop_forth sql us s r
 any_forth sql _ s (other (other (this {us = us} (q, r, is)))) = subst (IsStatement sql (word w.Select ∷ us)) is (g.select r)
@@ -93,11 +93,11 @@ any_forth sql _ s (other (other (other (other (this {us = us} r))))) = begin_for
 any_forth sql _ s (other (other (other (other (other (this {us = us} r)))))) = commit_forth sql us s r
 any_forth sql _ s (other (other (other (other (other (other (this {us = us} r))))))) = rollback_forth sql us s r
 any_forth sql _ s (other (other (other (other (other (other (other (this (n, name, is))))))))) =
-    subst (λ (us : List Piece). IsStatement sql (word w.Savepoint ∷ us) s) (sym name) (subst (IsStatement sql (word w.Savepoint ∷ Name n ∷ [])) is g.savepoint)
+    subst (λ (us : List Symbol). IsStatement sql (word w.Savepoint ∷ us) s) (sym name) (subst (IsStatement sql (word w.Savepoint ∷ Name n ∷ [])) is g.savepoint)
 any_forth sql _ s (other (other (other (other (other (other (other (other (this {us = us} r))))))))) = release_forth sql us s r
 any_forth sql us s (other (other (other (other (other (other (other (other (other (c, r, is)))))))))) = subst (IsStatement sql us) is (g.change r)
 
-any_back : (sql : List ℕ) (us : List Piece) (s : Statement) → IsStatement sql us s → IsAny sql us s
+any_back : (sql : List ℕ) (us : List Symbol) (s : Statement) → IsStatement sql us s → IsAny sql us s
 any_back sql _ _ (g.create {o = o} r) = this (o, r, refl)
 any_back sql _ _ (g.drop {kind = kind} {n = n} k) = other (this ((kind, n), pair k refl, refl))
 any_back sql _ _ (g.select {q = q} r) = other (other (this (q, r, refl)))
@@ -106,7 +106,7 @@ any_back sql _ _ (g.checkpoint {n = n} {argument = a} {mode = mode} p e) =
 any_back sql _ _ (g.begin {mode = mode} {t = t} r q) = other (other (other (other (this (mode, ((mode, t), pair r q, refl), refl)))))
 any_back sql _ _ (g.commit {t = t} q) = other (other (other (other (other (this ((statement.Commit, t), pair {us = []} (refl, refl) q, refl))))))
 any_back sql _ _ (g.rollback {ts = ts} {t = t} q) =
-    other (other (other (other (other (other (subst (λ (us : List Piece). IsRolled (word w.Rollback ∷ us) statement.Rollback) (append-nil ts)
+    other (other (other (other (other (other (subst (λ (us : List Symbol). IsRolled (word w.Rollback ∷ us) statement.Rollback) (append-nil ts)
     (this ((t, statement.Rollback), pair q (other (refl, refl)), refl))))))))
 any_back sql _ _ (g.rollback_to {t = t} {s = s} {n = n} q r) =
     other (other (other (other (other (other (this ((t, statement.RollbackTo n), pair q (this ((s, statement.RollbackTo n), pair r (n, refl, refl), refl)), refl)))))))
@@ -114,9 +114,9 @@ any_back sql _ _ (g.savepoint {n = n}) = other (other (other (other (other (othe
 any_back sql _ _ (g.release {s = s} {n = n} q) = other (other (other (other (other (other (other (other (this ((s, statement.Release n), pair q (n, refl, refl), refl)))))))))
 any_back sql _ _ (g.change {c = c} r) = other (other (other (other (other (other (other (other (other (c, r, refl)))))))))
 
--- ---- words that aren't served
+-- ---- words that aren't supported
 
-pub unserved_turn : (v : Keyword) → is_unserved_word v ≡ true → turn v ≡ 0
+pub unserved_turn : (v : Keyword) → is_unsupported_word v ≡ true → turn v ≡ 0
 unserved_turn w.Alter h = refl
 unserved_turn w.Analyze h = refl
 unserved_turn w.Attach h = refl
@@ -129,23 +129,23 @@ unserved_turn w.Values h = refl
 unserved_turn w.With h = refl
 unserved_turn _ h = absurd cc
 
-served_word : (v : Keyword) → 0 < turn v → is_unserved_word v ≡ false
-served_word v some = by_test (is_unserved_word v) refl
+served_word : (v : Keyword) → 0 < turn v → is_unsupported_word v ≡ false
+served_word v some = by_test (is_unsupported_word v) refl
   where
-    by_test : (b : Bool) → is_unserved_word v ≡ b → b ≡ false
+    by_test : (b : Bool) → is_unsupported_word v ≡ b → b ≡ false
     by_test false e = refl
     by_test true e = let none = unserved_turn v e in absurd (omega (arith, some, none))
 
-served_begun : (us rest : List Piece) → Begun 10 us → begins_unserved (us ++ rest) ≡ false
+served_begun : (us rest : List Symbol) → Begun 10 us → begins_unserved (us ++ rest) ≡ false
 unfolding begins_unserved
-served_begun us rest b = ap (λ (ws : List Piece). begins_unserved (ws ++ rest)) b.is ∙ served_word b.first (omega (arith, b.late))
+served_begun us rest b = ap (λ (ws : List Symbol). begins_unserved (ws ++ rest)) b.is ∙ served_word b.first (omega (arith, b.late))
 
-not_syntax : {A : Type 0} (x : A × List Piece) (b : Bool) (n : ℕ) → limited_by x b ≡ Err (Syntax n) → ⊥
+not_syntax : {A : Type 0} (x : A × List Symbol) (b : Bool) (n : ℕ) → limited_by x b ≡ Err (Syntax n) → ⊥
 not_syntax x true n h = absurd cc
 not_syntax x false n h = absurd cc
 
-no_change : (ts : List Piece) → after_word w.Insert ts ≡ None → after_word w.Update ts ≡ None → after_word w.Delete ts ≡ None → change_from ts ≡ fail ts
-unfolding change_from choose behind word_from
+no_change : (ts : List Symbol) → after_word w.Insert ts ≡ None → after_word w.Update ts ≡ None → after_word w.Delete ts ≡ None → change_from ts ≡ fail ts
+unfolding change_from choose preceded word_from
 no_change ts a b c = rw (a, b, c) refl
 
 module _ (C : Law change_from IsChange is_change_within EndsStatement) where
@@ -155,15 +155,15 @@ module _ (C : Law change_from IsChange is_change_within EndsStatement) where
       read : change_from us ≡ limited_by (c, []) (is_change_within c)
       read = ap change_from (sym (append-nil us)) ∙ reads C us c [] r tt
 
-      by_delete : (o : Option (List Piece)) → after_word w.Insert us ≡ None → after_word w.Update us ≡ None → after_word w.Delete us ≡ o → Begun 10 us
+      by_delete : (o : Option (List Symbol)) → after_word w.Insert us ≡ None → after_word w.Update us ≡ None → after_word w.Delete us ≡ o → Begun 10 us
       by_delete (Some vs) a b e = record { first = w.Delete; others = vs; is = after_word_is w.Delete us vs e; late = omega arith }
       by_delete None a b e = absurd (not_syntax (c, []) (is_change_within c) _ (sym read ∙ no_change us a b e))
 
-      by_update : (o : Option (List Piece)) → after_word w.Insert us ≡ None → after_word w.Update us ≡ o → Begun 10 us
+      by_update : (o : Option (List Symbol)) → after_word w.Insert us ≡ None → after_word w.Update us ≡ o → Begun 10 us
       by_update (Some vs) a e = record { first = w.Update; others = vs; is = after_word_is w.Update us vs e; late = omega arith }
       by_update None a e = by_delete (after_word w.Delete us) a e refl
 
-      by_insert : (o : Option (List Piece)) → after_word w.Insert us ≡ o → Begun 10 us
+      by_insert : (o : Option (List Symbol)) → after_word w.Insert us ≡ o → Begun 10 us
       by_insert (Some vs) e = record { first = w.Insert; others = vs; is = after_word_is w.Insert us vs e; late = omega arith }
       by_insert None e = by_update (after_word w.Update us) e refl
 
@@ -173,7 +173,7 @@ module _ (C : Law change_from IsChange is_change_within EndsStatement) where
   exact_changed : Law (made statement.Change change_from) IsChanged is_statement_within EndsStatement
   exact_changed = exact_making C statement.Change is_statement_within (λ c. refl)
 
-  served_takes : (ts : List Piece) (x : Statement × List Piece) → served_from ts ≡ Ok x → Used IsChanged is_statement_within ts x
+  served_takes : (ts : List Symbol) (x : Statement × List Symbol) → served_from ts ≡ Ok x → Used IsChanged is_statement_within ts x
   unfolding served_from
   served_takes ts x h = by_test (begins_unserved ts) h
     where
@@ -181,7 +181,7 @@ module _ (C : Law change_from IsChange is_change_within EndsStatement) where
       by_test true h = absurd cc
       by_test false h = exact_changed.exact.takes ts x h
 
-  served_reads : (us : List Piece) (s : Statement) (rest : List Piece) → IsChanged us s → EndsStatement rest → served_from (us ++ rest) ≡ limited_by (s, rest) (is_statement_within s)
+  served_reads : (us : List Symbol) (s : Statement) (rest : List Symbol) → IsChanged us s → EndsStatement rest → served_from (us ++ rest) ≡ limited_by (s, rest) (is_statement_within s)
   unfolding served_from
   served_reads us s rest r f = let e = served_begun us rest (begins_changed us s r) in rw e (reads exact_changed us s rest r f)
 

@@ -4,37 +4,37 @@ use Rattle.lexer.specs.declared.keyword.Keyword.TheVariants as w
 use Rattle.syntax.specs.declared.create.ViewDefinition.{ViewDefinition}
 use Rattle.syntax.specs.declared.query.Query.{Query}
 use Rattle.expressions.specs.Follows.{lacks_paren}
-use Rattle.expressions.specs.Grammar.{IsName, IsNames, Enclosed, Optional, Behind, behind}
-use Rattle.expressions.specs.Pieces.{Piece, Name, word}
-use Rattle.parser.specs.Changes.{EndsStatement}
-use Rattle.parser.specs.Limits.{few_if}
-use Rattle.parser.specs.Objects as g
-use Rattle.parser.specs.Objects.{IsView, is_view_within}
+use Rattle.expressions.specs.Grammar.{IsName, IsNames, Enclosed, Optional, Preceded, preceded}
+use Rattle.expressions.specs.Symbols.{Symbol, Name, word}
+use Rattle.grammar.specs.Changes.{EndsStatement}
+use Rattle.grammar.specs.Limits.{few_if}
+use Rattle.grammar.specs.Objects as g
+use Rattle.grammar.specs.Objects.{IsView, is_view_within}
 use Rattle.parser.specs.ObjectReading as reading
 use Rattle.parser.specs.ObjectReading.{view_columns_from, view_from}
-use Rattle.parser.specs.Parts.{Both, pair}
-use Rattle.parser.specs.Queries.{IsQuery}
-use Rattle.parser.proofs.Bases.{exact_name, exact_maybe_name_row}
-use Rattle.parser.proofs.Law.{Law}
-use Rattle.parser.proofs.Exact.{exact_both, exact_made, exact_behind, exact_limited}
-use Rattle.parser.proofs.SelectLaws.{exact_query}
+use Rattle.grammar.specs.Parts.{Both, pair}
+use Rattle.grammar.specs.Queries.{IsQuery}
+use Rattle.grammar.proofs.Bases.{exact_name, exact_maybe_name_row}
+use Rattle.grammar.proofs.Law.{Law}
+use Rattle.grammar.proofs.Exact.{exact_both, exact_made, exact_behind, exact_limited}
+use Rattle.queryparser.proofs.SelectLaws.{exact_query}
 
 exact_view_columns : Law view_columns_from (Optional (Enclosed IsNames)) few_if (λ rest. lacks_paren rest ≡ true)
 unfolding view_columns_from
 exact_view_columns = exact_limited few_if exact_maybe_name_row
 
-abbrev Viewed : List Piece → (List ℕ × Option (List (List ℕ))) × Query → Type 0
-Viewed = Both (Both IsName (Optional (Enclosed IsNames))) (Behind (word w.As) IsQuery)
+abbrev Viewed : List Symbol → (List ℕ × Option (List (List ℕ))) × Query → Type 0
+Viewed = Both (Both IsName (Optional (Enclosed IsNames))) (Preceded (word w.As) IsQuery)
 
-view_forth : (us : List Piece) (x : (List ℕ × Option (List (List ℕ))) × Query) → Viewed us x → IsView us (reading.view x)
-view_forth _ _ (pair {b = s} (pair {vs = ns} {a = n} {b = c} name o) (behind {ts = ss} i)) =
-    subst (λ (us : List Piece). IsView (us ++ ns ++ word w.As ∷ ss) (reading.view ((n, c), s))) (sym name) (g.view o i)
+view_forth : (us : List Symbol) (x : (List ℕ × Option (List (List ℕ))) × Query) → Viewed us x → IsView us (reading.view x)
+view_forth _ _ (pair {b = s} (pair {vs = ns} {a = n} {b = c} name o) (preceded {ts = ss} i)) =
+    subst (λ (us : List Symbol). IsView (us ++ ns ++ word w.As ∷ ss) (reading.view ((n, c), s))) (sym name) (g.view o i)
 
-view_back : (us : List Piece) (v : ViewDefinition) → IsView us v → (x : (List ℕ × Option (List (List ℕ))) × Query) × (Viewed us x) × (reading.view x ≡ v)
-view_back _ _ (g.view {ns = ns} {n = n} {columns = c} {q = s} o i) = (((n, c), s), pair {us = Name n ∷ ns} (pair {us = Name n ∷ []} refl o) (behind i), refl)
+view_back : (us : List Symbol) (v : ViewDefinition) → IsView us v → (x : (List ℕ × Option (List (List ℕ))) × Query) × (Viewed us x) × (reading.view x ≡ v)
+view_back _ _ (g.view {ns = ns} {n = n} {columns = c} {q = s} o i) = (((n, c), s), pair {us = Name n ∷ ns} (pair {us = Name n ∷ []} refl o) (preceded i), refl)
 
-as_lacks_paren : (us : List Piece) (s : Query) (rest : List Piece) → Behind (word w.As) IsQuery us s → EndsStatement rest → lacks_paren (us ++ rest) ≡ true
-as_lacks_paren _ s rest (behind i) f = refl
+as_lacks_paren : (us : List Symbol) (s : Query) (rest : List Symbol) → Preceded (word w.As) IsQuery us s → EndsStatement rest → lacks_paren (us ++ rest) ≡ true
+as_lacks_paren _ s rest (preceded i) f = refl
 
 pub exact_view : Law view_from IsView is_view_within EndsStatement
 unfolding view_from

@@ -3,8 +3,6 @@ use Rattle.std.specs.Prelude.{ℕ, zero, suc, Bool, true, false, List, [], ◌�
 use Rattle.lexer.specs.declared.keyword.Keyword.TheVariants as w
 use Rattle.lexer.specs.declared.token.Kind.TheVariants as k
 use Rattle.syntax.specs.Tree.{Tree}
-use Rattle.syntax.specs.declared.create.IndexColumn.{IndexColumn}
-use Rattle.syntax.specs.declared.create.IndexDefinition.{IndexDefinition}
 use Rattle.syntax.specs.declared.create.NewObject.{NewObject}
 use Rattle.syntax.specs.declared.create.NewObject.TheVariants as object
 use Rattle.syntax.specs.declared.create.TriggerDefinition.{TriggerDefinition}
@@ -16,13 +14,14 @@ use Rattle.syntax.specs.declared.create.TriggerTime.{TriggerTime}
 use Rattle.syntax.specs.declared.create.TriggerTime.TheVariants as time
 use Rattle.syntax.specs.declared.create.ViewDefinition.{ViewDefinition}
 use Rattle.syntax.specs.declared.query.Query.{Query}
-use Rattle.expressions.specs.Pieces.{Piece}
-use Rattle.expressions.specs.Reading.{Read, fail, ◌>>=◌, after_word, name_from, names_from, maybe_name_row_from, maybe_behind_from}
-use Rattle.parser.specs.Readers.{Reader, yields, made, both, behind, behind_mark, before_mark, choose, maybe, listed, limited}
-use Rattle.parser.specs.Limits.{few, few_if}
-use Rattle.parser.specs.QueryReading.{query_from, selection_from}
-use Rattle.parser.specs.ChangeReading.{change_from}
-use Rattle.parser.specs.TableReading.{table_from}
+use Rattle.expressions.specs.Symbols.{Symbol}
+use Rattle.expressions.specs.Reading.{Read, fail, ◌>>=◌, after_word, name_from, names_from, maybe_name_row_from, maybe_after_from}
+use Rattle.grammar.specs.Readers.{Reader, yields, made, both, preceded, before_mark, choose, maybe, limited}
+use Rattle.grammar.specs.Limits.{few_if}
+use Rattle.queryparser.specs.QueryReading.{query_from, selection_from}
+use Rattle.queryparser.specs.ChangeReading.{change_from}
+use Rattle.tableparser.specs.TableReading.{table_from}
+use Rattle.tableparser.specs.IndexReading.{index_from}
 
 -- ---- views
 
@@ -32,55 +31,35 @@ view_columns_from = limited few_if maybe_name_row_from
 abbrev pub view : (List ℕ × Option (List (List ℕ))) × Query → ViewDefinition
 view x = record { name = x.0.0; columns = x.0.1; query = x.1 }
 
--- what stands behind CREATE VIEW
+-- what stands after CREATE VIEW
 unfoldable pub view_from : Reader ViewDefinition
-view_from = made view (both (both name_from view_columns_from) (behind w.As query_from))
-
--- ---- indexes
-
-abbrev pub index_column : List ℕ × Option (List ℕ) → IndexColumn
-index_column x = record { name = x.0; collation = x.1 }
-
-unfoldable pub index_column_from : Reader IndexColumn
-index_column_from = made index_column (both name_from (maybe w.Collate name_from))
-
-unfoldable pub unique_from : Reader Bool
-unique_from = choose w.Unique (yields true) (yields false)
-
-abbrev pub index : ((Bool × List ℕ) × List ℕ) × List IndexColumn → IndexDefinition
-index x = record { is_unique = x.0.0.0; name = x.0.0.1; table = x.0.1; columns = x.1 }
-
--- what stands behind CREATE where it is an index
-unfoldable pub index_from : Reader IndexDefinition
-index_from =
-    made index (both (both (both unique_from (behind w.Index name_from)) (behind w.On name_from))
-    (behind_mark k.LeftParen (before_mark k.RightParen (limited few (listed index_column_from)))))
+view_from = made view (both (both name_from view_columns_from) (preceded w.As query_from))
 
 -- ---- triggers
 
 unfoldable pub time_from : Reader TriggerTime
-time_from = choose w.Before (yields time.Before) (choose w.After (yields time.After) (behind w.Instead (behind w.Of (yields time.InsteadOf))))
+time_from = choose w.Before (yields time.Before) (choose w.After (yields time.After) (preceded w.Instead (preceded w.Of (yields time.InsteadOf))))
 
 unfoldable pub event_from : Reader TriggerEvent
-event_from = choose w.Insert (yields event.Insert) (choose w.Delete (yields event.Delete) (behind w.Update (made event.Update (maybe w.Of names_from))))
+event_from = choose w.Insert (yields event.Insert) (choose w.Delete (yields event.Delete) (preceded w.Update (made event.Update (maybe w.Of names_from))))
 
 -- whether FOR EACH ROW comes next
 unfoldable pub each_row_from : Reader Bool
-each_row_from = choose w.For (behind w.Each (behind w.Row (yields true))) (yields false)
+each_row_from = choose w.For (preceded w.Each (preceded w.Row (yields true))) (yields false)
 
 unfoldable pub program_from : Reader TriggerStatement
 program_from = choose w.Select (made program.Select selection_from) (made program.Change change_from)
 
-abbrev pub end_by : (List TriggerStatement → Reader (List TriggerStatement)) → List TriggerStatement → List Piece → Option (List Piece) → Read (List TriggerStatement)
+abbrev pub end_by : (List TriggerStatement → Reader (List TriggerStatement)) → List TriggerStatement → List Symbol → Option (List Symbol) → Read (List TriggerStatement)
 end_by go found ts (Some rest) = Ok (found, rest)
 end_by go found ts None = go found ts
 
--- statements with a semicolon behind each, behind those that are found, and END; the number bounds the turns
+-- statements with a semicolon after each, after those that are found, and END; the number bounds the turns
 unfoldable pub body_upto : ℕ → List TriggerStatement → Reader (List TriggerStatement)
 body_upto zero found ts = fail ts
 body_upto (suc n) found ts = before_mark k.Semicolon program_from ts >>= λ a. end_by (body_upto n) (found ++ a.0 ∷ []) a.1 (after_word w.End a.1)
 
--- one or more statements with a semicolon behind each, and END
+-- one or more statements with a semicolon after each, and END
 unfoldable pub body_from : Reader (List TriggerStatement)
 body_from ts = body_upto (length ts) [] ts
 
@@ -94,12 +73,12 @@ trigger x = record {
   body = x.1;
 }
 
--- what stands behind CREATE TRIGGER
+-- what stands after CREATE TRIGGER
 unfoldable pub trigger_from : Reader TriggerDefinition
 trigger_from =
-    made trigger (both (both (both (both (both (both name_from time_from) event_from) (behind w.On name_from)) each_row_from) (maybe_behind_from w.When)) (behind w.Begin body_from))
+    made trigger (both (both (both (both (both (both name_from time_from) event_from) (preceded w.On name_from)) each_row_from) (maybe_after_from w.When)) (preceded w.Begin body_from))
 
--- what stands behind CREATE
+-- what stands after CREATE
 unfoldable pub object_from : Reader NewObject
 object_from =
     choose w.Table (made object.Table table_from) (choose w.View (made object.View view_from) (choose w.Trigger (made object.Trigger trigger_from) (made object.Index index_from)))

@@ -1,35 +1,14 @@
 -- From a text to its statement.
-use Rattle.std.specs.Prelude.{ℕ, ◌+◌, ◌-◌, Bool, true, false, if◌then◌else◌, List, [], ◌∷◌, length, drop, map, slice_range, Result, Ok, Err}
+use Rattle.std.specs.Prelude.{ℕ, ◌-◌, List, [], ◌∷◌, length, drop, Result, Ok, Err}
 use Rattle.sqlval.specs.declared.fault.Fault.{Fault}
 use Rattle.sqlval.specs.declared.fault.Fault.TheVariants as fault
 use Rattle.sqlval.specs.declared.fault.Feature.TheVariants as feature
 use Rattle.lexer.specs.Lex.{Lexed}
-use Rattle.lexer.specs.declared.token.Kind.{Kind}
-use Rattle.lexer.specs.declared.token.Kind.TheVariants as k
 use Rattle.syntax.specs.declared.statement.Statement.{Statement}
 use Rattle.expressions.specs.declared.refusal.Refusal.{Refusal}
 use Rattle.expressions.specs.declared.refusal.Refusal.TheVariants.{Memory, Syntax, TooLong, Unsupported}
-use Rattle.expressions.specs.Pieces.{Piece, meant}
+use Rattle.grammar.specs.Texts.{pieces_of, sql_in}
 use Rattle.parser.specs.StatementReading.{whole_from}
-
--- what the tokens of a text mean
-abbrev pub pieces_of : List Lexed → List Piece
-pieces_of ts = map (λ t. meant t.kind t.text) ts
-
-abbrev pub is_semicolon : Kind → Bool
-is_semicolon k.Semicolon = true
-is_semicolon _ = false
-
--- where the last token ends that is no closing semicolon, or this place where there is none
-abbrev pub body_end : ℕ → List Lexed → ℕ
-body_end at [] = at
-body_end at (t ∷ []) = if is_semicolon t.kind then at else t.start + length t.text
-body_end at (t ∷ u ∷ ts) = body_end (t.start + length t.text) (u ∷ ts)
-
--- the text from the first to the last token, without a closing semicolon
-abbrev pub sql_in : List ℕ → List Lexed → List ℕ
-sql_in z [] = []
-sql_in z (t ∷ ts) = slice_range z t.start (body_end t.start (t ∷ ts))
 
 -- where the first of these tokens begins, or the text of this length ends
 abbrev pub begins_at : ℕ → List Lexed → ℕ

@@ -3,7 +3,7 @@ use Rattle.std.specs.Prelude.{ℕ, ◌≤◌, List, length}
 use Rattle.sqlval.specs.declared.fault.Fault.{Fault}
 use Rattle.sqlval.specs.declared.fault.Fault.TheVariants.{Memory, Unsupported, Syntax, RealRefused, TooLong}
 use Rattle.sqlval.specs.declared.fault.Feature.TheVariants.{Statement}
-use Rattle.parser.specs.Texts.{IsNotServed}
+use Rattle.grammar.specs.Texts.{IsUnsupportedText}
 
 -- why a text of this length is refused
 abbrev pub IsParsingFault : ℕ → Fault → Type 0
@@ -14,7 +14,7 @@ IsParsingFault total RealRefused = Unit {0}
 IsParsingFault total TooLong = Unit {0}
 IsParsingFault total _ = ⊥
 
--- why a text is refused: as one that isn't served only where SQL has it
-abbrev pub IsRefused : List ℕ → Fault → Type 0
-IsRefused text (Unsupported Statement) = IsNotServed text
-IsRefused text fault = IsParsingFault (length text) fault
+-- why a text is refused: as one that isn't supported only where SQL has it
+abbrev pub IsTextRefusal : List ℕ → Fault → Type 0
+IsTextRefusal text (Unsupported Statement) = IsUnsupportedText text
+IsTextRefusal text fault = IsParsingFault (length text) fault

@@ -2,7 +2,7 @@
 use Rattle.std.specs.Prelude.{ℕ, zero, suc, ◌-◌, ◌==◌, Bool, false, if◌then◌else◌, List, [], ◌∷◌, length, Option, None, Some, slice_get, slice_range}
 use Rattle.lexer.specs.declared.token.Token.{Token}
 use Rattle.lexer.specs.Spans.{end_of}
-use Rattle.parser.specs.Parsing.{is_semicolon}
+use Rattle.grammar.specs.Texts.{is_semicolon}
 
 abbrev pub is_closing : Option Token → Bool
 is_closing None = false

@@ -1,33 +1,30 @@
 -- Reading statements.
-use Rattle.std.specs.Prelude.{ℕ, Bool, true, false, if◌then◌else◌, codes, List, [], ◌∷◌, Option, Some, None, Result, Ok, Err}
-use Rattle.lexer.specs.declared.keyword.Keyword.{Keyword}
+use Rattle.std.specs.Prelude.{ℕ, Bool, false, if◌then◌else◌, List, [], ◌∷◌, Option, Some, None, Result, Ok, Err}
 use Rattle.lexer.specs.declared.keyword.Keyword.TheVariants as w
 use Rattle.lexer.specs.declared.token.Kind.TheVariants as k
-use Rattle.sqlval.specs.Names.{is_same_name}
 use Rattle.syntax.specs.declared.create.NewObject.{NewObject}
 use Rattle.syntax.specs.declared.statement.BeginMode.{BeginMode}
 use Rattle.syntax.specs.declared.statement.BeginMode.TheVariants as begin
 use Rattle.syntax.specs.declared.statement.CheckpointMode.{CheckpointMode}
-use Rattle.syntax.specs.declared.statement.CheckpointMode.TheVariants as checkpoint
 use Rattle.syntax.specs.declared.statement.ObjectKind.{ObjectKind}
 use Rattle.syntax.specs.declared.statement.ObjectKind.TheVariants as kinds
 use Rattle.syntax.specs.declared.statement.Statement.{Statement}
 use Rattle.syntax.specs.declared.statement.Statement.TheVariants as statement
 use Rattle.expressions.specs.declared.refusal.Refusal.{Refusal}
 use Rattle.expressions.specs.declared.refusal.Refusal.TheVariants.{Unsupported}
-use Rattle.expressions.specs.Pieces.{Piece, Plain}
-use Rattle.expressions.specs.Reading.{Read, fail, ◌>>=◌, name_from}
-use Rattle.parser.specs.Readers.{Reader, yields, made, both, behind, before_mark, optionally, trailed, choose, choose_by}
-use Rattle.parser.specs.QueryReading.{selection_from}
-use Rattle.parser.specs.ChangeReading.{change_from}
-use Rattle.parser.specs.TableReading.{after_paren}
+use Rattle.expressions.specs.Symbols.{Symbol, Plain}
+use Rattle.expressions.specs.Reading.{Read, fail, ◌>>=◌, name_from, after_paren}
+use Rattle.grammar.specs.Statements.{checkpoint_of, is_unsupported_word}
+use Rattle.grammar.specs.Readers.{Reader, yields, made, both, preceded, before_mark, optionally, trailed, choose, choose_by}
+use Rattle.queryparser.specs.QueryReading.{selection_from}
+use Rattle.queryparser.specs.ChangeReading.{change_from}
 use Rattle.parser.specs.ObjectReading.{object_from}
 
 -- ---- DROP, transactions and savepoints
 
 unfoldable pub kind_from : Reader ObjectKind
 kind_from =
-    choose w.Table (yields kinds.Table) (choose w.Index (yields kinds.Index) (choose w.View (yields kinds.View) (behind w.Trigger (yields kinds.Trigger))))
+    choose w.Table (yields kinds.Table) (choose w.Index (yields kinds.Index) (choose w.View (yields kinds.View) (preceded w.Trigger (yields kinds.Trigger))))
 
 abbrev pub dropped : ObjectKind × List ℕ → Statement
 dropped x = statement.Drop x.0 x.1
@@ -56,25 +53,14 @@ given_from = made Some (before_mark k.RightParen name_from)
 unfoldable pub argument_from : Reader (Option (List ℕ))
 argument_from ts = choose_by given_from (yields None) ts (after_paren ts)
 
--- how far a checkpoint goes by its argument
-abbrev pub mode_of : Option (List ℕ) → Option CheckpointMode
-mode_of None = Some checkpoint.Passive
-mode_of (Some z) =
-    if is_same_name z (codes "passive") then Some checkpoint.Passive else (if is_same_name z (codes "restart") then Some checkpoint.Restart
-    else (if is_same_name z (codes "truncate") then Some checkpoint.Truncate else None))
-
--- the checkpoint that a PRAGMA of this name and argument is
-unfoldable pub checkpoint_of : List ℕ → Option (List ℕ) → Option CheckpointMode
-checkpoint_of name argument = if is_same_name name (codes "wal_checkpoint") then mode_of argument else None
-
 -- nothing but a closing semicolon is left
-unfoldable pub end_from : List Piece → Result (List Piece) Refusal
+unfoldable pub end_from : List Symbol → Result (List Symbol) Refusal
 end_from [] = Ok []
 end_from (Plain k.Semicolon ∷ []) = Ok []
 end_from (Plain k.Semicolon ∷ ts) = fail ts
 end_from ts = fail ts
 
-abbrev pub pragma_by : List Piece → Option CheckpointMode → Read Statement
+abbrev pub pragma_by : List Symbol → Option CheckpointMode → Read Statement
 pragma_by ts (Some mode) = Ok (statement.Checkpoint mode, ts)
 pragma_by ts None = end_from ts >>= λ rest. Err Unsupported
 
@@ -83,22 +69,9 @@ pragma_from ts = both name_from argument_from ts >>= λ a. pragma_by a.1 (checkp
 
 -- ---- all statements
 
--- whether a first word begins a statement that isn't served
-abbrev pub is_unserved_word : Keyword → Bool
-is_unserved_word w.Alter = true
-is_unserved_word w.Analyze = true
-is_unserved_word w.Attach = true
-is_unserved_word w.Detach = true
-is_unserved_word w.Explain = true
-is_unserved_word w.Reindex = true
-is_unserved_word w.Replace = true
-is_unserved_word w.Vacuum = true
-is_unserved_word w.Values = true
-is_unserved_word w.With = true
-is_unserved_word _ = false
-
-unfoldable pub begins_unserved : List Piece → Bool
-begins_unserved (Plain (k.Word word) ∷ ts) = is_unserved_word word
+-- whether a first word begins a statement that isn't supported
+unfoldable pub begins_unserved : List Symbol → Bool
+begins_unserved (Plain (k.Word word) ∷ ts) = is_unsupported_word word
 begins_unserved ts = false
 
 unfoldable pub served_from : Reader Statement
@@ -120,5 +93,5 @@ statement_from sql =
     (choose w.Pragma pragma_from transaction_from)))
 
 -- all of the pieces
-unfoldable pub whole_from : List ℕ → List Piece → Result Statement Refusal
+unfoldable pub whole_from : List ℕ → List Symbol → Result Statement Refusal
 whole_from sql ts = statement_from sql ts >>= λ a. end_from a.1 >>= λ rest. Ok a.0

@@ -3,30 +3,30 @@
 ghost use Rattle.std.specs.Prelude.{◌≡◌, ◌≤◌, List, [], length, IfOk};
 ghost use Rattle.lexer.specs.Spans.{Stand};
 ghost use Rattle.lexer.specs.declared.token.Token.{Token as Spelling};
-ghost use Rattle.expressions.specs.Pieces.{pieces, seen};
-ghost use Rattle.expressions.specs.Reading.{Gives};
+ghost use Rattle.expressions.specs.Symbols.{symbols, seen};
+ghost use Rattle.expressions.specs.Reading.{Gives, ReadsBy};
 ghost use Rattle.parser.specs.Spelled.{body_length, sql_of};
 ghost use Rattle.parser.specs.ObjectReading.{object_from};
-ghost use Rattle.parser.specs.Readers as readers;
+ghost use Rattle.grammar.specs.Readers as readers;
+ghost use Rattle.grammar.specs.Statements.{checkpoint_of, is_unsupported_word, mode_of};
 ghost use Rattle.parser.specs.StatementReading as spec;
 
-use crate::changes::change;
 use crate::objects::new_object;
-use crate::queries::selection;
-use crate::tables::after_paren;
 use expressions::{
-    Read, Refusal, Spelled, Tokens, after_word, all, kind, mark, name, optional, unexpected, word,
+    Read, Refusal, Rest, SourceTokens, after_paren, after_word, all, kind, mark, name, optional,
+    unexpected, word,
 };
 use lexer::{Keyword, Kind};
+use queryparser::{change, selection};
 use sqlval::{Name, Text};
 use std::alloc::{AllocError, Global};
 use syntax::{BeginMode, CheckpointMode, Create, ObjectKind, Statement};
 
 /// A whole statement, with a closing semicolon or without.
 #[tactic(auto, unfolding(crate::specs::StatementReading::whole_from))]
-pub fn whole(alloc: Global, text: &str, spelled: Spelled<'_>) -> Result<Statement, Refusal>
+pub fn whole(alloc: Global, text: &str, spelled: SourceTokens<'_>) -> Result<Statement, Refusal>
     requires { Stand 0 text.now spelled.now }
-    ensures { Gives (λ s. s) result (spec.whole_from (sql_of text.now spelled.now) (pieces spelled.now)) }
+    ensures { Gives (λ s. s) result (spec.whole_from (sql_of text.now spelled.now) (symbols spelled.now)) }
 {
     let tokens = all(alloc, spelled)?;
     let (statement, rest) = statement(alloc, text, spelled, &tokens)?;
@@ -38,7 +38,7 @@ pub fn whole(alloc: Global, text: &str, spelled: Spelled<'_>) -> Result<Statemen
 
 /// Nothing but a closing semicolon may be left.
 #[tactic(auto, unfolding(crate::specs::StatementReading::end_from))]
-fn end(tokens: Tokens<'_>) -> Result<(), Refusal>
+fn end(tokens: Rest<'_>) -> Result<(), Refusal>
     ensures { (whole : List Spelling) → Gives (λ u. []) result (spec.end_from (seen whole tokens.now)) }
 {
     match tokens {
@@ -48,15 +48,15 @@ fn end(tokens: Tokens<'_>) -> Result<(), Refusal>
     }
 }
 
-#[tactic(auto, unfolding(crate::specs::Readers::choose, crate::specs::Readers::made, crate::specs::StatementReading::statement_from))]
+#[tactic(auto, unfolding(grammar::specs::Readers::choose, grammar::specs::Readers::made, crate::specs::StatementReading::statement_from))]
 fn statement<'a>(
     alloc: Global,
     text: &str,
-    spelled: Spelled<'_>,
-    tokens: Tokens<'a>,
+    spelled: SourceTokens<'_>,
+    tokens: Rest<'a>,
 ) -> Read<'a, Statement>
     requires { Stand 0 text.now spelled.now }
-    ensures { Gives (λ x. (x.0, seen spelled.now x.1.now)) result (spec.statement_from (sql_of text.now spelled.now) (seen spelled.now tokens.now)) }
+    ensures { ReadsBy spelled.now tokens.now result (spec.statement_from (sql_of text.now spelled.now)) }
 {
     if let Some(rest) = after_word(Keyword::Create, tokens) {
         return create(alloc, text, spelled, rest);
@@ -74,22 +74,22 @@ fn statement<'a>(
     transaction(alloc, spelled, tokens)
 }
 
-/// Whether a first word begins a statement that isn't served.
+/// Whether a first word begins a statement that isn't supported.
 #[tactic(auto, unfolding(crate::specs::StatementReading::begins_unserved))]
-fn begins_unserved(tokens: Tokens<'_>) -> bool
+fn begins_unserved(tokens: Rest<'_>) -> bool
     ensures { (whole : List Spelling) → result ≡ spec.begins_unserved (seen whole tokens.now) }
 {
     match tokens {
         [token, ..] => match token.kind {
-            Kind::Word(word) => is_unserved(word),
+            Kind::Word(word) => names_unsupported(word),
             _ => false,
         },
         [] => false,
     }
 }
 
-fn is_unserved(word: Keyword) -> bool
-    ensures { result ≡ spec.is_unserved_word word }
+fn names_unsupported(word: Keyword) -> bool
+    ensures { result ≡ is_unsupported_word word }
 {
     matches!(
         word,
@@ -106,15 +106,15 @@ fn is_unserved(word: Keyword) -> bool
     )
 }
 
-#[tactic(auto, unfolding(crate::specs::Readers::made))]
+#[tactic(auto, unfolding(grammar::specs::Readers::made))]
 fn create<'a>(
     alloc: Global,
     text: &str,
-    spelled: Spelled<'_>,
-    tokens: Tokens<'a>,
+    spelled: SourceTokens<'_>,
+    tokens: Rest<'a>,
 ) -> Read<'a, Statement>
     requires { Stand 0 text.now spelled.now }
-    ensures { Gives (λ x. (x.0, seen spelled.now x.1.now)) result (readers.made (spec.created (sql_of text.now spelled.now)) object_from (seen spelled.now tokens.now)) }
+    ensures { ReadsBy spelled.now tokens.now result (readers.made (spec.created (sql_of text.now spelled.now)) object_from) }
 {
     let (object, rest) = new_object(alloc, spelled, tokens)?;
     let sql = body_text(alloc, text, spelled)?;
@@ -122,7 +122,7 @@ fn create<'a>(
 }
 
 /// How many tokens there are without a closing semicolon.
-fn body_len(spelled: Spelled<'_>) -> usize
+fn body_len(spelled: SourceTokens<'_>) -> usize
     ensures value { result ≡ body_length spelled.now }
     ensures within { result ≤ length spelled.now }
 {
@@ -134,7 +134,7 @@ fn body_len(spelled: Spelled<'_>) -> usize
 
 /// The text from the first to the last token, without a closing semicolon.
 #[tactic(auto, using(crate::proofs::Places::starts_at, crate::proofs::Places::ends_within, crate::proofs::Places::in_order))]
-fn body_text(alloc: Global, text: &str, spelled: Spelled<'_>) -> Result<Text, AllocError>
+fn body_text(alloc: Global, text: &str, spelled: SourceTokens<'_>) -> Result<Text, AllocError>
     requires { Stand 0 text.now spelled.now }
     ensures { IfOk result (λ sql. sql ≡ sql_of text.now spelled.now) }
 {
@@ -147,18 +147,22 @@ fn body_text(alloc: Global, text: &str, spelled: Spelled<'_>) -> Result<Text, Al
     Text::from_str(alloc, &text[spelled[0].start..end])
 }
 
-#[tactic(auto, unfolding(crate::specs::Readers::made, crate::specs::Readers::both, crate::specs::StatementReading::drop_from))]
-fn drop_object<'a>(alloc: Global, spelled: Spelled<'_>, tokens: Tokens<'a>) -> Read<'a, Statement>
-    ensures { Gives (λ x. (x.0, seen spelled.now x.1.now)) result (spec.drop_from (seen spelled.now tokens.now)) }
+#[tactic(auto, unfolding(grammar::specs::Readers::made, grammar::specs::Readers::both, crate::specs::StatementReading::drop_from))]
+fn drop_object<'a>(
+    alloc: Global,
+    spelled: SourceTokens<'_>,
+    tokens: Rest<'a>,
+) -> Read<'a, Statement>
+    ensures { ReadsBy spelled.now tokens.now result spec.drop_from }
 {
     let (kind, rest) = object_kind(tokens)?;
     let (name, rest) = name(alloc, spelled, rest)?;
     Ok((Statement::Drop(kind, name), rest))
 }
 
-#[tactic(auto, unfolding(crate::specs::Readers::choose, crate::specs::Readers::behind, crate::specs::Readers::yields, crate::specs::StatementReading::kind_from))]
-fn object_kind<'a>(tokens: Tokens<'a>) -> Read<'a, ObjectKind>
-    ensures { (whole : List Spelling) → Gives (λ x. (x.0, seen whole x.1.now)) result (spec.kind_from (seen whole tokens.now)) }
+#[tactic(auto, unfolding(grammar::specs::Readers::choose, grammar::specs::Readers::preceded, grammar::specs::Readers::yields, crate::specs::StatementReading::kind_from))]
+fn object_kind<'a>(tokens: Rest<'a>) -> Read<'a, ObjectKind>
+    ensures { (whole : List Spelling) → ReadsBy whole tokens.now result spec.kind_from }
 {
     if let Some(rest) = after_word(Keyword::Table, tokens) {
         return Ok((ObjectKind::Table, rest));
@@ -173,9 +177,13 @@ fn object_kind<'a>(tokens: Tokens<'a>) -> Read<'a, ObjectKind>
 }
 
 /// A statement of transactions or savepoints, or one that changes rows.
-#[tactic(auto, unfolding(crate::specs::Readers::choose, crate::specs::Readers::made, crate::specs::Readers::yields, crate::specs::Readers::trailed, crate::specs::StatementReading::transaction_from))]
-fn transaction<'a>(alloc: Global, spelled: Spelled<'_>, tokens: Tokens<'a>) -> Read<'a, Statement>
-    ensures { Gives (λ x. (x.0, seen spelled.now x.1.now)) result (spec.transaction_from (seen spelled.now tokens.now)) }
+#[tactic(auto, unfolding(grammar::specs::Readers::choose, grammar::specs::Readers::made, grammar::specs::Readers::yields, grammar::specs::Readers::trailed, crate::specs::StatementReading::transaction_from))]
+fn transaction<'a>(
+    alloc: Global,
+    spelled: SourceTokens<'_>,
+    tokens: Rest<'a>,
+) -> Read<'a, Statement>
+    ensures { ReadsBy spelled.now tokens.now result spec.transaction_from }
 {
     if let Some(rest) = after_word(Keyword::Begin, tokens) {
         return begin(rest);
@@ -196,10 +204,10 @@ fn transaction<'a>(alloc: Global, spelled: Spelled<'_>, tokens: Tokens<'a>) -> R
     served(alloc, spelled, tokens)
 }
 
-/// A change of rows, where no word comes next that is not served.
-#[tactic(auto, unfolding(crate::specs::Readers::made, crate::specs::StatementReading::served_from))]
-fn served<'a>(alloc: Global, spelled: Spelled<'_>, tokens: Tokens<'a>) -> Read<'a, Statement>
-    ensures { Gives (λ x. (x.0, seen spelled.now x.1.now)) result (spec.served_from (seen spelled.now tokens.now)) }
+/// A change of rows, where no word comes next that is not supported.
+#[tactic(auto, unfolding(grammar::specs::Readers::made, crate::specs::StatementReading::served_from))]
+fn served<'a>(alloc: Global, spelled: SourceTokens<'_>, tokens: Rest<'a>) -> Read<'a, Statement>
+    ensures { ReadsBy spelled.now tokens.now result spec.served_from }
 {
     if begins_unserved(tokens) {
         return Err(Refusal::Unsupported);
@@ -208,17 +216,17 @@ fn served<'a>(alloc: Global, spelled: Spelled<'_>, tokens: Tokens<'a>) -> Read<'
     Ok((Statement::Change(change), rest))
 }
 
-#[tactic(auto, unfolding(crate::specs::Readers::made, crate::specs::Readers::trailed, crate::specs::StatementReading::begin_from))]
-fn begin<'a>(tokens: Tokens<'a>) -> Read<'a, Statement>
-    ensures { (whole : List Spelling) → Gives (λ x. (x.0, seen whole x.1.now)) result (spec.begin_from (seen whole tokens.now)) }
+#[tactic(auto, unfolding(grammar::specs::Readers::made, grammar::specs::Readers::trailed, crate::specs::StatementReading::begin_from))]
+fn begin<'a>(tokens: Rest<'a>) -> Read<'a, Statement>
+    ensures { (whole : List Spelling) → ReadsBy whole tokens.now result spec.begin_from }
 {
     let (mode, rest) = begin_mode(tokens)?;
     Ok((Statement::Begin(mode), optional(Keyword::Transaction, rest)))
 }
 
-#[tactic(auto, unfolding(crate::specs::Readers::choose, crate::specs::Readers::yields, crate::specs::StatementReading::mode_from))]
-fn begin_mode<'a>(tokens: Tokens<'a>) -> Read<'a, BeginMode>
-    ensures { (whole : List Spelling) → Gives (λ x. (x.0, seen whole x.1.now)) result (spec.mode_from (seen whole tokens.now)) }
+#[tactic(auto, unfolding(grammar::specs::Readers::choose, grammar::specs::Readers::yields, crate::specs::StatementReading::mode_from))]
+fn begin_mode<'a>(tokens: Rest<'a>) -> Read<'a, BeginMode>
+    ensures { (whole : List Spelling) → ReadsBy whole tokens.now result spec.mode_from }
 {
     if let Some(rest) = after_word(Keyword::Deferred, tokens) {
         return Ok((BeginMode::Deferred, rest));
@@ -229,9 +237,9 @@ fn begin_mode<'a>(tokens: Tokens<'a>) -> Read<'a, BeginMode>
     }
 }
 
-#[tactic(auto, unfolding(crate::specs::Readers::optionally, crate::specs::Readers::choose, crate::specs::Readers::made, crate::specs::Readers::yields, crate::specs::StatementReading::rollback_from))]
-fn rollback<'a>(alloc: Global, spelled: Spelled<'_>, tokens: Tokens<'a>) -> Read<'a, Statement>
-    ensures { Gives (λ x. (x.0, seen spelled.now x.1.now)) result (spec.rollback_from (seen spelled.now tokens.now)) }
+#[tactic(auto, unfolding(grammar::specs::Readers::optionally, grammar::specs::Readers::choose, grammar::specs::Readers::made, grammar::specs::Readers::yields, crate::specs::StatementReading::rollback_from))]
+fn rollback<'a>(alloc: Global, spelled: SourceTokens<'_>, tokens: Rest<'a>) -> Read<'a, Statement>
+    ensures { ReadsBy spelled.now tokens.now result spec.rollback_from }
 {
     let rest = optional(Keyword::Transaction, tokens);
     match after_word(Keyword::To, rest) {
@@ -243,18 +251,18 @@ fn rollback<'a>(alloc: Global, spelled: Spelled<'_>, tokens: Tokens<'a>) -> Read
     }
 }
 
-#[tactic(auto, unfolding(crate::specs::Readers::optionally, crate::specs::Readers::made, crate::specs::StatementReading::release_from))]
-fn release<'a>(alloc: Global, spelled: Spelled<'_>, tokens: Tokens<'a>) -> Read<'a, Statement>
-    ensures { Gives (λ x. (x.0, seen spelled.now x.1.now)) result (spec.release_from (seen spelled.now tokens.now)) }
+#[tactic(auto, unfolding(grammar::specs::Readers::optionally, grammar::specs::Readers::made, crate::specs::StatementReading::release_from))]
+fn release<'a>(alloc: Global, spelled: SourceTokens<'_>, tokens: Rest<'a>) -> Read<'a, Statement>
+    ensures { ReadsBy spelled.now tokens.now result spec.release_from }
 {
     let (name, rest) = name(alloc, spelled, optional(Keyword::Savepoint, tokens))?;
     Ok((Statement::Release(name), rest))
 }
 
-/// A PRAGMA. Any but a checkpoint is not served.
-#[tactic(auto, unfolding(crate::specs::Readers::both, crate::specs::StatementReading::pragma_from))]
-fn pragma<'a>(alloc: Global, spelled: Spelled<'_>, tokens: Tokens<'a>) -> Read<'a, Statement>
-    ensures { Gives (λ x. (x.0, seen spelled.now x.1.now)) result (spec.pragma_from (seen spelled.now tokens.now)) }
+/// A PRAGMA. Any but a checkpoint is not supported.
+#[tactic(auto, unfolding(grammar::specs::Readers::both, crate::specs::StatementReading::pragma_from))]
+fn pragma<'a>(alloc: Global, spelled: SourceTokens<'_>, tokens: Rest<'a>) -> Read<'a, Statement>
+    ensures { ReadsBy spelled.now tokens.now result spec.pragma_from }
 {
     let (pragma, rest) = name(alloc, spelled, tokens)?;
     let (argument, rest) = argument(alloc, spelled, rest)?;
@@ -268,9 +276,13 @@ fn pragma<'a>(alloc: Global, spelled: Spelled<'_>, tokens: Tokens<'a>) -> Read<'
 }
 
 /// A name in parentheses, where a parenthesis comes next.
-#[tactic(auto, unfolding(crate::specs::Readers::yields, crate::specs::StatementReading::argument_from))]
-fn argument<'a>(alloc: Global, spelled: Spelled<'_>, tokens: Tokens<'a>) -> Read<'a, Option<Name>>
-    ensures { Gives (λ x. (x.0, seen spelled.now x.1.now)) result (spec.argument_from (seen spelled.now tokens.now)) }
+#[tactic(auto, unfolding(grammar::specs::Readers::yields, crate::specs::StatementReading::argument_from))]
+fn argument<'a>(
+    alloc: Global,
+    spelled: SourceTokens<'_>,
+    tokens: Rest<'a>,
+) -> Read<'a, Option<Name>>
+    ensures { ReadsBy spelled.now tokens.now result spec.argument_from }
 {
     match after_paren(tokens) {
         Some(rest) => given(alloc, spelled, rest),
@@ -279,18 +291,18 @@ fn argument<'a>(alloc: Global, spelled: Spelled<'_>, tokens: Tokens<'a>) -> Read
 }
 
 /// A name and the closing parenthesis.
-#[tactic(auto, unfolding(crate::specs::Readers::made, crate::specs::Readers::before_mark, crate::specs::StatementReading::given_from))]
-fn given<'a>(alloc: Global, spelled: Spelled<'_>, tokens: Tokens<'a>) -> Read<'a, Option<Name>>
-    ensures { Gives (λ x. (x.0, seen spelled.now x.1.now)) result (spec.given_from (seen spelled.now tokens.now)) }
+#[tactic(auto, unfolding(grammar::specs::Readers::made, grammar::specs::Readers::before_mark, crate::specs::StatementReading::given_from))]
+fn given<'a>(alloc: Global, spelled: SourceTokens<'_>, tokens: Rest<'a>) -> Read<'a, Option<Name>>
+    ensures { ReadsBy spelled.now tokens.now result spec.given_from }
 {
     let (argument, rest) = name(alloc, spelled, tokens)?;
     Ok((Some(argument), mark(Kind::RightParen, rest)?))
 }
 
 /// The checkpoint that a PRAGMA of this name and argument is.
-#[tactic(auto, unfolding(crate::specs::StatementReading::checkpoint_of))]
+#[tactic(auto, unfolding(grammar::specs::Statements::checkpoint_of))]
 fn checkpoint(pragma: &Name, argument: Option<Name>) -> Option<CheckpointMode>
-    ensures { result ≡ spec.checkpoint_of pragma.now argument }
+    ensures { result ≡ checkpoint_of pragma.now argument }
 {
     if pragma.is_same("wal_checkpoint") {
         checkpoint_mode(argument)
@@ -301,7 +313,7 @@ fn checkpoint(pragma: &Name, argument: Option<Name>) -> Option<CheckpointMode>
 
 /// How far a checkpoint goes by its argument.
 fn checkpoint_mode(argument: Option<Name>) -> Option<CheckpointMode>
-    ensures { result ≡ spec.mode_of argument }
+    ensures { result ≡ mode_of argument }
 {
     let Some(argument) = argument else {
         return Some(CheckpointMode::Passive);

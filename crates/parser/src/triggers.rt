@@ -4,36 +4,34 @@ ghost use Rattle.std.specs.Prelude.{List};
 ghost use Rattle.lexer.specs.declared.token.Token.{Token as Spelling};
 ghost use Rattle.lexer.specs.declared.keyword.Keyword.TheVariants as keyword;
 ghost use Rattle.lexer.specs.declared.token.Kind.TheVariants as kinds;
-ghost use Rattle.expressions.specs.Pieces.{seen};
-ghost use Rattle.expressions.specs.Reading.{Gives, names_from};
+ghost use Rattle.expressions.specs.Reading.{ReadsBy, names_from};
 ghost use Rattle.parser.specs.ObjectReading as spec;
-ghost use Rattle.parser.specs.Readers as readers;
+ghost use Rattle.grammar.specs.Readers as readers;
 
-use crate::changes::change;
-use crate::queries::selection;
 use expressions::{
-    Read, Refusal, Spelled, Tokens, after_word, mark, maybe_behind, name, names, unexpected, word,
+    Read, Refusal, Rest, SourceTokens, after_word, mark, maybe_after, name, names, unexpected, word,
 };
 use lexer::{Keyword, Kind};
+use queryparser::{change, selection};
 use sqlval::{Many, Name};
 use std::alloc::Global;
 use syntax::{TriggerDefinition, TriggerEvent, TriggerStatement, TriggerTime};
 
-/// A trigger, behind CREATE TRIGGER.
-#[tactic(auto, unfolding(crate::specs::Readers::made, crate::specs::Readers::both, crate::specs::Readers::behind, crate::specs::ObjectReading::trigger_from))]
+/// A trigger, after CREATE TRIGGER.
+#[tactic(auto, unfolding(grammar::specs::Readers::made, grammar::specs::Readers::both, grammar::specs::Readers::preceded, crate::specs::ObjectReading::trigger_from))]
 pub fn trigger<'a>(
     alloc: Global,
-    spelled: Spelled<'_>,
-    tokens: Tokens<'a>,
+    spelled: SourceTokens<'_>,
+    tokens: Rest<'a>,
 ) -> Read<'a, TriggerDefinition>
-    ensures { Gives (λ x. (x.0, seen spelled.now x.1.now)) result (spec.trigger_from (seen spelled.now tokens.now)) }
+    ensures { ReadsBy spelled.now tokens.now result spec.trigger_from }
 {
     let (own, rest) = name(alloc, spelled, tokens)?;
     let (time, rest) = time(rest)?;
     let (event, rest) = event(alloc, spelled, rest)?;
     let (target, rest) = name(alloc, spelled, word(Keyword::On, rest)?)?;
     let (_, rest) = each_row(rest)?;
-    let (condition, rest) = maybe_behind(alloc, spelled, Keyword::When, rest)?;
+    let (condition, rest) = maybe_after(alloc, spelled, Keyword::When, rest)?;
     let (body, rest) = body(alloc, spelled, word(Keyword::Begin, rest)?)?;
     Ok((
         TriggerDefinition {
@@ -48,9 +46,9 @@ pub fn trigger<'a>(
     ))
 }
 
-#[tactic(auto, unfolding(crate::specs::Readers::choose, crate::specs::Readers::behind, crate::specs::Readers::yields, crate::specs::ObjectReading::time_from))]
-fn time<'a>(tokens: Tokens<'a>) -> Read<'a, TriggerTime>
-    ensures { (whole : List Spelling) → Gives (λ x. (x.0, seen whole x.1.now)) result (spec.time_from (seen whole tokens.now)) }
+#[tactic(auto, unfolding(grammar::specs::Readers::choose, grammar::specs::Readers::preceded, grammar::specs::Readers::yields, crate::specs::ObjectReading::time_from))]
+fn time<'a>(tokens: Rest<'a>) -> Read<'a, TriggerTime>
+    ensures { (whole : List Spelling) → ReadsBy whole tokens.now result spec.time_from }
 {
     if let Some(rest) = after_word(Keyword::Before, tokens) {
         return Ok((TriggerTime::Before, rest));
@@ -62,9 +60,9 @@ fn time<'a>(tokens: Tokens<'a>) -> Read<'a, TriggerTime>
     Ok((TriggerTime::InsteadOf, rest))
 }
 
-#[tactic(auto, unfolding(crate::specs::Readers::choose, crate::specs::Readers::behind, crate::specs::Readers::yields, crate::specs::Readers::made, crate::specs::ObjectReading::event_from))]
-fn event<'a>(alloc: Global, spelled: Spelled<'_>, tokens: Tokens<'a>) -> Read<'a, TriggerEvent>
-    ensures { Gives (λ x. (x.0, seen spelled.now x.1.now)) result (spec.event_from (seen spelled.now tokens.now)) }
+#[tactic(auto, unfolding(grammar::specs::Readers::choose, grammar::specs::Readers::preceded, grammar::specs::Readers::yields, grammar::specs::Readers::made, crate::specs::ObjectReading::event_from))]
+fn event<'a>(alloc: Global, spelled: SourceTokens<'_>, tokens: Rest<'a>) -> Read<'a, TriggerEvent>
+    ensures { ReadsBy spelled.now tokens.now result spec.event_from }
 {
     if let Some(rest) = after_word(Keyword::Insert, tokens) {
         return Ok((TriggerEvent::Insert, rest));
@@ -76,10 +74,14 @@ fn event<'a>(alloc: Global, spelled: Spelled<'_>, tokens: Tokens<'a>) -> Read<'a
     Ok((TriggerEvent::Update(columns), rest))
 }
 
-/// Names behind OF, where OF comes next.
-#[tactic(auto, unfolding(crate::specs::Readers::maybe, crate::specs::Readers::choose, crate::specs::Readers::made, crate::specs::Readers::yields))]
-fn of<'a>(alloc: Global, spelled: Spelled<'_>, tokens: Tokens<'a>) -> Read<'a, Option<Many<Name>>>
-    ensures { Gives (λ x. (x.0, seen spelled.now x.1.now)) result (readers.maybe keyword.Of names_from (seen spelled.now tokens.now)) }
+/// Names after OF, where OF comes next.
+#[tactic(auto, unfolding(grammar::specs::Readers::maybe, grammar::specs::Readers::choose, grammar::specs::Readers::made, grammar::specs::Readers::yields))]
+fn of<'a>(
+    alloc: Global,
+    spelled: SourceTokens<'_>,
+    tokens: Rest<'a>,
+) -> Read<'a, Option<Many<Name>>>
+    ensures { ReadsBy spelled.now tokens.now result (readers.maybe keyword.Of names_from) }
 {
     match after_word(Keyword::Of, tokens) {
         Some(rest) => {
@@ -91,9 +93,9 @@ fn of<'a>(alloc: Global, spelled: Spelled<'_>, tokens: Tokens<'a>) -> Read<'a, O
 }
 
 /// Whether FOR EACH ROW comes next.
-#[tactic(auto, unfolding(crate::specs::Readers::choose, crate::specs::Readers::behind, crate::specs::Readers::yields, crate::specs::ObjectReading::each_row_from))]
-fn each_row<'a>(tokens: Tokens<'a>) -> Read<'a, bool>
-    ensures { (whole : List Spelling) → Gives (λ x. (x.0, seen whole x.1.now)) result (spec.each_row_from (seen whole tokens.now)) }
+#[tactic(auto, unfolding(grammar::specs::Readers::choose, grammar::specs::Readers::preceded, grammar::specs::Readers::yields, crate::specs::ObjectReading::each_row_from))]
+fn each_row<'a>(tokens: Rest<'a>) -> Read<'a, bool>
+    ensures { (whole : List Spelling) → ReadsBy whole tokens.now result spec.each_row_from }
 {
     match after_word(Keyword::For, tokens) {
         Some(rest) => Ok((true, word(Keyword::Row, word(Keyword::Each, rest)?)?)),
@@ -101,14 +103,14 @@ fn each_row<'a>(tokens: Tokens<'a>) -> Read<'a, bool>
     }
 }
 
-/// One or more statements, each with a semicolon behind it, and END.
+/// One or more statements, each with a semicolon after it, and END.
 #[tactic(auto, unfolding(crate::specs::ObjectReading::body_upto))]
 fn body<'a>(
     alloc: Global,
-    spelled: Spelled<'_>,
-    tokens: Tokens<'a>,
+    spelled: SourceTokens<'_>,
+    tokens: Rest<'a>,
 ) -> Read<'a, Many<TriggerStatement>>
-    ensures { Gives (λ x. (x.0, seen spelled.now x.1.now)) result (spec.body_from (seen spelled.now tokens.now)) }
+    ensures { ReadsBy spelled.now tokens.now result spec.body_from }
 {
     let mut body = Many::new(alloc);
     let mut rest = tokens;
@@ -123,26 +125,26 @@ fn body<'a>(
     Err(unexpected(rest))
 }
 
-/// A statement with a semicolon behind it.
-#[tactic(auto, unfolding(crate::specs::Readers::before_mark))]
+/// A statement with a semicolon after it.
+#[tactic(auto, unfolding(grammar::specs::Readers::before_mark))]
 fn body_statement<'a>(
     alloc: Global,
-    spelled: Spelled<'_>,
-    tokens: Tokens<'a>,
+    spelled: SourceTokens<'_>,
+    tokens: Rest<'a>,
 ) -> Read<'a, TriggerStatement>
-    ensures { Gives (λ x. (x.0, seen spelled.now x.1.now)) result (readers.before_mark kinds.Semicolon spec.program_from (seen spelled.now tokens.now)) }
+    ensures { ReadsBy spelled.now tokens.now result (readers.before_mark kinds.Semicolon spec.program_from) }
 {
     let (statement, rest) = program(alloc, spelled, tokens)?;
     Ok((statement, mark(Kind::Semicolon, rest)?))
 }
 
-#[tactic(auto, unfolding(crate::specs::Readers::choose, crate::specs::Readers::made, crate::specs::ObjectReading::program_from))]
+#[tactic(auto, unfolding(grammar::specs::Readers::choose, grammar::specs::Readers::made, crate::specs::ObjectReading::program_from))]
 fn program<'a>(
     alloc: Global,
-    spelled: Spelled<'_>,
-    tokens: Tokens<'a>,
+    spelled: SourceTokens<'_>,
+    tokens: Rest<'a>,
 ) -> Read<'a, TriggerStatement>
-    ensures { Gives (λ x. (x.0, seen spelled.now x.1.now)) result (spec.program_from (seen spelled.now tokens.now)) }
+    ensures { ReadsBy spelled.now tokens.now result spec.program_from }
 {
     match after_word(Keyword::Select, tokens) {
         Some(rest) => {

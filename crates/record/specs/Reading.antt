@@ -65,7 +65,7 @@ columns_at (suc most) (byte ∷ types) bodies = do
   values ← columns_at most column.1 column.2
   Ok (column.0 ∷ values)
 
--- the types and the bodies behind a length of `front` bytes that says `whole`, itself counted
+-- the types and the bodies after a length of `front` bytes that says `whole`, itself counted
 abbrev pub split_header : ℕ → ℕ → List ℕ → Result (List ℕ × List ℕ) Wrong
 split_header front whole rest =
     if nat_lt whole front then Err Broken

@@ -43,7 +43,7 @@ varint_from zero high (byte ∷ bytes) = Some (high * 256 + byte, bytes)
 varint_from (suc left) high (byte ∷ bytes) =
     if nat_lt byte 128 then Some (high * 128 + byte, bytes) else varint_from left (high * 128 + (byte - 128)) bytes
 
--- the number at the front, and the bytes behind it
+-- the number at the front, and the bytes after it
 unfoldable pub varint_at : List ℕ → Option (ℕ × List ℕ)
 varint_at bytes = varint_from 8 0 bytes
 

@@ -1,4 +1,18 @@
 //! Rows of values as the bytes of records, and variable-length integers.
+//!
+//! A varint has 1 to 9 bytes. The first eight give 7 bits each, high bits first, and their top bit says whether another byte
+//! follows; a ninth gives 8 bits. A record is the length of its header, counted with its own bytes; the serial type of each
+//! value; then the body of each value. Lengths and serial types are varints.
+//!
+//! | serial type | size of the body | value |
+//! |---|---|---|
+//! | 0 | 0 | NULL |
+//! | 1, 2, 3, 4, 5, 6 | 1, 2, 3, 4, 6, 8 | an integer, big-endian, in two's complement |
+//! | 7 | 8 | a float: not supported |
+//! | 8, 9 | 0 | the integers 0 and 1 |
+//! | 10, 11 | | reserved |
+//! | even, from 12 on: n | (n - 12) / 2 | a blob |
+//! | odd, from 13 on: n | (n - 13) / 2 | a text in UTF-8 |
 #![tactic(auto)]
 
 mod field;
@@ -6,9 +20,6 @@ mod row;
 mod varint;
 mod writing;
 
-pub use row::{Record, bytes_determine_values, one_row};
+pub use row::{Record, bytes_determine_values};
 pub use varint::{get_varint, put_varint, varint_len};
-pub use writing::{encode, is_storable};
-
-#[cfg(test)]
-mod tests;
+pub use writing::{encode, encode_row, is_storable};

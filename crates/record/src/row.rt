@@ -80,7 +80,7 @@ impl<'a> Record<'a> {
         read(alloc, bytes)
     }
 
-    /// How many values there are.
+    /// The number of values.
     pub fn len(&self) -> usize
         ensures { result ≡ length self.now }
     {
@@ -104,11 +104,6 @@ fn read(alloc: Global, bytes: &[u8]) -> R<Record<'_>>
     let fields = fields(alloc, types, bodies)?;
     Ok(Record { fields })
 }
-
-/// No bytes are records of two rows.
-pub fn one_row()
-    ensures { (bytes : List ℕ) (a b : List Value) → IsRecord bytes a → IsRecord bytes b → a ≡ b }
-{}
 
 /// The bytes of a record determine its values.
 pub fn bytes_determine_values()

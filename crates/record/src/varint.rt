@@ -5,7 +5,7 @@ ghost use Rattle.record.specs.Varint.{IsVarint, IsShortestVarint, varint_at, hig
 
 use std::alloc::AllocError;
 
-/// The number at the front, and the bytes behind it; None where no whole varint stands there. Every spelling is read,
+/// The number at the front, and the bytes after it; None where no whole varint stands there. Every spelling is read,
 /// not the shortest alone. A signed number is spelled as its 64 bits: callers cast.
 pub fn get_varint(bytes: &[u8]) -> Option<(u64, &[u8])>
     // What is read is a spelling of the number,

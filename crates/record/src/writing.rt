@@ -1,13 +1,13 @@
 //! Rows written as records.
 
-ghost use Rattle.std.specs.Prelude.{◌≡◌, ◌<◌, ◌≤◌, ◌++◌, ◌↔◌, IsTrue, ℕ, List, length, All, IfOk, IfErr, OnOk};
+ghost use Rattle.std.specs.Prelude.{◌≡◌, ◌⊎◌, ◌<◌, ◌≤◌, ◌++◌, ◌↔◌, IsTrue, ℕ, List, length, All, IfOk, IfErr, OnOk};
 ghost use Rattle.std.specs.List.{flat_map};
 ghost use Rattle.record.specs.Record.{width, IsRecord};
 ghost use Rattle.record.specs.Writing.{IsStorable, AreStorable, IsBytes, Fits, wide_type, int_type, int_bytes, wide_bytes, serial_of, type_of, body_of, header_len, record_of};
 
 use crate::varint::put_varint;
 use byteorder::{BigEndian, ByteOrder};
-use sqlval::{Fault, R, Value};
+use sqlval::{Fault, Feature, R, Value};
 use std::alloc::{AllocError, Global};
 
 #[tactic(auto, unfolding(crate::specs::Writing::wide_type))]
@@ -178,4 +178,17 @@ pub fn encode(alloc: Global, values: &[Value]) -> R<Vec<u8>>
     ensures memory { IfErr result (λ fault. fault ≡ Fault.Memory) }
 {
     write(alloc, values)
+}
+
+/// The record of a row, where a record can hold it: `Fault::Unsupported(Feature::RowSize)` where `is_storable` is false, or
+/// `Fault::Memory`.
+pub fn encode_row(alloc: Global, values: &[Value]) -> R<Vec<u8>>
+    ensures is { IfOk result (λ bytes. IsRecord bytes.items values.now) }
+    ensures exact { IfOk result (λ bytes. bytes.items ≡ record_of values.now) }
+    ensures refused { IfErr result (λ fault. (fault ≡ Fault.Memory) ⊎ ((fault ≡ Fault.Unsupported Feature.RowSize) × (AreStorable values.now → ⊥))) }
+{
+    if !is_storable(values) {
+        return Err(Fault::Unsupported(Feature::RowSize));
+    }
+    encode(alloc, values)
 }

@@ -12,7 +12,7 @@ use Rattle.std.specs.FinMap.Entries.{find}
 use Rattle.catalog.specs.Listed.{Lists, plain_table, table_named}
 use Rattle.catalog.specs.declared.tables.Table.{Table as ListedTable}
 use Rattle.bind.specs.Bound.{GivesEach, IsSource, ShowsAll, output_answer, sources_read}
-use Rattle.bind.specs.Known.{known_then, meant}
+use Rattle.bind.specs.Checked.{known_then, meant}
 use Rattle.bind.specs.Queries.{resolve_query}
 use Rattle.bind.specs.Readings.{Reading, Condition, Always, env_of, values, rows_over}
 use Rattle.bind.specs.Terms.{Term}
@@ -24,7 +24,7 @@ use Rattle.bind.specs.declared.queries.Output.TheVariants.{Column, Rowid, Litera
 use Rattle.bind.proofs.ColumnNames.{folded_twice}
 use Rattle.bind.proofs.PlainAnswers.{each_row, of_each_row, of_no_row}
 use Rattle.rowprog.specs.Meaning.{AnswersQuery}
-use Rattle.rowprog.specs.Rows.{TableRow, answer_over, answers_of, given, given_alone, lone_answer}
+use Rattle.rowprog.specs.Rows.{TableRow, answer_over, answers_of, given, given_alone, single_answer}
 
 -- ---- one row
 
@@ -56,7 +56,7 @@ each_given os ts h [] = refl
 each_given os ts h (r ∷ rows) =
     λ i. (shown_values (env_of (as_row r ∷ [])) os ts h ∙ (λ j. all_answers (map (λ o. output_given r o j) os))) i then λ x. each_given os ts h rows i then λ xs. Ok (x ∷ xs)
 
-alone_given : (os : List Output) (ts : List Term) → ShowsAll os ts → all_answers (values (env_of []) ts ∷ []) ≡ lone_answer os
+alone_given : (os : List Output) (ts : List Term) → ShowsAll os ts → all_answers (values (env_of []) ts ∷ []) ≡ single_answer os
 alone_given os ts h = ap (λ a. all_answers (a ∷ [])) (shown_values (env_of []) os ts h ∙ (λ j. all_answers (map (λ o. output_alone o j) os)))
 
 -- ---- a table's rows

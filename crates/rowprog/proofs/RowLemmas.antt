@@ -20,10 +20,10 @@ use Rattle.record.proofs.VarintLemmas.{AreBytes}
 use Rattle.record.proofs.RecordLemmas.{AreBytes-rest, AreBytes-front, record_is, record_again}
 use Rattle.page.specs.Leaf.{Entry, Span, AreCells}
 use Rattle.tabletree.specs.Cells.{Pairwise}
-use Rattle.tabletree.specs.Lone.{IsLone, IsLeafRefusal}
+use Rattle.tabletree.specs.SingleLeaf.{IsSingleLeaf, IsLeafRefusal}
 use Rattle.bind.specs.declared.queries.Output.{Output}
 use Rattle.bind.specs.declared.queries.Output.TheVariants.{Column, Rowid, Literal, Overflow}
-use Rattle.rowprog.specs.Rows.{AnswersBy, TableRow, IsRow, answers_of, given, given_alone, lone_answer, result_of, values_of}
+use Rattle.rowprog.specs.Rows.{AnswersBy, TableRow, IsRow, answers_of, given, given_alone, single_answer, result_of, values_of}
 use Rattle.bind.specs.Bound.{IsOf}
 use Rattle.rowprog.specs.Answers.{◌and◌, every, tried, as_wide, row_at, all_tried, entry_given, tried_alone, IsOverflow, IsRowRefusal, IsAnswer}
 use Rattle.rowprog.proofs.Steps.{refused_so}
@@ -233,11 +233,11 @@ given_ok view (Err fault) given P gives holds = tt
 
 -- what was answered for a page is what it holds
 pub table_found : {X : Type 0} (view : X → List (List Value)) (r : Result X Fault) (page : List ℕ) (number width : ℕ) (outputs : List Output) (entries : List Entry)
-    → AreBytes page → IsLone page number entries → Gives view r (every (map (entry_given width outputs) entries)) → IfOk r (λ x. IsAnswer page number width outputs (view x))
-table_found view r page number width outputs entries fits lone gives =
+    → AreBytes page → IsSingleLeaf page number entries → Gives view r (every (map (entry_given width outputs) entries)) → IfOk r (λ x. IsAnswer page number width outputs (view x))
+table_found view r page number width outputs entries fits single_leaf gives =
     given_ok view r (every (map (entry_given width outputs) entries)) (λ results. IsAnswer page number width outputs results) gives
-    (λ results e. let found = rows_found width outputs entries results (payloads_fit page lone.leaf.spans entries fits lone.leaf.cells) e in
-    record { rows = found.rows; holds = record { entries = entries; lone = lone; each = found.each }; gives = found.gives })
+    (λ results e. let found = rows_found width outputs entries results (payloads_fit page single_leaf.leaf.spans entries fits single_leaf.leaf.cells) e in
+    record { rows = found.rows; holds = record { entries = entries; single_leaf = single_leaf; each = found.each }; gives = found.gives })
 
 -- why a page's rows are refused
 pub table_refused : {X : Type 0} (view : X → List (List Value)) (r : Result X Fault) (number width : ℕ) (outputs : List Output) (entries : List Entry)
@@ -263,7 +263,7 @@ table_again view r width outputs entries held rows same each within gives =
     subst (λ answer. AnswersBy view answer r) (ap (λ some. as_answer (every (map (entry_given width outputs) some))) same ∙ rows_again width outputs entries rows (recursion_from_All (IsOf (Some width)) outputs within) each)
     (gives_answer view r (every (map (entry_given width outputs) held)) gives)
 
--- a refusal where there is an answer is for want of memory
+-- a refusal where there is an answer is when out of memory
 pub only_memory : {Y : Type 0} (fault : Fault) (y : Y) → Refuses fault (Ok y) → fault ≡ f.Memory
 only_memory fault y refuses = elim (refused_so fault (fine y) refuses) [
   | inl e ↦ e
@@ -283,14 +283,14 @@ all_alone [] = refl
 all_alone (output ∷ outputs) = as_answers (tried_alone output) (every (map tried_alone outputs)) ∙ (λ i. alone_again output i then λ x. all_alone outputs i then λ xs. Ok (x ∷ xs))
 
 -- the one row is refused as one of its outputs is
-pub lone_refused : (outputs : List Output) (fault : Fault) → Refuses fault (every (map tried_alone outputs)) → (fault ≡ f.Memory) ⊎ (lone_answer outputs ≡ Err (refusal_of fault))
-lone_refused outputs fault refuses = elim (refused_so fault (every (map tried_alone outputs)) refuses) [
+pub single_refused : (outputs : List Output) (fault : Fault) → Refuses fault (every (map tried_alone outputs)) → (fault ≡ f.Memory) ⊎ (single_answer outputs ≡ Err (refusal_of fault))
+single_refused outputs fault refuses = elim (refused_so fault (every (map tried_alone outputs)) refuses) [
   | inl e ↦ inl e
   | inr e ↦ inr (ap (λ a. all_answers (a ∷ [])) (sym (all_alone outputs) ∙ ap as_answer e))
 ]
 
-lone_given : (outputs : List Output) (values : List Value) → every (map tried_alone outputs) ≡ Ok values → lone_answer outputs ≡ Ok (values ∷ [])
-lone_given outputs values e = ap (λ a. all_answers (a ∷ [])) (sym (all_alone outputs) ∙ ap as_answer e)
+single_given : (outputs : List Output) (values : List Value) → every (map tried_alone outputs) ≡ Ok values → single_answer outputs ≡ Ok (values ∷ [])
+single_given outputs values e = ap (λ a. all_answers (a ∷ [])) (sym (all_alone outputs) ∙ ap as_answer e)
 
 alone_refused : (output : Output) (fault : Fault) → tried_alone output ≡ Err fault → fault ≡ f.RealRefused
 alone_refused (Column place) fault e = absurd (not_given _ fault e)
@@ -299,18 +299,18 @@ alone_refused (Literal v) fault e = absurd (not_given _ fault e)
 alone_refused Overflow fault e = same_fault fault (refused {A = Value} f.RealRefused) f.RealRefused e refl
 
 -- memory or a number past 64 bits is why
-pub lone_why : (outputs : List Output) (fault : Fault) → Refuses fault (every (map tried_alone outputs)) → (fault ≡ f.Memory) ⊎ (fault ≡ f.RealRefused)
-lone_why outputs fault refuses = elim (refused_so fault (every (map tried_alone outputs)) refuses) [
+pub single_why : (outputs : List Output) (fault : Fault) → Refuses fault (every (map tried_alone outputs)) → (fault ≡ f.Memory) ⊎ (fault ≡ f.RealRefused)
+single_why outputs fault refuses = elim (refused_so fault (every (map tried_alone outputs)) refuses) [
   | inl e ↦ inl e
   | inr e ↦ inr (every_refused (λ d. d ≡ f.RealRefused) tried_alone alone_refused outputs fault e)
 ]
 
--- the want of memory, or the answer's refusal
+-- the lack of memory, or the answer's refusal
 abbrev pub IsAnswerRefusal : {A : Type 0} → Answer A → Fault → Type 0
 IsAnswerRefusal answer fault = (fault ≡ f.Memory) ⊎ (answer ≡ Err (refusal_of fault))
 
 -- the one row, put on an empty list
 pub one_row : (outputs : List Output) (row : SmallVec Value) (before after : List (SmallVec Value)) → every (map tried_alone outputs) ≡ Ok (values_of row) → before ≡ [] → after ≡ before ++ row ∷ []
-    → lone_answer outputs ≡ Ok (map values_of after)
+    → single_answer outputs ≡ Ok (map values_of after)
 one_row outputs row before after e none more =
-    subst (λ rows. lone_answer outputs ≡ Ok (map values_of rows)) (sym (more ∙ ap (λ rows. rows ++ row ∷ []) none)) (lone_given outputs (values_of row) e)
+    subst (λ rows. single_answer outputs ≡ Ok (map values_of rows)) (sym (more ∙ ap (λ rows. rows ++ row ∷ []) none)) (single_given outputs (values_of row) e)

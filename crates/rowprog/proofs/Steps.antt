@@ -38,7 +38,7 @@ refuses_on f.ViewReadOnly a k e = ap (λ r. r and k) e
 refuses_on f.Failed a k e = ap (λ r. r and k) e
 refuses_on f.Blank a k e = ap (λ r. r and k) e
 
--- it is for want of memory, or what the definition refuses too
+-- it is when out of memory, or what the definition refuses too
 pub refused_so : {Y : Type 0} (fault : Fault) (given : Result Y Fault) → Refuses fault given → (fault ≡ f.Memory) ⊎ (given ≡ Err fault)
 refused_so f.Memory given e = inl refl
 refused_so f.Io given e = inr e

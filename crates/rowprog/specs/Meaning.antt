@@ -5,7 +5,7 @@ use Rattle.catalog.specs.Database.{Database}
 use Rattle.catalog.specs.Listed.{Lists}
 use Rattle.catalog.specs.declared.tables.Table.{Table}
 use Rattle.bind.specs.Bound.{IsBound, IsSource}
-use Rattle.bind.specs.Known.{meant}
+use Rattle.bind.specs.Checked.{meant}
 use Rattle.bind.specs.Queries.{resolve_query}
 use Rattle.bind.specs.Views.{answer_of, look_up}
 use Rattle.bind.specs.declared.queries.BoundSource.{BoundSource}

@@ -9,7 +9,7 @@ use Rattle.sqlval.specs.declared.value.Value.TheVariants.{Null, Int}
 use Rattle.record.specs.Record.{IsRecord}
 use Rattle.page.specs.Leaf.{Entry}
 use Rattle.tabletree.specs.Cells.{Pairwise}
-use Rattle.tabletree.specs.Lone.{IsLone}
+use Rattle.tabletree.specs.SingleLeaf.{IsSingleLeaf}
 use Rattle.bind.specs.declared.queries.BoundSource.{BoundSource}
 use Rattle.bind.specs.declared.queries.Output.{Output}
 use Rattle.bind.specs.declared.queries.Output.TheVariants.{Column, Rowid, Literal, Overflow}
@@ -33,7 +33,7 @@ pub record IsRow (width : ℕ) (entry : Entry) (row : TableRow) : Type 0 where
 -- the page of this number is a leaf of these rows of so many values, by rising rowid
 pub record Holds (page : List ℕ) (number width : ℕ) (rows : List TableRow) : Type 0 where
   pub entries : List Entry
-  pub lone : IsLone page number entries
+  pub single_leaf : IsSingleLeaf page number entries
   pub each : Pairwise (IsRow width) entries rows
 
 -- what an output gives of a row; a number past 64 bits is refused
@@ -58,15 +58,15 @@ given_alone Overflow = Err RealRefused
 given_alone _ = Ok Null
 
 -- what outputs give where no table is read: of one row without values
-abbrev pub lone_answer : List Output → Answer (List (List Value))
-lone_answer outputs = all_answers (all_answers (map given_alone outputs) ∷ [])
+abbrev pub single_answer : List Output → Answer (List (List Value))
+single_answer outputs = all_answers (all_answers (map given_alone outputs) ∷ [])
 
 -- what outputs give of the rows of their source, where these are the rows of each tree
 abbrev pub answer_over : (ℕ → List TableRow) → Option BoundSource → List Output → Answer (List (List Value))
-answer_over rows_at None outputs = lone_answer outputs
+answer_over rows_at None outputs = single_answer outputs
 answer_over rows_at (Some source) outputs = answers_of outputs (rows_at source.root)
 
--- What a call answered, seen by `view`, is the answer, or its refusal, or the want of memory.
+-- What a call answered, seen by `view`, is the answer, or its refusal, or the lack of memory.
 abbrev pub AnswersBy : {X A : Type 0} → (X → A) → Answer A → Result X Fault → Type 0
 AnswersBy view answer (Ok x) = answer ≡ Ok (view x)
 AnswersBy view answer (Err fault) = (fault ≡ Memory) ⊎ (answer ≡ Err (refusal_of fault))

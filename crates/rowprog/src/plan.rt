@@ -1,4 +1,4 @@
-//! How a query's rows are found.
+//! The plan of a query.
 
 ghost use Rattle.std.specs.Prelude.{◌≡◌};
 ghost use Rattle.rowprog.specs.Rows.{scan_of};

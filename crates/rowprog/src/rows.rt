@@ -1,12 +1,12 @@
 //! The rows of a query.
 
-ghost use Rattle.catalog.specs.Faults.{IsNoFileFault};
+ghost use Rattle.sqlval.specs.Faults.{IsNotDiskFault};
 ghost use Rattle.std.specs.Prelude.{◌≡◌, ◌⊎◌, List, Some, map, All, IfOk, IfErr};
 ghost use Rattle.sqlval.specs.Gives.{Gives};
 ghost use Rattle.page.specs.Leaf.{entry_of};
-ghost use Rattle.tabletree.specs.Lone.{IsLeafRefusal};
+ghost use Rattle.tabletree.specs.SingleLeaf.{IsLeafRefusal};
 ghost use Rattle.rowprog.specs.Answers.{IsAnswer, IsOverflow, IsRowRefusal, all_tried, entry_given, every, row_at, tried, tried_alone};
-ghost use Rattle.rowprog.specs.Rows.{AnswersBy, Holds, TableRow, answers_of, lone_answer, values_of};
+ghost use Rattle.rowprog.specs.Rows.{AnswersBy, Holds, TableRow, answers_of, single_answer, values_of};
 ghost use Rattle.bind.specs.Bound.{IsOf};
 
 use bind::{BoundSource, Output};
@@ -53,7 +53,7 @@ fn row_of(alloc: Global, source: &Source<'_>, outputs: &[Output]) -> R<Row>
     Ok(row)
 }
 
-/// The row of so many values that lies in a cell.
+/// The row of `width` values in a cell.
 fn source_of<'a>(alloc: Global, cell: Cell<'a>, width: usize) -> R<Source<'a>>
     ensures { Gives (λ source. (source.rowid, source.record)) result (row_at width (entry_of cell.entry)) }
 {
@@ -93,25 +93,25 @@ pub fn table_rows(alloc: Global, page: &[u8], table: BoundSource, outputs: &[Out
     ensures found { IfOk result (λ answer. IsAnswer page.now table.root table.width outputs.now (map values_of answer.items)) }
     ensures only { (rows : List TableRow) → Holds page.now table.root table.width rows → All (IsOf (Some table.width)) outputs.now → AnswersBy (λ answer. map values_of answer.items) (answers_of outputs.now rows) result }
     ensures refused { IfErr result (λ fault. (fault ≡ Fault.Memory) ⊎ (IsLeafRefusal table.root fault ⊎ (IsRowRefusal fault ⊎ IsOverflow outputs.now fault))) }
-    ensures calm { IfErr result (λ fault. IsNoFileFault fault) }
+    ensures not_disk { IfErr result (λ fault. IsNotDiskFault fault) }
 {
     let leaf = Leaf::over(alloc, page, table.root)?;
     leaf_rows(alloc, &leaf, table.width, outputs)
 }
 
 /// The values of outputs that are of no table.
-fn lone_values(alloc: Global, outputs: &[Output]) -> R<Row>
+fn single_values(alloc: Global, outputs: &[Output]) -> R<Row>
     ensures { Gives values_of result (every (map tried_alone outputs.now)) }
 {
     let mut row = SmallVec::new(alloc);
     'outputs: for output in outputs {
-        row.push(lone_value(alloc, output)?)?;
+        row.push(single_value(alloc, output)?)?;
     }
     Ok(row)
 }
 
 /// The value of an output that is of no table.
-fn lone_value(alloc: Global, output: &Output) -> R<Value>
+fn single_value(alloc: Global, output: &Output) -> R<Value>
     ensures { Gives (λ value. value) result (tried_alone output.now) }
 {
     match output {
@@ -122,11 +122,11 @@ fn lone_value(alloc: Global, output: &Output) -> R<Value>
 }
 
 /// The one row of a query without FROM: the values of its literals; `RealRefused` where one is past 64 bits.
-pub fn lone_row(alloc: Global, outputs: &[Output]) -> R<Rows>
-    ensures exact { AnswersBy (λ rows. map values_of rows.items) (lone_answer outputs.now) result }
-    ensures calm { IfErr result (λ fault. IsNoFileFault fault) }
+pub fn single_row(alloc: Global, outputs: &[Output]) -> R<Rows>
+    ensures exact { AnswersBy (λ rows. map values_of rows.items) (single_answer outputs.now) result }
+    ensures not_disk { IfErr result (λ fault. IsNotDiskFault fault) }
 {
-    let row = lone_values(alloc, outputs)?;
+    let row = single_values(alloc, outputs)?;
     let mut rows = Vec::new(alloc);
     rows.push(row)?;
     Ok(rows)

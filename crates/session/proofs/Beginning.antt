@@ -8,34 +8,34 @@ use Rattle.sqlval.specs.declared.fault.Fault.{Fault}
 use Rattle.sqlval.specs.declared.fault.Fault.TheVariants as fault
 use Rattle.syntax.specs.declared.statement.BeginMode.TheVariants as begins
 use Rattle.syntax.specs.declared.statement.Statement.TheVariants as statement
-use Rattle.wal.specs.Known.{Known}
-use Rattle.wal.specs.Opening.{IsServedSize}
+use Rattle.wal.specs.LogState.{LogState}
+use Rattle.wal.specs.Sizes.{IsSizeWithinLimits}
 use Rattle.wal.specs.declared.log.Snapshot.{Snapshot}
 use Rattle.catalog.specs.Database.{Database}
 use Rattle.catalog.specs.Listed.{committed_in, tables_of}
 use Rattle.catalog.specs.declared.tables.Catalog.{Catalog}
 use Rattle.catalog.specs.declared.tables.Table.{Table}
-use Rattle.pager.specs.Views.{Has, IsPage, View, newest_view, view_at, view_of}
+use Rattle.pager.specs.Views.{ViewHas, IsViewPage, View, newest_view, view_at, view_of}
 use Rattle.pager.specs.Writers.{IsBegun, seen, snapshot_of}
 use Rattle.pager.specs.declared.writer.Writer.{Writer}
-use Rattle.session.specs.Built.{StepSoFar}
-use Rattle.session.specs.Known.{files_of, has_failed_in}
+use Rattle.session.specs.Supported.{StepSoFar}
+use Rattle.session.specs.ConnectionState.{files_of, has_failed_in}
 use Rattle.session.specs.Machine.{Machine, Connection, Idle, Rows, Refused, is_writing, last_place, newest, with_connection}
 use Rattle.session.specs.Outcomes.{Gives, outcome}
 use Rattle.session.specs.Schema.{AreRowsOf}
 use Rattle.session.specs.Stored.{Stores}
-use Rattle.session.specs.Shown.{AreCommitted, FindsNoRoom, IsNewest, IsShown, IsTransaction, IsWriter, OnlyReads, ShowTheSame, StepsOn, done_reply, is_idle}
+use Rattle.session.specs.Representation.{AreCommitted, FindsNoRoom, IsNewest, RepresentsRunning, IsTransaction, IsWriter, OnlyReads, ShowTheSame, StepsOn, done_reply, is_idle}
 use Rattle.session.specs.declared.transactions.Connections.{Connections}
 use Rattle.session.specs.declared.transactions.Transaction.{Transaction}
 use Rattle.session.specs.declared.transactions.Transaction.TheVariants as transaction
 use Rattle.session.proofs.SeenPages.{at_newest}
 use Rattle.session.proofs.Selecting.{all_listed}
-use Rattle.session.proofs.Settled.{stop_still}
+use Rattle.session.proofs.Settled.{crash_keeps}
 use Rattle.session.proofs.Showing.{idle_first, moved, still_shown}
 use Rattle.session.proofs.Stepping.{begin_outcome, begun_as, by_outcome, first_is, free_begin, instead, no_other}
 
 -- views of the same pages hold the same
-pub same_stores : (v w : View) (tables : List Table) (db : Database) → w.page_size ≡ v.page_size → w.size ≡ v.size → ((number : ℕ) (bytes : List ℕ) → Has w number bytes ↔ Has v number bytes) → Stores v tables db → Stores w tables db
+pub same_stores : (v w : View) (tables : List Table) (db : Database) → w.page_size ≡ v.page_size → w.size ≡ v.size → ((number : ℕ) (bytes : List ℕ) → ViewHas w number bytes ↔ ViewHas v number bytes) → Stores v tables db → Stores w tables db
 same_stores v w tables db sized long same held = record {
   rows_at = held.rows_at;
   lists = held.lists;
@@ -50,19 +50,19 @@ same_stores v w tables db sized long same held = record {
     header_is = held.first.header_is;
     sized = held.first.sized ∙ sym sized;
     rows = held.first.rows;
-    lone = held.first.lone;
+    single_leaf = held.first.single_leaf;
     tell = subst (λ (n : ℕ). AreRowsOf n [] tables held.first.rows) (sym long) held.first.tell;
   };
-  served = subst (λ n. IsServedSize n w.size) (sym sized) (subst (IsServedSize v.page_size) (sym long) held.served);
+  served = subst (λ n. IsSizeWithinLimits n w.size) (sym sized) (subst (IsSizeWithinLimits v.page_size) (sym long) held.served);
 }
   where
-    there : (number : ℕ) (bytes : List ℕ) → IsPage v number bytes → IsPage w number bytes
+    there : (number : ℕ) (bytes : List ℕ) → IsViewPage v number bytes → IsViewPage w number bytes
     there number bytes page = record { first = page.first; last = omega (arith, page.last, long); has = (same number bytes).1 page.has }
 
 module _ {D : Type 0} {g : Ghosts D} where
   -- what the newest commit left has a first page
-  pub first_there : (c : Connections D g) (m : Machine) (shown : IsShown c m) (s : Snapshot) → IsNewest (files_of c) s → IsPage (view_at (files_of c) s) 1 shown.stored.first.page
-  first_there c m shown s newest = subst (λ (v : View). IsPage v 1 shown.stored.first.page) (sym (at_newest (files_of c) s newest)) shown.stored.first.there
+  pub first_there : (c : Connections D g) (m : Machine) (shown : RepresentsRunning c m) (s : Snapshot) → IsNewest (files_of c) s → IsViewPage (view_at (files_of c) s) 1 shown.stored.first.page
+  first_there c m shown s newest = subst (λ (v : View). IsViewPage v 1 shown.stored.first.page) (sym (at_newest (files_of c) s newest)) shown.stored.first.there
 
   -- what changes where a transaction that writes begins
   pub record StartsWriting (old new : Connections D g) (w : Writer) (s : Snapshot) : Type 0 where
@@ -80,7 +80,7 @@ module _ {D : Type 0} {g : Ghosts D} where
   committed_where_idle c last (transaction.Reading s) k is idle = is.1
   committed_where_idle c last (transaction.Writing w) k is idle = (let bad : false ≡ true = idle in cc)
 
-  pub immediate_outcome : (c : Connections D g) (m : Machine) (shown : IsShown c m) → is_idle c.transaction ≡ true → outcome m 1 (statement.Begin begins.Immediate) ≡ Gives [] (with_connection m 1 (begun_as begins.Immediate m))
+  pub immediate_outcome : (c : Connections D g) (m : Machine) (shown : RepresentsRunning c m) → is_idle c.transaction ≡ true → outcome m 1 (statement.Begin begins.Immediate) ≡ Gives [] (with_connection m 1 (begun_as begins.Immediate m))
   immediate_outcome c m shown idle =
       begin_outcome begins.Immediate m Idle (first_is m shown.first shown.others shown.connections ∙ idle_first (files_of c) c.catalog (last_place m) c.transaction shown.first shown.transaction idle)
       ∙ free_begin begins.Immediate m (no_other m shown.first shown.others shown.connections is_writing refl shown.idle)
@@ -89,12 +89,12 @@ module _ {D : Type 0} {g : Ghosts D} where
   pub writer_begins : (old new : Connections D g) (w : Writer) (s : Snapshot) → StartsWriting old new w s → IsWriter (files_of new) w
   writer_begins old new w s start = record {
     newest = record {
-      seen = ap (λ (x : Snapshot). x.mark) start.stands ∙ start.newest.seen ∙ ap (λ (k : Known). k.frames) (sym start.files.known);
-      sized = ap (λ (x : Snapshot). x.size) start.stands ∙ start.newest.sized ∙ ap (λ (k : Known). k.size) (sym start.files.known);
+      seen = ap (λ (x : Snapshot). x.mark) start.stands ∙ start.newest.seen ∙ ap (λ (k : LogState). k.frames) (sym start.files.known);
+      sized = ap (λ (x : Snapshot). x.size) start.stands ∙ start.newest.sized ∙ ap (λ (k : LogState). k.size) (sym start.files.known);
     };
     whole = start.begun.whole;
-    page_size = start.begun.page_size ∙ ap (λ (k : Known). k.page_size) (sym start.files.known);
-    grown = λ n past last none. omega (arith, past, last, start.begun.size, start.newest.sized, ap (λ (k : Known). k.size) start.files.known);
+    page_size = start.begun.page_size ∙ ap (λ (k : LogState). k.page_size) (sym start.files.known);
+    grown = λ n past last none. omega (arith, past, last, start.begun.size, start.newest.sized, ap (λ (k : LogState). k.size) start.files.known);
   }
 
   pub writer_stores : (old new : Connections D g) (w : Writer) (s : Snapshot) (tables : List Table) (db : Database) → StartsWriting old new w s → Stores (newest_view (files_of old)) tables db → Stores (view_of (files_of new) w) tables db
@@ -103,7 +103,7 @@ module _ {D : Type 0} {g : Ghosts D} where
       (same_stores (view_at (files_of old) s) (seen (view_at (files_of old) s) w) tables db refl start.begun.size start.begun.sees
       (subst (λ (v : View). Stores v tables db) (sym (at_newest (files_of old) s start.newest)) held))
 
-  pub begun_immediate : (old new : Connections D g) (w : Writer) (s : Snapshot) → is_idle old.transaction ≡ true → ((m : Machine) → IsShown old m → StartsWriting old new w s) → StepsOn old (statement.Begin begins.Immediate) (Rows []) new
+  pub begun_immediate : (old new : Connections D g) (w : Writer) (s : Snapshot) → is_idle old.transaction ≡ true → ((m : Machine) → RepresentsRunning old m → StartsWriting old new w s) → StepsOn old (statement.Begin begins.Immediate) (Rows []) new
   begun_immediate old new w s idle all m shown =
       let start = all m shown in
       let next = with_connection m 1 (begun_as begins.Immediate m) in
@@ -119,16 +119,16 @@ module _ {D : Type 0} {g : Ghosts D} where
               writer_begins old new w s start,
               subst (λ (c : Catalog). Stores (view_of (files_of new) w) (tables_of c) (newest m)) (sym start.catalog) (writer_stores old new w s (tables_of old.catalog) (newest m) start (all_listed old m shown all_committed)),
             )));
-        stop = stop_still old new m next shown start.files;
+        crash = crash_keeps old new m next shown start.files;
       }
 
-  -- where page 1 isn't read, for want of memory or a failed call
-  pub begin_fails : (old new : Connections D g) (f : Fault) → is_idle old.transaction ≡ true → OnlyReads old new → ((m : Machine) → IsShown old m → (f ≡ fault.Memory) ⊎ (f ≡ fault.Io)) → StepsOn old (statement.Begin begins.Immediate) (Refused (refusal_of f)) new
+  -- where page 1 isn't read, when out of memory or a failed call
+  pub begin_fails : (old new : Connections D g) (f : Fault) → is_idle old.transaction ≡ true → OnlyReads old new → ((m : Machine) → RepresentsRunning old m → (f ≡ fault.Memory) ⊎ (f ≡ fault.Io)) → StepsOn old (statement.Begin begins.Immediate) (Refused (refusal_of f)) new
   begin_fails old new f idle reads why m shown = record {
     next = m;
     step = by_why (why m shown);
     shown = inr (still_shown old new m shown (reads.files shown.told) reads.failed reads.catalog reads.transaction);
-    stop = stop_still old new m m shown (reads.files shown.told);
+    crash = crash_keeps old new m m shown (reads.files shown.told);
   }
     where
       outcome_is : outcome m 1 (statement.Begin begins.Immediate) ≡ Gives [] (with_connection m 1 (begun_as begins.Immediate m))

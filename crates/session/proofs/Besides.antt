@@ -11,7 +11,7 @@ use Rattle.syntax.specs.declared.statement.BeginMode.TheVariants as begins
 use Rattle.syntax.specs.declared.statement.Statement.{Statement}
 use Rattle.syntax.specs.declared.statement.Statement.TheVariants as statement
 use Rattle.catalog.specs.Database.{Database}
-use Rattle.bind.specs.Known.{Known, Meant}
+use Rattle.bind.specs.Checked.{Checked, Meant}
 use Rattle.session.specs.Laws.{IsBeside, LeavesOthers}
 use Rattle.session.specs.Machine.{is_writing, another, newest, committed, last_place, Machine, Connection, Idle, InTransactionOf, Phase, NoSnapshot, Reads, Writes, SavepointState, Reply, Rows, Refused, connection, with_connection}
 use Rattle.session.specs.Outcomes.{Outcome, Gives, RefusedBy, Ends, Commits, Copies, Bound, Work, Makes, IsRefused, Undoes, Binds, outcome, Sort, Querying, Writing, Controlling, sort, sorted_outcome, begun, control, write_outcome, read_outcome, given, worked, worked_alone, unless_busy, commit_outcome, released, restored, saved, from_name}
@@ -59,7 +59,7 @@ Stays m c (Ends r m') = IsBeside m c m'
 Stays m c (Bound db ch o) = Stays m c o
 Stays m c _ = Unit {0}
 
-given_stays : (m m' : Machine) (c : ℕ) (a : Known (Answer (List (List Value)))) → IsBeside m c m' → Stays m c (given m' a)
+given_stays : (m m' : Machine) (c : ℕ) (a : Checked (Answer (List (List Value)))) → IsBeside m c m' → Stays m c (given m' a)
 given_stays m m' c (Meant a (r ∷ rs)) h = tt
 given_stays m m' c (Meant (Err r) []) h = tt
 given_stays m m' c (Meant (Ok rows) []) h = h

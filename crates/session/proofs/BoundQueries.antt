@@ -7,15 +7,15 @@ use Rattle.syntax.specs.declared.query.FromClause.{FromClause}
 use Rattle.syntax.specs.declared.query.ResultItem.{ResultItem}
 use Rattle.syntax.specs.declared.query.ResultItem.TheVariants.{All, AllOf, Of}
 use Rattle.bind.specs.Bound.{HasOneSource, IsFaultOf}
-use Rattle.bind.specs.Known.{Known, Meant, faults, known_map, meant}
+use Rattle.bind.specs.Checked.{Checked, Meant, faults, known_map, meant}
 use Rattle.bind.specs.Queries.{resolve_query}
-use Rattle.bind.specs.Served.{IsServedResult}
+use Rattle.bind.specs.Supported.{IsSupportedResult}
 use Rattle.bind.specs.Views.{answer_of, look_up}
 use Rattle.bind.proofs.KnownTables.{known_listed}
-use Rattle.bind.proofs.ServedRefusals.{refused_as_defined}
+use Rattle.bind.proofs.SupportedRefusals.{refused_as_defined}
 use Rattle.rowprog.proofs.QueryAnswers.{answers_query}
-use Rattle.session.specs.Built.{has_one_source, is_result_built}
-use Rattle.session.specs.Laws.{BuiltIsServed, ReadsAsBound, RefusesAsRead}
+use Rattle.session.specs.Supported.{has_one_source, is_result_supported}
+use Rattle.session.specs.Laws.{SupportedIsPlain, ReadsAsBound, RefusesAsRead}
 
 -- ---- the form
 
@@ -39,18 +39,18 @@ one_there : (from : Option FromClause) → has_one_source from ≡ true → HasO
 one_there None h = tt
 one_there (Some f) h = empty_there f.joins h
 
-result_served : (i : ResultItem) → is_result_built i ≡ true → IsServedResult i
+result_served : (i : ResultItem) → is_result_supported i ≡ true → IsSupportedResult i
 result_served All h = tt
 result_served (AllOf q) h = tt
 result_served (Of e n) h = h
 
-results_served : (is : List ResultItem) → list_all is_result_built is ≡ true → AllByRecursion IsServedResult is
+results_served : (is : List ResultItem) → list_all is_result_supported is ≡ true → AllByRecursion IsSupportedResult is
 results_served [] h = tt
-results_served (i ∷ is) h = let b = both_true (is_result_built i) (list_all is_result_built is) h in (result_served i b.0, results_served is b.1)
+results_served (i ∷ is) h = let b = both_true (is_result_supported i) (list_all is_result_supported is) h in (result_served i b.0, results_served is b.1)
 
-pub built_is_served : BuiltIsServed
-built_is_served q h =
-    let results = both_true _ (list_all is_result_built q.results) h in
+pub supported_is_plain : SupportedIsPlain
+supported_is_plain q h =
+    let results = both_true _ (list_all is_result_supported q.results) h in
     let source = both_true _ (has_one_source q.from) results.0 in
     let limit = both_true _ (is_none q.limit) source.0 in
     let order = both_true _ (length q.order == 0) limit.0 in
@@ -62,10 +62,10 @@ built_is_served q h =
 
 -- ---- reading
 
-mapped : {A B : Type 0} (f : A → B) (k : Known A) (y : B) → faults k ≡ [] → f (meant k) ≡ y → known_map f k ≡ Meant y []
+mapped : {A B : Type 0} (f : A → B) (k : Checked A) (y : B) → faults k ≡ [] → f (meant k) ≡ y → known_map f k ≡ Meant y []
 mapped f (Meant x rs) y none e = λ i. Meant (e i) (none i)
 
-same_faults : {A B : Type 0} (f : A → B) (k : Known A) → faults (known_map f k) ≡ faults k
+same_faults : {A B : Type 0} (f : A → B) (k : Checked A) → faults (known_map f k) ≡ faults k
 same_faults f (Meant x rs) = refl
 
 pub reads_as_bound : ReadsAsBound
@@ -73,6 +73,6 @@ reads_as_bound rows_at tables db q outputs source lists bound is =
     mapped (answer_of db []) (resolve_query (look_up db) [] q) _ bound.0 (answers_query rows_at tables db q outputs source lists bound is)
 
 pub refuses_as_read : RefusesAsRead
-refuses_as_read rows_at tables db q f lists built why =
+refuses_as_read rows_at tables db q f lists supported_forms why =
     subst (λ rs. IsFaultOf rs f) (sym (same_faults (answer_of db []) (resolve_query (look_up db) [] q)))
-    (refused_as_defined (look_up db) tables q f (known_listed rows_at tables db lists) (built_is_served q built) why)
+    (refused_as_defined (look_up db) tables q f (known_listed rows_at tables db lists) (supported_is_plain q supported_forms) why)

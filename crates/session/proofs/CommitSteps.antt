@@ -18,20 +18,20 @@ use Rattle.wal.specs.declared.log.Log.{Log}
 use Rattle.wal.specs.declared.log.Snapshot.{Snapshot}
 use Rattle.pager.specs.Views.{Tells, View, newest_view, view_of}
 use Rattle.pager.specs.declared.writer.Writer.{Writer}
-use Rattle.session.specs.Built.{StepSoFar}
+use Rattle.session.specs.Supported.{StepSoFar}
 use Rattle.session.specs.Holding.{IsSettled}
-use Rattle.session.specs.Known.{files_of, has_failed_in}
+use Rattle.session.specs.ConnectionState.{files_of, has_failed_in}
 use Rattle.session.specs.Machine.{Machine, Idle, InTransactionOf, NoSnapshot, Phase, Reads, Reply, Rows, Refused, Writes, last_place, newest, with_connection}
 use Rattle.session.specs.Outcomes.{Commits, Gives, RefusedBy, commit_outcome, outcome}
-use Rattle.session.specs.Shown.{AreCommitted, FindsNoRoom, IsShown, IsTransaction, IsWriter, ShowTheSame, StepsOn, StepsTo, done_reply, is_idle}
+use Rattle.session.specs.Representation.{AreCommitted, FindsNoRoom, RepresentsRunning, IsTransaction, IsWriter, ShowTheSame, StepsOn, StepsTo, done_reply, is_idle}
 use Rattle.session.specs.Steps.{Allowed, after_commit, is_free}
 use Rattle.session.specs.Stored.{Stores}
-use Rattle.session.specs.Working.{CommitsWork, HasCommitted, HoldsEither, IsInDoubt, IsUncommitted, WorksOn}
+use Rattle.session.specs.Applying.{CommitsChanges, CommitsDatabase, HoldsEither, IsCommitCause, IsInDoubt, IsUncommitted, CanApply}
 use Rattle.session.specs.declared.transactions.Connections.{Connections}
 use Rattle.session.specs.declared.transactions.Transaction.{Transaction}
 use Rattle.session.specs.declared.transactions.Transaction.TheVariants as transaction
-use Rattle.session.proofs.CommitStops.{commit_stops, doubt_left, doubt_stops, doubted, last_is}
-use Rattle.session.proofs.Settled.{stop_still}
+use Rattle.session.proofs.CommitCrashes.{commit_crashes, doubt_left, doubt_crashes, doubted, last_is}
+use Rattle.session.proofs.Settled.{crash_keeps}
 use Rattle.session.proofs.Showing.{Begins, idle_first, moved, still_shown, the_same}
 use Rattle.session.proofs.Stepping.{by_outcome, commit_outcome_of, first_is, first_set, instead}
 
@@ -46,10 +46,10 @@ module _ {D : Type 0} {g : Ghosts D} where
         next = m;
         step = by_outcome (FindsNoRoom old statement.Commit) m statement.Commit refl shown.running (RefusedBy (refusal.NoTransaction ∷ [])) (Refused refusal.NoTransaction) m is (refusal.NoTransaction, (0, omega arith, refl), refl, refl);
         shown = inr (still_shown old new m shown (subst (ShowTheSame (files_of old)) (sym same.files) (the_same (files_of old) shown.told)) same.failed same.catalog same.now);
-        stop = stop_still old new m m shown (subst (ShowTheSame (files_of old)) (sym same.files) (the_same (files_of old) shown.told));
+        crash = crash_keeps old new m m shown (subst (ShowTheSame (files_of old)) (sym same.files) (the_same (files_of old) shown.told));
       }
 
-  ended : (old new : Connections D g) (m : Machine) (shown : IsShown old m) (phase : Phase) → shown.first ≡ InTransactionOf false [] phase → commit_outcome m 1 phase ≡ Gives [] (with_connection m 1 Idle) → AreCommitted old.catalog
+  ended : (old new : Connections D g) (m : Machine) (shown : RepresentsRunning old m) (phase : Phase) → shown.first ≡ InTransactionOf false [] phase → commit_outcome m 1 phase ≡ Gives [] (with_connection m 1 Idle) → AreCommitted old.catalog
       → Begins old new transaction.Idle → StepsTo old m 1 statement.Commit (Rows []) new
   ended old new m shown phase first gives all ends = record {
     next = with_connection m 1 Idle;
@@ -57,14 +57,14 @@ module _ {D : Type 0} {g : Ghosts D} where
     shown = inr (moved old new m Idle shown (subst (ShowTheSame (files_of old)) (sym ends.files) (the_same (files_of old) shown.told)) ends.failed (ap (λ (c : Catalog). take (committed_in c) (tables_of c)) ends.catalog)
         (subst (λ (c : Catalog). committed_in c ≤ length (tables_of c)) (sym ends.catalog) shown.listed)
         (subst (λ (t : Transaction). IsTransaction (files_of new) new.catalog (last_place m) t Idle) (sym ends.now) (refl, subst AreCommitted (sym ends.catalog) all)));
-    stop = stop_still old new m (with_connection m 1 Idle) shown (subst (ShowTheSame (files_of old)) (sym ends.files) (the_same (files_of old) shown.told));
+    crash = crash_keeps old new m (with_connection m 1 Idle) shown (subst (ShowTheSame (files_of old)) (sym ends.files) (the_same (files_of old) shown.told));
   }
     where
       is : outcome m 1 statement.Commit ≡ Gives [] (with_connection m 1 Idle)
       is = commit_outcome_of m (InTransactionOf false [] phase) (first_is m shown.first shown.others shown.connections ∙ first) ∙ gives
 
   -- what the first connection is, by how far its transaction has come
-  abbrev first_as : (c : Connections D g) (m : Machine) (shown : IsShown c m) (t : Transaction) → c.transaction ≡ t → IsTransaction (files_of c) c.catalog (last_place m) t shown.first
+  abbrev first_as : (c : Connections D g) (m : Machine) (shown : RepresentsRunning c m) (t : Transaction) → c.transaction ≡ t → IsTransaction (files_of c) c.catalog (last_place m) t shown.first
   first_as c m shown t is = subst (λ (t : Transaction). IsTransaction (files_of c) c.catalog (last_place m) t shown.first) is shown.transaction
 
   -- a transaction that has written nothing ends
@@ -76,7 +76,7 @@ module _ {D : Type 0} {g : Ghosts D} where
 
   -- ---- what a commit shows
 
-  pub committed_shown : (old before new : Connections D g) (m : Machine) (shown : IsShown old m) (made : Database) → has_failed_in before ≡ has_failed_in old → HasCommitted before made new → new.transaction ≡ transaction.Idle → IsShown new (after_commit m 1 made)
+  pub committed_shown : (old before new : Connections D g) (m : Machine) (shown : RepresentsRunning old m) (made : Database) → has_failed_in before ≡ has_failed_in old → CommitsDatabase before made new → new.transaction ≡ transaction.Idle → RepresentsRunning new (after_commit m 1 made)
   committed_shown old before new m shown made failed has idle = record {
     running = shown.running;
     sure = shown.sure;
@@ -102,21 +102,21 @@ module _ {D : Type 0} {g : Ghosts D} where
 
   -- a transaction that writes, and what its pages hold
   pub record WritesIn (old mid : Connections D g) (m : Machine) (w : Writer) : Type 0 where
-    pub shown : IsShown old m
+    pub shown : RepresentsRunning old m
     pub db : Database
     pub first : shown.first ≡ InTransactionOf false [] (Writes (last_place m) db)
-    pub works : WorksOn mid w db
+    pub applies : CanApply mid w db
     pub same : ShowTheSame (files_of old) (files_of mid)
     pub tables : take (committed_in mid.catalog) (tables_of mid.catalog) ≡ take (committed_in old.catalog) (tables_of old.catalog)
 
-  pub writes_in : (old mid : Connections D g) (m : Machine) (w : Writer) → IsShown old m → old.transaction ≡ transaction.Writing w → files_of mid ≡ files_of old → mid.catalog ≡ old.catalog → WritesIn old mid m w
+  pub writes_in : (old mid : Connections D g) (m : Machine) (w : Writer) → RepresentsRunning old m → old.transaction ≡ transaction.Writing w → files_of mid ≡ files_of old → mid.catalog ≡ old.catalog → WritesIn old mid m w
   writes_in old mid m w shown was files catalog =
       let first = first_as old m shown (transaction.Writing w) was in
       record {
         shown = shown;
         db = first.0;
         first = first.1;
-        works = record {
+        applies = record {
           told = subst Tells (sym files) shown.told;
           settled = subst IsSettled (sym files) shown.settled;
           writer = subst (λ (l : Log D g). IsWriter l w) (sym files) first.2;
@@ -134,7 +134,7 @@ module _ {D : Type 0} {g : Ghosts D} where
     step_to : (reply : Reply) (next : Machine) → Allowed m 1 (Commits false in_writing.db) reply next → StepSoFar (FindsNoRoom old statement.Commit) m 1 statement.Commit reply next
     step_to reply next allowed = by_outcome (FindsNoRoom old statement.Commit) m statement.Commit refl in_writing.shown.running (Commits false in_writing.db) reply next commits_it allowed
 
-    pub committed_step : has_failed_in mid ≡ has_failed_in old → mid.transaction ≡ transaction.Idle → HasCommitted mid in_writing.db new × HoldsEither mid in_writing.db new → StepsTo old m 1 statement.Commit (Rows []) new
+    pub committed_step : has_failed_in mid ≡ has_failed_in old → mid.transaction ≡ transaction.Idle → CommitsDatabase mid in_writing.db new × HoldsEither mid in_writing.db new → StepsTo old m 1 statement.Commit (Rows []) new
     committed_step failed idle has =
         let shown = in_writing.shown in
         let next = after_commit m 1 in_writing.db in
@@ -142,7 +142,7 @@ module _ {D : Type 0} {g : Ghosts D} where
           next = next;
           step = step_to (Rows []) next (refl, inl refl);
           shown = inr (committed_shown old mid new m shown in_writing.db failed has.0 (has.0.transaction ∙ idle));
-          stop = commit_stops old mid new m in_writing.db shown in_writing.same in_writing.tables has.1;
+          crash = commit_crashes old mid new m in_writing.db shown in_writing.same in_writing.tables has.1;
         }
 
     -- where a call of a disk has failed, the database is in doubt
@@ -151,63 +151,63 @@ module _ {D : Type 0} {g : Ghosts D} where
       next = doubted m in_writing.db;
       step = step_to (Refused refusal.Io) (doubted m in_writing.db) (refl, inr refl);
       shown = inl (doubt.failed, refl, doubt_left old mid new m in_writing.db in_writing.shown in_writing.same in_writing.tables doubt.held f doubt);
-      stop = doubt_stops old mid new m in_writing.db in_writing.shown in_writing.same in_writing.tables doubt.held;
+      crash = doubt_crashes old mid new m in_writing.db in_writing.shown in_writing.same in_writing.tables doubt.held;
     }
 
     -- and where nothing was committed, the transaction goes on
-    shown_on : (left : Writer) (f : Fault) → has_failed_in mid ≡ has_failed_in old → files_of mid ≡ files_of old → mid.catalog ≡ old.catalog → IsUncommitted mid in_writing.db new left f → IsShown (writing_on new left) m
+    shown_on : (left : Writer) (f : Fault) → has_failed_in mid ≡ has_failed_in old → files_of mid ≡ files_of old → mid.catalog ≡ old.catalog → IsUncommitted mid w in_writing.db new left f → RepresentsRunning (writing_on new left) m
     shown_on left f failed files catalog is =
         let shown = in_writing.shown in
         record {
           running = shown.running;
           sure = shown.sure;
           whole = is.kept.failed ∙ failed ∙ shown.whole;
-          told = is.works.told;
-          settled = is.works.settled;
+          told = is.applies.told;
+          settled = is.applies.settled;
           some = shown.some;
-          listed = is.works.listed;
+          listed = is.applies.listed;
           stored = subst (λ (v : View). Stores v (take (committed_in new.catalog) (tables_of new.catalog)) (newest m)) (sym (is.kept.files.newest ∙ ap newest_view files))
               (subst (λ (ts : List Table). Stores (newest_view (files_of old)) ts (newest m)) (sym tables) shown.stored);
           first = shown.first;
           others = shown.others;
           connections = shown.connections;
           idle = shown.idle;
-          transaction = (in_writing.db, in_writing.first, is.works.writer, is.works.stored);
+          transaction = (in_writing.db, in_writing.first, is.applies.writer, is.applies.stored);
         }
       where
         tables : take (committed_in new.catalog) (tables_of new.catalog) ≡ take (committed_in old.catalog) (tables_of old.catalog)
         tables = ap (λ n. take n (tables_of new.catalog)) is.kept.committed ∙ is.kept.tables ∙ ap (λ (c : Catalog). take (committed_in c) (tables_of c)) catalog
 
-    instead_step : (left : Writer) (r : Refusal) → is_free r ≡ true → ShowTheSame (files_of old) (files_of new) → IsShown (writing_on new left) m → StepsTo old m 1 statement.Commit (Refused r) (writing_on new left)
+    instead_step : (left : Writer) (r : Refusal) → is_free r ≡ true → ShowTheSame (files_of old) (files_of new) → RepresentsRunning (writing_on new left) m → StepsTo old m 1 statement.Commit (Refused r) (writing_on new left)
     instead_step left r free same shown = record {
       next = m;
       step = instead (FindsNoRoom old statement.Commit) m statement.Commit refl in_writing.shown.running (Commits false in_writing.db) (Refused r) commits_it (inl free, refl);
       shown = inr shown;
-      stop = stop_still old new m m in_writing.shown same;
+      crash = crash_keeps old new m m in_writing.shown same;
     }
 
-    pub refused_step : (left : Writer) (f : Fault) → has_failed_in mid ≡ has_failed_in old → files_of mid ≡ files_of old → mid.catalog ≡ old.catalog → CommitsWork mid in_writing.db (Err f) new left
+    pub refused_step : (left : Writer) (f : Fault) → has_failed_in mid ≡ has_failed_in old → files_of mid ≡ files_of old → mid.catalog ≡ old.catalog → CommitsChanges mid w in_writing.db (Err f) new left
         → StepsTo old m 1 statement.Commit (Refused (refusal_of f)) (writing_on new left)
     refused_step left f failed files catalog (inl io) = subst (λ (e : Fault). StepsTo old m 1 statement.Commit (Refused (refusal_of e)) (writing_on new left)) (sym io.io) (failed_step left f io)
     refused_step left f failed files catalog (inr is) = by_why is.why
       where
-        on : IsShown (writing_on new left) m
+        on : RepresentsRunning (writing_on new left) m
         on = shown_on left f failed files catalog is
 
         same : ShowTheSame (files_of old) (files_of new)
         same = subst (λ (l : Log D g). ShowTheSame l (files_of new)) files is.kept.files
 
-        by_why : (f ≡ fault.Memory) ⊎ (f ≡ fault.Full) → StepsTo old m 1 statement.Commit (Refused (refusal_of f)) (writing_on new left)
+        by_why : IsCommitCause (files_of mid) w f → StepsTo old m 1 statement.Commit (Refused (refusal_of f)) (writing_on new left)
         by_why (inl memory) = subst (λ (e : Fault). StepsTo old m 1 statement.Commit (Refused (refusal_of e)) (writing_on new left)) (sym memory) (instead_step left refusal.Memory refl same on)
-        by_why (inr full) = subst (λ (e : Fault). StepsTo old m 1 statement.Commit (Refused (refusal_of e)) (writing_on new left)) (sym full) (instead_step left refusal.Full refl same on)
+        by_why (inr full) = subst (λ (e : Fault). StepsTo old m 1 statement.Commit (Refused (refusal_of e)) (writing_on new left)) (sym full.0) (instead_step left refusal.Full refl same on)
 
     -- by what the commit answered
-    pub ok_step : (result : Result ⊤ Fault) (left : Writer) → is_err result ≡ false → has_failed_in mid ≡ has_failed_in old → mid.transaction ≡ transaction.Idle → CommitsWork mid in_writing.db result new left
+    pub ok_step : (result : Result ⊤ Fault) (left : Writer) → is_err result ≡ false → has_failed_in mid ≡ has_failed_in old → mid.transaction ≡ transaction.Idle → CommitsChanges mid w in_writing.db result new left
         → StepsTo old m 1 statement.Commit (done_reply result) new
     ok_step (Ok done) left is failed idle has = committed_step failed idle has
     ok_step (Err f) left is failed idle has = absurd (false≢true (sym is))
 
-    pub err_step : (result : Result ⊤ Fault) (left : Writer) → is_err result ≡ true → has_failed_in mid ≡ has_failed_in old → files_of mid ≡ files_of old → mid.catalog ≡ old.catalog → CommitsWork mid in_writing.db result new left
+    pub err_step : (result : Result ⊤ Fault) (left : Writer) → is_err result ≡ true → has_failed_in mid ≡ has_failed_in old → files_of mid ≡ files_of old → mid.catalog ≡ old.catalog → CommitsChanges mid w in_writing.db result new left
         → StepsTo old m 1 statement.Commit (done_reply result) (writing_on new left)
     err_step (Ok done) left is failed files catalog has = absurd (false≢true is)
     err_step (Err f) left is failed files catalog has = refused_step left f failed files catalog has

@@ -7,10 +7,10 @@ use Rattle.disk.specs.declared.device.Disk.{Ghosts}
 use Rattle.sqlval.specs.declared.fault.Fault.{Fault}
 use Rattle.sqlval.specs.declared.fault.Fault.TheVariants as fault
 use Rattle.dbheader.specs.declared.fields.Header.{Header}
-use Rattle.tabletree.proofs.BehindFront.{kept_behind}
+use Rattle.tabletree.proofs.AfterFront.{kept_behind}
 use Rattle.wal.specs.Committed.{frames_under}
-use Rattle.wal.specs.Known.{Known, db_of, header_of, known_of, log_of, seen_by, size_of}
-use Rattle.wal.specs.Opening.{IsServedSize}
+use Rattle.wal.specs.LogState.{LogState, db_of, header_of, state_of, log_of, seen_by, size_of}
+use Rattle.wal.specs.Sizes.{IsSizeWithinLimits}
 use Rattle.wal.specs.Refusals.{IsWithin}
 use Rattle.wal.specs.declared.log.Log.{Log}
 use Rattle.catalog.specs.Database.{Database}
@@ -19,14 +19,14 @@ use Rattle.catalog.specs.declared.tables.Catalog.{Catalog}
 use Rattle.catalog.specs.declared.tables.Table.{Table}
 use Rattle.pager.specs.Commits.{CommitsPages, IsCommittedOver, IsRefusedCommit, LeavesCommit, MayCommit}
 use Rattle.pager.specs.Limits.{pages_of}
-use Rattle.pager.specs.Views.{Has, IsPage, Tells, View, after, changes_of, newest_view, view_of}
+use Rattle.pager.specs.Views.{ViewHas, IsViewPage, Tells, View, after, changes_of, newest_view, view_of}
 use Rattle.pager.specs.Writers.{IsHeaded, snapshot_of}
 use Rattle.pager.specs.declared.writer.Writer.{Writer}
-use Rattle.session.specs.Known.{files_of, has_failed_in, is_io}
-use Rattle.session.specs.Shown.{IsNewest, IsWriter, ShowTheSame}
+use Rattle.session.specs.ConnectionState.{files_of, has_failed_in, is_io}
+use Rattle.session.specs.Representation.{IsNewest, IsWriter, ShowTheSame}
 use Rattle.session.specs.Schema.{AreRowsOf}
 use Rattle.session.specs.Stored.{HasFirstPage, Stores}
-use Rattle.session.specs.Working.{CommitsWork, HasCommitted, HoldsEither, IsUncommitted, WorksOn}
+use Rattle.session.specs.Applying.{CommitsChanges, CommitsDatabase, HoldsEither, IsCommitCause, IsUncommitted, CanApply}
 use Rattle.session.specs.declared.transactions.Connections.{Connections}
 use Rattle.session.proofs.Settled.{db_left, either_throughout, found_over, log_left, still_settled}
 use Rattle.session.proofs.Showing.{still_writer}
@@ -34,7 +34,7 @@ use Rattle.session.proofs.Showing.{still_writer}
 -- ---- views that differ on page 1 alone
 
 -- the first page with another header, of the same page size
-first_headed : (v w : View) (tables : List Table) (was : HasFirstPage v tables) (page : List ℕ) (next : Header) → w.page_size ≡ v.page_size → w.size ≡ v.size → Has w 1 page → IsHeaded was.page page next → next.page_size ≡ was.header.page_size → HasFirstPage w tables
+first_headed : (v w : View) (tables : List Table) (was : HasFirstPage v tables) (page : List ℕ) (next : Header) → w.page_size ≡ v.page_size → w.size ≡ v.size → ViewHas w 1 page → IsHeaded was.page page next → next.page_size ≡ was.header.page_size → HasFirstPage w tables
 first_headed v w tables was page next sized long has headed same = record {
   page = page;
   there = record { first = was.there.first; last = omega (arith, was.there.last, long); has = has };
@@ -42,12 +42,12 @@ first_headed v w tables was page next sized long has headed same = record {
   header_is = headed.header_is;
   sized = same ∙ was.sized ∙ sym sized;
   rows = was.rows;
-  lone = kept_behind was.page page 1 was.rows headed.behind headed.long was.lone;
+  single_leaf = kept_behind was.page page 1 was.rows headed.behind headed.long was.single_leaf;
   tell = subst (λ (n : ℕ). AreRowsOf n [] tables was.rows) (sym long) was.tell;
 }
 
 -- views of the same pages but the first hold the same
-other_first : (v w : View) (tables : List Table) (db : Database) → w.page_size ≡ v.page_size → w.size ≡ v.size → ((number : ℕ) (bytes : List ℕ) → (number ≡ 1 → ⊥) → Has w number bytes ↔ Has v number bytes)
+other_first : (v w : View) (tables : List Table) (db : Database) → w.page_size ≡ v.page_size → w.size ≡ v.size → ((number : ℕ) (bytes : List ℕ) → (number ≡ 1 → ⊥) → ViewHas w number bytes ↔ ViewHas v number bytes)
     → HasFirstPage w tables → Stores v tables db → Stores w tables db
 other_first v w tables db sized long same first held = record {
   rows_at = held.rows_at;
@@ -57,22 +57,22 @@ other_first v w tables db sized long same first held = record {
   apart = held.apart;
   each = λ name t listed. (let it = held.each name t listed in record { page = it.page; above = it.above; there = there t.root it.page it.above it.there; holds = it.holds });
   first = first;
-  served = subst (λ n. IsServedSize n w.size) (sym sized) (subst (IsServedSize v.page_size) (sym long) held.served);
+  served = subst (λ n. IsSizeWithinLimits n w.size) (sym sized) (subst (IsSizeWithinLimits v.page_size) (sym long) held.served);
 }
   where
-    there : (number : ℕ) (bytes : List ℕ) → 1 < number → IsPage v number bytes → IsPage w number bytes
+    there : (number : ℕ) (bytes : List ℕ) → 1 < number → IsViewPage v number bytes → IsViewPage w number bytes
     there number bytes above page = record { first = page.first; last = omega (arith, page.last, long); has = (same number bytes (λ one. omega (arith, one, above))).1 page.has }
 
 module _ {D : Type 0} {g : Ghosts D} where
   -- a writer that works on a database may commit it
-  pub may_commit : (c : Connections D g) (w : Writer) (db : Database) (works : WorksOn c w db) → MayCommit (files_of c) w works.stored.first.page works.stored.first.header
-  may_commit c w db works = record {
-    tells = works.told;
-    whole = works.writer.whole;
-    newest = works.writer.newest.seen;
-    page_size = works.writer.page_size;
-    first = works.stored.first.there.has;
-    header_is = works.stored.first.header_is;
+  pub may_commit : (c : Connections D g) (w : Writer) (db : Database) (applies : CanApply c w db) → MayCommit (files_of c) w applies.stored.first.page applies.stored.first.header
+  may_commit c w db applies = record {
+    tells = applies.told;
+    whole = applies.writer.whole;
+    newest = applies.writer.newest.seen;
+    page_size = applies.writer.page_size;
+    first = applies.stored.first.there.has;
+    header_is = applies.stored.first.header_is;
   }
 
   -- a view that the commit leaves holds the database
@@ -82,37 +82,37 @@ module _ {D : Type 0} {g : Ghosts D} where
       other_first (view_of old w) view tables db sized is.size is.others
       (first_headed (view_of old w) view tables held.first is.first is.next sized is.size is.has_first is.headed is.next_is.page_size) held
 
-  pub has_committed : (old new : Connections D g) (w : Writer) (db : Database) (works : WorksOn old w db) → CommitsPages (files_of old) w works.stored.first.page works.stored.first.header (files_of new)
+  pub has_committed : (old new : Connections D g) (w : Writer) (db : Database) (applies : CanApply old w db) → CommitsPages (files_of old) w applies.stored.first.page applies.stored.first.header (files_of new)
       → db_of (files_of new) ≡ db_of (files_of old) → has_failed_in new ≡ has_failed_in old → new.transaction ≡ old.transaction → tables_of new.catalog ≡ tables_of old.catalog
-      → committed_in new.catalog ≡ length (tables_of old.catalog) → HasCommitted old db new
-  has_committed old new w db works is db_same failed transaction tables all = record {
+      → committed_in new.catalog ≡ length (tables_of old.catalog) → CommitsDatabase old db new
+  has_committed old new w db applies is db_same failed transaction tables all = record {
     told = is.tells;
     settled = record {
-      db_synced = subst (λ (d : D). IsSynced (g.file d)) (sym db_same) works.settled.db_synced;
+      db_synced = subst (λ (d : D). IsSynced (g.file d)) (sym db_same) applies.settled.db_synced;
       log_synced = is.synced;
       commits = is.settled;
-      found = found_over (files_of old) w works.stored.first.page works.stored.first.header (newest_view (files_of new)) works.settled.found is.db_is is.page_size_is is.left is.sized is.few (omega (arith, works.stored.first.there.last));
+      found = found_over (files_of old) w applies.stored.first.page applies.stored.first.header (newest_view (files_of new)) applies.settled.found is.db_is is.page_size_is is.left is.sized is.few (omega (arith, applies.stored.first.there.last));
     };
     failed = failed;
     transaction = transaction;
     tables = tables;
     all = all ∙ ap length (sym tables);
-    stored = subst (λ (ts : List Table). Stores (newest_view (files_of new)) ts db) (sym tables) (stores_over (files_of old) w (tables_of old.catalog) db works.stored (newest_view (files_of new)) is.page_size_is is.left);
+    stored = subst (λ (ts : List Table). Stores (newest_view (files_of new)) ts db) (sym tables) (stores_over (files_of old) w (tables_of old.catalog) db applies.stored (newest_view (files_of new)) is.page_size_is is.left);
   }
 
-  -- what a stop leaves of it
-  pub commit_holds : (old new : Connections D g) (w : Writer) (db : Database) (works : WorksOn old w db) → db_of (files_of new) ≡ db_of (files_of old)
-      → (log_of (files_of new) ≡ log_of (files_of old)) ⊎ LeavesCommit (files_of old) w works.stored.first.page works.stored.first.header (files_of new) → HoldsEither old db new
-  commit_holds old new w db works db_same stop was stored =
-      either_throughout (files_of old) (files_of new) w works.stored.first.page works.stored.first.header works.settled db_same (omega (arith, works.stored.first.there.last))
-      (take (committed_in old.catalog) (tables_of old.catalog)) (tables_of old.catalog) was db stored (stores_over (files_of old) w (tables_of old.catalog) db works.stored) stop
+  -- what a crash leaves of it
+  pub commit_holds : (old new : Connections D g) (w : Writer) (db : Database) (applies : CanApply old w db) → db_of (files_of new) ≡ db_of (files_of old)
+      → (log_of (files_of new) ≡ log_of (files_of old)) ⊎ LeavesCommit (files_of old) w applies.stored.first.page applies.stored.first.header (files_of new) → HoldsEither old db new
+  commit_holds old new w db applies db_same crash was stored =
+      either_throughout (files_of old) (files_of new) w applies.stored.first.page applies.stored.first.header applies.settled db_same (omega (arith, applies.stored.first.there.last))
+      (take (committed_in old.catalog) (tables_of old.catalog)) (tables_of old.catalog) was db stored (stores_over (files_of old) w (tables_of old.catalog) db applies.stored) crash
 
   -- ---- a refused commit
 
   -- files that are what they were show what they showed
-  same_files : (old new : Log D g) → Tells old → db_of new ≡ db_of old → log_of new ≡ log_of old → known_of new ≡ known_of old → ShowTheSame old new
+  same_files : (old new : Log D g) → Tells old → db_of new ≡ db_of old → log_of new ≡ log_of old → state_of new ≡ state_of old → ShowTheSame old new
   same_files old new told db log known = record {
-    told = record { db = ap g.tells db ∙ told.db; log = ap g.tells log ∙ told.log; whole = ap (λ (k : Known). k.has_failed) known ∙ told.whole };
+    told = record { db = ap g.tells db ∙ told.db; log = ap g.tells log ∙ told.log; whole = ap (λ (k : LogState). k.has_failed) known ∙ told.whole };
     known = known;
     newest = λ i. record { db = (g.file (db i)).content; frames = frames_under (header_of (known i)) (g.file (log i)).content (known i).frames; page_size = (known i).page_size; size = (known i).size };
     at = λ s i. record { db = (g.file (db i)).content; frames = frames_under (header_of (known i)) (g.file (log i)).content (seen_by s); page_size = (known i).page_size; size = size_of s };
@@ -120,54 +120,54 @@ module _ {D : Type 0} {g : Ghosts D} where
     log_file = ap g.file log;
   }
 
-  module _ (old new : Connections D g) (w left : Writer) (db : Database) (f : Fault) (works : WorksOn old w db) (is : IsRefusedCommit (files_of old) w works.stored.first.page works.stored.first.header (files_of new) left f) where
+  module _ (old new : Connections D g) (w left : Writer) (db : Database) (f : Fault) (applies : CanApply old w db) (is : IsRefusedCommit (files_of old) w applies.stored.first.page applies.stored.first.header (files_of new) left f) where
     -- its writer may commit later
     writer_left : IsWriter (files_of old) left
     writer_left = record {
-      newest = subst (IsNewest (files_of old)) (sym is.snapshot) works.writer.newest;
+      newest = subst (IsNewest (files_of old)) (sym is.snapshot) applies.writer.newest;
       whole = is.whole;
-      page_size = is.page_size ∙ works.writer.page_size;
-      grown = λ n past last none. works.writer.grown n past (subst (λ (size : ℕ). n ≤ size) is.size last) (is.numbers n none);
+      page_size = is.page_size ∙ applies.writer.page_size;
+      grown = λ n past last none. applies.writer.grown n past (subst (λ (size : ℕ). n ≤ size) is.size last) (is.numbers n none);
     }
 
     -- and sees the same database
     stores_left : Stores (view_of (files_of old) left) (tables_of old.catalog) db
     stores_left =
         other_first (view_of (files_of old) w) (view_of (files_of old) left) (tables_of old.catalog) db refl is.size is.others
-        (first_headed (view_of (files_of old) w) (view_of (files_of old) left) (tables_of old.catalog) works.stored.first is.first works.stored.first.header refl is.size is.has_first is.headed refl) works.stored
+        (first_headed (view_of (files_of old) w) (view_of (files_of old) left) (tables_of old.catalog) applies.stored.first is.first applies.stored.first.header refl is.size is.has_first is.headed refl) applies.stored
 
-    works_left : ShowTheSame (files_of old) (files_of new) → new.catalog ≡ old.catalog → WorksOn new left db
+    works_left : ShowTheSame (files_of old) (files_of new) → new.catalog ≡ old.catalog → CanApply new left db
     works_left same catalog = record {
       told = same.told;
-      settled = still_settled (files_of old) (files_of new) same works.settled;
+      settled = still_settled (files_of old) (files_of new) same applies.settled;
       writer = still_writer (files_of old) (files_of new) left same writer_left;
       stored = subst (λ (c : Catalog). Stores (view_of (files_of new) left) (tables_of c) db) (sym catalog)
           (subst (λ (v : View). Stores (after v (changes_of left) (pages_of left)) (tables_of old.catalog) db) (sym (same.at (snapshot_of left))) stores_left);
-      listed = subst (λ (c : Catalog). committed_in c ≤ length (tables_of c)) (sym catalog) works.listed;
+      listed = subst (λ (c : Catalog). committed_in c ≤ length (tables_of c)) (sym catalog) applies.listed;
     }
 
-    uncommitted : (f ≡ fault.Memory) ⊎ (f ≡ fault.Full) → (f ≡ fault.Io → ⊥) → has_failed_in new ≡ has_failed_in old → new.catalog ≡ old.catalog → new.transaction ≡ old.transaction → IsUncommitted old db new left f
+    uncommitted : IsCommitCause (files_of old) w f → (f ≡ fault.Io → ⊥) → has_failed_in new ≡ has_failed_in old → new.catalog ≡ old.catalog → new.transaction ≡ old.transaction → IsUncommitted old w db new left f
     uncommitted why other failed catalog transaction =
         let files = is.files other in
-        let same = same_files (files_of old) (files_of new) works.told files.0 files.1 files.2 in
+        let same = same_files (files_of old) (files_of new) applies.told files.0 files.1 files.2 in
         record {
           why = why;
           kept = record { files = same; failed = failed; transaction = transaction; committed = ap committed_in catalog; tables = ap (λ (c : Catalog). take (committed_in old.catalog) (tables_of c)) catalog };
           tables = ap tables_of catalog;
-          works = works_left same catalog;
+          applies = works_left same catalog;
         }
 
     pub commit_refused : db_of (files_of new) ≡ db_of (files_of old)
-        → (log_of (files_of new) ≡ log_of (files_of old)) ⊎ LeavesCommit (files_of old) w works.stored.first.page works.stored.first.header (files_of new) → has_failed_in old ≡ false → has_failed_in new ≡ is_io f → new.catalog ≡ old.catalog → new.transaction ≡ old.transaction → CommitsWork old db (Err f) new left
-    commit_refused db_same stop whole failed catalog transaction = by_why is.why
+        → (log_of (files_of new) ≡ log_of (files_of old)) ⊎ LeavesCommit (files_of old) w applies.stored.first.page applies.stored.first.header (files_of new) → has_failed_in old ≡ false → has_failed_in new ≡ is_io f → new.catalog ≡ old.catalog → new.transaction ≡ old.transaction → CommitsChanges old w db (Err f) new left
+    commit_refused db_same crash whole failed catalog transaction = by_why is.why
       where
-        by_why : (f ≡ fault.Memory) ⊎ ((f ≡ fault.Io) ⊎ ((f ≡ fault.Full) × (IsWithin (known_of (files_of old)) (length (changes_of w)) (pages_of w) → ⊥))) → CommitsWork old db (Err f) new left
+        by_why : (f ≡ fault.Memory) ⊎ ((f ≡ fault.Io) ⊎ ((f ≡ fault.Full) × (IsWithin (state_of (files_of old)) (length (changes_of w)) (pages_of w) → ⊥))) → CommitsChanges old w db (Err f) new left
         by_why (inl memory) = inr (uncommitted (inl memory) (λ io. false≢true (ap is_io (sym memory ∙ io))) (failed ∙ ap is_io memory ∙ sym whole) catalog transaction)
         by_why (inr (inl io)) = inl (record {
           io = io;
           failed = failed ∙ ap is_io io;
-          held = commit_holds old new w db works db_same stop;
-          db_left = db_left (files_of old) (files_of new) works.settled db_same;
-          log_left = log_left (files_of old) (files_of new) w works.stored.first.page works.stored.first.header works.settled stop;
+          held = commit_holds old new w db applies db_same crash;
+          db_left = db_left (files_of old) (files_of new) applies.settled db_same;
+          log_left = log_left (files_of old) (files_of new) w applies.stored.first.page applies.stored.first.header applies.settled crash;
         })
-        by_why (inr (inr full)) = inr (uncommitted (inr full.0) (λ io. false≢true (ap is_io (sym full.0 ∙ io))) (failed ∙ ap is_io full.0 ∙ sym whole) catalog transaction)
+        by_why (inr (inr full)) = inr (uncommitted (inr full) (λ io. false≢true (ap is_io (sym full.0 ∙ io))) (failed ∙ ap is_io full.0 ∙ sym whole) catalog transaction)

@@ -1,8 +1,8 @@
 -- Worked examples of connections.
-use Rattle.std.specs.Prelude.{◌≡◌, ⊤, refl, ℕ, pos, codes, None, Some, List, [], ◌∷◌}
+use Rattle.std.specs.Prelude.{◌≡◌, ⊤, refl, ℕ, zero, suc, pos, codes, None, Some, Err, List, [], ◌∷◌, ◌++◌}
 use Rattle.std.proofs.Common.{inl, inr, arith, sym, subst, ◌⊎◌}
 use mathlib.Core.Bool.{true≢false}
-use Rattle.sqlval.specs.Refusals.{Busy, StaleSnapshot, NoTransaction, NoSavepoint, InTransaction, Misuse, NoSuch, Raised, Unsupported}
+use Rattle.sqlval.specs.Refusals.{Busy, StaleSnapshot, NoTransaction, NoSavepoint, InTransaction, Misuse, NoSuch, Raised, RaisedRollback, TooLong, Unsupported}
 use Rattle.sqlval.specs.declared.value.Value.{Value}
 use Rattle.syntax.specs.Tree.{Binary, Raise}
 use Rattle.syntax.specs.declared.create.NewObject.TheVariants as new
@@ -16,12 +16,13 @@ use Rattle.syntax.specs.declared.statement.CheckpointMode.TheVariants as checkpo
 use Rattle.syntax.specs.declared.statement.Statement.{Statement}
 use Rattle.syntax.specs.declared.statement.Statement.TheVariants as statement
 use Rattle.catalog.specs.Database.{Name, Database, ATrigger, with_object}
+use Rattle.bind.specs.Checked.{Meant}
 use Rattle.bind.proofs.Written.{number, named, named_of, select, result, delete, column_with, col, table, int, insert}
 use Rattle.trigger.specs.Binding.{IsFault}
 use Rattle.trigger.proofs.BindingRows.{no_faults_behind}
-use Rattle.session.specs.Built.{StepSoFar}
+use Rattle.session.specs.Supported.{StepSoFar}
 use Rattle.session.specs.Machine.{Machine, Reply, Rows, Refused, fresh}
-use Rattle.session.specs.Outcomes.{outcome}
+use Rattle.session.specs.Outcomes.{RefusedBy, given, outcome}
 use Rattle.session.specs.Steps.{Step, Allowed, after_commit}
 use Rattle.session.proofs.Replies.{replies, ok, creating, create_table, inserting, selecting, begin}
 
@@ -39,6 +40,17 @@ add n = inserting t (number n ∷ [])
 
 abbrev read : Statement
 read = selecting (named a ∷ []) t
+
+abbrev x : Name
+x = codes "x"
+
+-- INSERT INTO nosuch VALUES (1)
+abbrev into_nosuch : Statement
+into_nosuch = inserting (codes "nosuch") (number 1 ∷ [])
+
+abbrev times : {A : Type 0} → ℕ → A → List A
+times zero a = []
+times (suc n) a = a ∷ times n a
 
 abbrev i : ℕ → List Value
 i n = int n ∷ []
@@ -82,6 +94,34 @@ pub raise_rollback_outside : replies (fresh []) ((1, statement.Select (select (r
 unfolding outcome
 raise_rollback_outside = refl
 
+-- no query outside a trigger comes to RAISE(ROLLBACK); if one did, the reply would be that of RAISE
+pub rollback_is_answered : given (fresh []) (Meant (Err (RaisedRollback (codes "x"))) []) ≡ RefusedBy (Raised (codes "x") ∷ [])
+rollback_is_answered = refl
+
+-- SAVEPOINT x; 2: insert 1; insert 2; ROLLBACK TO x gives up the second row alone, and keeps the write right until RELEASE x
+pub rolled_back_to : replies (fresh []) ((1, create) ∷ (1, statement.Savepoint x) ∷ (2, add 1) ∷ (1, add 2) ∷ (1, statement.RollbackTo x) ∷ (1, read) ∷ (2, add 9) ∷ (1, statement.Release x) ∷ (2, add 9) ∷ [])
+    ≡ ok ∷ ok ∷ ok ∷ ok ∷ ok ∷ Rows (i 1 ∷ []) ∷ Refused Busy ∷ ok ∷ ok ∷ []
+unfolding outcome
+rolled_back_to = refl
+
+-- an old snapshot comes before a name that isn't there
+pub stale_before_names : replies (fresh []) ((1, create) ∷ (1, begin) ∷ (1, read) ∷ (2, add 1) ∷ (1, into_nosuch) ∷ (1, statement.Commit) ∷ (1, into_nosuch) ∷ [])
+    ≡ ok ∷ ok ∷ ok ∷ ok ∷ Refused StaleSnapshot ∷ ok ∷ Refused NoSuch ∷ []
+unfolding outcome
+stale_before_names = refl
+
+-- a transaction has at most 64 savepoints
+abbrev savepoint_replies : ℕ → List Reply
+savepoint_replies n = replies (fresh []) (times n (1, statement.Savepoint x))
+
+pub savepoints_64 : savepoint_replies 64 ≡ times 64 ok
+unfolding outcome
+savepoints_64 = refl
+
+pub savepoints_65 : savepoint_replies 65 ≡ times 64 ok ++ Refused TooLong ∷ []
+unfolding outcome
+savepoints_65 = refl
+
 -- ---- steps
 
 abbrev one : Database
@@ -101,14 +141,14 @@ pub no_room_so_far : StepSoFar (λ db. ⊤) (fresh one) 1 (add 1) (Refused Unsup
 unfolding outcome
 no_room_so_far = inl (refl, inr (refl, refl, refl, with_object one t (table (col a ∷ []) ((pos 1, i 1) ∷ [])), refl, tt))
 
-pub not_built : StepSoFar (λ db. ⊥) (fresh one) 1 (statement.Change (delete t None)) (Refused Unsupported) (fresh one)
-not_built = inr (refl, refl, inr (inr (refl, refl, inl refl)))
+pub unsupported_form : StepSoFar (λ db. ⊥) (fresh one) 1 (statement.Change (delete t None)) (Refused Unsupported) (fresh one)
+unsupported_form = inr (refl, refl, inr (inr (refl, refl, inl refl)))
 
 -- g AFTER DELETE ON t WHEN OLD.a = 99: DELETE FROM nosuch. DELETE FROM t, where t has no row
 abbrev with_g : Database
 with_g = with_object one (codes "g") (ATrigger (record { name = codes "g"; time = After; event = Delete; target = t; condition = Some (Binary op.Equal (named_of (codes "OLD") a) (number 99)); body = program.Change (delete (codes "nosuch") None) ∷ [] }))
 
--- the reply is that there is no such table, and nothing else but want of memory, of room, or a failed disk
+-- the reply is that there is no such table, and nothing else but lack of memory, of room, or a failed disk
 pub trigger_refused : (r : Reply) (m : Machine) → r ≡ Refused NoSuch → m ≡ fresh with_g → Step (fresh with_g) 1 (statement.Change (delete t None)) r m
 unfolding outcome
 trigger_refused r m h k = inr (inr (refl, refl, inl (inl (NoSuch, (1, (0, omega arith, refl)), h, k))))

@@ -1,4 +1,5 @@
 -- CREATE TABLE makes the database with the new table, or leaves what was there.
+use Rattle.sqlval.specs.PageSizes.{IsPageSize}
 use Rattle.std.proofs.Common.{◌≡◌, ◌⊎◌, ◌<◌, ◌≤◌, ◌+◌, ◌*◌, ◌-◌, ◌^◌, ◌==◌, ◌||◌, inl, inr, refl, sym, ap, subst, ◌∙◌, ℕ, Bool, true, false, cond, List, [], ◌∷◌, ◌++◌, length, take, Some, None, arith, length-append}
 use Rattle.std.specs.Prelude.{⊤, Result, Ok, Err, IsErrAnd, IfErr, OnOk, max, nat_lt, Contains}
 use Rattle.std.specs.List.{find}
@@ -16,7 +17,6 @@ use Rattle.sqlval.specs.Refusals.{Refusal, refusal_of}
 use Rattle.sqlval.specs.declared.fault.Fault.{Fault}
 use Rattle.sqlval.specs.declared.fault.Fault.TheVariants as fault
 use Rattle.sqlval.specs.declared.fault.Feature.TheVariants.{RowSize}
-use Rattle.dbheader.specs.Header.{IsPageSize}
 use Rattle.syntax.specs.declared.create.NewObject.TheVariants as object
 use Rattle.syntax.specs.declared.create.TableDefinition.{TableDefinition}
 use Rattle.syntax.specs.declared.statement.Statement.{Statement}
@@ -25,10 +25,10 @@ use Rattle.record.specs.Record.{IsRecord}
 use Rattle.page.specs.Leaf.{Entry, IsTableLeaf}
 use Rattle.page.specs.Writing.{Fits}
 use Rattle.tabletree.specs.Cells.{start_of}
-use Rattle.tabletree.specs.Lone.{IsLone}
-use Rattle.wal.specs.Known.{known_of}
+use Rattle.tabletree.specs.SingleLeaf.{IsSingleLeaf}
+use Rattle.wal.specs.LogState.{state_of}
 use Rattle.wal.specs.Laws.{IsAmong, IsNotAmong}
-use Rattle.wal.specs.Opening.{IsServedSize}
+use Rattle.wal.specs.Sizes.{IsSizeWithinLimits}
 use Rattle.wal.specs.Pages.{ArePages}
 use Rattle.wal.specs.declared.log.Snapshot.{Snapshot}
 use Rattle.wal.specs.declared.pages.PageImage.{PageImage}
@@ -38,25 +38,25 @@ use Rattle.catalog.specs.Laws.{KeepsOnlyTables}
 use Rattle.catalog.specs.NewTables.{IsNewRoot, ListsNewTable}
 use Rattle.catalog.specs.declared.tables.Catalog.{Catalog}
 use Rattle.catalog.specs.declared.tables.Table.{Table}
-use Rattle.bind.specs.Known.{Known, Meant, faults}
+use Rattle.bind.specs.Checked.{Checked, Meant, faults}
 use Rattle.bind.specs.Creating.{IsCreateRefusal, has_no_rules}
 use Rattle.bind.specs.Schema.{create}
 use Rattle.bind.proofs.CreatedTables.{keeps_once, makes_table, refuses_table}
 use Rattle.rowprog.specs.Rows.{Holds, TableRow}
 use Rattle.pager.specs.Limits.{is_too_large, one_more, page_size_of, pages_of}
-use Rattle.pager.specs.Views.{Has, IsPage, Tells, View, after, changes_of, view_at, view_of}
-use Rattle.pager.specs.Writers.{AreObjectPages, IsUnchanged, IsWhole, Puts, seen, snapshot_of}
+use Rattle.pager.specs.Views.{ViewHas, IsViewPage, Tells, View, after, changes_of, view_at, view_of}
+use Rattle.pager.specs.Writers.{AreObjectPages, IsUnchanged, IsConsistent, ReplacesPages, seen, snapshot_of}
 use Rattle.pager.specs.declared.writer.Writer.{Writer}
 use Rattle.pager.proofs.HeaderFronts.{header_moves}
 use Rattle.pager.proofs.Seeing.{first_not_missing, whole_same}
-use Rattle.session.specs.Built.{is_table_built}
-use Rattle.session.specs.Known.{files_of}
-use Rattle.session.specs.NewTables.{IsListedBehind, IsMadeBeside, IsNewTableFault, IsRowFault, schema_row}
+use Rattle.session.specs.Supported.{is_table_supported}
+use Rattle.session.specs.ConnectionState.{files_of}
+use Rattle.session.specs.NewTables.{IsListedAfter, IsMadeBeside, IsNewTableFault, IsRowFault, schema_row}
 use Rattle.session.specs.Outcomes.{of_known}
 use Rattle.session.specs.Schema.{AreRowsOf, IsCreateOf, IsRowOf}
-use Rattle.session.specs.Shown.{IsNewest, IsWriter}
-use Rattle.session.specs.Stored.{AreApart, IsStored, Stores}
-use Rattle.session.specs.Working.{HasWorked, IsUnworked, IsWorkRefusal, KeepsCommitted, Reaches, RefusesWith, Works, WorksOn, work_of}
+use Rattle.session.specs.Representation.{IsNewest, IsWriter}
+use Rattle.session.specs.Stored.{HaveOwnPages, IsStored, Stores}
+use Rattle.session.specs.Applying.{IsApplied, IsNotApplied, IsChangeRefusal, KeepsCommitted, Reaches, RefusesWith, Applies, CanApply, change_made}
 use Rattle.session.specs.declared.transactions.Connections.{Connections}
 use Rattle.session.proofs.SeenPages.{one_page}
 use Rattle.session.proofs.Showing.{the_same}
@@ -74,7 +74,7 @@ neither false b h = (refl, h)
 -- the number of one page more, and the size that the database has with it
 pub record IsOnePast (pages page_size root : ℕ) : Type 0 where
   pub is : root ≡ pages + 1
-  pub served : IsServedSize page_size root
+  pub served : IsSizeWithinLimits page_size root
 
 pub one_past : (pages page_size root : ℕ) → Ok root ≡ one_more pages page_size → IsOnePast pages page_size root
 one_past pages page_size root is = by_test (is_too_large (pages + 1) page_size) refl is
@@ -86,7 +86,7 @@ one_past pages page_size root is = by_test (is_too_large (pages + 1) page_size) 
         let tests = neither (nat_lt 65536 (pages + 1)) (nat_lt 1073741824 ((pages + 1) * page_size)) small in
         record {
           is = same;
-          served = subst (IsServedSize page_size) (sym same) (record { few = not_below 65536 (pages + 1) tests.0; small = not_below 1073741824 ((pages + 1) * page_size) tests.1 });
+          served = subst (IsSizeWithinLimits page_size) (sym same) (record { few = not_below 65536 (pages + 1) tests.0; small = not_below 1073741824 ((pages + 1) * page_size) tests.1 });
         }
 
 pub fits_empty : (size : ℕ) → IsPageSize size → Fits size 0 []
@@ -159,10 +159,10 @@ pub record Creates (view : View) (old new : Writer) (tables : List Table) (db : 
   pub front : take 100 held.first.page ≡ take 100 schema.bytes.items
   pub sql : List ℕ
   pub text : IsCreateOf sql (object.Table d)
-  pub plain : is_table_built d ≡ true
-  pub listed : IsListedBehind schema.bytes.items held.first.rows (schema_row d.name root.number sql)
+  pub plain : is_table_supported d ≡ true
+  pub listed : IsListedAfter schema.bytes.items held.first.rows (schema_row d.name root.number sql)
   pub empty : IsTableLeaf root.bytes.items 0 []
-  pub puts : Puts (schema ∷ root ∷ []) old new
+  pub puts : ReplacesPages (schema ∷ root ∷ []) old new
 
 module _ (view : View) (old new : Writer) (tables : List Table) (db : Database) (d : TableDefinition) (t : Table) (schema root : PageImage) (c : Creates view old new tables db d t schema root) where
   some_page : 1 ≤ pages_of old
@@ -171,17 +171,17 @@ module _ (view : View) (old new : Writer) (tables : List Table) (db : Database) 
   pub grown_to : pages_of new ≡ pages_of old + 1
   grown_to = c.puts.size ∙ greatest (pages_of old) schema.number root.number (omega (arith, c.first, some_page)) (omega (arith, c.past.is)) ∙ c.past.is
 
-  stays : (number : ℕ) (bytes : List ℕ) → 1 < number → IsPage (seen view old) number bytes → IsPage (seen view new) number bytes
+  stays : (number : ℕ) (bytes : List ℕ) → 1 < number → IsViewPage (seen view old) number bytes → IsViewPage (seen view new) number bytes
   stays number bytes above page = record {
     first = page.first;
     last = omega (arith, page.last, grown_to);
     has = (c.puts.sees view number bytes).1 (inr (((λ is. omega (arith, c.first, above, is)), ((λ is. omega (arith, c.past.is, page.last, is)), tt)), page.has));
   }
 
-  new_first : IsPage (seen view new) 1 schema.bytes.items
+  new_first : IsViewPage (seen view new) 1 schema.bytes.items
   new_first = record { first = omega arith; last = omega (arith, grown_to); has = (c.puts.sees view 1 schema.bytes.items).1 (inl (inl (c.first, refl))) }
 
-  new_root : IsPage (seen view new) t.root root.bytes.items
+  new_root : IsViewPage (seen view new) t.root root.bytes.items
   new_root = record {
     first = omega (arith, c.made.root_is, c.past.is);
     last = omega (arith, c.made.root_is, c.past.is, grown_to);
@@ -204,7 +204,7 @@ module _ (view : View) (old new : Writer) (tables : List Table) (db : Database) 
   new_holds : Holds root.bytes.items t.root (length t.columns.items) []
   new_holds = record {
     entries = [];
-    lone = record {
+    single_leaf = record {
       leaf = subst (λ (n : ℕ). IsTableLeaf root.bytes.items n []) (sym (begins_at t.root above_first)) c.empty;
       rising = λ i d le lt. absurd (omega (arith, lt));
     };
@@ -235,7 +235,7 @@ module _ (view : View) (old new : Writer) (tables : List Table) (db : Database) 
     | inr h ↦ subst (IsStored (seen view new) (rows_beside c.held.rows_at t.root)) h.0 new_stored
   ]
 
-  still_apart : AreApart (tables ++ t ∷ [])
+  still_apart : HaveOwnPages (tables ++ t ∷ [])
   still_apart a b s u h k same = elim (found_behind (is_table a) tables t s h) [
     | inl p ↦ elim (found_behind (is_table b) tables t u k) [
       | inl q ↦ c.held.apart a b s u p q same
@@ -252,7 +252,7 @@ module _ (view : View) (old new : Writer) (tables : List Table) (db : Database) 
     sql = c.sql;
     definition = d;
     creates = c.text;
-    built = c.plain;
+    supported_forms = c.plain;
     made = subst (λ (n : ℕ). IsMadeBeside tables d n t) (sym c.made.root_is) c.made;
     above = above_first;
     within = omega (arith, c.made.root_is, c.past.is, grown_to);
@@ -277,10 +277,10 @@ module _ (view : View) (old new : Writer) (tables : List Table) (db : Database) 
       header_is = header_moves c.held.first.page schema.bytes.items c.held.first.header c.front c.held.first.header_is;
       sized = c.held.first.sized;
       rows = c.held.first.rows ++ c.listed.entry ∷ [];
-      lone = c.listed.lone;
+      single_leaf = c.listed.single_leaf;
       tell = told_more;
     };
-    served = subst (IsServedSize view.page_size) (c.past.is ∙ sym grown_to) c.past.served;
+    served = subst (IsSizeWithinLimits view.page_size) (c.past.is ∙ sym grown_to) c.past.served;
   }
 
 -- ---- the work
@@ -288,14 +288,14 @@ module _ (view : View) (old new : Writer) (tables : List Table) (db : Database) 
 abbrev pub creating : List ℕ → TableDefinition → Statement
 creating sql d = statement.Create (record { sql = sql; object = object.Table d })
 
-refused_work : (k : Known Database) (r : Refusal) → Contains (faults k) r → RefusesWith (of_known k) r
+refused_work : (k : Checked Database) (r : Refusal) → Contains (faults k) r → RefusesWith (of_known k) r
 refused_work (Meant db []) r has = absurd (omega (arith, has.1))
 refused_work (Meant db (s ∷ rs)) r has = has
 
 reached : (sql : List ℕ) (db : Database) (rows_at : ℕ → List TableRow) (tables : List Table) (d : TableDefinition) (root : ℕ) (t : Table) → Lists rows_at tables db → has_no_rules d ≡ true → IsMadeBeside tables d root t
-    → Reaches (work_of (creating sql d) db) (with_object db d.name (ATable (plain_table t [])))
+    → Reaches (change_made (creating sql d) db) (with_object db d.name (ATable (plain_table t [])))
 reached sql db rows_at tables d root t lists plain made =
-    subst (λ (k : Known Database). Reaches (of_known k) (with_object db d.name (ATable (plain_table t [])))) (sym (makes_table rows_at tables db d t lists plain made.fresh made.columns)) refl
+    subst (λ (k : Checked Database). Reaches (of_known k) (with_object db d.name (ATable (plain_table t [])))) (sym (makes_table rows_at tables db d t lists plain made.fresh made.columns)) refl
 
 last_taken : (tables : List Table) (t : Table) → take (length (tables ++ t ∷ []) - 1) (tables ++ t ∷ []) ≡ tables
 last_taken tables t = take_at tables (t ∷ []) (length (tables ++ t ∷ []) - 1) (omega (arith, length-append tables (t ∷ [])))
@@ -308,53 +308,53 @@ module _ {D : Type 0} {g : Ghosts D} where
   keeps c k told committed tables = record { files = the_same (files_of c) told; failed = refl; transaction = refl; committed = committed; tables = tables }
 
   -- a refusal before anything was done
-  pub refused_first : (s : Statement) (c : Connections D g) (w : Writer) (db : Database) (r : Result ⊤ Fault) (f : Fault) → IsErrAnd r (λ e. e ≡ f) → WorksOn c w db → IsWorkRefusal s c w db f → Works s c w db r c w
-  refused_first s c w db (Ok x) f is works why = absurd is
-  refused_first s c w db (Err e) f is works why = subst (IsUnworked s c w db c w) (sym is) (record { kept = keeps c c.catalog works.told refl refl; tables = refl; works = works; why = why })
+  pub refused_first : (s : Statement) (c : Connections D g) (w : Writer) (db : Database) (r : Result ⊤ Fault) (f : Fault) → IsErrAnd r (λ e. e ≡ f) → CanApply c w db → IsChangeRefusal s c w db f → Applies s c w db r c w
+  refused_first s c w db (Ok x) f is applies why = absurd is
+  refused_first s c w db (Err e) f is applies why = subst (IsNotApplied s c w db c w) (sym is) (record { kept = keeps c c.catalog applies.told refl refl; tables = refl; applies = applies; why = why })
 
-  module _ (c : Connections D g) (w : Writer) (db : Database) (works : WorksOn c w db) where
+  module _ (c : Connections D g) (w : Writer) (db : Database) (applies : CanApply c w db) where
     abbrev under : View
     under = view_at (files_of c) (snapshot_of w)
 
-    first_page : (page : List ℕ) → ((v : View) → Has (seen v w) 1 page) → page ≡ works.stored.first.page
-    first_page page shown = one_page (seen under w) 1 page works.stored.first.page (shown under) works.stored.first.there.has
+    first_page : (page : List ℕ) → ((v : View) → ViewHas (seen v w) 1 page) → page ≡ applies.stored.first.page
+    first_page page shown = one_page (seen under w) 1 page applies.stored.first.page (shown under) applies.stored.first.there.has
 
     served_size : IsPageSize (page_size_of w)
-    served_size = subst IsPageSize (works.stored.first.sized ∙ sym works.writer.page_size) works.stored.first.header_is.served
+    served_size = subst IsPageSize (applies.stored.first.sized ∙ sym applies.writer.page_size) applies.stored.first.header_is.served
 
     long_page : (page : List ℕ) → IsAmong (changes_of w) 1 page → length page ≡ page_size_of w
-    long_page page among = among_long 0 (pages_of w) (page_size_of w) (changes_of w) 1 page works.writer.whole.pages among
+    long_page page among = among_long 0 (pages_of w) (page_size_of w) (changes_of w) 1 page applies.writer.whole.pages among
 
     -- a writer has page 1
     pub not_missing : IsNotAmong (changes_of w) 1 → ⊥
-    not_missing none = first_not_missing (changes_of w) works.writer.whole.first none
+    not_missing none = first_not_missing (changes_of w) applies.writer.whole.first none
 
     -- the table isn't made
-    pub why_unmade : (sql : List ℕ) (d : TableDefinition) (page : List ℕ) (root : ℕ) (f : Fault) → has_no_rules d ≡ true → ((v : View) → Has (seen v w) 1 page) → root ≡ pages_of w + 1
-        → ((entries : List Entry) → IsLone page 1 entries → IsNewTableFault (tables_of c.catalog) d root (length page) entries (schema_row d.name root sql) f) → IsWorkRefusal (creating sql d) c w db f
+    pub why_unmade : (sql : List ℕ) (d : TableDefinition) (page : List ℕ) (root : ℕ) (f : Fault) → has_no_rules d ≡ true → ((v : View) → ViewHas (seen v w) 1 page) → root ≡ pages_of w + 1
+        → ((entries : List Entry) → IsSingleLeaf page 1 entries → IsNewTableFault (tables_of c.catalog) d root (length page) entries (schema_row d.name root sql) f) → IsChangeRefusal (creating sql d) c w db f
     why_unmade sql d page root f plain shown past faults =
-        by_why (subst (λ (n : ℕ). IsNewTableFault (tables_of c.catalog) d n (length works.stored.first.page) works.stored.first.rows (schema_row d.name n sql) f) past
-        (subst (λ (p : List ℕ). (entries : List Entry) → IsLone p 1 entries → IsNewTableFault (tables_of c.catalog) d root (length p) entries (schema_row d.name root sql) f) (first_page page shown) faults works.stored.first.rows works.stored.first.lone)).why
+        by_why (subst (λ (n : ℕ). IsNewTableFault (tables_of c.catalog) d n (length applies.stored.first.page) applies.stored.first.rows (schema_row d.name n sql) f) past
+        (subst (λ (p : List ℕ). (entries : List Entry) → IsSingleLeaf p 1 entries → IsNewTableFault (tables_of c.catalog) d root (length p) entries (schema_row d.name root sql) f) (first_page page shown) faults applies.stored.first.rows applies.stored.first.single_leaf)).why
       where
-        of_row : (row : IsRowFault (tables_of c.catalog) d (pages_of w + 1) (length works.stored.first.page) works.stored.first.rows (schema_row d.name (pages_of w + 1) sql) f) → IsWorkRefusal (creating sql d) c w db f
+        of_row : (row : IsRowFault (tables_of c.catalog) d (pages_of w + 1) (length applies.stored.first.page) applies.stored.first.rows (schema_row d.name (pages_of w + 1) sql) f) → IsChangeRefusal (creating sql d) c w db f
         of_row row = elim row.why [
           | inl memory ↦ inl memory
           | inr full ↦ inr (inr (inr (inr (
             full.0,
             with_object db d.name (ATable (plain_table row.table [])),
-            reached sql db works.stored.rows_at (tables_of c.catalog) d (pages_of w + 1) row.table works.stored.lists plain row.made,
-            inr (record { page = works.stored.first.page; there = works.stored.first.there; entries = works.stored.first.rows; lone = works.stored.first.lone; full = full.1 }),
+            reached sql db applies.stored.rows_at (tables_of c.catalog) d (pages_of w + 1) row.table applies.stored.lists plain row.made,
+            inr (record { page = applies.stored.first.page; there = applies.stored.first.there; entries = applies.stored.first.rows; single_leaf = applies.stored.first.single_leaf; full = full.1 }),
           ))))
         ]
 
-        by_why : (f ≡ fault.Memory) ⊎ IsCreateRefusal (tables_of c.catalog) d (refusal_of f) ⊎ IsRowFault (tables_of c.catalog) d (pages_of w + 1) (length works.stored.first.page) works.stored.first.rows (schema_row d.name (pages_of w + 1) sql) f
-            → IsWorkRefusal (creating sql d) c w db f
+        by_why : (f ≡ fault.Memory) ⊎ IsCreateRefusal (tables_of c.catalog) d (refusal_of f) ⊎ IsRowFault (tables_of c.catalog) d (pages_of w + 1) (length applies.stored.first.page) applies.stored.first.rows (schema_row d.name (pages_of w + 1) sql) f
+            → IsChangeRefusal (creating sql d) c w db f
         by_why (inl memory) = inl memory
-        by_why (inr (inl h)) = inr (inr (inr (inl (refused_work (create db (object.Table d)) (refusal_of f) (refuses_table works.stored.rows_at (tables_of c.catalog) db d (refusal_of f) works.stored.lists h)))))
+        by_why (inr (inl h)) = inr (inr (inr (inl (refused_work (create db (object.Table d)) (refusal_of f) (refuses_table applies.stored.rows_at (tables_of c.catalog) db d (refusal_of f) applies.stored.lists h)))))
         by_why (inr (inr row)) = of_row row
 
     -- the page of its tree isn't made
-    pub why_no_page : (s : Statement) (page : List ℕ) (size : ℕ) (f : Fault) → IsAmong (changes_of w) 1 page → size ≡ length page → (f ≡ fault.Memory) ⊎ ((f ≡ fault.Unsupported RowSize) × (Fits size 0 [] → ⊥)) → IsWorkRefusal s c w db f
+    pub why_no_page : (s : Statement) (page : List ℕ) (size : ℕ) (f : Fault) → IsAmong (changes_of w) 1 page → size ≡ length page → (f ≡ fault.Memory) ⊎ ((f ≡ fault.Unsupported RowSize) × (Fits size 0 [] → ⊥)) → IsChangeRefusal s c w db f
     why_no_page s page size f among long (inl memory) = inl memory
     why_no_page s page size f among long (inr full) = absurd (full.1 (fits_empty size (subst IsPageSize (sym (long ∙ long_page page among)) served_size)))
 
@@ -365,14 +365,14 @@ module _ {D : Type 0} {g : Ghosts D} where
       pub only : KeepsOnlyTables
       pub page : List ℕ
       pub found : IsAmong (changes_of w) 1 page
-      pub shown : (v : View) → Has (seen v w) 1 page
+      pub shown : (v : View) → ViewHas (seen v w) 1 page
       pub past : Ok root.number ≡ one_more (pages_of w) (page_size_of w)
       pub made : IsMadeBeside (tables_of c.catalog) d root.number t
       pub first : schema.number ≡ 1
       pub sql : List ℕ
       pub text : IsCreateOf sql (object.Table d)
-      pub plain : is_table_built d ≡ true
-      pub listed : (entries : List Entry) → IsLone page 1 entries → IsListedBehind schema.bytes.items entries (schema_row d.name root.number sql)
+      pub plain : is_table_supported d ≡ true
+      pub listed : (entries : List Entry) → IsSingleLeaf page 1 entries → IsListedAfter schema.bytes.items entries (schema_row d.name root.number sql)
       pub size : length schema.bytes.items ≡ length page
       pub front : take 100 schema.bytes.items ≡ take 100 page
       pub empty : IsTableLeaf root.bytes.items 0 []
@@ -385,63 +385,63 @@ module _ {D : Type 0} {g : Ghosts D} where
       pub object_pages : AreObjectPages (page_size_of w) schema root
       object_pages = record {
         first = m.first;
-        behind = omega (arith, one_more_page.is, works.stored.first.there.last);
+        behind = omega (arith, one_more_page.is, applies.stored.first.there.last);
         schema_is_long = m.size ∙ long_page m.page m.found;
         root_is_long = m.long ∙ m.size ∙ long_page m.page m.found;
       }
 
-      creates : (left : Writer) → Puts (schema ∷ root ∷ []) w left → Creates under w left (tables_of c.catalog) db d t schema root
+      creates : (left : Writer) → ReplacesPages (schema ∷ root ∷ []) w left → Creates under w left (tables_of c.catalog) db d t schema root
       creates left puts =
-          let same : m.page ≡ works.stored.first.page = first_page m.page m.shown in
+          let same : m.page ≡ applies.stored.first.page = first_page m.page m.shown in
           record {
             lists = m.lists;
             only = m.only;
-            held = works.stored;
+            held = applies.stored;
             made = m.made;
-            past = subst (λ (n : ℕ). IsOnePast (pages_of w) n root.number) works.writer.page_size one_more_page;
+            past = subst (λ (n : ℕ). IsOnePast (pages_of w) n root.number) applies.writer.page_size one_more_page;
             first = m.first;
             front = ap (take 100) (sym same) ∙ sym m.front;
             sql = m.sql;
             text = m.text;
             plain = m.plain;
-            listed = m.listed works.stored.first.rows (subst (λ (p : List ℕ). IsLone p 1 works.stored.first.rows) (sym same) works.stored.first.lone);
+            listed = m.listed applies.stored.first.rows (subst (λ (p : List ℕ). IsSingleLeaf p 1 applies.stored.first.rows) (sym same) applies.stored.first.single_leaf);
             empty = m.empty;
             puts = puts;
           }
 
-      writer_left : (left : Writer) → IsWhole left → Puts (schema ∷ root ∷ []) w left → IsWriter (files_of c) left
+      writer_left : (left : Writer) → IsConsistent left → ReplacesPages (schema ∷ root ∷ []) w left → IsWriter (files_of c) left
       writer_left left whole puts = record {
-        newest = subst (IsNewest (files_of c)) (sym puts.snapshot) works.writer.newest;
+        newest = subst (IsNewest (files_of c)) (sym puts.snapshot) applies.writer.newest;
         whole = whole;
-        page_size = puts.page_size ∙ works.writer.page_size;
+        page_size = puts.page_size ∙ applies.writer.page_size;
         grown = λ n past last none. by_size n past last (puts.rest n none) (cases_lt (pages_of w) n);
       }
         where
-          by_size : (n : ℕ) → (known_of (files_of c)).size < n → n ≤ pages_of left → IsNotAmong (schema ∷ root ∷ []) n × IsNotAmong (changes_of w) n → (pages_of w < n) ⊎ (n ≤ pages_of w) → ⊥
+          by_size : (n : ℕ) → (state_of (files_of c)).size < n → n ≤ pages_of left → IsNotAmong (schema ∷ root ∷ []) n × IsNotAmong (changes_of w) n → (pages_of w < n) ⊎ (n ≤ pages_of w) → ⊥
           by_size n past last none (inl behind) = none.0.1.0 (omega (arith, behind, last, one_more_page.is, grown_to under w left (tables_of c.catalog) db d t schema root (creates left puts)))
-          by_size n past last none (inr le) = works.writer.grown n past le none.1
+          by_size n past last none (inr le) = applies.writer.grown n past le none.1
 
-      pub has_worked : (sql : List ℕ) (k : Catalog) (left : Writer) → has_no_rules d ≡ true → tables_of k ≡ tables_of c.catalog ++ t ∷ [] → committed_in k ≡ committed_in c.catalog → IsWhole left → Puts (schema ∷ root ∷ []) w left
-          → HasWorked (creating sql d) c db (with_catalog c k) left
+      pub has_worked : (sql : List ℕ) (k : Catalog) (left : Writer) → has_no_rules d ≡ true → tables_of k ≡ tables_of c.catalog ++ t ∷ [] → committed_in k ≡ committed_in c.catalog → IsConsistent left → ReplacesPages (schema ∷ root ∷ []) w left
+          → IsApplied (creating sql d) c db (with_catalog c k) left
       has_worked sql k left plain added committed whole puts =
           let made : Database = with_object db d.name (ATable (plain_table t [])) in
           record {
-            kept = keeps c k works.told committed (ap (take (committed_in c.catalog)) added ∙ take-append-le (committed_in c.catalog) (tables_of c.catalog) (t ∷ []) works.listed);
+            kept = keeps c k applies.told committed (ap (take (committed_in c.catalog)) added ∙ take-append-le (committed_in c.catalog) (tables_of c.catalog) (t ∷ []) applies.listed);
             made = made;
-            reaches = reached sql db works.stored.rows_at (tables_of c.catalog) d root.number t works.stored.lists plain m.made;
-            works = record {
-              told = works.told;
-              settled = works.settled;
+            reaches = reached sql db applies.stored.rows_at (tables_of c.catalog) d root.number t applies.stored.lists plain m.made;
+            applies = record {
+              told = applies.told;
+              settled = applies.settled;
               writer = writer_left left whole puts;
               stored = subst (λ (s : Snapshot). Stores (seen (view_at (files_of c) s) left) (tables_of k) made) (sym puts.snapshot)
                   (subst (λ (ts : List Table). Stores (seen under left) ts made) (sym added) (stores_more under w left (tables_of c.catalog) db d t schema root (creates left puts)));
-              listed = omega (arith, committed, works.listed, ap length added, length-append (tables_of c.catalog) (t ∷ []));
+              listed = omega (arith, committed, applies.listed, ap length added, length-append (tables_of c.catalog) (t ∷ []));
             };
           }
 
       -- the pages were put
       pub table_put : (sql : List ℕ) (k : Catalog) (left : Writer) (r : Result ⊤ Fault) → is_err r ≡ false → has_no_rules d ≡ true → tables_of k ≡ tables_of c.catalog ++ t ∷ [] → committed_in k ≡ committed_in c.catalog
-          → OnOk r (IsWhole left) → OnOk r (Puts (schema ∷ root ∷ []) w left) → Works (creating sql d) c w db r (with_catalog c k) left
+          → OnOk r (IsConsistent left) → OnOk r (ReplacesPages (schema ∷ root ∷ []) w left) → Applies (creating sql d) c w db r (with_catalog c k) left
       table_put sql k left (Ok x) fine plain added committed whole puts = has_worked sql k left plain added committed whole puts
       table_put sql k left (Err f) fine plain added committed whole puts = absurd (false≢true (sym fine))
 
@@ -449,32 +449,32 @@ module _ {D : Type 0} {g : Ghosts D} where
 
     writer_stays : (left : Writer) → IsUnchanged w left → IsWriter (files_of c) left
     writer_stays left same = record {
-      newest = subst (IsNewest (files_of c)) (sym same.snapshot) works.writer.newest;
-      whole = whole_same w left (record { changes = same.changes; size = same.size; page_size = same.page_size; snapshot = same.snapshot }) works.writer.whole;
-      page_size = same.page_size ∙ works.writer.page_size;
-      grown = λ n past last none. works.writer.grown n past (omega (arith, last, same.size)) (subst (λ (ps : List PageImage). IsNotAmong ps n) same.changes none);
+      newest = subst (IsNewest (files_of c)) (sym same.snapshot) applies.writer.newest;
+      whole = whole_same w left (record { changes = same.changes; size = same.size; page_size = same.page_size; snapshot = same.snapshot }) applies.writer.whole;
+      page_size = same.page_size ∙ applies.writer.page_size;
+      grown = λ n past last none. applies.writer.grown n past (omega (arith, last, same.size)) (subst (λ (ps : List PageImage). IsNotAmong ps n) same.changes none);
     }
 
     view_stays : (left : Writer) → IsUnchanged w left → view_of (files_of c) left ≡ view_of (files_of c) w
     view_stays left same = λ i. after (view_at (files_of c) (same.snapshot i)) (same.changes i) (same.size i)
 
-    still_works : (k : Catalog) (left : Writer) → tables_of k ≡ tables_of c.catalog → committed_in k ≡ committed_in c.catalog → IsUnchanged w left → WorksOn (with_catalog c k) left db
+    still_works : (k : Catalog) (left : Writer) → tables_of k ≡ tables_of c.catalog → committed_in k ≡ committed_in c.catalog → IsUnchanged w left → CanApply (with_catalog c k) left db
     still_works k left tables committed same = record {
-      told = works.told;
-      settled = works.settled;
+      told = applies.told;
+      settled = applies.settled;
       writer = writer_stays left same;
-      stored = subst (λ (v : View). Stores v (tables_of k) db) (sym (view_stays left same)) (subst (λ (ts : List Table). Stores (view_of (files_of c) w) ts db) (sym tables) works.stored);
-      listed = omega (arith, works.listed, committed, ap length tables);
+      stored = subst (λ (v : View). Stores v (tables_of k) db) (sym (view_stays left same)) (subst (λ (ts : List Table). Stores (view_of (files_of c) w) ts db) (sym tables) applies.stored);
+      listed = omega (arith, applies.listed, committed, ap length tables);
     }
 
     pub table_taken_back : (s : Statement) (k next : Catalog) (t : Table) (left : Writer) (r : Result ⊤ Fault) → is_err r ≡ true → tables_of k ≡ tables_of c.catalog ++ t ∷ [] → committed_in k ≡ committed_in c.catalog
-        → tables_of next ≡ take (length (tables_of k) - 1) (tables_of k) → committed_in next ≡ committed_in k → IfErr r (λ f. (f ≡ fault.Memory) × IsUnchanged w left) → Works s c w db r (with_catalog c next) left
+        → tables_of next ≡ take (length (tables_of k) - 1) (tables_of k) → committed_in next ≡ committed_in k → IfErr r (λ f. (f ≡ fault.Memory) × IsUnchanged w left) → Applies s c w db r (with_catalog c next) left
     table_taken_back s k next t left (Ok x) failed added committed back still same = absurd (false≢true failed)
     table_taken_back s k next t left (Err f) failed added committed back still same =
         let tables : tables_of next ≡ tables_of c.catalog = back ∙ ap (λ (ts : List Table). take (length ts - 1) ts) added ∙ last_taken (tables_of c.catalog) t in
         record {
-          kept = keeps c next works.told (still ∙ committed) (ap (take (committed_in c.catalog)) tables);
+          kept = keeps c next applies.told (still ∙ committed) (ap (take (committed_in c.catalog)) tables);
           tables = tables;
-          works = still_works next left tables (still ∙ committed) same.1;
+          applies = still_works next left tables (still ∙ committed) same.1;
           why = inl same.0;
         }

@@ -12,11 +12,11 @@ use Rattle.syntax.specs.declared.query.Query.{Query}
 use Rattle.syntax.specs.declared.statement.Statement.{Statement}
 use Rattle.syntax.specs.declared.statement.Statement.TheVariants as statement
 use Rattle.catalog.specs.Database.{Database}
-use Rattle.session.specs.Built.{StepSoFar, is_built, is_query, is_served}
-use Rattle.session.specs.Known.{first_refusal, has_failed_in}
+use Rattle.session.specs.Supported.{StepSoFar, is_connection_supported, is_query, is_supported}
+use Rattle.session.specs.ConnectionState.{first_refusal, has_failed_in}
 use Rattle.session.specs.Machine.{Machine, Reply, Refused}
 use Rattle.session.specs.Steps.{is_connection}
-use Rattle.session.specs.Shown.{FindsNoRoom, IsShown, Shows, Steps, StepsTo, done_reply, rows_reply}
+use Rattle.session.specs.Representation.{FindsNoRoom, RepresentsRunning, Represents, Steps, StepsTo, done_reply, rows_reply}
 use Rattle.session.specs.declared.transactions.Connections.{Connections}
 use Rattle.session.proofs.SeenPages.{Rowed}
 use Rattle.session.proofs.Settled.{as_shown}
@@ -35,10 +35,10 @@ either false go other = other refl
 
 module _ (R : Database → Type 0) (m : Machine) (n : ℕ) (s : Statement) where
   failed_step : m.failed ≡ true → StepSoFar R m n s (Refused refusal.Failed) m
-  failed_step failed = either (is_built s && is_served n) (λ is. inl (is, inl (inl (failed, refl, refl)))) (λ is. inr (is, refl, inl (failed, refl)))
+  failed_step failed = either (is_supported s && is_connection_supported n) (λ is. inl (is, inl (inl (failed, refl, refl)))) (λ is. inr (is, refl, inl (failed, refl)))
 
   numbered_step : m.failed ≡ false → is_connection n ≡ false → StepSoFar R m n s (Refused refusal.Misuse) m
-  numbered_step running none = either (is_built s && is_served n) (λ is. inl (is, inl (inr (inl (running, none, refl, refl))))) (λ is. inr (is, refl, inr (inl (running, none, refl))))
+  numbered_step running none = either (is_supported s && is_connection_supported n) (λ is. inl (is, inl (inr (inl (running, none, refl, refl))))) (λ is. inr (is, refl, inr (inl (running, none, refl))))
 
 pub no_connection : (n : ℕ) → (n == 0 || nat_lt 16 n) ≡ true → is_connection n ≡ false
 no_connection n is = grind (arith, nat_tests)
@@ -52,7 +52,7 @@ one_fault a b is = cc
 pub not_both : (f : Fault) → done ≡ Err f → ⊥
 not_both f is = absurd cc
 
-another : (n : ℕ) → (n ≡ 1 → ⊥) → is_served n ≡ false
+another : (n : ℕ) → (n ≡ 1 → ⊥) → is_connection_supported n ≡ false
 another n other = grind (arith, nat_tests)
 
 pub first_by : (n : ℕ) → (n == 0 || nat_lt 16 n) ≡ true → first_refusal false n ≡ first_fault (fault.Misuse misuse.Connection)
@@ -80,7 +80,7 @@ refused_as (Err e) f is = ap (λ (x : Fault). Refused (refusal_of x)) is
 
 module _ {D : Type 0} {g : Ghosts D} where
   -- what isn't refused at first is a connection's, of a machine that goes on
-  pub served_for : (c : Connections D g) (m : Machine) (n : ℕ) → first_refusal (has_failed_in c) n ≡ done → Shows c m → (m.failed ≡ false) × (is_connection n ≡ true)
+  pub served_for : (c : Connections D g) (m : Machine) (n : ℕ) → first_refusal (has_failed_in c) n ≡ done → Represents c m → (m.failed ≡ false) × (is_connection n ≡ true)
   served_for c m n is (inl failed) = absurd (not_both fault.Failed (sym is ∙ ap (λ b. first_refusal b n) failed.0))
   served_for c m n is (inr shown) = either (n == 0 || nat_lt 16 n)
       (λ bad. absurd (not_both (fault.Misuse misuse.Connection) (sym whole ∙ first_by n bad)))
@@ -89,11 +89,11 @@ module _ {D : Type 0} {g : Ghosts D} where
       whole : first_refusal false n ≡ done
       whole = ap (λ b. first_refusal b n) (sym shown.whole) ∙ is
 
-  pub done_built : (c : Connections D g) (n : ℕ) → n ≡ 1 → first_refusal (has_failed_in c) n ≡ done → first_refusal (has_failed_in c) 1 ≡ done
-  done_built c n one is = subst (λ (k : ℕ). first_refusal (has_failed_in c) k ≡ done) one is
+  pub done_supported : (c : Connections D g) (n : ℕ) → n ≡ 1 → first_refusal (has_failed_in c) n ≡ done → first_refusal (has_failed_in c) 1 ≡ done
+  done_supported c n one is = subst (λ (k : ℕ). first_refusal (has_failed_in c) k ≡ done) one is
 
-  stays_with : (c : Connections D g) (m : Machine) (n : ℕ) (s : Statement) (reply : Reply) → Shows c m → StepSoFar (FindsNoRoom c s) m n s reply m → StepsTo c m n s reply c
-  stays_with c m n s reply shows step = record { next = m; step = step; shown = shows; stop = as_shown c m shows }
+  stays_with : (c : Connections D g) (m : Machine) (n : ℕ) (s : Statement) (reply : Reply) → Represents c m → StepSoFar (FindsNoRoom c s) m n s reply m → StepsTo c m n s reply c
+  stays_with c m n s reply shows step = record { next = m; step = step; shown = shows; crash = as_shown c m shows }
 
   -- refused before the statement is looked at
   pub refused_first : (c : Connections D g) (n : ℕ) (s : Statement) (f : Fault) → first_refusal (has_failed_in c) n ≡ Err f → Steps c n s (Refused (refusal_of f)) c
@@ -113,19 +113,19 @@ module _ {D : Type 0} {g : Ghosts D} where
       some : (n == 0 || nat_lt 16 n) ≡ false → StepsTo c m n s (Refused (refusal_of f)) c
       some good = absurd (not_both f (sym (passes_by n good) ∙ whole))
 
-  -- a form that isn't built, or a connection that isn't served
-  unserved : (c : Connections D g) (n : ℕ) (s : Statement) → first_refusal (has_failed_in c) n ≡ done → (is_built s && is_served n) ≡ false → Steps c n s (Refused refusal.Unsupported) c
-  unserved c n s first none m shows =
+  -- a form that isn't supported, or a connection that isn't supported
+  unsupported : (c : Connections D g) (n : ℕ) (s : Statement) → first_refusal (has_failed_in c) n ≡ done → (is_supported s && is_connection_supported n) ≡ false → Steps c n s (Refused refusal.Unsupported) c
+  unsupported c n s first none m shows =
       let on = served_for c m n first shows in
       stays_with c m n s (Refused refusal.Unsupported) shows (inr (none, refl, inr (inr (on.0, on.1, inl refl))))
 
-  pub not_built : (c : Connections D g) (n : ℕ) (s : Statement) → first_refusal (has_failed_in c) n ≡ done → is_built s ≡ false → Steps c n s (Refused refusal.Unsupported) c
-  not_built c n s first none = unserved c n s first (ap (λ b. b && is_served n) none)
+  pub unsupported_form : (c : Connections D g) (n : ℕ) (s : Statement) → first_refusal (has_failed_in c) n ≡ done → is_supported s ≡ false → Steps c n s (Refused refusal.Unsupported) c
+  unsupported_form c n s first none = unsupported c n s first (ap (λ b. b && is_connection_supported n) none)
 
-  pub not_served : (c : Connections D g) (n : ℕ) (s : Statement) → first_refusal (has_failed_in c) n ≡ done → is_built s ≡ true → (n ≡ 1 → ⊥) → Steps c n s (Refused refusal.Unsupported) c
-  not_served c n s first built other = unserved c n s first (ap (λ b. b && is_served n) built ∙ another n other)
+  pub not_served : (c : Connections D g) (n : ℕ) (s : Statement) → first_refusal (has_failed_in c) n ≡ done → is_supported s ≡ true → (n ≡ 1 → ⊥) → Steps c n s (Refused refusal.Unsupported) c
+  not_served c n s first supported_forms other = unsupported c n s first (ap (λ b. b && is_connection_supported n) supported_forms ∙ another n other)
 
   -- where no commit has failed, what is shown is shown whole
-  pub steps_from : (old new : Connections D g) (s : Statement) (reply : Reply) → first_refusal (has_failed_in old) 1 ≡ done → ((m : Machine) → IsShown old m → StepsTo old m 1 s reply new) → Steps old 1 s reply new
+  pub steps_from : (old new : Connections D g) (s : Statement) (reply : Reply) → first_refusal (has_failed_in old) 1 ≡ done → ((m : Machine) → RepresentsRunning old m → StepsTo old m 1 s reply new) → Steps old 1 s reply new
   steps_from old new s reply is steps m (inl failed) = absurd (not_both fault.Failed (sym is ∙ ap (λ b. first_refusal b 1) failed.0))
   steps_from old new s reply is steps m (inr shown) = steps m shown

@@ -4,15 +4,15 @@ use Rattle.std.specs.Prelude.{None, Some}
 use Rattle.std.specs.List.{AllByRecursion}
 use Rattle.std.proofs.lemmas.List.{take_all}
 use Rattle.disk.specs.declared.device.Disk.{Ghosts}
-use Rattle.wal.specs.Opening.{IsServedSize}
+use Rattle.wal.specs.Sizes.{IsSizeWithinLimits}
 use Rattle.catalog.specs.Database.{Database}
 use Rattle.catalog.specs.Listed.{committed_in, tables_of}
 use Rattle.catalog.specs.declared.tables.Table.{Table}
 use Rattle.pager.specs.Views.{Tells, View, newest_view}
 use Rattle.session.specs.Holding.{IsSettled}
-use Rattle.session.specs.Known.{files_of, has_failed_in}
+use Rattle.session.specs.ConnectionState.{files_of, has_failed_in}
 use Rattle.session.specs.Machine.{Idle, fresh, idle}
-use Rattle.session.specs.Shown.{AreCommitted, IsShown, IsTransaction}
+use Rattle.session.specs.Representation.{AreCommitted, RepresentsRunning, IsTransaction}
 use Rattle.session.specs.Stored.{HasFirstPage, Stores}
 use Rattle.session.specs.declared.transactions.Connections.{Connections}
 use Rattle.session.specs.declared.transactions.Transaction.{Transaction}
@@ -26,7 +26,7 @@ all_idle zero = tt
 all_idle (suc n) = (refl, all_idle n)
 
 -- pages whose first is there hold no tables
-pub nothing_stored : (view : View) → HasFirstPage view [] → IsServedSize view.page_size view.size → Stores view [] []
+pub nothing_stored : (view : View) → HasFirstPage view [] → IsSizeWithinLimits view.page_size view.size → Stores view [] []
 nothing_stored view first served = record {
   rows_at = λ root. [];
   lists = λ name. refl;
@@ -40,7 +40,7 @@ nothing_stored view first served = record {
 
 module _ {D : Type 0} {g : Ghosts D} where
   pub fresh_shown : (c : Connections D g) (db : Database) → has_failed_in c ≡ false → c.transaction ≡ transaction.Idle → Tells (files_of c) → IsSettled (files_of c) → AreCommitted c.catalog → Stores (newest_view (files_of c)) (tables_of c.catalog) db
-      → IsShown c (fresh db)
+      → RepresentsRunning c (fresh db)
   fresh_shown c db whole is told settled all stored = record {
     running = refl;
     sure = refl;

@@ -37,16 +37,16 @@ use Rattle.dml.specs.Binding.{IsGivenAs, IsRealRefused}
 use Rattle.dml.specs.Inserting.{FindNoRoom, IsInserted, IsInsertRefusal, IsRefusedAs, rows_added}
 use Rattle.dml.proofs.GivenAsMeant.{gives, refuses}
 use Rattle.pager.specs.Limits.{pages_of}
-use Rattle.pager.specs.Views.{IsPage, View, after, changes_of, view_at, view_of}
-use Rattle.pager.specs.Writers.{IsUnchanged, IsWhole, Puts, seen, snapshot_of}
+use Rattle.pager.specs.Views.{IsViewPage, View, after, changes_of, view_at, view_of}
+use Rattle.pager.specs.Writers.{IsUnchanged, IsConsistent, ReplacesPages, seen, snapshot_of}
 use Rattle.pager.specs.declared.writer.Writer.{Writer}
 use Rattle.pager.proofs.Seeing.{whole_same}
-use Rattle.session.specs.Built.{is_source_built}
-use Rattle.session.specs.Known.{files_of, has_failed_in}
+use Rattle.session.specs.Supported.{is_source_supported}
+use Rattle.session.specs.ConnectionState.{files_of, has_failed_in}
 use Rattle.session.specs.Outcomes.{of_answer}
-use Rattle.session.specs.Shown.{IsNewest, IsWriter, ShowTheSame}
-use Rattle.session.specs.Stored.{HasNoRoom, IsStored, Stores}
-use Rattle.session.specs.Working.{HasWorked, IsUnworked, IsWorkRefusal, KeepsCommitted, Reaches, RefusesWith, SeesRows, Works, WorksOn, work_of}
+use Rattle.session.specs.Representation.{IsNewest, IsWriter, ShowTheSame}
+use Rattle.session.specs.Stored.{LacksRoom, IsStored, Stores}
+use Rattle.session.specs.Applying.{IsApplied, IsNotApplied, IsChangeRefusal, KeepsCommitted, Reaches, RefusesWith, SeesRows, Applies, CanApply, change_made}
 use Rattle.session.specs.declared.transactions.Connections.{Connections}
 use Rattle.session.proofs.Inserting.{Laws, IsMade, listed_table, made, not_refused, reaches, refused, rows_here, rows_with, stores_put}
 use Rattle.session.proofs.Settled.{still_settled}
@@ -55,11 +55,11 @@ use Rattle.session.proofs.Showing.{still_writer}
 -- ---- why it is refused
 
 abbrev work : Insert → Database → Refusal → Type 0
-work i db r = RefusesWith (work_of (statement.Change (kind.Insert i)) db) r
+work i db r = RefusesWith (change_made (statement.Change (kind.Insert i)) db) r
 
-literals : (s : InsertSource) → is_source_built s ≡ true → is_of_literals s ≡ true
-literals (source.Rows rows) built = built
-literals (source.Query q) built = built
+literals : (s : InsertSource) → is_source_supported s ≡ true → is_of_literals s ≡ true
+literals (source.Rows rows) supported_forms = supported_forms
+literals (source.Query q) supported_forms = supported_forms
 
 -- the table that a refused real is for
 pub record IsNamed (tables : List Table) (i : Insert) : Type 0 where
@@ -70,13 +70,13 @@ real_for : (tables : List Table) (i : Insert) (f : Fault) → f ≡ fault.RealRe
 real_for tables i f e (inl memory) = absurd cc
 real_for tables i f e (inr (inl (inl (none, h)))) = (let h : refusal.RealRefused ≡ refusal.NoSuch = sym (ap refusal_of e) ∙ none in absurd cc)
 real_for tables i f e (inr (inl (inr (t, named, h)))) = record { table = t; is = named }
-real_for tables i f e (inr (inr (inl (unbuilt, h)))) = absurd cc
+real_for tables i f e (inr (inr (inl (unsupported, h)))) = absurd cc
 real_for tables i f e (inr (inr (inr (same, (t, named, l, c, past))))) = record { table = t; is = named }
 
 -- a refusal of its names and values
-pub bind_refused : (laws : Laws) (view : View) (tables : List Table) (db : Database) (held : Stores view tables db) (i : Insert) (f : Fault) → is_source_built i.source ≡ true → IsInsertFault tables i f
+pub bind_refused : (laws : Laws) (view : View) (tables : List Table) (db : Database) (held : Stores view tables db) (i : Insert) (f : Fault) → is_source_supported i.source ≡ true → IsInsertFault tables i f
     → (f ≡ fault.Memory) ⊎ work i db (refusal_of f)
-bind_refused laws view tables db held i f built why = elim (refuses db tables (known_listed held.rows_at tables db held.lists) held.once i.table i.columns i.source f (literals i.source built) why) [
+bind_refused laws view tables db held i f supported_forms why = elim (refuses db tables (known_listed held.rows_at tables db held.lists) held.once i.table i.columns i.source f (literals i.source supported_forms) why) [
   | inl memory ↦ inl memory
   | inr (inl has) ↦ inr (inl ((laws.binds db (kind.Insert i) (refusal_of f) held.only).1 has))
   | inr (inr (e, real)) ↦ inr (past e real (real_for tables i f e why))
@@ -96,11 +96,11 @@ places_long columns None = length-map (range_with_len 0 (length columns)) (λ (n
 places_long columns (Some names) = length-map columns (λ column. position_from (λ name. is_same_name name column.name) 0 names)
 
 module _ (laws : Laws) (view : View) (tables : List Table) (db : Database) (held : Stores view tables db) (i : Insert) (t : Table) (places : List (Option ℕ)) (given : List (List Value)) (named : table_named i.table tables ≡ Some t)
-    (is : IsGivenAs db i t places given) (long : length places ≡ length t.columns.items) (page : List ℕ) (there : IsPage view t.root page) (holds : Holds page t.root (length t.columns.items) (held.rows_at t.root)) where
-  -- a refusal behind that
+    (is : IsGivenAs db i t places given) (long : length places ≡ length t.columns.items) (page : List ℕ) (there : IsViewPage view t.root page) (holds : Holds page t.root (length t.columns.items) (held.rows_at t.root)) where
+  -- a refusal after that
   pub page_refused : (f : Fault) → (f ≡ fault.Io) ⊎ IsInsertRefusal page t.root t.columns.items places given f
       → (f ≡ fault.Memory) ⊎ (f ≡ fault.Full) ⊎ (f ≡ fault.Io) ⊎ work i db (refusal_of f)
-      ⊎ (f ≡ fault.Unsupported RowSize) × (made : Database) × Reaches (work_of (statement.Change (kind.Insert i)) db) made × HasNoRoom view tables (statement.Change (kind.Insert i)) made
+      ⊎ (f ≡ fault.Unsupported RowSize) × (made : Database) × Reaches (change_made (statement.Change (kind.Insert i)) db) made × LacksRoom view tables (statement.Change (kind.Insert i)) made
   page_refused f (inl io) = inr (inr (inl io))
   page_refused f (inr (inl memory)) = inl memory
   page_refused f (inr (inr (inl none))) = absurd (none.1 (held.rows_at t.root) holds)
@@ -136,7 +136,7 @@ pub given_as : (view : View) (tables : List Table) (db : Database) (held : Store
 given_as view tables db held i t places rows named columns given is =
     subst (λ (ps : List (Option ℕ)). IsGivenAs db i t ps (map (λ row. row.items) rows)) (sym is) (gives db tables (known_listed held.rows_at tables db held.lists) held.once i.table i.columns i.source t rows named columns given)
 
--- ---- the connections behind it
+-- ---- the connections after it
 
 pub unchanged : (w : Writer) → IsUnchanged w w
 unchanged w = record { changes = refl; size = refl; page_size = refl; snapshot = refl; objects = refl }
@@ -167,7 +167,7 @@ module _ {D : Type 0} {g : Ghosts D} where
     grown = λ number past last none. is.grown number past (omega (arith, last, same.size)) (subst (λ (ps : List PageImage). IsNotAmong ps number) same.changes none);
   }
 
-  still_works : (old new : Connections D g) (w v : Writer) (db : Database) → Reads old new → IsUnchanged w v → WorksOn old w db → WorksOn new v db
+  still_works : (old new : Connections D g) (w v : Writer) (db : Database) → Reads old new → IsUnchanged w v → CanApply old w db → CanApply new v db
   still_works old new w v db reads same on = record {
     told = reads.files.told;
     settled = still_settled (files_of old) (files_of new) reads.files on.settled;
@@ -179,32 +179,32 @@ module _ {D : Type 0} {g : Ghosts D} where
       view : view_of (files_of new) v ≡ view_of (files_of old) w
       view = (λ k. after (view_at (files_of new) (same.snapshot k)) (same.changes k) (same.size k)) ∙ ap (λ (x : View). after x (changes_of w) (pages_of w)) (reads.files.at (snapshot_of w))
 
-  pub unworked : (s : Statement) (old new : Connections D g) (w v : Writer) (db : Database) (r : Result ⊤ Fault) (f : Fault) → IsErrAnd r (λ e. e ≡ f) → Reads old new → IsUnchanged w v → WorksOn old w db → IsWorkRefusal s old w db f
-      → Works s old w db r new v
+  pub unworked : (s : Statement) (old new : Connections D g) (w v : Writer) (db : Database) (r : Result ⊤ Fault) (f : Fault) → IsErrAnd r (λ e. e ≡ f) → Reads old new → IsUnchanged w v → CanApply old w db → IsChangeRefusal s old w db f
+      → Applies s old w db r new v
   unworked s old new w v db (Ok done) f is reads same on why = absurd is
-  unworked s old new w v db (Err e) f is reads same on why = subst (λ (x : Fault). IsUnworked s old w db new v x) (sym is) (record {
+  unworked s old new w v db (Err e) f is reads same on why = subst (λ (x : Fault). IsNotApplied s old w db new v x) (sym is) (record {
     kept = keeps old new reads;
     tables = ap tables_of reads.catalog;
-    works = still_works old new w v db reads same on;
+    applies = still_works old new w v db reads same on;
     why = why;
   })
 
-  pub refused_at_once : (s : Statement) (old : Connections D g) (w : Writer) (db : Database) (f : Fault) → (f ≡ fault.Memory) ⊎ RefusesWith (work_of s db) (refusal_of f) → IsWorkRefusal s old w db f
+  pub refused_at_once : (s : Statement) (old : Connections D g) (w : Writer) (db : Database) (f : Fault) → (f ≡ fault.Memory) ⊎ RefusesWith (change_made s db) (refusal_of f) → IsChangeRefusal s old w db f
   refused_at_once s old w db f (inl memory) = inl memory
   refused_at_once s old w db f (inr why) = inr (inr (inr (inl why)))
 
   -- what the writer sees of a table's page
-  pub sees : (c : Connections D g) (w : Writer) (db : Database) (on : WorksOn c w db) (name : Name) (t : Table) (named : table_named name (tables_of c.catalog) ≡ Some t)
+  pub sees : (c : Connections D g) (w : Writer) (db : Database) (on : CanApply c w db) (name : Name) (t : Table) (named : table_named name (tables_of c.catalog) ≡ Some t)
       → SeesRows (files_of c) w t (on.stored.each name t named).page (on.stored.rows_at t.root)
   sees c w db on name t named = (let it = on.stored.each name t named in record { told = on.told; writer = on.writer; there = it.there; holds = it.holds })
 
-  pub put_works : (s : Statement) (old new : Connections D g) (w v : Writer) (db : Database) (r : Result ⊤ Fault) (page : PageImage) → Reads old new → WorksOn old w db → OnOk r (IsWhole v) → OnOk r (Puts (page ∷ []) w v)
-      → IfErr r (λ f. (f ≡ fault.Memory) × IsUnchanged w v) → (IsWhole v → Puts (page ∷ []) w v → HasWorked s old db new v) → Works s old w db r new v
+  pub put_works : (s : Statement) (old new : Connections D g) (w v : Writer) (db : Database) (r : Result ⊤ Fault) (page : PageImage) → Reads old new → CanApply old w db → OnOk r (IsConsistent v) → OnOk r (ReplacesPages (page ∷ []) w v)
+      → IfErr r (λ f. (f ≡ fault.Memory) × IsUnchanged w v) → (IsConsistent v → ReplacesPages (page ∷ []) w v → IsApplied s old db new v) → Applies s old w db r new v
   put_works s old new w v db (Ok done) page reads on whole puts refused all = all whole puts
   put_works s old new w v db (Err f) page reads on whole puts refused all = unworked s old new w v db (Err f) f refl reads refused.1 on (inl refused.0)
 
-  -- the writer behind a page that is put in the place of what it was
-  pub put_writer : (files : Log D g) (w v : Writer) (page : PageImage) → page.number ≤ pages_of w → IsWriter files w → IsWhole v → Puts (page ∷ []) w v → IsWriter files v
+  -- the writer after a page that is put in the place of what it was
+  pub put_writer : (files : Log D g) (w v : Writer) (page : PageImage) → page.number ≤ pages_of w → IsWriter files w → IsConsistent v → ReplacesPages (page ∷ []) w v → IsWriter files v
   put_writer files w v page within is whole puts = record {
     newest = subst (IsNewest files) (sym puts.snapshot) is.newest;
     whole = whole;
@@ -212,14 +212,14 @@ module _ {D : Type 0} {g : Ghosts D} where
     grown = λ number past last none. is.grown number past (omega (arith, last, puts.size, max-eq_left within)) (puts.rest number none).1;
   }
 
-  pub worked : (laws : Laws) (old new : Connections D g) (w v : Writer) (db : Database) (i : Insert) (t : Table) (places : List (Option ℕ)) (given : List (List Value)) (page : PageImage) (on : WorksOn old w db) → Reads old new
+  pub worked : (laws : Laws) (old new : Connections D g) (w v : Writer) (db : Database) (i : Insert) (t : Table) (places : List (Option ℕ)) (given : List (List Value)) (page : PageImage) (on : CanApply old w db) → Reads old new
       → table_named i.table (tables_of old.catalog) ≡ Some t → IsGivenAs db i t places given → length places ≡ length t.columns.items → page.number ≡ t.root
-      → IsInserted page.bytes.items t.root t.columns.items places given (on.stored.rows_at t.root) → IsWhole v → Puts (page ∷ []) w v → HasWorked (statement.Change (kind.Insert i)) old db new v
+      → IsInserted page.bytes.items t.root t.columns.items places given (on.stored.rows_at t.root) → IsConsistent v → ReplacesPages (page ∷ []) w v → IsApplied (statement.Change (kind.Insert i)) old db new v
   worked laws old new w v db i t places given page on reads named is long at inserted whole puts = record {
     kept = keeps old new reads;
     made = m.made;
     reaches = reaches laws (view_of (files_of old) w) (tables_of old.catalog) db on.stored i t places given named is long it.page it.holds m.made m.is;
-    works = record {
+    applies = record {
       told = reads.files.told;
       settled = still_settled (files_of old) (files_of new) reads.files on.settled;
       writer = still_writer (files_of old) (files_of new) v reads.files (put_writer (files_of old) w v page (omega (arith, at, it.there.last)) on.writer whole puts);

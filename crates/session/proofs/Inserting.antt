@@ -22,10 +22,10 @@ use Rattle.catalog.specs.Database.{ATable, Database, Name, Object, with_object}
 use Rattle.catalog.specs.Laws.{KeepsOnlyTables, ListsOtherRows}
 use Rattle.catalog.specs.Listed.{Lists, has_only_tables, plain_table, table_named}
 use Rattle.catalog.specs.declared.tables.Table.{Table}
-use Rattle.bind.specs.Known.{Known, Meant, faults}
+use Rattle.bind.specs.Checked.{Checked, Meant, faults}
 use Rattle.bind.proofs.ColumnNames.{folded_twice}
 use Rattle.wal.specs.Laws.{IsAmong, IsNotAmong}
-use Rattle.wal.specs.Opening.{IsServedSize}
+use Rattle.wal.specs.Sizes.{IsSizeWithinLimits}
 use Rattle.wal.specs.Pages.{ArePages}
 use Rattle.wal.specs.declared.log.Log.{Log}
 use Rattle.wal.specs.declared.log.Snapshot.{Snapshot}
@@ -40,14 +40,14 @@ use Rattle.trigger.specs.Binding.{IsFault}
 use Rattle.trigger.specs.Effects.{change}
 use Rattle.trigger.specs.Laws.{BindsAlone, InsertAddsRows, InsertIsRefused, InsertOfNoneStays}
 use Rattle.pager.specs.Limits.{page_size_of, pages_of}
-use Rattle.pager.specs.Views.{Has, IsPage, View, changes_of, view_at, view_of}
-use Rattle.pager.specs.Writers.{IsWhole, Puts, seen, snapshot_of}
+use Rattle.pager.specs.Views.{ViewHas, IsViewPage, View, changes_of, view_at, view_of}
+use Rattle.pager.specs.Writers.{IsConsistent, ReplacesPages, seen, snapshot_of}
 use Rattle.pager.specs.declared.writer.Writer.{Writer}
 use Rattle.session.specs.Outcomes.{of_answer}
-use Rattle.session.specs.Shown.{IsWriter}
+use Rattle.session.specs.Representation.{IsWriter}
 use Rattle.session.specs.Schema.{AreRowsOf}
 use Rattle.session.specs.Stored.{IsStored, Stores}
-use Rattle.session.specs.Working.{Reaches, RefusesWith, work_of}
+use Rattle.session.specs.Applying.{Reaches, RefusesWith, change_made}
 use Rattle.session.specs.declared.transactions.Transaction.TheVariants as transaction
 use Rattle.session.proofs.SeenPages.{at_newest, below_shown}
 
@@ -59,15 +59,15 @@ among_len (p ∷ ps) last size bytes number b are (inl here) = ap length here.1 
 among_len (p ∷ ps) last size bytes number b are (inr among) = among_len ps p.number size bytes number b are.3 among
 
 -- a changed page is as long as a page is
-pub changed_len : (w : Writer) (number : ℕ) (bytes : List ℕ) → IsWhole w → IsAmong (changes_of w) number bytes → length bytes ≡ page_size_of w
+pub changed_len : (w : Writer) (number : ℕ) (bytes : List ℕ) → IsConsistent w → IsAmong (changes_of w) number bytes → length bytes ≡ page_size_of w
 changed_len w number bytes whole among = among_len (changes_of w) 0 (pages_of w) (page_size_of w) number bytes whole.pages among
 
 module _ {D : Type 0} {g : Ghosts D} where
   -- a page that a writer sees and hasn't changed is its snapshot's
   pub page_below : (files : Log D g) (w : Writer) (s : Snapshot) (number : ℕ) (bytes : List ℕ) → s ≡ snapshot_of w → IsWriter files w → IsNotAmong (changes_of w) number
-      → ((view : View) (bytes : List ℕ) → Has (seen view w) number bytes ↔ Has view number bytes) → IsPage (view_of files w) number bytes → IsPage (view_at files s) number bytes
+      → ((view : View) (bytes : List ℕ) → ViewHas (seen view w) number bytes ↔ ViewHas view number bytes) → IsViewPage (view_of files w) number bytes → IsViewPage (view_at files s) number bytes
   page_below files w s number bytes is stands none same page =
-      subst (λ (v : View). IsPage v number bytes) (sym (ap (view_at files) is ∙ at_newest files (snapshot_of w) stands.newest)) (below_shown files (transaction.Writing w) w number refl stands none same bytes page)
+      subst (λ (v : View). IsViewPage v number bytes) (sym (ap (view_at files) is ∙ at_newest files (snapshot_of w) stands.newest)) (below_shown files (transaction.Writing w) w number refl stands none same bytes page)
 
 -- a page that isn't read
 pub unread : {X : Type 0} (r : Result X Fault) (f : Fault) (R : Fault → Type 0) → IsErrAnd r (λ e. e ≡ f) → (f ≡ fault.Memory) ⊎ (f ≡ fault.Io) → ((e : Fault) → e ≡ fault.Memory → R e) → IfErr r (λ e. (e ≡ fault.Io) ⊎ R e)
@@ -75,7 +75,7 @@ unread (Ok x) f R is why short = tt
 unread (Err e) f R is (inl memory) short = inr (short e (is ∙ memory))
 unread (Err e) f R is (inr io) short = inl (is ∙ io)
 
--- ---- the pages behind it
+-- ---- the pages after it
 
 itself : (n : ℕ) → (n == n) ≡ true
 itself n = grind (arith, nat_tests)
@@ -99,7 +99,7 @@ same_some t u e = cc
 named_as : (tables : List Table) (a b : Name) → folded a ≡ folded b → table_named a tables ≡ table_named b tables
 named_as tables a b e = ap (λ n. find (λ t. bytes_eq (folded t.name) n) tables) e
 
-pub stores_put : (view : View) (old new : Writer) (tables : List Table) (db made : Database) (page : PageImage) (name : Name) (t : Table) (added : List TableRow) (held : Stores (seen view old) tables db) → Puts (page ∷ []) old new
+pub stores_put : (view : View) (old new : Writer) (tables : List Table) (db made : Database) (page : PageImage) (name : Name) (t : Table) (added : List TableRow) (held : Stores (seen view old) tables db) → ReplacesPages (page ∷ []) old new
     → table_named name tables ≡ Some t → page.number ≡ t.root → Holds page.bytes.items t.root (length t.columns.items) (held.rows_at t.root ++ added)
     → Lists (rows_with held.rows_at t.root (held.rows_at t.root ++ added)) tables made → has_only_tables made ≡ true → Stores (seen view new) tables made
 stores_put view old new tables db made page name t added held puts named at holds lists only = record {
@@ -116,10 +116,10 @@ stores_put view old new tables db made page name t added held puts named at hold
     header_is = held.first.header_is;
     sized = held.first.sized;
     rows = held.first.rows;
-    lone = held.first.lone;
+    single_leaf = held.first.single_leaf;
     tell = subst (λ (n : ℕ). AreRowsOf n [] tables held.first.rows) (sym size) held.first.tell;
   };
-  served = subst (IsServedSize view.page_size) (sym size) held.served;
+  served = subst (IsSizeWithinLimits view.page_size) (sym size) held.served;
 }
   where
     it : IsStored (seen view old) held.rows_at t
@@ -128,7 +128,7 @@ stores_put view old new tables db made page name t added held puts named at hold
     size : pages_of new ≡ pages_of old
     size = puts.size ∙ max-eq_left (omega (arith, at, it.there.last))
 
-    still : (number : ℕ) (bytes : List ℕ) → (page.number ≡ number → ⊥) → IsPage (seen view old) number bytes → IsPage (seen view new) number bytes
+    still : (number : ℕ) (bytes : List ℕ) → (page.number ≡ number → ⊥) → IsViewPage (seen view old) number bytes → IsViewPage (seen view new) number bytes
     still number bytes other p = record { first = p.first; last = omega (arith, p.last, size); has = (puts.sees view number bytes).1 (inr ((other, tt), p.has)) }
 
     put : IsStored (seen view new) (rows_with held.rows_at t.root (held.rows_at t.root ++ added)) t
@@ -175,7 +175,7 @@ listed_table rows_at tables db name t lists named =
 
 -- binding it isn't refused
 pub not_refused : Laws → (db : Database) (i : Insert) (what : Resolved) → has_only_tables db ≡ true → resolve_change db no_outer (kind.Insert i) ≡ Meant what [] → (r : Refusal) → IsFault db (kind.Insert i) r → ⊥
-not_refused laws db i what only stands r is = nothing (subst (λ (k : Known Resolved). Contains (faults k) r) stands ((laws.binds db (kind.Insert i) r only).0 is))
+not_refused laws db i what only stands r is = nothing (subst (λ (k : Checked Resolved). Contains (faults k) r) stands ((laws.binds db (kind.Insert i) r only).0 is))
   where
     nothing : Contains [] r → ⊥
     nothing has = absurd (omega (arith, has.1))
@@ -254,10 +254,10 @@ module _ (laws : Laws) (view : View) (tables : List Table) (db : Database) (held
         only = laws.tables db (folded i.table) (plain_table t (held.rows_at t.root ++ added)) held.only;
       }
 
-  pub reaches : (made : Database) → change db (kind.Insert i) ≡ Ok made → Reaches (work_of (statement.Change (kind.Insert i)) db) made
+  pub reaches : (made : Database) → change db (kind.Insert i) ≡ Ok made → Reaches (change_made (statement.Change (kind.Insert i)) db) made
   reaches made e = (not_refused laws db i _ held.only is.stands, subst (λ (a : Answer Database). Reaches (of_answer a) made) (sym e) refl)
 
-  pub refused : (f : Fault) → IsRefusedAs (rows_added t.columns.items places (last_rowid (held.rows_at t.root)) given) f → RefusesWith (work_of (statement.Change (kind.Insert i)) db) (refusal_of f)
+  pub refused : (f : Fault) → IsRefusedAs (rows_added t.columns.items places (last_rowid (held.rows_at t.root)) given) f → RefusesWith (change_made (statement.Change (kind.Insert i)) db) (refusal_of f)
   refused f (what, e) = inr (not_refused laws db i _ held.only is.stands, subst (λ (a : Answer Database). RefusesWith (of_answer a) (refusal_of f)) (sym (by (some_or_none given))) (as_answer what))
     where
       by : (given ≡ []) ⊎ (1 ≤ length given) → change db (kind.Insert i) ≡ Err (refusal_of f)

@@ -5,18 +5,18 @@ pub mod Replies
 pub mod SchemaTable
 mod SchemaRows
 pub mod Besides
-pub mod Whys
+pub mod ErrorCauses
 pub mod Settled
 pub mod Stepping
 pub mod Showing
 pub mod Selecting
 pub mod SeenPages
 pub mod Beginning
-pub mod Working
+pub mod Applying
 pub mod Writing
 pub mod Creating
 pub mod Committing
-pub mod CommitStops
+pub mod CommitCrashes
 pub mod CommitSteps
 pub mod Inserting
 pub mod InsertWorks
@@ -24,3 +24,4 @@ pub mod Executing
 pub mod Fresh
 pub mod Telling
 pub mod SameTables
+pub mod StatementCauses

@@ -8,7 +8,7 @@ use Rattle.syntax.specs.declared.statement.BeginMode.TheVariants as begins
 use Rattle.syntax.specs.declared.statement.Statement.{Statement}
 use Rattle.syntax.specs.declared.statement.Statement.TheVariants as statement
 use Rattle.catalog.specs.Database.{Database}
-use Rattle.bind.specs.Known.{Known, Meant}
+use Rattle.bind.specs.Checked.{Checked, Meant}
 use Rattle.session.specs.Laws.{RefusalsAddNothing, TextRefusalsAddNothing}
 use Rattle.session.specs.Machine.{is_writing, another, newest, committed, last_place, Machine, Connection, Idle, InTransactionOf, Phase, NoSnapshot, Reads, Writes, SavepointState, Reply, Rows, Refused, connection}
 use Rattle.session.specs.Outcomes.{Outcome, Gives, RefusedBy, Ends, Commits, Copies, Bound, Work, Makes, IsRefused, Undoes, Binds, outcome, Sort, Querying, Writing, Controlling, sort, sorted_outcome, begun, control, write_outcome, read_outcome, given, worked, worked_alone, unless_busy, commit_outcome, released, restored, saved, from_name}
@@ -20,7 +20,7 @@ Keeps m (Ends r m') = m'.history ≡ m.history
 Keeps m (Bound db ch o) = Keeps m o
 Keeps m _ = Unit {0}
 
-given_keeps : (m m' : Machine) (a : Known (Answer (List (List Value)))) → Keeps m (given m' a)
+given_keeps : (m m' : Machine) (a : Checked (Answer (List (List Value)))) → Keeps m (given m' a)
 given_keeps m m' (Meant a (r ∷ rs)) = tt
 given_keeps m m' (Meant (Err r) []) = tt
 given_keeps m m' (Meant (Ok rows) []) = tt

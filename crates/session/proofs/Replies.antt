@@ -13,7 +13,7 @@ use Rattle.session.specs.Machine.{Machine, Reply, Rows, Refused}
 use Rattle.session.specs.Outcomes.{Outcome, Gives, RefusedBy, Ends, Commits, Bound, outcome}
 use Rattle.session.specs.Steps.{after_commit}
 
--- the machine behind an outcome, where the triggers' programs are bound without refusal
+-- the machine after an outcome, where the triggers' programs are bound without refusal
 abbrev pub after : Machine → ℕ → Outcome → Machine
 after m c (Gives rows new) = new
 after m c (RefusedBy rs) = m

@@ -11,7 +11,7 @@ use Rattle.catalog.specs.declared.tables.Column.{Column}
 use Rattle.catalog.specs.declared.tables.Table.{Table}
 use Rattle.bind.specs.Bound.{is_twice_named}
 use Rattle.rowprog.specs.Rows.{Holds, TableRow}
-use Rattle.pager.specs.Views.{View, IsPage}
+use Rattle.pager.specs.Views.{View, IsViewPage}
 use Rattle.session.specs.NewTables.{schema_row}
 use Rattle.session.specs.Schema.{AreRowsOf, AreSameTables, IsRowOf, IsSameTable}
 use Rattle.session.specs.Stored.{IsStored, Stores}
@@ -71,7 +71,7 @@ same_row pages before others t u row same is tells = record {
   sql = tells.sql;
   definition = tells.definition;
   creates = tells.creates;
-  built = tells.built;
+  supported_forms = tells.supported_forms;
   made = record {
     fresh = record {
       free = tells.made.fresh.free;
@@ -115,7 +115,7 @@ module _ (rows_at : ℕ → List TableRow) where
   same_stored view t u same it = record {
     page = it.page;
     above = omega (arith, same.root_is, it.above);
-    there = subst (λ (n : ℕ). IsPage view n it.page) (sym same.root_is) it.there;
+    there = subst (λ (n : ℕ). IsViewPage view n it.page) (sym same.root_is) it.there;
     holds = subst (λ (cs : List Column). Holds it.page u.root (length cs) (rows_at u.root)) (sym same.columns_are)
         (subst (λ (n : ℕ). Holds it.page n (length t.columns.items) (rows_at n)) (sym same.root_is) it.holds);
   }
@@ -135,7 +135,7 @@ stores_same view ts us db same held = record {
     header_is = held.first.header_is;
     sized = held.first.sized;
     rows = held.first.rows;
-    lone = held.first.lone;
+    single_leaf = held.first.single_leaf;
     tell = same_rows view.size [] [] ts us held.first.rows tt same held.first.tell;
   };
   served = held.served;

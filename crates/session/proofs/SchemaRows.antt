@@ -1,6 +1,6 @@
 -- Worked examples of CREATE, DROP and constraints.
 use Rattle.std.specs.Prelude.{◌≡◌, refl, true, codes, None, List, [], ◌∷◌}
-use Rattle.sqlval.specs.Affinity.{is_number, behind_digits, ends_number, ends_exponent}
+use Rattle.sqlval.specs.Affinity.{is_number, rest_after_digits, ends_number, ends_exponent}
 use Rattle.sqlval.specs.Refusals.{NotNull, Check, Unique, Misuse, NoSuch, Exists, Unsupported, RowidFull, RowidMismatch, RealRefused}
 use Rattle.sqlval.specs.declared.value.Value.TheVariants.{Text}
 use Rattle.syntax.specs.Tree.{Tree, Call, Binary, End, More}
@@ -40,12 +40,12 @@ folded_keys = refl
 
 pub own_rowid : replies (fresh []) ((1, create_table t (column_with (codes "id") (codes "integer" ∷ []) (column.PrimaryKey ∷ []) ∷ [])) ∷ (1, add (number 9223372036854775807 ∷ [])) ∷ (1, add (null ∷ [])) ∷ (1, add (text (codes "x") ∷ [])) ∷ [])
     ≡ ok ∷ ok ∷ Refused RowidFull ∷ Refused RowidMismatch ∷ []
-unfolding outcome is_number behind_digits ends_number ends_exponent
+unfolding outcome is_number rest_after_digits ends_number ends_exponent
 own_rowid = refl
 
 pub converted : replies (fresh []) ((1, create_table t (column_with a (codes "INTEGER" ∷ []) [] ∷ [])) ∷ (1, add (text (codes "12") ∷ [])) ∷ (1, add (text (codes "3.5") ∷ [])) ∷ (1, add (text (codes "x") ∷ [])) ∷ (1, add (number 9223372036854775808 ∷ [])) ∷ (1, selecting (named a ∷ Call (codes "typeof") (More (named a) End) ∷ []) t) ∷ [])
     ≡ ok ∷ ok ∷ Refused RealRefused ∷ ok ∷ Refused RealRefused ∷ Rows ((int 12 ∷ Text (codes "integer") ∷ []) ∷ (Text (codes "x") ∷ Text (codes "text") ∷ []) ∷ []) ∷ []
-unfolding outcome is_number behind_digits ends_number ends_exponent
+unfolding outcome is_number rest_after_digits ends_number ends_exponent
 converted = refl
 
 pub names : replies (fresh []) ((1, create_table t (column_with a [] [] ∷ column_with (codes "A") [] [] ∷ [])) ∷ (1, create_table t (column_with a (codes "real" ∷ []) [] ∷ [])) ∷ (1, create_table t (column_with a [] [] ∷ [])) ∷ (1, create_table (codes "T") (column_with a [] [] ∷ []))

@@ -1,4 +1,4 @@
--- A row behind those of the schema table.
+-- A row after those of the schema table.
 use Rattle.std.proofs.Common.{◌≡◌, ◌⊎◌, inl, inr, ℕ, zero, suc, ℤ, pos, ◌+ℤ◌, ◌<ℤ◌, ◌+◌, ◌-◌, ◌<◌, ◌≤◌, true, List, [], ◌∷◌, ◌++◌, Option, Some, None, length, slice_index_or, Result, Ok, Err, refl, sym, ap, subst, ◌∙◌, arith}
 use Rattle.std.specs.Prelude.{IfOk, IfErr, IfSome, IsNone, MatchOption, FitsSigned, option_map, is_some}
 use Rattle.std.specs.Int.{w64}
@@ -14,13 +14,13 @@ use Rattle.record.specs.Writing.{AreStorable, record_of}
 use Rattle.page.specs.Leaf.{Entry, IsTableLeaf}
 use Rattle.page.specs.Writing.{Fits}
 use Rattle.tabletree.specs.Cells.{start_of}
-use Rattle.tabletree.specs.Lone.{AreRising, IsLeafRefusal, IsLone, IsTooFull}
+use Rattle.tabletree.specs.SingleLeaf.{AreRising, IsLeafRefusal, IsSingleLeaf, IsTooFull}
 use Rattle.syntax.specs.declared.create.TableDefinition.{TableDefinition}
 use Rattle.catalog.specs.Database.{Name}
 use Rattle.catalog.specs.Listed.{table_named}
 use Rattle.catalog.specs.declared.tables.Table.{Table}
 use Rattle.bind.specs.Creating.{IsCreateRefusal}
-use Rattle.session.specs.NewTables.{HasRoomBehind, IsListedBehind, IsListingFault, IsNextRowid}
+use Rattle.session.specs.NewTables.{HasRoomAfter, IsListedAfter, IsListingFault, IsNextRowid}
 
 -- there is one next rowid
 next_once : (entries : List Entry) (a b : ℤ) → IsNextRowid entries a → IsNextRowid entries b → a ≡ b
@@ -78,31 +78,31 @@ rises_behind entries e rises next i d le lt = by_place (nat_cases i (length entr
 -- ---- page 1
 
 abbrev Only : List ℕ → List Entry → Type 0
-Only page held = (entries : List Entry) → IsLone page 1 entries → held ≡ entries
+Only page held = (entries : List Entry) → IsSingleLeaf page 1 entries → held ≡ entries
 
 module _ (page : List ℕ) (values : List Value) (held : List Entry) (only : Only page held) (e : Entry) (next : IsNextRowid held e.rowid) where
   pub listed_behind : {X : Type 0} (view : X → List ℕ) (r : Result X Fault) → IsRecord e.payload values
-      → IfOk r (λ new. (entries : List Entry) → IsLone page 1 entries → IsTableLeaf (view new) (start_of 1) (entries ++ e ∷ []))
-      → IfOk r (λ new. (entries : List Entry) → IsLone page 1 entries → IsListedBehind (view new) entries values)
+      → IfOk r (λ new. (entries : List Entry) → IsSingleLeaf page 1 entries → IsTableLeaf (view new) (start_of 1) (entries ++ e ∷ []))
+      → IfOk r (λ new. (entries : List Entry) → IsSingleLeaf page 1 entries → IsListedAfter (view new) entries values)
   listed_behind view (Err fault) is leaf = tt
-  listed_behind view (Ok new) is leaf = λ entries lone. record {
+  listed_behind view (Ok new) is leaf = λ entries single_leaf. record {
     entry = e;
     is = is;
-    lone = record { leaf = leaf entries lone; rising = rises_behind entries e lone.rising (subst (λ entries. IsNextRowid entries e.rowid) (only entries lone) next) };
+    single_leaf = record { leaf = leaf entries single_leaf; rising = rises_behind entries e single_leaf.rising (subst (λ entries. IsNextRowid entries e.rowid) (only entries single_leaf) next) };
   }
 
   pub no_space : {X : Type 0} (r : Result X Fault) → e.payload ≡ record_of values
-      → IfErr r (λ fault. (entries : List Entry) → IsLone page 1 entries → (fault ≡ f.Memory) ⊎ IsTooFull page 1 (e ∷ []) fault)
-      → IfErr r (λ fault. (entries : List Entry) → IsLone page 1 entries → IsListingFault (length page) entries values fault)
+      → IfErr r (λ fault. (entries : List Entry) → IsSingleLeaf page 1 entries → (fault ≡ f.Memory) ⊎ IsTooFull page 1 (e ∷ []) fault)
+      → IfErr r (λ fault. (entries : List Entry) → IsSingleLeaf page 1 entries → IsListingFault (length page) entries values fault)
   no_space (Ok new) is why = tt
-  no_space (Err fault) is why = λ entries lone. elim (why entries lone) [
+  no_space (Err fault) is why = λ entries single_leaf. elim (why entries single_leaf) [
     | inl h ↦ inl h
-    | inr h ↦ inr (h.0, λ room. h.1 entries lone (subst (λ x. Fits (length page) (start_of 1) (entries ++ x ∷ [])) (same entries lone room) room.fits))
+    | inr h ↦ inr (h.0, λ room. h.1 entries single_leaf (subst (λ x. Fits (length page) (start_of 1) (entries ++ x ∷ [])) (same entries single_leaf room) room.fits))
   ]
     where
-      same : (entries : List Entry) (lone : IsLone page 1 entries) (room : HasRoomBehind (length page) entries values) → record { rowid = room.rowid; payload = record_of values } ≡ e
-      same entries lone room =
-          let h = next_once entries room.rowid e.rowid room.next (subst (λ entries. IsNextRowid entries e.rowid) (only entries lone) next) in
+      same : (entries : List Entry) (single_leaf : IsSingleLeaf page 1 entries) (room : HasRoomAfter (length page) entries values) → record { rowid = room.rowid; payload = record_of values } ≡ e
+      same entries single_leaf room =
+          let h = next_once entries room.rowid e.rowid room.next (subst (λ entries. IsNextRowid entries e.rowid) (only entries single_leaf) next) in
           λ i. record { rowid = h i; payload = sym is i }
 
 -- why the record or the rowid is missing
@@ -111,8 +111,8 @@ no_record page_size entries values fault (inl h) = inl h
 no_record page_size entries values fault (inr h) = inr (h.0, λ room. h.1 room.storable)
 
 pub no_rowid : (page : List ℕ) (held : List Entry) (values : List Value) (fault : Fault) → Only page held → (fault ≡ f.Unsupported RowSize) × ((rowid : ℤ) → IsNextRowid held rowid → FitsSigned w64 rowid → ⊥)
-    → (entries : List Entry) → IsLone page 1 entries → IsListingFault (length page) entries values fault
-no_rowid page held values fault only h entries lone = inr (h.0, λ room. h.1 room.rowid (subst (λ entries. IsNextRowid entries room.rowid) (sym (only entries lone)) room.next) room.word)
+    → (entries : List Entry) → IsSingleLeaf page 1 entries → IsListingFault (length page) entries values fault
+no_rowid page held values fault only h entries single_leaf = inr (h.0, λ room. h.1 room.rowid (subst (λ entries. IsNextRowid entries room.rowid) (sym (only entries single_leaf)) room.next) room.word)
 
 -- the rowid that comes next, and why none does
 pub is_next : (held : List Entry) (last : Option ℤ) (rowid : ℤ) → MatchOption last (rowid ≡ pos 1) (λ before. rowid ≡ before +ℤ pos 1) → (IsNone last → length held ≡ 0)
@@ -138,7 +138,7 @@ pub none_behind : (held : List Entry) (last : Option ℤ) (r : Result ℤ Fault)
 none_behind held last (Ok n) fault e full some = absurd cc
 none_behind held last (Err x) fault e full some = no_next held last full.1 some
 
--- a page that is such a leaf is refused for want of memory alone
+-- a page that is such a leaf is refused when out of memory alone
 pub over_fault : (rows : List Entry) (fault : Fault) → (fault ≡ f.Memory) ⊎ IsLeafRefusal 1 fault → Refuses fault (Ok rows) → fault ≡ f.Memory
 over_fault rows fault (inl h) r = h
 over_fault rows fault (inr (inl h)) r = let e = subst (λ x. Refuses x (Ok rows)) h r in absurd cc

@@ -6,6 +6,7 @@ use Rattle.disk.specs.declared.device.Disk.{Ghosts}
 use Rattle.sqlval.specs.Refusals as refusal
 use Rattle.sqlval.specs.Refusals.{Answer, Refusal, refusal_of}
 use Rattle.sqlval.specs.declared.fault.Fault.{Fault}
+use Rattle.sqlval.specs.declared.fault.Fault.TheVariants as fault
 use Rattle.sqlval.specs.declared.value.Value.{Value}
 use Rattle.syntax.specs.declared.query.Query.{Query}
 use Rattle.syntax.specs.declared.statement.Statement.TheVariants as statement
@@ -14,40 +15,74 @@ use Rattle.catalog.specs.Listed.{committed_in, tables_of}
 use Rattle.catalog.specs.declared.tables.Catalog.{Catalog}
 use Rattle.catalog.specs.declared.tables.Table.{Table}
 use Rattle.bind.specs.Bound.{IsFaultOf}
-use Rattle.bind.specs.Known.{Known, Meant, faults}
+use Rattle.bind.specs.Checked.{Checked, Meant, faults}
 use Rattle.syntax.specs.declared.query.FromClause.{FromClause}
 use Rattle.bind.specs.Bound.{IsSource}
 use Rattle.bind.specs.declared.queries.BoundSource.{BoundSource}
 use Rattle.rowprog.specs.Rows.{Holds, TableRow, scan_of}
 use Rattle.rowprog.specs.declared.plan.Scan.TheVariants as scan
-use Rattle.pager.specs.Views.{IsPage, View, newest_view}
-use Rattle.session.specs.Built.{StepSoFar, is_query_built}
+use Rattle.pager.specs.Views.{IsViewPage, View, newest_view}
+use Rattle.session.specs.Supported.{StepSoFar, is_query_supported}
 use Rattle.session.specs.Holding.{HoldThroughout}
-use Rattle.session.specs.Known.{files_of}
+use Rattle.session.specs.ConnectionState.{files_of}
 use Rattle.session.specs.Machine.{Machine, Idle, InTransactionOf, NoSnapshot, Reads, Writes, Rows, Refused, last_place, newest, with_connection}
-use Rattle.session.specs.Outcomes.{given, outcome, read_on}
+use Rattle.session.specs.Outcomes.{answered, given, outcome, read_on}
 use Rattle.session.specs.Steps.{Allowed, Instead}
-use Rattle.session.specs.Stops.{MayShow}
+use Rattle.session.specs.Crashes.{MayShow}
 use Rattle.session.specs.Stored.{Stores}
-use Rattle.session.specs.Shown.{AnswersOrFails, AnswersRead, AreCommitted, FindsNoRoom, IsShown, IsTransaction, OnlyReads, ShowTheSame, StartsReading, StepsOn, StepsTo, is_begun, rows_reply, seen_in}
+use Rattle.session.specs.Representation.{AnswersOrFails, AnswersRead, AreCommitted, FindsNoRoom, RepresentsRunning, IsTransaction, OnlyReads, ShowTheSame, StartsReading, StepsOn, StepsTo, is_begun, rows_reply, seen_in}
 use Rattle.session.specs.declared.transactions.Connections.{Connections}
 use Rattle.session.specs.declared.transactions.Transaction.{Transaction}
 use Rattle.session.specs.declared.transactions.Transaction.TheVariants as transaction
 use Rattle.session.proofs.SeenPages.{Rowed}
-use Rattle.session.proofs.Settled.{stop_still}
+use Rattle.session.proofs.Settled.{crash_keeps}
 use Rattle.session.proofs.Showing.{moved, still_newest, still_shown, the_same}
 use Rattle.session.proofs.Stepping.{by_outcome, first_is, instead, select_outcome}
 
 -- ---- what a query comes to
 
 abbrev Reading : Type 0
-Reading = Known (Answer (List (List Value)))
+Reading = Checked (Answer (List (List Value)))
 
 pub given_rows : (m next : Machine) (rows : List (List Value)) (k : Reading) → k ≡ Meant (Ok rows) [] → Allowed m 1 (given next k) (Rows rows) next
 given_rows m next rows k is = subst (λ (x : Reading). Allowed m 1 (given next x) (Rows rows) next) (sym is) (refl, refl)
 
-pub given_refusal : (m next : Machine) (r : Refusal) (k : Reading) → k ≡ Meant (Err r) [] → Allowed m 1 (given next k) (Refused r) m
-given_refusal m next r k is = subst (λ (x : Reading). Allowed m 1 (given next x) (Refused r) m) (sym is) (r, (0, omega arith, refl), refl, refl)
+-- a fault is answered as it is
+pub fault_answered : (f : Fault) → answered (refusal_of f) ≡ refusal_of f
+fault_answered fault.Memory = refl
+fault_answered fault.Io = refl
+fault_answered fault.NotADatabase = refl
+fault_answered (fault.Unsupported feature) = refl
+fault_answered (fault.Damaged damage page) = refl
+fault_answered fault.Full = refl
+fault_answered (fault.Syntax place) = refl
+fault_answered (fault.NoSuch kind name) = refl
+fault_answered (fault.Exists name) = refl
+fault_answered (fault.Ambiguous name) = refl
+fault_answered (fault.Misuse misuse) = refl
+fault_answered fault.Busy = refl
+fault_answered fault.StaleSnapshot = refl
+fault_answered fault.NoTransaction = refl
+fault_answered fault.InTransaction = refl
+fault_answered fault.NoSavepoint = refl
+fault_answered fault.NotNull = refl
+fault_answered fault.Unique = refl
+fault_answered fault.Check = refl
+fault_answered (fault.Raised text) = refl
+fault_answered fault.RealRefused = refl
+fault_answered fault.TypeRefused = refl
+fault_answered fault.RowidFull = refl
+fault_answered fault.RowidMismatch = refl
+fault_answered fault.TooLong = refl
+fault_answered fault.RowChangedBefore = refl
+fault_answered fault.ViewReadOnly = refl
+fault_answered fault.Failed = refl
+fault_answered fault.Blank = refl
+
+pub given_refusal : (m next : Machine) (f : Fault) (k : Reading) → k ≡ Meant (Err (refusal_of f)) [] → Allowed m 1 (given next k) (Refused (refusal_of f)) m
+given_refusal m next f k is =
+    subst (λ (x : Reading). Allowed m 1 (given next x) (Refused (refusal_of f)) m) (sym is)
+    (answered (refusal_of f), (0, omega arith, refl), ap (λ (r : Refusal). Refused r) (sym (fault_answered f)), refl)
 
 pub given_fault : (m next : Machine) (r : Refusal) (k : Reading) → Contains (faults k) r → Allowed m 1 (given next k) (Refused r) m
 given_fault m next r (Meant a []) has = absurd (omega (arith, has.1))
@@ -71,10 +106,10 @@ module _ {D : Type 0} {g : Ghosts D} where
     pub next : Machine
     pub is : (q : Query) → outcome m 1 (statement.Select q) ≡ given next (read_on db q)
 
-  pub all_listed : (c : Connections D g) (m : Machine) → IsShown c m → committed_in c.catalog ≡ length (tables_of c.catalog) → Stores (newest_view (files_of c)) (tables_of c.catalog) (newest m)
+  pub all_listed : (c : Connections D g) (m : Machine) → RepresentsRunning c m → committed_in c.catalog ≡ length (tables_of c.catalog) → Stores (newest_view (files_of c)) (tables_of c.catalog) (newest m)
   all_listed c m shown all = subst (λ (ts : List Table). Stores (newest_view (files_of c)) ts (newest m)) (take_all (committed_in c.catalog) (tables_of c.catalog) (omega (arith, all))) shown.stored
 
-  pub sees_by : (c : Connections D g) (m : Machine) (shown : IsShown c m) (t : Transaction) → c.transaction ≡ t → IsTransaction (files_of c) c.catalog (last_place m) t shown.first → Sees c m
+  pub sees_by : (c : Connections D g) (m : Machine) (shown : RepresentsRunning c m) (t : Transaction) → c.transaction ≡ t → IsTransaction (files_of c) c.catalog (last_place m) t shown.first → Sees c m
   sees_by c m shown transaction.Idle is first = record {
     db = newest m;
     stored = subst (λ (t : Transaction). Stores (seen_in t (files_of c)) (tables_of c.catalog) (newest m)) (sym is) (all_listed c m shown first.1);
@@ -100,55 +135,55 @@ module _ {D : Type 0} {g : Ghosts D} where
     is = λ q. select_outcome q m (InTransactionOf false [] (Writes (last_place m) first.0)) (first_is m shown.first shown.others shown.connections ∙ first.1);
   }
 
-  pub sees : (c : Connections D g) (m : Machine) → IsShown c m → Sees c m
+  pub sees : (c : Connections D g) (m : Machine) → RepresentsRunning c m → Sees c m
   sees c m shown = sees_by c m shown c.transaction refl shown.transaction
 
   -- ---- a call that answered
 
-  select_step : (c : Connections D g) (m : Machine) (shown : IsShown c m) (q : Query) (f : Fault) → is_query_built q ≡ true → (s : Sees c m) → AnswersRead (read_on s.db q) (Err f) → StepSoFar (FindsNoRoom c (statement.Select q)) m 1 (statement.Select q) (Refused (refusal_of f)) m
-  select_step c m shown q f built s (inl memory) = subst (λ (e : Fault). StepSoFar (FindsNoRoom c (statement.Select q)) m 1 (statement.Select q) (Refused (refusal_of e)) m) (sym memory)
-      (instead (FindsNoRoom c (statement.Select q)) m (statement.Select q) built shown.running _ (Refused refusal.Memory) (s.is q) (given_memory m s.next (read_on s.db q)))
-  select_step c m shown q f built s (inr (inl io)) = subst (λ (e : Fault). StepSoFar (FindsNoRoom c (statement.Select q)) m 1 (statement.Select q) (Refused (refusal_of e)) m) (sym io)
-      (instead (FindsNoRoom c (statement.Select q)) m (statement.Select q) built shown.running _ (Refused refusal.Io) (s.is q) (given_io m s.next (read_on s.db q)))
-  select_step c m shown q f built s (inr (inr (inl has))) =
-      by_outcome (FindsNoRoom c (statement.Select q)) m (statement.Select q) built shown.running _ (Refused (refusal_of f)) m (s.is q) (given_fault m s.next (refusal_of f) (read_on s.db q) has)
-  select_step c m shown q f built s (inr (inr (inr refused))) =
-      by_outcome (FindsNoRoom c (statement.Select q)) m (statement.Select q) built shown.running _ (Refused (refusal_of f)) m (s.is q) (given_refusal m s.next (refusal_of f) (read_on s.db q) refused)
+  select_step : (c : Connections D g) (m : Machine) (shown : RepresentsRunning c m) (q : Query) (f : Fault) → is_query_supported q ≡ true → (s : Sees c m) → AnswersRead (read_on s.db q) (Err f) → StepSoFar (FindsNoRoom c (statement.Select q)) m 1 (statement.Select q) (Refused (refusal_of f)) m
+  select_step c m shown q f supported_forms s (inl memory) = subst (λ (e : Fault). StepSoFar (FindsNoRoom c (statement.Select q)) m 1 (statement.Select q) (Refused (refusal_of e)) m) (sym memory)
+      (instead (FindsNoRoom c (statement.Select q)) m (statement.Select q) supported_forms shown.running _ (Refused refusal.Memory) (s.is q) (given_memory m s.next (read_on s.db q)))
+  select_step c m shown q f supported_forms s (inr (inl io)) = subst (λ (e : Fault). StepSoFar (FindsNoRoom c (statement.Select q)) m 1 (statement.Select q) (Refused (refusal_of e)) m) (sym io)
+      (instead (FindsNoRoom c (statement.Select q)) m (statement.Select q) supported_forms shown.running _ (Refused refusal.Io) (s.is q) (given_io m s.next (read_on s.db q)))
+  select_step c m shown q f supported_forms s (inr (inr (inl has))) =
+      by_outcome (FindsNoRoom c (statement.Select q)) m (statement.Select q) supported_forms shown.running _ (Refused (refusal_of f)) m (s.is q) (given_fault m s.next (refusal_of f) (read_on s.db q) has)
+  select_step c m shown q f supported_forms s (inr (inr (inr refused))) =
+      by_outcome (FindsNoRoom c (statement.Select q)) m (statement.Select q) supported_forms shown.running _ (Refused (refusal_of f)) m (s.is q) (given_refusal m s.next f (read_on s.db q) refused)
 
   -- a refused SELECT
-  pub select_refused : (old new : Connections D g) (q : Query) (f : Fault) → is_query_built q ≡ true → OnlyReads old new
-      → ((m : Machine) (db : Database) → IsShown old m → Stores (seen_in old.transaction (files_of old)) (tables_of old.catalog) db → AnswersRead (read_on db q) (Err f)) → StepsOn old (statement.Select q) (Refused (refusal_of f)) new
-  select_refused old new q f built reads answered m shown =
+  pub select_refused : (old new : Connections D g) (q : Query) (f : Fault) → is_query_supported q ≡ true → OnlyReads old new
+      → ((m : Machine) (db : Database) → RepresentsRunning old m → Stores (seen_in old.transaction (files_of old)) (tables_of old.catalog) db → AnswersRead (read_on db q) (Err f)) → StepsOn old (statement.Select q) (Refused (refusal_of f)) new
+  select_refused old new q f supported_forms reads answered m shown =
       let s = sees old m shown in
       record {
         next = m;
-        step = select_step old m shown q f built s (answered m s.db shown s.stored);
+        step = select_step old m shown q f supported_forms s (answered m s.db shown s.stored);
         shown = inr (still_shown old new m shown (reads.files shown.told) reads.failed reads.catalog reads.transaction);
-        stop = stop_still old new m m shown (reads.files shown.told);
+        crash = crash_keeps old new m m shown (reads.files shown.told);
       }
 
   -- a SELECT that gives rows
-  pub select_gives : (old mid new : Connections D g) (q : Query) (rows : List (List Value)) → is_query_built q ≡ true → OnlyReads old mid → StartsReading mid new
-      → ((m : Machine) (db : Database) → IsShown old m → Stores (seen_in old.transaction (files_of old)) (tables_of old.catalog) db → read_on db q ≡ Meant (Ok rows) []) → StepsOn old (statement.Select q) (Rows rows) new
+  pub select_gives : (old mid new : Connections D g) (q : Query) (rows : List (List Value)) → is_query_supported q ≡ true → OnlyReads old mid → StartsReading mid new
+      → ((m : Machine) (db : Database) → RepresentsRunning old m → Stores (seen_in old.transaction (files_of old)) (tables_of old.catalog) db → read_on db q ≡ Meant (Ok rows) []) → StepsOn old (statement.Select q) (Rows rows) new
   unfolding sees_by
-  select_gives old mid new q rows built reads starts answered m shown = by_case old.transaction refl shown.transaction
+  select_gives old mid new q rows supported_forms reads starts answered m shown = by_case old.transaction refl shown.transaction
     where
-      mid_shown : IsShown mid m
+      mid_shown : RepresentsRunning mid m
       mid_shown = still_shown old mid m shown (reads.files shown.told) reads.failed reads.catalog reads.transaction
 
       same_files : ShowTheSame (files_of mid) (files_of new)
       same_files = subst (ShowTheSame (files_of mid)) (sym starts.files) (the_same (files_of mid) mid_shown.told)
 
-      stop_of : (next : Machine) → HoldThroughout (MayShow m next) (files_of old) (files_of new)
-      stop_of next = stop_still old new m next shown (subst (ShowTheSame (files_of old)) (sym starts.files) (reads.files shown.told))
+      crash_of : (next : Machine) → HoldThroughout (MayShow m next) (files_of old) (files_of new)
+      crash_of next = crash_keeps old new m next shown (subst (ShowTheSame (files_of old)) (sym starts.files) (reads.files shown.told))
 
       step_of : (s : Sees old m) → StepSoFar (FindsNoRoom old (statement.Select q)) m 1 (statement.Select q) (Rows rows) s.next
-      step_of s = by_outcome (FindsNoRoom old (statement.Select q)) m (statement.Select q) built shown.running _ (Rows rows) s.next (s.is q) (given_rows m s.next rows (read_on s.db q) (answered m s.db shown s.stored))
+      step_of s = by_outcome (FindsNoRoom old (statement.Select q)) m (statement.Select q) supported_forms shown.running _ (Rows rows) s.next (s.is q) (given_rows m s.next rows (read_on s.db q) (answered m s.db shown s.stored))
 
-      other_shown : (t : Transaction) → old.transaction ≡ t → is_begun t ≡ false → IsShown new m
+      other_shown : (t : Transaction) → old.transaction ≡ t → is_begun t ≡ false → RepresentsRunning new m
       other_shown t is begun = still_shown mid new m mid_shown same_files starts.failed starts.catalog (starts.other (ap is_begun (reads.transaction ∙ is) ∙ begun))
 
-      begun_shown : old.transaction ≡ transaction.Begun → committed_in old.catalog ≡ length (tables_of old.catalog) → IsShown new (with_connection m 1 (InTransactionOf false [] (Reads (last_place m))))
+      begun_shown : old.transaction ≡ transaction.Begun → committed_in old.catalog ≡ length (tables_of old.catalog) → RepresentsRunning new (with_connection m 1 (InTransactionOf false [] (Reads (last_place m))))
       begun_shown is all =
           let begun = starts.begun (ap is_begun (reads.transaction ∙ is)) in
           moved mid new m (InTransactionOf false [] (Reads (last_place m))) mid_shown same_files starts.failed (ap (λ (c : Catalog). take (committed_in c) (tables_of c)) starts.catalog)
@@ -157,10 +192,10 @@ module _ {D : Type 0} {g : Ghosts D} where
           (refl, subst AreCommitted (sym (starts.catalog ∙ reads.catalog)) all, still_newest (files_of mid) (files_of new) begun.0 same_files begun.2))
 
       by_case : (t : Transaction) → old.transaction ≡ t → IsTransaction (files_of old) old.catalog (last_place m) t shown.first → StepsTo old m 1 (statement.Select q) (Rows rows) new
-      by_case transaction.Idle is first = (let s = sees_by old m shown transaction.Idle is first in record { next = s.next; step = step_of s; shown = inr (other_shown transaction.Idle is refl); stop = stop_of s.next })
-      by_case transaction.Begun is first = (let s = sees_by old m shown transaction.Begun is first in record { next = s.next; step = step_of s; shown = inr (begun_shown is first.1); stop = stop_of s.next })
-      by_case (transaction.Reading t) is first = (let s = sees_by old m shown (transaction.Reading t) is first in record { next = s.next; step = step_of s; shown = inr (other_shown (transaction.Reading t) is refl); stop = stop_of s.next })
-      by_case (transaction.Writing w) is first = (let s = sees_by old m shown (transaction.Writing w) is first in record { next = s.next; step = step_of s; shown = inr (other_shown (transaction.Writing w) is refl); stop = stop_of s.next })
+      by_case transaction.Idle is first = (let s = sees_by old m shown transaction.Idle is first in record { next = s.next; step = step_of s; shown = inr (other_shown transaction.Idle is refl); crash = crash_of s.next })
+      by_case transaction.Begun is first = (let s = sees_by old m shown transaction.Begun is first in record { next = s.next; step = step_of s; shown = inr (begun_shown is first.1); crash = crash_of s.next })
+      by_case (transaction.Reading t) is first = (let s = sees_by old m shown (transaction.Reading t) is first in record { next = s.next; step = step_of s; shown = inr (other_shown (transaction.Reading t) is refl); crash = crash_of s.next })
+      by_case (transaction.Writing w) is first = (let s = sees_by old m shown (transaction.Writing w) is first in record { next = s.next; step = step_of s; shown = inr (other_shown (transaction.Writing w) is refl); crash = crash_of s.next })
 
 -- ---- what a bound query reads
 
@@ -190,7 +225,7 @@ scanned_table (Some t) s is = ap Some (let same : scan.Table t ≡ scan.Table s 
 -- a listed source's page is there, and holds the rows that its table has
 pub record IsReadAt (view : View) (rows_at : ℕ → List TableRow) (s : BoundSource) : Type 0 where
   pub page : List ℕ
-  pub there : IsPage view s.root page
+  pub there : IsViewPage view s.root page
   pub holds : Holds page s.root s.width (rows_at s.root)
 
 pub source_read : (view : View) (tables : List Table) (db : Database) (stored : Stores view tables db) (from : Option FromClause) (s : BoundSource) → IsSource tables from (Some s) → IsReadAt view stored.rows_at s

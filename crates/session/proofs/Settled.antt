@@ -1,17 +1,17 @@
--- What a stop leaves of files that are settled, and of what a commit makes of them.
+-- What a crash leaves of files that are settled, and of what a commit makes of them.
 use Rattle.std.proofs.Common.{◌≡◌, ◌⊎◌, ◌≤◌, inl, inr, refl, sym, ap, subst, ◌∙◌, ℕ, List, [], ◌∷◌, length, map, take, arith}
 use Rattle.std.specs.Prelude.{Option, Some}
-use Rattle.disk.specs.Current.{synced_left}
+use Rattle.disk.proofs.Current.{synced_left}
 use Rattle.disk.specs.File.{File, IsContentLeft, IsLeft, IsRun, IsSynced, OnDb, OnLog, Phase, Version, versions, whole}
-use Rattle.disk.specs.Left.{left_synced}
-use Rattle.disk.specs.Moments.{alone, always_end, always_weaker, run_weaker}
+use Rattle.disk.proofs.Left.{left_synced}
+use Rattle.disk.proofs.Moments.{alone, always_end, always_weaker, run_weaker}
 use Rattle.disk.specs.declared.device.Disk.{Ghosts}
 use Rattle.dbheader.specs.Header.{IsHeader, counted_of}
 use Rattle.dbheader.specs.declared.fields.Header.{Header}
 use Rattle.wal.specs.Committed.{HasCommits}
-use Rattle.wal.specs.Known.{db_of, known_of, log_of}
-use Rattle.wal.specs.Opening.{IsViewSize}
-use Rattle.wal.specs.Stops.{LeavesEither}
+use Rattle.wal.specs.LogState.{db_of, state_of, log_of}
+use Rattle.wal.specs.Sizes.{IsViewSize}
+use Rattle.wal.specs.Crashes.{LeavesEither}
 use Rattle.wal.specs.declared.log.Log.{Log}
 use Rattle.catalog.specs.Database.{Database}
 use Rattle.catalog.specs.Listed.{committed_in, tables_of}
@@ -21,14 +21,14 @@ use Rattle.pager.specs.Limits.{pages_of}
 use Rattle.pager.specs.Views.{View, newest_view}
 use Rattle.pager.specs.declared.writer.Writer.{Writer}
 use Rattle.session.specs.Holding.{HoldThroughout, IsFound, IsSettled, LeaveHeld}
-use Rattle.session.specs.Known.{files_of}
+use Rattle.session.specs.ConnectionState.{files_of}
 use Rattle.session.specs.Machine.{Machine, newest}
-use Rattle.session.specs.Shown.{IsShown, ShowTheSame, Shows}
-use Rattle.session.specs.Stops.{MayShow}
+use Rattle.session.specs.Representation.{RepresentsRunning, ShowTheSame, Represents}
+use Rattle.session.specs.Crashes.{MayShow}
 use Rattle.session.specs.Stored.{Stores}
 use Rattle.session.specs.declared.transactions.Connections.{Connections}
 
--- of a synced file a stop leaves the content
+-- of a synced file a crash leaves the content
 synced_is : (file : File) → IsSynced file → (c : List ℕ) → IsLeft (versions file) c → c ≡ file.content
 synced_is file synced c left = left_synced (whole file.content) c (subst (λ (vs : List Version). IsLeft vs c) (alone file synced) left)
 
@@ -46,7 +46,7 @@ weaker May More f dbs logs held d l left_db left_log chance = (let h = held d l 
 module _ {D : Type 0} {g : Ghosts D} where
   -- ---- settled files
 
-  -- a stop leaves the newest database
+  -- a crash leaves the newest database
   pub settled_leaves : (May : Database → Type 0) (files : Log D g) (tables : List Table) (db : Database) → May db → IsSettled files → Stores (newest_view files) tables db
       → LeaveHeld May (versions (g.file (db_of files))) (versions (g.file (log_of files)))
   settled_leaves May files tables db may settled stored d l left_db left_log chance = (
@@ -55,7 +55,7 @@ module _ {D : Type 0} {g : Ghosts D} where
     record {
       view = newest_view files;
       db_is = sym (synced_is (g.file (db_of files)) settled.db_synced d left_db);
-      commits = subst (λ (c : List ℕ). HasCommits (known_of files).page_size c (newest_view files).frames) (sym (synced_is (g.file (log_of files)) settled.log_synced l left_log)) settled.commits;
+      commits = subst (λ (c : List ℕ). HasCommits (state_of files).page_size c (newest_view files).frames) (sym (synced_is (g.file (log_of files)) settled.log_synced l left_log)) settled.commits;
       found = settled.found;
       tables = tables;
       stored = stored;
@@ -67,21 +67,21 @@ module _ {D : Type 0} {g : Ghosts D} where
   still_settled old new same is = record {
     db_synced = subst IsSynced (sym same.db_file) is.db_synced;
     log_synced = subst IsSynced (sym same.log_file) is.log_synced;
-    commits = subst (λ (f : File). HasCommits (known_of new).page_size f.content (newest_view new).frames) (sym same.log_file)
+    commits = subst (λ (f : File). HasCommits (state_of new).page_size f.content (newest_view new).frames) (sym same.log_file)
         (subst (λ (v : View). HasCommits v.page_size (g.file (log_of old)).content v.frames) (sym same.newest) is.commits);
     found = subst IsFound (sym same.newest) is.found;
   }
 
   -- nothing but the newest database is left where the files were read at most
-  pub stop_still : (old new : Connections D g) (m next : Machine) → IsShown old m → ShowTheSame (files_of old) (files_of new) → HoldThroughout (MayShow m next) (files_of old) (files_of new)
-  stop_still old new m next shown same =
+  pub crash_keeps : (old new : Connections D g) (m next : Machine) → RepresentsRunning old m → ShowTheSame (files_of old) (files_of new) → HoldThroughout (MayShow m next) (files_of old) (files_of new)
+  crash_keeps old new m next shown same =
       ([], (settled_leaves (MayShow m next) (files_of old) (take (committed_in old.catalog) (tables_of old.catalog)) (newest m) (inl refl) shown.settled shown.stored, same.db_file, same.log_file))
 
-  pub left_shown : (c : Connections D g) (m : Machine) → Shows c m → LeaveHeld (MayShow m m) (versions (g.file (db_of (files_of c)))) (versions (g.file (log_of (files_of c))))
+  pub left_shown : (c : Connections D g) (m : Machine) → Represents c m → LeaveHeld (MayShow m m) (versions (g.file (db_of (files_of c)))) (versions (g.file (log_of (files_of c))))
   left_shown c m (inl failed) = failed.2.held
   left_shown c m (inr shown) = settled_leaves (MayShow m m) (files_of c) (take (committed_in c.catalog) (tables_of c.catalog)) (newest m) (inl refl) shown.settled shown.stored
 
-  pub as_shown : (c : Connections D g) (m : Machine) → Shows c m → HoldThroughout (MayShow m m) (files_of c) (files_of c)
+  pub as_shown : (c : Connections D g) (m : Machine) → Represents c m → HoldThroughout (MayShow m m) (files_of c) (files_of c)
   as_shown c m shows = ([], (left_shown c m shows, refl, refl))
 
   -- ---- runs
@@ -124,7 +124,7 @@ module _ {D : Type 0} {g : Ghosts D} where
     abbrev Either : Database → Type 0
     Either d = (d ≡ was) ⊎ (d ≡ db)
 
-    either_held : (leaves : LeavesCommit old w page header new) (logs : List Version) → LeavesEither (known_of old).page_size (newest_view old).frames leaves.view.frames logs → LeaveHeld Either (versions (g.file (db_of old))) logs
+    either_held : (leaves : LeavesCommit old w page header new) (logs : List Version) → LeavesEither (state_of old).page_size (newest_view old).frames leaves.view.frames logs → LeaveHeld Either (versions (g.file (db_of old))) logs
     either_held leaves logs either d l left_db left_log chance = elim (either l left_log chance) [
       | inl these ↦ (was, inl refl, record { view = newest_view old; db_is = sym same; commits = these; found = settled.found; tables = before; stored = stored })
       | inr those ↦ (
@@ -144,15 +144,15 @@ module _ {D : Type 0} {g : Ghosts D} where
         same : d ≡ (g.file (db_of old)).content
         same = synced_is (g.file (db_of old)) settled.db_synced d left_db
 
-    -- at each moment of a commit a stop leaves the database from before it, or the one behind it
+    -- at each moment of a commit a crash leaves the database from before it, or the one after it
     pub either_throughout : (log_of new ≡ log_of old) ⊎ LeavesCommit old w page header new → HoldThroughout Either old new
     either_throughout (inl same) = ([], (settled_leaves Either old before was (inl refl) settled stored, ap g.file db_same, ap g.file same))
     either_throughout (inr leaves) =
         let good : List Version → Type 0 = LeaveHeld Either (versions (g.file (db_of old))) in
-        let run = always_weaker (g.file (log_of old)) (g.file (log_of new)) good (LeavesEither (known_of old).page_size (newest_view old).frames leaves.view.frames) (either_held leaves) leaves.stop in
+        let run = always_weaker (g.file (log_of old)) (g.file (log_of new)) good (LeavesEither (state_of old).page_size (newest_view old).frames leaves.view.frames) (either_held leaves) leaves.crash in
         (OnLog (g.file (log_of new)) ∷ [], (run, (always_end (g.file (log_of old)) (g.file (log_of new)) good run, ap g.file db_same, refl)))
 
-  -- the contents themselves are what a stop may leave then
+  -- the contents themselves are what a crash may leave then
   pub db_left : (old new : Log D g) → IsSettled old → db_of new ≡ db_of old → IsContentLeft (g.file (db_of new))
   db_left old new settled same = subst (λ (d : D). IsContentLeft (g.file d)) (sym same) (synced_left (g.file (db_of old)) settled.db_synced)
 

@@ -1,4 +1,4 @@
--- What the connections show behind a statement.
+-- What the connections show after a statement.
 use Rattle.std.proofs.Common.{◌≡◌, ◌<◌, ◌≤◌, inr, refl, sym, ap, subst, ◌∙◌, ℕ, List, [], ◌∷◌, length, take, true, false, arith}
 use Rattle.std.proofs.lemmas.List.{take_all, length-take, length-take-le}
 use Rattle.std.proofs.Math.Nat.{min-le_left}
@@ -13,23 +13,23 @@ use Rattle.catalog.specs.Listed.{committed_in, tables_of}
 use Rattle.catalog.specs.declared.tables.Catalog.{Catalog}
 use Rattle.catalog.specs.declared.tables.Table.{Table}
 use Rattle.disk.specs.File.{File}
-use Rattle.walframe.specs.Accepted.{Leaves}
+use Rattle.walframe.specs.Accepted.{KeepsFile}
 use Rattle.wal.specs.Committed.{frames_under}
-use Rattle.wal.specs.Known.{Known, db_of, log_of, known_of, header_of, seen_by, size_of}
+use Rattle.wal.specs.LogState.{LogState, db_of, log_of, state_of, header_of, seen_by, size_of}
 use Rattle.wal.specs.declared.log.Snapshot.{Snapshot}
 use Rattle.pager.specs.Limits.{pages_of}
 use Rattle.pager.specs.Views.{View, Tells, after, changes_of, newest_view}
 use Rattle.pager.specs.Writers.{snapshot_of}
 use Rattle.pager.specs.declared.writer.Writer.{Writer}
-use Rattle.session.specs.Known.{files_of, has_failed_in}
+use Rattle.session.specs.ConnectionState.{files_of, has_failed_in}
 use Rattle.session.specs.Machine.{Machine, Connection, Idle, InTransactionOf, Phase, NoSnapshot, Reads, Writes, Rows, Refused, last_place, newest, with_connection}
 use Rattle.session.specs.Outcomes.{Gives, RefusedBy, begun}
 use Rattle.session.specs.Stored.{Stores}
-use Rattle.session.specs.Shown.{AreCommitted, FindsNoRoom, IsGivenUp, IsNewest, IsShown, IsTransaction, IsWriter, ShowTheSame, StepsOn, is_idle}
+use Rattle.session.specs.Representation.{AreCommitted, FindsNoRoom, IsGivenUp, IsNewest, RepresentsRunning, IsTransaction, IsWriter, ShowTheSame, StepsOn, is_idle}
 use Rattle.session.specs.declared.transactions.Connections.{Connections}
 use Rattle.session.specs.declared.transactions.Transaction.{Transaction}
 use Rattle.session.specs.declared.transactions.Transaction.TheVariants as transaction
-use Rattle.session.proofs.Settled.{as_shown, still_settled, stop_still}
+use Rattle.session.proofs.Settled.{as_shown, still_settled, crash_keeps}
 use Rattle.session.proofs.Stepping.{by_outcome, begin_outcome, first_is, first_set, rollback_outcome}
 
 pub record IsBusy (k : Connection) : Type 0 where
@@ -40,10 +40,10 @@ pub take_twice : (n : ℕ) (ts : List Table) → take n (take n ts) ≡ take n t
 take_twice n ts = take_all n (take n ts) (omega (arith, length-take n ts, min-le_left n (length ts)))
 
 -- what is seen, by the files' contents and what is known of them
-abbrev newest_by : List ℕ → List ℕ → Known → View
+abbrev newest_by : List ℕ → List ℕ → LogState → View
 newest_by d l k = record { db = d; frames = frames_under (header_of k) l k.frames; page_size = k.page_size; size = k.size }
 
-abbrev at_by : List ℕ → List ℕ → Known → Snapshot → View
+abbrev at_by : List ℕ → List ℕ → LogState → Snapshot → View
 at_by d l k s = record { db = d; frames = frames_under (header_of k) l (seen_by s); page_size = k.page_size; size = size_of s }
 
 module _ {D : Type 0} {g : Ghosts D} where
@@ -66,12 +66,12 @@ module _ {D : Type 0} {g : Ghosts D} where
   pub the_same : (files : Log D g) → Tells files → ShowTheSame files files
   the_same files told = record { told = told; known = refl; newest = refl; at = λ s. refl; db_file = refl; log_file = refl }
 
-  pub read_files : (old new : Log D g) → Tells old → known_of new ≡ known_of old → Leaves g.tells g.file (db_of old) (db_of new) → Leaves g.tells g.file (log_of old) (log_of new) → ShowTheSame old new
+  pub read_files : (old new : Log D g) → Tells old → state_of new ≡ state_of old → KeepsFile g.tells g.file (db_of old) (db_of new) → KeepsFile g.tells g.file (log_of old) (log_of new) → ShowTheSame old new
   read_files old new told known db log =
       let same_db = ap (λ (f : File). f.content) (db.same told.db) in
       let same_log = ap (λ (f : File). f.content) (log.same told.log) in
       record {
-        told = record { db = db.tells_same ∙ told.db; log = log.tells_same ∙ told.log; whole = ap (λ (k : Known). k.has_failed) known ∙ told.whole };
+        told = record { db = db.tells_same ∙ told.db; log = log.tells_same ∙ told.log; whole = ap (λ (k : LogState). k.has_failed) known ∙ told.whole };
         known = known;
         newest = λ i. newest_by (same_db i) (same_log i) (known i);
         at = λ s i. at_by (same_db i) (same_log i) (known i) s;
@@ -80,10 +80,10 @@ module _ {D : Type 0} {g : Ghosts D} where
       }
 
   pub still_newest : (old new : Log D g) (s : Snapshot) → ShowTheSame old new → IsNewest old s → IsNewest new s
-  still_newest old new s same is = record { seen = is.seen ∙ ap (λ (k : Known). k.frames) (sym same.known); sized = is.sized ∙ ap (λ (k : Known). k.size) (sym same.known) }
+  still_newest old new s same is = record { seen = is.seen ∙ ap (λ (k : LogState). k.frames) (sym same.known); sized = is.sized ∙ ap (λ (k : LogState). k.size) (sym same.known) }
 
   pub still_writer : (old new : Log D g) (w : Writer) → ShowTheSame old new → IsWriter old w → IsWriter new w
-  still_writer old new w same is = record { newest = still_newest old new (snapshot_of w) same is.newest; whole = is.whole; page_size = is.page_size ∙ ap (λ (k : Known). k.page_size) (sym same.known); grown = λ n past last none. is.grown n (subst (λ (k : Known). k.size < n) same.known past) last none }
+  still_writer old new w same is = record { newest = still_newest old new (snapshot_of w) same is.newest; whole = is.whole; page_size = is.page_size ∙ ap (λ (k : LogState). k.page_size) (sym same.known); grown = λ n past last none. is.grown n (subst (λ (k : LogState). k.size < n) same.known past) last none }
 
   pub still_transaction : (old new : Log D g) (catalog : Catalog) (last : ℕ) (t : Transaction) (k : Connection) → ShowTheSame old new → IsTransaction old catalog last t k → IsTransaction new catalog last t k
   still_transaction old new catalog last transaction.Idle k same is = is
@@ -92,11 +92,11 @@ module _ {D : Type 0} {g : Ghosts D} where
   still_transaction old new catalog last (transaction.Writing w) k same is =
       (is.0, is.1, still_writer old new w same is.2, subst (λ (v : View). Stores (after v (changes_of w) (pages_of w)) (tables_of catalog) is.0) (sym (same.at (snapshot_of w))) is.3)
 
-  -- ---- the machine behind a statement that commits nothing
+  -- ---- the machine after a statement that commits nothing
 
-  pub moved : (old new : Connections D g) (m : Machine) (k : Connection) (shown : IsShown old m) → ShowTheSame (files_of old) (files_of new) → has_failed_in new ≡ has_failed_in old
+  pub moved : (old new : Connections D g) (m : Machine) (k : Connection) (shown : RepresentsRunning old m) → ShowTheSame (files_of old) (files_of new) → has_failed_in new ≡ has_failed_in old
       → take (committed_in new.catalog) (tables_of new.catalog) ≡ take (committed_in old.catalog) (tables_of old.catalog)
-      → committed_in new.catalog ≤ length (tables_of new.catalog) → IsTransaction (files_of new) new.catalog (last_place m) new.transaction k → IsShown new (with_connection m 1 k)
+      → committed_in new.catalog ≤ length (tables_of new.catalog) → IsTransaction (files_of new) new.catalog (last_place m) new.transaction k → RepresentsRunning new (with_connection m 1 k)
   moved old new m k shown same failed tables listed is = record {
     running = shown.running;
     sure = shown.sure;
@@ -115,7 +115,7 @@ module _ {D : Type 0} {g : Ghosts D} where
   }
 
   -- where the files alone were read
-  pub still_shown : (old new : Connections D g) (m : Machine) → IsShown old m → ShowTheSame (files_of old) (files_of new) → has_failed_in new ≡ has_failed_in old → new.catalog ≡ old.catalog → new.transaction ≡ old.transaction → IsShown new m
+  pub still_shown : (old new : Connections D g) (m : Machine) → RepresentsRunning old m → ShowTheSame (files_of old) (files_of new) → has_failed_in new ≡ has_failed_in old → new.catalog ≡ old.catalog → new.transaction ≡ old.transaction → RepresentsRunning new m
   still_shown old new m shown same failed catalog now = record {
     running = shown.running;
     sure = shown.sure;
@@ -145,7 +145,7 @@ module _ {D : Type 0} {g : Ghosts D} where
         next = m;
         step = by_outcome (FindsNoRoom c statement.Rollback) m statement.Rollback refl shown.running (RefusedBy (NoTransaction ∷ [])) (Refused NoTransaction) m is (NoTransaction, (0, omega arith, refl), refl, refl);
         shown = inr shown;
-        stop = as_shown c m (inr shown);
+        crash = as_shown c m (inr shown);
       }
 
   pub rolled_back : (old new : Connections D g) → is_idle old.transaction ≡ false → IsGivenUp old new → StepsOn old statement.Rollback (Rows []) new
@@ -156,7 +156,7 @@ module _ {D : Type 0} {g : Ghosts D} where
         next = with_connection m 1 Idle;
         step = by_outcome (FindsNoRoom old statement.Rollback) m statement.Rollback refl shown.running (Gives [] (with_connection m 1 Idle)) (Rows []) (with_connection m 1 Idle) is (refl, refl);
         shown = inr (moved old new m Idle shown (subst (ShowTheSame (files_of old)) (sym gone.files) (the_same (files_of old) shown.told)) gone.failed (tables_same old new gone) (omega (arith, all_now gone)) (idle_now gone));
-        stop = stop_still old new m (with_connection m 1 Idle) shown (subst (ShowTheSame (files_of old)) (sym gone.files) (the_same (files_of old) shown.told));
+        crash = crash_keeps old new m (with_connection m 1 Idle) shown (subst (ShowTheSame (files_of old)) (sym gone.files) (the_same (files_of old) shown.told));
       }
     where
       tables_same : (old new : Connections D g) → IsGivenUp old new → take (committed_in new.catalog) (tables_of new.catalog) ≡ take (committed_in old.catalog) (tables_of old.catalog)
@@ -178,7 +178,7 @@ module _ {D : Type 0} {g : Ghosts D} where
         next = m;
         step = by_outcome (FindsNoRoom c (statement.Begin mode)) m (statement.Begin mode) refl shown.running (RefusedBy (InTransaction ∷ [])) (Refused InTransaction) m is (InTransaction, (0, omega arith, refl), refl, refl);
         shown = inr shown;
-        stop = as_shown c m (inr shown);
+        crash = as_shown c m (inr shown);
       }
 
   -- what changes where a transaction begins
@@ -200,7 +200,7 @@ module _ {D : Type 0} {g : Ghosts D} where
             (subst (λ (c : Catalog). committed_in c ≤ length (tables_of c)) (sym begun.catalog) shown.listed)
             (subst (λ (t : Transaction). IsTransaction (files_of new) new.catalog (last_place m) t (InTransactionOf false [] NoSnapshot)) (sym begun.now)
             (refl, subst AreCommitted (sym begun.catalog) (committed_idle old.transaction shown.first shown.transaction idle))));
-        stop = stop_still old new m next shown (subst (ShowTheSame (files_of old)) (sym begun.files) (the_same (files_of old) shown.told));
+        crash = crash_keeps old new m next shown (subst (ShowTheSame (files_of old)) (sym begun.files) (the_same (files_of old) shown.told));
       }
     where
       committed_idle : (t : Transaction) (j : Connection) → IsTransaction (files_of old) old.catalog (last_place m) t j → is_idle t ≡ true → AreCommitted old.catalog

@@ -9,16 +9,16 @@ use Rattle.syntax.specs.declared.statement.BeginMode.TheVariants as begins
 use Rattle.syntax.specs.declared.statement.Statement.{Statement}
 use Rattle.syntax.specs.declared.statement.Statement.TheVariants as statement
 use Rattle.catalog.specs.Database.{Database}
-use Rattle.session.specs.Built.{StepSoFar, is_built, is_served}
+use Rattle.session.specs.Supported.{StepSoFar, is_connection_supported, is_supported}
 use Rattle.session.specs.Machine.{Machine, Connection, Idle, InTransactionOf, NoSnapshot, Writes, Reply, another, connection, is_writing, last_place, newest, with_connection}
 use Rattle.session.specs.Outcomes.{Outcome, Gives, RefusedBy, outcome, read_outcome, control, begun}
 use Rattle.session.specs.Steps.{Allowed, Instead}
 
 -- ---- what a step may be
 
-module _ (R : Database → Type 0) (m : Machine) (s : Statement) (built : is_built s ≡ true) (running : m.failed ≡ false) where
-  served : (is_built s && is_served 1) ≡ true
-  served = ap (λ b. b && true) built
+module _ (R : Database → Type 0) (m : Machine) (s : Statement) (supported_forms : is_supported s ≡ true) (running : m.failed ≡ false) where
+  served : (is_supported s && is_connection_supported 1) ≡ true
+  served = ap (λ b. b && true) supported_forms
 
   pub by_outcome : (o : Outcome) (reply : Reply) (next : Machine) → outcome m 1 s ≡ o → Allowed m 1 o reply next → StepSoFar R m 1 s reply next
   by_outcome o reply next is allowed = inl (served, inl (inr (inr (running, refl, inl (subst (λ x. Allowed m 1 x reply next) (sym is) allowed)))))

@@ -15,18 +15,18 @@ use Rattle.catalog.specs.Database.{Database}
 use Rattle.catalog.specs.Listed.{committed_in, tables_of}
 use Rattle.catalog.specs.declared.tables.Catalog.{Catalog}
 use Rattle.catalog.specs.declared.tables.Table.{Table}
-use Rattle.pager.specs.Views.{Has, View, newest_view, view_at, view_of}
+use Rattle.pager.specs.Views.{ViewHas, View, newest_view, view_at, view_of}
 use Rattle.pager.specs.Writers.{seen}
 use Rattle.pager.specs.declared.writer.Writer.{Writer}
-use Rattle.session.specs.Built.{StepSoFar, is_built}
-use Rattle.session.specs.Known.{files_of, has_failed_in}
+use Rattle.session.specs.Supported.{StepSoFar, is_supported}
+use Rattle.session.specs.ConnectionState.{files_of, has_failed_in}
 use Rattle.session.specs.Machine.{Machine, Connection, Idle, InTransactionOf, NoSnapshot, Reads, Writes, Reply, Rows, Refused, last_place, newest}
-use Rattle.session.specs.NewTables.{HasRoomBehind, schema_row}
+use Rattle.session.specs.NewTables.{HasRoomAfter, schema_row}
 use Rattle.session.specs.Outcomes.{Outcome, Work, Makes, IsRefused, Undoes, Binds, outcome}
 use Rattle.session.specs.Steps.{Allowed, after_commit}
-use Rattle.session.specs.Stored.{HasNoRoom, Stores}
-use Rattle.session.specs.Shown.{AreCommitted, FindsNoRoom, IsShown, IsTransaction, OnlyReads, ShowTheSame, StepsOn, StepsTo, done_reply, is_idle, is_reading, seen_in, with_transaction}
-use Rattle.session.specs.Working.{CommitsWork, EndsAlone, HasWorked, IsDropped, IsUnworked, IsWorkRefusal, Reaches, Works, WorksOn, work_of, written}
+use Rattle.session.specs.Stored.{LacksRoom, Stores}
+use Rattle.session.specs.Representation.{AreCommitted, FindsNoRoom, RepresentsRunning, IsTransaction, OnlyReads, ShowTheSame, StepsOn, StepsTo, done_reply, is_idle, is_reading, seen_in, with_transaction}
+use Rattle.session.specs.Applying.{CommitsChanges, EndsAlone, IsApplied, IsCommitCause, IsDropped, IsNotApplied, IsChangeRefusal, Reaches, Applies, CanApply, change_made, written}
 use Rattle.session.specs.declared.transactions.Connections.{Connections}
 use Rattle.session.specs.declared.transactions.Transaction.{Transaction}
 use Rattle.session.specs.declared.transactions.Transaction.TheVariants as transaction
@@ -34,19 +34,19 @@ use Rattle.session.specs.declared.transactions.Write.{Write}
 use Rattle.session.specs.declared.transactions.Write.TheVariants as write
 use Rattle.session.proofs.Beginning.{StartsWriting, writer_begins, writer_stores}
 use Rattle.session.proofs.CommitSteps.{committed_shown}
-use Rattle.session.proofs.CommitStops.{commit_stops, doubt_left, doubt_stops, doubted}
-use Rattle.session.proofs.Settled.{still_settled, stop_still}
+use Rattle.session.proofs.CommitCrashes.{commit_crashes, doubt_left, doubt_crashes, doubted}
+use Rattle.session.proofs.Settled.{still_settled, crash_keeps}
 use Rattle.session.proofs.SeenPages.{at_newest}
 use Rattle.session.proofs.Selecting.{all_listed}
 use Rattle.session.proofs.Showing.{moved, still_shown, still_transaction}
 use Rattle.session.proofs.Stepping.{by_outcome, first_is}
-use Rattle.session.proofs.Working.{IsFinish, IsWhy, alone, finish_alone, finish_in, in_transaction, refused_step, worked_gives, working_on, write_outcome_of, writes_alone, writes_begun, writes_behind_reads}
+use Rattle.session.proofs.Applying.{IsFinish, IsErrorCause, alone, finish_alone, finish_in, in_transaction, refused_step, worked_gives, working_on, write_outcome_of, writes_alone, writes_begun, writes_behind_reads}
 
 -- ---- room
 
 -- what finds no room in pages finds none in others that hold the same
-pub same_room : (v u : View) (tables : List Table) (w : Write) (db : Database) → u.size ≡ v.size → ((number : ℕ) (bytes : List ℕ) → Has u number bytes ↔ Has v number bytes)
-    → HasNoRoom u tables (written w) db → HasNoRoom v tables (written w) db
+pub same_room : (v u : View) (tables : List Table) (w : Write) (db : Database) → u.size ≡ v.size → ((number : ℕ) (bytes : List ℕ) → ViewHas u number bytes ↔ ViewHas v number bytes)
+    → LacksRoom u tables (written w) db → LacksRoom v tables (written w) db
 same_room v u tables w db long same (inl fills) = inl (record {
   name = fills.name;
   table = fills.table;
@@ -65,8 +65,8 @@ same_room v u tables (write.CreateTable sql d) db long same (inr fills) = inr (r
   page = fills.page;
   there = record { first = fills.there.first; last = omega (arith, fills.there.last, long); has = (same 1 fills.page).0 fills.there.has };
   entries = fills.entries;
-  lone = fills.lone;
-  full = subst (λ n. HasRoomBehind (length fills.page) fills.entries (schema_row d.now.name (n + 1) sql.now) → ⊥) long fills.full;
+  single_leaf = fills.single_leaf;
+  full = subst (λ n. HasRoomAfter (length fills.page) fills.entries (schema_row d.now.name (n + 1) sql.now) → ⊥) long fills.full;
 })
 
 -- ---- commits
@@ -103,9 +103,9 @@ module _ {D : Type 0} {g : Ghosts D} where
   other_catalog files a b last (transaction.Writing w) k same tables is = (is.0, is.1, is.2, subst (λ (ts : List Table). Stores (view_of files w) ts is.0) (sym tables) is.3)
 
   -- the machine is shown still where its committed tables and the files are the same
-  pub stays : (old new : Connections D g) (m : Machine) (shown : IsShown old m) → ShowTheSame (files_of old) (files_of new) → has_failed_in new ≡ has_failed_in old → committed_in new.catalog ≡ committed_in old.catalog
+  pub stays : (old new : Connections D g) (m : Machine) (shown : RepresentsRunning old m) → ShowTheSame (files_of old) (files_of new) → has_failed_in new ≡ has_failed_in old → committed_in new.catalog ≡ committed_in old.catalog
       → take (committed_in old.catalog) (tables_of new.catalog) ≡ take (committed_in old.catalog) (tables_of old.catalog) → committed_in new.catalog ≤ length (tables_of new.catalog)
-      → IsTransaction (files_of new) new.catalog (last_place m) new.transaction shown.first → IsShown new m
+      → IsTransaction (files_of new) new.catalog (last_place m) new.transaction shown.first → RepresentsRunning new m
   stays old new m shown same failed committed tables listed is = record {
     running = shown.running;
     sure = shown.sure;
@@ -125,21 +125,21 @@ module _ {D : Type 0} {g : Ghosts D} where
 
   -- ---- refusals
 
-  pub why_of : (R : Database → Type 0) (s : Statement) (c : Connections D g) (w : Writer) (db : Database) (f : Fault) → ((made : Database) → HasNoRoom (view_of (files_of c) w) (tables_of c.catalog) s made → R made)
-      → IsWorkRefusal s c w db f → IsWhy R (work_of s db) f
+  pub why_of : (R : Database → Type 0) (s : Statement) (c : Connections D g) (w : Writer) (db : Database) (f : Fault) → ((made : Database) → LacksRoom (view_of (files_of c) w) (tables_of c.catalog) s made → R made)
+      → IsChangeRefusal s c w db f → IsErrorCause R (change_made s db) f
   why_of R s c w db f room (inl memory) = inl memory
   why_of R s c w db f room (inr (inl full)) = inr (inl full)
   why_of R s c w db f room (inr (inr (inl io))) = inr (inr (inl io))
   why_of R s c w db f room (inr (inr (inr (inl why)))) = inr (inr (inr (inl why)))
   why_of R s c w db f room (inr (inr (inr (inr none)))) = inr (inr (inr (inr (none.0, none.1, none.2, room none.1 none.3))))
 
-  refused : (old new : Connections D g) (m : Machine) (w : Write) (finish : Work → Outcome) → IsShown old m → ShowTheSame (files_of old) (files_of new) → IsShown new m → is_built (written w) ≡ true → (ends : IsFinish m finish) (db : Database)
-      → outcome m 1 (written w) ≡ finish (work_of (written w) db) → (f : Fault) → IsWhy (FindsNoRoom old (written w)) (work_of (written w) db) f → StepsTo old m 1 (written w) (Refused (refusal_of f)) new
-  refused old new m w finish before same behind built ends db is f why = record {
+  refused : (old new : Connections D g) (m : Machine) (w : Write) (finish : Work → Outcome) → RepresentsRunning old m → ShowTheSame (files_of old) (files_of new) → RepresentsRunning new m → is_supported (written w) ≡ true → (ends : IsFinish m finish) (db : Database)
+      → outcome m 1 (written w) ≡ finish (change_made (written w) db) → (f : Fault) → IsErrorCause (FindsNoRoom old (written w)) (change_made (written w) db) f → StepsTo old m 1 (written w) (Refused (refusal_of f)) new
+  refused old new m w finish before same behind supported_forms ends db is f why = record {
     next = m;
-    step = refused_step (FindsNoRoom old (written w)) m (written w) built before.running finish ends (work_of (written w) db) is f why;
+    step = refused_step (FindsNoRoom old (written w)) m (written w) supported_forms before.running finish ends (change_made (written w) db) is f why;
     shown = inr behind;
-    stop = stop_still old new m m before same;
+    crash = crash_keeps old new m m before same;
   }
 
   -- ---- a statement that begins to write
@@ -147,14 +147,14 @@ module _ {D : Type 0} {g : Ghosts D} where
   -- what a statement comes to that works on the newest commit
   pub record Opening (old : Connections D g) (m : Machine) (x : Write) (finish : Work → Outcome) : Type 0 where
     pub ends : IsFinish m finish
-    pub comes : outcome m 1 (written x) ≡ finish (work_of (written x) (newest m))
+    pub comes : outcome m 1 (written x) ≡ finish (change_made (written x) (newest m))
     pub all : AreCommitted old.catalog
     pub sees : seen_in old.transaction (files_of old) ≡ newest_view (files_of old)
 
-  pub opens_alone : (old : Connections D g) (m : Machine) (shown : IsShown old m) (x : Write) (t : Transaction) → old.transaction ≡ t → is_idle t ≡ true → IsTransaction (files_of old) old.catalog (last_place m) t shown.first → Opening old m x (alone m)
+  pub opens_alone : (old : Connections D g) (m : Machine) (shown : RepresentsRunning old m) (x : Write) (t : Transaction) → old.transaction ≡ t → is_idle t ≡ true → IsTransaction (files_of old) old.catalog (last_place m) t shown.first → Opening old m x (alone m)
   opens_alone old m shown x transaction.Idle is idle first = record {
     ends = finish_alone m;
-    comes = write_outcome_of x m Idle (first_is m shown.first shown.others shown.connections ∙ first.0) ∙ writes_alone m shown.first shown.others shown.connections shown.idle (work_of (written x));
+    comes = write_outcome_of x m Idle (first_is m shown.first shown.others shown.connections ∙ first.0) ∙ writes_alone m shown.first shown.others shown.connections shown.idle (change_made (written x));
     all = first.1;
     sees = ap (λ (t : Transaction). seen_in t (files_of old)) is;
   }
@@ -162,37 +162,37 @@ module _ {D : Type 0} {g : Ghosts D} where
   opens_alone old m shown x (transaction.Reading s) is idle first = absurd (false≢true idle)
   opens_alone old m shown x (transaction.Writing w) is idle first = absurd (false≢true idle)
 
-  pub opens_reading : (old : Connections D g) (m : Machine) (shown : IsShown old m) (x : Write) (t : Transaction) → old.transaction ≡ t → is_reading t ≡ true → IsTransaction (files_of old) old.catalog (last_place m) t shown.first → Opening old m x (in_transaction m)
+  pub opens_reading : (old : Connections D g) (m : Machine) (shown : RepresentsRunning old m) (x : Write) (t : Transaction) → old.transaction ≡ t → is_reading t ≡ true → IsTransaction (files_of old) old.catalog (last_place m) t shown.first → Opening old m x (in_transaction m)
   opens_reading old m shown x transaction.Idle is reads first = absurd (false≢true reads)
   opens_reading old m shown x transaction.Begun is reads first = record {
     ends = finish_in m shown.first shown.others shown.connections;
-    comes = write_outcome_of x m (InTransactionOf false [] NoSnapshot) (first_is m shown.first shown.others shown.connections ∙ first.0) ∙ writes_begun m shown.first shown.others shown.connections shown.idle (work_of (written x));
+    comes = write_outcome_of x m (InTransactionOf false [] NoSnapshot) (first_is m shown.first shown.others shown.connections ∙ first.0) ∙ writes_begun m shown.first shown.others shown.connections shown.idle (change_made (written x));
     all = first.1;
     sees = ap (λ (t : Transaction). seen_in t (files_of old)) is;
   }
   opens_reading old m shown x (transaction.Reading s) is reads first = record {
     ends = finish_in m shown.first shown.others shown.connections;
-    comes = write_outcome_of x m (InTransactionOf false [] (Reads (last_place m))) (first_is m shown.first shown.others shown.connections ∙ first.0) ∙ writes_behind_reads m shown.first shown.others shown.connections shown.idle (work_of (written x));
+    comes = write_outcome_of x m (InTransactionOf false [] (Reads (last_place m))) (first_is m shown.first shown.others shown.connections ∙ first.0) ∙ writes_behind_reads m shown.first shown.others shown.connections shown.idle (change_made (written x));
     all = first.1;
     sees = ap (λ (t : Transaction). seen_in t (files_of old)) is;
   }
   opens_reading old m shown x (transaction.Writing w) is reads first = absurd (false≢true reads)
 
-  -- where page 1 isn't read, for want of memory or by a disk
-  pub not_begun : (old new : Connections D g) (x : Write) (f : Fault) → is_built (written x) ≡ true → OnlyReads old new → ((m : Machine) → IsShown old m → (f ≡ fault.Memory) ⊎ (f ≡ fault.Io))
-      → (finish : Machine → Work → Outcome) → ((m : Machine) → IsShown old m → Opening old m x (finish m)) → StepsOn old (written x) (Refused (refusal_of f)) new
-  not_begun old new x f built reads why finish opens m shown =
+  -- where page 1 isn't read, when out of memory or by a disk
+  pub not_begun : (old new : Connections D g) (x : Write) (f : Fault) → is_supported (written x) ≡ true → OnlyReads old new → ((m : Machine) → RepresentsRunning old m → (f ≡ fault.Memory) ⊎ (f ≡ fault.Io))
+      → (finish : Machine → Work → Outcome) → ((m : Machine) → RepresentsRunning old m → Opening old m x (finish m)) → StepsOn old (written x) (Refused (refusal_of f)) new
+  not_begun old new x f supported_forms reads why finish opens m shown =
       let opened = opens m shown in
-      refused old new m x (finish m) shown (reads.files shown.told) (still_shown old new m shown (reads.files shown.told) reads.failed reads.catalog reads.transaction) built opened.ends (newest m) opened.comes f (short (why m shown))
+      refused old new m x (finish m) shown (reads.files shown.told) (still_shown old new m shown (reads.files shown.told) reads.failed reads.catalog reads.transaction) supported_forms opened.ends (newest m) opened.comes f (short (why m shown))
     where
-      short : (f ≡ fault.Memory) ⊎ (f ≡ fault.Io) → IsWhy (FindsNoRoom old (written x)) (work_of (written x) (newest m)) f
+      short : (f ≡ fault.Memory) ⊎ (f ≡ fault.Io) → IsErrorCause (FindsNoRoom old (written x)) (change_made (written x) (newest m)) f
       short (inl memory) = inl memory
       short (inr io) = inr (inr (inl io))
 
   abbrev pub Started : Connections D g → Connections D g → Writer → Snapshot → Type 0
   Started old mid w s = StartsWriting old (with_transaction mid (transaction.Writing w)) w s
 
-  begun_works : (old mid : Connections D g) (m : Machine) (shown : IsShown old m) (w : Writer) (s : Snapshot) → Started old mid w s → AreCommitted old.catalog → WorksOn mid w (newest m)
+  begun_works : (old mid : Connections D g) (m : Machine) (shown : RepresentsRunning old m) (w : Writer) (s : Snapshot) → Started old mid w s → AreCommitted old.catalog → CanApply mid w (newest m)
   begun_works old mid m shown w s start all = record {
     told = start.files.told;
     settled = still_settled (files_of old) (files_of mid) start.files shown.settled;
@@ -203,20 +203,20 @@ module _ {D : Type 0} {g : Ghosts D} where
   }
 
   begun_room : (old mid : Connections D g) (w : Writer) (s : Snapshot) (x : Write) → Started old mid w s → seen_in old.transaction (files_of old) ≡ newest_view (files_of old)
-      → (made : Database) → HasNoRoom (view_of (files_of mid) w) (tables_of mid.catalog) (written x) made → FindsNoRoom old (written x) made
+      → (made : Database) → LacksRoom (view_of (files_of mid) w) (tables_of mid.catalog) (written x) made → FindsNoRoom old (written x) made
   begun_room old mid w s x start sees made none =
-      let here = subst (λ (c : Catalog). HasNoRoom (view_of (files_of mid) w) (tables_of c) (written x) made) start.catalog none in
-      let over : HasNoRoom (seen (view_at (files_of old) s) w) (tables_of old.catalog) (written x) made =
-      subst (λ (v : View). HasNoRoom (seen v w) (tables_of old.catalog) (written x) made) (ap (view_at (files_of mid)) start.stands ∙ start.files.at s) here in
-      subst (λ (v : View). HasNoRoom v (tables_of old.catalog) (written x) made) (at_newest (files_of old) s start.newest ∙ sym sees)
+      let here = subst (λ (c : Catalog). LacksRoom (view_of (files_of mid) w) (tables_of c) (written x) made) start.catalog none in
+      let over : LacksRoom (seen (view_at (files_of old) s) w) (tables_of old.catalog) (written x) made =
+      subst (λ (v : View). LacksRoom (seen v w) (tables_of old.catalog) (written x) made) (ap (view_at (files_of mid)) start.stands ∙ start.files.at s) here in
+      subst (λ (v : View). LacksRoom v (tables_of old.catalog) (written x) made) (at_newest (files_of old) s start.newest ∙ sym sees)
       (same_room (view_at (files_of old) s) (seen (view_at (files_of old) s) w) (tables_of old.catalog) x made start.begun.size start.begun.sees over)
 
-  -- where the write behind it is refused
-  pub begun_refused : (old mid after : Connections D g) (w left : Writer) (s : Snapshot) (x : Write) (f : Fault) → is_built (written x) ≡ true → mid.transaction ≡ old.transaction
-      → ((m : Machine) → IsShown old m → Started old mid w s) → ((db : Database) → WorksOn mid w db → IsUnworked (written x) mid w db after left f)
-      → (finish : Machine → Work → Outcome) → ((m : Machine) → IsShown old m → Opening old m x (finish m)) → StepsOn old (written x) (Refused (refusal_of f)) after
-  begun_refused old mid after w left s x f built beside starts works finish opens m shown =
-      refused old after m x (finish m) shown same still built opened.ends (newest m) opened.comes f
+  -- where the write after it is refused
+  pub begun_refused : (old mid after : Connections D g) (w left : Writer) (s : Snapshot) (x : Write) (f : Fault) → is_supported (written x) ≡ true → mid.transaction ≡ old.transaction
+      → ((m : Machine) → RepresentsRunning old m → Started old mid w s) → ((db : Database) → CanApply mid w db → IsNotApplied (written x) mid w db after left f)
+      → (finish : Machine → Work → Outcome) → ((m : Machine) → RepresentsRunning old m → Opening old m x (finish m)) → StepsOn old (written x) (Refused (refusal_of f)) after
+  begun_refused old mid after w left s x f supported_forms beside starts applies finish opens m shown =
+      refused old after m x (finish m) shown same still supported_forms opened.ends (newest m) opened.comes f
       (why_of (FindsNoRoom old (written x)) (written x) mid w (newest m) f (begun_room old mid w s x start opened.sees) has.why)
     where
       opened : Opening old m x (finish m)
@@ -225,8 +225,8 @@ module _ {D : Type 0} {g : Ghosts D} where
       start : Started old mid w s
       start = starts m shown
 
-      has : IsUnworked (written x) mid w (newest m) after left f
-      has = works (newest m) (begun_works old mid m shown w s start opened.all)
+      has : IsNotApplied (written x) mid w (newest m) after left f
+      has = applies (newest m) (begun_works old mid m shown w s start opened.all)
 
       same : ShowTheSame (files_of old) (files_of after)
       same = show_on (files_of old) (files_of mid) (files_of after) start.files has.kept.files
@@ -234,25 +234,25 @@ module _ {D : Type 0} {g : Ghosts D} where
       committed : committed_in after.catalog ≡ committed_in old.catalog
       committed = has.kept.committed ∙ ap committed_in start.catalog
 
-      still : IsShown after m
+      still : RepresentsRunning after m
       still = stays old after m shown same (has.kept.failed ∙ start.failed) committed
-          (subst (λ (c : Catalog). take (committed_in c) (tables_of after.catalog) ≡ take (committed_in c) (tables_of c)) start.catalog has.kept.tables) has.works.listed
+          (subst (λ (c : Catalog). take (committed_in c) (tables_of after.catalog) ≡ take (committed_in c) (tables_of c)) start.catalog has.kept.tables) has.applies.listed
           (subst (λ (t : Transaction). IsTransaction (files_of after) after.catalog (last_place m) t shown.first) (sym (has.kept.transaction ∙ beside))
           (other_catalog (files_of after) old.catalog after.catalog (last_place m) old.transaction shown.first committed (has.tables ∙ ap tables_of start.catalog)
           (still_transaction (files_of old) (files_of after) old.catalog (last_place m) old.transaction shown.first same shown.transaction)))
 
   -- the first write of a transaction
-  pub begun_writes : (old mid after : Connections D g) (w left : Writer) (s : Snapshot) (x : Write) → is_built (written x) ≡ true → is_reading old.transaction ≡ true
-      → ((m : Machine) → IsShown old m → Started old mid w s) → ((db : Database) → WorksOn mid w db → HasWorked (written x) mid db after left)
+  pub begun_writes : (old mid after : Connections D g) (w left : Writer) (s : Snapshot) (x : Write) → is_supported (written x) ≡ true → is_reading old.transaction ≡ true
+      → ((m : Machine) → RepresentsRunning old m → Started old mid w s) → ((db : Database) → CanApply mid w db → IsApplied (written x) mid db after left)
       → StepsOn old (written x) (Rows []) (with_transaction after (transaction.Writing left))
-  begun_writes old mid after w left s x built reads starts works m shown = record {
+  begun_writes old mid after w left s x supported_forms reads starts applies m shown = record {
     next = working_on m has.made;
-    step = by_outcome (FindsNoRoom old (written x)) m (written x) built shown.running (in_transaction m (work_of (written x) (newest m))) (Rows []) (working_on m has.made) opened.comes (worked_gives m has.made (work_of (written x) (newest m)) has.reaches);
+    step = by_outcome (FindsNoRoom old (written x)) m (written x) supported_forms shown.running (in_transaction m (change_made (written x) (newest m))) (Rows []) (working_on m has.made) opened.comes (worked_gives m has.made (change_made (written x) (newest m)) has.reaches);
     shown = inr (moved old (with_transaction after (transaction.Writing left)) m (InTransactionOf false [] (Writes (last_place m) has.made)) shown
         (show_on (files_of old) (files_of mid) (files_of after) start.files has.kept.files) (has.kept.failed ∙ start.failed)
         (ap (λ n. take n (tables_of after.catalog)) has.kept.committed ∙ subst (λ (c : Catalog). take (committed_in mid.catalog) (tables_of after.catalog) ≡ take (committed_in c) (tables_of c)) start.catalog has.kept.tables)
-        has.works.listed (has.made, refl, has.works.writer, has.works.stored));
-    stop = stop_still old after m (working_on m has.made) shown (show_on (files_of old) (files_of mid) (files_of after) start.files has.kept.files);
+        has.applies.listed (has.made, refl, has.applies.writer, has.applies.stored));
+    crash = crash_keeps old after m (working_on m has.made) shown (show_on (files_of old) (files_of mid) (files_of after) start.files has.kept.files);
   }
     where
       opened : Opening old m x (in_transaction m)
@@ -261,16 +261,16 @@ module _ {D : Type 0} {g : Ghosts D} where
       start : Started old mid w s
       start = starts m shown
 
-      has : HasWorked (written x) mid (newest m) after left
-      has = works (newest m) (begun_works old mid m shown w s start opened.all)
+      has : IsApplied (written x) mid (newest m) after left
+      has = applies (newest m) (begun_works old mid m shown w s start opened.all)
 
   -- ---- commits
 
   -- where its commit is refused, what it made is gone
-  pub dropped : (old after : Connections D g) (kept : Catalog) (left : Writer) (db : Database) (f : Fault) → committed_in kept ≡ committed_in after.catalog → tables_of kept ≡ take (committed_in after.catalog) (tables_of after.catalog)
-      → CommitsWork old db (Err f) after left → EndsAlone old db (Err f) (record after { catalog = kept })
-  dropped old after kept left db f committed tables (inl io) = inl (record { io = io.io; failed = io.failed; held = io.held; db_left = io.db_left; log_left = io.log_left })
-  dropped old after kept left db f committed tables (inr none) = inr (record {
+  pub dropped : (old after : Connections D g) (kept : Catalog) (w left : Writer) (db : Database) (f : Fault) → committed_in kept ≡ committed_in after.catalog → tables_of kept ≡ take (committed_in after.catalog) (tables_of after.catalog)
+      → CommitsChanges old w db (Err f) after left → EndsAlone old w db (Err f) (record after { catalog = kept })
+  dropped old after kept w left db f committed tables (inl io) = inl (record { io = io.io; failed = io.failed; held = io.held; db_left = io.db_left; log_left = io.log_left })
+  dropped old after kept w left db f committed tables (inr none) = inr (record {
     why = none.why;
     files = none.kept.files;
     failed = none.kept.failed;
@@ -279,11 +279,11 @@ module _ {D : Type 0} {g : Ghosts D} where
     tables = tables ∙ ap (λ n. take n (tables_of after.catalog)) none.kept.committed ∙ ap (take (committed_in old.catalog)) none.tables;
   })
 
-  -- a statement of its own, behind its work
-  pub ended_alone : (old mid after new : Connections D g) (w left : Writer) (s : Snapshot) (x : Write) (result : Result ⊤ Fault) → is_built (written x) ≡ true → is_idle old.transaction ≡ true → mid.transaction ≡ old.transaction
-      → ((m : Machine) → IsShown old m → Started old mid w s) → ((db : Database) → WorksOn mid w db → HasWorked (written x) mid db after left)
-      → ((db : Database) → has_failed_in after ≡ false → WorksOn after left db → EndsAlone after db result new) → StepsOn old (written x) (done_reply result) new
-  ended_alone old mid after new w left s x result built idle beside starts works ends m shown = by_result result (ends has.made (failed ∙ shown.whole) has.works)
+  -- a statement of its own, after its work
+  pub ended_alone : (old mid after new : Connections D g) (w left : Writer) (s : Snapshot) (x : Write) (result : Result ⊤ Fault) → is_supported (written x) ≡ true → is_idle old.transaction ≡ true → mid.transaction ≡ old.transaction
+      → ((m : Machine) → RepresentsRunning old m → Started old mid w s) → ((db : Database) → CanApply mid w db → IsApplied (written x) mid db after left)
+      → ((db : Database) → has_failed_in after ≡ false → CanApply after left db → EndsAlone after left db result new) → StepsOn old (written x) (done_reply result) new
+  ended_alone old mid after new w left s x result supported_forms idle beside starts applies ends m shown = by_result result (ends has.made (failed ∙ shown.whole) has.applies)
     where
       opened : Opening old m x (alone m)
       opened = opens_alone old m shown x old.transaction refl idle shown.transaction
@@ -291,8 +291,8 @@ module _ {D : Type 0} {g : Ghosts D} where
       start : Started old mid w s
       start = starts m shown
 
-      has : HasWorked (written x) mid (newest m) after left
-      has = works (newest m) (begun_works old mid m shown w s start opened.all)
+      has : IsApplied (written x) mid (newest m) after left
+      has = applies (newest m) (begun_works old mid m shown w s start opened.all)
 
       failed : has_failed_in after ≡ has_failed_in old
       failed = has.kept.failed ∙ start.failed
@@ -308,10 +308,10 @@ module _ {D : Type 0} {g : Ghosts D} where
           ap (λ n. take n (tables_of after.catalog)) has.kept.committed
           ∙ subst (λ (c : Catalog). take (committed_in mid.catalog) (tables_of after.catalog) ≡ take (committed_in c) (tables_of c)) start.catalog has.kept.tables
 
-      same_gone : (f : Fault) → IsDropped after new f → ShowTheSame (files_of old) (files_of new)
+      same_gone : (f : Fault) → IsDropped after left new f → ShowTheSame (files_of old) (files_of new)
       same_gone f gone = show_on (files_of old) (files_of after) (files_of new) worked gone.files
 
-      dropped_shown : (f : Fault) → IsDropped after new f → IsShown new m
+      dropped_shown : (f : Fault) → IsDropped after left new f → RepresentsRunning new m
       dropped_shown f gone =
           let same = same_gone f gone in
           let committed : committed_in new.catalog ≡ committed_in old.catalog = gone.committed ∙ has.kept.committed ∙ ap committed_in start.catalog in
@@ -324,32 +324,32 @@ module _ {D : Type 0} {g : Ghosts D} where
           (other_catalog (files_of new) old.catalog new.catalog (last_place m) old.transaction shown.first committed whole
           (still_transaction (files_of old) (files_of new) old.catalog (last_place m) old.transaction shown.first same shown.transaction)))
 
-      short : (f : Fault) → (f ≡ fault.Memory) ⊎ (f ≡ fault.Full) → IsWhy (FindsNoRoom old (written x)) (work_of (written x) (newest m)) f
+      short : (f : Fault) → IsCommitCause (files_of after) left f → IsErrorCause (FindsNoRoom old (written x)) (change_made (written x) (newest m)) f
       short f (inl memory) = inl memory
-      short f (inr full) = inr (inl full)
+      short f (inr full) = inr (inl full.0)
 
-      by_result : (r : Result ⊤ Fault) → EndsAlone after has.made r new → StepsTo old m 1 (written x) (done_reply r) new
+      by_result : (r : Result ⊤ Fault) → EndsAlone after left has.made r new → StepsTo old m 1 (written x) (done_reply r) new
       by_result (Ok done) ended = record {
         next = after_commit m 1 has.made;
-        step = by_outcome (FindsNoRoom old (written x)) m (written x) built shown.running (alone m (work_of (written x) (newest m))) (Rows []) (after_commit m 1 has.made) opened.comes (alone_commits m has.made (work_of (written x) (newest m)) has.reaches);
+        step = by_outcome (FindsNoRoom old (written x)) m (written x) supported_forms shown.running (alone m (change_made (written x) (newest m))) (Rows []) (after_commit m 1 has.made) opened.comes (alone_commits m has.made (change_made (written x) (newest m)) has.reaches);
         shown = inr (committed_shown old after new m shown has.made failed ended.0 (ended.0.transaction ∙ is_alone));
-        stop = commit_stops old after new m has.made shown worked committed_same ended.1;
+        crash = commit_crashes old after new m has.made shown worked committed_same ended.1;
       }
       by_result (Err f) (inl io) = record {
         next = doubted m has.made;
         step = subst (λ (e : Fault). StepSoFar (FindsNoRoom old (written x)) m 1 (written x) (Refused (refusal_of e)) (doubted m has.made)) (sym io.io)
-            (by_outcome (FindsNoRoom old (written x)) m (written x) built shown.running (alone m (work_of (written x) (newest m))) (Refused refusal.Io) (doubted m has.made) opened.comes (alone_doubts m has.made (work_of (written x) (newest m)) has.reaches));
+            (by_outcome (FindsNoRoom old (written x)) m (written x) supported_forms shown.running (alone m (change_made (written x) (newest m))) (Refused refusal.Io) (doubted m has.made) opened.comes (alone_doubts m has.made (change_made (written x) (newest m)) has.reaches));
         shown = inl (io.failed, refl, doubt_left old after new m has.made shown worked committed_same io.held f io);
-        stop = doubt_stops old after new m has.made shown worked committed_same io.held;
+        crash = doubt_crashes old after new m has.made shown worked committed_same io.held;
       }
-      by_result (Err f) (inr gone) = refused old new m x (alone m) shown (same_gone f gone) (dropped_shown f gone) built opened.ends (newest m) opened.comes f (short f gone.why)
+      by_result (Err f) (inr gone) = refused old new m x (alone m) shown (same_gone f gone) (dropped_shown f gone) supported_forms opened.ends (newest m) opened.comes f (short f gone.why)
 
   -- ---- a write of a transaction that writes
 
-  pub wrote_on : (mid after : Connections D g) (writer left : Writer) (w : Write) (result : Result ⊤ Fault) → is_built (written w) ≡ true
-      → ((db : Database) → WorksOn mid writer db → Works (written w) mid writer db result after left)
+  pub wrote_on : (mid after : Connections D g) (writer left : Writer) (w : Write) (result : Result ⊤ Fault) → is_supported (written w) ≡ true
+      → ((db : Database) → CanApply mid writer db → Applies (written w) mid writer db result after left)
       → StepsOn (with_transaction mid (transaction.Writing writer)) (written w) (done_reply result) (with_transaction after (transaction.Writing left))
-  wrote_on mid after writer left w result built works m shown = by_result result (works t.0 here)
+  wrote_on mid after writer left w result supported_forms applies m shown = by_result result (applies t.0 here)
     where
       old : Connections D g
       old = with_transaction mid (transaction.Writing writer)
@@ -357,24 +357,24 @@ module _ {D : Type 0} {g : Ghosts D} where
       t : IsTransaction (files_of mid) mid.catalog (last_place m) (transaction.Writing writer) shown.first
       t = shown.transaction
 
-      here : WorksOn mid writer t.0
+      here : CanApply mid writer t.0
       here = record { told = shown.told; settled = shown.settled; writer = t.2; stored = t.3; listed = shown.listed }
 
-      comes : outcome m 1 (written w) ≡ in_transaction m (work_of (written w) t.0)
+      comes : outcome m 1 (written w) ≡ in_transaction m (change_made (written w) t.0)
       comes = write_outcome_of w m (InTransactionOf false [] (Writes (last_place m) t.0)) (first_is m shown.first shown.others shown.connections ∙ t.1)
 
-      by_result : (r : Result ⊤ Fault) → Works (written w) mid writer t.0 r after left → StepsTo old m 1 (written w) (done_reply r) (with_transaction after (transaction.Writing left))
+      by_result : (r : Result ⊤ Fault) → Applies (written w) mid writer t.0 r after left → StepsTo old m 1 (written w) (done_reply r) (with_transaction after (transaction.Writing left))
       by_result (Ok done) has = record {
         next = working_on m has.made;
-        step = by_outcome (FindsNoRoom old (written w)) m (written w) built shown.running (in_transaction m (work_of (written w) t.0)) (Rows []) (working_on m has.made) comes (worked_gives m has.made (work_of (written w) t.0) has.reaches);
+        step = by_outcome (FindsNoRoom old (written w)) m (written w) supported_forms shown.running (in_transaction m (change_made (written w) t.0)) (Rows []) (working_on m has.made) comes (worked_gives m has.made (change_made (written w) t.0) has.reaches);
         shown = inr (moved old (with_transaction after (transaction.Writing left)) m (InTransactionOf false [] (Writes (last_place m) has.made)) shown has.kept.files has.kept.failed
-            (ap (λ n. take n (tables_of after.catalog)) has.kept.committed ∙ has.kept.tables) has.works.listed (has.made, refl, has.works.writer, has.works.stored));
-        stop = stop_still old (with_transaction after (transaction.Writing left)) m (working_on m has.made) shown has.kept.files;
+            (ap (λ n. take n (tables_of after.catalog)) has.kept.committed ∙ has.kept.tables) has.applies.listed (has.made, refl, has.applies.writer, has.applies.stored));
+        crash = crash_keeps old (with_transaction after (transaction.Writing left)) m (working_on m has.made) shown has.kept.files;
       }
       by_result (Err f) has =
           refused old (with_transaction after (transaction.Writing left)) m w (in_transaction m) shown has.kept.files
-          (stays old (with_transaction after (transaction.Writing left)) m shown has.kept.files has.kept.failed has.kept.committed has.kept.tables has.works.listed (t.0, t.1, has.works.writer, has.works.stored))
-          built (finish_in m shown.first shown.others shown.connections) t.0 comes f
+          (stays old (with_transaction after (transaction.Writing left)) m shown has.kept.files has.kept.failed has.kept.committed has.kept.tables has.applies.listed (t.0, t.1, has.applies.writer, has.applies.stored))
+          supported_forms (finish_in m shown.first shown.others shown.connections) t.0 comes f
           (why_of (FindsNoRoom old (written w)) (written w) mid writer t.0 f (λ made none. none) has.why)
 
   -- a step of the connections with the transaction that they have

@@ -1,19 +1,19 @@
--- Which database the two files hold, and what a stop leaves of them (Write-Ahead Logging; Database File Format, "Reader Algorithm").
+-- Which database the two files hold, and what a crash leaves of them (Write-Ahead Logging; Database File Format, "Reader Algorithm").
 use Rattle.std.specs.Prelude.{◌≡◌, ◌≤◌, ℕ, List, length, map, Some}
 use Rattle.disk.specs.File.{Version, IsLeft, IsSynced, IsContentLeft, Throughout, versions}
 use Rattle.disk.specs.declared.device.Disk.{Ghosts}
 use Rattle.dbheader.specs.Header.{IsHeader, counted_of}
 use Rattle.dbheader.specs.declared.fields.Header.{Header}
 use Rattle.wal.specs.Committed.{HasCommits}
-use Rattle.wal.specs.Known.{db_of, known_of, log_of}
-use Rattle.wal.specs.Opening.{IsViewSize}
-use Rattle.wal.specs.Stops.{HasNoChance}
+use Rattle.wal.specs.LogState.{db_of, state_of, log_of}
+use Rattle.wal.specs.Sizes.{IsViewSize}
+use Rattle.wal.specs.Crashes.{HasNoChance}
 use Rattle.wal.specs.declared.log.Log.{Log}
 use Rattle.catalog.specs.Database.{Database}
 use Rattle.catalog.specs.declared.tables.Table.{Table}
-use Rattle.pager.specs.Views.{View, IsPage, newest_view}
+use Rattle.pager.specs.Views.{View, IsViewPage, newest_view}
 use Rattle.session.specs.Machine.{Machine}
-use Rattle.session.specs.Stops.{MayShow}
+use Rattle.session.specs.Crashes.{MayShow}
 use Rattle.session.specs.Stored.{Stores}
 
 -- Opening finds the view: the database file begins with a header of the view's page size, the view is as large as its last commit
@@ -25,7 +25,7 @@ pub record IsFound (view : View) : Type 0 where
   pub sized : IsViewSize (map (λ f. f.head) view.frames) (counted_of head) (length view.db) view.page_size view.size
   pub few : length view.frames ≤ 1000000
   pub page : List ℕ
-  pub first : IsPage view 1 page
+  pub first : IsViewPage view 1 page
   pub header : Header
   pub header_is : IsHeader page header
   pub counted : counted_of header ≡ Some view.size
@@ -40,13 +40,13 @@ pub record Hold (db log : List ℕ) (database : Database) : Type 0 where
   pub tables : List Table
   pub stored : Stores view tables database
 
--- Each pair of files that a stop may leave of these versions, where no frame of the log is accepted by chance, holds a database that
+-- Each pair of files that a crash may leave of these versions, where no frame of the log is accepted by chance, holds a database that
 -- may be shown.
 abbrev pub LeaveHeld : (Database → Type 0) → List Version → List Version → Type 0
 LeaveHeld May dbs logs = (db log : List ℕ) → IsLeft dbs db → IsLeft logs log → HasNoChance logs log → (database : Database) × May database × Hold db log database
 
 module _ {D : Type 0} {g : Ghosts D} where
-  -- At each moment from the old files until the new ones a stop leaves a database that may be shown.
+  -- At each moment from the old files until the new ones a crash leaves a database that may be shown.
   abbrev pub HoldThroughout : (Database → Type 0) → Log D g → Log D g → Type 0
   HoldThroughout May old new = Throughout (LeaveHeld May) (g.file (db_of old)) (g.file (log_of old)) (g.file (db_of new)) (g.file (log_of new))
 
@@ -54,10 +54,10 @@ module _ {D : Type 0} {g : Ghosts D} where
   pub record IsSettled (files : Log D g) : Type 0 where
     pub db_synced : IsSynced (g.file (db_of files))
     pub log_synced : IsSynced (g.file (log_of files))
-    pub commits : HasCommits (known_of files).page_size (g.file (log_of files)).content (newest_view files).frames
+    pub commits : HasCommits (state_of files).page_size (g.file (log_of files)).content (newest_view files).frames
     pub found : IsFound (newest_view files)
 
-  -- The files are as a failed commit leaves them: what a stop leaves of them holds a database that the machine may show, and so do
+  -- The files are as a failed commit leaves them: what a crash leaves of them holds a database that the machine may show, and so do
   -- they as they are.
   pub record IsLeftBy (files : Log D g) (m : Machine) : Type 0 where
     pub some : 1 ≤ length m.history

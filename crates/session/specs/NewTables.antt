@@ -13,7 +13,7 @@ use Rattle.record.specs.Writing.{AreStorable, record_of}
 use Rattle.page.specs.Leaf.{Entry}
 use Rattle.page.specs.Writing.{Fits}
 use Rattle.tabletree.specs.Cells.{start_of}
-use Rattle.tabletree.specs.Lone.{IsLone}
+use Rattle.tabletree.specs.SingleLeaf.{IsSingleLeaf}
 use Rattle.syntax.specs.declared.create.TableDefinition.{TableDefinition}
 use Rattle.catalog.specs.Database.{Name}
 use Rattle.catalog.specs.declared.tables.Table.{Table}
@@ -30,31 +30,31 @@ pub record IsMadeBeside (tables : List Table) (d : TableDefinition) (root : ℕ)
 abbrev pub schema_row : Name → ℕ → List ℕ → List Value
 schema_row name root sql = Text (codes "table") ∷ Text name ∷ Text name ∷ Int (pos root) ∷ Text sql ∷ []
 
--- page 1 holds these rows, and behind them one of these values
-pub record IsListedBehind (page : List ℕ) (entries : List Entry) (values : List Value) : Type 0 where
+-- page 1 holds these rows, and after them one of these values
+pub record IsListedAfter (page : List ℕ) (entries : List Entry) (values : List Value) : Type 0 where
   pub entry : Entry
   pub is : IsRecord entry.payload values
-  pub lone : IsLone page 1 (entries ++ entry ∷ [])
+  pub single_leaf : IsSingleLeaf page 1 (entries ++ entry ∷ [])
 
--- the rowid behind those of the rows: 1 where there are none, and one more than the last's
+-- the rowid after those of the rows: 1 where there are none, and one more than the last's
 abbrev pub IsNextRowid : List Entry → ℤ → Type 0
 IsNextRowid entries rowid =
     ((length entries ≡ 0) × (rowid ≡ pos 1))
     ⊎ ((1 ≤ length entries) × ((d : Entry) → rowid ≡ (slice_index_or entries (length entries - 1) d).rowid +ℤ pos 1))
 
--- Page 1 of so many bytes has room for a row of these values behind its rows: a record can hold them, the next rowid has 64
+-- Page 1 of so many bytes has room for a row of these values after its rows: a record can hold them, the next rowid has 64
 -- bits, and there is space for the cell.
-pub record HasRoomBehind (page_size : ℕ) (entries : List Entry) (values : List Value) : Type 0 where
+pub record HasRoomAfter (page_size : ℕ) (entries : List Entry) (values : List Value) : Type 0 where
   pub storable : AreStorable values
   pub rowid : ℤ
   pub next : IsNextRowid entries rowid
   pub word : FitsSigned w64 rowid
   pub fits : Fits page_size (start_of 1) (entries ++ record { rowid = rowid; payload = record_of values } ∷ [])
 
--- Why a row isn't listed on page 1: for want of memory, or because there is no room for it.
+-- Why a row isn't listed on page 1: when out of memory, or because there is no room for it.
 abbrev pub IsListingFault : ℕ → List Entry → List Value → Fault → Type 0
 IsListingFault page_size entries values f =
-    (f ≡ fault.Memory) ⊎ ((f ≡ fault.Unsupported RowSize) × (HasRoomBehind page_size entries values → ⊥))
+    (f ≡ fault.Memory) ⊎ ((f ≡ fault.Unsupported RowSize) × (HasRoomAfter page_size entries values → ⊥))
 
 -- Why the row of a table isn't listed, where nothing else is in the way of the table.
 pub record IsRowFault (tables : List Table) (d : TableDefinition) (root page_size : ℕ) (entries : List Entry) (values : List Value) (f : Fault) : Type 0 where
@@ -62,6 +62,6 @@ pub record IsRowFault (tables : List Table) (d : TableDefinition) (root page_siz
   pub made : IsMadeBeside tables d root table
   pub why : IsListingFault page_size entries values f
 
--- Why a table isn't made: for want of memory, as its definition is refused beside the tables, or as its row isn't listed.
+-- Why a table isn't made: when out of memory, as its definition is refused beside the tables, or as its row isn't listed.
 pub record IsNewTableFault (tables : List Table) (d : TableDefinition) (root page_size : ℕ) (entries : List Entry) (values : List Value) (f : Fault) : Type 0 where
   pub why : (f ≡ fault.Memory) ⊎ IsCreateRefusal tables d (refusal_of f) ⊎ IsRowFault tables d root page_size entries values f

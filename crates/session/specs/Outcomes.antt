@@ -13,7 +13,7 @@ use Rattle.syntax.specs.declared.statement.CheckpointMode.{CheckpointMode}
 use Rattle.syntax.specs.declared.statement.Statement.{Statement}
 use Rattle.syntax.specs.declared.statement.Statement.TheVariants as statement
 use Rattle.catalog.specs.Database.{Name, Database}
-use Rattle.bind.specs.Known.{Known, Meant, known_map}
+use Rattle.bind.specs.Checked.{Checked, Meant, known_map}
 use Rattle.bind.specs.Queries.{resolve_query}
 use Rattle.bind.specs.Schema.{create, create_index, drop_object, index_clashes}
 use Rattle.bind.specs.Views.{look_up, answer_of}
@@ -47,7 +47,7 @@ of_answer (Ok db) = Makes db
 of_answer (Err (RaisedRollback t)) = Undoes (Raised t)
 of_answer (Err r) = IsRefused (r ∷ [])
 
-abbrev pub of_known : Known Database → Work
+abbrev pub of_known : Checked Database → Work
 of_known (Meant db []) = Makes db
 of_known (Meant db (r ∷ rs)) = IsRefused (r ∷ rs)
 
@@ -78,13 +78,18 @@ sort _ = Controlling
 -- ---- reading
 
 -- a query's rows on a database
-abbrev pub read_on : Database → Query → Known (Answer (List (List Value)))
+abbrev pub read_on : Database → Query → Checked (Answer (List (List Value)))
 read_on db q = known_map (answer_of db []) (resolve_query (look_up db) [] q)
 
+-- a refusal as a connection answers it
+abbrev pub answered : Refusal → Refusal
+answered (RaisedRollback t) = Raised t
+answered r = r
+
 -- the rows, in this state
-abbrev pub given : Machine → Known (Answer (List (List Value))) → Outcome
+abbrev pub given : Machine → Checked (Answer (List (List Value))) → Outcome
 given m (Meant a (r ∷ rs)) = RefusedBy (r ∷ rs)
-given m (Meant (Err r) []) = RefusedBy (r ∷ [])
+given m (Meant (Err r) []) = RefusedBy (answered r ∷ [])
 given m (Meant (Ok rows) []) = Gives rows m
 
 -- a query on what the connection sees; the first one takes the snapshot

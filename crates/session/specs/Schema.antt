@@ -9,15 +9,15 @@ use Rattle.syntax.specs.declared.create.TableDefinition.{TableDefinition}
 use Rattle.syntax.specs.declared.statement.Statement.{Statement}
 use Rattle.syntax.specs.declared.statement.Statement.TheVariants as statement
 use Rattle.catalog.specs.declared.tables.Table.{Table}
-use Rattle.parser.specs.NewObjects.{is_object_within}
-use Rattle.parser.specs.Texts.{Is}
-use Rattle.session.specs.Built.{is_table_built}
+use Rattle.grammar.specs.NewObjects.{is_object_within}
+use Rattle.grammar.specs.Texts.{IsStatementText}
+use Rattle.session.specs.Supported.{is_supported, is_table_supported}
 use Rattle.session.specs.NewTables.{IsMadeBeside, schema_row}
 
 -- The text, with what may stand around its tokens, is a CREATE of this object within the limits.
 pub record IsCreateOf (text : List ℕ) (made : NewObject) : Type 0 where
   pub sql : List ℕ
-  pub is : Is text (statement.Create (record { sql = sql; object = made }))
+  pub is : IsStatementText text (statement.Create (record { sql = sql; object = made }))
   pub within : is_object_within made ≡ true
   pub short : length text ≤ 65536
 
@@ -26,19 +26,23 @@ abbrev pub KeepsItsText : Statement → Type 0
 KeepsItsText (statement.Create c) = IsCreateOf c.sql c.object
 KeepsItsText _ = ⊤
 
--- The row tells this table: it has the text of a CREATE TABLE that is served, which makes the table beside those before it, and
+-- of a statement that is supported and keeps its text
+abbrev pub WhereSupported : Statement → Type 0 → Type 0
+WhereSupported s Holds = is_supported s ≡ true → KeepsItsText s → Holds
+
+-- The row tells this table: it has the text of a CREATE TABLE that is supported, which makes the table beside those before it, and
 -- the page where its tree begins is one of so many.
 pub record IsRowOf (pages : ℕ) (before : List Table) (table : Table) (row : Entry) : Type 0 where
   pub sql : List ℕ
   pub definition : TableDefinition
   pub creates : IsCreateOf sql (new.Table definition)
-  pub built : is_table_built definition ≡ true
+  pub supported_forms : is_table_supported definition ≡ true
   pub made : IsMadeBeside before definition table.root table
   pub above : 1 < table.root
   pub within : table.root ≤ pages
   pub row_is : IsRecord row.payload (schema_row definition.name table.root sql)
 
--- The rows tell these tables behind those before them, one each, in a database of so many pages.
+-- The rows tell these tables after those before them, one each, in a database of so many pages.
 abbrev pub AreRowsOf : ℕ → List Table → List Table → List Entry → Type 0
 AreRowsOf pages before [] [] = ⊤
 AreRowsOf pages before [] (row ∷ rows) = ⊥

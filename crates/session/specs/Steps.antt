@@ -55,7 +55,7 @@ may_fail (Copies mode) = false
 may_fail (Bound db ch o) = may_fail o
 may_fail _ = true
 
--- want of memory, of room, or a disk in place of the answer
+-- lack of memory, of room, or a disk in place of the answer
 abbrev pub Instead : Machine → Outcome → Reply → Machine → Type 0
 Instead m o (Refused r) new = ((is_free r ≡ true) ⊎ (r ≡ Io) × (may_fail o ≡ true)) × (new ≡ m)
 Instead m o (Rows rows) new = ⊥

@@ -5,8 +5,8 @@ use Rattle.sqlval.specs.declared.fault.Fault.{Fault}
 use Rattle.dbheader.specs.Header.{IsHeader}
 use Rattle.dbheader.specs.declared.fields.Header.{Header}
 use Rattle.page.specs.Leaf.{Entry}
-use Rattle.tabletree.specs.Lone.{IsLone}
-use Rattle.wal.specs.Opening.{IsServedSize}
+use Rattle.tabletree.specs.SingleLeaf.{IsSingleLeaf}
+use Rattle.wal.specs.Sizes.{IsSizeWithinLimits}
 use Rattle.syntax.specs.declared.create.NewObject.{NewObject}
 use Rattle.syntax.specs.declared.create.NewObject.TheVariants as new
 use Rattle.syntax.specs.declared.create.TableDefinition.{TableDefinition}
@@ -18,31 +18,31 @@ use Rattle.catalog.specs.declared.tables.Table.{Table}
 use Rattle.bind.specs.Bound.{AreOnce}
 use Rattle.rowprog.specs.Rows.{Holds, TableRow}
 use Rattle.dml.specs.Inserting.{FindNoRoom}
-use Rattle.pager.specs.Views.{View, IsPage}
-use Rattle.session.specs.NewTables.{HasRoomBehind, schema_row}
+use Rattle.pager.specs.Views.{View, IsViewPage}
+use Rattle.session.specs.NewTables.{HasRoomAfter, schema_row}
 use Rattle.session.specs.Schema.{AreRowsOf}
 
 -- the table's page holds these rows
 pub record IsStored (view : View) (rows_at : ℕ → List TableRow) (table : Table) : Type 0 where
   pub page : List ℕ
   pub above : 1 < table.root
-  pub there : IsPage view table.root page
+  pub there : IsViewPage view table.root page
   pub holds : Holds page table.root (length table.columns.items) (rows_at table.root)
 
--- Page 1 begins with a header that says the size of the view's pages, and behind it is a leaf of rows, which tell the tables.
+-- Page 1 begins with a header that says the size of the view's pages, and after it is a leaf of rows, which tell the tables.
 pub record HasFirstPage (view : View) (tables : List Table) : Type 0 where
   pub page : List ℕ
-  pub there : IsPage view 1 page
+  pub there : IsViewPage view 1 page
   pub header : Header
   pub header_is : IsHeader page header
   pub sized : header.page_size ≡ view.page_size
   pub rows : List Entry
-  pub lone : IsLone page 1 rows
+  pub single_leaf : IsSingleLeaf page 1 rows
   pub tell : AreRowsOf view.size [] tables rows
 
 -- two of the tables that begin at one page are one table
-abbrev pub AreApart : List Table → Type 0
-AreApart tables = (a b : Name) (s t : Table) → table_named a tables ≡ Some s → table_named b tables ≡ Some t → s.root ≡ t.root → folded a ≡ folded b
+abbrev pub HaveOwnPages : List Table → Type 0
+HaveOwnPages tables = (a b : Name) (s t : Table) → table_named a tables ≡ Some s → table_named b tables ≡ Some t → s.root ≡ t.root → folded a ≡ folded b
 
 -- The view's pages hold the database of these tables, each on a page of its own.
 pub record Stores (view : View) (tables : List Table) (db : Database) : Type 0 where
@@ -50,12 +50,12 @@ pub record Stores (view : View) (tables : List Table) (db : Database) : Type 0 w
   pub lists : Lists rows_at tables db
   pub only : has_only_tables db ≡ true
   pub once : AreOnce tables
-  pub apart : AreApart tables
+  pub apart : HaveOwnPages tables
   pub each : (name : Name) (t : Table) → table_named name tables ≡ Some t → IsStored view rows_at t
   pub first : HasFirstPage view tables
-  pub served : IsServedSize view.page_size view.size
+  pub served : IsSizeWithinLimits view.page_size view.size
 
--- A listed table has rows in the database that find no room behind those on its page.
+-- A listed table has rows in the database that find no room after those on its page.
 pub record FillsItsPage (view : View) (tables : List Table) (db : Database) : Type 0 where
   pub name : Name
   pub table : Table
@@ -64,18 +64,18 @@ pub record FillsItsPage (view : View) (tables : List Table) (db : Database) : Ty
   pub added : List TableRow
   pub is : object db name ≡ Some (ATable (plain_table table (rows ++ added)))
   pub page : List ℕ
-  pub there : IsPage view table.root page
+  pub there : IsViewPage view table.root page
   pub holds : Holds page table.root (length table.columns.items) rows
   pub fault : Fault
   pub full : FindNoRoom page table.root added fault
 
--- The row of the table that this makes, whose tree would begin on the page behind all others, finds no room on page 1.
+-- The row of the table that this makes, whose tree would begin on the page after all others, finds no room on page 1.
 pub record FillsFirstPage (view : View) (sql : List ℕ) (d : TableDefinition) : Type 0 where
   pub page : List ℕ
-  pub there : IsPage view 1 page
+  pub there : IsViewPage view 1 page
   pub entries : List Entry
-  pub lone : IsLone page 1 entries
-  pub full : HasRoomBehind (length page) entries (schema_row d.name (view.size + 1) sql) → ⊥
+  pub single_leaf : IsSingleLeaf page 1 entries
+  pub full : HasRoomAfter (length page) entries (schema_row d.name (view.size + 1) sql) → ⊥
 
 abbrev MakesWithoutRoom : View → List ℕ → NewObject → Type 0
 MakesWithoutRoom view sql (new.Table d) = FillsFirstPage view sql d
@@ -87,5 +87,5 @@ IsUnlisted view (statement.Create c) = MakesWithoutRoom view c.sql c.object
 IsUnlisted view _ = ⊥
 
 -- The database that a statement would leave finds no room, where this is seen before it, with these tables.
-abbrev pub HasNoRoom : View → List Table → Statement → Database → Type 0
-HasNoRoom view tables s db = FillsItsPage view tables db ⊎ IsUnlisted view s
+abbrev pub LacksRoom : View → List Table → Statement → Database → Type 0
+LacksRoom view tables s db = FillsItsPage view tables db ⊎ IsUnlisted view s

@@ -9,7 +9,7 @@ use Rattle.session.specs.Steps.{Step, is_connection}
 pub record Grammar : Type 1 where
   -- of the first token that is refused: a syntax error or a real
   pub refused_token : List ℕ → Option Refusal
-  -- its first word, or the word of its PRAGMA, is that of a statement that isn't served
+  -- its first word, or the word of its PRAGMA, is that of a statement that isn't supported
   pub IsUnserved : List ℕ → Type 0
   -- the text is a statement, which reads so; it is one at most
   pub Reads : List ℕ → Statement → Type 0
@@ -33,7 +33,7 @@ MustPass g text =
     × ((whole : List ℕ) × (s : Statement) × g.Begins front whole × g.Reads whole s)
     × ((whole : List ℕ) (s : Statement) → g.Begins front whole → g.Reads whole s → g.within s ≡ false)
 
--- neither too long, nor refused for a token, nor of a statement that isn't served
+-- neither too long, nor refused for a token, nor of a statement that isn't supported
 abbrev pub IsCandidate : Grammar → List ℕ → Type 0
 IsCandidate g text = (is_long text ≡ false) × (g.refused_token text ≡ None) × (g.IsUnserved text → ⊥)
 

@@ -1,9 +1,9 @@
-//! The forms of the grammar that are built so far. It only grows, and goes away when all are.
+//! The forms of the grammar that are supported so far. The list only grows, and goes away when all are.
 
 ghost use Rattle.std.specs.Prelude.{◌≡◌, ◌==◌, length};
 ghost use Rattle.std.specs.List.{list_all};
 ghost use Rattle.bind.specs.Bound.{is_literal};
-ghost use Rattle.session.specs.Built as built;
+ghost use Rattle.session.specs.Supported as supported_forms;
 
 use sqlval::Many;
 use syntax::{
@@ -11,7 +11,7 @@ use syntax::{
     Statement, TableDefinition,
 };
 
-fn is_literal_built(value: &Expr) -> bool
+fn is_literal_supported(value: &Expr) -> bool
     ensures { result ≡ is_literal value.now }
 {
     match &value.node {
@@ -21,25 +21,25 @@ fn is_literal_built(value: &Expr) -> bool
     }
 }
 
-fn is_result_built(item: &ResultItem) -> bool
-    ensures { result ≡ built.is_result_built item.now }
+fn is_result_supported(item: &ResultItem) -> bool
+    ensures { result ≡ supported_forms.is_result_supported item.now }
 {
     match item {
         ResultItem::All | ResultItem::AllOf(_) => true,
         ResultItem::Of(value, _) => {
-            matches!(&value.node, Node::Column(_, _)) || is_literal_built(value)
+            matches!(&value.node, Node::Column(_, _)) || is_literal_supported(value)
         }
     }
 }
 
-fn are_results_built(results: &Many<ResultItem>) -> bool
-    ensures { result ≡ list_all built.is_result_built results.now }
+fn are_results_supported(results: &Many<ResultItem>) -> bool
+    ensures { result ≡ list_all supported_forms.is_result_supported results.now }
 {
-    results.as_slice().iter().all(is_result_built)
+    results.as_slice().iter().all(is_result_supported)
 }
 
 fn has_one_source(query: &Query) -> bool
-    ensures { result ≡ built.has_one_source query.now.from }
+    ensures { result ≡ supported_forms.has_one_source query.now.from }
 {
     match &query.from {
         Some(from) => from.joins.len() == 0,
@@ -47,8 +47,8 @@ fn has_one_source(query: &Query) -> bool
     }
 }
 
-fn is_query_built(query: &Query) -> bool
-    ensures { result ≡ built.is_query_built query.now }
+fn is_query_supported(query: &Query) -> bool
+    ensures { result ≡ supported_forms.is_query_supported query.now }
 {
     !query.is_distinct
         && query.condition.is_none()
@@ -56,52 +56,52 @@ fn is_query_built(query: &Query) -> bool
         && query.order.len() == 0
         && query.limit.is_none()
         && has_one_source(query)
-        && are_results_built(&query.results)
+        && are_results_supported(&query.results)
 }
 
-fn is_row_built(row: &Many<Expr>) -> bool
+fn is_row_supported(row: &Many<Expr>) -> bool
     ensures { result ≡ list_all is_literal row.now }
 {
-    row.as_slice().iter().all(is_literal_built)
+    row.as_slice().iter().all(is_literal_supported)
 }
 
-fn are_rows_built(rows: &Many<Many<Expr>>) -> bool
+fn are_rows_supported(rows: &Many<Many<Expr>>) -> bool
     ensures { result ≡ list_all (list_all is_literal) rows.now }
 {
-    rows.as_slice().iter().all(is_row_built)
+    rows.as_slice().iter().all(is_row_supported)
 }
 
-fn is_source_built(source: &InsertSource) -> bool
-    ensures { result ≡ built.is_source_built source.now }
+fn is_source_supported(source: &InsertSource) -> bool
+    ensures { result ≡ supported_forms.is_source_supported source.now }
 {
     match source {
-        InsertSource::Rows(rows) => are_rows_built(rows),
+        InsertSource::Rows(rows) => are_rows_supported(rows),
         InsertSource::Query(_) => false,
     }
 }
 
 /// Whether a table has columns of names and types alone.
-pub fn is_table_built(table: &TableDefinition) -> bool
-    ensures { result ≡ built.is_table_built table.now }
+pub fn is_table_supported(table: &TableDefinition) -> bool
+    ensures { result ≡ supported_forms.is_table_supported table.now }
 {
-    table.rules.len() == 0 && are_columns_built(&table.columns)
+    table.rules.len() == 0 && are_columns_supported(&table.columns)
 }
 
-fn are_columns_built(columns: &Many<ColumnDefinition>) -> bool
+fn are_columns_supported(columns: &Many<ColumnDefinition>) -> bool
     ensures { result ≡ list_all (λ c. length c.rules == 0) columns.now }
 {
-    columns.as_slice().iter().all(is_column_built)
+    columns.as_slice().iter().all(is_column_supported)
 }
 
-fn is_column_built(column: &ColumnDefinition) -> bool
+fn is_column_supported(column: &ColumnDefinition) -> bool
     ensures { result ≡ (length column.now.rules == 0) }
 {
     column.rules.len() == 0
 }
 
-/// Whether a statement is built.
-pub fn is_built(statement: &Statement) -> bool
-    ensures { result ≡ built.is_built statement.now }
+/// Whether a statement's form is supported.
+pub fn is_supported(statement: &Statement) -> bool
+    ensures { result ≡ supported_forms.is_supported statement.now }
 {
     match statement {
         Statement::Create(
@@ -109,9 +109,9 @@ pub fn is_built(statement: &Statement) -> bool
                 sql: _,
                 object: NewObject::Table(table),
             },
-        ) => is_table_built(table),
-        Statement::Change(Change::Insert(insert)) => is_source_built(&insert.source),
-        Statement::Select(query) => is_query_built(query),
+        ) => is_table_supported(table),
+        Statement::Change(Change::Insert(insert)) => is_source_supported(&insert.source),
+        Statement::Select(query) => is_query_supported(query),
         Statement::Begin(_) | Statement::Commit | Statement::Rollback => true,
         _ => false,
     }

@@ -1,13 +1,14 @@
-//! The engine as a machine over its connections, as definitions: what each statement may answer, and what is left after a stop.
+//! The connections of an open database: what each statement may answer, and what is left after a crash, with the machine that
+//! defines it.
 #![tactic(auto)]
 
 mod forms;
 mod tables;
 mod transactions;
 
-ghost use Rattle.session.specs.Laws.{BuiltIsServed, LeavesOthers, ReadsAsBound, RefusalsAddNothing, RefusesAsRead};
+ghost use Rattle.session.specs.Laws.{SupportedIsPlain, LeavesOthers, ReadsAsBound, RefusalsAddNothing, RefusesAsRead};
 
-pub use forms::{is_built, is_table_built};
+pub use forms::{is_supported, is_table_supported};
 pub use transactions::Connections;
 
 /// A refused statement commits nothing.
@@ -20,9 +21,9 @@ pub fn others_see_the_same()
     ensures { LeavesOthers }
 {}
 
-/// A query that is built has the form whose names are looked up.
-pub fn built_queries_are_served()
-    ensures { BuiltIsServed }
+/// A supported query has the form that `bind_query` binds.
+pub fn supported_queries_are_plain()
+    ensures { SupportedIsPlain }
 {}
 
 /// A query whose outputs are bound comes to what they give of its source's rows.
@@ -30,7 +31,7 @@ pub fn bound_queries_read_as_defined()
     ensures { ReadsAsBound }
 {}
 
-/// A built query is refused only as reading it is, or for want of memory.
-pub fn built_queries_are_refused_as_read()
+/// A supported query is refused only as reading it is, or if out of memory.
+pub fn supported_queries_are_refused_as_read()
     ensures { RefusesAsRead }
 {}

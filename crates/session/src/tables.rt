@@ -1,4 +1,4 @@
-//! Tables that are made.
+//! CREATE TABLE.
 
 ghost use Rattle.std.specs.Prelude.{◌≡◌, ◌⊎◌, FitsSigned, ℤ, List, length, take, IfOk, IfErr};
 ghost use Rattle.std.specs.Int.{w64};
@@ -6,16 +6,16 @@ ghost use Rattle.record.specs.Record.{IsRecord};
 ghost use Rattle.record.specs.Writing.{AreStorable, record_of};
 ghost use Rattle.page.specs.Leaf.{Entry, entry_of};
 ghost use Rattle.tabletree.specs.Cells.{start_of};
-ghost use Rattle.tabletree.specs.Lone.{IsLone};
-ghost use Rattle.catalog.specs.Faults.{IsNoFileFault};
+ghost use Rattle.tabletree.specs.SingleLeaf.{IsSingleLeaf};
+ghost use Rattle.sqlval.specs.Faults.{IsNotDiskFault};
 ghost use Rattle.catalog.specs.Listed.{tables_of};
 ghost use Rattle.sqlval.specs.Refusals.{refusal_of};
 ghost use Rattle.bind.specs.Creating.{IsCreateRefusal};
-ghost use Rattle.session.specs.NewTables.{HasRoomBehind, IsListedBehind, IsListingFault, IsMadeBeside, IsNewTableFault, IsNextRowid, schema_row};
+ghost use Rattle.session.specs.NewTables.{HasRoomAfter, IsListedAfter, IsListingFault, IsMadeBeside, IsNewTableFault, IsNextRowid, schema_row};
 
 use catalog::{Catalog, Table, columns_of, is_reserved};
 use page::Cell;
-use record::{encode, is_storable};
+use record::encode_row;
 use sqlval::{Fault, Feature, Misuse, Name, R, Text, Value};
 use std::alloc::Global;
 use syntax::TableDefinition;
@@ -35,20 +35,8 @@ fn schema_values(alloc: Global, name: &Name, root: u32, sql: &Text) -> R<Vec<Val
     Ok(values)
 }
 
-/// The record of a row. What no record can hold finds no room on a page.
-fn encoded(alloc: Global, values: &[Value]) -> R<Vec<u8>>
-    ensures is { IfOk result (λ payload. IsRecord payload.items values.now) }
-    ensures exact { IfOk result (λ payload. payload.items ≡ record_of values.now) }
-    ensures refused { IfErr result (λ fault. (fault ≡ Fault.Memory) ⊎ ((fault ≡ Fault.Unsupported Feature.RowSize) × (AreStorable values.now → ⊥))) }
-{
-    if !is_storable(values) {
-        return Err(Fault::Unsupported(Feature::RowSize));
-    }
-    encode(alloc, values)
-}
-
-/// The cell behind the last row. Where that has the greatest rowid of all, there is no room for another.
-fn cell_behind<'a>(leaf: &Leaf<'_>, payload: &'a [u8]) -> R<Cell<'a>>
+/// The cell of a new last row. `Unsupported(RowSize)` after the greatest rowid of all.
+fn cell_after<'a>(leaf: &Leaf<'_>, payload: &'a [u8]) -> R<Cell<'a>>
     ensures next { IfOk result (λ cell. IsNextRowid leaf.now (entry_of cell).rowid) }
     ensures payload { IfOk result (λ cell. (entry_of cell).payload ≡ payload.now) }
     ensures full { IfErr result (λ fault. (fault ≡ Fault.Unsupported Feature.RowSize) × ((rowid : ℤ) → IsNextRowid leaf.now rowid → FitsSigned w64 rowid → ⊥)) }
@@ -59,31 +47,31 @@ fn cell_behind<'a>(leaf: &Leaf<'_>, payload: &'a [u8]) -> R<Cell<'a>>
     Ok(Cell { rowid, payload })
 }
 
-/// Page 1 with a row of these values behind its others.
+/// Page 1 with one more row of the schema table.
 fn with_schema_row(alloc: Global, page: &[u8], values: &[Value]) -> R<Vec<u8>>
-    ensures listed { IfOk result (λ new. (entries : List Entry) → IsLone page.now 1 entries → IsListedBehind new.items entries values.now) }
+    ensures listed { IfOk result (λ new. (entries : List Entry) → IsSingleLeaf page.now 1 entries → IsListedAfter new.items entries values.now) }
     ensures size { IfOk result (λ new. length new.items ≡ length page.now) }
     ensures front { IfOk result (λ new. take (start_of 1) new.items ≡ take (start_of 1) page.now) }
-    ensures why { IfErr result (λ fault. (entries : List Entry) → IsLone page.now 1 entries → IsListingFault (length page.now) entries values.now fault) }
-    ensures calm { IfErr result (λ fault. IsNoFileFault fault) }
+    ensures why { IfErr result (λ fault. (entries : List Entry) → IsSingleLeaf page.now 1 entries → IsListingFault (length page.now) entries values.now fault) }
+    ensures not_disk { IfErr result (λ fault. IsNotDiskFault fault) }
 {
-    let payload = encoded(alloc, values)?;
-    let cell = cell_behind(&Leaf::over(alloc, page, 1)?, &payload)?;
+    let payload = encode_row(alloc, values)?;
+    let cell = cell_after(&Leaf::over(alloc, page, 1)?, &payload)?;
     with_rows(alloc, page, 1, &[cell])
 }
 
-/// A table that is to be made, and page 1 with its row.
+/// A new table, and page 1 with its row of the schema table.
 #[derive(Drop)]
 pub struct NewTable {
     pub table: Table,
     pub schema: Vec<u8>,
 }
 
-/// The table of a definition, whose tree is to begin at page `root`, beside those of the catalog.
+/// The new table of a definition, with its tree at page `root`.
 fn table_of(alloc: Global, catalog: &Catalog, root: u32, definition: &TableDefinition) -> R<Table>
     ensures made { IfOk result (λ table. IsMadeBeside (tables_of catalog.now) definition.now root table) }
     ensures why { IfErr result (λ fault. (fault ≡ Fault.Memory) ⊎ IsCreateRefusal (tables_of catalog.now) definition.now (refusal_of fault)) }
-    ensures calm { IfErr result (λ fault. IsNoFileFault fault) }
+    ensures not_disk { IfErr result (λ fault. IsNotDiskFault fault) }
 {
     let name = &definition.name;
     if is_reserved(name.as_str()) {
@@ -99,8 +87,7 @@ fn table_of(alloc: Global, catalog: &Catalog, root: u32, definition: &TableDefin
     })
 }
 
-/// Makes a table whose tree is to begin at page `root`, beside those of the catalog, which `page`, page 1, lists. What finds no
-/// room on page 1 is `Unsupported(RowSize)`.
+/// Makes a table with its tree at page `root`; `page` is page 1. A row that finds no room on page 1 is `Unsupported(RowSize)`.
 pub fn new_table(
     alloc: Global,
     catalog: &Catalog,
@@ -110,11 +97,11 @@ pub fn new_table(
     definition: &TableDefinition,
 ) -> R<NewTable>
     ensures made { IfOk result (λ made. IsMadeBeside (tables_of catalog.now) definition.now root made.table) }
-    ensures listed { IfOk result (λ made. (entries : List Entry) → IsLone page.now 1 entries → IsListedBehind made.schema.items entries (schema_row definition.now.name root sql.now)) }
+    ensures listed { IfOk result (λ made. (entries : List Entry) → IsSingleLeaf page.now 1 entries → IsListedAfter made.schema.items entries (schema_row definition.now.name root sql.now)) }
     ensures size { IfOk result (λ made. length made.schema.items ≡ length page.now) }
     ensures front { IfOk result (λ made. take (start_of 1) made.schema.items ≡ take (start_of 1) page.now) }
-    ensures why { IfErr result (λ fault. (entries : List Entry) → IsLone page.now 1 entries → IsNewTableFault (tables_of catalog.now) definition.now root (length page.now) entries (schema_row definition.now.name root sql.now) fault) }
-    ensures refused { IfErr result (λ fault. IsNoFileFault fault) }
+    ensures why { IfErr result (λ fault. (entries : List Entry) → IsSingleLeaf page.now 1 entries → IsNewTableFault (tables_of catalog.now) definition.now root (length page.now) entries (schema_row definition.now.name root sql.now) fault) }
+    ensures refused { IfErr result (λ fault. IsNotDiskFault fault) }
 {
     let table = table_of(alloc, catalog, root, definition)?;
     let values = schema_values(alloc, &definition.name, root, sql)?;

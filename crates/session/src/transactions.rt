@@ -2,32 +2,33 @@
 
 ghost use Rattle.std.specs.Prelude.{◌≡◌, ◌⊎◌, ◌≤◌, ◌&&◌, ℕ, List, All, length, map, Ok, Err, Some, IfOk, IfErr, IfSome, IfNone, true, false, IsTrue, IsFalse};
 ghost use Rattle.bind.specs.Bound.{IsOf};
-ghost use Rattle.sqlval.specs.declared.fault.Fault.TheVariants.{Io};
+ghost use Rattle.sqlval.specs.declared.fault.Fault.TheVariants.{Memory, Io};
 ghost use Rattle.dml.specs.Inserting.{IsInsertRefusal, IsInserted};
 ghost use Rattle.pager.specs.Limits.{page_size_of};
-ghost use Rattle.pager.specs.Views.{Has, IsPage, Tells, newest_view, view_at};
+ghost use Rattle.pager.specs.Views.{ViewHas, IsViewPage, Tells, newest_view, view_at};
 ghost use Rattle.rowprog.specs.Rows.{Holds, TableRow, answers_of};
-ghost use Rattle.session.specs.Shown.{AnswersOrFails, AnswersRead, IsWriter, ShowTheSame};
-ghost use Rattle.session.specs.Schema.{IsCreateOf, KeepsItsText};
+ghost use Rattle.session.specs.Representation.{AnswersOrFails, AnswersRead, IsWriter, ShowTheSame};
+ghost use Rattle.session.specs.Schema.{IsCreateOf, KeepsItsText, WhereSupported};
 ghost use Rattle.session.specs.Stored.{Stores};
-ghost use Rattle.session.specs.Built.{is_query_built};
+ghost use Rattle.session.specs.Supported.{is_query_supported};
 ghost use Rattle.session.specs.Outcomes.{read_on};
 ghost use Rattle.catalog.specs.Database.{Database};
 ghost use Rattle.catalog.specs.Listed.{tables_of};
-ghost use Rattle.session.specs.Built as forms;
-ghost use Rattle.wal.specs.Known.{db_of, known_of, log_of, seen_by};
-ghost use Rattle.wal.specs.Whys.{HasReason};
-ghost use Rattle.session.specs.Known.{is_io};
+ghost use Rattle.session.specs.Supported as forms;
+ghost use Rattle.wal.specs.LogState.{db_of, state_of, log_of, seen_by};
+ghost use Rattle.wal.specs.ErrorCauses.{HasCause};
+ghost use Rattle.session.specs.ConnectionState.{is_io};
 ghost use Rattle.session.specs.Limits.{may_be_full};
-ghost use Rattle.session.specs.Working.{CommitsWork, EndsAlone, SeesRows, Works, WorksOn, written};
+ghost use Rattle.session.specs.Failing.{IsRefusedFor, MarksFailure, ReadsFiles, is_immediate};
+ghost use Rattle.session.specs.Applying.{CommitsChanges, EndsAlone, SeesRows, Applies, CanApply, written};
 
-use crate::forms::is_built;
+use crate::forms::is_supported;
 use crate::tables::{NewTable, new_table};
 use bind::{BoundInsert, BoundSource, Output, bind_insert, bind_query};
 use catalog::{Catalog, new_tables_are_listed, other_rows_are_listed};
 use disk::Disk;
 use pager::{Writer, read_page};
-use rowprog::{Plan, Rows, Scan, lone_row, plan_of, table_rows};
+use rowprog::{Plan, Rows, Scan, plan_of, single_row, table_rows};
 use sqlval::{Damage, Fault, Feature, Misuse, R, Text};
 use std::alloc::Global;
 use std::mem;
@@ -35,12 +36,12 @@ use syntax::{BeginMode, Change, Create, Insert, NewObject, Query, Statement, Tab
 use trigger::only_tables_set_nothing_off;
 use wal::{Log, PageImage, Snapshot};
 
-/// How far a transaction has come.
+/// The state of a transaction.
 #[derive(Drop)]
 enum Transaction {
-    /// There is none.
+    /// No transaction.
     Idle,
-    /// BEGIN, and nothing read or written yet.
+    /// After BEGIN, with nothing read or written yet.
     Begun,
     Reading(Snapshot),
     Writing(Writer),
@@ -53,7 +54,7 @@ enum Write<'a> {
     CreateTable(&'a Text, &'a TableDefinition),
 }
 
-/// The connections of an open database. For now the first alone is served.
+/// The connections of an open database. For now the first alone is supported.
 #[derive(Drop)]
 pub struct Connections<D: Disk + Drop> {
     alloc: Global,
@@ -63,10 +64,10 @@ pub struct Connections<D: Disk + Drop> {
     has_failed: bool,
 }
 
-fn not_built<T>() -> R<T>
-    ensures { result ≡ Err (Fault.Unsupported Feature.NotBuilt) }
+fn unsupported_form<T>() -> R<T>
+    ensures { result ≡ Err (Fault.Unsupported Feature.StatementForm) }
 {
-    Err(Fault::Unsupported(Feature::NotBuilt))
+    Err(Fault::Unsupported(Feature::StatementForm))
 }
 
 /// Whether a call of a disk has failed.
@@ -76,7 +77,7 @@ fn is_io(fault: &Fault) -> bool
     matches!(fault, Fault::Io)
 }
 
-/// A change, where it is one.
+/// The change that a statement makes, if it makes one.
 fn write_of(statement: &Statement) -> Option<Write<'_>>
     ensures full { IfSome result (λ write. IsTrue (may_be_full statement.now)) }
     ensures same { IfSome result (λ write. written write ≡ statement.now) }
@@ -102,23 +103,23 @@ fn rows_on<D: Disk + Drop>(
     source: BoundSource,
     outputs: &[Output],
 ) -> R<Rows>
-    ensures reason { HasReason false result log.old log.new }
+    ensures cause { HasCause false result log.old log.new }
     ensures same { Tells log.old → ShowTheSame log.old log.new }
-    ensures answered { (page : List ℕ) (rows : List TableRow) → Tells log.old → seen_by snapshot ≤ (known_of log.old).frames → IsPage (view_at log.old snapshot) source.root page → Holds page source.root source.width rows
+    ensures answered { (page : List ℕ) (rows : List TableRow) → Tells log.old → seen_by snapshot ≤ (state_of log.old).frames → IsViewPage (view_at log.old snapshot) source.root page → Holds page source.root source.width rows
         → All (IsOf (Some source.width)) outputs.now → AnswersOrFails (answers_of outputs.now rows) result }
 {
     let page = read_page(alloc, log, snapshot, source.root)?;
     table_rows(alloc, &page, source, outputs)
 }
 
-/// The bytes of a table's page with an insertion's rows behind those that a writer sees there.
+/// Builds a table's page anew with an INSERT's rows after those that the writer sees.
 fn with_new_rows<D: Disk + Drop>(
     alloc: Global,
     log: &mut Log<D>,
     writer: &Writer,
     insert: BoundInsert<'_>,
 ) -> R<Vec<u8>>
-    ensures reason { HasReason false result log.old log.new }
+    ensures cause { HasCause false result log.old log.new }
     ensures same { Tells log.old → ShowTheSame log.old log.new }
     ensures inserted { (page : List ℕ) (rows : List TableRow) → SeesRows log.old writer.now insert.entry.table.now page rows
         → IfOk result (λ new. IsInserted new.items insert.entry.table.now.root insert.entry.table.now.columns.items insert.entry.places.items (map (λ row. row.items) insert.entry.rows.items) rows) }
@@ -135,7 +136,7 @@ fn with_new_rows<D: Disk + Drop>(
 }
 
 impl<D: Disk + Drop> Connections<D> {
-    ghost use Rattle.session.specs.Shown.{AreCommitted, IsGivenUp, IsNewest, IsShown, OnlyReads, StartsReading, Steps, StepsOn, done_reply, is_begun, is_idle, is_reading, rows_reply, seen_in, with_transaction};
+    ghost use Rattle.session.specs.Representation.{AreCommitted, IsGivenUp, IsNewest, RepresentsRunning, OnlyReads, StartsReading, Steps, StepsOn, done_reply, is_begun, is_idle, is_reading, rows_reply, seen_in, with_transaction};
     ghost use Rattle.session.specs.declared.transactions.Transaction.TheVariants as transaction;
     ghost use Rattle.session.specs.Holding.{IsSettled};
     ghost use Rattle.session.specs.Machine.{Machine, fresh};
@@ -143,14 +144,14 @@ impl<D: Disk + Drop> Connections<D> {
     ghost use Rattle.syntax.specs.declared.create.NewObject.TheVariants as object;
     ghost use Rattle.syntax.specs.declared.statement.BeginMode.TheVariants.{Deferred, Immediate};
     ghost use Rattle.syntax.specs.declared.statement.Statement.TheVariants as statement;
-    ghost use Rattle.session.specs.Known.{IsNoConnection, IsUnserved, files_of, first_refusal, has_failed_in};
+    ghost use Rattle.session.specs.ConnectionState.{AnswersUnsupported, HasCauseIn, files_of, first_refusal, has_failed_in};
 
     /// The connections of a database whose schema is read, all of them idle.
     pub fn new(alloc: Global, log: Log<D>, catalog: Catalog) -> Connections<D>
         ensures files { files_of result ≡ log }
         ensures whole { IsFalse (has_failed_in result) }
-        // Where the files hold a database and the catalog lists its tables, they show the machine of it.
-        ensures shown { (db : Database) → Tells log → IsSettled log → AreCommitted catalog → Stores (newest_view log) (tables_of catalog) db → IsShown result (fresh db) }
+        // Where the files hold a database and the catalog lists its tables, the connections represent its machine.
+        ensures shown { (db : Database) → Tells log → IsSettled log → AreCommitted catalog → Stores (newest_view log) (tables_of catalog) db → RepresentsRunning result (fresh db) }
     {
         Connections {
             alloc,
@@ -161,7 +162,7 @@ impl<D: Disk + Drop> Connections<D> {
         }
     }
 
-    /// Gives the files back.
+    /// Gives the two disks back.
     pub fn into_disks(self) -> (D, D)
         ensures db { result.0 ≡ db_of (files_of self) }
         ensures log { result.1 ≡ log_of (files_of self) }
@@ -176,14 +177,14 @@ impl<D: Disk + Drop> Connections<D> {
         log.into_disks()
     }
 
-    /// Whether a commit has failed, so that the files are to be opened anew.
+    /// Whether a commit has failed, so that the files must be opened again.
     pub fn has_failed(&self) -> bool
         ensures { result ≡ has_failed_in self.now }
     {
         self.has_failed
     }
 
-    /// Refuses what no connection of this number may do.
+    /// Refuses every statement of a failed engine, and connection numbers outside 1 to 16.
     pub fn check(&self, connection: u32) -> R<()>
         ensures { result ≡ first_refusal (has_failed_in self.now) connection }
     {
@@ -196,19 +197,22 @@ impl<D: Disk + Drop> Connections<D> {
         Ok(())
     }
 
-    /// Executes a statement. A refused one changes nothing, but for `Io` in a commit, after which all is refused.
+    /// Executes a statement on a connection that `check` doesn't refuse. A refused one changes nothing, except for `Io` in a
+    /// commit, after which all is refused.
     pub fn execute(&mut self, connection: u32, statement: &Statement) -> R<Rows>
-        ensures failed { IsTrue (has_failed_in self.old) → (result ≡ Err Fault.Failed) × (self.new ≡ self.old) }
-        ensures numbered { IsFalse (has_failed_in self.old) → IsNoConnection connection → (result ≡ Err (Fault.Misuse Misuse.Connection)) × (self.new ≡ self.old) }
-        // What isn't served yet, a form or a connection, is refused as such, and changes nothing.
-        ensures unbuilt { first_refusal (has_failed_in self.old) connection ≡ Ok tt → IsFalse (forms.is_built statement.now && forms.is_served connection) → IsUnserved result × (self.new ≡ self.old) }
-        ensures reason { HasReason (may_be_full statement.now) result (files_of self.old) (files_of self.new) }
-        // The reply is a step of each machine that was shown, and the machine behind the step is shown; a CREATE has the text of itself.
+        // `check` is the test.
+        requires free { first_refusal (has_failed_in self.old) connection ≡ Ok tt }
+        // What isn't supported yet, a form or a connection, is refused as such, and changes nothing.
+        ensures unsupported { IsFalse (forms.is_supported statement.now && forms.is_connection_supported connection) → AnswersUnsupported result × (self.new ≡ self.old) }
+        ensures cause { HasCauseIn (may_be_full statement.now) result self.old self.new }
+        ensures marks { MarksFailure result self.old self.new }
+        // Memory is short only where it is taken, and a COMMIT is refused as `Full` only past the limits.
+        ensures refused { IfErr result (IsRefusedFor self.old statement.now) }
+        // The reply is a step of each machine that was represented, and the machine after it is represented then. (A CREATE carries its own text.)
         ensures step { KeepsItsText statement.now → Steps self.old connection statement.now (rows_reply result) self.new }
     {
-        self.check(connection)?;
-        if !is_built(statement) {
-            return not_built();
+        if !is_supported(statement) {
+            return unsupported_form();
         }
         if connection != 1 {
             return Err(Fault::Unsupported(Feature::Connection));
@@ -218,8 +222,10 @@ impl<D: Disk + Drop> Connections<D> {
 
     /// Executes a statement of the first connection.
     fn serve(&mut self, statement: &Statement) -> R<Rows>
-        ensures reason { HasReason (may_be_full statement.now) result (files_of self.old) (files_of self.new) }
-        ensures step { forms.is_built statement.now ≡ true → KeepsItsText statement.now → StepsOn self.old statement.now (rows_reply result) self.new }
+        ensures cause { HasCauseIn (may_be_full statement.now) result self.old self.new }
+        ensures marks { MarksFailure result self.old self.new }
+        ensures refused { IfErr result (IsRefusedFor self.old statement.now) }
+        ensures step { WhereSupported statement.now (StepsOn self.old statement.now (rows_reply result) self.new) }
     {
         if let Statement::Select(query) = statement {
             return self.select(query);
@@ -230,8 +236,10 @@ impl<D: Disk + Drop> Connections<D> {
 
     /// Executes a statement that answers no rows.
     fn change(&mut self, statement: &Statement) -> R<()>
-        ensures reason { HasReason (may_be_full statement.now) result (files_of self.old) (files_of self.new) }
-        ensures step { forms.is_built statement.now ≡ true → KeepsItsText statement.now → forms.is_query statement.now ≡ false → StepsOn self.old statement.now (done_reply result) self.new }
+        ensures cause { HasCauseIn (may_be_full statement.now) result self.old self.new }
+        ensures marks { MarksFailure result self.old self.new }
+        ensures refused { IfErr result (IsRefusedFor self.old statement.now) }
+        ensures step { WhereSupported statement.now (forms.is_query statement.now ≡ false → StepsOn self.old statement.now (done_reply result) self.new) }
     {
         match statement {
             Statement::Begin(mode) => self.begin(*mode),
@@ -239,13 +247,15 @@ impl<D: Disk + Drop> Connections<D> {
             Statement::Rollback => self.rollback(),
             _ => match write_of(statement) {
                 Some(write) => self.write(write),
-                None => not_built(),
+                None => unsupported_form(),
             },
         }
     }
 
     fn begin(&mut self, mode: BeginMode) -> R<()>
-        ensures reason { HasReason false result (files_of self.old) (files_of self.new) }
+        ensures cause { HasCauseIn false result self.old self.new }
+        ensures reads { ReadsFiles self.old self.new }
+        ensures memory { IfErr result (λ fault. fault ≡ Memory → IsTrue (is_immediate mode)) }
         ensures step { StepsOn self.old (statement.Begin mode) (done_reply result) self.new }
     {
         if !self.is_idle() {
@@ -258,7 +268,9 @@ impl<D: Disk + Drop> Connections<D> {
     }
 
     fn begin_deferred(&mut self) -> R<()>
-        ensures reason { HasReason false result (files_of self.old) (files_of self.new) }
+        ensures cause { HasCauseIn false result self.old self.new }
+        ensures reads { ReadsFiles self.old self.new }
+        ensures done { result ≡ Ok tt }
         ensures step { is_idle self.old.transaction ≡ true → StepsOn self.old (statement.Begin Deferred) (done_reply result) self.new }
     {
         self.transaction = Transaction::Begun;
@@ -267,7 +279,8 @@ impl<D: Disk + Drop> Connections<D> {
 
     /// Takes the write right.
     fn begin_immediate(&mut self) -> R<()>
-        ensures reason { HasReason false result (files_of self.old) (files_of self.new) }
+        ensures cause { HasCauseIn false result self.old self.new }
+        ensures reads { ReadsFiles self.old self.new }
         ensures step { is_idle self.old.transaction ≡ true → StepsOn self.old (statement.Begin Immediate) (done_reply result) self.new }
     {
         let newest = self.log.begin();
@@ -284,7 +297,9 @@ impl<D: Disk + Drop> Connections<D> {
     }
 
     fn rollback(&mut self) -> R<()>
-        ensures reason { HasReason false result (files_of self.old) (files_of self.new) }
+        ensures cause { HasCauseIn false result self.old self.new }
+        ensures reads { ReadsFiles self.old self.new }
+        ensures memory { IfErr result (λ fault. fault ≡ Memory → ⊥) }
         ensures step { StepsOn self.old statement.Rollback (done_reply result) self.new }
     {
         if self.is_idle() {
@@ -294,30 +309,33 @@ impl<D: Disk + Drop> Connections<D> {
         Ok(())
     }
 
-    /// Gives up the transaction, if there is one.
+    /// Drops the open transaction, if any.
     pub fn give_up(&mut self)
         ensures files { files_of self.new ≡ files_of self.old }
         ensures gone { IsGivenUp self.old self.new }
     {
-        self.catalog.forget();
+        self.catalog.rollback();
         self.transaction = Transaction::Idle;
     }
 
-    /// Commits a writer's pages. After `Io` nothing more is served.
+    /// Commits a writer's pages. After `Io` every statement is refused.
     fn commit_writer(&mut self, writer: &mut Writer) -> R<()>
-        ensures reason { HasReason true result (files_of self.old) (files_of self.new) }
-        ensures commits { (db : Database) → has_failed_in self.old ≡ false → WorksOn self.old writer.old db → CommitsWork self.old db result self.new writer.new }
+        ensures cause { HasCauseIn true result self.old self.new }
+        ensures marks { MarksFailure result self.old self.new }
+        ensures commits { (db : Database) → has_failed_in self.old ≡ false → CanApply self.old writer.old db → CommitsChanges self.old writer.old db result self.new writer.new }
     {
         if let Err(fault) = writer.commit(self.alloc, &mut self.log) {
             self.has_failed |= is_io(&fault);
             return Err(fault);
         }
-        self.catalog.keep();
+        self.catalog.commit();
         Ok(())
     }
 
     fn commit(&mut self) -> R<()>
-        ensures reason { HasReason true result (files_of self.old) (files_of self.new) }
+        ensures cause { HasCauseIn true result self.old self.new }
+        ensures marks { MarksFailure result self.old self.new }
+        ensures refused { IfErr result (IsRefusedFor self.old statement.Commit) }
         ensures step { StepsOn self.old statement.Commit (done_reply result) self.new }
     {
         match mem::replace(&mut self.transaction, Transaction::Idle) {
@@ -334,9 +352,9 @@ impl<D: Disk + Drop> Connections<D> {
         }
     }
 
-    /// The snapshot that a statement reads on, but for the changes of its own transaction.
+    /// The snapshot that a statement reads on, except for the changes of its own transaction.
     fn snapshot(&self) -> Snapshot
-        ensures { (m : Machine) → IsShown self.now m → IsNewest (files_of self.now) result }
+        ensures { (m : Machine) → RepresentsRunning self.now m → IsNewest (files_of self.now) result }
     {
         match &self.transaction {
             Transaction::Idle | Transaction::Begun => self.log.begin(),
@@ -345,10 +363,10 @@ impl<D: Disk + Drop> Connections<D> {
         }
     }
 
-    /// A page that the transaction has changed.
+    /// A page as the transaction changed it, if it did.
     fn changed(&self, number: u32) -> Option<&[u8]>
-        ensures shown { (m : Machine) → IsShown self.now m → IfSome result (λ page. Has (seen_in self.now.transaction (files_of self.now)) number page.now) }
-        ensures below { (m : Machine) → IsShown self.now m → IfNone result ((bytes : List ℕ) → IsPage (seen_in self.now.transaction (files_of self.now)) number bytes → IsPage (newest_view (files_of self.now)) number bytes) }
+        ensures shown { (m : Machine) → RepresentsRunning self.now m → IfSome result (λ page. ViewHas (seen_in self.now.transaction (files_of self.now)) number page.now) }
+        ensures below { (m : Machine) → RepresentsRunning self.now m → IfNone result ((bytes : List ℕ) → IsViewPage (seen_in self.now.transaction (files_of self.now)) number bytes → IsViewPage (newest_view (files_of self.now)) number bytes) }
     {
         match &self.transaction {
             Transaction::Writing(writer) => writer.find(number),
@@ -358,9 +376,9 @@ impl<D: Disk + Drop> Connections<D> {
 
     /// The rows of a table, as the transaction sees them.
     fn rows_of(&mut self, plan: &Plan, source: BoundSource) -> R<Rows>
-        ensures reason { HasReason false result (files_of self.old) (files_of self.new) }
+        ensures cause { HasCauseIn false result self.old self.new }
         ensures reads { OnlyReads self.old self.new }
-        ensures answered { (m : Machine) (page : List ℕ) (rows : List TableRow) → IsShown self.old m → IsPage (seen_in self.old.transaction (files_of self.old)) source.root page → Holds page source.root source.width rows
+        ensures answered { (m : Machine) (page : List ℕ) (rows : List TableRow) → RepresentsRunning self.old m → IsViewPage (seen_in self.old.transaction (files_of self.old)) source.root page → Holds page source.root source.width rows
             → All (IsOf (Some source.width)) plan.now.outputs.items → AnswersOrFails (answers_of plan.now.outputs.items rows) result }
     {
         let snapshot = self.snapshot();
@@ -372,13 +390,13 @@ impl<D: Disk + Drop> Connections<D> {
 
     /// The rows of a query on what the transaction sees.
     fn read(&mut self, query: &Query) -> R<Rows>
-        ensures reason { HasReason false result (files_of self.old) (files_of self.new) }
+        ensures cause { HasCauseIn false result self.old self.new }
         ensures reads { OnlyReads self.old self.new }
-        ensures answered { (m : Machine) (db : Database) → IsShown self.old m → Stores (seen_in self.old.transaction (files_of self.old)) (tables_of self.old.catalog) db → is_query_built query.now ≡ true → AnswersRead (read_on db query.now) result }
+        ensures answered { (m : Machine) (db : Database) → RepresentsRunning self.old m → Stores (seen_in self.old.transaction (files_of self.old)) (tables_of self.old.catalog) db → is_query_supported query.now ≡ true → AnswersRead (read_on db query.now) result }
     {
         let plan = plan_of(bind_query(self.alloc, query, &self.catalog)?);
         match plan.scan {
-            Scan::Once => lone_row(self.alloc, &plan.outputs),
+            Scan::Once => single_row(self.alloc, &plan.outputs),
             Scan::Table(source) => self.rows_of(&plan, source),
         }
     }
@@ -400,30 +418,33 @@ impl<D: Disk + Drop> Connections<D> {
     }
 
     fn select(&mut self, query: &Query) -> R<Rows>
-        ensures reason { HasReason false result (files_of self.old) (files_of self.new) }
-        ensures step { is_query_built query.now ≡ true → StepsOn self.old (statement.Select query.now) (rows_reply result) self.new }
+        ensures cause { HasCauseIn false result self.old self.new }
+        ensures reads { ReadsFiles self.old self.new }
+        ensures step { is_query_supported query.now ≡ true → StepsOn self.old (statement.Select query.now) (rows_reply result) self.new }
     {
         let rows = self.read(query)?;
         self.begin_reading();
         Ok(rows)
     }
 
-    /// Changes the database in a transaction of its own, or in the one that goes on.
+    /// Changes the database, in the open transaction or in one of its own (autocommit).
     fn write(&mut self, write: Write<'_>) -> R<()>
-        ensures reason { HasReason true result (files_of self.old) (files_of self.new) }
-        ensures step { forms.is_built (written write.entry) ≡ true → KeepsItsText (written write.entry) → StepsOn self.old (written write.entry) (done_reply result) self.new }
+        ensures cause { HasCauseIn true result self.old self.new }
+        ensures marks { MarksFailure result self.old self.new }
+        ensures step { WhereSupported (written write.entry) (StepsOn self.old (written write.entry) (done_reply result) self.new) }
     {
         match mem::replace(&mut self.transaction, Transaction::Idle) {
-            Transaction::Idle => self.write_alone(write),
-            Transaction::Writing(writer) => self.write_on(writer, write),
+            Transaction::Idle => self.autocommit(write),
+            Transaction::Writing(writer) => self.continue_writing(writer, write),
             reading => self.write_reading(reading, write),
         }
     }
 
-    /// Changes the database of a transaction that has written, which was taken out.
-    fn write_on(&mut self, writer: Writer, write: Write<'_>) -> R<()>
-        ensures reason { HasReason true result (files_of self.old) (files_of self.new) }
-        ensures step { forms.is_built (written write.entry) ≡ true → KeepsItsText (written write.entry) → StepsOn (with_transaction self.old (transaction.Writing writer)) (written write.entry) (done_reply result) self.new }
+    /// Changes the database in a transaction that has written, which was taken out of `self`.
+    fn continue_writing(&mut self, writer: Writer, write: Write<'_>) -> R<()>
+        ensures cause { HasCauseIn true result self.old self.new }
+        ensures reads { ReadsFiles self.old self.new }
+        ensures step { WhereSupported (written write.entry) (StepsOn (with_transaction self.old (transaction.Writing writer)) (written write.entry) (done_reply result) self.new) }
     {
         let mut writer = writer;
         let result = self.apply(&mut writer, write);
@@ -431,44 +452,48 @@ impl<D: Disk + Drop> Connections<D> {
         result
     }
 
-    /// Changes the database of a transaction that hasn't written yet, which was taken out.
+    /// Changes the database in a transaction that hasn't written yet, which was taken out of `self`.
     fn write_reading(&mut self, reading: Transaction, write: Write<'_>) -> R<()>
-        ensures reason { HasReason true result (files_of self.old) (files_of self.new) }
-        ensures step { forms.is_built (written write.entry) ≡ true → KeepsItsText (written write.entry) → is_reading reading ≡ true → StepsOn (with_transaction self.old reading) (written write.entry) (done_reply result) self.new }
+        ensures cause { HasCauseIn true result self.old self.new }
+        ensures reads { ReadsFiles self.old self.new }
+        ensures step { WhereSupported (written write.entry) (is_reading reading ≡ true → StepsOn (with_transaction self.old reading) (written write.entry) (done_reply result) self.new) }
     {
         self.transaction = reading;
-        self.write_first(write)
+        self.start_writing(write)
     }
 
-    fn write_alone(&mut self, write: Write<'_>) -> R<()>
-        ensures reason { HasReason true result (files_of self.old) (files_of self.new) }
-        ensures step { forms.is_built (written write.entry) ≡ true → KeepsItsText (written write.entry) → is_idle self.old.transaction ≡ true → StepsOn self.old (written write.entry) (done_reply result) self.new }
+    fn autocommit(&mut self, write: Write<'_>) -> R<()>
+        ensures cause { HasCauseIn true result self.old self.new }
+        ensures marks { MarksFailure result self.old self.new }
+        ensures step { WhereSupported (written write.entry) (is_idle self.old.transaction ≡ true → StepsOn self.old (written write.entry) (done_reply result) self.new) }
     {
         let newest = self.log.begin();
         let mut writer = Writer::begin(self.alloc, &mut self.log, newest)?;
         self.apply(&mut writer, write)?;
-        self.commit_alone(writer)
+        self.commit_autocommit(writer)
     }
 
-    /// Commits what a statement of its own has written. Refused, it is gone.
-    fn commit_alone(&mut self, writer: Writer) -> R<()>
-        ensures reason { HasReason true result (files_of self.old) (files_of self.new) }
-        ensures ends { (db : Database) → has_failed_in self.old ≡ false → WorksOn self.old writer db → EndsAlone self.old db result self.new }
+    /// Commits the pages of an autocommit statement; if that is refused, its changes are dropped.
+    fn commit_autocommit(&mut self, writer: Writer) -> R<()>
+        ensures cause { HasCauseIn true result self.old self.new }
+        ensures marks { MarksFailure result self.old self.new }
+        ensures ends { (db : Database) → has_failed_in self.old ≡ false → CanApply self.old writer db → EndsAlone self.old writer db result self.new }
     {
         let mut writer = writer;
         match self.commit_writer(&mut writer) {
             Ok(()) => Ok(()),
             Err(fault) => {
-                self.catalog.forget();
+                self.catalog.rollback();
                 Err(fault)
             }
         }
     }
 
     /// The first change of a transaction takes the write right.
-    fn write_first(&mut self, write: Write<'_>) -> R<()>
-        ensures reason { HasReason true result (files_of self.old) (files_of self.new) }
-        ensures step { forms.is_built (written write.entry) ≡ true → KeepsItsText (written write.entry) → is_reading self.old.transaction ≡ true → StepsOn self.old (written write.entry) (done_reply result) self.new }
+    fn start_writing(&mut self, write: Write<'_>) -> R<()>
+        ensures cause { HasCauseIn true result self.old self.new }
+        ensures reads { ReadsFiles self.old self.new }
+        ensures step { WhereSupported (written write.entry) (is_reading self.old.transaction ≡ true → StepsOn self.old (written write.entry) (done_reply result) self.new) }
     {
         let snapshot = self.snapshot();
         let mut writer = Writer::begin(self.alloc, &mut self.log, snapshot)?;
@@ -478,8 +503,9 @@ impl<D: Disk + Drop> Connections<D> {
     }
 
     fn apply(&mut self, writer: &mut Writer, write: Write<'_>) -> R<()>
-        ensures reason { HasReason true result (files_of self.old) (files_of self.new) }
-        ensures works { (db : Database) → forms.is_built (written write.entry) ≡ true → KeepsItsText (written write.entry) → WorksOn self.old writer.old db → Works (written write.entry) self.old writer.old db result self.new writer.new }
+        ensures cause { HasCauseIn true result self.old self.new }
+        ensures reads { ReadsFiles self.old self.new }
+        ensures applies { (db : Database) → WhereSupported (written write.entry) (CanApply self.old writer.old db → Applies (written write.entry) self.old writer.old db result self.new writer.new) }
     {
         match write {
             Write::Insert(insert) => self.insert(writer, insert),
@@ -488,9 +514,10 @@ impl<D: Disk + Drop> Connections<D> {
     }
 
     fn insert(&mut self, writer: &mut Writer, insert: &Insert) -> R<()>
-        ensures reason { HasReason true result (files_of self.old) (files_of self.new) }
-        ensures works { (db : Database) → forms.is_source_built insert.now.source ≡ true → WorksOn self.old writer.old db
-            → Works (statement.Change (change.Insert insert.now)) self.old writer.old db result self.new writer.new }
+        ensures cause { HasCauseIn true result self.old self.new }
+        ensures reads { ReadsFiles self.old self.new }
+        ensures applies { (db : Database) → forms.is_source_supported insert.now.source ≡ true → CanApply self.old writer.old db
+            → Applies (statement.Change (change.Insert insert.now)) self.old writer.old db result self.new writer.new }
     {
         other_rows_are_listed();
         only_tables_set_nothing_off();
@@ -501,9 +528,10 @@ impl<D: Disk + Drop> Connections<D> {
     }
 
     fn create_table(&mut self, writer: &mut Writer, sql: &Text, table: &TableDefinition) -> R<()>
-        ensures reason { HasReason true result (files_of self.old) (files_of self.new) }
-        ensures works { (db : Database) → forms.is_table_built table.now ≡ true → IsCreateOf sql.now (object.Table table.now) → WorksOn self.old writer.old db
-            → Works (statement.Create (record { sql = sql.now; object = object.Table table.now })) self.old writer.old db result self.new writer.new }
+        ensures cause { HasCauseIn true result self.old self.new }
+        ensures reads { ReadsFiles self.old self.new }
+        ensures applies { (db : Database) → forms.is_table_supported table.now ≡ true → IsCreateOf sql.now (object.Table table.now) → CanApply self.old writer.old db
+            → Applies (statement.Create (record { sql = sql.now; object = object.Table table.now })) self.old writer.old db result self.new writer.new }
     {
         let Some(page) = writer.find(1) else {
             return Err(Fault::Damaged(Damage::MissingPage, 1));
@@ -526,7 +554,7 @@ impl<D: Disk + Drop> Connections<D> {
             },
         );
         if result.is_err() {
-            self.catalog.take_back();
+            self.catalog.remove_last();
         }
         result
     }

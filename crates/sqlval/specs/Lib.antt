@@ -9,3 +9,7 @@ pub mod Names
 pub mod Order
 pub mod Refusals
 pub mod Sameness
+pub mod Faults
+pub mod Titles
+pub mod PageSizes
+pub mod NumberShape

@@ -1,14 +1,15 @@
 //! The affinity of a declared type, and the conversion of each affinity.
 
 ghost use Rattle.std.specs.Prelude.{◌≡◌, ◌⊎◌, ◌≤◌, length, IfOk, IfErr};
-ghost use Rattle.sqlval.specs.Affinity.{begins, holds, declares_real, declares_text, declared_affinity, is_space, after_spaces, after_digits, after_sign, ends_exponent, ends_number, behind_digits, is_number, ToNumber, ToText, Converts, IsConversionFault, WantsNumbers};
+ghost use Rattle.sqlval.specs.Affinity.{begins, holds, declares_real, declares_text, declared_affinity, is_space, after_spaces, after_digits, after_sign, ends_exponent, ends_number, rest_after_digits, is_number, ToNumber, ToText, Converts, IsConversionFault, WantsNumbers};
+ghost use Rattle.sqlval.specs.NumberShape.{NumbersAreShaped};
 
 use crate::fault::{Fault, R};
 use crate::text::Text;
 use crate::value::Value;
 use std::alloc::Global;
 
-/// What a column makes of the values that it is given.
+/// The affinity of a column: the kind of value that it prefers to store.
 #[derive(Clone, Copy, Debug, PartialEq, Eq)]
 pub enum Affinity {
     /// Nothing.
@@ -17,7 +18,7 @@ pub enum Affinity {
     Text,
     /// Integers of texts that are integers.
     Numeric,
-    /// The same.
+    /// As `Numeric`.
     Integer,
 }
 
@@ -52,7 +53,7 @@ fn is_text(declared: &[u8]) -> bool
     has_word(declared, b"char") || has_word(declared, b"clob") || has_word(declared, b"text")
 }
 
-/// The affinity of a declared type, whose words are joined by spaces; None is that of REAL, which isn't served.
+/// The affinity of a declared type, whose words are joined by spaces; None is that of REAL, which isn't supported.
 pub fn affinity_of(declared: &str) -> Option<Affinity>
     ensures { result ≡ declared_affinity declared.now }
 {
@@ -127,9 +128,9 @@ fn is_end(text: &[u8]) -> bool
     }
 }
 
-#[tactic(auto, unfolding(crate::specs::Affinity::behind_digits))]
+#[tactic(auto, unfolding(crate::specs::Affinity::rest_after_digits))]
 fn goes_on(digits: usize, text: &[u8]) -> bool
-    ensures { result ≡ behind_digits digits text.now }
+    ensures { result ≡ rest_after_digits digits text.now }
 {
     match text {
         [] => digits > 0,
@@ -189,3 +190,8 @@ pub fn apply(alloc: Global, affinity: Affinity, value: Value) -> R<Value>
         Affinity::Numeric | Affinity::Integer => to_number(value),
     }
 }
+
+/// A text looks numeric exactly where it has the shape of a number.
+pub fn numbers_are_shaped()
+    ensures { NumbersAreShaped }
+{}

@@ -4,18 +4,18 @@
 mod affinity;
 mod collation;
 mod fault;
+pub mod limits;
 mod many;
 mod name;
+mod page_size;
 mod text;
 mod value;
 
-pub use affinity::{Affinity, affinity_of, apply};
+pub use affinity::{Affinity, affinity_of, apply, numbers_are_shaped};
 pub use collation::{Collation, compare, order_is_total};
 pub use fault::{Damage, Fault, Feature, Misuse, Object, R};
 pub use many::Many;
 pub use name::Name;
+pub use page_size::is_page_size;
 pub use text::{Bytes, Text};
 pub use value::{Field, Row, Value};
-
-#[cfg(test)]
-mod tests;

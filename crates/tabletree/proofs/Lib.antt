@@ -2,5 +2,5 @@ pub mod PayloadRows
 pub mod WholeLeaf
 mod Refused
 mod Rebuilding
-mod Lonely
-pub mod BehindFront
+mod SinglePages
+pub mod AfterFront

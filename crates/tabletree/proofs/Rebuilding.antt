@@ -9,7 +9,7 @@ use Rattle.sqlval.specs.declared.fault.Feature.TheVariants as Feature
 use Rattle.page.specs.Leaf.{Entry}
 use Rattle.page.specs.Writing.{leaf_of, Fits}
 use Rattle.tabletree.specs.Cells.{start_of}
-use Rattle.tabletree.specs.Lone.{IsLone, IsLeafRefusal, IsTooFull}
+use Rattle.tabletree.specs.SingleLeaf.{IsSingleLeaf, IsLeafRefusal, IsTooFull}
 
 take_front : (xs ys : List ℕ) (n : ℕ) → n ≤ length xs → take n (take n xs ++ ys) ≡ take n xs
 take_front xs ys n le = take-append-le n (take n xs) ys (omega (arith, le, length-take n xs)) ∙ take_all n (take n xs) (omega (arith, le, length-take n xs))
@@ -23,7 +23,7 @@ pub front_stays : (result : Result (Vec ℕ Global) Fault) (page : List ℕ) (si
 front_stays result page size start rows le exact = IfOk-weaker result _ _ (λ new e. ap (take start) e ∙ leaf_front page size start rows le) exact
 
 pub too_full : (result : Result (Vec ℕ Global) Fault) (page : List ℕ) (number start : ℕ) (old more all : List Entry) → start ≡ start_of number → all ≡ old ++ more
-    → ((rows : List Entry) → IsLone page number rows → rows ≡ old)
+    → ((rows : List Entry) → IsSingleLeaf page number rows → rows ≡ old)
     → IfErr result (λ fault. (fault ≡ Memory) ⊎ ((fault ≡ Unsupported Feature.RowSize) × (Fits (length page) start all → ⊥)))
     → IfErr result (λ fault. (fault ≡ Memory) ⊎ (IsLeafRefusal number fault ⊎ IsTooFull page number more fault))
 too_full result page number start old more all here parts same refused = IfErr-weaker result _ _ turned refused
@@ -34,13 +34,13 @@ too_full result page number start old more all here parts same refused = IfErr-w
     turned fault (inr (e, full)) = inr (inr (e, λ rows is fits. full (subst (λ s. Fits (length page) s all) (sym here) (subst (λ xs. Fits (length page) (start_of number) xs) (ap (λ xs. xs ++ more) (same rows is) ∙ sym parts) fits))))
 
 -- where the page is such a leaf, only memory or the room is wanting
-pub lone_full : (result : Result (Vec ℕ Global) Fault) (page : List ℕ) (number start : ℕ) (old more all : List Entry) → start ≡ start_of number → all ≡ old ++ more
-    → ((rows : List Entry) → IsLone page number rows → rows ≡ old)
+pub single_full : (result : Result (Vec ℕ Global) Fault) (page : List ℕ) (number start : ℕ) (old more all : List Entry) → start ≡ start_of number → all ≡ old ++ more
+    → ((rows : List Entry) → IsSingleLeaf page number rows → rows ≡ old)
     → IfErr result (λ fault. (fault ≡ Memory) ⊎ ((fault ≡ Unsupported Feature.RowSize) × (Fits (length page) start all → ⊥)))
-    → IfErr result (λ fault. (rows : List Entry) → IsLone page number rows → (fault ≡ Memory) ⊎ IsTooFull page number more fault)
-lone_full result page number start old more all here parts same refused = IfErr-weaker result _ _ turned refused
+    → IfErr result (λ fault. (rows : List Entry) → IsSingleLeaf page number rows → (fault ≡ Memory) ⊎ IsTooFull page number more fault)
+single_full result page number start old more all here parts same refused = IfErr-weaker result _ _ turned refused
   where
     turned : (fault : Fault) → (fault ≡ Memory) ⊎ ((fault ≡ Unsupported Feature.RowSize) × (Fits (length page) start all → ⊥))
-        → (rows : List Entry) → IsLone page number rows → (fault ≡ Memory) ⊎ IsTooFull page number more fault
-    turned fault (inl e) rows lone = inl e
-    turned fault (inr (e, full)) rows lone = inr (e, λ rows is fits. full (subst (λ s. Fits (length page) s all) (sym here) (subst (λ xs. Fits (length page) (start_of number) xs) (ap (λ xs. xs ++ more) (same rows is) ∙ sym parts) fits)))
+        → (rows : List Entry) → IsSingleLeaf page number rows → (fault ≡ Memory) ⊎ IsTooFull page number more fault
+    turned fault (inl e) rows single_leaf = inl e
+    turned fault (inr (e, full)) rows single_leaf = inr (e, λ rows is fits. full (subst (λ s. Fits (length page) s all) (sym here) (subst (λ xs. Fits (length page) (start_of number) xs) (ap (λ xs. xs ++ more) (same rows is) ∙ sym parts) fits)))

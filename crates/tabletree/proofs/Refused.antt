@@ -9,9 +9,9 @@ use Rattle.page.specs.Leaf.{Entry}
 use Rattle.page.specs.Reading.{answer}
 use Rattle.page.specs.declared.cell.Wrong.{Wrong}
 use Rattle.page.specs.declared.cell.Wrong.TheVariants.{Kind, Broken}
-use Rattle.tabletree.specs.Lone.{IsLeafRefusal, placed}
+use Rattle.tabletree.specs.SingleLeaf.{IsLeafRefusal, placed}
 
--- it is for want of memory, or what the definition refuses too
+-- it is when out of memory, or what the definition refuses too
 pub refused_so : {Y : Type 0} (fault : Fault) (given : Result Y Fault) → Refuses fault given → (fault ≡ f.Memory) ⊎ (given ≡ Err fault)
 refused_so f.Memory given e = inl refl
 refused_so f.Io given e = inr e

@@ -20,7 +20,7 @@ pub record IsAt (page : List ℕ) (span : Span) (bytes : List ℕ) : Type 0 wher
   pub to_is : span.to ≡ length before + length bytes
   pub near : span.from < 2 ^ 16
 
--- where the page header begins: behind the database header on page 1 (Database File Format, "B-tree Pages")
+-- where the page header begins: after the database header on page 1 (Database File Format, "B-tree Pages")
 abbrev pub start_of : ℕ → ℕ
 start_of number = if number == 1 then 100 else 0
 

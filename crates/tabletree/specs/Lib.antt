@@ -1,4 +1,4 @@
-pub mod Lone
+pub mod SingleLeaf
 pub mod Map
 pub mod Payload
 pub mod Cells

@@ -29,7 +29,7 @@ local_size usable most size =
 abbrev pub overflow_count : ℕ → ℕ → ℕ → ℕ
 overflow_count usable most size = (size - local_size usable most size + (usable - 5)) / (usable - 4)
 
--- the page behind which a chain goes on, or 0 at its end
+-- the page after which a chain goes on, or 0 at its end
 abbrev pub next_of : List ℕ → ℕ
 next_of [] = 0
 next_of (page ∷ pages) = page

@@ -75,7 +75,7 @@ abbrev pub pages_of : (depth : ℕ) → Tree depth → List ℕ
 pages_of zero t = t.page ∷ flat_map (λ held. held.pages) t.rows
 pages_of (suc depth) t = t.page ∷ each_of (pages_of depth) t.kids t.last
 
--- the children of an interior page but for the last, each with its key
+-- the children of an interior page except for the last, each with its key
 abbrev pub children : {T : Type 0} → (T → ℕ) → List (T × ℤ) → List (ℕ × ℤ)
 children page [] = []
 children page (kid ∷ kids) = (page kid.0, kid.1) ∷ children page kids

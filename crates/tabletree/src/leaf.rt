@@ -1,28 +1,26 @@
-//! The tree of a table: for now one leaf page.
+//! The tree of a table, of a single leaf page for now.
 
 ghost use Rattle.std.specs.Prelude.{◌≡◌, ◌<◌, ◌+◌, ◌<ℤ◌, ◌+ℤ◌, pos, ℤ, Some, IsNone, IfSome, ◌≤◌, ◌-◌, ◌↔◌, ◌++◌, ◌⊎◌, length, List, map, take, IfOk, IfErr, IsTrue, MatchOption, [], Ok, slice_index_or};
 ghost use Rattle.sqlval.specs.Gives.{Gives};
 ghost use Rattle.page.specs.Leaf.{Entry, entry_of, IsTableLeaf};
 ghost use Rattle.page.specs.Writing.{Fits};
 ghost use Rattle.tabletree.specs.Cells as cells;
-ghost use Rattle.tabletree.specs.Lone.{AreRising, IsLone, IsLeafRefusal, IsOwnTree, IsTooFull, KeepsLeafBehind, placed};
+ghost use Rattle.tabletree.specs.SingleLeaf.{AreRising, IsSingleLeaf, IsLeafRefusal, IsOwnTree, IsTooFull, KeepsLeafAfter, placed};
 
 use page::{Cell, Node, build};
+use sqlval::limits::DATABASE_HEADER_LEN;
 use sqlval::{Damage, Fault, Feature, R};
 use std::alloc::Global;
 use std::marker::Model;
 
-/// How many bytes the database's header has, at the front of page 1.
-const HEADER_LEN: usize = 100;
-
-/// Where the tree's node begins on a page: behind the database's header on page 1.
+/// Where the tree's node begins on a page: after the database's header on page 1.
 fn start_of(number: u32) -> usize
     ensures { result ≡ cells.start_of number }
 {
-    if number == 1 { HEADER_LEN } else { 0 }
+    if number == 1 { DATABASE_HEADER_LEN } else { 0 }
 }
 
-/// The fault, at this page.
+/// The fault, with this page's number if it has none.
 fn at_page(fault: Fault, number: u32) -> Fault
     ensures { result ≡ placed number fault }
 {
@@ -51,8 +49,8 @@ impl<'a> Leaf<'a> {
     /// The rows on the page of this number. A page of another kind, or a payload that goes on in overflow pages, is
     /// `Unsupported(PageKind)`; another page is `Damaged(Page)`, one whose rows don't rise `Damaged(Tree)`.
     pub fn over(alloc: Global, page: &'a [u8], number: u32) -> R<Leaf<'a>>
-        ensures found { IfOk result (λ leaf. IsLone page.now number leaf) }
-        ensures only { (rows : List Entry) → IsLone page.now number rows → Gives (λ leaf. leaf) result (Ok rows) }
+        ensures found { IfOk result (λ leaf. IsSingleLeaf page.now number leaf) }
+        ensures only { (rows : List Entry) → IsSingleLeaf page.now number rows → Gives (λ leaf. leaf) result (Ok rows) }
         ensures refused { IfErr result (λ fault. (fault ≡ Fault.Memory) ⊎ IsLeafRefusal number fault) }
     {
         let node = match Node::over(alloc, page, start_of(number)) {
@@ -77,7 +75,7 @@ impl<'a> Leaf<'a> {
         Some(self.node.cell(len - 1).rowid)
     }
 
-    /// How many rows there are.
+    /// The number of rows.
     pub fn len(&self) -> usize
         ensures { result ≡ length self.now }
     {
@@ -109,7 +107,7 @@ fn ascends_to(node: &Node<'_>, index: usize) -> bool
     node.cell(index - 1).rowid < node.cell(index).rowid
 }
 
-/// The rowid of a new row behind those up to `last`. `RowidFull` where that is the greatest of 64 bits.
+/// The rowid of a new row after those up to `last`. `RowidFull` where that is the greatest of 64 bits.
 pub fn next_rowid(last: Option<i64>) -> R<i64>
     ensures next { IfOk result (λ rowid. MatchOption last (rowid ≡ pos 1) (λ before. rowid ≡ before +ℤ pos 1)) }
     ensures full { IfErr result (λ fault. (fault ≡ Fault.RowidFull) × (last ≡ Some (pos 9223372036854775807))) }
@@ -120,14 +118,14 @@ pub fn next_rowid(last: Option<i64>) -> R<i64>
     }
 }
 
-/// The bytes of a page of this number with more rows behind those that it has; what stands before the tree's node stays. A
-/// page that is no leaf of rising rows is refused as `Leaf::over` does; where the rows don't fit, `Unsupported(RowSize)`.
+/// Builds page `number` anew with more rows after its own; what stands before the tree's node stays. A page that is no leaf
+/// of rising rows is refused as by `Leaf::over`; rows that don't fit are `Unsupported(RowSize)`.
 pub fn with_rows(alloc: Global, page: &[u8], number: u32, more: &[Cell<'_>]) -> R<Vec<u8>>
-    ensures leaf { IfOk result (λ new. (rows : List Entry) → IsLone page.now number rows → IsTableLeaf new.items (cells.start_of number) (rows ++ map entry_of more.now)) }
+    ensures leaf { IfOk result (λ new. (rows : List Entry) → IsSingleLeaf page.now number rows → IsTableLeaf new.items (cells.start_of number) (rows ++ map entry_of more.now)) }
     ensures size { IfOk result (λ new. length new.items ≡ length page.now) }
     ensures front { IfOk result (λ new. take (cells.start_of number) new.items ≡ take (cells.start_of number) page.now) }
     ensures refused { IfErr result (λ fault. (fault ≡ Fault.Memory) ⊎ (IsLeafRefusal number fault ⊎ IsTooFull page.now number (map entry_of more.now) fault)) }
-    ensures lone { IfErr result (λ fault. (rows : List Entry) → IsLone page.now number rows → (fault ≡ Fault.Memory) ⊎ IsTooFull page.now number (map entry_of more.now) fault) }
+    ensures single_leaf { IfErr result (λ fault. (rows : List Entry) → IsSingleLeaf page.now number rows → (fault ≡ Fault.Memory) ⊎ IsTooFull page.now number (map entry_of more.now) fault) }
 {
     let start = start_of(number);
     if page.len() < start {
@@ -138,7 +136,7 @@ pub fn with_rows(alloc: Global, page: &[u8], number: u32, more: &[Cell<'_>]) -> 
     rebuilt(alloc, page, start, &cells)
 }
 
-/// The cells of a leaf, and more behind them.
+/// The cells of a leaf, and more after them.
 fn joined<'a>(alloc: Global, leaf: &Leaf<'a>, more: &[Cell<'a>]) -> R<Vec<Cell<'a>>>
     ensures cells { IfOk result (λ cells. map entry_of cells.items ≡ leaf.now ++ map entry_of more.now) }
     ensures refused { IfErr result (λ fault. fault ≡ Fault.Memory) }
@@ -160,7 +158,7 @@ fn rebuilt(alloc: Global, page: &[u8], start: usize, cells: &[Cell<'_>]) -> R<Ve
     build(alloc, &page[..start], page.len(), cells)
 }
 
-/// The bytes of a page for a table without rows, which isn't page 1. Where the page has no room for a header, `Unsupported(RowSize)`.
+/// Builds the page of a table without rows, other than page 1. A page without room for a header is `Unsupported(RowSize)`.
 pub fn empty(alloc: Global, page_size: usize) -> R<Vec<u8>>
     ensures leaf { IfOk result (λ page. IsTableLeaf page.items 0 [] × (length page.items ≡ page_size)) }
     ensures refused { IfErr result (λ fault. (fault ≡ Fault.Memory) ⊎ ((fault ≡ Fault.Unsupported Feature.RowSize) × (Fits page_size 0 [] → ⊥))) }
@@ -181,11 +179,11 @@ fn is_rising(node: &Node<'_>) -> bool
 }
 
 /// A page that is a leaf of rising rows is a whole tree of them, its own root.
-pub fn lone_page_is_a_tree()
+pub fn single_page_is_a_tree()
     ensures { IsOwnTree }
 {}
 
 /// What stands before a leaf's header says nothing of its rows: on page 1 that is the header of the database.
 pub fn front_of_page_holds_no_row()
-    ensures { KeepsLeafBehind }
+    ensures { KeepsLeafAfter }
 {}

@@ -5,5 +5,5 @@
 mod leaf;
 
 pub use leaf::{
-    Leaf, empty, front_of_page_holds_no_row, lone_page_is_a_tree, next_rowid, with_rows,
+    Leaf, empty, front_of_page_holds_no_row, next_rowid, single_page_is_a_tree, with_rows,
 };

@@ -1,3 +1,4 @@
+mod ChangeRows
 pub mod BindingRows
 mod EffectRows
 mod OnlyTables

@@ -10,14 +10,14 @@ use Rattle.syntax.specs.declared.change.Change.TheVariants as statement
 use Rattle.catalog.specs.Database as database
 use Rattle.catalog.specs.Database.{Name, Database, Object, ATable, AnIndex, AView, ATrigger, object, triggers_of}
 use Rattle.catalog.specs.Listed.{has_only_tables, plain_table}
-use Rattle.bind.specs.Known.{Known, Meant, faults, known_then}
+use Rattle.bind.specs.Checked.{Checked, Meant, faults, known_then}
 use Rattle.bind.specs.Readings.{env_of, values}
 use Rattle.bind.specs.Terms.{Term}
 use Rattle.dml.specs.Agreement.{InsertsRows}
 use Rattle.dml.specs.Changes.{Resolved, Inserts, GivenRows, no_outer, resolve_change}
 use Rattle.dml.specs.Constraints.{table_of}
 use Rattle.dml.specs.RowChanges.{insert_row}
-use Rattle.trigger.specs.Binding.{Aim, aim_of, faults_behind, program_faults, program_scope, triggers_for}
+use Rattle.trigger.specs.Binding.{Aim, aim_of, faults_after, program_faults, program_scope, triggers_for}
 use Rattle.trigger.specs.Effects.{change_with, programs, run_resolved}
 use Rattle.trigger.specs.Laws.{BindsAlone, InsertAddsRows, InsertIsRefused, InsertOfNoneStays, SetsNothingOff}
 use Rattle.trigger.specs.Triggers.{Runner, fired}
@@ -40,9 +40,9 @@ none_for db aim only = rw (no_triggers db aim.target only) refl
 pub binds_alone : BindsAlone
 binds_alone db c r only = (to, λ p. (zero, p))
   where
-    to : (n : ℕ) × Contains (faults_behind n db no_outer c) r → Contains (faults (resolve_change db no_outer c)) r
+    to : (n : ℕ) × Contains (faults_after n db no_outer c) r → Contains (faults (resolve_change db no_outer c)) r
     to (zero, p) = p
-    to (suc n, p) = absurd (omega (arith, subst (λ l. p.0 < length (flat_map (λ y. program_faults (faults_behind n db) db (program_scope db (aim_of c)) y.1) l)) (none_for db (aim_of c) only) p.1))
+    to (suc n, p) = absurd (omega (arith, subst (λ l. p.0 < length (flat_map (λ y. program_faults (faults_after n db) db (program_scope db (aim_of c)) y.1) l)) (none_for db (aim_of c) only) p.1))
 
 -- ---- INSERT
 
@@ -67,7 +67,7 @@ row_by_row : (run : Runner) (db : Database) (i : Insert) (t : database.Table) (p
     → resolve_change db no_outer (statement.Insert i) ≡ Meant (Inserts (folded i.table) places (GivenRows terms)) []
     → change_with run [] no_outer db (statement.Insert i) ≡ (all_answers (map (values (env_of [])) terms) then λ rows. fold_answer (insert_row (fired run []) (folded i.table) places) db rows)
 row_by_row run db i t places terms is bound =
-    ap (λ (k : Known Resolved). known_then k (run_resolved run [] no_outer db)) bound ∙ rw (is_there (object db (folded i.table)) t is) refl
+    ap (λ (k : Checked Resolved). known_then k (run_resolved run [] no_outer db)) bound ∙ rw (is_there (object db (folded i.table)) t is) refl
 
 pub insert_refused : InsertIsRefused
 insert_refused db i table rows places terms r is bound e =

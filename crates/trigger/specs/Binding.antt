@@ -12,13 +12,13 @@ use Rattle.syntax.specs.declared.create.TriggerStatement.TheVariants as program
 use Rattle.syntax.specs.declared.create.TriggerTime.TheVariants.{Before, After, InsteadOf}
 use Rattle.catalog.specs.Database.{Name, Database}
 use Rattle.bind.specs.Expressions.{resolve}
-use Rattle.bind.specs.Known.{meant, faults}
+use Rattle.bind.specs.Checked.{meant, faults, is_good}
 use Rattle.bind.specs.Queries.{resolve_query}
 use Rattle.bind.specs.Values.{Row}
 use Rattle.bind.specs.Views.{look_up}
 use Rattle.dml.specs.Changes.{Outer, no_outer, resolve_change}
 use Rattle.dml.specs.RowChanges.{Event, Inserting, Deleting, Updating}
-use Rattle.trigger.specs.Triggers.{outer_of, triggers_at}
+use Rattle.trigger.specs.Triggers.{outer_if, triggers_at}
 
 -- whose rows change, and by which event
 pub record Aim : Type 0 where
@@ -35,9 +35,11 @@ aim_of (Delete d) = record { target = folded d.table; event = Deleting }
 abbrev pub triggers_for : Database → Aim → List (Name × TriggerDefinition)
 triggers_for db a = flat_map (λ time. triggers_at time a.event db a.target) (Before ∷ InsteadOf ∷ After ∷ [])
 
--- what their programs see, whatever NEW and OLD hold
+-- What their programs see, whatever NEW and OLD hold. Where the view itself is refused, a column of NEW or OLD has no refusal of its own.
 abbrev pub program_scope : Database → Aim → Outer
-program_scope db a = outer_of (record { target = a.target; event = a.event; columns = (meant (look_up db a.target)).0; has_rowid = (meant (look_up db a.target)).1; new = new a.event; old = old a.event })
+program_scope db a =
+    let found = look_up db a.target in
+    outer_if (is_good found) (record { target = a.target; event = a.event; columns = (meant found).0; has_rowid = (meant found).1; new = new a.event; old = old a.event })
   where
     nothing : Row
     nothing = record { rowid = Null; values = [] }
@@ -62,11 +64,11 @@ statement_faults f db outer (program.Select q) = faults (resolve_query (look_up 
 abbrev pub program_faults : (Outer → Change → List Refusal) → Database → Outer → TriggerDefinition → List Refusal
 program_faults f db outer t = when_faults outer t.condition ++ flat_map (statement_faults f db outer) t.body
 
--- the refusals behind a chain of so many triggers, each set off by a program of the one before
-abbrev pub faults_behind : ℕ → Database → Outer → Change → List Refusal
-faults_behind zero db outer c = faults (resolve_change db outer c)
-faults_behind (suc n) db outer c = flat_map (λ t. program_faults (faults_behind n db) db (program_scope db (aim_of c)) t.1) (triggers_for db (aim_of c))
+-- the refusals after a chain of so many triggers, each set off by a program of the one before
+abbrev pub faults_after : ℕ → Database → Outer → Change → List Refusal
+faults_after zero db outer c = faults (resolve_change db outer c)
+faults_after (suc n) db outer c = flat_map (λ t. program_faults (faults_after n db) db (program_scope db (aim_of c)) t.1) (triggers_for db (aim_of c))
 
 -- binding the change may be refused so
 abbrev pub IsFault : Database → Change → Refusal → Type 0
-IsFault db c r = (n : ℕ) × Contains (faults_behind n db no_outer c) r
+IsFault db c r = (n : ℕ) × Contains (faults_after n db no_outer c) r

@@ -8,7 +8,7 @@ use Rattle.syntax.specs.declared.create.TriggerStatement.{TriggerStatement}
 use Rattle.syntax.specs.declared.create.TriggerStatement.TheVariants as program
 use Rattle.syntax.specs.declared.create.TriggerTime.TheVariants.{InsteadOf}
 use Rattle.catalog.specs.Database.{Name, Database, object, Object, ATable}
-use Rattle.bind.specs.Known.{meant, known_then}
+use Rattle.bind.specs.Checked.{meant, known_then}
 use Rattle.bind.specs.Queries.{resolve_query}
 use Rattle.bind.specs.Readings.{env_of, values, holds}
 use Rattle.bind.specs.Scopes.{ScopeColumn}

@@ -9,7 +9,7 @@ use Rattle.syntax.specs.declared.change.Change.TheVariants as statement
 use Rattle.catalog.specs.Database.{Name, Database, ATable, with_object}
 use Rattle.catalog.specs.Listed.{has_only_tables, plain_table}
 use Rattle.catalog.specs.declared.tables.Table.{Table}
-use Rattle.bind.specs.Known.{Meant, faults}
+use Rattle.bind.specs.Checked.{Meant, faults}
 use Rattle.bind.specs.Readings.{env_of, values}
 use Rattle.bind.specs.Terms.{Term}
 use Rattle.rowprog.specs.Rows.{Holds, TableRow}
@@ -41,7 +41,7 @@ InsertOfNoneStays = (db : Database) (i : Insert) (table : Table) (rows : List Ta
     → table_of db (folded i.table) ≡ Ok (plain_table table rows) → resolve_change db no_outer (statement.Insert i) ≡ Meant (Inserts (folded i.table) places (GivenRows terms)) []
     → all_answers (map (values (env_of [])) terms) ≡ Ok [] → change db (statement.Insert i) ≡ Ok db
 
--- And where its values are these, the table has behind its own rows those that they become, or the statement is refused as they are.
+-- And where its values are these, the table has after its own rows those that they become, or the statement is refused as they are.
 abbrev pub InsertAddsRows : Type 0
 InsertAddsRows = (db : Database) (i : Insert) (table : Table) (rows : List TableRow) (places : List ℕ) (terms : List (List Term)) (by_column : List (Option ℕ)) (given : List (List Value)) (page : List ℕ) (number : ℕ)
     → has_only_tables db ≡ true → table_of db (folded i.table) ≡ Ok (plain_table table rows) → Holds page number (length table.columns.items) rows

@@ -12,7 +12,7 @@ use Rattle.syntax.specs.declared.create.TriggerTime.{TriggerTime}
 use Rattle.syntax.specs.declared.create.TriggerTime.TheVariants.{Before, After, InsteadOf}
 use Rattle.catalog.specs.Database.{Name, Database, triggers_of}
 use Rattle.bind.specs.Expressions.{resolve}
-use Rattle.bind.specs.Known.{known_then}
+use Rattle.bind.specs.Checked.{known_then}
 use Rattle.bind.specs.Readings.{holds}
 use Rattle.bind.specs.Scopes.{ScopeColumn, ScopeSource}
 use Rattle.bind.specs.Values.{Row}
@@ -21,15 +21,19 @@ use Rattle.dml.specs.RowChanges.{Event, Inserting, Deleting, Updating, Firing}
 
 -- ---- what a program sees
 
-abbrev one_of : Name → Bool → List ScopeColumn → Option Row → List (ScopeSource × Row)
-one_of n has_rowid cs None = []
-one_of n has_rowid cs (Some r) = (record { name = n; columns = cs; has_rowid = has_rowid; needs_name = true; is_known = true }, r) ∷ []
+abbrev one_of : Name → Bool → Firing → Option Row → List (ScopeSource × Row)
+one_of n is_known f None = []
+one_of n is_known f (Some r) = (record { name = n; columns = f.columns; has_rowid = f.has_rowid; needs_name = true; is_known = is_known }, r) ∷ []
 
--- NEW and OLD, as far as the event has them
-abbrev pub outer_of : Firing → Outer
-outer_of f =
-    let both : List (ScopeSource × Row) = one_of (codes "new") f.has_rowid f.columns f.new ++ one_of (codes "old") f.has_rowid f.columns f.old in
+-- NEW and OLD, as far as the event has them; whether their table or view is known
+abbrev pub outer_if : Bool → Firing → Outer
+outer_if is_known f =
+    let both : List (ScopeSource × Row) = one_of (codes "new") is_known f f.new ++ one_of (codes "old") is_known f f.old in
     record { scope = map (λ p. p.0) both; rows = map (λ p. p.1) both }
+
+-- at a row: its table or view isn't refused
+abbrev pub outer_of : Firing → Outer
+outer_of = outer_if true
 
 -- ---- which triggers
 

@@ -5,8 +5,7 @@ ghost use Rattle.trigger.specs.Laws.{BindsAlone, InsertAddsRows, InsertIsRefused
 
 use dml::insert_adds_its_rows;
 
-/// Where a database only has tables, nothing is set off, and a change is its own text alone: an INSERT of written rows adds what
-/// they become, or is refused.
+/// In a database of tables alone no trigger fires: an INSERT adds its rows, or is refused as they are.
 pub fn only_tables_set_nothing_off()
     ensures still { SetsNothingOff }
     ensures binds { BindsAlone }

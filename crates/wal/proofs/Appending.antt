@@ -1,15 +1,16 @@
--- A log of committed frames, and frames that were written behind them.
+-- A log of committed frames, and frames that were written after them.
+use Rattle.sqlval.specs.PageSizes.{IsPageSize}
 use Rattle.std.proofs.Common.{◌≡◌, inl, inr, ◌<◌, ◌≤◌, ◌+◌, ◌-◌, ℕ, suc, List, [], ◌++◌, Bool, true, false, length, map, take, drop, get_or, refl, sym, ◌∙◌, ap, subst, arith, length-append, length-take}
 use Rattle.std.specs.Prelude.{Some, Ok}
 use Rattle.std.proofs.lemmas.List.{append-nil, take-append-drop, get_or-append-add, get_or_append_left, get_or-map}
 use Rattle.std.proofs.lemmas.Bool.{cases_lt}
-use Rattle.walframe.specs.declared.framing.FrameHeader.{FrameHeader}
-use Rattle.walframe.specs.declared.heading.LogHeader.{LogHeader}
+use Rattle.walframe.specs.declared.frame.FrameHeader.{FrameHeader}
+use Rattle.walframe.specs.declared.log_header.LogHeader.{LogHeader}
 use Rattle.walframe.specs.declared.sums.Sum.{Sum}
 use Rattle.walframe.specs.Log.{header_in, header_bytes, frame_of, salts_at, sum_at}
-use Rattle.walframe.specs.Accepted.{IsPageSize, IsFrame, frame_start, frame_at, head_at, heads_to, sum_to, summed_to}
+use Rattle.walframe.specs.Accepted.{IsFrame, frame_start, frame_at, head_at, heads_to, sum_to, summed_to}
 use Rattle.walframe.specs.Appended.{AreWritten}
-use Rattle.walframe.specs.Written.{Framed, written, sum_behind, SaltsFit, HeaderFits, AllFit}
+use Rattle.walframe.specs.Written.{Framed, written, sum_after, SaltsFit, HeaderFits, AllFit}
 use Rattle.walframe.specs.Sums.{words, zero_sum}
 use Rattle.walframe.proofs.Fronts.{header_in_front, start_more, start_rises, frame_front_same, sum_to_front}
 use Rattle.walframe.proofs.Laws.{all_written, carried_fits, header_back}
@@ -20,11 +21,11 @@ use Rattle.wal.specs.Committed.{HasCommitted, framed_to, frames_under}
 use Rattle.wal.specs.Index.{frames_of, EachFrame, IsIndexTo, IsOldOrNew, IsPageNumber, HasFrame, HasEach, KeepsFrames}
 use Rattle.wal.specs.Pages.{ArePages, framed, numbers_of}
 use Rattle.disk.specs.File.{File, IsSynced}
-use Rattle.wal.specs.Known.{Known}
+use Rattle.wal.specs.LogState.{LogState}
 use Rattle.wal.specs.Commits.{Commits}
 use Rattle.wal.specs.Stands.{LogStands, IsOfPage, header_where, front_at, log_front, log_end}
 use Rattle.wal.proofs.CommitLemmas.{pages_len, framed_page, last_size, other_size, size_above, with_image}
-use Rattle.wal.proofs.FrameLists.{framed_front, frames_behind, written_end}
+use Rattle.wal.proofs.FrameLists.{framed_front, frames_after, written_end}
 use Rattle.wal.proofs.Opened.{heads_get}
 
 -- a log that ends with its n committed frames, or begins so
@@ -106,14 +107,14 @@ front_of h false mark sum index log fits stands = record {
     at_32 : frame_start h mark ≡ 32
     at_32 = ap (frame_start h) (stands.none refl) ∙ omega arith
 
--- a log with frames written behind its front
+-- a log with frames written after its front
 pub record IsGrown (h : LogHeader) (n : ℕ) (front : List ℕ) (fs : List Framed) (log : List ℕ) : Type 0 where
   pub header_is : header_in log ≡ Ok (Some h)
   pub end : length log ≡ frame_start h (n + length fs)
   pub committed : HasCommitted h log (n + length fs)
   pub frames_are : framed_to h log (n + length fs) ≡ framed_to h front n ++ fs
   pub heads_are : heads_to h log (n + length fs) ≡ heads_to h front n ++ map (λ (f : Framed). f.head) fs
-  pub sum_is : sum_to h log (n + length fs) ≡ sum_behind h (sum_to h front n) fs
+  pub sum_is : sum_to h log (n + length fs) ≡ sum_after h (sum_to h front n) fs
 
 -- a later frame doesn't fit in
 pub no_frame_past : (h : LogHeader) (log : List ℕ) (n k : ℕ) → length log ≡ frame_start h n → n ≤ k → IsFrame h log k → ⊥
@@ -139,7 +140,7 @@ grows h n front fs log is size salts fits commit is_log = record {
     ends = λ k last none. commit.ends (k - n) blank_head (omega (arith, last, commit.some)) (ap (λ (g : FrameHeader). g.size) (sym (grown_head h n front fs log (k - n) blank_head heads_are (omega (arith, last, commit.some)))) ∙ ap (λ (i : ℕ). (head_at h log i).size) (let e : n + (k - n) ≡ k = omega (arith, last, commit.some) in e) ∙ none);
     rest = λ k past accepted. absurd (no_frame_past h log (n + length fs) k end past (accepted k (omega arith)));
   };
-  frames_are = ap (λ (l : List ℕ). framed_to h l (n + length fs)) joined_is ∙ frames_behind h front (sum_to h front n) n fs [] fits is.start;
+  frames_are = ap (λ (l : List ℕ). framed_to h l (n + length fs)) joined_is ∙ frames_after h front (sum_to h front n) n fs [] fits is.start;
   heads_are = heads_are;
   sum_is = ap (λ (l : List ℕ). sum_to h l (n + length fs)) joined_is ∙ all.sum_is;
 }
@@ -164,14 +165,14 @@ grows h n front fs log is size salts fits commit is_log = record {
 
 -- after a commit the log stands for its frames too
 pub committed : (h : LogHeader) (b : Bool) (mark size : ℕ) (sum more : Sum) (index next : Index) (pages : List PageImage) (log new : List ℕ) → LogStands h b mark sum index log → FrontOf h b mark sum log → IsIndexTo mark index
-    → IsGrown h mark (log_front h b mark log) (framed pages size) new → more ≡ sum_behind h sum (framed pages size)
+    → IsGrown h mark (log_front h b mark log) (framed pages size) new → more ≡ sum_after h sum (framed pages size)
     → EachFrame (IsOldOrNew mark pages (length pages) index) next → HasEach mark (numbers_of pages) (length pages) next → KeepsFrames index next → LogStands h true (mark + length pages) more next new
 committed h b mark size sum more index next pages log new stands front indexed grown is_more adds added kept = record {
   header_is = grown.header_is;
   inside = λ yes. omega (arith, grown.end, ap (frame_start h) count);
   none = λ no. (let bad : true ≡ false = no in cc);
   committed = λ yes. subst (HasCommitted h new) count grown.committed;
-  sum_is = is_more ∙ ap (λ (s : Sum). sum_behind h s fs) front.sum_is ∙ sym grown.sum_is ∙ ap (sum_to h new) count;
+  sum_is = is_more ∙ ap (λ (s : Sum). sum_after h s fs) front.sum_is ∙ sym grown.sum_is ∙ ap (sum_to h new) count;
   pages = λ p k known lt. elim (adds p k known lt) [
     | inl old ↦ subst (IsOfPage h new p) (sym old.2) (old_page p old.0 known old.1)
     | inr fresh ↦ subst (IsOfPage h new p) (sym fresh.2) (with_image pages fresh.0 fresh.1 _ (λ e. new_page e fresh.0 fresh.1 ∙ fresh.3 e))
@@ -230,7 +231,7 @@ wrote h b mark end sum fs log new out bytes made front is_new is_end is_out is_m
     ∙ ap (λ (s : Sum). log_front h b mark log ++ written h s fs) front.sum_is
 
 -- and what a commit has done then
-pub commits : (known : Known) (sum : Sum) (index : Index) (fs : List Framed) (old new : File) → LogStands known.header known.has_header known.frames sum index old.content → FrontOf known.header known.has_header known.frames sum old.content
+pub commits : (known : LogState) (sum : Sum) (index : Index) (fs : List Framed) (old new : File) → LogStands known.header known.has_header known.frames sum index old.content → FrontOf known.header known.has_header known.frames sum old.content
     → IsGrown known.header known.frames (log_front known.header known.has_header known.frames old.content) fs new.content
     → new.content ≡ log_front known.header known.has_header known.frames old.content ++ written known.header (sum_to known.header (log_front known.header known.has_header known.frames old.content) known.frames) fs → IsSynced new → known.frames + length fs ≤ 1000000 → Commits known fs old new
 commits known sum index fs old new stands front grown is synced few = record {

@@ -1,12 +1,12 @@
--- What a stop may leave while the two files are synced and read.
+-- What a crash may leave while the two files are synced and read.
 use Rattle.std.proofs.Common.{◌≡◌, ◌≤◌, ℕ, inl, inr, [], ◌∷◌, refl, sym, ap, subst, arith}
 use Rattle.std.specs.Prelude.{Result, Ok, Err, OnOk, OnErr}
-use Rattle.disk.specs.Current.{syncs_left}
+use Rattle.disk.proofs.Current.{syncs_left}
 use Rattle.disk.specs.File.{File, IsContentLeft, Always, OnDb, OnLog, Throughout, whole, versions}
 use Rattle.disk.specs.Calls.{Syncs, CountsFailure}
-use Rattle.disk.specs.Left.{left_synced}
-use Rattle.disk.specs.Moments.{elapses_refl, always_synced, always_weaker, always_end, stays}
-use Rattle.wal.specs.Opens.{LeavesOld, LeavesAsBefore}
+use Rattle.disk.proofs.Left.{left_synced}
+use Rattle.disk.proofs.Moments.{elapses_refl, always_synced, always_weaker, always_end, stays}
+use Rattle.wal.specs.Opened.{LeavesOld, LeavesAsBefore}
 
 pub old_stays : (old new : File) → new ≡ old → Always old new (LeavesOld old)
 old_stays old new same = stays (LeavesOld old) old new same (λ c left. inl left)
@@ -34,7 +34,7 @@ pub both_read : (db log mid_db mid_log new_db new_log : File) → Throughout (Le
 both_read db log mid_db mid_log new_db new_log run same_db same_log =
     subst (λ (d : File). Throughout (LeavesAsBefore db log) db log d new_log) (sym same_db) (subst (λ (l : File). Throughout (LeavesAsBefore db log) db log mid_db l) (sym same_log) run)
 
--- what a stop may leave behind a sync, done or failed
+-- what a crash may leave after a sync, done or failed
 pub sync_left : {T E : Type 0} (result : Result T E) (old new : File) → OnOk result (Syncs old new) → OnErr result (new ≡ old) → IsContentLeft old → IsContentLeft new
 sync_left (Ok x) old new done failed left = syncs_left old new done
 sync_left (Err e) old new done failed left = subst IsContentLeft (sym failed) left

@@ -5,12 +5,12 @@ use Rattle.std.proofs.lemmas.List.{get_or_append_left, get_or_push, append-nil}
 use Rattle.std.proofs.lemmas.Option.{slice_get_within, get_or_from_slice_get}
 use Rattle.std.proofs.lemmas.Bool.{cases_lt}
 use Rattle.disk.specs.File.{Version, IsLeft, version_at, blank_version}
-use Rattle.disk.specs.Moments.{left_more}
-use Rattle.walframe.specs.declared.heading.LogHeader.{LogHeader}
+use Rattle.disk.proofs.Moments.{left_more}
+use Rattle.walframe.specs.declared.log_header.LogHeader.{LogHeader}
 use Rattle.walframe.specs.Written.{Framed}
 use Rattle.wal.specs.Chains.{Chained, IsChained, NoChanceMatchIn}
 use Rattle.wal.specs.Committed.{IsAcceptedAt, HasCommits, framed_at, framed_to}
-use Rattle.wal.specs.Stops.{AcceptTheirChains, HasNoChance, IsVersionsFrame, LeavesEither, LeavesCommits, KeepsSynced}
+use Rattle.wal.specs.Crashes.{AcceptTheirChains, HasNoChance, IsVersionsFrame, LeavesEither, LeavesCommits, KeepsSynced}
 use Rattle.wal.proofs.FrameLists.{framed_len}
 
 pub framed_get : (h : LogHeader) (log : List ℕ) (n k : ℕ) (d : Framed) → k < n → get_or (framed_to h log n) k d ≡ framed_at h log k
@@ -38,7 +38,7 @@ pub from_chains : (versions : List Version) (headers : List Chained) (c : List �
 from_chains versions headers c free accept left h k begins right = chained_frame versions headers h k c accept (free c h k left begins right)
 
 -- more versions have what fewer have
-chance_more : (vs more : List Version) (c : List ℕ) → HasNoChance vs c → HasNoChance (vs ++ more) c
+pub chance_more : (vs more : List Version) (c : List ℕ) → HasNoChance vs c → HasNoChance (vs ++ more) c
 chance_more vs more c chance h k begins right =
     let v = chance h k begins right in
     let there : version_at (vs ++ more) v.version ≡ version_at vs v.version = get_or_append_left vs more blank_version v.version v.within in

@@ -1,27 +1,27 @@
 -- The frames of a commit.
+use Rattle.sqlval.specs.PageSizes.{IsPageSize, is_size}
 use Rattle.std.proofs.Common.{◌≡◌, ◌⊎◌, inl, inr, ◌<◌, ◌≤◌, ◌+◌, ◌-◌, ◌^◌, ℕ, zero, suc, List, [], ◌∷◌, ◌++◌, Bool, true, false, length, map, take, drop, get_or, refl, sym, ◌∙◌, ap, subst, arith}
 use Rattle.std.specs.Prelude.{◌||◌}
 use Rattle.std.proofs.lemmas.List.{append_assoc, drop_more, take_rest}
 use Rattle.std.proofs.lemmas.Bool.{eqb-true}
-use Rattle.walframe.specs.declared.framing.FrameHeader.{FrameHeader}
-use Rattle.walframe.specs.declared.heading.LogHeader.{LogHeader}
+use Rattle.walframe.specs.declared.frame.FrameHeader.{FrameHeader}
+use Rattle.walframe.specs.declared.log_header.LogHeader.{LogHeader}
 use Rattle.walframe.specs.declared.sums.Sum.{Sum}
 use Rattle.walframe.specs.Log.{frame_sum, frame_bytes}
-use Rattle.walframe.specs.Accepted.{IsPageSize}
-use Rattle.walframe.specs.Written.{Framed, sum_of_framed, written, sum_behind, AllFit}
+use Rattle.walframe.specs.Written.{Framed, sum_of_framed, written, sum_after, AllFit}
 use Rattle.wal.specs.declared.pages.PageImage.{PageImage}
-use Rattle.wal.specs.Pages.{is_size, ArePages, size_before, framed}
+use Rattle.wal.specs.Pages.{ArePages, size_before, framed}
 
--- one page is put behind others
-pub record Puts (h : LogHeader) (out more : List ℕ) (before sum : Sum) (left rest : List PageImage) (size : ℕ) : Type 0 where
+-- one page is put after others
+pub record ReplacesPages (h : LogHeader) (out more : List ℕ) (before sum : Sum) (left rest : List PageImage) (size : ℕ) : Type 0 where
   pub bytes : more ++ written h sum (framed rest size) ≡ out ++ written h before (framed left size)
-  pub sum_is : sum_behind h sum (framed rest size) ≡ sum_behind h before (framed left size)
+  pub sum_is : sum_after h sum (framed rest size) ≡ sum_after h before (framed left size)
 
 pub put_step : (h : LogHeader) (out more : List ℕ) (before sum : Sum) (left rest : List PageImage) (page : PageImage) (size frame_size : ℕ) → 1 ≤ length left → page ≡ get_or left 0 page → rest ≡ take (length left - 1) (drop 1 left)
     → frame_size ≡ size_before rest size → sum ≡ frame_sum h.order before (record { page = page.number; size = frame_size }) page.bytes.items
-    → more ≡ out ++ frame_bytes h.salts sum (record { page = page.number; size = frame_size }) page.bytes.items → Puts h out more before sum left rest size
+    → more ≡ out ++ frame_bytes h.salts sum (record { page = page.number; size = frame_size }) page.bytes.items → ReplacesPages h out more before sum left rest size
 put_step h out more before sum left rest page size frame_size some is_page is_rest is_size is_sum is_more =
-    subst (λ (l : List PageImage). Puts h out more before sum l rest size) (sym is_left) (by_size size_now)
+    subst (λ (l : List PageImage). ReplacesPages h out more before sum l rest size) (sym is_left) (by_size size_now)
   where
     f : ℕ → FrameHeader
     f n = record { page = page.number; size = n }
@@ -32,14 +32,14 @@ put_step h out more before sum left rest page size frame_size some is_page is_re
     size_now : f frame_size ≡ f (size_before rest size)
     size_now = ap f is_size
 
-    by_size : f frame_size ≡ f (size_before rest size) → Puts h out more before sum (page ∷ rest) rest size
+    by_size : f frame_size ≡ f (size_before rest size) → ReplacesPages h out more before sum (page ∷ rest) rest size
     by_size same =
         let sum_now : sum ≡ sum_of_framed h before (record { head = f (size_before rest size); page = page.bytes.items }) = is_sum ∙ ap (λ (g : FrameHeader). frame_sum h.order before g page.bytes.items) same in
         record {
           bytes = ap (λ (l : List ℕ). l ++ written h sum (framed rest size)) (is_more ∙ ap (λ (g : FrameHeader). out ++ frame_bytes h.salts sum g page.bytes.items) same)
               ∙ append_assoc out (frame_bytes h.salts sum (f (size_before rest size)) page.bytes.items) (written h sum (framed rest size))
               ∙ ap (λ (s : Sum). out ++ (frame_bytes h.salts s (f (size_before rest size)) page.bytes.items ++ written h s (framed rest size))) sum_now;
-          sum_is = ap (λ (s : Sum). sum_behind h s (framed rest size)) sum_now;
+          sum_is = ap (λ (s : Sum). sum_after h s (framed rest size)) sum_now;
         }
 
 -- pages of so many bytes and their frames
@@ -61,31 +61,6 @@ pub framed_page : (pages : List PageImage) (size i : ℕ) (d : FrameHeader) (e :
 framed_page [] size i d e lt = absurd (omega (arith, lt))
 framed_page (p ∷ ps) size zero d e lt = refl
 framed_page (p ∷ ps) size (suc i) d e lt = framed_page ps size i d e (omega (arith, lt))
-
-or_true : (a b : Bool) → (a || b) ≡ true → (a ≡ true) ⊎ (b ≡ true)
-or_true true b is = inl refl
-or_true false b is = inr is
-
-pub size_from : (n : ℕ) → is_size n ≡ true → IsPageSize n
-size_from n is = elim (or_true _ _ is) [
-  | inl a ↦ inl (eqb-true _ _ a)
-  | inr b ↦ elim (or_true _ _ b) [
-    | inl a ↦ inr (inl (eqb-true _ _ a))
-    | inr c ↦ elim (or_true _ _ c) [
-      | inl a ↦ inr (inr (inl (eqb-true _ _ a)))
-      | inr d ↦ elim (or_true _ _ d) [
-        | inl a ↦ inr (inr (inr (inl (eqb-true _ _ a))))
-        | inr e ↦ elim (or_true _ _ e) [
-          | inl a ↦ inr (inr (inr (inr (inl (eqb-true _ _ a)))))
-          | inr f ↦ elim (or_true _ _ f) [
-            | inl a ↦ inr (inr (inr (inr (inr (inl (eqb-true _ _ a))))))
-            | inr g ↦ inr (inr (inr (inr (inr (inr (eqb-true _ _ g))))))
-          ]
-        ]
-      ]
-    ]
-  ]
-]
 
 -- the size stands in the last frame, and no other frame has one
 abbrev pub head_of : List PageImage → ℕ → ℕ → FrameHeader → FrameHeader

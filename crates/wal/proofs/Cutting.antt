@@ -1,10 +1,10 @@
--- A log that is cut behind its committed frames.
+-- A log that is cut after its committed frames.
 use Rattle.std.proofs.Common.{◌≡◌, inl, inr, ◌+◌, ◌-◌, ℕ, List, [], Bool, true, false, length, take, get_or, refl, sym, ◌∙◌, ap, subst, arith}
 use Rattle.std.proofs.lemmas.List.{append-nil}
 use Rattle.disk.specs.File.{File, IsSynced, Always}
-use Rattle.disk.specs.Moments.{always_weaker}
-use Rattle.walframe.specs.declared.heading.LogHeader.{LogHeader}
-use Rattle.walframe.specs.declared.framing.FrameHeader.{FrameHeader}
+use Rattle.disk.proofs.Moments.{always_weaker}
+use Rattle.walframe.specs.declared.log_header.LogHeader.{LogHeader}
+use Rattle.walframe.specs.declared.frame.FrameHeader.{FrameHeader}
 use Rattle.walframe.specs.declared.sums.Sum.{Sum}
 use Rattle.walframe.specs.Log.{header_in}
 use Rattle.walframe.specs.Accepted.{frame_start, head_at, sum_to}
@@ -12,12 +12,12 @@ use Rattle.wal.specs.declared.index.Index.{Index}
 use Rattle.wal.specs.Committed.{HasCommits, AreCommitted, framed_to, frames_under}
 use Rattle.wal.specs.Commits.{IsCut}
 use Rattle.wal.specs.Index.{frames_of, IsIndexTo, IsPageNumber, HasFrame}
-use Rattle.wal.specs.Known.{known_in}
+use Rattle.wal.specs.LogState.{state_in}
 use Rattle.wal.specs.declared.state.State.{State}
 use Rattle.wal.specs.Stands.{LogStands, header_where, log_end}
-use Rattle.wal.specs.Stops.{LeavesOneOf, LeavesCommits}
+use Rattle.wal.specs.Crashes.{LeavesOneOf, LeavesCommits}
 use Rattle.wal.proofs.Appending.{FrontOf, front_of, no_frame_past}
-use Rattle.wal.proofs.Stopping.{log_commits, cut_commits}
+use Rattle.wal.proofs.Crashing.{log_commits, cut_commits}
 
 -- the front of a log that has a header
 front_when : (h : LogHeader) (b : Bool) (mark : ℕ) (sum : Sum) (index : Index) (log : List ℕ) → LogStands h b mark sum index log → b ≡ true → FrontOf h b mark sum log
@@ -58,9 +58,9 @@ cut_end h true mark end sum index log stands is_end = ap (λ (n : ℕ). length (
 cut_end h false mark end sum index log stands is_end = ap (λ (n : ℕ). length (take n log)) is_end
 
 -- at each moment of the cut
-pub cut_stop : (h : LogHeader) (b : Bool) (mark end page_size : ℕ) (sum : Sum) (index : Index) (old new : File) → LogStands h b mark sum index old.content → h.page_size ≡ page_size → end ≡ log_end h b mark → Always old new (LeavesOneOf old.content (take end old.content))
+pub cut_crash : (h : LogHeader) (b : Bool) (mark end page_size : ℕ) (sum : Sum) (index : Index) (old new : File) → LogStands h b mark sum index old.content → h.page_size ≡ page_size → end ≡ log_end h b mark → Always old new (LeavesOneOf old.content (take end old.content))
     → Always old new (LeavesCommits page_size (frames_under (header_where b h) old.content mark))
-cut_stop h b mark end page_size sum index old new stands size is_end trimmed =
+cut_crash h b mark end page_size sum index old new stands size is_end trimmed =
     always_weaker old new (LeavesCommits page_size (frames_under (header_where b h) old.content mark)) (LeavesOneOf old.content (take end old.content))
     (λ vs all c left. elim (all c left) [
       | inl whole ↦ subst (λ (l : List ℕ). HasCommits page_size l (frames_under (header_where b h) old.content mark)) (sym whole) (log_commits h b mark page_size sum index old.content stands size)
@@ -78,7 +78,7 @@ stands_committed h true mark page_size sum index log stands size = (size, stands
 stands_committed h false mark page_size sum index log stands size = stands.none refl
 
 -- the log of a call that cut it
-pub was_cut : (s : State) (end : ℕ) (old new : File) → LogStands s.header s.is_begun s.mark s.sum s.index old.content → end ≡ log_end s.header s.is_begun s.mark → new.content ≡ take end old.content → IsSynced new → IsCut (known_in s) old new
+pub was_cut : (s : State) (end : ℕ) (old new : File) → LogStands s.header s.is_begun s.mark s.sum s.index old.content → end ≡ log_end s.header s.is_begun s.mark → new.content ≡ take end old.content → IsSynced new → IsCut (state_in s) old new
 was_cut s end old new stands is_end is synced =
     let there : LogStands s.header s.is_begun s.mark s.sum s.index new.content = subst (λ (l : List ℕ). LogStands s.header s.is_begun s.mark s.sum s.index l) (sym is) (stands_cut s.header s.is_begun s.mark end s.sum s.index old.content stands s.indexed is_end) in
     record {

@@ -1,8 +1,8 @@
 -- The frames of a log as a list.
 use Rattle.std.proofs.Common.{◌≡◌, ◌≤◌, ◌+◌, ℕ, zero, suc, List, [], ◌∷◌, ◌++◌, length, drop, refl, sym, ◌∙◌, ap, arith, length-append}
 use Rattle.std.proofs.lemmas.List.{append_assoc, append-nil, drop_at}
-use Rattle.walframe.specs.declared.framing.FrameHeader.{FrameHeader}
-use Rattle.walframe.specs.declared.heading.LogHeader.{LogHeader}
+use Rattle.walframe.specs.declared.frame.FrameHeader.{FrameHeader}
+use Rattle.walframe.specs.declared.log_header.LogHeader.{LogHeader}
 use Rattle.walframe.specs.declared.sums.Sum.{Sum}
 use Rattle.walframe.specs.Log.{frame_of, frame_head, frame_bytes}
 use Rattle.walframe.specs.Accepted.{frame_start, frame_at}
@@ -41,14 +41,14 @@ framed_is h log n sum f fits is =
     (frame_back h.salts sum f.head f.page fits.page fits.size)
     ∙ ap (λ (p : List ℕ). (let r : Framed = record { head = f.head; page = p } in r)) (drop_at (frame_head h.salts sum f.head) f.page 24 refl)
 
--- the frames that were written behind n others
-pub frames_behind : (h : LogHeader) (front : List ℕ) (s : Sum) (n : ℕ) (fs : List Framed) (rest : List ℕ) → AllFit h fs → length front ≡ frame_start h n → framed_to h (front ++ (written h s fs ++ rest)) (n + length fs) ≡ framed_to h front n ++ fs
-frames_behind h front s n [] rest none start =
+-- the frames that were written after n others
+pub frames_after : (h : LogHeader) (front : List ℕ) (s : Sum) (n : ℕ) (fs : List Framed) (rest : List ℕ) → AllFit h fs → length front ≡ frame_start h n → framed_to h (front ++ (written h s fs ++ rest)) (n + length fs) ≡ framed_to h front n ++ fs
+frames_after h front s n [] rest none start =
     ap (framed_to h (front ++ rest)) (let e : n + 0 ≡ n = omega arith in e) ∙ framed_front h front rest n (omega (arith, start)) ∙ sym (append-nil (framed_to h front n))
-frames_behind h front s n (f ∷ fs) rest all start =
+frames_after h front s n (f ∷ fs) rest all start =
     ap (λ (l : List ℕ). framed_to h l (n + length (f ∷ fs))) same_log
     ∙ ap (framed_to h (next ++ (written h sum fs ++ rest))) (let e : n + length (f ∷ fs) ≡ suc n + length fs = omega arith in e)
-    ∙ frames_behind h next sum (suc n) fs rest all.1 next_start
+    ∙ frames_after h next sum (suc n) fs rest all.1 next_start
     ∙ ap (λ (l : List Framed). (l ++ framed_at h next n ∷ []) ++ fs) (framed_front h front frame n (omega (arith, start)))
     ∙ ap (λ (g : Framed). (framed_to h front n ++ g ∷ []) ++ fs) (framed_is h next n sum f all.0 now)
     ∙ append_assoc (framed_to h front n) (f ∷ []) fs

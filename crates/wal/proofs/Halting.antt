@@ -1,15 +1,15 @@
--- What a stop may leave while a log is cut, gets its header, and grows.
+-- What a crash may leave while a log is cut, gets its header, and grows.
 use Rattle.std.proofs.Common.{◌≡◌, ◌⊎◌, inl, inr, ◌<◌, ◌≤◌, ◌+◌, ℕ, zero, suc, List, [], ◌∷◌, ◌++◌, Bool, true, false, length, take, drop, get_or, refl, sym, ◌∙◌, ap, subst, arith}
 use Rattle.std.specs.Prelude.{Result, Ok, Err, OnOk, OnErr}
 use Rattle.std.proofs.lemmas.List.{append-nil, ext_get_or, get_or-replicate, nil_from_length, take_all, drop_all}
-use Rattle.disk.specs.Current.{current_left, synced_current, syncs_left, cuts_current, cut_left}
+use Rattle.disk.proofs.Current.{current_left, synced_current, syncs_left, cuts_current, cut_left}
 use Rattle.disk.specs.File.{Version, File, IsSynced, IsContentLeft, IsLeft, Always, whole, versions, version_at}
-use Rattle.disk.specs.Calls.{overwritten, write_version, cut_version, Writes, FailsToWrite, Cuts, FailsToCut, Syncs}
-use Rattle.disk.specs.Left.{left_synced, left_cut, versions_push}
-use Rattle.disk.specs.Moments.{alone, always_both, always_weaker, stays, gains_good, after_sync}
-use Rattle.walframe.specs.declared.heading.LogHeader.{LogHeader}
+use Rattle.disk.specs.Calls.{overwritten, write_version, cut_version, Writes, FailsToWrite, CutsFile, FailsToCut, Syncs}
+use Rattle.disk.proofs.Left.{left_synced, left_cut, versions_push}
+use Rattle.disk.proofs.Moments.{alone, always_both, always_weaker, stays, gains_good, after_sync}
+use Rattle.walframe.specs.declared.log_header.LogHeader.{LogHeader}
 use Rattle.walframe.specs.Log.{header_bytes}
-use Rattle.wal.specs.Stops.{LeavesOneOf, LeavesHeader, AreEither, LeavesWriting, zeros}
+use Rattle.wal.specs.Crashes.{LeavesOneOf, LeavesHeader, AreEither, LeavesWriting, zeros}
 use Rattle.wal.specs.Stands.{front_at}
 
 -- a log that is cut
@@ -27,15 +27,15 @@ pub cut_failed : (old new : File) (n : ℕ) → (new ≡ old) ⊎ FailsToCut n o
 cut_failed old new n (inl same) synced le = not_cut old new n same synced
 cut_failed old new n (inr fails) synced le = gains_good (LeavesOneOf old.content (take n old.content)) (cut_version n old) old new fails.gains (cut_leaves old n synced le)
 
-pub cut_then_synced : {T E : Type 0} (result : Result T E) (old mid new : File) (n : ℕ) → Cuts n old mid → OnOk result (Syncs mid new) → OnErr result (new ≡ mid) → IsSynced old → n ≤ length old.content → Always old new (LeavesOneOf old.content (take n old.content))
+pub cut_then_synced : {T E : Type 0} (result : Result T E) (old mid new : File) (n : ℕ) → CutsFile n old mid → OnOk result (Syncs mid new) → OnErr result (new ≡ mid) → IsSynced old → n ≤ length old.content → Always old new (LeavesOneOf old.content (take n old.content))
 cut_then_synced result old mid new n cuts done failed synced le =
     after_sync result (LeavesOneOf old.content (take n old.content)) (cut_version n old) old mid new cuts.gains done failed (cut_leaves old n synced le) (λ c left. inr (left_synced (whole mid.content) c left ∙ cuts.content))
 
--- what is on it then may be left by a stop
+-- what is on it then may be left by a crash
 pub cut_failed_left : (old new : File) (n : ℕ) → (new ≡ old) ⊎ FailsToCut n old new → IsSynced old → IsContentLeft new
 cut_failed_left old new n is synced = cut_left n old new (synced_current old synced) is
 
-pub cut_then_left : {T E : Type 0} (result : Result T E) (old mid new : File) (n : ℕ) → Cuts n old mid → OnOk result (Syncs mid new) → OnErr result (new ≡ mid) → IsContentLeft new
+pub cut_then_left : {T E : Type 0} (result : Result T E) (old mid new : File) (n : ℕ) → CutsFile n old mid → OnOk result (Syncs mid new) → OnErr result (new ≡ mid) → IsContentLeft new
 cut_then_left (Ok x) old mid new n cuts done failed = syncs_left mid new done
 cut_then_left (Err e) old mid new n cuts done failed = subst IsContentLeft (sym failed) (current_left mid (cuts_current n old mid cuts))
 
@@ -116,7 +116,7 @@ header_then_synced result h b old mid new writes done failed not_begun synced no
     after_sync result (LeavesHeader h b old.content) (write_version 0 (header_bytes h) old) old mid new writes.gains done failed (header_leaves h b old not_begun synced none)
     (λ c left. inr (not_begun, inr (left_synced (whole mid.content) c left ∙ writes.content ∙ overwritten_end 0 (header_bytes h) old.content none ∙ ap (λ (l : List ℕ). l ++ header_bytes h) (nil_from_length old.content none))))
 
--- the steps of a commit, one behind the other
+-- the steps of a commit, one after the other
 abbrev Writing : LogHeader → Bool → ℕ → List ℕ → File → List Version → Type 0
 Writing h b end bytes old = LeavesWriting h b end bytes old.content
 

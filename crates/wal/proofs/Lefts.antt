@@ -1,9 +1,9 @@
--- Where a log has what a stop may leave of it, while it is cut, gets its header, and grows.
+-- Where a log has what a crash may leave of it, while it is cut, gets its header, and grows.
 use Rattle.std.proofs.Common.{◌≡◌, ◌⊎◌, ℕ, List, sym, subst}
 use Rattle.std.specs.Prelude.{Result, Ok, Err, OnOk, OnErr}
 use Rattle.disk.specs.File.{File, IsSynced, IsCurrent, IsContentLeft}
 use Rattle.disk.specs.Calls.{Writes, FailsToWrite, Syncs}
-use Rattle.disk.specs.Current.{current_left, synced_current, synced_left, syncs_left, write_left, writes_current}
+use Rattle.disk.proofs.Current.{current_left, synced_current, synced_left, syncs_left, write_left, writes_current}
 
 pub as_it_was : (old new : File) → new ≡ old → IsSynced old → IsContentLeft new
 as_it_was old new same synced = subst IsContentLeft (sym same) (synced_left old synced)

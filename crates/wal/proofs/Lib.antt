@@ -10,7 +10,8 @@ pub mod Same
 pub mod Appending
 pub mod Halting
 pub mod Lefts
-pub mod Stopping
+pub mod Crashing
+pub mod CommitCrashes
 pub mod Beginning
 pub mod Cutting
 pub mod Chance

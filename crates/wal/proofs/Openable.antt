@@ -1,4 +1,6 @@
 -- Why files are not opened, where the contents can be opened.
+use Rattle.sqlval.proofs.PageSizeLemmas.{by_size}
+use Rattle.sqlval.specs.PageSizes.{IsPageSize}
 use Rattle.std.proofs.Common.{◌≡◌, inl, inr, ◌<◌, ◌≤◌, ◌/◌, ℕ, zero, suc, List, [], ◌∷◌, length, refl, sym, ◌∙◌, ap, subst, arith}
 use Rattle.std.specs.Prelude.{Option, Some, None, Result, Ok, Err, MatchOption, IfErr, IsErrAnd}
 use Rattle.std.proofs.Math.Nat.{mul-div_cancel}
@@ -7,15 +9,15 @@ use Rattle.disk.specs.Calls.{Rose}
 use Rattle.sqlval.specs.declared.fault.Fault.{Fault}
 use Rattle.sqlval.specs.declared.fault.Fault.TheVariants.{Memory, Io, Damaged, Unsupported, NotADatabase, Full, Syntax, NoSuch, Exists, Ambiguous, Misuse, Busy, StaleSnapshot, NoTransaction, InTransaction, NoSavepoint, NotNull, Unique, Check, Raised, RealRefused, TypeRefused, RowidFull, RowidMismatch, TooLong, RowChangedBefore, ViewReadOnly, Blank, Failed}
 use Rattle.sqlval.specs.declared.fault.Damage.TheVariants.{Header, Size, MissingPage, Page, Tree, Overflow, Freelist, Record, Schema, Log}
-use Rattle.sqlval.specs.declared.fault.Feature.TheVariants.{Float, RealColumn, PageSize, FileVersion, ReservedBytes, SchemaFormat, Encoding, AutoVacuum, LogFormat, PageKind, ColumnCount, SchemaObject, Limit, Statement, NotBuilt, Connection, RowSize}
-use Rattle.walframe.specs.declared.framing.FrameHeader.{FrameHeader}
-use Rattle.walframe.specs.declared.heading.LogHeader.{LogHeader}
+use Rattle.sqlval.specs.declared.fault.Feature.TheVariants.{Float, RealColumn, PageSize, FileVersion, ReservedBytes, SchemaFormat, Encoding, AutoVacuum, LogFormat, PageKind, ColumnCount, SchemaObject, Limit, Statement, StatementForm, Connection, RowSize}
+use Rattle.walframe.specs.declared.frame.FrameHeader.{FrameHeader}
+use Rattle.walframe.specs.declared.log_header.LogHeader.{LogHeader}
 use Rattle.walframe.specs.declared.progress.Scan.{Scan}
 use Rattle.walframe.specs.Log.{header_in}
-use Rattle.walframe.specs.Accepted.{IsPageSize, IsScan, IsTooLong, Reads, ReadsNone, heads_to}
+use Rattle.walframe.specs.Accepted.{IsScan, IsTooLong, IsScanOf, ReadsNone, heads_to}
 use Rattle.wal.specs.Committed.{HasCommitted, AreCommitted}
-use Rattle.wal.specs.Opening.{IsViewSize, IsOfSize}
-use Rattle.wal.specs.Opens.{CanOpen}
+use Rattle.wal.specs.Sizes.{IsViewSize, IsOfSize}
+use Rattle.wal.specs.Opened.{CanOpen}
 use Rattle.wal.specs.Refusals.{IsOpenRefusal}
 use Rattle.wal.specs.View.{heads}
 use Rattle.wal.proofs.Opened.{committed_read}
@@ -60,14 +62,14 @@ other_size page_size counted db log (Some h) is other can =
     other are.0
 
 -- the frames that were read are those of the newest view
-read_heads : (page_size : ℕ) (counted : Option ℕ) (db log : List ℕ) (scan : Scan) (header : Option LogHeader) (can : CanOpen page_size counted db log) → header_in log ≡ Ok header → MatchOption header (ReadsNone scan) (λ h. Reads h log scan) → heads log header can.frames ≡ scan.frames.items
+read_heads : (page_size : ℕ) (counted : Option ℕ) (db log : List ℕ) (scan : Scan) (header : Option LogHeader) (can : CanOpen page_size counted db log) → header_in log ≡ Ok header → MatchOption header (ReadsNone scan) (λ h. IsScanOf h log scan) → heads log header can.frames ≡ scan.frames.items
 read_heads page_size counted db log scan None can is reads = sym reads.frames
 read_heads page_size counted db log scan (Some h) can is reads =
     let are : AreCommitted log page_size (Some h) can.frames = subst (λ (o : Option LogHeader). AreCommitted log page_size o can.frames) (header_of_view page_size counted db log (Some h) can is) can.frames_are in
     let committed = committed_read h log reads.accepted (length scan.frames.items) (subst IsPageSize (sym are.0) can.page_size_is) reads.are_accepted reads.are_committed in
     ap (heads_to h log) (committed_one h log can.frames (length scan.frames.items) are.1 committed) ∙ sym reads.frames
 
--- so there is a size that the view has, and is served
+-- so there is a size that the view has, and is supported
 pub read_size : (page_size : ℕ) (counted : Option ℕ) (db log : List ℕ) (scan : Scan) (can : CanOpen page_size counted db log) → IsScan log scan → IsViewSize scan.frames.items counted (length db) page_size can.size
 read_size page_size counted db log scan can scanned =
     let same : heads log can.header can.frames ≡ scan.frames.items =
@@ -108,7 +110,7 @@ refused_more A B C D (Unsupported ColumnCount) is call none = absurd is
 refused_more A B C D (Unsupported SchemaObject) is call none = absurd is
 refused_more A B C D (Unsupported Limit) is call none = none is
 refused_more A B C D (Unsupported Statement) is call none = absurd is
-refused_more A B C D (Unsupported NotBuilt) is call none = absurd is
+refused_more A B C D (Unsupported StatementForm) is call none = absurd is
 refused_more A B C D (Unsupported Connection) is call none = absurd is
 refused_more A B C D (Unsupported RowSize) is call none = absurd is
 refused_more A B C D NotADatabase is call none = absurd is
@@ -142,28 +144,5 @@ pub refused_so : {T : Type 0} (result : Result T Fault) (A B C D : Type 0) (faul
 refused_so (Ok x) A B C D fault same is call none = tt
 refused_so (Err e) A B C D fault same is call none = subst (λ (f : Fault). IsOpenRefusal C D f) (sym same) (refused_more A B C D fault is call none)
 
-pub refused_if : {T : Type 0} (result : Result T Fault) (A B C D : Type 0) → IfErr result (λ e. IsOpenRefusal A B e) → (A → C) → (B → D) → IfErr result (λ e. IsOpenRefusal C D e)
-refused_if (Ok x) A B C D is call none = tt
-refused_if (Err e) A B C D is call none = refused_more A B C D e is call none
-
--- a count that rose behind one that didn't fall
-pub rose_later : (old mid new : ℕ) → old ≤ mid → Rose mid new → Rose old new
-rose_later old mid new le (inl lt) = inl (omega (arith, le, lt))
-rose_later old mid new le (inr full) = elim (cases_lt old new) [
-  | inl lt ↦ inl lt
-  | inr same ↦ inr (omega (arith, le, full.0, full.1, same), omega (arith, le, full.1))
-]
-
--- contents that are what they were
-pub can_as_before : (page_size : ℕ) (counted : Option ℕ) (db log new_db new_log : List ℕ) → new_db ≡ db → new_log ≡ log → CanOpen page_size counted db log → CanOpen page_size counted new_db new_log
-can_as_before page_size counted db log new_db new_log same_db same_log can =
-    subst (λ (d : List ℕ). CanOpen page_size counted d new_log) (sym same_db) (subst (λ (l : List ℕ). CanOpen page_size counted db l) (sym same_log) can)
-
 pub some_size : (n : ℕ) → IsPageSize n → 0 < n
-some_size n (inl is) = omega (arith, is)
-some_size n (inr (inl is)) = omega (arith, is)
-some_size n (inr (inr (inl is))) = omega (arith, is)
-some_size n (inr (inr (inr (inl is)))) = omega (arith, is)
-some_size n (inr (inr (inr (inr (inl is))))) = omega (arith, is)
-some_size n (inr (inr (inr (inr (inr (inl is)))))) = omega (arith, is)
-some_size n (inr (inr (inr (inr (inr (inr is)))))) = omega (arith, is)
+some_size = by_size (λ (n : ℕ). 0 < n) (omega arith) (omega arith) (omega arith) (omega arith) (omega arith) (omega arith) (omega arith)

@@ -1,23 +1,24 @@
 -- What a log that was opened stands for.
+use Rattle.sqlval.specs.PageSizes.{IsPageSize}
 use Rattle.std.proofs.Common.{◌≡◌, inl, inr, ◌<◌, ◌≤◌, ◌+◌, ◌-◌, ℕ, zero, suc, List, [], ◌∷◌, Bool, true, false, length, get_or, take, drop, refl, sym, ◌∙◌, ap, subst, arith}
 use Rattle.std.specs.Prelude.{Option, Some, None, Result, Ok, MatchOption, is_some, nat_lt, if◌then◌else◌}
 use Rattle.std.proofs.lemmas.List.{get_or_append_left, get_or_push, get_or-map, drop-drop, drop-take}
 use Rattle.std.proofs.lemmas.Bool.{cases_lt, lt-ltb}
 use Rattle.sqlval.specs.declared.fault.Fault.{Fault}
-use Rattle.walframe.specs.declared.framing.FrameHeader.{FrameHeader}
-use Rattle.walframe.specs.declared.heading.LogHeader.{LogHeader}
+use Rattle.walframe.specs.declared.frame.FrameHeader.{FrameHeader}
+use Rattle.walframe.specs.declared.log_header.LogHeader.{LogHeader}
 use Rattle.walframe.specs.declared.progress.Scan.{Scan}
 use Rattle.walframe.specs.declared.sums.Sum.{Sum}
 use Rattle.walframe.specs.Log.{header_in, header_sum, header_by, order_told, number_at}
-use Rattle.walframe.specs.Accepted.{IsPageSize, IsFrame, HasAccepted, IsCommitted, Reads, ReadsNone, frame_start, frame_at, head_at, heads_to, sum_to}
+use Rattle.walframe.specs.Accepted.{IsFrame, HasAccepted, IsCommitted, IsScanOf, ReadsNone, frame_start, frame_at, head_at, heads_to, sum_to}
 use Rattle.walframe.proofs.Reading.{heads_len}
 use Rattle.wal.specs.declared.index.Index.{Index}
 use Rattle.wal.specs.Index.{frames_of, EachFrame, IsIndexTo, IsOfHead, IsPageNumber, HasFrame, HasEach, pages_said}
 use Rattle.wal.specs.Committed.{HasCommitted, AreCommitted}
-use Rattle.wal.specs.Opening.{IsViewSize}
+use Rattle.wal.specs.Sizes.{IsViewSize}
 use Rattle.wal.specs.View.{heads}
-use Rattle.wal.specs.Known.{Known, header_of}
-use Rattle.wal.specs.Opens.{IsKnownOf}
+use Rattle.wal.specs.LogState.{LogState, header_of}
+use Rattle.wal.specs.Opened.{IsStateOf}
 use Rattle.wal.specs.Stands.{LogStands, header_where}
 
 pub heads_get : (h : LogHeader) (log : List ℕ) (n k : ℕ) (d : FrameHeader) → k < n → get_or (heads_to h log n) k d ≡ head_at h log k
@@ -58,7 +59,7 @@ inside_log h log (suc n) long each = (each n (omega arith)).whole
 -- what was read of a log, the header that it has or is to get, and the sums
 pub record IsRead (log : List ℕ) (scan : Scan) (o : Option LogHeader) (h : LogHeader) (b : Bool) : Type 0 where
   pub header_is : header_in log ≡ Ok o
-  pub reads : MatchOption o (ReadsNone scan) (λ g. Reads g log scan)
+  pub reads : MatchOption o (ReadsNone scan) (λ g. IsScanOf g log scan)
   pub same : MatchOption o (Unit {0}) (λ found. h ≡ found)
   pub begun : b ≡ is_some o
   pub size : IsPageSize h.page_size
@@ -101,8 +102,8 @@ opened log scan (Some g) h b sum index is sums indexed pages has =
     committed = committed_read g log is.reads.accepted (length scan.frames.items) (subst (λ (f : LogHeader). IsPageSize f.page_size) is.same is.size) is.reads.are_accepted is.reads.are_committed
 
 -- what is known then is the newest view
-pub known_read : (db log : List ℕ) (scan : Scan) (o : Option LogHeader) (known : Known) (counted : Option ℕ) → IsRead log scan o known.header known.has_header → known.header.page_size ≡ known.page_size → known.frames ≡ length scan.frames.items
-    → known.frames ≤ 1000000 → IsViewSize scan.frames.items counted (length db) known.page_size known.size → IsKnownOf counted db log known
+pub known_read : (db log : List ℕ) (scan : Scan) (o : Option LogHeader) (known : LogState) (counted : Option ℕ) → IsRead log scan o known.header known.has_header → known.header.page_size ≡ known.page_size → known.frames ≡ length scan.frames.items
+    → known.frames ≤ 1000000 → IsViewSize scan.frames.items counted (length db) known.page_size known.size → IsStateOf counted db log known
 known_read db log scan None known counted is same_size count few size =
     let none : length scan.frames.items ≡ 0 = ap length is.reads.frames in
     let header : header_of known ≡ None = ap (λ (c : Bool). header_where c known.header) is.begun in
@@ -125,7 +126,7 @@ known_read db log scan (Some g) known counted is same_size count few size =
           (subst (λ (l : List FrameHeader). IsViewSize l counted (length db) known.page_size known.size) (is.reads.frames ∙ ap (heads_to g log) (sym count)) size);
     }
 
--- the page of a frame is what stands behind its first 24 bytes
+-- the page of a frame is what stands after its first 24 bytes
 pub page_of_frame : (h : LogHeader) (log bytes : List ℕ) (k at size : ℕ) → at ≡ frame_start h k → size ≡ h.page_size → bytes ≡ take size (drop (at + 24) log) → bytes ≡ drop 24 (frame_at h log k)
 page_of_frame h log bytes k at size is_at is_size is =
     is ∙ ap (λ (n : ℕ). take n (drop (at + 24) log)) is_size ∙ ap (λ (n : ℕ). take h.page_size (drop (n + 24) log)) is_at

@@ -1,12 +1,12 @@
 -- A log that stands for the same, said of equal parts.
 use Rattle.std.proofs.Common.{◌≡◌, ◌∙◌, ◌+◌, ℕ, List, Bool, true, sym, subst}
-use Rattle.walframe.specs.declared.heading.LogHeader.{LogHeader}
+use Rattle.walframe.specs.declared.log_header.LogHeader.{LogHeader}
 use Rattle.walframe.specs.declared.sums.Sum.{Sum}
 use Rattle.walframe.specs.Accepted.{frame_start, head_at}
 use Rattle.wal.specs.declared.index.Index.{Index}
 use Rattle.wal.specs.Index.{SameFrames}
 use Rattle.wal.specs.declared.state.State.{State}
-use Rattle.wal.specs.Known.{known_in}
+use Rattle.wal.specs.LogState.{state_in}
 use Rattle.wal.specs.State.{SameState}
 use Rattle.wal.specs.Stands.{LogStands, IsOfPage, log_end}
 use Rattle.wal.proofs.Indexing.{each_same}
@@ -31,7 +31,7 @@ stands_indexed h b m s index next log same stands = record {
 }
 
 -- what is known of a state whose index alone has changed
-pub known_same : (old new : State) → SameState old new → known_in new ≡ known_in old
+pub known_same : (old new : State) → SameState old new → state_in new ≡ state_in old
 known_same old new same = λ i. record {
   page_size = same.page_size i;
   header = same.header i;

@@ -1,28 +1,28 @@
--- A log behind a commit, for the layers above: its committed frames, how many there are, and the size that the last one has.
+-- A log after a commit, for the layers above: its committed frames, how many there are, and the size that the last one has.
 use Rattle.std.proofs.Common.{◌≡◌, ◌<◌, ◌≤◌, ◌+◌, ℕ, zero, suc, List, [], ◌∷◌, ◌++◌, length, map, get_or, sym, ◌∙◌, ap, subst, arith, refl, length-append}
 use Rattle.std.specs.Prelude.{Option, Some, None}
 use Rattle.std.proofs.lemmas.List.{length-map}
 use Rattle.disk.specs.declared.device.Disk.{Ghosts}
 use Rattle.disk.specs.File.{File}
-use Rattle.walframe.specs.declared.framing.FrameHeader.{FrameHeader}
-use Rattle.walframe.specs.declared.heading.LogHeader.{LogHeader}
+use Rattle.walframe.specs.declared.frame.FrameHeader.{FrameHeader}
+use Rattle.walframe.specs.declared.log_header.LogHeader.{LogHeader}
 use Rattle.walframe.specs.Written.{Framed}
 use Rattle.wal.specs.declared.log.Log.{Log}
 use Rattle.wal.specs.declared.pages.PageImage.{PageImage}
 use Rattle.wal.specs.Committed.{HasCommits, HasCommitted, framed_to, frames_under}
 use Rattle.wal.specs.Commits.{Commits, commits_of}
-use Rattle.wal.specs.Known.{Known, known_of}
-use Rattle.wal.specs.Opening.{IsViewSize}
+use Rattle.wal.specs.LogState.{LogState, state_of}
+use Rattle.wal.specs.Sizes.{IsViewSize}
 use Rattle.wal.specs.Pages.{framed}
 use Rattle.wal.proofs.CommitLemmas.{last_size, pages_len}
 use Rattle.wal.proofs.FrameLists.{framed_len}
 
 -- the log's header has the size of a page
-pub known_size : {D : Type 0} {g : Ghosts D} (files : Log D g) → (known_of files).header.page_size ≡ (known_of files).page_size
+pub known_size : {D : Type 0} {g : Ghosts D} (files : Log D g) → (state_of files).header.page_size ≡ (state_of files).page_size
 known_size files = files.state.same_size
 
 -- the log has the frames from before the commit, and the commit's
-pub commits_settled : (known : Known) (fs : List Framed) (old new : File) → known.header.page_size ≡ known.page_size → Commits known fs old new → HasCommits known.page_size new.content (commits_of known old.content ++ fs)
+pub commits_settled : (known : LogState) (fs : List Framed) (old new : File) → known.header.page_size ≡ known.page_size → Commits known fs old new → HasCommits known.page_size new.content (commits_of known old.content ++ fs)
 commits_settled known fs old new size commits = record {
   header = Some known.header;
   header_is = commits.header_is;
@@ -52,7 +52,7 @@ by_last : (heads : List FrameHeader) (counted : Option ℕ) (len page_size size 
 by_last [] counted len page_size size some last = absurd (omega (arith, some))
 by_last (h ∷ hs) counted len page_size size some last = sym (last (length hs) h refl)
 
--- the size behind a commit is the commit's
+-- the size after a commit is the commit's
 pub commit_sized : (fs : List Framed) (pages : List PageImage) (counted : Option ℕ) (len page_size size : ℕ) → 0 < length pages → IsViewSize (map (λ (f : Framed). f.head) (fs ++ framed pages size)) counted len page_size size
 commit_sized fs pages counted len page_size size some =
     by_last (heads_in (fs ++ framed pages size)) counted len page_size size (omega (arith, some, pages_more fs pages size)) (λ i d last. last_has fs pages size i d some last)

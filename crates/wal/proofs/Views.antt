@@ -4,14 +4,14 @@ use Rattle.std.specs.Prelude.{Option, Some, None, slice_index_or}
 use Rattle.std.proofs.lemmas.List.{take-append-le, take_all}
 use Rattle.std.proofs.lemmas.Bool.{cases_lt}
 use Rattle.disk.specs.File.{File}
-use Rattle.walframe.specs.declared.heading.LogHeader.{LogHeader}
+use Rattle.walframe.specs.declared.log_header.LogHeader.{LogHeader}
 use Rattle.walframe.specs.Written.{Framed}
 use Rattle.wal.specs.Committed.{framed_at, framed_to, frames_under}
 use Rattle.wal.specs.Commits.{Commits, commits_of, grown}
 use Rattle.wal.specs.Stands.{header_where}
-use Rattle.wal.specs.Known.{Known, header_of}
-use Rattle.wal.specs.Opens.{IsKnownOf}
-use Rattle.wal.specs.Opening.{IsViewSize}
+use Rattle.wal.specs.LogState.{LogState, header_of}
+use Rattle.wal.specs.Opened.{IsStateOf}
+use Rattle.wal.specs.Sizes.{IsViewSize}
 use Rattle.wal.specs.View.{IsPage, IsPageIn, blank_frame, IsFilesView, heads}
 use Rattle.wal.proofs.Chance.{framed_get}
 use Rattle.wal.proofs.FrameLists.{framed_len}
@@ -75,15 +75,15 @@ seen_by_header h false old new fs n m is le =
     let none : m ≡ 0 = omega (arith, le, framed_len h new (n + length fs), ap length is) in
     ap (framed_to h new) none
 
-pub seen_stays : (known : Known) (fs : List Framed) (old new : File) (count size m : ℕ) → Commits known fs old new → m ≤ known.frames → frames_under (header_of (grown known count size)) new.content m ≡ frames_under (header_of known) old.content m
+pub seen_stays : (known : LogState) (fs : List Framed) (old new : File) (count size m : ℕ) → Commits known fs old new → m ≤ known.frames → frames_under (header_of (grown known count size)) new.content m ≡ frames_under (header_of known) old.content m
 seen_stays known fs old new count size m commits le = seen_by_header known.header known.has_header old.content new.content fs known.frames m commits.frames_are le
 
 -- and the newest snapshot sees those and the commit's
-pub seen_grows : (known : Known) (fs : List Framed) (old new : File) (count size : ℕ) → Commits known fs old new → count ≡ length fs → frames_under (header_of (grown known count size)) new.content (known.frames + count) ≡ commits_of known old.content ++ fs
+pub seen_grows : (known : LogState) (fs : List Framed) (old new : File) (count size : ℕ) → Commits known fs old new → count ≡ length fs → frames_under (header_of (grown known count size)) new.content (known.frames + count) ≡ commits_of known old.content ++ fs
 seen_grows known fs old new count size commits is = ap (λ (n : ℕ). framed_to known.header new.content (known.frames + n)) is ∙ commits.frames_are
 
 -- the pages that are read of an opened log are those of the files' view
-pub files_view : (counted : Option ℕ) (db log : List ℕ) (known : Known) (pages : List (List ℕ)) → IsKnownOf counted db log known → length pages ≡ known.size
+pub files_view : (counted : Option ℕ) (db log : List ℕ) (known : LogState) (pages : List (List ℕ)) → IsStateOf counted db log known → length pages ≡ known.size
     → ((number : ℕ) → 1 ≤ number → number ≤ length pages → IsPage db log known.page_size (header_of known) known.frames number (slice_index_or pages (number - 1) [])) → IsFilesView known.page_size counted db log pages
 files_view counted db log known pages is size each = record {
   header = header_of known;

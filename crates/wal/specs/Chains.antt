@@ -1,8 +1,8 @@
--- Which frames the log of a header is meant to have, and that a stop leaves no others (Database File Format, "WAL File
+-- Which frames the log of a header is meant to have, and that a crash leaves no others (Database File Format, "WAL File
 -- Format" and "Checkpoint Algorithm").
 use Rattle.std.specs.Prelude.{◌≡◌, ◌<◌, ℕ, List, length, slice_get, Some, Ok}
 use Rattle.disk.specs.File.{File, Version, IsLeft, versions, version_at}
-use Rattle.walframe.specs.declared.heading.LogHeader.{LogHeader}
+use Rattle.walframe.specs.declared.log_header.LogHeader.{LogHeader}
 use Rattle.walframe.specs.Log.{header_in}
 use Rattle.walframe.specs.Written.{Framed}
 use Rattle.wal.specs.Committed.{IsAcceptedAt, framed_at, framed_to}
@@ -37,7 +37,7 @@ pub record IsChained (versions : List Version) (headers : List Chained) (h : Log
   pub is : IsChainOf versions (record { header = h; count = count }) chain
   pub same : slice_get chain k ≡ Some frame
 
--- No chance match: in each log that a stop may leave of these versions, each accepted frame is the one at its place in its
+-- No chance match: in each log that a crash may leave of these versions, each accepted frame is the one at its place in its
 -- header's chain.
 abbrev pub NoChanceMatchIn : List Version → List Chained → Type 0
 NoChanceMatchIn versions headers =

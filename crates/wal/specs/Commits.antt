@@ -7,15 +7,15 @@ use Rattle.walframe.specs.Log.{header_in}
 use Rattle.walframe.specs.Accepted.{sum_to}
 use Rattle.walframe.specs.Written.{Framed, written}
 use Rattle.wal.specs.Committed.{HasCommitted, AreCommitted, framed_to, frames_under}
-use Rattle.wal.specs.Known.{Known, header_of}
+use Rattle.wal.specs.LogState.{LogState, header_of}
 use Rattle.wal.specs.Stands.{log_front, log_end}
 
 -- the committed frames of a log
-abbrev pub commits_of : Known → List ℕ → List Framed
+abbrev pub commits_of : LogState → List ℕ → List Framed
 commits_of known log = frames_under (header_of known) log known.frames
 
--- The log was synced with exactly these frames behind its committed ones, and all of them are committed now.
-pub record Commits (known : Known) (fs : List Framed) (old new : File) : Type 0 where
+-- The log was synced with exactly these frames after its committed ones, and all of them are committed now.
+pub record Commits (known : LogState) (fs : List Framed) (old new : File) : Type 0 where
   pub content : new.content ≡ log_front known.header known.has_header known.frames old.content ++ written known.header (sum_to known.header old.content known.frames) fs
   pub header_is : header_in new.content ≡ Ok (Some known.header)
   pub committed : HasCommitted known.header new.content (known.frames + length fs)
@@ -24,17 +24,17 @@ pub record Commits (known : Known) (fs : List Framed) (old new : File) : Type 0 
   pub few : known.frames + length fs ≤ 1000000
 
 -- so many frames more count, and the database has this size
-abbrev pub grown : Known → ℕ → ℕ → Known
+abbrev pub grown : LogState → ℕ → ℕ → LogState
 grown known count size = record known { has_header = true; frames = known.frames + count; size = size }
 
 -- after a failed call of the log's disk nothing is known of the log; any other refusal changes nothing
-abbrev pub after_refusal : Known → Fault → Known
+abbrev pub after_refusal : LogState → Fault → LogState
 after_refusal known Io = record known { has_failed = true }
 after_refusal known _ = known
 
 -- what is known after a commit of so many pages
-abbrev pub IsKnownAfter : Result (Unit {0}) Fault → Known → ℕ → ℕ → Known → Type 0
-IsKnownAfter result old count size new = MatchResult result (λ _. new ≡ grown old count size) (λ e. new ≡ after_refusal old e)
+abbrev pub IsStateAfter : Result (Unit {0}) Fault → LogState → ℕ → ℕ → LogState → Type 0
+IsStateAfter result old count size new = MatchResult result (λ _. new ≡ grown old count size) (λ e. new ≡ after_refusal old e)
 
 -- the disk of the database file is as it was, that of the log tells as it did, and the count of its failed calls didn't fall
 pub record KeepsDisks {D : Type 0} (tells : D → Bool) (failures : D → ℕ) (old_db new_db old_log new_log : D) : Type 0 where
@@ -42,8 +42,8 @@ pub record KeepsDisks {D : Type 0} (tells : D → Bool) (failures : D → ℕ) (
   pub tells_same : tells new_log ≡ tells old_log
   pub counts : failures old_log ≤ failures new_log
 
--- the log was cut behind its committed frames, which are what they were, and synced
-pub record IsCut (known : Known) (old new : File) : Type 0 where
+-- the log was cut after its committed frames, which are what they were, and synced
+pub record IsCut (known : LogState) (old new : File) : Type 0 where
   pub content : new.content ≡ take (log_end known.header known.has_header known.frames) old.content
   pub header_is : header_in new.content ≡ Ok (header_of known)
   pub committed : AreCommitted new.content known.page_size (header_of known) known.frames
@@ -51,5 +51,5 @@ pub record IsCut (known : Known) (old new : File) : Type 0 where
   pub synced : IsSynced new
 
 -- what is known after it was cut
-abbrev pub IsKnownCut : Result (Unit {0}) Fault → Known → Known → Type 0
-IsKnownCut result old new = MatchResult result (λ _. new ≡ old) (λ e. new ≡ after_refusal old e)
+abbrev pub IsStateCut : Result (Unit {0}) Fault → LogState → LogState → Type 0
+IsStateCut result old new = MatchResult result (λ _. new ≡ old) (λ e. new ≡ after_refusal old e)

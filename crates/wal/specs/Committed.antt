@@ -1,6 +1,6 @@
 -- Which frames of a log are committed (Database File Format, "WAL File Format" and "Checkpoint Algorithm").
 use Rattle.std.specs.Prelude.{◌≡◌, ◌<◌, ◌≤◌, ℕ, zero, suc, List, [], ◌∷◌, ◌++◌, length, drop, Option, Some, None, Ok}
-use Rattle.walframe.specs.declared.heading.LogHeader.{LogHeader}
+use Rattle.walframe.specs.declared.log_header.LogHeader.{LogHeader}
 use Rattle.walframe.specs.Log.{header_in}
 use Rattle.walframe.specs.Accepted.{IsFrame, frame_at, head_at}
 use Rattle.walframe.specs.Written.{Framed}

@@ -1,7 +1,7 @@
 -- What an index of frames has.
 use Rattle.std.specs.Prelude.{◌≡◌, ◌⊎◌, ◌<◌, ◌≤◌, ◌-◌, ◌+◌, ℕ, List, [], ◌∷◌, ◌++◌, length, map, Vec, vec_len, vec_capacity, slice_index, slice_index_or}
 use Rattle.std.specs.declared.alloc.Global.{Global}
-use Rattle.walframe.specs.declared.framing.FrameHeader.{FrameHeader}
+use Rattle.walframe.specs.declared.frame.FrameHeader.{FrameHeader}
 use Rattle.wal.specs.declared.pages.PageImage.{PageImage}
 use Rattle.wal.specs.declared.index.Index.{Index}
 
@@ -39,7 +39,7 @@ Misses index page frame = HasFrame index page frame → ⊥
 abbrev pub KeepsFrames : Index → Index → Type 0
 KeepsFrames old new = (p f : ℕ) → 1 ≤ p → HasFrame old p f → HasFrame new p f
 
--- Of these pages, in order, the first n have a frame each, numbered from the one behind `before` on.
+-- Of these pages, in order, the first n have a frame each, numbered from the one after `before` on.
 abbrev pub HasEach : ℕ → List ℕ → ℕ → Index → Type 0
 HasEach before numbers n index = (i : ℕ) → i < n → IsPageNumber (slice_index numbers i) → HasFrame index (slice_index numbers i) (before + 1 + i)
 
@@ -97,7 +97,7 @@ pub record IsIndexTo (mark : ℕ) (index : Index) : Type 0 where
   pub each : EachFrame (IsFrameTo mark) index
   pub rising : (p : ℕ) → 1 ≤ p → IsRising (frames_of index p)
 
--- a frame that the index had, or the frame behind `mark` others of one of the first `count` pages
+-- a frame that the index had, or the frame after `mark` others of one of the first `count` pages
 abbrev pub IsOldOrNew : ℕ → List PageImage → ℕ → Index → ℕ → ℕ → Type 0
 IsOldOrNew mark pages count old p f =
     ((j : ℕ) × (j < length (frames_of old p)) × (f ≡ slice_index (frames_of old p) j))

@@ -2,12 +2,12 @@
 use Rattle.std.specs.Prelude.{◌≡◌, ◌⊎◌, ◌≤◌, ℕ, List, [], ◌∷◌, ◌++◌, length, Option}
 use Rattle.std.specs.List.{AllByRecursion}
 use Rattle.disk.specs.File.{File}
-use Rattle.walframe.specs.declared.heading.LogHeader.{LogHeader}
+use Rattle.walframe.specs.declared.log_header.LogHeader.{LogHeader}
 use Rattle.walframe.specs.Written.{Framed}
 use Rattle.wal.specs.declared.pages.PageImage.{PageImage}
 use Rattle.wal.specs.Committed.{frames_under}
 use Rattle.wal.specs.Commits.{Commits, commits_of, grown}
-use Rattle.wal.specs.Known.{Known, header_of}
+use Rattle.wal.specs.LogState.{LogState, header_of}
 use Rattle.wal.specs.Pages.{ArePages, framed}
 use Rattle.wal.specs.View.{IsPage, IsPageIn}
 
@@ -21,14 +21,14 @@ PagesAreOfFrames = (db log : List ℕ) (page_size : ℕ) (header : Option LogHea
 abbrev pub PageIsOne : Type 0
 PageIsOne = (db : List ℕ) (page_size : ℕ) (frames : List Framed) (number : ℕ) (a b : List ℕ) → IsPageIn db page_size frames number a → IsPageIn db page_size frames number b → a ≡ b
 
--- behind a commit each snapshot before it sees the frames that it saw
+-- after a commit each snapshot before it sees the frames that it saw
 abbrev pub SnapshotsStay : Type 0
-SnapshotsStay = (known : Known) (fs : List Framed) (old new : File) (count size n : ℕ) → Commits known fs old new → n ≤ known.frames
+SnapshotsStay = (known : LogState) (fs : List Framed) (old new : File) (count size n : ℕ) → Commits known fs old new → n ≤ known.frames
     → frames_under (header_of (grown known count size)) new.content n ≡ frames_under (header_of known) old.content n
 
 -- and the newest snapshot sees those before the commit, and the commit's
-abbrev pub CommitsAreBehind : Type 0
-CommitsAreBehind = (known : Known) (fs : List Framed) (old new : File) (count size : ℕ) → Commits known fs old new → count ≡ length fs
+abbrev pub CommitsFollow : Type 0
+CommitsFollow = (known : LogState) (fs : List Framed) (old new : File) (count size : ℕ) → Commits known fs old new → count ≡ length fs
     → commits_of (grown known count size) new.content ≡ commits_of known old.content ++ fs
 
 -- the page is one of these, and has these bytes

@@ -3,10 +3,6 @@ use Rattle.std.specs.Prelude.{◌≡◌, ◌<◌, ◌≤◌, ◌==◌, ◌||◌,
 use Rattle.walframe.specs.Written.{Framed}
 use Rattle.wal.specs.declared.pages.PageImage.{PageImage}
 
--- whether pages may have this size: a power of two from 512 to 32768
-abbrev pub is_size : ℕ → Bool
-is_size n = n == 512 || (n == 1024 || (n == 2048 || (n == 4096 || (n == 8192 || (n == 16384 || n == 32768)))))
-
 -- pages by rising number, above one number and up to another, each of so many bytes
 abbrev pub ArePages : ℕ → ℕ → ℕ → List PageImage → Type 0
 ArePages last size bytes [] = Unit {0}

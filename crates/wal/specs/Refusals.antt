@@ -5,8 +5,8 @@ use Rattle.sqlval.specs.declared.fault.Fault.{Fault}
 use Rattle.sqlval.specs.declared.fault.Fault.TheVariants.{Memory, Io, Failed, Full, Damaged, Unsupported}
 use Rattle.sqlval.specs.declared.fault.Damage.TheVariants.{Page, Log, Size}
 use Rattle.sqlval.specs.declared.fault.Feature.TheVariants.{PageSize, LogFormat, Limit}
-use Rattle.wal.specs.Known.{Known}
-use Rattle.wal.specs.Opening.{IsWithinLimits}
+use Rattle.wal.specs.LogState.{LogState}
+use Rattle.wal.specs.Sizes.{IsWithinLimits}
 
 -- these are no pages of a commit
 abbrev pub IsPagesRefusal : Type 0 → Fault → Type 0
@@ -14,7 +14,7 @@ IsPagesRefusal ArePages (Damaged Page number) = ArePages → ⊥
 IsPagesRefusal ArePages _ = ⊥
 
 -- A commit of so many pages, in a database of this size, is within the limits.
-abbrev pub IsWithin : Known → ℕ → ℕ → Type 0
+abbrev pub IsWithin : LogState → ℕ → ℕ → Type 0
 IsWithin known count size = IsWithinLimits known.frames known.page_size count size
 
 -- A commit that was refused, between these two logs and their counts of failed calls: `Io` comes only where a call of the disk

@@ -1,6 +1,6 @@
 -- What a log on a disk stands for.
 use Rattle.std.specs.Prelude.{◌≡◌, ◌<◌, ◌≤◌, ◌+◌, ◌-◌, ℕ, Bool, true, false, List, length, take, Option, Some, None, Ok, if◌then◌else◌}
-use Rattle.walframe.specs.declared.heading.LogHeader.{LogHeader}
+use Rattle.walframe.specs.declared.log_header.LogHeader.{LogHeader}
 use Rattle.walframe.specs.declared.sums.Sum.{Sum}
 use Rattle.walframe.specs.Log.{header_in, header_bytes}
 use Rattle.walframe.specs.Accepted.{frame_start, head_at, sum_to}

@@ -3,13 +3,13 @@ use Rattle.std.specs.Prelude.{◌≡◌, ◌⊎◌, ◌<◌, ◌≤◌, ◌-◌,
 use Rattle.sqlval.specs.declared.fault.Fault.{Fault}
 use Rattle.sqlval.specs.declared.fault.Fault.TheVariants.{Io, Failed, Damaged}
 use Rattle.sqlval.specs.declared.fault.Damage.TheVariants.{MissingPage}
-use Rattle.walframe.specs.declared.framing.FrameHeader.{FrameHeader}
-use Rattle.walframe.specs.declared.heading.LogHeader.{LogHeader}
+use Rattle.walframe.specs.declared.frame.FrameHeader.{FrameHeader}
+use Rattle.walframe.specs.declared.log_header.LogHeader.{LogHeader}
 use Rattle.walframe.specs.Log.{header_in}
 use Rattle.walframe.specs.Accepted.{frame_at, head_at, heads_to}
 use Rattle.walframe.specs.Written.{Framed}
 use Rattle.wal.specs.Committed.{AreCommitted}
-use Rattle.wal.specs.Opening.{IsViewSize, IsServedSize}
+use Rattle.wal.specs.Sizes.{IsViewSize, IsSizeWithinLimits}
 
 -- frame k is the last one of the page among the first n, the first being frame 0
 pub record IsNewest (h : LogHeader) (log : List ℕ) (n number k : ℕ) : Type 0 where
@@ -67,9 +67,9 @@ pub record IsFilesView (page_size : ℕ) (counted : Option ℕ) (db log : List �
   pub frames_are : AreCommitted log page_size header frames
   pub view : IsViewTo page_size counted db log header frames pages
 
--- and it is no larger than is served
-abbrev pub IsServed : ℕ → List (List ℕ) → Type 0
-IsServed page_size pages = IsServedSize page_size (length pages)
+-- and it is no larger than is supported
+abbrev pub AreWithinLimits : ℕ → List (List ℕ) → Type 0
+AreWithinLimits page_size pages = IsSizeWithinLimits page_size (length pages)
 
 -- A page is there for a reader who has room for so many bytes: the snapshot's size reaches to it, and one of the two files has it.
 pub record IsThere (db log : List ℕ) (page_size : ℕ) (header : Option LogHeader) (n size number room : ℕ) : Type 0 where

@@ -1,16 +1,16 @@
 //! Commits.
 
-ghost use Rattle.std.specs.Prelude.{◌≡◌, ◌<◌, ◌≤◌, ◌++◌, length, take, true, IsTrue, IsFalse, OnOk, OnErr, IfErr, if◌then◌else◌};
-ghost use Rattle.disk.specs.Calls.{Rose, Syncs};
+ghost use Rattle.std.specs.Prelude.{◌≡◌, ◌<◌, ◌≤◌, ◌++◌, length, take, true, IsTrue, IsFalse, OnOk, OnErr, IfErr, MatchResult};
+ghost use Rattle.disk.specs.Calls.{Syncs};
 ghost use Rattle.disk.specs.File.{IsSynced, IsContentLeft, Always};
-ghost use Rattle.sqlval.specs.declared.fault.Fault.TheVariants.{Io};
 ghost use Rattle.walframe.specs.Log.{header_bytes};
 ghost use Rattle.walframe.specs.Written.{HeaderFits};
-ghost use Rattle.wal.specs.Commits.{Commits, IsKnownAfter, IsKnownCut, IsCut, KeepsDisks, commits_of};
+ghost use Rattle.wal.specs.Commits.{Commits, IsStateAfter, IsStateCut, IsCut, KeepsDisks, commits_of};
 ghost use Rattle.wal.specs.Pages.{ArePages, framed};
 ghost use Rattle.wal.specs.Refusals.{IsCommitRefusal, IsCutRefusal, IsWithin};
 ghost use Rattle.wal.specs.Stands.{front_at};
-ghost use Rattle.wal.specs.Stops.{LeavesOneOf, LeavesHeader, AreEither, LeavesWriting, LeavesEither, LeavesCommits};
+ghost use Rattle.wal.specs.Crashes.{LeavesOneOf, LeavesHeader, AreEither, LeavesContent, LeavesWriting, LeavesCommits, WritesCommit};
+ghost use Rattle.wal.specs.ErrorCauses.{TouchesDisk};
 
 use crate::log::Log;
 use crate::pages::{PageImage, check_pages};
@@ -19,26 +19,24 @@ use sqlval::{Fault, R};
 use std::alloc::Global;
 use walframe::{FrameHeader, LogHeader};
 
-// Syncs a log.
-fn settle<D: Disk>(log: &mut D) -> R<()>
+/// Syncs a log.
+fn sync_log<D: Disk>(log: &mut D) -> R<()>
     ensures done { IsTrue (D.tells log.old) → OnOk result (Syncs (D.file log.old) (D.file log.new)) }
     ensures failed { IsTrue (D.tells log.old) → OnErr result (D.file log.new ≡ D.file log.old) }
-    ensures same { (D.tells log.new ≡ D.tells log.old) × (D.failures log.old ≤ D.failures log.new) }
-    ensures refusal { IfErr result (λ e. (e ≡ Io) × Rose (D.failures log.old) (D.failures log.new)) }
+    ensures touches { TouchesDisk D.tells D.failures log.old log.new result }
 {
     log.sync()
 }
 
-// Cuts a log to a length, and syncs it, unless it has that length.
-fn trim<D: Disk>(log: &mut D, end: u64, is_cut: bool) -> R<()>
+/// Truncates a log to a length and syncs it, unless it has that length.
+fn truncate_tail<D: Disk>(log: &mut D, end: u64, is_cut: bool) -> R<()>
     requires inside { IsTrue (D.tells log.old) → end ≤ length (D.file log.old).content }
     requires cut { IsTrue (D.tells log.old) → IsTrue is_cut → length (D.file log.old).content ≡ end }
     ensures cut { IsTrue (D.tells log.old) → OnOk result ((D.file log.new).content ≡ take end (D.file log.old).content) }
     ensures synced { IsTrue (D.tells log.old) → IsSynced (D.file log.old) → OnOk result (IsSynced (D.file log.new)) }
-    ensures stop { IsTrue (D.tells log.old) → IsSynced (D.file log.old) → Always (D.file log.old) (D.file log.new) (LeavesOneOf (D.file log.old).content (take end (D.file log.old).content)) }
-    ensures left { IsTrue (D.tells log.old) → IsSynced (D.file log.old) → IsContentLeft (D.file log.new) }
-    ensures same { (D.tells log.new ≡ D.tells log.old) × (D.failures log.old ≤ D.failures log.new) }
-    ensures refusal { IfErr result (λ e. (e ≡ Io) × Rose (D.failures log.old) (D.failures log.new)) }
+    ensures crash { IsTrue (D.tells log.old) → IsSynced (D.file log.old) → Always (D.file log.old) (D.file log.new) (LeavesOneOf (D.file log.old).content (take end (D.file log.old).content)) }
+    ensures left { LeavesContent D.tells D.file log.old log.new }
+    ensures touches { TouchesDisk D.tells D.failures log.old log.new result }
 {
     if is_cut {
         return Ok(());
@@ -47,42 +45,40 @@ fn trim<D: Disk>(log: &mut D, end: u64, is_cut: bool) -> R<()>
         return Ok(());
     }
     log.cut(end)?;
-    settle(log)
+    sync_log(log)
 }
 
-// Gives a log this header, where it has none.
+/// Writes a log's header and syncs it, if it has none.
 fn give_header<D: Disk>(log: &mut D, header: &LogHeader, is_begun: bool) -> R<()>
     requires { IsTrue (D.tells log.old) → IsFalse is_begun → length (D.file log.old).content ≡ 0 }
     ensures given { IsTrue (D.tells log.old) → OnOk result ((D.file log.new).content ≡ front_at header.now is_begun (length (D.file log.old).content) (D.file log.old).content) }
     ensures fits { IsFalse is_begun → HeaderFits header.now }
     ensures synced { IsTrue (D.tells log.old) → IsSynced (D.file log.old) → OnOk result (IsSynced (D.file log.new)) }
-    ensures stop { IsTrue (D.tells log.old) → IsSynced (D.file log.old) → Always (D.file log.old) (D.file log.new) (LeavesHeader header.now is_begun (D.file log.old).content) }
-    ensures left { IsTrue (D.tells log.old) → IsSynced (D.file log.old) → IsContentLeft (D.file log.new) }
-    ensures same { (D.tells log.new ≡ D.tells log.old) × (D.failures log.old ≤ D.failures log.new) }
-    ensures refusal { IfErr result (λ e. (e ≡ Io) × Rose (D.failures log.old) (D.failures log.new)) }
+    ensures crash { IsTrue (D.tells log.old) → IsSynced (D.file log.old) → Always (D.file log.old) (D.file log.new) (LeavesHeader header.now is_begun (D.file log.old).content) }
+    ensures left { LeavesContent D.tells D.file log.old log.new }
+    ensures touches { TouchesDisk D.tells D.failures log.old log.new result }
 {
     if is_begun {
         return Ok(());
     }
     log.write_at(0, &header.write())?;
-    settle(log)
+    sync_log(log)
 }
 
-// Writes frames at the end of a log and syncs it.
+/// Writes frames at the end of a log and syncs it.
 fn append<D: Disk>(log: &mut D, at: u64, bytes: &[u8]) -> R<()>
     requires { IsTrue (D.tells log.old) → length (D.file log.old).content ≡ at }
     ensures written { IsTrue (D.tells log.old) → OnOk result ((D.file log.new).content ≡ (D.file log.old).content ++ bytes.now) }
     ensures synced { IsTrue (D.tells log.old) → OnOk result (IsSynced (D.file log.new)) }
-    ensures stop { IsTrue (D.tells log.old) → IsSynced (D.file log.old) → Always (D.file log.old) (D.file log.new) (AreEither (D.file log.old).content ((D.file log.old).content ++ bytes.now)) }
-    ensures left { IsTrue (D.tells log.old) → IsSynced (D.file log.old) → IsContentLeft (D.file log.new) }
-    ensures same { (D.tells log.new ≡ D.tells log.old) × (D.failures log.old ≤ D.failures log.new) }
-    ensures refusal { IfErr result (λ e. (e ≡ Io) × Rose (D.failures log.old) (D.failures log.new)) }
+    ensures crash { IsTrue (D.tells log.old) → IsSynced (D.file log.old) → Always (D.file log.old) (D.file log.new) (AreEither (D.file log.old).content ((D.file log.old).content ++ bytes.now)) }
+    ensures left { LeavesContent D.tells D.file log.old log.new }
+    ensures touches { TouchesDisk D.tells D.failures log.old log.new result }
 {
     log.write_at(at, bytes)?;
-    settle(log)
+    sync_log(log)
 }
 
-// Writes frames behind the committed ones, which end here, and syncs the log, which gets this header where it has none.
+/// Writes frames after the committed ones, which end at `end`, and syncs the log; a log without a header gets this one first.
 fn write_out<D: Disk>(
     log: &mut D,
     header: LogHeader,
@@ -97,34 +93,31 @@ fn write_out<D: Disk>(
     ensures written { IsTrue (D.tells log.old) → OnOk result ((D.file log.new).content ≡ front_at header is_begun end (D.file log.old).content ++ bytes.now) }
     ensures fits { HeaderFits header }
     ensures synced { IsTrue (D.tells log.old) → OnOk result (IsSynced (D.file log.new)) }
-    ensures stop { IsTrue (D.tells log.old) → IsSynced (D.file log.old) → Always (D.file log.old) (D.file log.new) (LeavesWriting header is_begun end bytes.now (D.file log.old).content) }
-    ensures left { IsTrue (D.tells log.old) → IsSynced (D.file log.old) → IsContentLeft (D.file log.new) }
-    ensures same { (D.tells log.new ≡ D.tells log.old) × (D.failures log.old ≤ D.failures log.new) }
-    ensures refusal { IfErr result (λ e. (e ≡ Io) × Rose (D.failures log.old) (D.failures log.new)) }
+    ensures crash { IsTrue (D.tells log.old) → IsSynced (D.file log.old) → Always (D.file log.old) (D.file log.new) (LeavesWriting header is_begun end bytes.now (D.file log.old).content) }
+    ensures left { LeavesContent D.tells D.file log.old log.new }
+    ensures touches { TouchesDisk D.tells D.failures log.old log.new result }
 {
-    trim(log, end, is_cut)?;
+    truncate_tail(log, end, is_cut)?;
     give_header(log, &header, is_begun)?;
     append(log, if is_begun { end } else { LogHeader::LEN }, bytes)
 }
 
 impl<D: Disk> Log<D> {
-    ghost use Rattle.wal.specs.Known.{known_of, db_of, log_of};
-    ghost use Rattle.wal.specs.Whys.{HasReason};
+    ghost use Rattle.wal.specs.LogState.{state_of, db_of, log_of};
+    ghost use Rattle.wal.specs.ErrorCauses.{HasCause};
 
-    /// Commits pages, by rising number, in a database of `size` pages: writes a frame each, behind the committed ones, and
+    /// Commits pages, by rising number, in a database of `size` pages: writes a frame each, after the committed ones, and
     /// syncs the log. Nothing is written at a refusal but `Io`, after which each call answers `Failed`. (`Memory`, `Io`,
     /// `Failed`; `Damaged(Page)` where there is no page, one's number isn't greater than that before it, or is past the size,
     /// or its length isn't that of a page; `Full` where frames, pages or bytes would pass the limits.)
     pub fn commit(&mut self, alloc: Global, pages: &[PageImage], size: u32) -> R<()>
-        ensures done { IsTrue (D.tells (log_of self.old)) → OnOk result (Commits (known_of self.old) (framed pages.now size) (D.file (log_of self.old)) (D.file (log_of self.new))) }
-        ensures known { IsKnownAfter result (known_of self.old) (length pages.now) size (known_of self.new) }
-        ensures stop { IsFalse (known_of self.old).has_failed → IsTrue (D.tells (log_of self.old)) → Always (D.file (log_of self.old)) (D.file (log_of self.new))
-            (LeavesEither (known_of self.old).page_size (commits_of (known_of self.old) (D.file (log_of self.old)).content) (commits_of (known_of self.old) (D.file (log_of self.old)).content ++ framed pages.now size)) }
-        // What is on the log at each exit is what a stop may leave of it.
-        ensures left { IsFalse (known_of self.old).has_failed → IsTrue (D.tells (log_of self.old)) → IsContentLeft (D.file (log_of self.new)) }
-        ensures refusal { IfErr result (λ e. IsCommitRefusal (known_of self.old).has_failed (ArePages 0 size (known_of self.old).page_size pages.now × (0 < length pages.now)) (IsWithin (known_of self.old) (length pages.now) size) (log_of self.old) (log_of self.new) (D.failures (log_of self.old)) (D.failures (log_of self.new)) e) }
+        ensures done { IsTrue (D.tells (log_of self.old)) → OnOk result (Commits (state_of self.old) (framed pages.now size) (D.file (log_of self.old)) (D.file (log_of self.new))) }
+        ensures known { IsStateAfter result (state_of self.old) (length pages.now) size (state_of self.new) }
+        // A crash leaves what was committed, or that and these frames.
+        ensures crash { IsFalse (state_of self.old).has_failed → IsTrue (D.tells (log_of self.old)) → WritesCommit (state_of self.old) (framed pages.now size) (D.file (log_of self.old)) (D.file (log_of self.new)) }
+        ensures refused { IfErr result (λ fault. IsCommitRefusal (state_of self.old).has_failed (ArePages 0 size (state_of self.old).page_size pages.now × (0 < length pages.now)) (IsWithin (state_of self.old) (length pages.now) size) (log_of self.old) (log_of self.new) (D.failures (log_of self.old)) (D.failures (log_of self.new)) fault) }
         ensures same { KeepsDisks D.tells D.failures (db_of self.old) (db_of self.new) (log_of self.old) (log_of self.new) }
-        ensures reason { HasReason true result self.old self.new }
+        ensures cause { HasCause true result self.old self.new }
     {
         if self.state.is_failed {
             return Err(Fault::Failed);
@@ -146,19 +139,19 @@ impl<D: Disk> Log<D> {
         self.state.is_begun = true;
         self.state.is_cut = true;
         self.state.is_failed = false;
-        self.state.admit(pages, size, sum);
+        self.state.advance(pages, size, sum);
         Ok(())
     }
 
-    /// Cuts the log behind its committed frames and syncs it, where it is longer. The first commit does it where nothing else has.
+    /// Cuts the log after its committed frames and syncs it, where it is longer. The first commit does it where nothing else has.
     /// (`Io`, after which each call answers `Failed`; `Failed`.)
     pub fn cut_tail(&mut self) -> R<()>
-        ensures done { IsTrue (D.tells (log_of self.old)) → OnOk result (IsCut (known_of self.old) (D.file (log_of self.old)) (D.file (log_of self.new))) }
-        ensures known { IsKnownCut result (known_of self.old) (known_of self.new) }
-        ensures stop { IsFalse (known_of self.old).has_failed → IsTrue (D.tells (log_of self.old)) → Always (D.file (log_of self.old)) (D.file (log_of self.new))
-            (LeavesCommits (known_of self.old).page_size (commits_of (known_of self.old) (D.file (log_of self.old)).content)) }
-        ensures left { IsFalse (known_of self.old).has_failed → IsTrue (D.tells (log_of self.old)) → IsContentLeft (D.file (log_of self.new)) }
-        ensures refusal { IfErr result (λ e. IsCutRefusal (known_of self.old).has_failed (log_of self.old) (log_of self.new) (D.failures (log_of self.old)) (D.failures (log_of self.new)) e) }
+        ensures done { IsTrue (D.tells (log_of self.old)) → OnOk result (IsCut (state_of self.old) (D.file (log_of self.old)) (D.file (log_of self.new))) }
+        ensures known { IsStateCut result (state_of self.old) (state_of self.new) }
+        ensures crash { IsFalse (state_of self.old).has_failed → IsTrue (D.tells (log_of self.old)) → Always (D.file (log_of self.old)) (D.file (log_of self.new))
+            (LeavesCommits (state_of self.old).page_size (commits_of (state_of self.old) (D.file (log_of self.old)).content)) }
+        ensures left { IsFalse (state_of self.old).has_failed → IsTrue (D.tells (log_of self.old)) → IsContentLeft (D.file (log_of self.new)) }
+        ensures refused { MatchResult result (λ _. D.failures (log_of self.new) ≡ D.failures (log_of self.old)) (λ fault. IsCutRefusal (state_of self.old).has_failed (log_of self.old) (log_of self.new) (D.failures (log_of self.old)) (D.failures (log_of self.new)) fault) }
         ensures same { KeepsDisks D.tells D.failures (db_of self.old) (db_of self.new) (log_of self.old) (log_of self.new) }
     {
         if self.state.is_failed {
@@ -167,7 +160,7 @@ impl<D: Disk> Log<D> {
         let end = self.state.end();
         let is_cut = self.state.is_cut;
         self.state.is_failed = true;
-        trim(&mut self.log, end, is_cut)?;
+        truncate_tail(&mut self.log, end, is_cut)?;
         self.state.is_cut = true;
         self.state.is_failed = false;
         Ok(())

@@ -4,11 +4,9 @@ ghost use Rattle.std.specs.Prelude.{◌≡◌, ◌≤◌, ◌<◌, ℕ, [], leng
 ghost use Rattle.wal.specs.Pages.{numbers_of};
 
 use crate::pages::PageImage;
+use sqlval::limits::MAX_PAGES;
 use std::alloc::{AllocError, Global};
 use walframe::FrameHeader;
-
-/// The most pages of a database.
-pub const MOST_PAGES: u32 = 65_536;
 
 /// For each page, from the first on, its committed frames by rising number. Frames are numbered from 1.
 #[derive(Drop)]
@@ -28,13 +26,13 @@ impl Index {
         }
     }
 
-    /// Makes room for one frame more of a page from 1 to 65,536.
+    /// Reserves room for one more frame of a page from 1 to 65,536.
     pub fn reserve(&mut self, alloc: Global, page: u32) -> Result<(), AllocError>
         ensures same { SameFrames self.old self.new }
         ensures kept { KeepsRoom self.old self.new }
         ensures room { OnOk result (IsPageNumber page → 0 < room_for self.new page) }
     {
-        if page == 0 || page > MOST_PAGES {
+        if page == 0 || page > MAX_PAGES {
             return Ok(());
         }
         let at = page as usize - 1;
@@ -57,7 +55,7 @@ impl Index {
         let _ = self.lists[at].push(frame);
     }
 
-    /// Makes room for a frame more of each of these pages.
+    /// Reserves room for one more frame of each of these pages.
     pub fn reserve_all(&mut self, alloc: Global, pages: &[PageImage]) -> Result<(), AllocError>
         ensures same { SameFrames self.old self.new }
         ensures room { OnOk result (HasRooms 0 (length pages.now) (numbers_of pages.now) self.new) }
@@ -68,7 +66,7 @@ impl Index {
         Ok(())
     }
 
-    /// Adds a frame of each of these pages, from that behind `mark` on.
+    /// Adds a frame of each of these pages, numbered from `mark + 1` on.
     pub fn add_all(&mut self, pages: &[PageImage], mark: u32)
         requires room { mark + length pages.now ≤ 1000000 }
         requires indexed { IsIndexTo mark self.old }

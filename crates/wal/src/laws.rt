@@ -1,6 +1,6 @@
-//! What follows for what readers see.
+//! Laws of what readers see.
 
-ghost use Rattle.wal.specs.Laws.{CommitChanges, CommitsAreBehind, PageIsOne, PagesAreOfFrames, SnapshotsStay};
+ghost use Rattle.wal.specs.Laws.{CommitChanges, CommitsFollow, PageIsOne, PagesAreOfFrames, SnapshotsStay};
 
 /// What readers see depends on the committed frames, and on nothing else of the log.
 pub fn pages_are_of_frames()
@@ -12,14 +12,14 @@ pub fn page_is_one()
     ensures { PageIsOne }
 {}
 
-/// Behind a commit the snapshots before it see what they saw.
+/// A commit doesn't change what older snapshots see.
 pub fn snapshots_stay()
     ensures { SnapshotsStay }
 {}
 
-/// Behind a commit the newest snapshot sees the frames before it, and the commit's.
-pub fn commits_are_behind()
-    ensures { CommitsAreBehind }
+/// After a commit the newest snapshot sees the older frames and the commit's.
+pub fn commits_follow()
+    ensures { CommitsFollow }
 {}
 
 /// A commit changes its pages, and no others.

@@ -5,15 +5,11 @@ mod committing;
 mod index;
 mod laws;
 mod log;
+mod opening;
 mod pages;
-mod starting;
 mod state;
 
-pub use laws::{
-    commit_changes, commits_are_behind, page_is_one, pages_are_of_frames, snapshots_stay,
-};
-pub use log::{Log, Refused, Snapshot};
+pub use laws::{commit_changes, commits_follow, page_is_one, pages_are_of_frames, snapshots_stay};
+pub use log::{Log, Refused, Snapshot, Synced};
+pub use opening::sync_both;
 pub use pages::PageImage;
-
-#[cfg(test)]
-mod tests;

@@ -2,7 +2,7 @@
 
 ghost use Rattle.std.specs.Prelude.{◌≡◌, ◌≤◌, length, false, IsTrue, IsFalse, OnOk, IfErr};
 ghost use Rattle.disk.specs.File.{IsSynced};
-ghost use Rattle.walframe.specs.Accepted.{Leaves};
+ghost use Rattle.walframe.specs.Accepted.{KeepsFile};
 ghost use Rattle.wal.specs.Stands.{LogStands, log_end};
 ghost use Rattle.wal.specs.View.{IsPage, IsPageRefusal, IsThere};
 
@@ -11,7 +11,7 @@ use disk::Disk;
 use sqlval::{Damage, Fault, R};
 use walframe::FrameHeader;
 
-/// What a reader sees: the frames up to a mark.
+/// A snapshot: the frames up to a mark.
 #[derive(Clone, Copy, Debug, PartialEq, Eq)]
 pub struct Snapshot {
     mark: u32,
@@ -19,12 +19,21 @@ pub struct Snapshot {
     ghost few: { size ≤ 65536 },
 }
 
-/// Files that can't be opened, and why.
+/// The two disks of files that couldn't be synced or opened, and why.
 #[derive(Drop)]
 pub struct Refused<D: Disk> {
     pub fault: Fault,
     pub db: D,
     pub log: D,
+}
+
+/// A database file and its log, both synced: a crash leaves what is read of them.
+#[derive(Drop)]
+pub struct Synced<D: Disk> {
+    pub db: D,
+    pub log: D,
+    ghost db_synced: { IsTrue (D.tells db) → IsSynced (D.file db) },
+    ghost log_synced: { IsTrue (D.tells log) → IsSynced (D.file log) },
 }
 
 /// A database file and its log.
@@ -40,20 +49,20 @@ pub struct Log<D: Disk> {
 }
 
 impl<D: Disk> Log<D> {
-    ghost use Rattle.wal.specs.Known.{known_of, header_of, db_of, log_of, seen_by, size_of};
-    ghost use Rattle.wal.specs.Whys.{HasReason};
+    ghost use Rattle.wal.specs.LogState.{state_of, header_of, db_of, log_of, seen_by, size_of};
+    ghost use Rattle.wal.specs.ErrorCauses.{HasCause};
 
     /// The size of a page, in bytes.
     pub fn page_size(&self) -> u32
-        ensures { result ≡ (known_of self.now).page_size }
+        ensures { result ≡ (state_of self.now).page_size }
     {
         self.state.page_size
     }
 
-    /// What the newest commit left.
+    /// The newest snapshot.
     pub fn begin(&self) -> Snapshot
-        ensures seen { seen_by result ≡ (known_of self.now).frames }
-        ensures size { size_of result ≡ (known_of self.now).size }
+        ensures seen { seen_by result ≡ (state_of self.now).frames }
+        ensures size { size_of result ≡ (state_of self.now).size }
     {
         Snapshot {
             mark: self.state.mark,
@@ -72,15 +81,14 @@ impl<D: Disk> Log<D> {
     /// (`Io`, `Failed` after it; `Damaged(MissingPage)` where the number isn't one of 1 to the size, neither file has the page, or `out` has
     /// another length than a page.)
     pub fn page(&mut self, snapshot: Snapshot, number: u32, out: &mut [u8]) -> R<()>
-        ensures read { IsTrue (D.tells (db_of self.old)) → IsTrue (D.tells (log_of self.old)) → seen_by snapshot ≤ (known_of self.old).frames
-            → OnOk result (IsPage (D.file (db_of self.old)).content (D.file (log_of self.old)).content (known_of self.old).page_size (header_of (known_of self.old)) (seen_by snapshot) number out.new) }
-        ensures known { known_of self.new ≡ known_of self.old }
-        ensures db_kept { Leaves D.tells D.file (db_of self.old) (db_of self.new) }
-        ensures log_kept { Leaves D.tells D.file (log_of self.old) (log_of self.new) }
-        ensures refusal { IfErr result (IsPageRefusal (known_of self.old).has_failed number
-            (IsTrue (D.tells (db_of self.old)) × IsTrue (D.tells (log_of self.old)) × (seen_by snapshot ≤ (known_of self.old).frames)
-            × IsThere (D.file (db_of self.old)).content (D.file (log_of self.old)).content (known_of self.old).page_size (header_of (known_of self.old)) (seen_by snapshot) (size_of snapshot) number (length out.old))) }
-        ensures reason { HasReason false result self.old self.new }
+        ensures read { IsTrue (D.tells (db_of self.old)) → IsTrue (D.tells (log_of self.old)) → seen_by snapshot ≤ (state_of self.old).frames
+            → OnOk result (IsPage (D.file (db_of self.old)).content (D.file (log_of self.old)).content (state_of self.old).page_size (header_of (state_of self.old)) (seen_by snapshot) number out.new) }
+        ensures kept { (state_of self.new ≡ state_of self.old) × KeepsFile D.tells D.file (db_of self.old) (db_of self.new) × KeepsFile D.tells D.file (log_of self.old) (log_of self.new) }
+        ensures refused { IfErr result (IsPageRefusal (state_of self.old).has_failed number
+            (IsTrue (D.tells (db_of self.old)) × IsTrue (D.tells (log_of self.old)) × (seen_by snapshot ≤ (state_of self.old).frames)
+            × IsThere (D.file (db_of self.old)).content (D.file (log_of self.old)).content (state_of self.old).page_size (header_of (state_of self.old)) (seen_by snapshot) (size_of snapshot) number (length out.old))) }
+        ensures cause { HasCause false result self.old self.new }
+        ensures within { OnOk result ((1 ≤ number) × (number ≤ size_of snapshot) × (length out.old ≡ (state_of self.old).page_size)) }
     {
         if number == 0 || number > snapshot.size || out.len() != self.state.page_size as usize {
             return Err(Fault::Damaged(Damage::MissingPage, number));

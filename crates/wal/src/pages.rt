@@ -6,20 +6,20 @@ ghost use Rattle.wal.specs.Refusals.{IsPagesRefusal};
 
 use sqlval::{Damage, Fault, R};
 
-/// A page as it is to be.
+/// The new content of a page.
 #[derive(Drop)]
 pub struct PageImage {
     /// The page's number, from 1.
     pub number: u32,
-    /// As many as a page has.
+    /// The page's bytes, as many as the page size.
     pub bytes: Vec<u8>,
 }
 
-/// Whether these may be the pages of a commit: at least one, by rising number from 1 to the size, each of so many bytes.
+/// Whether these may be the pages of a commit: at least one, by rising number from 1 to `size`, each of `page_size` bytes.
 /// (`Damaged(Page)` with the number of the first that isn't so, or 0 where there is none.)
 pub fn check_pages(pages: &[PageImage], size: u32, page_size: u32) -> R<()>
     ensures pages { OnOk result (ArePages 0 size page_size pages.now) }
-    ensures refusal { IfErr result (λ e. IsPagesRefusal (ArePages 0 size page_size pages.now × (0 < length pages.now)) e) }
+    ensures refused { IfErr result (λ fault. IsPagesRefusal (ArePages 0 size page_size pages.now × (0 < length pages.now)) fault) }
     ensures some { OnOk result (0 < length pages.now) }
 {
     if pages.is_empty() {

@@ -1,4 +1,5 @@
 -- What is written is read back.
+use Rattle.sqlval.specs.PageSizes.{IsPageSize}
 use Rattle.std.proofs.Common.{◌≡◌, ◌+◌, ◌<◌, ◌^◌, nat_lt, if◌then◌else◌, Bool, true, false, ℕ, suc, List, [], ◌∷◌, ◌++◌, map, length, take, drop, refl, sym, ◌∙◌, ap, subst, arith, length-append, inl, inr, add-zero}
 use Rattle.std.specs.Prelude.{Option, Some, None, Result, Ok, Err, ◌==◌}
 use Rattle.std.proofs.lemmas.List.{append_assoc, append-nil, take_at, drop_at}
@@ -8,16 +9,16 @@ use Rattle.byteorder.specs.Numbers.{big_number-reads_back}
 use Rattle.sqlval.specs.declared.fault.Fault.{Fault}
 use Rattle.sqlval.specs.declared.fault.Fault.TheVariants.{Unsupported}
 use Rattle.sqlval.specs.declared.fault.Feature.TheVariants.{LogFormat}
-use Rattle.walframe.specs.declared.framing.FrameHeader.{FrameHeader}
-use Rattle.walframe.specs.declared.heading.LogHeader.{LogHeader}
-use Rattle.walframe.specs.declared.heading.Salts.{Salts}
+use Rattle.walframe.specs.declared.frame.FrameHeader.{FrameHeader}
+use Rattle.walframe.specs.declared.log_header.LogHeader.{LogHeader}
+use Rattle.walframe.specs.declared.log_header.Salts.{Salts}
 use Rattle.walframe.specs.declared.sums.Sum.{Sum}
 use Rattle.walframe.specs.declared.sums.WordOrder.{WordOrder}
 use Rattle.walframe.specs.declared.sums.WordOrder.TheVariants.{Big, Little}
 use Rattle.walframe.specs.Sums.{words, carried, zero_sum, next}
 use Rattle.walframe.specs.Log.{number_at, sum_at, salts_at, magic_told, order_told, fields_in, is_summed, header_of_format, header_by, header_in, header_front, header_sum, header_bytes, sum_bytes, frame_front, frame_head, frame_bytes, frame_of, sum_over}
-use Rattle.walframe.specs.Accepted.{IsPageSize, IsFrame, frame_start, frame_at, sum_to, head_at, heads_to}
-use Rattle.walframe.specs.Written.{Framed, sum_of_framed, written, sum_behind, SaltsFit, HeaderFits, FramedFits, AllFit}
+use Rattle.walframe.specs.Accepted.{IsFrame, frame_start, frame_at, sum_to, head_at, heads_to}
+use Rattle.walframe.specs.Written.{Framed, sum_of_framed, written, sum_after, SaltsFit, HeaderFits, FramedFits, AllFit}
 use Rattle.walframe.specs.Appended.{AreWritten}
 use Rattle.walframe.proofs.Fronts.{start_more, sum_to_front, is_frame_front, heads_to_front}
 use Rattle.walframe.proofs.Reading.{sum_more, sum_same}
@@ -109,7 +110,7 @@ head_back f rest page size =
 pub frame_back : (salts : Salts) (sum : Sum) (f : FrameHeader) (page : List ℕ) → f.page < 2 ^ 32 → f.size < 2 ^ 32 → frame_of (frame_bytes salts sum f page) ≡ f
 frame_back salts sum f page page_fits size_fits = head_back f (big_bytes 4 salts.first ++ (big_bytes 4 salts.second ++ (sum_bytes sum ++ page))) page_fits size_fits
 
--- the bytes of a frame behind so many
+-- the bytes of a frame after so many
 pub frame_is : (h : LogHeader) (front frame rest : List ℕ) (n : ℕ) → length front ≡ frame_start h n → length frame ≡ 24 + h.page_size → frame_at h (front ++ (frame ++ rest)) n ≡ frame
 frame_is h front frame rest n start size =
     ap (take (24 + h.page_size)) (drop_at front (frame ++ rest) (frame_start h n) start) ∙ take_at frame rest (24 + h.page_size) size
@@ -166,7 +167,7 @@ more_written h front n f fs rest size salts fits sum_fits start each go =
     along log (sym same_log) (record {
       each = λ k lt. later.each k (omega (arith, lt));
       heads = ap (heads_to h next_log) count ∙ later.heads ∙ ap (λ (l : List FrameHeader). l ++ map (λ (g : Framed). g.head) fs) heads_now ∙ append_assoc (heads_to h front n) (f.head ∷ []) (map (λ (g : Framed). g.head) fs);
-      sum_is = ap (sum_to h next_log) count ∙ later.sum_is ∙ ap (λ (s : Sum). sum_behind h s fs) now.sum_is;
+      sum_is = ap (sum_to h next_log) count ∙ later.sum_is ∙ ap (λ (s : Sum). sum_after h s fs) now.sum_is;
     })
   where
     sum : Sum

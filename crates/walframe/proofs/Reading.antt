@@ -1,4 +1,6 @@
 -- Reading a log.
+use Rattle.sqlval.proofs.PageSizeLemmas.{by_size}
+use Rattle.sqlval.specs.PageSizes.{IsPageSize}
 use Rattle.std.proofs.Common.{◌≡◌, ◌≤◌, ◌+◌, ◌*◌, ◌<◌, Bool, true, false, ℕ, zero, suc, List, [], ◌∷◌, ◌++◌, length, take, drop, refl, sym, ◌∙◌, ap, subst, arith, length-append, length-take, length-drop, inl, inr}
 use Rattle.std.specs.Prelude.{◌⊎◌, Option, Result, Ok, Err, IfErr, IsErrAnd, IfOk, ◌==◌, ◌&&◌, MatchBool}
 use Rattle.std.proofs.lemmas.List.{take-append-drop, take_all, take-append-le, take_at}
@@ -6,15 +8,15 @@ use Rattle.std.proofs.lemmas.Bool.{eqb-true, eq-eqb, cases_lt}
 use Rattle.sqlval.specs.declared.fault.Fault.{Fault}
 use Rattle.sqlval.specs.declared.fault.Fault.TheVariants.{Memory, Unsupported}
 use Rattle.sqlval.specs.declared.fault.Feature.TheVariants.{LogFormat, Limit}
-use Rattle.walframe.specs.declared.heading.LogHeader.{LogHeader}
-use Rattle.walframe.specs.declared.framing.FrameHeader.{FrameHeader}
-use Rattle.walframe.specs.declared.heading.Salts.{Salts}
+use Rattle.walframe.specs.declared.log_header.LogHeader.{LogHeader}
+use Rattle.walframe.specs.declared.frame.FrameHeader.{FrameHeader}
+use Rattle.walframe.specs.declared.log_header.Salts.{Salts}
 use Rattle.walframe.specs.declared.progress.Progress.{Progress}
 use Rattle.walframe.specs.declared.progress.Scan.{Scan}
 use Rattle.walframe.specs.declared.sums.Sum.{Sum}
 use Rattle.walframe.specs.Sums.{zero_sum}
 use Rattle.walframe.specs.Log.{header_in, same_sum, same_salts, is_frame, sum_over, frame_of, summed, sum_at, salts_at}
-use Rattle.walframe.specs.Accepted.{IsRefusal, HasTooMany, IsPageSize, IsFrame, HasAccepted, IsCommitted, Reads, frame_start, frame_at, summed_to, sum_to, head_at, heads_to}
+use Rattle.walframe.specs.Accepted.{IsRefusal, HasTooMany, IsFrame, HasAccepted, IsCommitted, IsScanOf, frame_start, frame_at, summed_to, sum_to, head_at, heads_to}
 use Rattle.walframe.specs.Progress.{SamePart, WholePart, Accepts, IsMeasured, IsRead, IsReadWhole}
 use Rattle.walframe.proofs.Fronts.{header_in_front, start_more}
 use Rattle.walframe.proofs.Carrying.{carried_both}
@@ -70,13 +72,7 @@ salts_same s t is = both_true s.first s.second t.first t.second (ap (λ (r : Sal
 -- the sums of one frame more
 
 pub page_words : (n : ℕ) → IsPageSize n → (q : ℕ) × (n ≡ 8 * q)
-page_words n (inl is) = (64, omega (arith, is))
-page_words n (inr (inl is)) = (128, omega (arith, is))
-page_words n (inr (inr (inl is))) = (256, omega (arith, is))
-page_words n (inr (inr (inr (inl is)))) = (512, omega (arith, is))
-page_words n (inr (inr (inr (inr (inl is))))) = (1024, omega (arith, is))
-page_words n (inr (inr (inr (inr (inr (inl is)))))) = (2048, omega (arith, is))
-page_words n (inr (inr (inr (inr (inr (inr is)))))) = (4096, omega (arith, is))
+page_words = by_size (λ (n : ℕ). (q : ℕ) × (n ≡ 8 * q)) (64, refl) (128, refl) (256, refl) (512, refl) (1024, refl) (2048, refl) (4096, refl)
 
 pub frame_len : (h : LogHeader) (log : List ℕ) (k : ℕ) → frame_start h (suc k) ≤ length log → length (frame_at h log k) ≡ 24 + h.page_size
 frame_len h log k whole = omega (arith, whole, start_more h k, length-take (24 + h.page_size) (drop (frame_start h k) log), length-drop (frame_start h k) log)
@@ -246,7 +242,7 @@ one_too_many h log bytes sum frame progress size measured was inside is_bytes is
 
 -- the committed part of what was read
 pub finished : (h : LogHeader) (log : List ℕ) (progress : Progress) (scan : Scan) → IsMeasured h progress → IsReadWhole h log progress → scan.frames.items ≡ take progress.committed progress.frames.items → scan.sum ≡ progress.committed_sum → scan.end ≡ progress.end
-    → Reads h log scan
+    → IsScanOf h log scan
 finished h log progress scan measured was frames sum end =
     let size : length scan.frames.items ≡ progress.committed = omega (arith, ap length frames, length-take progress.committed progress.frames.items, measured.part) in
     record {

@@ -1,20 +1,17 @@
 -- Which frames of a log count (Database File Format, "WAL File Format" and "Checkpoint Algorithm").
+use Rattle.sqlval.specs.PageSizes.{IsPageSize}
 use Rattle.std.specs.Prelude.{◌≡◌, ◌⊎◌, ◌<◌, ◌≤◌, ◌+◌, ◌*◌, ℕ, zero, suc, Bool, List, [], ◌∷◌, ◌++◌, length, take, drop, MatchOption, Some, Ok, IsTrue}
 use Rattle.disk.specs.Calls.{Rose}
 use Rattle.disk.specs.File.{File}
 use Rattle.sqlval.specs.declared.fault.Fault.{Fault}
 use Rattle.sqlval.specs.declared.fault.Fault.TheVariants.{Memory, Io, Unsupported}
 use Rattle.sqlval.specs.declared.fault.Feature.TheVariants.{LogFormat, Limit}
-use Rattle.walframe.specs.declared.framing.FrameHeader.{FrameHeader}
-use Rattle.walframe.specs.declared.heading.LogHeader.{LogHeader}
+use Rattle.walframe.specs.declared.frame.FrameHeader.{FrameHeader}
+use Rattle.walframe.specs.declared.log_header.LogHeader.{LogHeader}
 use Rattle.walframe.specs.declared.progress.Scan.{Scan}
 use Rattle.walframe.specs.declared.sums.Sum.{Sum}
 use Rattle.walframe.specs.Sums.{words, carried, zero_sum}
 use Rattle.walframe.specs.Log.{header_front, header_in, frame_of, summed, salts_at, sum_at}
-
--- a power of two from 512 to 32768
-abbrev pub IsPageSize : ℕ → Type 0
-IsPageSize n = (n ≡ 512) ⊎ (n ≡ 1024) ⊎ (n ≡ 2048) ⊎ (n ≡ 4096) ⊎ (n ≡ 8192) ⊎ (n ≡ 16384) ⊎ (n ≡ 32768)
 
 -- where frame k of a log begins; the first is frame 0
 abbrev pub frame_start : LogHeader → ℕ → ℕ
@@ -57,14 +54,14 @@ abbrev pub heads_to : LogHeader → List ℕ → ℕ → List FrameHeader
 heads_to h log zero = []
 heads_to h log (suc n) = heads_to h log n ++ head_at h log n ∷ []
 
--- of so many accepted frames the first n are committed: the last of them ends a commit, and no frame behind them does
+-- of so many accepted frames the first n are committed: the last of them ends a commit, and no frame after them does
 pub record IsCommitted (h : LogHeader) (log : List ℕ) (accepted n : ℕ) : Type 0 where
   pub within : n ≤ accepted
   pub ends : (k : ℕ) → n ≡ suc k → (head_at h log k).size ≡ 0 → ⊥
   pub rest : (k : ℕ) → n ≤ k → k < accepted → (head_at h log k).size ≡ 0
 
 -- this was read of a log with that header
-pub record Reads (h : LogHeader) (log : List ℕ) (scan : Scan) : Type 0 where
+pub record IsScanOf (h : LogHeader) (log : List ℕ) (scan : Scan) : Type 0 where
   pub accepted : ℕ
   pub are_accepted : HasAccepted h log accepted
   pub are_committed : IsCommitted h log accepted (length scan.frames.items)
@@ -79,9 +76,9 @@ pub record ReadsNone (scan : Scan) : Type 0 where
 
 -- this is the log's header, where it has one, and its committed frames
 abbrev pub IsScan : List ℕ → Scan → Type 0
-IsScan log scan = (header_in log ≡ Ok scan.header) × MatchOption scan.header (ReadsNone scan) (λ h. Reads h log scan)
+IsScan log scan = (header_in log ≡ Ok scan.header) × MatchOption scan.header (ReadsNone scan) (λ h. IsScanOf h log scan)
 
--- More than 1,000,000 frames are committed: one behind so many others ends a commit, and it and all before it are right.
+-- More than 1,000,000 frames are committed: one after so many others ends a commit, and it and all before it are right.
 pub record HasTooMany (h : LogHeader) (log : List ℕ) : Type 0 where
   pub frame : ℕ
   pub past : 1000000 ≤ frame
@@ -102,6 +99,6 @@ IsRefusal is_other is_long (Unsupported Limit) old new = is_long
 IsRefusal is_other is_long _ old new = ⊥
 
 -- a call left the file of a disk as it was
-pub record Leaves {D : Type 0} (tells : D → Bool) (file : D → File) (old new : D) : Type 0 where
+pub record KeepsFile {D : Type 0} (tells : D → Bool) (file : D → File) (old new : D) : Type 0 where
   pub tells_same : tells new ≡ tells old
   pub same : IsTrue (tells old) → file new ≡ file old

@@ -1,21 +1,22 @@
 -- What becomes of headers and frames that are written (Database File Format, "WAL File Format").
+use Rattle.sqlval.specs.PageSizes.{IsPageSize}
 use Rattle.std.specs.Prelude.{◌≡◌, ◌<◌, ◌≤◌, ◌+◌, ℕ, List, ◌++◌, map, length, Some, Ok}
-use Rattle.walframe.specs.declared.heading.LogHeader.{LogHeader}
+use Rattle.walframe.specs.declared.log_header.LogHeader.{LogHeader}
 use Rattle.walframe.specs.Log.{header_in, header_bytes}
-use Rattle.walframe.specs.Accepted.{IsPageSize, IsFrame, HasAccepted, frame_start, frame_at, sum_to, heads_to}
-use Rattle.walframe.specs.Written.{Framed, written, sum_behind, SaltsFit, HeaderFits, AllFit}
+use Rattle.walframe.specs.Accepted.{IsFrame, HasAccepted, frame_start, frame_at, sum_to, heads_to}
+use Rattle.walframe.specs.Written.{Framed, written, sum_after, SaltsFit, HeaderFits, AllFit}
 
--- frames that were written behind n others: all of them are accepted
+-- frames that were written after n others: all of them are accepted
 pub record AreWritten (h : LogHeader) (log front : List ℕ) (n : ℕ) (fs : List Framed) : Type 0 where
   pub each : (k : ℕ) → k < n + length fs → IsFrame h log k
   pub heads : heads_to h log (n + length fs) ≡ heads_to h front n ++ map (λ (f : Framed). f.head) fs
-  pub sum_is : sum_to h log (n + length fs) ≡ sum_behind h (sum_to h front n) fs
+  pub sum_is : sum_to h log (n + length fs) ≡ sum_after h (sum_to h front n) fs
 
 -- a header that was written is read, whatever follows it
 abbrev pub ReadsWrittenHeaders : Type 0
 ReadsWrittenHeaders = (h : LogHeader) (rest : List ℕ) → HeaderFits h → header_in (header_bytes h ++ rest) ≡ Ok (Some h)
 
--- Frames that were written behind n accepted ones are accepted with them, whatever follows.
+-- Frames that were written after n accepted ones are accepted with them, whatever follows.
 abbrev pub AcceptsWrittenFrames : Type 0
 AcceptsWrittenFrames = (h : LogHeader) (front : List ℕ) (n : ℕ) (fs : List Framed) (rest : List ℕ)
     → IsPageSize h.page_size → SaltsFit h.salts → AllFit h fs → length front ≡ frame_start h n → ((k : ℕ) → k < n → IsFrame h front k)

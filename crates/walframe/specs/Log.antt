@@ -4,9 +4,9 @@ use Rattle.byteorder.specs.Endian.{big_bytes, big_number}
 use Rattle.sqlval.specs.declared.fault.Fault.{Fault}
 use Rattle.sqlval.specs.declared.fault.Fault.TheVariants.{Unsupported}
 use Rattle.sqlval.specs.declared.fault.Feature.TheVariants.{LogFormat}
-use Rattle.walframe.specs.declared.framing.FrameHeader.{FrameHeader}
-use Rattle.walframe.specs.declared.heading.LogHeader.{LogHeader}
-use Rattle.walframe.specs.declared.heading.Salts.{Salts}
+use Rattle.walframe.specs.declared.frame.FrameHeader.{FrameHeader}
+use Rattle.walframe.specs.declared.log_header.LogHeader.{LogHeader}
+use Rattle.walframe.specs.declared.log_header.Salts.{Salts}
 use Rattle.walframe.specs.declared.sums.Sum.{Sum}
 use Rattle.walframe.specs.declared.sums.WordOrder.{WordOrder}
 use Rattle.walframe.specs.declared.sums.WordOrder.TheVariants.{Big, Little}
@@ -61,15 +61,15 @@ same_sum s t = s.first == t.first && s.second == t.second
 abbrev pub same_salts : Salts → Salts → Bool
 same_salts s t = s.first == t.first && s.second == t.second
 
--- whether the sums of the first 24 bytes stand behind them
+-- whether the sums of the first 24 bytes stand after them
 abbrev pub is_summed : WordOrder → List ℕ → Bool
 is_summed order bytes = same_sum (carried zero_sum (words order (take 24 bytes))) (sum_at 24 bytes)
 
--- the header, where it is of the one format that is served
+-- the header, where it is of the one format that is supported
 abbrev pub header_of_format : WordOrder → List ℕ → Result (Option LogHeader) Fault
 header_of_format order bytes = if number_at 4 bytes == 3007000 then Ok (Some (fields_in order bytes)) else Err (Unsupported LogFormat)
 
--- the header in bytes that begin with the magic number of this order: none where the sums of the first 24 don't stand behind them
+-- the header in bytes that begin with the magic number of this order: none where the sums of the first 24 don't stand after them
 abbrev pub header_by : Option WordOrder → List ℕ → Result (Option LogHeader) Fault
 header_by None bytes = Ok None
 header_by (Some order) bytes = if is_summed order bytes then header_of_format order bytes else Ok None

@@ -1,8 +1,8 @@
 -- The frames that a writer makes (Database File Format, "WAL File Format").
 use Rattle.std.specs.Prelude.{◌≡◌, ◌<◌, ◌^◌, ℕ, List, [], ◌∷◌, ◌++◌, length}
-use Rattle.walframe.specs.declared.framing.FrameHeader.{FrameHeader}
-use Rattle.walframe.specs.declared.heading.LogHeader.{LogHeader}
-use Rattle.walframe.specs.declared.heading.Salts.{Salts}
+use Rattle.walframe.specs.declared.frame.FrameHeader.{FrameHeader}
+use Rattle.walframe.specs.declared.log_header.LogHeader.{LogHeader}
+use Rattle.walframe.specs.declared.log_header.Salts.{Salts}
 use Rattle.walframe.specs.declared.sums.Sum.{Sum}
 use Rattle.walframe.specs.Log.{frame_sum, frame_bytes}
 
@@ -15,15 +15,15 @@ pub record Framed : Type 0 where
 abbrev pub sum_of_framed : LogHeader → Sum → Framed → Sum
 sum_of_framed h before f = frame_sum h.order before f.head f.page
 
--- the bytes of frames, one behind the other
+-- the bytes of frames, one after the other
 abbrev pub written : LogHeader → Sum → List Framed → List ℕ
 written h before [] = []
 written h before (f ∷ fs) = frame_bytes h.salts (sum_of_framed h before f) f.head f.page ++ written h (sum_of_framed h before f) fs
 
 -- the sums carried over all of them
-abbrev pub sum_behind : LogHeader → Sum → List Framed → Sum
-sum_behind h before [] = before
-sum_behind h before (f ∷ fs) = sum_behind h (sum_of_framed h before f) fs
+abbrev pub sum_after : LogHeader → Sum → List Framed → Sum
+sum_after h before [] = before
+sum_after h before (f ∷ fs) = sum_after h (sum_of_framed h before f) fs
 
 -- salts of 32 bits each
 pub record SaltsFit (salts : Salts) : Type 0 where

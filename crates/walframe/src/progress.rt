@@ -4,13 +4,12 @@ ghost use Rattle.std.specs.Prelude.{◌≡◌, ◌<◌, ◌≤◌, ◌+◌, ◌^
 ghost use Rattle.sqlval.specs.declared.fault.Fault.TheVariants.{Memory, Unsupported};
 ghost use Rattle.sqlval.specs.declared.fault.Feature.TheVariants.{Limit};
 
-use crate::framing::FrameHeader;
-use crate::heading::LogHeader;
+use crate::frame::FrameHeader;
+use crate::log_header::LogHeader;
 use crate::sums::Sum;
+use sqlval::limits::MAX_FRAMES;
 use sqlval::{Fault, Feature, R};
 use std::alloc::Global;
-
-const MOST_FRAMES: usize = 1_000_000;
 
 /// What a log holds.
 #[derive(Drop)]
@@ -38,7 +37,7 @@ pub struct Progress {
 
 impl Progress {
     ghost use Rattle.walframe.specs.Progress.{Accepts, IsRead, IsReadWhole, IsMeasured};
-    ghost use Rattle.walframe.specs.Accepted.{Reads};
+    ghost use Rattle.walframe.specs.Accepted.{IsScanOf};
 
     /// Nothing was read but the header.
     pub fn start(alloc: Global, header: &LogHeader) -> Progress
@@ -59,7 +58,7 @@ impl Progress {
     /// The committed part.
     pub fn finish(self, header: &LogHeader) -> Scan
         requires { IsMeasured header.now self }
-        ensures found { (log : List ℕ) → IsReadWhole header.now log self → Reads header.now log result }
+        ensures found { (log : List ℕ) → IsReadWhole header.now log self → IsScanOf header.now log result }
         ensures header { (result.header ≡ Some header.now) × (length result.frames.items ≤ 1000000) }
     {
         let Progress {
@@ -79,17 +78,17 @@ impl Progress {
         }
     }
 
-    /// Counts one frame more, of so many bytes, with the sums carried over it.
+    /// Counts one more frame, of `len` bytes, with the sums carried over it.
     pub fn accept(&mut self, frame: FrameHeader, sum: Sum, size: u64) -> R<()>
         requires { self.old.at + size < 2 ^ 64 }
         ensures accepted { OnOk result (Accepts frame sum size self.old self.new) }
-        ensures refusal { IfErr result (λ e. (e ≡ Memory) ⊎ (e ≡ Unsupported Limit) × (1000000 ≤ length self.old.frames.items) × (frame.size ≡ 0 → ⊥)) }
+        ensures refused { IfErr result (λ fault. (fault ≡ Memory) ⊎ (fault ≡ Unsupported Limit) × (1000000 ≤ length self.old.frames.items) × (frame.size ≡ 0 → ⊥)) }
     {
         self.frames.push(frame)?;
         self.sum = sum;
         self.at += size;
         if frame.size != 0 {
-            if self.frames.len() > MOST_FRAMES {
+            if self.frames.len() > MAX_FRAMES {
                 return Err(Fault::Unsupported(Feature::Limit));
             }
             self.committed = self.frames.len();

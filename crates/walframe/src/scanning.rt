@@ -1,32 +1,27 @@
 //! Reading a log.
 
-ghost use Rattle.std.specs.Prelude.{◌≡◌, ◌≤◌, ◌+◌, ◌↔◌, length, IsTrue, IfOk, IfErr, IsSome, Err};
+ghost use Rattle.sqlval.specs.PageSizes.{IsPageSize};
+ghost use Rattle.std.specs.Prelude.{◌≡◌, ◌≤◌, ◌+◌, ◌↔◌, length, IsTrue, IfOk, IfErr, IsSome, OnOk, Err};
 ghost use Rattle.walframe.specs.Log.{header_in};
 ghost use Rattle.walframe.specs.Progress.{IsMeasured, IsReadWhole};
-ghost use Rattle.walframe.specs.Accepted.{IsPageSize, Leaves, Reads, IsScan, HasTooMany, IsTooLong, IsRefusal};
+ghost use Rattle.walframe.specs.Accepted.{KeepsFile, IsScanOf, IsScan, HasTooMany, IsTooLong, IsRefusal};
 
-use crate::framing::{FrameHeader, read_frame, stands, sum_of};
-use crate::heading::LogHeader;
+use crate::frame::{FrameHeader, read_frame, stands, sum_of};
+use crate::log_header::LogHeader;
 use crate::progress::{Progress, Scan};
 use crate::sums::Sum;
 use disk::Disk;
-use sqlval::R;
+use sqlval::{R, is_page_size};
 use std::alloc::Global;
-
-/// Whether pages may have this size.
-fn is_page_size(size: u32) -> bool
-    ensures { IsTrue result ↔ IsPageSize size }
-{
-    matches!(size, 512 | 1024 | 2048 | 4096 | 8192 | 16384 | 32768)
-}
 
 fn read_header<D: Disk>(disk: &mut D, len: u64) -> R<Option<LogHeader>>
     requires { IsTrue (D.tells disk.old) → len ≡ length (D.file disk.old).content }
     ensures found { IsTrue (D.tells disk.old) → IfOk result (λ header. header_in (D.file disk.old).content ≡ Ok header) }
     ensures some { IfOk result (λ header. IsSome header → 32 ≤ len) }
-    ensures kept { Leaves D.tells D.file disk.old disk.new }
-    ensures refusal { IfErr result (λ e. IsRefusal (IsTrue (D.tells disk.old) → header_in (D.file disk.old).content ≡ Err e) ⊥ e (D.failures disk.old) (D.failures disk.new)) }
+    ensures kept { KeepsFile D.tells D.file disk.old disk.new }
+    ensures refused { IfErr result (λ fault. IsRefusal (IsTrue (D.tells disk.old) → header_in (D.file disk.old).content ≡ Err fault) ⊥ fault (D.failures disk.old) (D.failures disk.new)) }
     ensures counts { D.failures disk.old ≤ D.failures disk.new }
+    ensures none_failed { OnOk result (D.failures disk.new ≡ D.failures disk.old) }
 {
     if len < 32 {
         return Ok(None);
@@ -36,15 +31,16 @@ fn read_header<D: Disk>(disk: &mut D, len: u64) -> R<Option<LogHeader>>
     LogHeader::read(&bytes)
 }
 
-// Reads frames up to one that isn't accepted.
+/// Reads frames up to one that isn't accepted.
 fn read_accepted<D: Disk>(alloc: Global, disk: &mut D, header: &LogHeader, len: u64) -> R<Progress>
     requires told { IsTrue (D.tells disk.old) → len ≡ length (D.file disk.old).content }
     requires some { 32 ≤ len }
     ensures found { IsTrue (D.tells disk.old) → IfOk result (λ progress. IsReadWhole header.now (D.file disk.old).content progress) }
     ensures measured { IfOk result (λ progress. IsMeasured header.now progress) }
-    ensures kept { Leaves D.tells D.file disk.old disk.new }
-    ensures refusal { IfErr result (λ e. IsRefusal ⊥ (IsTrue (D.tells disk.old) → HasTooMany header.now (D.file disk.old).content) e (D.failures disk.old) (D.failures disk.new)) }
+    ensures kept { KeepsFile D.tells D.file disk.old disk.new }
+    ensures refused { IfErr result (λ fault. IsRefusal ⊥ (IsTrue (D.tells disk.old) → HasTooMany header.now (D.file disk.old).content) fault (D.failures disk.old) (D.failures disk.new)) }
     ensures counts { D.failures disk.old ≤ D.failures disk.new }
+    ensures none_failed { OnOk result (D.failures disk.new ≡ D.failures disk.old) }
 {
     let mut so_far = Progress::start(alloc, header);
     if !is_page_size(header.page_size) {
@@ -63,15 +59,16 @@ fn read_accepted<D: Disk>(alloc: Global, disk: &mut D, header: &LogHeader, len: 
     Ok(so_far)
 }
 
-// Reads the committed frames.
+/// Reads the committed frames.
 fn read_frames<D: Disk>(alloc: Global, disk: &mut D, header: &LogHeader, len: u64) -> R<Scan>
     requires told { IsTrue (D.tells disk.old) → len ≡ length (D.file disk.old).content }
     requires some { 32 ≤ len }
-    ensures found { IsTrue (D.tells disk.old) → IfOk result (λ scan. Reads header.now (D.file disk.old).content scan) }
+    ensures found { IsTrue (D.tells disk.old) → IfOk result (λ scan. IsScanOf header.now (D.file disk.old).content scan) }
     ensures header { IfOk result (λ scan. (scan.header ≡ Some header.now) × (length scan.frames.items ≤ 1000000)) }
-    ensures kept { Leaves D.tells D.file disk.old disk.new }
-    ensures refusal { IfErr result (λ e. IsRefusal ⊥ (IsTrue (D.tells disk.old) → HasTooMany header.now (D.file disk.old).content) e (D.failures disk.old) (D.failures disk.new)) }
+    ensures kept { KeepsFile D.tells D.file disk.old disk.new }
+    ensures refused { IfErr result (λ fault. IsRefusal ⊥ (IsTrue (D.tells disk.old) → HasTooMany header.now (D.file disk.old).content) fault (D.failures disk.old) (D.failures disk.new)) }
     ensures counts { D.failures disk.old ≤ D.failures disk.new }
+    ensures none_failed { OnOk result (D.failures disk.new ≡ D.failures disk.old) }
 {
     let so_far = read_accepted(alloc, disk, header, len)?;
     Ok(so_far.finish(header))
@@ -82,9 +79,10 @@ fn read_frames<D: Disk>(alloc: Global, disk: &mut D, header: &LogHeader, len: u6
 pub fn scan<D: Disk>(alloc: Global, disk: &mut D) -> R<Scan>
     ensures found { IsTrue (D.tells disk.old) → IfOk result (λ scan. IsScan (D.file disk.old).content scan) }
     ensures few { IfOk result (λ scan. length scan.frames.items ≤ 1000000) }
-    ensures kept { Leaves D.tells D.file disk.old disk.new }
-    ensures refusal { IfErr result (λ e. IsRefusal (IsTrue (D.tells disk.old) → header_in (D.file disk.old).content ≡ Err e) (IsTrue (D.tells disk.old) → IsTooLong (D.file disk.old).content) e (D.failures disk.old) (D.failures disk.new)) }
+    ensures kept { KeepsFile D.tells D.file disk.old disk.new }
+    ensures refused { IfErr result (λ fault. IsRefusal (IsTrue (D.tells disk.old) → header_in (D.file disk.old).content ≡ Err fault) (IsTrue (D.tells disk.old) → IsTooLong (D.file disk.old).content) fault (D.failures disk.old) (D.failures disk.new)) }
     ensures counts { D.failures disk.old ≤ D.failures disk.new }
+    ensures none_failed { OnOk result (D.failures disk.new ≡ D.failures disk.old) }
 {
     let len = disk.len()?;
     match read_header(disk, len)? {

@@ -40,7 +40,7 @@ impl Sum {
         second: 0,
     };
 
-    // Two words more.
+    /// Two words more.
     fn pair(self, one: u32, other: u32) -> Sum
         ensures { result ≡ next self one other }
     {

@@ -10,19 +10,19 @@ use std::io;
 use std::os::unix::fs::FileExt;
 use std::rt::Files;
 
-/// The greatest offset that the operating system takes.
+/// Greatest offset that the operating system takes.
 const MAX_OFFSET: u64 = (1 << 63) - 1;
 
-/// A file. It tells nothing of its content.
+/// A file of the operating system. Its contract speaks of failures alone (`tells` is false).
 #[derive(Drop)]
 pub struct FileDisk {
     file: File,
-    /// How many calls have failed.
+    /// Number of failed calls.
     failures: u64,
 }
 
 impl FileDisk {
-    /// Opens a file, and makes it where it is missing. The refusal is `Io`.
+    /// Opens a file for reading and writing, and creates it where it doesn't exist. The only refusal is `Io`.
     pub fn open<F: Files<File = File>>(files: &F, name: &str) -> R<FileDisk> {
         let opened = OpenOptions::new()
             .read(true)
@@ -35,9 +35,9 @@ impl FileDisk {
         }
     }
 
-    /// The call's answer, counted where it failed.
+    /// The answer of a call, which is counted if it failed.
     fn counted<T: Drop>(&mut self, answer: io::Result<T>) -> R<T>
-        ensures refusal { IfErr result (λ fault. fault ≡ Fault.Io) }
+        ensures refused { IfErr result (λ fault. fault ≡ Fault.Io) }
         ensures count { CountsFailure result self.old.failures self.new.failures }
     {
         match answer {

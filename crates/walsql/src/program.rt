@@ -1,7 +1,7 @@
-//! The program, over given words, input and output.
+//! The program over given arguments, input and output.
 
+use crate::arguments::{ArgsError, StartOptions, settings};
 use crate::file_disk::FileDisk;
-use crate::words::{StartOptions, WordsRefused, settings};
 use engine::{Engine, Refused, create, put_reply};
 use sqlval::{Fault, R};
 use std::alloc::Global;
@@ -9,16 +9,16 @@ use std::fs::File;
 use std::io::{BufRead, Write};
 use std::rt::Files;
 
-/// The input ended.
+/// Exit status at the end of input.
 const SUCCESS: u8 = 0;
 
-/// A file, the opening or the creation was refused, or memory, the input or the output failed.
+/// Exit status if the database can't be opened or created, or if memory, input or output fails.
 const REFUSED: u8 = 1;
 
-/// The words were refused.
+/// Exit status for bad arguments.
 const MISUSED: u8 = 2;
 
-/// The database file and its log, made where they are missing.
+/// Opens the database file and its log, which are created where they don't exist.
 fn open_files<F: Files<File = File>>(
     files: &F,
     alloc: Global,
@@ -30,7 +30,7 @@ fn open_files<F: Files<File = File>>(
     Ok((db, log))
 }
 
-/// Opens the database of these files, which is made where the database file is blank.
+/// Opens the database of these files, which is created if the database file is blank.
 fn open_or_create(
     alloc: Global,
     files: (FileDisk, FileDisk),
@@ -59,7 +59,7 @@ fn open_or_create(
     }
 }
 
-/// The engine on the database that is asked for.
+/// Opens the database that the options name.
 fn start<F: Files<File = File>>(
     files: &F,
     alloc: Global,
@@ -69,7 +69,7 @@ fn start<F: Files<File = File>>(
     open_or_create(alloc, opened, options)
 }
 
-/// Writes a refusal as a line.
+/// Writes a refusal as a line of output.
 fn show<O: Write>(alloc: Global, output: &mut O, fault: Fault) -> u8 {
     let mut line = Vec::new(alloc);
     if put_reply(alloc, &mut line, &Err(fault)).is_ok() {
@@ -79,36 +79,39 @@ fn show<O: Write>(alloc: Global, output: &mut O, fault: Fault) -> u8 {
     REFUSED
 }
 
-/// Says why the words were refused, or what they may be where help was asked for.
-fn explain<O: Write, E: Write>(output: &mut O, errors: &mut E, refused: &WordsRefused) -> u8 {
+/// Writes why the arguments are refused, or the help if they ask for it.
+fn explain<O: Write, E: Write>(output: &mut O, errors: &mut E, refused: &ArgsError<'_>) -> u8 {
     match refused {
-        WordsRefused::Salt => {
-            let _ = errors.write_all(b"error: --salt takes 16 hexadecimal digits\n");
+        ArgsError::Salt(digits) => {
+            let _ = write!(
+                errors,
+                "error: invalid value '{digits}' for '--salt <HEX>': expected 16 hexadecimal digits\n"
+            );
             MISUSED
         }
-        WordsRefused::Words(error) if error.use_stderr() => {
+        ArgsError::Usage(error) if error.use_stderr() => {
             let _ = write!(errors, "{error}");
             MISUSED
         }
-        WordsRefused::Words(error) => {
+        ArgsError::Usage(error) => {
             let _ = write!(output, "{error}");
             SUCCESS
         }
     }
 }
 
-/// Serves the input's lines over the database that the words name. Answers the program's status: 0 where the input has
-/// ended, 1 where a file, the opening or the creation was refused, which a line of the output says, or where memory, the
-/// input or the output failed; 2 where the words were refused, which the errors' text says.
+/// Runs the input's lines on the database that the arguments name. Answers the exit status: 0 at the end of input or after
+/// help; 1 if the database can't be opened or created, which a line of output says, or if memory, input or output fails; 2 for
+/// bad arguments, which `errors` explains.
 pub fn program<F: Files<File = File>, I: BufRead, O: Write, E: Write>(
     files: &F,
     alloc: Global,
-    words: &[String],
+    arguments: &[String],
     input: &mut I,
     output: &mut O,
     errors: &mut E,
 ) -> u8 {
-    let options = match settings(alloc, words) {
+    let options = match settings(alloc, arguments) {
         Ok(options) => options,
         Err(refused) => return explain(output, errors, &refused),
     };

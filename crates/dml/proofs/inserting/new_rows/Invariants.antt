@@ -1,10 +1,10 @@
--- the rows so far, with what is left behind them, are those of all
+-- the rows so far, with what is left after them, are those of all
 use Rattle.std.proofs.Common.{◌≡◌, drop, map}
 use Rattle.dml.specs.Inserting.{rows_added}
 use Rattle.dml.specs.NewRows.{row_of}
-use Rattle.dml.proofs.StoredRows.{behind_rows}
+use Rattle.dml.proofs.StoredRows.{after_rows}
 use Rattle.dml.proofs.inserting.new_rows.Given as goal
 
 abbrev pub invariant-rows : goal.invariant-rows
 invariant-rows l =
-    behind_rows (map row_of l.added.items) (rows_added l.columns l.places l.before (map (λ row. row.items) (drop l.row-index l.rows))) ≡ rows_added l.columns l.places l.fn.last (map (λ row. row.items) l.rows)
+    after_rows (map row_of l.added.items) (rows_added l.columns l.places l.before (map (λ row. row.items) (drop l.row-index l.rows))) ≡ rows_added l.columns l.places l.fn.last (map (λ row. row.items) l.rows)

@@ -27,14 +27,14 @@ pieces-preserved g c =
           let more = rest_decides _ _ c.pieces.at c.min-count.result (read ∙ sized) (sym (c.if-not-are_zero.ensures)) (c.pieces.invariant.2 (before told)) in
           ap (λ (f : File). list_all is_zero_byte (drop (c.pieces.at + c.min-count.result) f.content)) (c.read_at.ensures.same (before told))
           ∙ (more ∙ ap (λ (f : File). list_all is_zero_byte f.content) (sym (c.read_at.ensures.same (before told)))),
-      omega (arith, c.pieces.invariant.3, c.in_ok-read_at.ensures.count),
+      c.in_ok-read_at.ensures.count ∙ c.pieces.invariant.3,
     )
 
 pub returns-in_err-read_at-clause-counted : goal.returns-in_err-read_at-clause-counted
-returns-in_err-read_at-clause-counted g c = call_refused _ _ _ _ c.pieces.invariant.3 c.in_err-read_at.ensures.count
+returns-in_err-read_at-clause-counted g c = call_refused _ c.in_err-read_at.field-0.0 _ _ _ c.from_residual.ensures.1 c.pieces.invariant.3 c.in_err-read_at.ensures.count
 
 pub returns-then-not-are_zero-clause-counted : goal.returns-then-not-are_zero-clause-counted
-returns-then-not-are_zero-clause-counted g c = record { counts = omega (arith, c.pieces.invariant.3, c.in_ok-read_at.ensures.count); io = tt }
+returns-then-not-are_zero-clause-counted g c = (let same = c.in_ok-read_at.ensures.count ∙ c.pieces.invariant.3 in record { counts = omega (arith, same); none_failed = same; io = tt })
 
 pub returns-clause-counted : goal.returns-clause-counted
-returns-clause-counted g c = record { counts = c.pieces.invariant.3; io = tt }
+returns-clause-counted g c = record { counts = omega (arith, c.pieces.invariant.3); none_failed = c.pieces.invariant.3; io = tt }

@@ -2,13 +2,15 @@ use Rattle.std.proofs.Common.{rules, refl, sym, ap, subst, ◌∙◌, length, ta
 use Rattle.disk.specs.File.{File}
 use Rattle.pager.proofs.HeaderFronts.{front_of, header_moves}
 use Rattle.engine.specs.Loading.{ReadsHeader}
-use Rattle.engine.proofs.EmptyOpening.{clash, header_not_blank}
-use Rattle.pager.proofs.Headers.{header_fault}
+use Rattle.engine.proofs.EmptyOpening as empty
+use Rattle.engine.proofs.EmptyOpening.{clash}
+use Rattle.pager.proofs.Headers.{header_fault, header_not_blank}
+use Rattle.engine.proofs.BlankFiles.{call_failed, no_blank, other_refusal, told_blank}
 use Rattle.engine.proofs.CountedCalls.{call_refused, calm_refused, part_refused}
 use Rattle.engine.proofs.opening.file_header.Goals as goal
 
 pub returns-then-branch-clause-read : goal.returns-then-branch-clause-read
-returns-then-branch-clause-read g c = λ head told is. clash (sym c.if-branch.true ∙ c.in_ok-is_blank.ensures.blank told ∙ header_not_blank _ head is)
+returns-then-branch-clause-read g c = λ head told is. clash (sym c.if-branch.true ∙ c.in_ok-is_blank.ensures.blank told ∙ empty.header_not_blank _ head is)
 
 pub returns-then-branch-2-clause-read : goal.returns-then-branch-2-clause-read
 returns-then-branch-2-clause-read g c = λ head told is.
@@ -29,17 +31,35 @@ pub returns-in_err-is_blank-clause-counted : goal.returns-in_err-is_blank-clause
 returns-in_err-is_blank-clause-counted g c = part_refused _ c.in_err-is_blank.field-0.0 _ _ c.from_residual.ensures.1 c.in_err-is_blank.ensures.counted.counts c.in_err-is_blank.ensures.counted.io
 
 pub returns-then-branch-clause-counted : goal.returns-then-branch-clause-counted
-returns-then-branch-clause-counted g c = calm_refused _ _ _ c.in_ok-is_blank.ensures.counted.counts (search rules)
+returns-then-branch-clause-counted g c = calm_refused _ _ _ c.in_ok-is_blank.ensures.counted.none_failed (search rules)
 
 pub returns-in_err-len-clause-counted : goal.returns-in_err-len-clause-counted
-returns-in_err-len-clause-counted g c = call_refused _ _ _ _ c.in_ok-is_blank.ensures.counted.counts c.in_err-len.ensures.count
+returns-in_err-len-clause-counted g c = call_refused _ c.in_err-len.field-0.0 _ _ _ c.from_residual-in_err-len.ensures.1 c.in_ok-is_blank.ensures.counted.none_failed c.in_err-len.ensures.count
 
 pub returns-then-branch-2-clause-counted : goal.returns-then-branch-2-clause-counted
-returns-then-branch-2-clause-counted g c = calm_refused _ _ _ (omega (arith, c.in_ok-is_blank.ensures.counted.counts, c.in_ok-len.ensures.count)) (search rules)
+returns-then-branch-2-clause-counted g c = calm_refused _ _ _ (c.in_ok-len.ensures.count ∙ c.in_ok-is_blank.ensures.counted.none_failed) (search rules)
 
 pub returns-in_err-read_at-clause-counted : goal.returns-in_err-read_at-clause-counted
-returns-in_err-read_at-clause-counted g c = call_refused _ _ _ _ (omega (arith, c.in_ok-is_blank.ensures.counted.counts, c.in_ok-len.ensures.count)) c.in_err-read_at.ensures.count
+returns-in_err-read_at-clause-counted g c = call_refused _ c.in_err-read_at.field-0.0 _ _ _ c.from_residual-in_err-read_at.ensures.1 (c.in_ok-len.ensures.count ∙ c.in_ok-is_blank.ensures.counted.none_failed) c.in_err-read_at.ensures.count
 
 pub returns-clause-counted : goal.returns-clause-counted
 returns-clause-counted g c =
-    calm_refused _ _ _ (omega (arith, c.in_ok-is_blank.ensures.counted.counts, c.in_ok-len.ensures.count, c.in_ok-read_at.ensures.count)) (header_fault _ c.read.result c.read.ensures.exact)
+    calm_refused _ _ _ (c.in_ok-read_at.ensures.count ∙ (c.in_ok-len.ensures.count ∙ c.in_ok-is_blank.ensures.counted.none_failed)) (header_fault _ c.read.result c.read.ensures.exact)
+
+pub returns-in_err-is_blank-clause-blank : goal.returns-in_err-is_blank-clause-blank
+returns-in_err-is_blank-clause-blank g c = λ told. call_failed (g.D.Disk.file c.args.db.now).content _ c.in_err-is_blank.field-0.0 c.from_residual.ensures.1 c.in_err-is_blank.ensures.refused
+
+pub returns-in_err-len-clause-blank : goal.returns-in_err-len-clause-blank
+returns-in_err-len-clause-blank g c = λ told. call_failed (g.D.Disk.file c.args.db.now).content _ c.in_err-len.field-0.0 c.from_residual-in_err-len.ensures.1 c.in_err-len.ensures.refused
+
+pub returns-then-branch-clause-blank : goal.returns-then-branch-clause-blank
+returns-then-branch-clause-blank g c = λ told. told_blank _ _ (search rules) (sym (c.in_ok-is_blank.ensures.blank told) ∙ c.if-branch.true)
+
+pub returns-then-branch-2-clause-blank : goal.returns-then-branch-2-clause-blank
+returns-then-branch-2-clause-blank g c = λ told. other_refusal _ _ (λ blank. clash (sym blank ∙ sym (c.in_ok-is_blank.ensures.blank told) ∙ c.if-branch.false)) (search rules)
+
+pub returns-in_err-read_at-clause-blank : goal.returns-in_err-read_at-clause-blank
+returns-in_err-read_at-clause-blank g c = λ told. call_failed (g.D.Disk.file c.args.db.now).content _ c.in_err-read_at.field-0.0 c.from_residual-in_err-read_at.ensures.1 c.in_err-read_at.ensures.refused
+
+pub returns-clause-blank : goal.returns-clause-blank
+returns-clause-blank g c = λ told. no_blank (g.D.Disk.file c.args.db.now).content c.read.result (λ blank. clash (sym blank ∙ sym (c.in_ok-is_blank.ensures.blank told) ∙ c.if-branch.false)) (header_not_blank _ c.read.result c.read.ensures.exact)

@@ -2,7 +2,7 @@ use Rattle.std.proofs.Common.{◌≡◌, refl, sym, subst}
 use Rattle.syntax.specs.declared.statement.Statement.TheVariants as parsed
 use Rattle.syntax.specs.declared.create.Create.{Create}
 use Rattle.syntax.specs.declared.create.NewObject.TheVariants as new
-use Rattle.engine.specs.Loading.{IsOrMemory}
+use Rattle.sqlval.specs.Faults.{IsOrMemory}
 use Rattle.engine.proofs.EmptyOpening.{err_not_ok, ok_is}
 use Rattle.engine.proofs.SchemaTables.{passed_on}
 use Rattle.engine.proofs.schema.definition_of.Goals as goal

@@ -1,20 +1,21 @@
 use Rattle.std.proofs.Common.{sym, ap, subst, ◌∙◌, [], length}
 use Rattle.session.specs.Schema.{AreRowsOf, AreSameTables}
 use Rattle.engine.proofs.EmptyOpening.{ok_is}
-use Rattle.engine.proofs.SchemaTables.{loaded_none, refused_alone}
+use Rattle.engine.proofs.SchemaTables.{passed_on, refused_alone}
+use Rattle.engine.specs.Loading.{ListsCommitted}
 use Rattle.engine.proofs.schema.load.Goals as goal
 
 pub returns-in_err-leaf-clause-listed : goal.returns-in_err-leaf-clause-listed
-returns-in_err-leaf-clause-listed c = λ tables rows lone tell.
-    loaded_none tables c.from_residual.result c.in_err-leaf.field-0.0 c.from_residual.ensures.1 (refused_alone c.in_err-leaf.field-0.0 rows (c.in_err-leaf.ensures.only rows lone))
+returns-in_err-leaf-clause-listed c = λ tables rows single_leaf tell.
+    passed_on (ListsCommitted tables) c.from_residual.result c.in_err-leaf.field-0.0 c.from_residual.ensures.1 (refused_alone c.in_err-leaf.field-0.0 rows (c.in_err-leaf.ensures.only rows single_leaf))
 
 pub returns-in_err-catalog-clause-listed : goal.returns-in_err-catalog-clause-listed
-returns-in_err-catalog-clause-listed c = λ tables rows lone tell.
-    loaded_none tables c.from_residual-in_err-catalog.result c.in_err-catalog.field-0.0 c.from_residual-in_err-catalog.ensures.1
-    (c.in_err-catalog.ensures.tells tables (subst (AreRowsOf c.args.size [] tables) (ok_is _ _ (c.in_ok-leaf.ensures.only rows lone)) tell))
+returns-in_err-catalog-clause-listed c = λ tables rows single_leaf tell.
+    passed_on (ListsCommitted tables) c.from_residual-in_err-catalog.result c.in_err-catalog.field-0.0 c.from_residual-in_err-catalog.ensures.1
+    (c.in_err-catalog.ensures.tells tables (subst (AreRowsOf c.args.size [] tables) (ok_is _ _ (c.in_ok-leaf.ensures.only rows single_leaf)) tell))
 
 pub returns-clause-listed : goal.returns-clause-listed
-returns-clause-listed c = λ tables rows lone tell. (
-  subst (AreSameTables tables) (sym c.keep.ensures.tables) (c.in_ok-catalog.ensures.tells tables (subst (AreRowsOf c.args.size [] tables) (ok_is _ _ (c.in_ok-leaf.ensures.only rows lone)) tell)),
-  c.keep.ensures.committed ∙ ap length (sym c.keep.ensures.tables),
+returns-clause-listed c = λ tables rows single_leaf tell. (
+  subst (AreSameTables tables) (sym c.commit.ensures.tables) (c.in_ok-catalog.ensures.tells tables (subst (AreRowsOf c.args.size [] tables) (ok_is _ _ (c.in_ok-leaf.ensures.only rows single_leaf)) tell)),
+  c.commit.ensures.committed ∙ ap length (sym c.commit.ensures.tables),
 )

@@ -1,6 +1,6 @@
 use Rattle.std.proofs.Common.{refl, sym, ap, ◌∙◌}
 use Rattle.syntax.specs.declared.create.TableDefinition.{TableDefinition}
-use Rattle.session.specs.Built.{is_table_built}
+use Rattle.session.specs.Supported.{is_table_supported}
 use Rattle.session.specs.Schema.{IsSameTable}
 use Rattle.engine.proofs.EmptyOpening.{err_not_ok}
 use Rattle.engine.proofs.SchemaTables.{columns_premise, creates_it, is_free_name, is_named, passed_on, table_is}
@@ -14,7 +14,7 @@ pub returns-in_err-is_of_row-clause-tells : goal.returns-in_err-is_of_row-clause
 returns-in_err-is_of_row-clause-tells c = λ before table tells.
     let same = c.in_ok-definition.ensures.tells tells.definition (creates_it before table c.args.row.now tells) in
     let name = ap (λ (d : TableDefinition). d.name) same in
-    err_not_ok _ _ (c.in_err-is_of_row.ensures.tells (ap is_table_built same ∙ tells.built) (is_named _ _ (tells.parts.name_is ∙ sym name)) (is_named _ _ (tells.parts.table_name_is ∙ sym name)) (is_free_name before table c.args.row.now tells))
+    err_not_ok _ _ (c.in_err-is_of_row.ensures.tells (ap is_table_supported same ∙ tells.supported_forms) (is_named _ _ (tells.parts.name_is ∙ sym name)) (is_named _ _ (tells.parts.table_name_is ∙ sym name)) (is_free_name before table c.args.row.now tells))
 
 pub returns-in_err-columns-clause-tells : goal.returns-in_err-columns-clause-tells
 returns-in_err-columns-clause-tells c = λ before table tells.

@@ -1,4 +1,4 @@
-use Rattle.expressions.proofs.Parts.{exact_names, exact_maybe_name, exact_maybe_name_row, exact_maybe_behind}
+use Rattle.expressions.proofs.Parts.{exact_names, exact_maybe_name, exact_maybe_name_row, exact_maybe_after}
 use Rattle.expressions.proofs.laws.exact_parts.Goals as goal
 
 pub returns-clause-names : goal.returns-clause-names
@@ -10,5 +10,5 @@ returns-clause-maybe_name c = exact_maybe_name
 pub returns-clause-maybe_name_row : goal.returns-clause-maybe_name_row
 returns-clause-maybe_name_row c = exact_maybe_name_row
 
-pub returns-clause-maybe_behind : goal.returns-clause-maybe_behind
-returns-clause-maybe_behind c = λ keyword. exact_maybe_behind keyword
+pub returns-clause-maybe_after : goal.returns-clause-maybe_after
+returns-clause-maybe_after c = λ keyword. exact_maybe_after keyword

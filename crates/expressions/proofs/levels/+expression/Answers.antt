@@ -1,6 +1,6 @@
 use Rattle.std.proofs.Common.{rules, ◌-◌, arith, ◌∙◌, sym, subst, refl}
 use Rattle.std.proofs.lemmas.Grind.{common_steps}
-use Rattle.expressions.specs.Pieces.{seen}
+use Rattle.expressions.specs.Symbols.{seen}
 use Rattle.expressions.specs.Reading.{Gives, items_upto, tails, level_at}
 use Rattle.expressions.proofs.Operators.{tail_seen}
 use Rattle.expressions.proofs.Turns.{one_more, one_more_seen}

@@ -1,6 +1,6 @@
 -- Each form is nested in less room; within one form, rules come one after another.
 use Rattle.std.proofs.Common.{◌≡◌, ◌-◌, ◌+◌, ◌*◌, length}
-use Rattle.expressions.specs.Pieces.{seen}
+use Rattle.expressions.specs.Symbols.{seen}
 use Rattle.expressions.specs.Reading as spec
 use Rattle.expressions.specs.Reading.{level_at}
 use Rattle.expressions.proofs.levels.+expression.Given as goal

@@ -5,14 +5,14 @@ use Rattle.expressions.specs.declared.refusal.Refusal.{Refusal}
 use Rattle.expressions.specs.Exact.{Used}
 use Rattle.expressions.specs.Grammar.{IsExpression}
 use Rattle.expressions.specs.Limits.{is_shallow}
-use Rattle.expressions.specs.Pieces.{Piece, seen}
+use Rattle.expressions.specs.Symbols.{Symbol, seen}
 use Rattle.expressions.specs.Reading.{Gives, expression_from}
 use Rattle.expressions.proofs.Again.{expression_again}
 use Rattle.expressions.proofs.Exactly.{exact_expression}
 use Rattle.expressions.proofs.Late.{expression_late}
 use Rattle.expressions.proofs.levels.expression.Goals as goal
 
-is_found : {X : Type 0} (view : X → Tree × List Piece) (ts : List Piece) (r : Result X Refusal) → Gives view r (expression_from ts) → IfOk r (λ x. Used IsExpression is_shallow ts (view x))
+is_found : {X : Type 0} (view : X → Tree × List Symbol) (ts : List Symbol) (r : Result X Refusal) → Gives view r (expression_from ts) → IfOk r (λ x. Used IsExpression is_shallow ts (view x))
 is_found view ts (Ok x) given = exact_expression.takes ts (view x) given
 is_found view ts (Err e) given = tt
 
@@ -21,8 +21,8 @@ returns-clause-found c = is_found (λ x. (x.0, seen c.args.spelled.now x.1.now))
 
 pub returns-clause-only : goal.returns-clause-only
 returns-clause-only c = λ us e rest at fits follows same.
-    subst (Gives {Y = Tree × List Piece} (λ x. (x.0, seen c.args.spelled.now x.1.now)) c.shallow.result) (ap expression_from same ∙ expression_again us e rest at fits follows) c.shallow.ensures
+    subst (Gives {Y = Tree × List Symbol} (λ x. (x.0, seen c.args.spelled.now x.1.now)) c.shallow.result) (ap expression_from same ∙ expression_again us e rest at fits follows) c.shallow.ensures
 
 pub returns-clause-late : goal.returns-clause-late
 returns-clause-late c = λ us e rest at past follows same.
-    subst (Gives {Y = Tree × List Piece} (λ x. (x.0, seen c.args.spelled.now x.1.now)) c.shallow.result) (ap expression_from same ∙ expression_late us e rest at past follows) c.shallow.ensures
+    subst (Gives {Y = Tree × List Symbol} (λ x. (x.0, seen c.args.spelled.now x.1.now)) c.shallow.result) (ap expression_from same ∙ expression_late us e rest at past follows) c.shallow.ensures

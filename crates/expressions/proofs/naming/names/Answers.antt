@@ -1,6 +1,6 @@
 use Rattle.std.proofs.Common.{rules, arith}
 use Rattle.std.proofs.lemmas.Grind.{common_steps}
-use Rattle.expressions.specs.Pieces.{seen}
+use Rattle.expressions.specs.Symbols.{seen}
 use Rattle.expressions.specs.Reading.{names_upto}
 use Rattle.expressions.proofs.Turns.{one_more_seen}
 use Rattle.expressions.proofs.naming.names.Goals as goal

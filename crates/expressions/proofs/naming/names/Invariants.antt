@@ -1,5 +1,5 @@
 use Rattle.std.proofs.Common.{◌≡◌, ◌-◌, length}
-use Rattle.expressions.specs.Pieces.{seen}
+use Rattle.expressions.specs.Symbols.{seen}
 use Rattle.expressions.specs.Reading.{names_from, names_upto}
 use Rattle.expressions.proofs.naming.names.Given as goal
 

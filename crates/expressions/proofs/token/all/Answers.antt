@@ -1,5 +1,5 @@
 use Rattle.std.proofs.Common.{ap, ◌∙◌}
-use Rattle.expressions.specs.Pieces.{seen}
+use Rattle.expressions.specs.Symbols.{seen}
 use Rattle.expressions.proofs.Tokens.{one_more_token}
 use Rattle.expressions.proofs.token.all.Goals as goal
 

@@ -1,6 +1,6 @@
 use Rattle.std.proofs.Common.{◌≡◌, take, sym, rules}
 use Rattle.pager.proofs.HeaderFronts.{front_of, header_found, header_moves}
-use Rattle.pager.proofs.Headers.{header_fault}
+use Rattle.pager.proofs.Headers.{header_fault, header_not_blank}
 use Rattle.pager.proofs.reading.header_of.Goals as goal
 
 pub returns-in-Some-clause-only : goal.returns-in-Some-clause-only
@@ -15,3 +15,6 @@ returns-in-Some-clause-found c =
 
 pub returns-in-Some-clause-refused : goal.returns-in-Some-clause-refused
 returns-in-Some-clause-refused c = header_fault c.in-Some.front.now c.read.result c.read.ensures.exact
+
+pub returns-in-Some-clause-not_blank : goal.returns-in-Some-clause-not_blank
+returns-in-Some-clause-not_blank c = header_not_blank c.in-Some.front.now c.read.result c.read.ensures.exact

@@ -1,5 +1,5 @@
 use Rattle.std.proofs.Common.{◌≡◌, sym, subst, length, rules}
-use Rattle.pager.specs.Views.{Has, view_at}
+use Rattle.pager.specs.Views.{ViewHas, view_at}
 use Rattle.pager.proofs.PageReads.{filled, refused_on}
 use Rattle.pager.proofs.reading.read_page.Goals as goal
 
@@ -11,5 +11,5 @@ returns-in_err-read_into-clause-there g c bytes told until there =
 pub returns-clause-read : goal.returns-clause-read
 returns-clause-read g c told until =
     let whole : length c.read_into.new.page ≡ c.in_ok-page.page.len = search rules in
-    subst (Has (view_at c.args.log.now c.args.snapshot) c.args.number) (sym (filled c.read_into.new.page c.in_ok-page.page.items c.in_ok-page.page.len whole))
+    subst (ViewHas (view_at c.args.log.now c.args.snapshot) c.args.number) (sym (filled c.read_into.new.page c.in_ok-page.page.items c.in_ok-page.page.len whole))
     (c.in_ok-read_into.ensures.read told until)

@@ -29,11 +29,11 @@ returns-in-Ok-clause-late c = laws.late exact_statement c.args.text.now (Ok c.in
 pub returns-clause-late : goal.returns-clause-late
 returns-clause-late c = laws.late exact_statement c.args.text.now (Err c.fault.result) (returns-clause-exact c)
 
-pub returns-in-Ok-clause-unserved : goal.returns-in-Ok-clause-unserved
-returns-in-Ok-clause-unserved c = laws.unserved exact_statement c.args.text.now (Ok c.in-Ok.statement) (returns-in-Ok-clause-exact c)
+pub returns-in-Ok-clause-unsupported : goal.returns-in-Ok-clause-unsupported
+returns-in-Ok-clause-unsupported c = laws.unsupported exact_statement c.args.text.now (Ok c.in-Ok.statement) (returns-in-Ok-clause-exact c)
 
-pub returns-clause-unserved : goal.returns-clause-unserved
-returns-clause-unserved c = laws.unserved exact_statement c.args.text.now (Err c.fault.result) (returns-clause-exact c)
+pub returns-clause-unsupported : goal.returns-clause-unsupported
+returns-clause-unsupported c = laws.unsupported exact_statement c.args.text.now (Err c.fault.result) (returns-clause-exact c)
 
 pub returns-clause-refused : goal.returns-clause-refused
 returns-clause-refused c = laws.refused_behind c.args.text.now (map lex.seen c.in_ok-found.found.items) c.fault.result c.in_ok-found.ensures.exact (returns-clause-exact c) c.fault.ensures.served

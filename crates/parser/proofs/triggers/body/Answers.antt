@@ -1,6 +1,6 @@
 use Rattle.std.proofs.Common.{length}
-use Rattle.expressions.specs.Pieces.{seen}
-use Rattle.parser.proofs.Turns.{body_begins, body_goes_on}
+use Rattle.expressions.specs.Symbols.{seen}
+use Rattle.parser.proofs.BodyTurns.{body_begins, body_goes_on}
 use Rattle.parser.proofs.triggers.body.Goals as goal
 
 pub body-init : goal.body-init

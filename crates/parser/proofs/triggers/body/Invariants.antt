@@ -1,5 +1,5 @@
 use Rattle.std.proofs.Common.{◌≡◌, ◌-◌, length}
-use Rattle.expressions.specs.Pieces.{seen}
+use Rattle.expressions.specs.Symbols.{seen}
 use Rattle.parser.specs.ObjectReading.{body_from, body_upto}
 use Rattle.parser.proofs.triggers.body.Given as goal
 

@@ -1,6 +1,6 @@
 use Rattle.std.proofs.Common.{◌≡◌, ◌∙◌, ℕ, List, ap, sym, subst, map, length, inl, inr, arith}
 use Rattle.std.proofs.lemmas.Result.{IfErr-weaker, IfOk-weaker}
-use Rattle.wal.specs.Known.{seen_by}
+use Rattle.wal.specs.LogState.{seen_by}
 use Rattle.dml.specs.Inserting.{IsInsertRefusal}
 use Rattle.pager.specs.Views.{view_at, view_of}
 use Rattle.rowprog.specs.Rows.{Holds}

@@ -3,12 +3,12 @@ use Rattle.wal.proofs.Halting.{write_then_synced}
 use Rattle.wal.proofs.Lefts.{failed_write_left, write_then_left}
 use Rattle.wal.proofs.committing.append.Goals as goal
 
-pub returns-clause-stop : goal.returns-clause-stop
-returns-clause-stop g c told synced =
+pub returns-clause-crash : goal.returns-clause-crash
+returns-clause-crash g c told synced =
     let old = g.D.Disk.file c.args.log.now in
     let mid = g.D.Disk.file c.write_at.new.self in
     let told_mid = c.write_at.ensures.tells ∙ told in
-    write_then_synced c.settle.result old mid (g.D.Disk.file c.settle.new.log) c.args.at c.args.bytes.now (c.in_ok-write_at.ensures.done told) (c.settle.ensures.done told_mid) (c.settle.ensures.failed told_mid) synced (c.requires told)
+    write_then_synced c.sync_log.result old mid (g.D.Disk.file c.sync_log.new.log) c.args.at c.args.bytes.now (c.in_ok-write_at.ensures.done told) (c.sync_log.ensures.done told_mid) (c.sync_log.ensures.failed told_mid) synced (c.requires told)
 
 pub returns-in_err-write_at-clause-left : goal.returns-in_err-write_at-clause-left
 returns-in_err-write_at-clause-left g c told synced =
@@ -17,5 +17,5 @@ returns-in_err-write_at-clause-left g c told synced =
 pub returns-clause-left : goal.returns-clause-left
 returns-clause-left g c told synced =
     let told_mid = c.write_at.ensures.tells ∙ told in
-    write_then_left c.settle.result (g.D.Disk.file c.args.log.now) (g.D.Disk.file c.write_at.new.self) (g.D.Disk.file c.settle.new.log) c.args.at c.args.bytes.now
-    (c.in_ok-write_at.ensures.done told) (c.settle.ensures.done told_mid) (c.settle.ensures.failed told_mid)
+    write_then_left c.sync_log.result (g.D.Disk.file c.args.log.now) (g.D.Disk.file c.write_at.new.self) (g.D.Disk.file c.sync_log.new.log) c.args.at c.args.bytes.now
+    (c.in_ok-write_at.ensures.done told) (c.sync_log.ensures.done told_mid) (c.sync_log.ensures.failed told_mid)

@@ -5,7 +5,7 @@ use Rattle.disk.specs.File.{File}
 use Rattle.walframe.specs.Accepted.{frame_start, HasTooMany}
 use Rattle.walframe.specs.Log.{sum_over, is_frame, frame_of}
 use Rattle.walframe.specs.Progress.{Accepts}
-use Rattle.walframe.specs.declared.framing.FrameHeader.{FrameHeader}
+use Rattle.walframe.specs.declared.frame.FrameHeader.{FrameHeader}
 use Rattle.walframe.proofs.Reading.{read_none, read_short, read_failed, read_more, measured_more, read_over, limit_refusal, one_too_many}
 use Rattle.walframe.proofs.scanning.read_accepted.Goals as goal
 
@@ -14,15 +14,15 @@ returns-then-not-is_page_size-clause-found g c told =
     let log = (g.D.Disk.file c.args.disk.now).content in
     record {
       read = c.start-so_far.ensures.read log;
-      are_accepted = read_none c.args.header.now log c.start-so_far.result c.start-so_far.ensures.none (λ size. (let bad : true ≡ _ = sym (c.is_page_size.ensures.1 size) ∙ c.if-not-is_page_size.true in cc));
+      are_accepted = read_none c.args.header.now log c.start-so_far.result c.start-so_far.ensures.none (λ size. (let bad : true ≡ _ = sym (c.is_page_size.ensures.is.1 size) ∙ c.if-not-is_page_size.true in cc));
     }
 
 pub frames-init : goal.frames-init
 frames-init g c = record {
   kept = record { tells_same = refl; same = λ told. refl };
-  counts = omega arith;
+  counts = refl;
   size = refl;
-  page = c.is_page_size.ensures.0 c.if-not-is_page_size.false;
+  page = c.is_page_size.ensures.is.0 c.if-not-is_page_size.false;
   frame = first_of (search rules, grind (arith, common_steps));
   inside =
       let at : c.start-so_far.result.at ≡ 32 + 0 = c.start-so_far.ensures.measured.at ∙ ap (frame_start c.args.header.now) c.start-so_far.ensures.none ∙ omega arith in
@@ -50,10 +50,10 @@ returns-then-not-stands-clause-found g c told =
           (ap (is_frame h c.sum_of-sum.result) (sym bytes_again) ∙ sym c.stands.ensures ∙ c.if-not-stands.true);
     }
 
-pub returns-in_err-accept-clause-refusal : goal.returns-in_err-accept-clause-refusal
-returns-in_err-accept-clause-refusal g c =
+pub returns-in_err-accept-clause-refused : goal.returns-in_err-accept-clause-refused
+returns-in_err-accept-clause-refused g c =
     limit_refusal (IsTrue (g.D.Disk.tells c.args.disk.now) → HasTooMany c.args.header.now (g.D.Disk.file c.args.disk.now).content) (1000000 ≤ length c.frames.so_far.frames.items) (c.read_frame.result.size ≡ 0 → ⊥)
-    c.from_residual-in_err-accept.result _ _ _ c.from_residual-in_err-accept.ensures.1 c.in_err-accept.ensures.refusal
+    c.from_residual-in_err-accept.result _ _ _ c.from_residual-in_err-accept.ensures.1 c.in_err-accept.ensures.refused
     (λ many ends told.
     let h = c.args.header.now in
     let log = (g.D.Disk.file c.args.disk.now).content in
@@ -94,7 +94,7 @@ frames-preserved g c =
         tells_same = c.read_at.ensures.tells ∙ inv.kept.tells_same;
         same = λ told. c.read_at.ensures.same (inv.kept.tells_same ∙ told) ∙ inv.kept.same told;
       };
-      counts = omega (arith, inv.counts, c.in_ok-read_at.ensures.count);
+      counts = c.in_ok-read_at.ensures.count ∙ inv.counts;
       size = refl;
       page = inv.page;
       frame = ap length (read_over _ _ _ kept_len) ∙ buf_len;

@@ -1,13 +1,14 @@
+use Rattle.sqlval.specs.PageSizes.{IsPageSize}
 use Rattle.std.proofs.Common.{◌≡◌, ◌+◌, ◌-◌, ◌≤◌, length}
 use Rattle.std.specs.Prelude.{IsTrue}
-use Rattle.walframe.specs.Accepted.{Leaves, IsPageSize}
+use Rattle.walframe.specs.Accepted.{KeepsFile}
 use Rattle.walframe.specs.Progress.{IsMeasured, IsRead}
 use Rattle.walframe.proofs.scanning.read_accepted.Given as goal
 
 abbrev pub invariant-frames : goal.invariant-frames
 invariant-frames g l = record {
-  kept : Leaves g.D.Disk.tells g.D.Disk.file l.fn.disk l.disk;
-  counts : g.D.Disk.failures l.fn.disk ≤ g.D.Disk.failures l.disk;
+  kept : KeepsFile g.D.Disk.tells g.D.Disk.file l.fn.disk l.disk;
+  counts : g.D.Disk.failures l.disk ≡ g.D.Disk.failures l.fn.disk;
   size : l.size ≡ 24 + l.header.page_size;
   page : IsPageSize l.header.page_size;
   frame : length l.frame.items ≡ l.size;

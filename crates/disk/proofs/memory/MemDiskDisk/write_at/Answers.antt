@@ -1,44 +1,74 @@
-use Rattle.std.proofs.Common.{◌≡◌, ◌⊎◌, sym, ap, subst}
+use Rattle.std.specs.Prelude.{is_ok, not}
+use Rattle.disk.specs.Memory.{Follows, calls_of, lacked_memory, memory_file, schedule_of}
+use Rattle.disk.specs.Schedule.{IsNextCall, is_failing}
+use Rattle.disk.proofs.Following.{follows, with_memory}
+use Rattle.std.specs.declared.alloc.Global.{Global}
+use Rattle.disk.specs.declared.change.Change.TheVariants.{Write}
+use Rattle.std.proofs.Common.{◌≡◌, ◌⊎◌, ◌∙◌, ◌++◌, ◌∷◌, [], ℕ, Vec, sym, ap, subst}
 use Rattle.disk.specs.File.{File, Elapses}
-use Rattle.disk.specs.Calls.{Writes, FailsToWrite}
+use Rattle.disk.specs.Calls.{Gains, write_version, Writes, FailsToWrite}
+use Rattle.disk.specs.Landing.{has_landed}
 use Rattle.disk.specs.Replay.{file_of}
 use Rattle.disk.specs.declared.memory.MemDisk.{MemDisk}
-use Rattle.disk.proofs.Growing.{does_write, on_ok, on_err}
+use Rattle.disk.proofs.Growing.{write_leaves, does_write, on_ok, on_err}
 use Rattle.disk.proofs.memory.MemDiskDisk.write_at.Goals as goal
 
 pub invariant_of-self : goal.invariant_of-self
 invariant_of-self c = record {
   content_is =
       (let m1 = c.is_to_fail-ok.new.self in
-      does_write m1.start.items m1.content.items c.overwrite-ok.new.content.items m1.changes.items c.overwrite-ok.new.changes.items c.args.at c.args.bytes.now c.overwrite-ok.result c.overwrite-ok.ensures.landed c.overwrite-ok.ensures.not_landed).content c.is_to_fail-ok.new.self.content_is;
+      does_write m1.start.items m1.content.items c.overwrite-landed.new.content.items m1.changes.items c.overwrite-landed.new.changes.items c.args.at c.args.bytes.now (has_landed c.overwrite-landed.result) c.overwrite-landed.ensures.landed c.overwrite-landed.ensures.not_landed).content c.is_to_fail-ok.new.self.content_is;
 }
 
 pub returns-clause-moments : goal.returns-clause-moments
-returns-clause-moments c told =
+returns-clause-moments c =
     let m1 = c.is_to_fail-ok.new.self in
     let f1 = file_of m1.start.items m1.changes.items in
     let same0 = ap (λ (m : MemDisk). file_of m.start.items m.changes.items) c.is_to_fail-ok.ensures.same in
-    let same1 = ap (λ (m : MemDisk). file_of m.start.items m.changes.items) c.answer.ensures.same in
-    let end = file_of c.answer.new.self.start.items c.answer.new.self.changes.items in
-    let does = does_write m1.start.items m1.content.items c.overwrite-ok.new.content.items m1.changes.items c.overwrite-ok.new.changes.items c.args.at c.args.bytes.now c.overwrite-ok.result c.overwrite-ok.ensures.landed c.overwrite-ok.ensures.not_landed in
+    let same1 = ap (λ (m : MemDisk). file_of m.start.items m.changes.items) c.finish.ensures.same in
+    let end = file_of c.finish.new.self.start.items c.finish.new.self.changes.items in
+    let does = does_write m1.start.items m1.content.items c.overwrite-landed.new.content.items m1.changes.items c.overwrite-landed.new.changes.items c.args.at c.args.bytes.now (has_landed c.overwrite-landed.result) c.overwrite-landed.ensures.landed c.overwrite-landed.ensures.not_landed in
     subst (λ (g : File). Elapses g end) same0 (subst (Elapses f1) (sym same1) does.moments)
 
 pub returns-clause-done : goal.returns-clause-done
-returns-clause-done c told =
+returns-clause-done c =
     let m1 = c.is_to_fail-ok.new.self in
     let f1 = file_of m1.start.items m1.changes.items in
     let same0 = ap (λ (m : MemDisk). file_of m.start.items m.changes.items) c.is_to_fail-ok.ensures.same in
-    let same1 = ap (λ (m : MemDisk). file_of m.start.items m.changes.items) c.answer.ensures.same in
-    let end = file_of c.answer.new.self.start.items c.answer.new.self.changes.items in
-    let does = does_write m1.start.items m1.content.items c.overwrite-ok.new.content.items m1.changes.items c.overwrite-ok.new.changes.items c.args.at c.args.bytes.now c.overwrite-ok.result c.overwrite-ok.ensures.landed c.overwrite-ok.ensures.not_landed in
-    on_ok _ c.answer.result c.overwrite-ok.result c.answer.ensures.variant (λ t. subst (λ (g : File). Writes c.args.at c.args.bytes.now g end) same0 (subst (Writes c.args.at c.args.bytes.now f1) (sym same1) (does.done t)))
+    let same1 = ap (λ (m : MemDisk). file_of m.start.items m.changes.items) c.finish.ensures.same in
+    let end = file_of c.finish.new.self.start.items c.finish.new.self.changes.items in
+    let does = does_write m1.start.items m1.content.items c.overwrite-landed.new.content.items m1.changes.items c.overwrite-landed.new.changes.items c.args.at c.args.bytes.now (has_landed c.overwrite-landed.result) c.overwrite-landed.ensures.landed c.overwrite-landed.ensures.not_landed in
+    on_ok _ c.finish.result (has_landed c.overwrite-landed.result) c.finish.ensures.variant (λ t. subst (λ (g : File). Writes c.args.at c.args.bytes.now g end) same0 (subst (Writes c.args.at c.args.bytes.now f1) (sym same1) (does.done t)))
 
 pub returns-clause-failed : goal.returns-clause-failed
-returns-clause-failed c told =
+returns-clause-failed c =
     let m1 = c.is_to_fail-ok.new.self in
     let f1 = file_of m1.start.items m1.changes.items in
     let same0 = ap (λ (m : MemDisk). file_of m.start.items m.changes.items) c.is_to_fail-ok.ensures.same in
-    let same1 = ap (λ (m : MemDisk). file_of m.start.items m.changes.items) c.answer.ensures.same in
-    let end = file_of c.answer.new.self.start.items c.answer.new.self.changes.items in
-    let does = does_write m1.start.items m1.content.items c.overwrite-ok.new.content.items m1.changes.items c.overwrite-ok.new.changes.items c.args.at c.args.bytes.now c.overwrite-ok.result c.overwrite-ok.ensures.landed c.overwrite-ok.ensures.not_landed in
-    on_err _ c.answer.result c.overwrite-ok.result c.answer.ensures.variant (λ t. subst (λ (g : File). (end ≡ g) ⊎ FailsToWrite c.args.at c.args.bytes.now g end) same0 (subst (λ (e : File). (e ≡ f1) ⊎ FailsToWrite c.args.at c.args.bytes.now f1 e) (sym same1) (does.failed t)))
+    let same1 = ap (λ (m : MemDisk). file_of m.start.items m.changes.items) c.finish.ensures.same in
+    let end = file_of c.finish.new.self.start.items c.finish.new.self.changes.items in
+    let does = does_write m1.start.items m1.content.items c.overwrite-landed.new.content.items m1.changes.items c.overwrite-landed.new.changes.items c.args.at c.args.bytes.now (has_landed c.overwrite-landed.result) c.overwrite-landed.ensures.landed c.overwrite-landed.ensures.not_landed in
+    on_err _ c.finish.result (has_landed c.overwrite-landed.result) c.finish.ensures.variant (λ t. subst (λ (g : File). (end ≡ g) ⊎ FailsToWrite c.args.at c.args.bytes.now g end) same0 (subst (λ (e : File). (e ≡ f1) ⊎ FailsToWrite c.args.at c.args.bytes.now f1 e) (sym same1) (does.failed t)))
+
+pub returns-clause-follows : goal.returns-clause-follows
+returns-clause-follows c =
+    let old = c.args.self.now in
+    let m = c.finish.new.self in
+    let call = c.overwrite-landed in
+    let same_schedule = ap schedule_of c.finish.ensures.same ∙ ap schedule_of c.is_to_fail-ok.ensures.same in
+    let same_call = ap calls_of c.finish.ensures.same in
+    let lacked = ap lacked_memory c.finish.ensures.same in
+    let by_schedule : Follows old m (is_ok c.finish.result) =
+    follows old m (is_ok c.finish.result) c.is_to_fail-ok.result call.result same_schedule (subst (IsNextCall (calls_of old)) (sym same_call) c.is_to_fail-ok.ensures.counted)
+    (c.is_to_fail-ok.ensures.value ∙ ap (is_failing (schedule_of old)) (sym same_call)) c.finish.ensures.variant call.ensures.answer lacked in
+    record {
+      follows = by_schedule;
+      leaves = λ still found.
+          (let m1 = c.is_to_fail-ok.new.self in
+          let same0 : memory_file m1 ≡ memory_file old = ap memory_file c.is_to_fail-ok.ensures.same in
+          let same1 = ap memory_file c.finish.ensures.same in
+          let recorded = with_memory ((v : Vec ℕ Global) × (v.items ≡ c.args.bytes.now) × (call.new.changes.items ≡ c.is_to_fail-ok.new.self.changes.items ++ Write c.args.at v (not c.is_to_fail-ok.result) ∷ [])) (lacked_memory m) call.result lacked found (call.ensures.recorded (c.is_gone-is_gone.ensures ∙ still)) in
+          subst (λ (f : File). Gains (write_version c.args.at c.args.bytes.now f) f (memory_file m)) same0
+          (subst (Gains (write_version c.args.at c.args.bytes.now (memory_file m1)) (memory_file m1)) (sym same1)
+          (write_leaves m1.start.items m1.content.items call.new.content.items m1.changes.items call.new.changes.items c.args.at c.args.bytes.now (not c.is_to_fail-ok.result) recorded.0 recorded.1 recorded.2)));
+    }

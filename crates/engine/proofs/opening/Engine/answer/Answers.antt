@@ -1,6 +1,7 @@
 use Rattle.std.proofs.Common.{inr, sym, subst, ◌∙◌}
 use Rattle.session.specs.Machine as machine
-use Rattle.engine.specs.Shown.{StepsByText}
+use Rattle.engine.specs.Representation.{StepsByText}
+use Rattle.engine.proofs.Marked.{counted_marks}
 use Rattle.engine.proofs.Served.{same_reply}
 use Rattle.engine.proofs.opening.Engine.answer.Goals as goal
 
@@ -13,5 +14,6 @@ returns g c = inr (inr (
     says = c.in_ok-connection.ensures.found.0;
     fits = c.in_ok-connection.ensures.found.1;
     step = subst (λ (r : machine.Reply). StepsByText c.args.self.now c.in_ok-connection.connection c.in_ok-connection.text.now r c.execute.new.self) (same_reply c.execute.result) c.execute.ensures.step;
+    counted = counted_marks c.execute.result c.args.self.now c.execute.new.self c.execute.ensures.counted;
   },
 ))

@@ -1,23 +1,39 @@
 use Rattle.std.proofs.Common.{ap, subst, sym, IsFalse, ◌&&◌}
 use Rattle.syntax.specs.declared.statement.Statement.{Statement}
-use Rattle.session.specs.Built as forms
+use Rattle.session.specs.Supported as forms
 use Rattle.session.specs.Machine.{Reply}
-use Rattle.session.specs.Shown.{rows_reply}
+use Rattle.session.specs.Representation.{rows_reply}
 use Rattle.session.proofs.Executing.{refused_as}
 use Rattle.parser.proofs.Grammar.{exact_statement}
 use Rattle.parser.proofs.ParseLaws.{one_text}
+use Rattle.sqlval.specs.declared.fault.Fault.{Fault}
+use Rattle.parser.specs.Refusals.{IsTextRefusal}
+use Rattle.engine.proofs.Marked.{check_not_io, for_any, nothing_called}
 use Rattle.engine.proofs.Refusing.{full_of, never_answered}
-use Rattle.engine.specs.Shown.{StepsByText}
+use Rattle.engine.specs.Representation.{StepsByText}
 use Rattle.engine.proofs.TextSteps.{executed, read_candidate, refused_check, refused_text, text_fault}
 use Rattle.engine.proofs.opening.Engine.execute.Goals as goal
 
-pub returns-clause-full : goal.returns-clause-full
-returns-clause-full g c is = (c.in_ok-statement.statement, c.in_ok-statement.ensures.found.0, full_of _ c.execute.result _ _ _ _ c.execute.ensures.reason is)
+pub returns-in_err-check-clause-counted : goal.returns-in_err-check-clause-counted
+returns-in_err-check-clause-counted g c =
+    nothing_called c.from_residual.result c.in_err-check.field-0.0 c.args.self.now c.from_residual.ensures.1
+    (check_not_io _ c.args.connection c.in_err-check.field-0.0 (sym c.in_err-check.ensures))
 
-pub returns-clause-unbuilt : goal.returns-clause-unbuilt
-returns-clause-unbuilt g c = λ statement first is unbuilt.
+pub returns-in_err-statement-clause-counted : goal.returns-in_err-statement-clause-counted
+returns-in_err-statement-clause-counted g c =
+    nothing_called c.from_residual-in_err-statement.result c.in_err-statement.field-0.0 c.args.self.now c.from_residual-in_err-statement.ensures.1
+    (λ io. absurd (subst (λ (f : Fault). IsTextRefusal c.args.text.now f) io c.in_err-statement.ensures.refused))
+
+pub returns-clause-counted : goal.returns-clause-counted
+returns-clause-counted g c = record { cause = for_any _ c.execute.result _ _ _ _ c.execute.ensures.cause; marks = c.execute.ensures.marks }
+
+pub returns-clause-full : goal.returns-clause-full
+returns-clause-full g c is = (c.in_ok-statement.statement, c.in_ok-statement.ensures.found.0, full_of _ c.execute.result _ _ _ _ c.execute.ensures.cause is)
+
+pub returns-clause-unsupported : goal.returns-clause-unsupported
+returns-clause-unsupported g c = λ statement first is unsupported.
     let same = one_text exact_statement c.args.text.now c.in_ok-statement.statement statement c.in_ok-statement.ensures.found.0 is in
-    let kept = c.execute.ensures.unbuilt first (subst (λ (s : Statement). IsFalse (forms.is_built s && forms.is_served c.args.connection)) (sym same) unbuilt) in
+    let kept = c.execute.ensures.unsupported (subst (λ (s : Statement). IsFalse (forms.is_supported s && forms.is_connection_supported c.args.connection)) (sym same) unsupported) in
     (never_answered c.execute.result kept.0, ap (λ connections. record c.args.self.now { connections = connections }) kept.1)
 
 pub returns-in_err-check-clause-step : goal.returns-in_err-check-clause-step
@@ -30,7 +46,7 @@ returns-in_err-check-clause-step g c =
 pub returns-in_err-statement-clause-step : goal.returns-in_err-statement-clause-step
 returns-in_err-statement-clause-step g c =
     let fault = c.in_err-statement.field-0.0 in
-    let why = text_fault c.args.text.now fault c.in_err-statement.ensures.exact c.in_err-statement.ensures.refused c.in_err-statement.ensures.unserved in
+    let why = text_fault c.args.text.now fault c.in_err-statement.ensures.exact c.in_err-statement.ensures.refused c.in_err-statement.ensures.unsupported in
     subst (λ (reply : Reply). StepsByText c.args.self.now c.args.connection c.args.text.now reply c.args.self.now)
     (sym (refused_as c.from_residual-in_err-statement.result fault c.from_residual-in_err-statement.ensures.1))
     (refused_text c.args.self.now c.args.connection c.args.text.now fault (sym c.in_ok-check.ensures) why)
@@ -39,6 +55,6 @@ pub returns-clause-step : goal.returns-clause-step
 returns-clause-step g c =
     let statement = c.in_ok-statement.statement in
     let found = c.in_ok-statement.ensures.found in
-    let stands = read_candidate c.args.text.now statement c.in_ok-statement.ensures.exact c.in_ok-statement.ensures.unserved in
+    let stands = read_candidate c.args.text.now statement c.in_ok-statement.ensures.exact c.in_ok-statement.ensures.unsupported in
     executed c.args.self.now c.args.connection c.args.text.now statement (rows_reply c.execute.result) c.execute.new.self
     (sym c.in_ok-check.ensures) stands found.0 found.1 c.execute.ensures.step

@@ -1,5 +1,5 @@
 use Rattle.std.proofs.Common.{◌≡◌, ◌∙◌, [], ◌∷◌, ap, refl, rules}
-use Rattle.wal.specs.Known.{Known}
+use Rattle.wal.specs.LogState.{LogState}
 use Rattle.wal.specs.declared.pages.PageImage.{PageImage}
 use Rattle.pager.specs.Views.{view_at}
 use Rattle.pager.proofs.PageReads.{refused_on}
@@ -13,5 +13,5 @@ pub returns-clause-begun : goal.returns-clause-begun
 returns-clause-begun g c told until some =
     let page : PageImage = record { number = 1; bytes = c.in_ok-bytes.bytes } in
     let changes : c.push.new.self.items ≡ page ∷ [] = search rules in
-    begun (view_at c.args.log.now c.args.snapshot) _ page refl changes c.size.ensures (c.page_size.ensures ∙ ap (λ (k : Known). k.page_size) c.in_ok-bytes.ensures.kept.0) refl some
+    begun (view_at c.args.log.now c.args.snapshot) _ page refl changes c.size.ensures (c.page_size.ensures ∙ ap (λ (k : LogState). k.page_size) c.in_ok-bytes.ensures.kept.0) refl some
     c.in_ok-bytes.ensures.len (c.in_ok-bytes.ensures.read told until)

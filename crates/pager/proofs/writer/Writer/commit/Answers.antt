@@ -38,26 +38,26 @@ returns-in-Err-clause-refused g c page header may =
       rest = c.set_header-in-Err.ensures.rest;
     } in
     refused_commit c.args.log.now c.commit.new.self c.args.self.now c.set_header.new.self page header c.next_header-new.result may re c.set_header-in-Err.new.self c.deref.result.now c.in-Err.fault _ _ again c.deref.ensures.value
-    c.in-Err.ensures.refusal c.in-Err.ensures.known c.commit.ensures.same
+    c.in-Err.ensures.refused c.in-Err.ensures.known c.commit.ensures.same
 
-pub returns-in_err-old-clause-stop : goal.returns-in_err-old-clause-stop
-returns-in_err-old-clause-stop g c page header may =
+pub returns-in_err-old-clause-crash : goal.returns-in_err-old-clause-crash
+returns-in_err-old-clause-crash g c page header may =
     absurd (not_refused c.header.result header _ (c.header.ensures.only header may.whole (may_header c.args.log.now c.args.self.now page header may)) c.in_err-old.was)
 
-pub returns-clause-stop : goal.returns-clause-stop
-returns-clause-stop g c page header may =
+pub returns-clause-crash : goal.returns-clause-crash
+returns-clause-crash g c page header may =
     let has = may_header c.args.log.now c.args.self.now page header may in
     let re : IsReheaded c.args.self.now c.set_header.new.self c.next_header-new.result = record { pages = c.set_header.ensures.reheads header has; rest = c.set_header.ensures.rest } in
     let is : c.in_ok-old.old ≡ header = same_header _ _ (sym c.in_ok-old.was ∙ c.header.ensures.only header may.whole has) in
     let next = subst (λ (h : Header). IsNextHeader h c.next_header-new.result (makes_objects c.args.self.now) (pages_of c.args.self.now)) is (c.next_header-new.ensures.next (has_pages c.args.self.now may.whole)) in
     inr (left_either c.args.log.now c.commit.new.self c.args.self.now c.set_header.new.self page header c.next_header-new.result may re c.deref.result.now c.deref.ensures.value
-    (c.in_default.ensures.done may.tells.log) c.in_default.ensures.known c.commit.ensures.same next (c.commit.ensures.stop may.tells.whole may.tells.log) (c.commit.ensures.left may.tells.whole may.tells.log))
+    (c.in_default.ensures.done may.tells.log) c.in_default.ensures.known c.commit.ensures.same next (c.commit.ensures.crash may.tells.whole may.tells.log).either (c.commit.ensures.crash may.tells.whole may.tells.log).left)
 
-pub returns-in-Err-clause-stop : goal.returns-in-Err-clause-stop
-returns-in-Err-clause-stop g c page header may =
+pub returns-in-Err-clause-crash : goal.returns-in-Err-clause-crash
+returns-in-Err-clause-crash g c page header may =
     let has = may_header c.args.log.now c.args.self.now page header may in
     let re : IsReheaded c.args.self.now c.set_header.new.self c.next_header-new.result = record { pages = c.set_header.ensures.reheads header has; rest = c.set_header.ensures.rest } in
     let is : c.in_ok-old.old ≡ header = same_header _ _ (sym c.in_ok-old.was ∙ c.header.ensures.only header may.whole has) in
     let next = subst (λ (h : Header). IsNextHeader h c.next_header-new.result (makes_objects c.args.self.now) (pages_of c.args.self.now)) is (c.next_header-new.ensures.next (has_pages c.args.self.now may.whole)) in
     refused_leaves c.args.log.now c.commit.new.self c.args.self.now c.set_header.new.self page header c.next_header-new.result may re c.deref.result.now c.in-Err.fault _ _ c.deref.ensures.value
-    c.in-Err.ensures.refusal next (c.commit.ensures.stop may.tells.whole may.tells.log) (c.commit.ensures.left may.tells.whole may.tells.log)
+    c.in-Err.ensures.refused next (c.commit.ensures.crash may.tells.whole may.tells.log).either (c.commit.ensures.crash may.tells.whole may.tells.log).left

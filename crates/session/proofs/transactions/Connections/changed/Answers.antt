@@ -1,7 +1,7 @@
 use Rattle.std.proofs.Common.{subst}
-use Rattle.session.specs.Known.{files_of}
+use Rattle.session.specs.ConnectionState.{files_of}
 use Rattle.session.specs.Machine.{last_place}
-use Rattle.pager.specs.Views.{IsPage, View}
+use Rattle.pager.specs.Views.{IsViewPage, View}
 use Rattle.session.proofs.SeenPages.{below_shown, changed_shown, none_of, not_writing, some_of, writer_of}
 use Rattle.session.proofs.transactions.Connections.changed.Goals as goal
 
@@ -20,5 +20,5 @@ returns-in-Writing-clause-below g c m shown =
 pub returns-in_default : goal.returns-in_default
 returns-in_default g c = record {
   shown = λ m shown. tt;
-  below = λ m shown bytes page. subst (λ (v : View). IsPage v c.args.number bytes) (not_writing (files_of c.args.self.now) c.args.self.now.transaction c.in_default.not-Writing) page;
+  below = λ m shown bytes page. subst (λ (v : View). IsViewPage v c.args.number bytes) (not_writing (files_of c.args.self.now) c.args.self.now.transaction c.in_default.not-Writing) page;
 }

@@ -1,9 +1,10 @@
 use Rattle.std.proofs.Common.{inl, inr, refl, sym, subst, ap, ◌∙◌}
-use Rattle.session.specs.Shown.{StepsTo, done_reply, is_idle}
+use Rattle.session.specs.Representation.{StepsTo, done_reply, is_idle}
 use Rattle.session.specs.declared.transactions.Connections.{Connections}
 use Rattle.syntax.specs.declared.statement.Statement.TheVariants as statement
 use Rattle.session.specs.declared.transactions.Transaction.TheVariants as transaction
 use Rattle.session.proofs.Showing.{Begins}
+use Rattle.session.proofs.StatementCauses.{commit_refused_for}
 use Rattle.session.proofs.CommitSteps.{ended_begun, ended_reading, err_step, none_to_commit, ok_step, writes_in}
 use Rattle.session.proofs.transactions.Connections.commit.Goals as goal
 use Rattle.session.proofs.transactions.Connections.commit.Goals.{then-is_err, else-is_err}
@@ -29,8 +30,13 @@ returns-after-is_err-clause-step g c m shown =
     let left = c.commit_writer-result.new.writer in
     let result = c.commit_writer-result.result in
     let in_writing = writes_in old mid m c.in-Writing.writer shown (sym c.replace.ensures.value ∙ c.in-Writing.is) refl refl in
-    let has = c.commit_writer-result.ensures.commits in_writing.db shown.whole in_writing.works in
+    let has = c.commit_writer-result.ensures.commits in_writing.db shown.whole in_writing.applies in
     elim c.if-is_err.branch [
       | then-is_err w ↦ subst (λ (s : Connections g.row.D.Denot g.D.Disk). StepsTo old m 1 statement.Commit (done_reply result) s) (sym w.self-is) (err_step old mid new m c.in-Writing.writer in_writing result left (sym w.if-is_err.ensures.value) refl refl refl has)
       | else-is_err w ↦ subst (λ (s : Connections g.row.D.Denot g.D.Disk). StepsTo old m 1 statement.Commit (done_reply result) s) (sym w.self-is) (ok_step old mid new m c.in-Writing.writer in_writing result left (sym w.if-is_err.ensures.value) refl c.replace.ensures.after has)
     ]
+
+pub returns-after-is_err-clause-refused : goal.returns-after-is_err-clause-refused
+returns-after-is_err-clause-refused g c =
+    commit_refused_for c.args.self.now (record c.args.self.now { transaction = c.replace.new.dest }) c.commit_writer-result.new.self c.in-Writing.writer c.commit_writer-result.new.writer (sym c.replace.ensures.value ∙ c.in-Writing.is) refl
+    c.commit_writer-result.result refl refl c.commit_writer-result.ensures.commits

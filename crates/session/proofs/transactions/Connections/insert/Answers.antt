@@ -2,7 +2,7 @@ use Rattle.std.proofs.Common.{◌≡◌, ◌≤◌, ◌∙◌, ap, refl, map, le
 use Rattle.catalog.specs.Listed.{tables_of}
 use Rattle.pager.specs.Views.{view_of}
 use Rattle.wal.specs.declared.pages.PageImage.{PageImage}
-use Rattle.session.specs.Known.{files_of}
+use Rattle.session.specs.ConnectionState.{files_of}
 use Rattle.session.proofs.Inserting.{Laws}
 use Rattle.session.proofs.InsertWorks.{Reads, bind_refused, given_as, page_refused, places_long, put_works, refused_at_once, sees, unchanged, unworked, worked}
 use Rattle.session.proofs.Showing.{the_same}
@@ -10,8 +10,8 @@ use Rattle.session.proofs.transactions.Connections.insert.Goals as goal
 use Rattle.syntax.specs.declared.change.Change.TheVariants as change
 use Rattle.syntax.specs.declared.statement.Statement.TheVariants as statement
 
-pub returns-in_err-bound-clause-works : goal.returns-in_err-bound-clause-works
-returns-in_err-bound-clause-works g c db built on =
+pub returns-in_err-bound-clause-applies : goal.returns-in_err-bound-clause-applies
+returns-in_err-bound-clause-applies g c db supported_forms on =
     let old = c.args.self.now in
     let w = c.args.writer.now in
     let i = c.args.insert.now in
@@ -25,10 +25,10 @@ returns-in_err-bound-clause-works g c db built on =
       none = c.only_tables_set_nothing_off.ensures.none;
     } in
     unworked (statement.Change (change.Insert i)) old old w w db c.from_residual.result f c.from_residual.ensures.1 (record { files = the_same (files_of old) on.told; failed = refl; transaction = refl; catalog = refl }) (unchanged w) on
-    (refused_at_once (statement.Change (change.Insert i)) old w db f (bind_refused laws (view_of (files_of old) w) (tables_of old.catalog) db on.stored i f built c.in_err-bound.ensures.refused))
+    (refused_at_once (statement.Change (change.Insert i)) old w db f (bind_refused laws (view_of (files_of old) w) (tables_of old.catalog) db on.stored i f supported_forms c.in_err-bound.ensures.refused))
 
-pub returns-in_err-bytes-clause-works : goal.returns-in_err-bytes-clause-works
-returns-in_err-bytes-clause-works g c db built on =
+pub returns-in_err-bytes-clause-applies : goal.returns-in_err-bytes-clause-applies
+returns-in_err-bytes-clause-applies g c db supported_forms on =
     let old = c.args.self.now in
     let new = record old { log = c.with_new_rows.new.log } in
     let w = c.args.writer.now in
@@ -54,8 +54,8 @@ returns-in_err-bytes-clause-works g c db built on =
     (page_refused laws view (tables_of old.catalog) db on.stored i t b.places.items (map (λ row. row.items) b.rows.items) named is long it.page it.there it.holds f
     (c.in_err-bytes.ensures.refused it.page (on.stored.rows_at t.root) (sees old w db on i.table t named)))
 
-pub returns-clause-works : goal.returns-clause-works
-returns-clause-works g c db built on =
+pub returns-clause-applies : goal.returns-clause-applies
+returns-clause-applies g c db supported_forms on =
     let old = c.args.self.now in
     let new = record old { log = c.with_new_rows.new.log } in
     let w = c.args.writer.now in

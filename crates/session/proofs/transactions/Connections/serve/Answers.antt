@@ -3,23 +3,23 @@ use Rattle.syntax.specs.declared.statement.Statement.{Statement}
 use Rattle.smallvec.specs.SmallVec.{SmallVec}
 use Rattle.sqlval.specs.declared.value.Value.{Value}
 use Rattle.rowprog.specs.Rows.{values_of}
-use Rattle.session.specs.Built.{is_built}
+use Rattle.session.specs.Supported.{is_supported}
 use Rattle.session.specs.Machine.{Reply, Rows}
-use Rattle.session.specs.Shown.{StepsOn, rows_reply}
+use Rattle.session.specs.Representation.{StepsOn, rows_reply}
 use Rattle.session.proofs.Executing.{no_query, refused_as}
 use Rattle.session.proofs.transactions.Connections.serve.Goals as goal
 
 pub returns-in-Select-clause-step : goal.returns-in-Select-clause-step
-returns-in-Select-clause-step g c built keeps =
+returns-in-Select-clause-step g c supported_forms keeps =
     subst (λ (s : Statement). StepsOn c.args.self.now s (rows_reply c.select.result) c.select.new.self) (sym c.in-Select.is)
-    (c.select.ensures.step (subst (λ (s : Statement). is_built s ≡ true) c.in-Select.is built))
+    (c.select.ensures.step (subst (λ (s : Statement). is_supported s ≡ true) c.in-Select.is supported_forms))
 
 pub returns-in_err-change-clause-step : goal.returns-in_err-change-clause-step
-returns-in_err-change-clause-step g c built keeps =
+returns-in_err-change-clause-step g c supported_forms keeps =
     subst (λ (r : Reply). StepsOn c.args.self.now c.args.statement.now r c.change.new.self) (sym (refused_as c.from_residual.result c.in_err-change.field-0.0 c.from_residual.ensures.1))
-    (c.in_err-change.ensures.step built keeps (no_query c.args.statement.now c.in_default.not-Select))
+    (c.in_err-change.ensures.step supported_forms keeps (no_query c.args.statement.now c.in_default.not-Select))
 
 pub returns-clause-step : goal.returns-clause-step
-returns-clause-step g c built keeps =
+returns-clause-step g c supported_forms keeps =
     subst (λ (rows : List (SmallVec Value)). StepsOn c.args.self.now c.args.statement.now (Rows (map values_of rows)) c.change.new.self) (sym c.new.ensures.items)
-    (c.in_ok-change.ensures.step built keeps (no_query c.args.statement.now c.in_default.not-Select))
+    (c.in_ok-change.ensures.step supported_forms keeps (no_query c.args.statement.now c.in_default.not-Select))

@@ -3,7 +3,7 @@ use Rattle.sqlval.specs.Gives.{Refuses}
 use Rattle.sqlval.specs.declared.fault.Fault.TheVariants.{Memory}
 use Rattle.page.specs.Leaf.{IsTableLeaf}
 use Rattle.page.specs.Reading.{leaf_at}
-use Rattle.tabletree.specs.Lone.{AreRising, IsLeafRefusal}
+use Rattle.tabletree.specs.SingleLeaf.{AreRising, IsLeafRefusal}
 use Rattle.tabletree.proofs.Refused.{page_fault, still_memory, row_list, false_is}
 use Rattle.tabletree.proofs.leaf.Leaf.over.Goals as goal
 

@@ -1,19 +1,19 @@
-use Rattle.std.proofs.Common.{◌∙◌, ◌+◌, ◌++◌, ℕ, length, ap, sym, subst, arith, true, refl}
+use Rattle.sqlval.specs.PageSizes.{is_size}
+use Rattle.std.proofs.Common.{◌≡◌, ◌∙◌, ◌+◌, ◌++◌, ℕ, List, length, ap, sym, subst, arith, true, refl}
 use Rattle.std.specs.Prelude.{IsTrue}
 use Rattle.walframe.specs.Accepted.{frame_start}
-use Rattle.wal.specs.Known.{Known, known_in}
-use Rattle.wal.specs.Pages.{ArePages, framed, is_size}
+use Rattle.walframe.specs.Written.{written}
+use Rattle.wal.specs.LogState.{LogState, state_in}
+use Rattle.wal.specs.Pages.{ArePages, framed}
 use Rattle.wal.specs.Stands.{log_front, log_end}
-use Rattle.disk.specs.File.{Always}
-use Rattle.disk.specs.Moments.{always_weaker}
-use Rattle.wal.specs.Commits.{Commits, commits_of}
-use Rattle.wal.specs.Stops.{LeavesEither, LeavesWriting}
+use Rattle.wal.specs.Commits.{Commits}
+use Rattle.wal.specs.Crashes.{WritesCommit}
 use Rattle.wal.proofs.Appending.{front_of, grows, commit_of, committed, wrote, commits}
-use Rattle.wal.proofs.CommitLemmas.{size_from, framed_fits, pages_len}
+use Rattle.sqlval.proofs.PageSizeLemmas.{size_is}
+use Rattle.wal.proofs.CommitLemmas.{framed_fits, pages_len}
 use Rattle.wal.proofs.Rooms.{strict_pages}
 use Rattle.wal.proofs.Same.{stands_as, known_same, reserved, end_same, end_grown}
-use Rattle.wal.proofs.Stopping.{log_commits, leaves_either, still_either}
-use Rattle.disk.specs.Current.{synced_left}
+use Rattle.wal.proofs.CommitCrashes.{writes_commit, writes_nothing}
 use Rattle.wal.proofs.log.Log.commit.Goals as goal
 
 pub invariant_of-self : goal.invariant_of-self
@@ -55,16 +55,16 @@ invariant_of-self-in-Break-branch-5 g c =
       log_there = λ ok told. reserved old s log same (c.args.self.now.log_there c.if-self.false told);
     }
 
-pub admit-requires-clause-rising : goal.admit-requires-clause-rising
-admit-requires-clause-rising g c = strict_pages 0 c.args.size c.args.self.now.state.page_size c.args.pages.now c.in_ok-check_pages.ensures.pages
+pub advance-requires-clause-rising : goal.advance-requires-clause-rising
+advance-requires-clause-rising g c = strict_pages 0 c.args.size c.args.self.now.state.page_size c.args.pages.now c.in_ok-check_pages.ensures.pages
 
 pub invariant_of-self-6 : goal.invariant_of-self-6
 invariant_of-self-6 g c =
     let old = c.args.self.now.state in
     let s = c.reserve.new.self in
     let same = c.reserve.ensures.same in
-    let admits = c.admit.ensures in
-    let made = c.admit.new.self in
+    let admits = c.advance.ensures in
+    let made = c.advance.new.self in
     let log = (g.D.Disk.file c.args.self.now.log).content in
     let new = (g.D.Disk.file c.write_out.new.log).content in
     let fs = framed c.args.pages.now c.args.size in
@@ -72,17 +72,17 @@ invariant_of-self-6 g c =
     let are = subst (λ (n : ℕ). ArePages 0 c.args.size n c.args.pages.now) (sym (s.same_size ∙ same.page_size)) c.in_ok-check_pages.ensures.pages in
     let before = λ (told : IsTrue (g.D.Disk.tells c.args.self.now.log)). reserved old s log same (c.args.self.now.log_there c.if-self.false told) in
     let front = λ (told : IsTrue (g.D.Disk.tells c.args.self.now.log)). front_of s.header s.is_begun s.mark s.sum s.index log (λ not_begun. c.write_out.ensures.fits) (before told) in
-    let grown = λ (told : IsTrue (g.D.Disk.tells c.args.self.now.log)). grows s.header s.mark front_bytes fs new (front told).is (size_from s.header.page_size (ap is_size s.same_size ∙ s.size_is))
+    let grown = λ (told : IsTrue (g.D.Disk.tells c.args.self.now.log)). grows s.header s.mark front_bytes fs new (front told).is (size_is s.header.page_size (ap is_size s.same_size ∙ s.size_is))
     (c.in_ok-sum.ensures.fits c.in_ok-check_pages.ensures.some) (framed_fits s.header 0 c.args.size c.args.pages.now c.ranges.size.fits are) (commit_of c.args.pages.now c.args.size s.header.page_size are c.in_ok-check_pages.ensures.some)
     (wrote s.header s.is_begun s.mark c.end-end.result s.sum fs log new c.deref.result.now c.in_ok-bytes.bytes.items c.put_frames.new.bytes.items (front told)
     (c.in_ok-write_out.ensures.written told) c.end-end.ensures c.deref.ensures.value c.in_ok-sum.ensures.bytes c.in_ok-bytes.ensures.items) in
     record {
       db_there = λ told. omega (arith, admits.db_len, same.db_len, c.args.self.now.db_there told);
       log_cut = λ ok told_now cut. end_grown s.header made.header made.is_begun s.mark made.mark (length c.args.pages.now) (length new) admits.header admits.is_begun admits.mark
-          ((grown (sym c.in_ok-write_out.ensures.same.0 ∙ told_now)).end ∙ ap (λ (n : ℕ). frame_start s.header (s.mark + n)) (pages_len c.args.pages.now c.args.size));
-      log_synced = λ ok told_now. c.in_ok-write_out.ensures.synced (sym c.in_ok-write_out.ensures.same.0 ∙ told_now);
+          ((grown (sym c.in_ok-write_out.ensures.touches.tells_same ∙ told_now)).end ∙ ap (λ (n : ℕ). frame_start s.header (s.mark + n)) (pages_len c.args.pages.now c.args.size));
+      log_synced = λ ok told_now. c.in_ok-write_out.ensures.synced (sym c.in_ok-write_out.ensures.touches.tells_same ∙ told_now);
       log_there = λ ok told_now.
-          let told : IsTrue (g.D.Disk.tells c.args.self.now.log) = sym c.in_ok-write_out.ensures.same.0 ∙ told_now in
+          let told : IsTrue (g.D.Disk.tells c.args.self.now.log) = sym c.in_ok-write_out.ensures.touches.tells_same ∙ told_now in
           stands_as s.header made.header true made.is_begun (s.mark + length c.args.pages.now) made.mark c.in_ok-sum.sum made.sum made.index new
           admits.header admits.is_begun admits.mark admits.sum_is
           (committed s.header s.is_begun s.mark c.args.size s.sum c.in_ok-sum.sum s.index made.index c.args.pages.now log new (before told) (front told) s.indexed (grown told) c.in_ok-sum.ensures.sum admits.frames admits.added admits.kept);
@@ -103,54 +103,44 @@ returns-clause-done g c told =
     let front = front_of s.header s.is_begun s.mark s.sum s.index log (λ not_begun. c.write_out.ensures.fits) before in
     let is_new = wrote s.header s.is_begun s.mark c.end-end.result s.sum fs log new c.deref.result.now c.in_ok-bytes.bytes.items c.put_frames.new.bytes.items front
     (c.in_ok-write_out.ensures.written told) c.end-end.ensures c.deref.ensures.value c.in_ok-sum.ensures.bytes c.in_ok-bytes.ensures.items in
-    let grown = grows s.header s.mark front_bytes fs new front.is (size_from s.header.page_size (ap is_size s.same_size ∙ s.size_is))
+    let grown = grows s.header s.mark front_bytes fs new front.is (size_is s.header.page_size (ap is_size s.same_size ∙ s.size_is))
     (c.in_ok-sum.ensures.fits c.in_ok-check_pages.ensures.some) (framed_fits s.header 0 c.args.size c.args.pages.now c.ranges.size.fits are) (commit_of c.args.pages.now c.args.size s.header.page_size are c.in_ok-check_pages.ensures.some) is_new in
-    subst (λ (k : Known). Commits k fs old_file (g.D.Disk.file c.write_out.new.log)) (known_same old s same)
-    (commits (known_in s) s.sum s.index fs old_file (g.D.Disk.file c.write_out.new.log) before front grown is_new (c.in_ok-write_out.ensures.synced told)
+    subst (λ (k : LogState). Commits k fs old_file (g.D.Disk.file c.write_out.new.log)) (known_same old s same)
+    (commits (state_in s) s.sum s.index fs old_file (g.D.Disk.file c.write_out.new.log) before front grown is_new (c.in_ok-write_out.ensures.synced told)
     (omega (arith, c.in_ok-check_limits.ensures.room, same.mark, pages_len c.args.pages.now c.args.size)))
 
-pub returns-in_err-check_pages-clause-stop : goal.returns-in_err-check_pages-clause-stop
-returns-in_err-check_pages-clause-stop g c whole told =
+pub returns-in_err-check_pages-clause-crash : goal.returns-in_err-check_pages-clause-crash
+returns-in_err-check_pages-clause-crash g c whole told =
     let s = c.args.self.now.state in
     let file = g.D.Disk.file c.args.self.now.log in
-    let these = commits_of (known_in s) file.content in
-    still_either s.page_size these (these ++ framed c.args.pages.now c.args.size) file (c.args.self.now.log_synced c.if-self.false told)
-    (log_commits s.header s.is_begun s.mark s.page_size s.sum s.index file.content (c.args.self.now.log_there c.if-self.false told) s.same_size)
+    writes_nothing (state_in s) s.sum s.index (framed c.args.pages.now c.args.size) file (c.args.self.now.log_synced c.if-self.false told) (c.args.self.now.log_there c.if-self.false told) s.same_size
 
-pub returns-in_err-check_limits-clause-stop : goal.returns-in_err-check_limits-clause-stop
-returns-in_err-check_limits-clause-stop g c whole told =
+pub returns-in_err-check_limits-clause-crash : goal.returns-in_err-check_limits-clause-crash
+returns-in_err-check_limits-clause-crash g c whole told =
     let s = c.args.self.now.state in
     let file = g.D.Disk.file c.args.self.now.log in
-    let these = commits_of (known_in s) file.content in
-    still_either s.page_size these (these ++ framed c.args.pages.now c.args.size) file (c.args.self.now.log_synced c.if-self.false told)
-    (log_commits s.header s.is_begun s.mark s.page_size s.sum s.index file.content (c.args.self.now.log_there c.if-self.false told) s.same_size)
+    writes_nothing (state_in s) s.sum s.index (framed c.args.pages.now c.args.size) file (c.args.self.now.log_synced c.if-self.false told) (c.args.self.now.log_there c.if-self.false told) s.same_size
 
-pub returns-in_err-reserve-clause-stop : goal.returns-in_err-reserve-clause-stop
-returns-in_err-reserve-clause-stop g c whole told =
+pub returns-in_err-reserve-clause-crash : goal.returns-in_err-reserve-clause-crash
+returns-in_err-reserve-clause-crash g c whole told =
     let s = c.args.self.now.state in
     let file = g.D.Disk.file c.args.self.now.log in
-    let these = commits_of (known_in s) file.content in
-    still_either s.page_size these (these ++ framed c.args.pages.now c.args.size) file (c.args.self.now.log_synced c.if-self.false told)
-    (log_commits s.header s.is_begun s.mark s.page_size s.sum s.index file.content (c.args.self.now.log_there c.if-self.false told) s.same_size)
+    writes_nothing (state_in s) s.sum s.index (framed c.args.pages.now c.args.size) file (c.args.self.now.log_synced c.if-self.false told) (c.args.self.now.log_there c.if-self.false told) s.same_size
 
-pub returns-in_err-bytes-clause-stop : goal.returns-in_err-bytes-clause-stop
-returns-in_err-bytes-clause-stop g c whole told =
+pub returns-in_err-bytes-clause-crash : goal.returns-in_err-bytes-clause-crash
+returns-in_err-bytes-clause-crash g c whole told =
     let s = c.args.self.now.state in
     let file = g.D.Disk.file c.args.self.now.log in
-    let these = commits_of (known_in s) file.content in
-    still_either s.page_size these (these ++ framed c.args.pages.now c.args.size) file (c.args.self.now.log_synced c.if-self.false told)
-    (log_commits s.header s.is_begun s.mark s.page_size s.sum s.index file.content (c.args.self.now.log_there c.if-self.false told) s.same_size)
+    writes_nothing (state_in s) s.sum s.index (framed c.args.pages.now c.args.size) file (c.args.self.now.log_synced c.if-self.false told) (c.args.self.now.log_there c.if-self.false told) s.same_size
 
-pub returns-in_err-sum-clause-stop : goal.returns-in_err-sum-clause-stop
-returns-in_err-sum-clause-stop g c whole told =
+pub returns-in_err-sum-clause-crash : goal.returns-in_err-sum-clause-crash
+returns-in_err-sum-clause-crash g c whole told =
     let s = c.args.self.now.state in
     let file = g.D.Disk.file c.args.self.now.log in
-    let these = commits_of (known_in s) file.content in
-    still_either s.page_size these (these ++ framed c.args.pages.now c.args.size) file (c.args.self.now.log_synced c.if-self.false told)
-    (log_commits s.header s.is_begun s.mark s.page_size s.sum s.index file.content (c.args.self.now.log_there c.if-self.false told) s.same_size)
+    writes_nothing (state_in s) s.sum s.index (framed c.args.pages.now c.args.size) file (c.args.self.now.log_synced c.if-self.false told) (c.args.self.now.log_there c.if-self.false told) s.same_size
 
-pub returns-in_err-write_out-clause-stop : goal.returns-in_err-write_out-clause-stop
-returns-in_err-write_out-clause-stop g c whole told =
+pub returns-in_err-write_out-clause-crash : goal.returns-in_err-write_out-clause-crash
+returns-in_err-write_out-clause-crash g c whole told =
     let old = c.args.self.now.state in
     let s = c.reserve.new.self in
     let same = c.reserve.ensures.same in
@@ -164,17 +154,17 @@ returns-in_err-write_out-clause-stop g c whole told =
     let before = reserved old s log same (c.args.self.now.log_there c.if-self.false told) in
     let front = front_of s.header s.is_begun s.mark s.sum s.index log (λ not_begun. c.write_out.ensures.fits) before in
     let is_commit = commit_of c.args.pages.now c.args.size s.header.page_size are c.in_ok-check_pages.ensures.some in
+    let is_out : out ≡ written s.header s.sum fs = c.deref.ensures.value ∙ c.in_ok-sum.ensures.bytes ∙ ap (λ (l : List ℕ). l ++ written s.header s.sum fs) c.in_ok-bytes.ensures.items in
     let is_new = wrote s.header s.is_begun s.mark (log_end s.header s.is_begun s.mark) s.sum fs log (front_bytes ++ out) out c.in_ok-bytes.bytes.items c.put_frames.new.bytes.items front
     refl refl c.deref.ensures.value c.in_ok-sum.ensures.bytes c.in_ok-bytes.ensures.items in
-    let grown = grows s.header s.mark front_bytes fs (front_bytes ++ out) front.is (size_from s.header.page_size (ap is_size s.same_size ∙ s.size_is))
+    let grown = grows s.header s.mark front_bytes fs (front_bytes ++ out) front.is (size_is s.header.page_size (ap is_size s.same_size ∙ s.size_is))
     (c.in_ok-sum.ensures.fits c.in_ok-check_pages.ensures.some) (framed_fits s.header 0 c.args.size c.args.pages.now c.ranges.size.fits are) is_commit is_new in
-    subst (λ (k : Known). Always old_file new_file (LeavesEither k.page_size (commits_of k log) (commits_of k log ++ fs))) (known_same old s same)
-    (always_weaker old_file new_file (LeavesEither s.page_size (commits_of (known_in s) log) (commits_of (known_in s) log ++ fs)) (LeavesWriting s.header s.is_begun c.end-end.result out log)
-    (λ vs. leaves_either s.header s.is_begun s.mark c.end-end.result s.page_size s.sum s.index fs log out vs before front s.same_size grown is_commit c.end-end.ensures)
-    (c.write_out.ensures.stop told (c.args.self.now.log_synced c.if-self.false told)))
+    subst (λ (k : LogState). WritesCommit k fs old_file new_file) (known_same old s same)
+    (writes_commit (state_in s) c.end-end.result s.sum s.index fs out old_file new_file before front s.same_size grown is_commit c.end-end.ensures is_out
+    (c.write_out.ensures.crash told (c.args.self.now.log_synced c.if-self.false told)) (c.write_out.ensures.left told (c.args.self.now.log_synced c.if-self.false told)))
 
-pub returns-clause-stop : goal.returns-clause-stop
-returns-clause-stop g c whole told =
+pub returns-clause-crash : goal.returns-clause-crash
+returns-clause-crash g c whole told =
     let old = c.args.self.now.state in
     let s = c.reserve.new.self in
     let same = c.reserve.ensures.same in
@@ -188,32 +178,11 @@ returns-clause-stop g c whole told =
     let before = reserved old s log same (c.args.self.now.log_there c.if-self.false told) in
     let front = front_of s.header s.is_begun s.mark s.sum s.index log (λ not_begun. c.write_out.ensures.fits) before in
     let is_commit = commit_of c.args.pages.now c.args.size s.header.page_size are c.in_ok-check_pages.ensures.some in
+    let is_out : out ≡ written s.header s.sum fs = c.deref.ensures.value ∙ c.in_ok-sum.ensures.bytes ∙ ap (λ (l : List ℕ). l ++ written s.header s.sum fs) c.in_ok-bytes.ensures.items in
     let is_new = wrote s.header s.is_begun s.mark (log_end s.header s.is_begun s.mark) s.sum fs log (front_bytes ++ out) out c.in_ok-bytes.bytes.items c.put_frames.new.bytes.items front
     refl refl c.deref.ensures.value c.in_ok-sum.ensures.bytes c.in_ok-bytes.ensures.items in
-    let grown = grows s.header s.mark front_bytes fs (front_bytes ++ out) front.is (size_from s.header.page_size (ap is_size s.same_size ∙ s.size_is))
+    let grown = grows s.header s.mark front_bytes fs (front_bytes ++ out) front.is (size_is s.header.page_size (ap is_size s.same_size ∙ s.size_is))
     (c.in_ok-sum.ensures.fits c.in_ok-check_pages.ensures.some) (framed_fits s.header 0 c.args.size c.args.pages.now c.ranges.size.fits are) is_commit is_new in
-    subst (λ (k : Known). Always old_file new_file (LeavesEither k.page_size (commits_of k log) (commits_of k log ++ fs))) (known_same old s same)
-    (always_weaker old_file new_file (LeavesEither s.page_size (commits_of (known_in s) log) (commits_of (known_in s) log ++ fs)) (LeavesWriting s.header s.is_begun c.end-end.result out log)
-    (λ vs. leaves_either s.header s.is_begun s.mark c.end-end.result s.page_size s.sum s.index fs log out vs before front s.same_size grown is_commit c.end-end.ensures)
-    (c.write_out.ensures.stop told (c.args.self.now.log_synced c.if-self.false told)))
-
-pub returns-in_err-check_pages-clause-left : goal.returns-in_err-check_pages-clause-left
-returns-in_err-check_pages-clause-left g c whole told = synced_left (g.D.Disk.file c.args.self.now.log) (c.args.self.now.log_synced c.if-self.false told)
-
-pub returns-in_err-check_limits-clause-left : goal.returns-in_err-check_limits-clause-left
-returns-in_err-check_limits-clause-left g c whole told = synced_left (g.D.Disk.file c.args.self.now.log) (c.args.self.now.log_synced c.if-self.false told)
-
-pub returns-in_err-reserve-clause-left : goal.returns-in_err-reserve-clause-left
-returns-in_err-reserve-clause-left g c whole told = synced_left (g.D.Disk.file c.args.self.now.log) (c.args.self.now.log_synced c.if-self.false told)
-
-pub returns-in_err-bytes-clause-left : goal.returns-in_err-bytes-clause-left
-returns-in_err-bytes-clause-left g c whole told = synced_left (g.D.Disk.file c.args.self.now.log) (c.args.self.now.log_synced c.if-self.false told)
-
-pub returns-in_err-sum-clause-left : goal.returns-in_err-sum-clause-left
-returns-in_err-sum-clause-left g c whole told = synced_left (g.D.Disk.file c.args.self.now.log) (c.args.self.now.log_synced c.if-self.false told)
-
-pub returns-in_err-write_out-clause-left : goal.returns-in_err-write_out-clause-left
-returns-in_err-write_out-clause-left g c whole told = c.write_out.ensures.left told (c.args.self.now.log_synced c.if-self.false told)
-
-pub returns-clause-left : goal.returns-clause-left
-returns-clause-left g c whole told = c.write_out.ensures.left told (c.args.self.now.log_synced c.if-self.false told)
+    subst (λ (k : LogState). WritesCommit k fs old_file new_file) (known_same old s same)
+    (writes_commit (state_in s) c.end-end.result s.sum s.index fs out old_file new_file before front s.same_size grown is_commit c.end-end.ensures is_out
+    (c.write_out.ensures.crash told (c.args.self.now.log_synced c.if-self.false told)) (c.write_out.ensures.left told (c.args.self.now.log_synced c.if-self.false told)))

@@ -26,8 +26,8 @@ returns-clause-read g c told_db told until =
     }))
     (c.read_at-2.ensures.read told_db)
 
-pub returns-then-number-size-clause-refusal : goal.returns-then-number-size-clause-refusal
-returns-then-number-size-clause-refusal g c =
+pub returns-then-number-size-clause-refused : goal.returns-then-number-size-clause-refused
+returns-then-number-size-clause-refused g c =
     let s = c.args.self.now.state in
     inr (inr (
       refl,

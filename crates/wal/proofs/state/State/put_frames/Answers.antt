@@ -1,6 +1,6 @@
 use Rattle.std.proofs.Common.{◌∙◌, ap, refl, ◌++◌, length, drop, ◌-◌, arith, length-take}
 use Rattle.walframe.specs.Log.{frame_sum, frame_bytes}
-use Rattle.walframe.specs.declared.framing.FrameHeader.{FrameHeader}
+use Rattle.walframe.specs.declared.frame.FrameHeader.{FrameHeader}
 use Rattle.wal.proofs.CommitLemmas.{put_step}
 use Rattle.wal.proofs.state.State.put_frames.Goals as goal
 

@@ -1,5 +1,5 @@
 use Rattle.std.proofs.Common.{◌≡◌, ◌++◌, ◌<◌, ◌≤◌, length}
-use Rattle.walframe.specs.Written.{written, sum_behind, SaltsFit}
+use Rattle.walframe.specs.Written.{written, sum_after, SaltsFit}
 use Rattle.wal.specs.Pages.{framed}
 use Rattle.wal.proofs.state.State.put_frames.Given as goal
 
@@ -8,7 +8,7 @@ invariant-pages l = record {
   bytes : l.bytes.items ++ written l.self.header l.sum (framed l.left l.size) ≡ l.fn.bytes.items ++ written l.self.header l.self.sum (framed l.pages l.size);
   fits : length l.left < length l.pages → SaltsFit l.self.header.salts;
   within : length l.left ≤ length l.pages;
-  sum : sum_behind l.self.header l.sum (framed l.left l.size) ≡ sum_behind l.self.header l.self.sum (framed l.pages l.size);
+  sum : sum_after l.self.header l.sum (framed l.left l.size) ≡ sum_after l.self.header l.self.sum (framed l.pages l.size);
 }
 
 abbrev pub decreases-pages : goal.decreases-pages

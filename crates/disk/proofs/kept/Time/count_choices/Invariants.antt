@@ -1,7 +1,0 @@
-use Rattle.std.proofs.Common.{◌≡◌, ◌+◌, drop}
-use Rattle.disk.specs.Kept.{versions_of}
-use Rattle.disk.specs.Picked.{before_cut, choices}
-use Rattle.disk.proofs.kept.Time.count_choices.Given as goal
-
-abbrev pub invariant-behind : goal.invariant-behind
-invariant-behind l = choices (versions_of l.self) l.from ≡ l.at + before_cut (drop l.at (versions_of l.self))

@@ -1,0 +1,82 @@
+-- What is left of files by a crash is opened as a database that was committed.
+use Rattle.std.proofs.Common.{inl, inr, refl, sym, ap, subst, ◌∙◌, ℕ, List, [], ◌++◌, append-nil}
+use Rattle.std.proofs.lemmas.Bool.{false≢true}
+use Rattle.disk.specs.File.{File, Version}
+use Rattle.disk.specs.declared.device.Disk.{Ghosts}
+use Rattle.disk.proofs.Moments.{left_more, meets_db_moment, meets_log_moment}
+use Rattle.catalog.specs.Database.{Database}
+use Rattle.wal.proofs.Chance.{chance_more}
+use Rattle.session.specs.Crashes.{MayShow}
+use Rattle.session.specs.Holding.{LeaveHeld}
+use Rattle.engine.specs.Creating.{LeavesBlankOrCreated}
+use Rattle.engine.specs.Opening.{LeavesOpened}
+use Rattle.engine.specs.Promises.{AreFoundAgain, CrashKeepsCommits, HoldsEarlier, IsTrueEarlier, RepresentedFilesHold}
+use Rattle.engine.specs.declared.opening.Engine.{Engine}
+use Rattle.engine.proofs.HeldOpening.{held_as}
+
+-- ---- fewer versions
+
+pub held_earlier : (May : Database → Type 0) → IsTrueEarlier (LeaveHeld May)
+held_earlier May dbs more_dbs logs more_logs held db log left_db left_log chance =
+    held db log (left_more dbs more_dbs db left_db) (left_more logs more_logs log left_log) (chance_more logs more_logs log chance)
+
+opened_earlier : (db log : File) → IsTrueEarlier (LeavesOpened db log)
+opened_earlier db log dbs more_dbs logs more_logs (inl before) = inl (λ d l left_db left_log. before d l (left_more dbs more_dbs d left_db) (left_more logs more_logs l left_log))
+opened_earlier db log dbs more_dbs logs more_logs (inr cut) = inr (record {
+  db_read = λ c left. cut.db_read c (left_more dbs more_dbs c left);
+  page_size = cut.page_size;
+  headed = cut.headed;
+  frames = cut.frames;
+  read = cut.read;
+  left = λ c left. cut.left c (left_more logs more_logs c left);
+})
+
+created_earlier : (page_size : ℕ) → IsTrueEarlier (LeavesBlankOrCreated page_size)
+created_earlier page_size dbs more_dbs logs more_logs leaves db log left_db left_log = leaves db log (left_more dbs more_dbs db left_db) (left_more logs more_logs log left_log)
+
+pub all_hold_earlier : HoldsEarlier
+all_hold_earlier = record { in_step = λ before after. held_earlier (MayShow before after); in_opening = opened_earlier; in_creating = created_earlier }
+
+-- ---- each moment
+
+module _ (May : Database → Type 0) where
+  fewer_logs : (d l more : List Version) → LeaveHeld May d (l ++ more) → LeaveHeld May d l
+  fewer_logs d l more held = held_earlier May d [] l more (subst (λ (vs : List Version). LeaveHeld May vs (l ++ more)) (sym (append-nil d)) held)
+
+  fewer_dbs : (d l more : List Version) → LeaveHeld May (d ++ more) l → LeaveHeld May d l
+  fewer_dbs d l more held = held_earlier May d more l [] (subst (λ (vs : List Version). LeaveHeld May (d ++ more) vs) (sym (append-nil l)) held)
+
+module _ {D : Type 0} {g : Ghosts D} where
+  pub found_again : (engine : Engine D g) (May : Database → Type 0) (dbs logs : List Version) → LeaveHeld May dbs logs → AreFoundAgain engine May dbs logs
+  found_again engine May dbs logs held db log left_db left_log chance =
+      let is = held db log left_db left_log chance in
+      record {
+        database = is.0;
+        may = is.1;
+        held = is.2;
+        opens = λ d l result told_db told_log same_db same_log opens.
+            opens is.0 told_db told_log (held_as db log (g.file d).content (g.file l).content is.0 (ap (λ (f : File). f.content) same_db) (ap (λ (f : File). f.content) same_log) is.2);
+      }
+
+  pub crash_keeps : (old new : Engine D g) → CrashKeepsCommits old new
+  crash_keeps old new m connection text reply to =
+      let May = MayShow m to.next in
+      record {
+        of_db = λ dbs is.
+            let met = meets_db_moment (LeaveHeld May) (fewer_dbs May) _ _ _ _ to.crash dbs is in
+            (met.0, met.1, found_again old May dbs met.0 met.2);
+        of_log = λ logs is.
+            let met = meets_log_moment (LeaveHeld May) (fewer_logs May) _ _ _ _ to.crash logs is in
+            (met.0, met.1, found_again old May met.0 logs met.2);
+      }
+
+  pub represented_hold : (engine : Engine D g) → RepresentedFilesHold engine
+  represented_hold engine m (inl (stopped, failed, left)) on = absurd (false≢true (sym on ∙ failed))
+  represented_hold engine m (inr shown) on = record {
+    view = _;
+    db_is = refl;
+    commits = shown.settled.commits;
+    found = shown.settled.found;
+    tables = _;
+    stored = shown.stored;
+  }

@@ -1,0 +1,21 @@
+//! Laws of what a crash leaves.
+
+ghost use Rattle.engine.specs.Promises.{CrashKeepsCommits, HoldsEarlier, RepresentedFilesHold};
+
+use crate::opening::Engine;
+use disk::Disk;
+
+/// What a crash may leave only grows until the next sync: what is said of it at the end of that time is true before.
+pub fn held_earlier()
+    ensures { HoldsEarlier }
+{}
+
+/// The files of an engine that hasn't failed hold the newest committed database.
+pub fn represented_files_hold<D: Disk + Drop>(_engine: &Engine<D>)
+    ensures { RepresentedFilesHold _engine.now }
+{}
+
+/// Whenever a crash comes during a statement, opening what it leaves finds a database that was committed.
+pub fn crash_keeps_commits<D: Disk + Drop>(_old: &Engine<D>, _new: &Engine<D>)
+    ensures { CrashKeepsCommits _old.now _new.now }
+{}

@@ -1,0 +1,12 @@
+pub mod Changes
+pub mod Limits
+pub mod NewObjects
+pub mod Objects
+pub mod Parts
+pub mod Queries
+pub mod Readers
+pub mod Statements
+pub mod Tables
+pub mod Texts
+pub mod Triggers
+pub mod Within

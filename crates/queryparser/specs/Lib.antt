@@ -1,0 +1,2 @@
+pub mod ChangeReading
+pub mod QueryReading

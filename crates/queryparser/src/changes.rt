@@ -1,0 +1,153 @@
+//! Changes of rows.
+
+ghost use Rattle.expressions.specs.Reading.{ReadsBy, row_from};
+ghost use Rattle.grammar.specs.Readers as readers;
+ghost use Rattle.queryparser.specs.ChangeReading as spec;
+
+use crate::queries::query;
+use expressions::{
+    Read, Refusal, Rest, SourceTokens, after_comma, after_word, expression, mark, maybe_after,
+    maybe_name_row, name, row, unexpected, word,
+};
+use lexer::{Keyword, Kind};
+use sqlval::Many;
+use std::alloc::Global;
+use syntax::{Assignment, Change, Delete, Expr, Insert, InsertSource, Update};
+
+/// An INSERT, UPDATE or DELETE.
+#[tactic(auto, unfolding(grammar::specs::Readers::choose, grammar::specs::Readers::made, grammar::specs::Readers::preceded, crate::specs::ChangeReading::change_from))]
+pub fn change<'a>(alloc: Global, spelled: SourceTokens<'_>, tokens: Rest<'a>) -> Read<'a, Change>
+    ensures { ReadsBy spelled.now tokens.now result spec.change_from }
+{
+    if let Some(rest) = after_word(Keyword::Insert, tokens) {
+        let (insert, rest) = insert(alloc, spelled, rest)?;
+        return Ok((Change::Insert(insert), rest));
+    }
+    if let Some(rest) = after_word(Keyword::Update, tokens) {
+        let (update, rest) = update(alloc, spelled, rest)?;
+        return Ok((Change::Update(update), rest));
+    }
+    let (delete, rest) = delete(alloc, spelled, word(Keyword::Delete, tokens)?)?;
+    Ok((Change::Delete(delete), rest))
+}
+
+/// What stands after INSERT.
+#[tactic(auto, unfolding(grammar::specs::Readers::made, grammar::specs::Readers::both, grammar::specs::Readers::preceded, crate::specs::ChangeReading::insert_from))]
+fn insert<'a>(alloc: Global, spelled: SourceTokens<'_>, tokens: Rest<'a>) -> Read<'a, Insert>
+    ensures { ReadsBy spelled.now tokens.now result spec.insert_from }
+{
+    let (table, rest) = name(alloc, spelled, word(Keyword::Into, tokens)?)?;
+    let (columns, rest) = maybe_name_row(alloc, spelled, rest)?;
+    let (source, rest) = insert_source(alloc, spelled, rest)?;
+    Ok((
+        Insert {
+            table,
+            columns,
+            source,
+        },
+        rest,
+    ))
+}
+
+#[tactic(auto, unfolding(grammar::specs::Readers::choose, grammar::specs::Readers::made, crate::specs::ChangeReading::insert_source_from))]
+fn insert_source<'a>(
+    alloc: Global,
+    spelled: SourceTokens<'_>,
+    tokens: Rest<'a>,
+) -> Read<'a, InsertSource>
+    ensures { ReadsBy spelled.now tokens.now result spec.insert_source_from }
+{
+    match after_word(Keyword::Values, tokens) {
+        Some(rest) => {
+            let (rows, rest) = rows(alloc, spelled, rest)?;
+            Ok((InsertSource::Rows(rows), rest))
+        }
+        None => {
+            let (query, rest) = query(alloc, spelled, tokens)?;
+            Ok((InsertSource::Query(query), rest))
+        }
+    }
+}
+
+#[tactic(auto, unfolding(grammar::specs::Readers::listed_upto))]
+fn rows<'a>(
+    alloc: Global,
+    spelled: SourceTokens<'_>,
+    tokens: Rest<'a>,
+) -> Read<'a, Many<Many<Expr>>>
+    ensures { ReadsBy spelled.now tokens.now result (readers.listed row_from) }
+{
+    let mut rows = Many::new(alloc);
+    let mut rest = tokens;
+    'rows: for _ in 0..tokens.len() {
+        let (values, after) = row(alloc, spelled, rest)?;
+        rows.push(values)?;
+        match after_comma(after) {
+            Some(next) => rest = next,
+            None => return Ok((rows, after)),
+        }
+    }
+    Err(unexpected(rest))
+}
+
+/// What stands after UPDATE.
+#[tactic(auto, unfolding(grammar::specs::Readers::made, grammar::specs::Readers::both, grammar::specs::Readers::preceded, crate::specs::ChangeReading::update_from))]
+fn update<'a>(alloc: Global, spelled: SourceTokens<'_>, tokens: Rest<'a>) -> Read<'a, Update>
+    ensures { ReadsBy spelled.now tokens.now result spec.update_from }
+{
+    let (table, rest) = name(alloc, spelled, tokens)?;
+    let (assignments, rest) = assignments(alloc, spelled, word(Keyword::Set, rest)?)?;
+    let (condition, rest) = maybe_after(alloc, spelled, Keyword::Where, rest)?;
+    Ok((
+        Update {
+            table,
+            assignments,
+            condition,
+        },
+        rest,
+    ))
+}
+
+#[tactic(auto, unfolding(grammar::specs::Readers::listed_upto))]
+fn assignments<'a>(
+    alloc: Global,
+    spelled: SourceTokens<'_>,
+    tokens: Rest<'a>,
+) -> Read<'a, Many<Assignment>>
+    ensures { ReadsBy spelled.now tokens.now result (readers.listed spec.assignment_from) }
+{
+    let mut assignments = Many::new(alloc);
+    let mut rest = tokens;
+    'assignments: for _ in 0..tokens.len() {
+        let (given, after) = assignment(alloc, spelled, rest)?;
+        assignments.push(given)?;
+        match after_comma(after) {
+            Some(next) => rest = next,
+            None => return Ok((assignments, after)),
+        }
+    }
+    Err(unexpected(rest))
+}
+
+#[tactic(auto, unfolding(grammar::specs::Readers::made, grammar::specs::Readers::both, grammar::specs::Readers::after_mark, crate::specs::ChangeReading::assignment_from))]
+fn assignment<'a>(
+    alloc: Global,
+    spelled: SourceTokens<'_>,
+    tokens: Rest<'a>,
+) -> Read<'a, Assignment>
+    ensures { ReadsBy spelled.now tokens.now result spec.assignment_from }
+{
+    let (column, rest) = name(alloc, spelled, tokens)?;
+    let (value, rest) = expression(alloc, spelled, mark(Kind::Equal, rest)?)?;
+    Ok((Assignment { column, value }, rest))
+}
+
+/// What stands after DELETE.
+#[tactic(auto, unfolding(grammar::specs::Readers::made, grammar::specs::Readers::both, grammar::specs::Readers::preceded, crate::specs::ChangeReading::delete_from))]
+fn delete<'a>(alloc: Global, spelled: SourceTokens<'_>, tokens: Rest<'a>) -> Read<'a, Delete>
+    ensures { ReadsBy spelled.now tokens.now result spec.delete_from }
+{
+    let (table, rest) = name(alloc, spelled, word(Keyword::From, tokens)?)?;
+    let (condition, rest) = maybe_after(alloc, spelled, Keyword::Where, rest)?;
+    Ok((Delete { table, condition }, rest))
+}

@@ -1,0 +1,169 @@
+-- What a statement makes of the database that its connection works on, and what a commit makes of that (SQL As Understood By
+-- SQLite, "BEGIN TRANSACTION").
+use Rattle.std.specs.Prelude.{◌≡◌, ◌⊎◌, ◌≤◌, ⊤, true, ℕ, List, [], length, take, Result, Ok, Err, Contains}
+use Rattle.sqlval.specs.Refusals.{Refusal, refusal_of}
+use Rattle.sqlval.specs.declared.fault.Fault.{Fault}
+use Rattle.sqlval.specs.declared.fault.Fault.TheVariants as fault
+use Rattle.sqlval.specs.declared.fault.Feature.TheVariants.{RowSize}
+use Rattle.disk.specs.File.{IsContentLeft}
+use Rattle.disk.specs.declared.device.Disk.{Ghosts}
+use Rattle.syntax.specs.declared.change.Change.TheVariants as change
+use Rattle.syntax.specs.declared.create.NewObject.TheVariants as new
+use Rattle.syntax.specs.declared.statement.Statement.{Statement}
+use Rattle.syntax.specs.declared.statement.Statement.TheVariants as statement
+use Rattle.catalog.specs.Database.{Database}
+use Rattle.catalog.specs.Listed.{committed_in, tables_of}
+use Rattle.catalog.specs.declared.tables.Table.{Table}
+use Rattle.rowprog.specs.Rows.{Holds, TableRow}
+use Rattle.wal.specs.LogState.{db_of, log_of, state_of}
+use Rattle.wal.specs.Refusals.{IsWithin}
+use Rattle.wal.specs.declared.log.Log.{Log}
+use Rattle.pager.specs.Limits.{pages_of}
+use Rattle.pager.specs.Views.{IsViewPage, Tells, changes_of, newest_view, view_of}
+use Rattle.pager.specs.declared.writer.Writer.{Writer}
+use Rattle.trigger.specs.Binding.{IsFault}
+use Rattle.session.specs.Holding.{HoldThroughout, IsSettled}
+use Rattle.session.specs.ConnectionState.{files_of, has_failed_in}
+use Rattle.session.specs.Outcomes.{Sort, Writing, Work, Makes, IsRefused, Binds, sort}
+use Rattle.session.specs.Representation.{AreCommitted, IsWriter, ShowTheSame}
+use Rattle.session.specs.Stored.{LacksRoom, Stores}
+use Rattle.session.specs.declared.transactions.Connections.{Connections}
+use Rattle.session.specs.declared.transactions.Write.{Write}
+use Rattle.session.specs.declared.transactions.Write.TheVariants as write
+
+-- ---- what a statement comes to on a database
+
+abbrev work_by : Sort → Database → Work
+work_by (Writing work) db = work db
+work_by _ db = IsRefused []
+
+-- what a statement that may write comes to on a database
+abbrev pub change_made : Statement → Database → Work
+change_made s db = work_by (sort s) db
+
+-- the statement that a change is
+abbrev pub written : Write → Statement
+written (write.Insert i) = statement.Change (change.Insert i.now)
+written (write.CreateTable sql d) = statement.Create (record { sql = sql.now; object = new.Table d.now })
+
+-- its change isn't refused when it is bound, and it makes this database
+abbrev pub Reaches : Work → Database → Type 0
+Reaches (Makes db) made = db ≡ made
+Reaches (Binds over change work) made = ((r : Refusal) → IsFault over change r → ⊥) × Reaches work made
+Reaches _ made = ⊥
+
+-- it is refused so, when its change is bound or after that
+abbrev pub RefusesWith : Work → Refusal → Type 0
+RefusesWith (IsRefused rs) r = Contains rs r
+RefusesWith (Binds over change work) r = IsFault over change r ⊎ ((s : Refusal) → IsFault over change s → ⊥) × RefusesWith work r
+RefusesWith _ r = ⊥
+
+-- ---- a writer's pages
+
+module _ {D : Type 0} {g : Ghosts D} where
+  -- the writer's pages hold this database, whose tables the catalog lists
+  pub record CanApply (c : Connections D g) (w : Writer) (db : Database) : Type 0 where
+    pub told : Tells (files_of c)
+    pub settled : IsSettled (files_of c)
+    pub writer : IsWriter (files_of c) w
+    pub stored : Stores (view_of (files_of c) w) (tables_of c.catalog) db
+    pub listed : committed_in c.catalog ≤ length (tables_of c.catalog)
+
+  -- the writer sees this page where the table begins, and it holds these rows
+  pub record SeesRows (files : Log D g) (w : Writer) (table : Table) (page : List ℕ) (rows : List TableRow) : Type 0 where
+    pub told : Tells files
+    pub writer : IsWriter files w
+    pub there : IsViewPage (view_of files w) table.root page
+    pub holds : Holds page table.root (length table.columns.items) rows
+
+  -- the files were read at most, no transaction has begun or ended, and the committed tables are what they were
+  pub record KeepsCommitted (old new : Connections D g) : Type 0 where
+    pub files : ShowTheSame (files_of old) (files_of new)
+    pub failed : has_failed_in new ≡ has_failed_in old
+    pub transaction : new.transaction ≡ old.transaction
+    pub committed : committed_in new.catalog ≡ committed_in old.catalog
+    pub tables : take (committed_in old.catalog) (tables_of new.catalog) ≡ take (committed_in old.catalog) (tables_of old.catalog)
+
+  -- the statement has made a database of this one
+  pub record IsApplied (s : Statement) (old : Connections D g) (db : Database) (new : Connections D g) (left : Writer) : Type 0 where
+    pub kept : KeepsCommitted old new
+    pub made : Database
+    pub reaches : Reaches (change_made s db) made
+    pub applies : CanApply new left made
+
+  -- why a statement makes nothing: when out of memory or of pages, by a disk, as its work is refused, or because there is no room for what it makes
+  abbrev pub IsChangeRefusal : Statement → Connections D g → Writer → Database → Fault → Type 0
+  IsChangeRefusal s c writer db f =
+      (f ≡ fault.Memory) ⊎ (f ≡ fault.Full) ⊎ (f ≡ fault.Io) ⊎ RefusesWith (change_made s db) (refusal_of f)
+      ⊎ (f ≡ fault.Unsupported RowSize) × (made : Database) × Reaches (change_made s db) made × LacksRoom (view_of (files_of c) writer) (tables_of c.catalog) s made
+
+  -- the statement was refused, and its writer has what it had
+  pub record IsNotApplied (s : Statement) (old : Connections D g) (writer : Writer) (db : Database) (new : Connections D g) (left : Writer) (f : Fault) : Type 0 where
+    pub kept : KeepsCommitted old new
+    pub tables : tables_of new.catalog ≡ tables_of old.catalog
+    pub applies : CanApply new left db
+    pub why : IsChangeRefusal s old writer db f
+
+  -- what a statement's write has come to
+  abbrev pub Applies : Statement → Connections D g → Writer → Database → Result ⊤ Fault → Connections D g → Writer → Type 0
+  Applies s old writer db (Ok done) new left = IsApplied s old db new left
+  Applies s old writer db (Err f) new left = IsNotApplied s old writer db new left f
+
+  -- ---- a commit
+
+  -- the database is the newest committed one, and all its tables are committed
+  pub record CommitsDatabase (old : Connections D g) (db : Database) (new : Connections D g) : Type 0 where
+    pub told : Tells (files_of new)
+    pub settled : IsSettled (files_of new)
+    pub failed : has_failed_in new ≡ has_failed_in old
+    pub transaction : new.transaction ≡ old.transaction
+    pub tables : tables_of new.catalog ≡ tables_of old.catalog
+    pub all : AreCommitted new.catalog
+    pub stored : Stores (newest_view (files_of new)) (tables_of new.catalog) db
+
+  -- At each moment of a commit a crash leaves the database that was the newest before it, or this one.
+  abbrev pub HoldsEither : Connections D g → Database → Connections D g → Type 0
+  HoldsEither old db new =
+      (was : Database) → Stores (newest_view (files_of old)) (take (committed_in old.catalog) (tables_of old.catalog)) was → HoldThroughout (λ d. (d ≡ was) ⊎ (d ≡ db)) (files_of old) (files_of new)
+
+  -- a call of a disk has failed, so that it is open which of the two the files hold
+  pub record IsInDoubt (old : Connections D g) (db : Database) (new : Connections D g) (f : Fault) : Type 0 where
+    pub io : f ≡ fault.Io
+    pub failed : has_failed_in new ≡ true
+    pub held : HoldsEither old db new
+    pub db_left : IsContentLeft (g.file (db_of (files_of new)))
+    pub log_left : IsContentLeft (g.file (log_of (files_of new)))
+
+  -- what a writer's commit would write is past the limits of the log or of the database
+  abbrev pub IsPast : Log D g → Writer → Type 0
+  IsPast files writer = IsWithin (state_of files) (length (changes_of writer)) (pages_of writer) → ⊥
+
+  -- why nothing is committed: when out of memory, or past the limits
+  abbrev pub IsCommitCause : Log D g → Writer → Fault → Type 0
+  IsCommitCause files writer f = (f ≡ fault.Memory) ⊎ (f ≡ fault.Full) × IsPast files writer
+
+  -- nothing is committed, and the writer may commit later
+  pub record IsUncommitted (old : Connections D g) (writer : Writer) (db : Database) (new : Connections D g) (left : Writer) (f : Fault) : Type 0 where
+    pub why : IsCommitCause (files_of old) writer f
+    pub kept : KeepsCommitted old new
+    pub tables : tables_of new.catalog ≡ tables_of old.catalog
+    pub applies : CanApply new left db
+
+  -- what a commit has come to; after a failed call of a disk nothing more is supported
+  abbrev pub CommitsChanges : Connections D g → Writer → Database → Result ⊤ Fault → Connections D g → Writer → Type 0
+  CommitsChanges old writer db (Ok done) new left = CommitsDatabase old db new × HoldsEither old db new
+  CommitsChanges old writer db (Err f) new left = IsInDoubt old db new f ⊎ IsUncommitted old writer db new left f
+
+  -- nothing is committed, and of the tables the committed ones are left
+  pub record IsDropped (old : Connections D g) (writer : Writer) (new : Connections D g) (f : Fault) : Type 0 where
+    pub why : IsCommitCause (files_of old) writer f
+    pub files : ShowTheSame (files_of old) (files_of new)
+    pub failed : has_failed_in new ≡ has_failed_in old
+    pub transaction : new.transaction ≡ old.transaction
+    pub committed : committed_in new.catalog ≡ committed_in old.catalog
+    pub tables : tables_of new.catalog ≡ take (committed_in old.catalog) (tables_of old.catalog)
+
+  -- what the commit of a statement of its own has come to
+  abbrev pub EndsAlone : Connections D g → Writer → Database → Result ⊤ Fault → Connections D g → Type 0
+  EndsAlone old writer db (Ok done) new = CommitsDatabase old db new × HoldsEither old db new
+  EndsAlone old writer db (Err f) new = IsInDoubt old db new f ⊎ IsDropped old writer new f

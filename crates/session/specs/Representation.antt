@@ -1,0 +1,176 @@
+-- Which machine the connections show.
+use Rattle.std.specs.Prelude.{◌≡◌, ◌⊎◌, ◌<◌, ◌≤◌, ⊤, ℕ, Bool, true, false, List, [], ◌∷◌, length, map, take, None, Result, Ok, Err, Vec, Contains}
+use Rattle.std.specs.declared.alloc.Global.{Global}
+use Rattle.smallvec.specs.SmallVec.{SmallVec}
+use Rattle.sqlval.specs.Refusals.{Answer, refusal_of}
+use Rattle.sqlval.specs.declared.fault.Fault.{Fault}
+use Rattle.sqlval.specs.declared.fault.Fault.TheVariants as fault
+use Rattle.sqlval.specs.declared.value.Value.{Value}
+use Rattle.std.specs.List.{AllByRecursion}
+use Rattle.disk.specs.declared.device.Disk.{Ghosts}
+use Rattle.syntax.specs.declared.statement.Statement.{Statement}
+use Rattle.wal.specs.declared.log.Log.{Log}
+use Rattle.wal.specs.declared.log.Snapshot.{Snapshot}
+use Rattle.wal.specs.LogState.{db_of, state_of, log_of, seen_by, size_of}
+use Rattle.catalog.specs.Listed.{committed_in, tables_of}
+use Rattle.catalog.specs.declared.tables.Catalog.{Catalog}
+use Rattle.catalog.specs.Database.{Database}
+use Rattle.bind.specs.Checked.{Checked, Meant, faults}
+use Rattle.rowprog.specs.Rows.{values_of}
+use Rattle.wal.specs.Laws.{IsNotAmong}
+use Rattle.pager.specs.Limits.{page_size_of, pages_of}
+use Rattle.pager.specs.Views.{View, Tells, changes_of, newest_view, view_at, view_of}
+use Rattle.pager.specs.Writers.{IsConsistent, snapshot_of}
+use Rattle.pager.specs.declared.writer.Writer.{Writer}
+use Rattle.session.specs.Supported.{StepSoFar}
+use Rattle.session.specs.Holding.{HoldThroughout, IsLeftBy, IsSettled}
+use Rattle.session.specs.ConnectionState.{files_of, has_failed_in}
+use Rattle.session.specs.Machine.{Machine, Connection, Idle, InTransactionOf, NoSnapshot, Reads, Writes, Reply, Rows, Refused, last_place, newest}
+use Rattle.session.specs.Crashes.{MayShow}
+use Rattle.session.specs.Stored.{LacksRoom, Stores}
+use Rattle.session.specs.declared.transactions.Connections.{Connections}
+use Rattle.session.specs.declared.transactions.Transaction.{Transaction}
+use Rattle.session.specs.declared.transactions.Transaction.TheVariants as transaction
+
+-- the reply of a call that answers rows, and of one that answers none
+abbrev pub rows_reply : Result (Vec (SmallVec Value) Global) Fault → Reply
+rows_reply (Ok rows) = Rows (map values_of rows.items)
+rows_reply (Err fault) = Refused (refusal_of fault)
+
+abbrev pub done_reply : Result ⊤ Fault → Reply
+done_reply (Ok done) = Rows []
+done_reply (Err fault) = Refused (refusal_of fault)
+
+-- What a call answered is the answer, or its refusal; or memory was short, or a disk's call failed.
+abbrev pub AnswersOrFails : Answer (List (List Value)) → Result (Vec (SmallVec Value) Global) Fault → Type 0
+AnswersOrFails answer (Ok rows) = answer ≡ Ok (map values_of rows.items)
+AnswersOrFails answer (Err f) = (f ≡ fault.Memory) ⊎ (f ≡ fault.Io) ⊎ answer ≡ Err (refusal_of f)
+
+-- What a call answered of a query is what reading it comes to, or one of its refusals; or memory was short, or a disk's call failed.
+abbrev pub AnswersRead : Checked (Answer (List (List Value))) → Result (Vec (SmallVec Value) Global) Fault → Type 0
+AnswersRead read (Ok rows) = read ≡ Meant (Ok (map values_of rows.items)) []
+AnswersRead read (Err f) = (f ≡ fault.Memory) ⊎ (f ≡ fault.Io) ⊎ Contains (faults read) (refusal_of f) ⊎ read ≡ Meant (Err (refusal_of f)) []
+
+-- there is no transaction
+abbrev pub is_idle : Transaction → Bool
+is_idle transaction.Idle = true
+is_idle _ = false
+
+-- it has neither read nor written yet
+abbrev pub is_begun : Transaction → Bool
+is_begun transaction.Begun = true
+is_begun _ = false
+
+-- it goes on, and hasn't written yet
+abbrev pub is_reading : Transaction → Bool
+is_reading transaction.Begun = true
+is_reading (transaction.Reading snapshot) = true
+is_reading _ = false
+
+-- no table waits to be committed
+abbrev pub AreCommitted : Catalog → Type 0
+AreCommitted catalog = committed_in catalog ≡ length (tables_of catalog)
+
+module _ {D : Type 0} {g : Ghosts D} where
+  -- the snapshot is of the newest commit
+  pub record IsNewest (files : Log D g) (snapshot : Snapshot) : Type 0 where
+    pub seen : seen_by snapshot ≡ (state_of files).frames
+    pub sized : size_of snapshot ≡ (state_of files).size
+
+  -- the writer's changes can be committed over the newest commit
+  pub record IsWriter (files : Log D g) (writer : Writer) : Type 0 where
+    pub newest : IsNewest files (snapshot_of writer)
+    pub whole : IsConsistent writer
+    pub page_size : page_size_of writer ≡ (state_of files).page_size
+    -- each page past the snapshot's size is one of its changes
+    pub grown : (number : ℕ) → (state_of files).size < number → number ≤ pages_of writer → IsNotAmong (changes_of writer) number → ⊥
+
+  -- How far the transaction of the first connection has come, where this is the place of the newest commit. It alone is supported so
+  -- far, so that commit is what it reads.
+  abbrev pub IsTransaction : Log D g → Catalog → ℕ → Transaction → Connection → Type 0
+  IsTransaction files catalog last transaction.Idle k = (k ≡ Idle) × AreCommitted catalog
+  IsTransaction files catalog last transaction.Begun k = (k ≡ InTransactionOf false [] NoSnapshot) × AreCommitted catalog
+  IsTransaction files catalog last (transaction.Reading snapshot) k = (k ≡ InTransactionOf false [] (Reads last)) × AreCommitted catalog × IsNewest files snapshot
+  IsTransaction files catalog last (transaction.Writing writer) k =
+      (db : Database) × (k ≡ InTransactionOf false [] (Writes last db)) × IsWriter files writer × Stores (view_of files writer) (tables_of catalog) db
+
+  -- The files hold the newest of the committed databases, the catalog lists its tables, and the first connection is where its
+  -- transaction is.
+  pub record RepresentsRunning (c : Connections D g) (m : Machine) : Type 0 where
+    pub running : m.failed ≡ false
+    pub sure : m.in_doubt ≡ None
+    pub whole : has_failed_in c ≡ false
+    pub told : Tells (files_of c)
+    pub settled : IsSettled (files_of c)
+    pub some : 1 ≤ length m.history
+    pub listed : committed_in c.catalog ≤ length (tables_of c.catalog)
+    pub stored : Stores (newest_view (files_of c)) (take (committed_in c.catalog) (tables_of c.catalog)) (newest m)
+    pub first : Connection
+    pub others : List Connection
+    pub connections : m.connections ≡ first ∷ others
+    pub idle : AllByRecursion (λ k. k ≡ Idle) others
+    pub transaction : IsTransaction (files_of c) c.catalog (last_place m) c.transaction first
+
+  -- the connections with another transaction of the first
+  abbrev pub with_transaction : Connections D g → Transaction → Connections D g
+  with_transaction c t = record c { transaction = t }
+
+  -- after a failed commit nothing more is shown than that, and what is left of the files holds a database that the machine may show
+  abbrev pub Represents : Connections D g → Machine → Type 0
+  Represents c m = (has_failed_in c ≡ true) × (m.failed ≡ true) × IsLeftBy (files_of c) m ⊎ RepresentsRunning c m
+
+  -- what the first connection sees before a statement
+  abbrev pub seen_in : Transaction → Log D g → View
+  seen_in (transaction.Writing writer) files = view_of files writer
+  seen_in _ files = newest_view files
+
+  -- the databases that a statement would leave and that find no room, where the first connection sees these pages
+  abbrev pub FindsNoRoom : Connections D g → Statement → Database → Type 0
+  FindsNoRoom c = LacksRoom (seen_in c.transaction (files_of c)) (tables_of c.catalog)
+
+  -- This is a step from a machine to one that is shown after it, and at each moment of it a crash leaves a database that they may show.
+  pub record StepsTo (old : Connections D g) (m : Machine) (connection : ℕ) (statement : Statement) (reply : Reply) (new : Connections D g) : Type 0 where
+    pub next : Machine
+    pub step : StepSoFar (FindsNoRoom old statement) m connection statement reply next
+    pub shown : Represents new next
+    pub crash : HoldThroughout (MayShow m next) (files_of old) (files_of new)
+
+  -- From each machine that was shown it is a step, and the machine after it is shown.
+  abbrev pub Steps : Connections D g → ℕ → Statement → Reply → Connections D g → Type 0
+  Steps old connection statement reply new = (m : Machine) → Represents old m → StepsTo old m connection statement reply new
+
+  -- the same of the first connection, where no commit has failed
+  abbrev pub StepsOn : Connections D g → Statement → Reply → Connections D g → Type 0
+  StepsOn old statement reply new = (m : Machine) → RepresentsRunning old m → StepsTo old m 1 statement reply new
+
+  -- the files were read at most: they show what they showed
+  pub record ShowTheSame (old new : Log D g) : Type 0 where
+    pub told : Tells new
+    pub known : state_of new ≡ state_of old
+    pub newest : newest_view new ≡ newest_view old
+    pub at : (snapshot : Snapshot) → view_at new snapshot ≡ view_at old snapshot
+    pub db_file : g.file (db_of new) ≡ g.file (db_of old)
+    pub log_file : g.file (log_of new) ≡ g.file (log_of old)
+
+  -- nothing but the files has changed, and these were read at most
+  pub record OnlyReads (old new : Connections D g) : Type 0 where
+    pub files : Tells (files_of old) → ShowTheSame (files_of old) (files_of new)
+    pub failed : has_failed_in new ≡ has_failed_in old
+    pub catalog : new.catalog ≡ old.catalog
+    pub transaction : new.transaction ≡ old.transaction
+
+  -- a transaction that had none has the newest snapshot now, and nothing else has changed
+  pub record StartsReading (old new : Connections D g) : Type 0 where
+    pub files : files_of new ≡ files_of old
+    pub failed : has_failed_in new ≡ has_failed_in old
+    pub catalog : new.catalog ≡ old.catalog
+    pub begun : is_begun old.transaction ≡ true → (snapshot : Snapshot) × (new.transaction ≡ transaction.Reading snapshot) × IsNewest (files_of old) snapshot
+    pub other : is_begun old.transaction ≡ false → new.transaction ≡ old.transaction
+
+  -- the transaction is given up, and with it the tables that it made
+  pub record IsGivenUp (old new : Connections D g) : Type 0 where
+    pub files : files_of new ≡ files_of old
+    pub failed : has_failed_in new ≡ has_failed_in old
+    pub idle : new.transaction ≡ transaction.Idle
+    pub committed : committed_in new.catalog ≡ committed_in old.catalog
+    pub tables : tables_of new.catalog ≡ take (committed_in old.catalog) (tables_of old.catalog)

@@ -1,0 +1,2 @@
+pub mod IndexReading
+pub mod TableReading

@@ -1,0 +1,112 @@
+//! Indexes.
+
+ghost use Rattle.std.specs.Prelude.{List};
+ghost use Rattle.lexer.specs.declared.keyword.Keyword.TheVariants as keyword;
+ghost use Rattle.lexer.specs.declared.token.Token.{Token as Spelling};
+ghost use Rattle.expressions.specs.Reading.{ReadsBy, name_from};
+ghost use Rattle.grammar.specs.Readers as readers;
+ghost use Rattle.tableparser.specs.IndexReading as spec;
+
+use expressions::{
+    Read, Refusal, Rest, SourceTokens, after_comma, after_word, mark, name, unexpected, within,
+    word,
+};
+use lexer::{Keyword, Kind};
+use sqlval::limits::MAX_COLUMNS;
+use sqlval::{Many, Name};
+use std::alloc::Global;
+use syntax::{IndexColumn, IndexDefinition};
+
+/// An index, after CREATE.
+#[tactic(auto, unfolding(grammar::specs::Readers::made, grammar::specs::Readers::both, grammar::specs::Readers::preceded, grammar::specs::Readers::after_mark, grammar::specs::Readers::before_mark, grammar::specs::Readers::limited, crate::specs::IndexReading::index_from))]
+pub fn index<'a>(
+    alloc: Global,
+    spelled: SourceTokens<'_>,
+    tokens: Rest<'a>,
+) -> Read<'a, IndexDefinition>
+    ensures { ReadsBy spelled.now tokens.now result spec.index_from }
+{
+    let (is_unique, rest) = unique(tokens)?;
+    let (own, rest) = name(alloc, spelled, word(Keyword::Index, rest)?)?;
+    let (table, rest) = name(alloc, spelled, word(Keyword::On, rest)?)?;
+    let (columns, rest) = index_columns(alloc, spelled, mark(Kind::LeftParen, rest)?)?;
+    within(columns.len(), MAX_COLUMNS)?;
+    let rest = mark(Kind::RightParen, rest)?;
+    Ok((
+        IndexDefinition {
+            is_unique,
+            name: own,
+            table,
+            columns,
+        },
+        rest,
+    ))
+}
+
+#[tactic(auto, unfolding(grammar::specs::Readers::choose, grammar::specs::Readers::yields, crate::specs::IndexReading::unique_from))]
+fn unique<'a>(tokens: Rest<'a>) -> Read<'a, bool>
+    ensures { (whole : List Spelling) → ReadsBy whole tokens.now result spec.unique_from }
+{
+    match after_word(Keyword::Unique, tokens) {
+        Some(rest) => Ok((true, rest)),
+        None => Ok((false, tokens)),
+    }
+}
+
+#[tactic(auto, unfolding(grammar::specs::Readers::listed_upto))]
+fn index_columns<'a>(
+    alloc: Global,
+    spelled: SourceTokens<'_>,
+    tokens: Rest<'a>,
+) -> Read<'a, Many<IndexColumn>>
+    ensures { ReadsBy spelled.now tokens.now result (readers.listed spec.index_column_from) }
+{
+    let mut columns = Many::new(alloc);
+    let mut rest = tokens;
+    'columns: for _ in 0..tokens.len() {
+        let (column, after) = index_column(alloc, spelled, rest)?;
+        columns.push(column)?;
+        match after_comma(after) {
+            Some(next) => rest = next,
+            None => return Ok((columns, after)),
+        }
+    }
+    Err(unexpected(rest))
+}
+
+#[tactic(auto, unfolding(grammar::specs::Readers::made, grammar::specs::Readers::both, crate::specs::IndexReading::index_column_from))]
+fn index_column<'a>(
+    alloc: Global,
+    spelled: SourceTokens<'_>,
+    tokens: Rest<'a>,
+) -> Read<'a, IndexColumn>
+    ensures { ReadsBy spelled.now tokens.now result spec.index_column_from }
+{
+    let (own, rest) = name(alloc, spelled, tokens)?;
+    let (collation, rest) = collation(alloc, spelled, rest)?;
+    Ok((
+        IndexColumn {
+            name: own,
+            collation,
+        },
+        rest,
+    ))
+}
+
+/// A name after COLLATE, where COLLATE comes next.
+#[tactic(auto, unfolding(grammar::specs::Readers::maybe, grammar::specs::Readers::choose, grammar::specs::Readers::made, grammar::specs::Readers::yields))]
+fn collation<'a>(
+    alloc: Global,
+    spelled: SourceTokens<'_>,
+    tokens: Rest<'a>,
+) -> Read<'a, Option<Name>>
+    ensures { ReadsBy spelled.now tokens.now result (readers.maybe keyword.Collate name_from) }
+{
+    match after_word(Keyword::Collate, tokens) {
+        Some(rest) => {
+            let (collation, rest) = name(alloc, spelled, rest)?;
+            Ok((Some(collation), rest))
+        }
+        None => Ok((None, tokens)),
+    }
+}

@@ -1,0 +1,10 @@
+//! Tables and indexes, from tokens to their trees.
+#![tactic(auto)]
+
+mod indexes;
+mod laws;
+mod tables;
+
+pub use indexes::index;
+pub use laws::tables_are_exact;
+pub use tables::table;

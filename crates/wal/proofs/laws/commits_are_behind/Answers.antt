@@ -1,5 +1,0 @@
-use Rattle.wal.proofs.Views.{seen_grows}
-use Rattle.wal.proofs.laws.commits_are_behind.Goals as goal
-
-pub returns : goal.returns
-returns c = seen_grows

@@ -1,0 +1,73 @@
+#!/usr/bin/env python3
+"""Proves the libraries below a crate, side by side, those with the longest chain above them first.
+
+usage: tools/prove.py NAME     says how far it is on standard error; each library's log is crates/LIBRARY/out/build.log
+
+The work is that of the kit's own `rt`, whose functions this loads: what is proved is kept in out/, and what was proved
+before isn't proved again.
+"""
+import importlib.machinery
+import importlib.util
+import os
+import shutil
+import signal
+import sys
+import time
+
+sys.dont_write_bytecode = True
+ROOT = os.path.dirname(os.path.dirname(os.path.realpath(__file__)))
+
+
+def load_rt():
+    file = os.path.realpath(shutil.which("rt") or sys.exit("the command rt of the kit isn't there"))
+    loader = importlib.machinery.SourceFileLoader("rt", file)
+    made = importlib.util.module_from_spec(importlib.util.spec_from_loader("rt", loader))
+    loader.exec_module(made)
+    # (its first call sets a signal's handler, which only the main thread may)
+    made.rtlib.guarded()
+    signal.signal(signal.SIGINT, signal.SIG_DFL)
+    return made
+
+
+rt = load_rt()
+
+
+def crates():
+    """Returns the crates by name, lowest first."""
+    found = rt.rtlib.crates_below(f"{ROOT}/crates")
+    return {it.name: it for it in sorted(found, key=lambda it: len(it.below()))}
+
+
+def prove(libraries):
+    """Proves what isn't proved of these libraries, and returns whether all are."""
+    left = [it for it in libraries if not it.is_built()]
+    held = rt.rtlib.lock(libraries) if left else []
+    started = iter(range(1, len(left) + 1))
+
+    def work(crate, given, jobs):
+        if not all(given.get((it.name, "proof"), True) for it in crate.below()):
+            return False
+        print(f"crate {next(started)} of {len(left)}: {crate.name}", file=sys.stderr)
+        begun = time.monotonic()
+        os.makedirs(f"{crate.folder}/out", exist_ok=True)
+        with open(f"{crate.folder}/out/build.log", "w", errors="replace") as crate.out:
+            failed = crate.build_rlib(["--jobs", str(jobs)], anew=False)
+        took = f"after {time.monotonic() - begun:.0f} s"
+        print(f"{crate.name}: {f'not proved {took}: see {crate.out.name}' if failed else f'proved {took}'}", file=sys.stderr)
+        return not failed
+
+    names = {it.name for it in left}
+    tasks = {}
+    for crate in left:
+        waits = [(it.name, "proof") for it in crate.below() if it.name in names]
+        tasks[crate.name, "proof"] = (waits, crate.count(rb"\n"), rt.need(crate), lambda given, jobs, it=crate: work(it, given, jobs))
+    given = rt.in_lanes(tasks)
+    for it in held:
+        os.close(it)
+    return all(given.values())
+
+
+if __name__ == "__main__":
+    if len(sys.argv) != 2 or sys.argv[1] not in crates():
+        sys.exit(__doc__)
+    sys.exit(not prove(crates()[sys.argv[1]].below()))
