@@ -105,6 +105,10 @@ unfoldable pub name_from : List Symbol → Read (List ℕ)
 name_from (Name c ∷ ts) = Ok (c, ts)
 name_from ts = fail ts
 
+-- a name after a word
+abbrev pub name_after_from : Keyword → List Symbol → Read (List ℕ)
+name_after_from keyword ts = word_from keyword ts >>= name_from
+
 -- on after a comma
 abbrev pub next_name : (List (List ℕ) → List Symbol → Read (List (List ℕ))) → List (List ℕ) → List Symbol → Read (List (List ℕ))
 next_name go found (Plain k.Comma ∷ ts) = go found ts

@@ -1,10 +1,10 @@
 //! Expressions, a function for each kind of rule.
 
-ghost use Rattle.std.specs.Prelude.{◌≡◌, ◌<◌, ◌≤◌, ◌-◌, ◌++◌, List, Ok, Err, IfOk, option_map};
+ghost use Rattle.std.specs.Prelude.{◌≡◌, ◌<◌, ◌≤◌, ◌-◌, ◌++◌, List, length, Ok, Err, IfOk, option_map};
 ghost use Rattle.lexer.specs.declared.token.Token.{Token as Spelling};
 ghost use Rattle.syntax.specs.Tree.{Tree};
 ghost use Rattle.syntax.specs.View.{tree_of};
-ghost use Rattle.expressions.specs.declared.refusal.Refusal.TheVariants.{TooLong};
+ghost use Rattle.expressions.specs.declared.refusal.Refusal.TheVariants.{Syntax, TooLong};
 ghost use Rattle.expressions.specs.Depth.{deep};
 ghost use Rattle.expressions.specs.Exact.{Used};
 ghost use Rattle.expressions.specs.Follows.{EndsExpression};
@@ -18,7 +18,7 @@ ghost use Rattle.expressions.specs.Seen.{seen_all};
 
 use crate::literals::{blob_of, name_of, text_of};
 use crate::naming::name;
-use crate::refusal::{Read, Refusal, unexpected};
+use crate::refusal::{Read, Refusal, beside, unexpected};
 use crate::token::{Rest, SourceTokens, TokenAt, spelling};
 use crate::words::{after_word, mark, word};
 use crate::{keyword, kind};
@@ -101,7 +101,7 @@ pub fn enclosed<'a>(alloc: Global, spelled: SourceTokens<'_>, tokens: Rest<'a>) 
 {
     let rest = mark(Kind::LeftParen, tokens)?;
     let (found, rest) = shallow(alloc, spelled, rest)?;
-    Ok((found, mark(Kind::RightParen, rest)?))
+    beside(found, mark(Kind::RightParen, rest))
 }
 
 /// An expression after a word, where the word comes next.
@@ -147,6 +147,7 @@ fn over<'a>(room: usize, node: Node, depth: usize, rest: Rest<'a>) -> Read<'a, D
             rest,
         ))
     } else {
+        drop(node);
         Err(Refusal::TooLong)
     }
 }
@@ -321,6 +322,7 @@ fn tails<'a>(
         rest = after;
     }
     if goes_on(rank + 1, rest) {
+        drop(left);
         return Err(Refusal::TooLong);
     }
     Ok((left, rest))
@@ -353,13 +355,21 @@ fn tail<'a>(
             alloc, spelled, room, rank, true, left, rest,
         ),
         [keyword!(Not), keyword!(In), rest @ ..] => among(alloc, spelled, room, true, left, rest),
-        [keyword!(Not), rest @ ..] => Err(unexpected(rest)),
+        [keyword!(Not), rest @ ..] => stuck(left, rest),
         [token, rest @ ..] => match operator(token.kind) {
             Some(op) => operand(alloc, spelled, room, rank, op, left, rest),
-            None => Err(unexpected(tokens)),
+            None => stuck(left, tokens),
         },
-        [] => Err(Refusal::Syntax(0)),
+        [] => stuck(left, tokens),
     }
+}
+
+/// Lets go of an operand that nothing goes on with so.
+fn stuck<'a>(left: Deep, tokens: Rest<'a>) -> Read<'a, Deep>
+    ensures { result ≡ Err (Syntax (length tokens.now)) }
+{
+    drop(left);
+    Err(unexpected(tokens))
 }
 
 #[tactic(auto, unfolding(crate::specs::Reading::collate))]
@@ -372,9 +382,10 @@ fn collate<'a>(
 ) -> Read<'a, Deep>
     ensures { ReadsBy spelled.now tokens.now result (spec.collate (level_at (room - 1)) room left) }
 {
+    let depth = left.depth;
+    let left = Box::new(alloc, left.tree)?;
     let (collation, rest) = name(alloc, spelled, tokens)?;
-    let node = Node::Collate(Box::new(alloc, left.tree)?, collation);
-    over(room, node, left.depth, rest)
+    over(room, Node::Collate(left, collation), depth, rest)
 }
 
 #[tactic(auto, unfolding(crate::specs::Reading::operand))]
@@ -392,9 +403,10 @@ fn operand<'a>(
     requires rank { rank < 10 }
     ensures { ReadsBy spelled.now tokens.now result (spec.operand (level_at (room - 1)) room rank op left) }
 {
-    let (right, rest) = level(alloc, spelled, room - 1, rank, tokens)?;
-    let depth = left.depth.max(right.depth);
+    let left_depth = left.depth;
     let left = Box::new(alloc, left.tree)?;
+    let (right, rest) = level(alloc, spelled, room - 1, rank, tokens)?;
+    let depth = left_depth.max(right.depth);
     let node = Node::Binary(op, left, Box::new(alloc, right.tree)?);
     over(room, node, depth, rest)
 }
@@ -414,12 +426,14 @@ fn between<'a>(
     requires rank { rank < 10 }
     ensures { ReadsBy spelled.now tokens.now result (spec.between (level_at (room - 1)) room rank is_negated left) }
 {
+    let left_depth = left.depth;
+    let left = Box::new(alloc, left.tree)?;
     let (low, rest) = level(alloc, spelled, room - 1, rank, tokens)?;
+    let low_depth = low.depth;
+    let low = Box::new(alloc, low.tree)?;
     let rest = word(Keyword::And, rest)?;
     let (high, rest) = level(alloc, spelled, room - 1, rank, rest)?;
-    let depth = left.depth.max(low.depth.max(high.depth));
-    let left = Box::new(alloc, left.tree)?;
-    let low = Box::new(alloc, low.tree)?;
+    let depth = left_depth.max(low_depth.max(high.depth));
     let node = Node::Between(is_negated, left, low, Box::new(alloc, high.tree)?);
     over(room, node, depth, rest)
 }
@@ -437,11 +451,12 @@ fn among<'a>(
     requires some { 0 < room }
     ensures { ReadsBy spelled.now tokens.now result (spec.among (level_at (room - 1)) room is_negated left) }
 {
+    let left_depth = left.depth;
+    let left = Box::new(alloc, left.tree)?;
     let rest = mark(Kind::LeftParen, tokens)?;
     let (found, rest) = items(alloc, spelled, room, rest)?;
-    let depth = left.depth.max(found.depth);
-    let node = Node::In(is_negated, Box::new(alloc, left.tree)?, found.trees);
-    over(room, node, depth, rest)
+    let node = Node::In(is_negated, left, found.trees);
+    over(room, node, left_depth.max(found.depth), rest)
 }
 
 /// Expressions up to a closing parenthesis.
@@ -547,9 +562,10 @@ fn paren<'a>(
     ensures { ReadsBy spelled.now tokens.now result (spec.paren (level_at (room - 1)) room) }
 {
     let (inner, rest) = level(alloc, spelled, room - 1, OR, tokens)?;
+    let depth = inner.depth;
+    let inner = Box::new(alloc, inner.tree)?;
     let rest = mark(Kind::RightParen, rest)?;
-    let node = Node::Paren(Box::new(alloc, inner.tree)?);
-    over(room, node, inner.depth, rest)
+    over(room, Node::Paren(inner), depth, rest)
 }
 
 /// What goes on after a name: a column of a source, a function's arguments, or nothing.

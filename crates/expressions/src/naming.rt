@@ -7,8 +7,8 @@ use crate::kind;
 use crate::literals::name_of;
 use crate::refusal::{Read, Refusal, unexpected};
 use crate::token::{Rest, SourceTokens, spelling};
-use crate::words::mark;
-use lexer::Kind;
+use crate::words::{mark, word};
+use lexer::{Keyword, Kind};
 use sqlval::{Many, Name};
 use std::alloc::Global;
 
@@ -40,6 +40,18 @@ pub fn name<'a>(alloc: Global, spelled: SourceTokens<'_>, tokens: Rest<'a>) -> R
         }
         _ => Err(unexpected(tokens)),
     }
+}
+
+/// A name after a word.
+pub fn name_after<'a>(
+    alloc: Global,
+    spelled: SourceTokens<'_>,
+    keyword: Keyword,
+    tokens: Rest<'a>,
+) -> Read<'a, Name>
+    ensures { ReadsBy spelled.now tokens.now result (spec.name_after_from keyword) }
+{
+    name(alloc, spelled, word(keyword, tokens)?)
 }
 
 /// One or more names with commas between.

@@ -1,6 +1,6 @@
 //! Why tokens are refused.
 
-ghost use Rattle.std.specs.Prelude.{◌≡◌, ◌≤◌, length, nat_le, if◌then◌else◌, Ok, Err};
+ghost use Rattle.std.specs.Prelude.{◌≡◌, ◌≤◌, length, nat_le, if◌then◌else◌, Ok, Err, IfOk, IfErr};
 ghost use Rattle.expressions.specs.declared.refusal.Refusal.TheVariants.{Memory, Syntax, TooLong};
 
 use crate::token::Rest;
@@ -52,5 +52,16 @@ pub fn within(count: usize, limit: usize) -> Result<(), Refusal>
         Ok(())
     } else {
         Err(Refusal::TooLong)
+    }
+}
+
+/// What was read before a part, and the part. What was read is let go where the part is refused.
+pub fn beside<T: Drop, U>(found: T, part: Result<U, Refusal>) -> Result<(T, U), Refusal>
+    ensures kept { IfOk result (λ x. (x.0 ≡ found) × (part ≡ Ok x.1)) }
+    ensures refused { IfErr result (λ refusal. part ≡ Err refusal) }
+{
+    match part {
+        Ok(next) => Ok((found, next)),
+        Err(refusal) => Err(refusal),
     }
 }

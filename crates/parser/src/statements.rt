@@ -13,8 +13,8 @@ ghost use Rattle.parser.specs.StatementReading as spec;
 
 use crate::objects::new_object;
 use expressions::{
-    Read, Refusal, Rest, SourceTokens, after_paren, after_word, all, kind, mark, name, optional,
-    unexpected, word,
+    Read, Refusal, Rest, SourceTokens, after_paren, after_word, all, beside, kind, mark, name,
+    optional, unexpected, word,
 };
 use lexer::{Keyword, Kind};
 use queryparser::{change, selection};
@@ -30,10 +30,8 @@ pub fn whole(alloc: Global, text: &str, spelled: SourceTokens<'_>) -> Result<Sta
 {
     let tokens = all(alloc, spelled)?;
     let (statement, rest) = statement(alloc, text, spelled, &tokens)?;
-    match end(rest) {
-        Ok(()) => Ok(statement),
-        Err(refusal) => Err(refusal),
-    }
+    let (statement, ()) = beside(statement, end(rest))?;
+    Ok(statement)
 }
 
 /// Nothing but a closing semicolon may be left.
@@ -116,8 +114,8 @@ fn create<'a>(
     requires { Stand 0 text.now spelled.now }
     ensures { ReadsBy spelled.now tokens.now result (readers.made (spec.created (sql_of text.now spelled.now)) object_from) }
 {
-    let (object, rest) = new_object(alloc, spelled, tokens)?;
     let sql = body_text(alloc, text, spelled)?;
+    let (object, rest) = new_object(alloc, spelled, tokens)?;
     Ok((Statement::Create(Create { sql, object }), rest))
 }
 
@@ -296,7 +294,8 @@ fn given<'a>(alloc: Global, spelled: SourceTokens<'_>, tokens: Rest<'a>) -> Read
     ensures { ReadsBy spelled.now tokens.now result spec.given_from }
 {
     let (argument, rest) = name(alloc, spelled, tokens)?;
-    Ok((Some(argument), mark(Kind::RightParen, rest)?))
+    let (argument, rest) = beside(argument, mark(Kind::RightParen, rest))?;
+    Ok((Some(argument), rest))
 }
 
 /// The checkpoint that a PRAGMA of this name and argument is.

@@ -9,7 +9,8 @@ ghost use Rattle.parser.specs.ObjectReading as spec;
 ghost use Rattle.grammar.specs.Readers as readers;
 
 use expressions::{
-    Read, Refusal, Rest, SourceTokens, after_word, mark, maybe_after, name, names, unexpected, word,
+    Read, Refusal, Rest, SourceTokens, after_word, beside, mark, maybe_after, name, name_after,
+    names, unexpected, word,
 };
 use lexer::{Keyword, Kind};
 use queryparser::{change, selection};
@@ -29,10 +30,14 @@ pub fn trigger<'a>(
     let (own, rest) = name(alloc, spelled, tokens)?;
     let (time, rest) = time(rest)?;
     let (event, rest) = event(alloc, spelled, rest)?;
-    let (target, rest) = name(alloc, spelled, word(Keyword::On, rest)?)?;
-    let (_, rest) = each_row(rest)?;
-    let (condition, rest) = maybe_after(alloc, spelled, Keyword::When, rest)?;
-    let (body, rest) = body(alloc, spelled, word(Keyword::Begin, rest)?)?;
+    let (event, (target, rest)) = beside(event, name_after(alloc, spelled, Keyword::On, rest))?;
+    let (event, (_, rest)) = beside(event, each_row(rest))?;
+    let when = maybe_after(alloc, spelled, Keyword::When, rest);
+    let (event, (condition, rest)) = beside(event, when)?;
+    let ((event, condition), (body, rest)) = beside(
+        (event, condition),
+        steps(alloc, spelled, rest),
+    )?;
     Ok((
         TriggerDefinition {
             name: own,
@@ -103,6 +108,18 @@ fn each_row<'a>(tokens: Rest<'a>) -> Read<'a, bool>
     }
 }
 
+/// The statements after BEGIN, and END.
+#[tactic(auto, unfolding(grammar::specs::Readers::preceded))]
+fn steps<'a>(
+    alloc: Global,
+    spelled: SourceTokens<'_>,
+    tokens: Rest<'a>,
+) -> Read<'a, Many<TriggerStatement>>
+    ensures { ReadsBy spelled.now tokens.now result (readers.preceded keyword.Begin spec.body_from) }
+{
+    body(alloc, spelled, word(Keyword::Begin, tokens)?)
+}
+
 /// One or more statements, each with a semicolon after it, and END.
 #[tactic(auto, unfolding(crate::specs::ObjectReading::body_upto))]
 fn body<'a>(
@@ -135,7 +152,7 @@ fn body_statement<'a>(
     ensures { ReadsBy spelled.now tokens.now result (readers.before_mark kinds.Semicolon spec.program_from) }
 {
     let (statement, rest) = program(alloc, spelled, tokens)?;
-    Ok((statement, mark(Kind::Semicolon, rest)?))
+    beside(statement, mark(Kind::Semicolon, rest))
 }
 
 #[tactic(auto, unfolding(grammar::specs::Readers::choose, grammar::specs::Readers::made, crate::specs::ObjectReading::program_from))]

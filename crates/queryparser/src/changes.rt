@@ -7,7 +7,7 @@ ghost use Rattle.queryparser.specs.ChangeReading as spec;
 use crate::queries::query;
 use expressions::{
     Read, Refusal, Rest, SourceTokens, after_comma, after_word, expression, mark, maybe_after,
-    maybe_name_row, name, row, unexpected, word,
+    maybe_name_row, name, name_after, row, unexpected, word,
 };
 use lexer::{Keyword, Kind};
 use sqlval::Many;
@@ -20,33 +20,28 @@ pub fn change<'a>(alloc: Global, spelled: SourceTokens<'_>, tokens: Rest<'a>) ->
     ensures { ReadsBy spelled.now tokens.now result spec.change_from }
 {
     if let Some(rest) = after_word(Keyword::Insert, tokens) {
-        let (insert, rest) = insert(alloc, spelled, rest)?;
-        return Ok((Change::Insert(insert), rest));
+        return insert(alloc, spelled, rest);
     }
     if let Some(rest) = after_word(Keyword::Update, tokens) {
-        let (update, rest) = update(alloc, spelled, rest)?;
-        return Ok((Change::Update(update), rest));
+        return update(alloc, spelled, rest);
     }
-    let (delete, rest) = delete(alloc, spelled, word(Keyword::Delete, tokens)?)?;
-    Ok((Change::Delete(delete), rest))
+    delete(alloc, spelled, word(Keyword::Delete, tokens)?)
 }
 
 /// What stands after INSERT.
 #[tactic(auto, unfolding(grammar::specs::Readers::made, grammar::specs::Readers::both, grammar::specs::Readers::preceded, crate::specs::ChangeReading::insert_from))]
-fn insert<'a>(alloc: Global, spelled: SourceTokens<'_>, tokens: Rest<'a>) -> Read<'a, Insert>
-    ensures { ReadsBy spelled.now tokens.now result spec.insert_from }
+fn insert<'a>(alloc: Global, spelled: SourceTokens<'_>, tokens: Rest<'a>) -> Read<'a, Change>
+    ensures { ReadsBy spelled.now tokens.now result (readers.made Change.Insert spec.insert_from) }
 {
-    let (table, rest) = name(alloc, spelled, word(Keyword::Into, tokens)?)?;
+    let (table, rest) = name_after(alloc, spelled, Keyword::Into, tokens)?;
     let (columns, rest) = maybe_name_row(alloc, spelled, rest)?;
     let (source, rest) = insert_source(alloc, spelled, rest)?;
-    Ok((
-        Insert {
-            table,
-            columns,
-            source,
-        },
-        rest,
-    ))
+    let insert = Insert {
+        table,
+        columns,
+        source,
+    };
+    Ok((Change::Insert(insert), rest))
 }
 
 #[tactic(auto, unfolding(grammar::specs::Readers::choose, grammar::specs::Readers::made, crate::specs::ChangeReading::insert_source_from))]
@@ -92,20 +87,18 @@ fn rows<'a>(
 
 /// What stands after UPDATE.
 #[tactic(auto, unfolding(grammar::specs::Readers::made, grammar::specs::Readers::both, grammar::specs::Readers::preceded, crate::specs::ChangeReading::update_from))]
-fn update<'a>(alloc: Global, spelled: SourceTokens<'_>, tokens: Rest<'a>) -> Read<'a, Update>
-    ensures { ReadsBy spelled.now tokens.now result spec.update_from }
+fn update<'a>(alloc: Global, spelled: SourceTokens<'_>, tokens: Rest<'a>) -> Read<'a, Change>
+    ensures { ReadsBy spelled.now tokens.now result (readers.made Change.Update spec.update_from) }
 {
     let (table, rest) = name(alloc, spelled, tokens)?;
     let (assignments, rest) = assignments(alloc, spelled, word(Keyword::Set, rest)?)?;
     let (condition, rest) = maybe_after(alloc, spelled, Keyword::Where, rest)?;
-    Ok((
-        Update {
-            table,
-            assignments,
-            condition,
-        },
-        rest,
-    ))
+    let update = Update {
+        table,
+        assignments,
+        condition,
+    };
+    Ok((Change::Update(update), rest))
 }
 
 #[tactic(auto, unfolding(grammar::specs::Readers::listed_upto))]
@@ -144,10 +137,10 @@ fn assignment<'a>(
 
 /// What stands after DELETE.
 #[tactic(auto, unfolding(grammar::specs::Readers::made, grammar::specs::Readers::both, grammar::specs::Readers::preceded, crate::specs::ChangeReading::delete_from))]
-fn delete<'a>(alloc: Global, spelled: SourceTokens<'_>, tokens: Rest<'a>) -> Read<'a, Delete>
-    ensures { ReadsBy spelled.now tokens.now result spec.delete_from }
+fn delete<'a>(alloc: Global, spelled: SourceTokens<'_>, tokens: Rest<'a>) -> Read<'a, Change>
+    ensures { ReadsBy spelled.now tokens.now result (readers.made Change.Delete spec.delete_from) }
 {
-    let (table, rest) = name(alloc, spelled, word(Keyword::From, tokens)?)?;
+    let (table, rest) = name_after(alloc, spelled, Keyword::From, tokens)?;
     let (condition, rest) = maybe_after(alloc, spelled, Keyword::Where, rest)?;
-    Ok((Delete { table, condition }, rest))
+    Ok((Change::Delete(Delete { table, condition }), rest))
 }

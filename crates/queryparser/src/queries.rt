@@ -5,12 +5,13 @@ ghost use Rattle.lexer.specs.declared.keyword.Keyword.TheVariants as keyword;
 ghost use Rattle.lexer.specs.declared.token.Token.{Token as Spelling};
 ghost use Rattle.expressions.specs.Symbols.{seen};
 ghost use Rattle.expressions.specs.Reading.{ReadsBy, integer_from, name_from};
+ghost use Rattle.grammar.specs.Limits.{few_joins};
 ghost use Rattle.grammar.specs.Readers as readers;
 ghost use Rattle.queryparser.specs.QueryReading as spec;
 
 use expressions::{
-    Read, Refusal, Rest, SourceTokens, after_comma, after_word, expression, expressions, integer,
-    kind, maybe_after, maybe_name, name, optional, unexpected, within, word,
+    Read, Refusal, Rest, SourceTokens, after_comma, after_word, beside, expression, expressions,
+    integer, kind, maybe_after, maybe_name, name, optional, unexpected, within, word,
 };
 use lexer::{Keyword, Kind};
 use sqlval::limits::{MAX_COLUMNS, MAX_SOURCES};
@@ -35,9 +36,9 @@ pub fn selection<'a>(alloc: Global, spelled: SourceTokens<'_>, tokens: Rest<'a>)
     let (results, rest) = results(alloc, spelled, rest)?;
     let (from, rest) = from(alloc, spelled, rest)?;
     let (condition, rest) = maybe_after(alloc, spelled, Keyword::Where, rest)?;
-    let (groups, rest) = groups(alloc, spelled, rest)?;
-    let (order, rest) = order(alloc, spelled, rest)?;
-    let (limit, rest) = limit(rest)?;
+    let (before, (groups, rest)) = beside((from, condition), groups(alloc, spelled, rest))?;
+    let (before, (order, rest)) = beside(before, order(alloc, spelled, rest))?;
+    let ((from, condition), (limit, rest)) = beside(before, limit(rest))?;
     Ok((
         Query {
             is_distinct,
@@ -149,7 +150,7 @@ fn value<'a>(alloc: Global, spelled: SourceTokens<'_>, tokens: Rest<'a>) -> Read
     ensures { ReadsBy spelled.now tokens.now result spec.value_from }
 {
     let (value, rest) = expression(alloc, spelled, tokens)?;
-    let (alias, rest) = maybe_as(alloc, spelled, rest)?;
+    let (value, (alias, rest)) = beside(value, maybe_as(alloc, spelled, rest))?;
     Ok((ResultItem::Of(value, alias), rest))
 }
 
@@ -171,7 +172,7 @@ fn maybe_as<'a>(
     }
 }
 
-#[tactic(auto, unfolding(grammar::specs::Readers::maybe, grammar::specs::Readers::choose, grammar::specs::Readers::made, grammar::specs::Readers::both, grammar::specs::Readers::yields, grammar::specs::Readers::limited, crate::specs::QueryReading::sources_from))]
+#[tactic(auto, unfolding(grammar::specs::Readers::maybe, grammar::specs::Readers::choose, grammar::specs::Readers::made, grammar::specs::Readers::both, grammar::specs::Readers::yields, crate::specs::QueryReading::sources_from))]
 fn from<'a>(
     alloc: Global,
     spelled: SourceTokens<'_>,
@@ -183,9 +184,18 @@ fn from<'a>(
         return Ok((None, tokens));
     };
     let (first, rest) = source(alloc, spelled, rest)?;
-    let (joins, rest) = joins(alloc, spelled, rest)?;
-    within(joins.len(), MAX_SOURCES - 1)?;
+    let (joins, rest) = further(alloc, spelled, rest)?;
     Ok((Some(FromClause { first, joins }), rest))
+}
+
+/// The sources after the first.
+#[tactic(auto, unfolding(grammar::specs::Readers::limited))]
+fn further<'a>(alloc: Global, spelled: SourceTokens<'_>, tokens: Rest<'a>) -> Read<'a, Many<Join>>
+    ensures { ReadsBy spelled.now tokens.now result (readers.limited few_joins (readers.many spec.next_join_from)) }
+{
+    let (joins, rest) = joins(alloc, spelled, tokens)?;
+    within(joins.len(), MAX_SOURCES - 1)?;
+    Ok((joins, rest))
 }
 
 #[tactic(auto, unfolding(grammar::specs::Readers::made, grammar::specs::Readers::both, crate::specs::QueryReading::source_from))]
@@ -357,7 +367,7 @@ fn order_term<'a>(alloc: Global, spelled: SourceTokens<'_>, tokens: Rest<'a>) ->
     ensures { ReadsBy spelled.now tokens.now result spec.term_from }
 {
     let (expression, rest) = expression(alloc, spelled, tokens)?;
-    let (is_descending, rest) = direction(rest)?;
+    let (expression, (is_descending, rest)) = beside(expression, direction(rest))?;
     Ok((
         OrderTerm {
             expression,

@@ -2,14 +2,16 @@
 
 ghost use Rattle.std.specs.Prelude.{List};
 ghost use Rattle.lexer.specs.declared.keyword.Keyword.TheVariants as keyword;
+ghost use Rattle.lexer.specs.declared.token.Kind.TheVariants as kinds;
 ghost use Rattle.lexer.specs.declared.token.Token.{Token as Spelling};
 ghost use Rattle.expressions.specs.Reading.{ReadsBy, name_from};
+ghost use Rattle.grammar.specs.Limits.{few};
 ghost use Rattle.grammar.specs.Readers as readers;
 ghost use Rattle.tableparser.specs.IndexReading as spec;
 
 use expressions::{
-    Read, Refusal, Rest, SourceTokens, after_comma, after_word, mark, name, unexpected, within,
-    word,
+    Read, Refusal, Rest, SourceTokens, after_comma, after_word, beside, mark, name, name_after,
+    unexpected, within,
 };
 use lexer::{Keyword, Kind};
 use sqlval::limits::MAX_COLUMNS;
@@ -18,7 +20,7 @@ use std::alloc::Global;
 use syntax::{IndexColumn, IndexDefinition};
 
 /// An index, after CREATE.
-#[tactic(auto, unfolding(grammar::specs::Readers::made, grammar::specs::Readers::both, grammar::specs::Readers::preceded, grammar::specs::Readers::after_mark, grammar::specs::Readers::before_mark, grammar::specs::Readers::limited, crate::specs::IndexReading::index_from))]
+#[tactic(auto, unfolding(grammar::specs::Readers::made, grammar::specs::Readers::both, grammar::specs::Readers::preceded, crate::specs::IndexReading::index_from))]
 pub fn index<'a>(
     alloc: Global,
     spelled: SourceTokens<'_>,
@@ -27,11 +29,9 @@ pub fn index<'a>(
     ensures { ReadsBy spelled.now tokens.now result spec.index_from }
 {
     let (is_unique, rest) = unique(tokens)?;
-    let (own, rest) = name(alloc, spelled, word(Keyword::Index, rest)?)?;
-    let (table, rest) = name(alloc, spelled, word(Keyword::On, rest)?)?;
-    let (columns, rest) = index_columns(alloc, spelled, mark(Kind::LeftParen, rest)?)?;
-    within(columns.len(), MAX_COLUMNS)?;
-    let rest = mark(Kind::RightParen, rest)?;
+    let (own, rest) = name_after(alloc, spelled, Keyword::Index, rest)?;
+    let (table, rest) = name_after(alloc, spelled, Keyword::On, rest)?;
+    let (columns, rest) = column_row(alloc, spelled, rest)?;
     Ok((
         IndexDefinition {
             is_unique,
@@ -51,6 +51,32 @@ fn unique<'a>(tokens: Rest<'a>) -> Read<'a, bool>
         Some(rest) => Ok((true, rest)),
         None => Ok((false, tokens)),
     }
+}
+
+/// The columns in parentheses.
+#[tactic(auto, unfolding(grammar::specs::Readers::after_mark, grammar::specs::Readers::before_mark))]
+fn column_row<'a>(
+    alloc: Global,
+    spelled: SourceTokens<'_>,
+    tokens: Rest<'a>,
+) -> Read<'a, Many<IndexColumn>>
+    ensures { ReadsBy spelled.now tokens.now result (readers.after_mark kinds.LeftParen (readers.before_mark kinds.RightParen (readers.limited few (readers.listed spec.index_column_from)))) }
+{
+    let (columns, rest) = few_columns(alloc, spelled, mark(Kind::LeftParen, tokens)?)?;
+    beside(columns, mark(Kind::RightParen, rest))
+}
+
+#[tactic(auto, unfolding(grammar::specs::Readers::limited))]
+fn few_columns<'a>(
+    alloc: Global,
+    spelled: SourceTokens<'_>,
+    tokens: Rest<'a>,
+) -> Read<'a, Many<IndexColumn>>
+    ensures { ReadsBy spelled.now tokens.now result (readers.limited few (readers.listed spec.index_column_from)) }
+{
+    let (columns, rest) = index_columns(alloc, spelled, tokens)?;
+    within(columns.len(), MAX_COLUMNS)?;
+    Ok((columns, rest))
 }
 
 #[tactic(auto, unfolding(grammar::specs::Readers::listed_upto))]

@@ -1,16 +1,18 @@
 //! Tables with their columns and rules.
 
 ghost use Rattle.std.specs.Prelude.{◌≡◌, List, length, option_map};
+ghost use Rattle.lexer.specs.declared.token.Kind.TheVariants as kinds;
 ghost use Rattle.lexer.specs.declared.token.Token.{Token as Spelling};
 ghost use Rattle.expressions.specs.Symbols.{seen};
 ghost use Rattle.expressions.specs.Reading.{ReadsBy, maybe_name_from};
+ghost use Rattle.grammar.specs.Limits.{few};
 ghost use Rattle.grammar.specs.Readers as readers;
 ghost use Rattle.tableparser.specs.TableReading as spec;
 
 use expressions::{
-    Read, Refusal, Rest, SourceTokens, after_comma, after_paren, after_word, blob_of, enclosed,
-    integer, keyword, kind, mark, maybe_name, name, name_row, spelling, text_of, unexpected,
-    within, word,
+    Read, Refusal, Rest, SourceTokens, after_comma, after_paren, after_word, beside, blob_of,
+    enclosed, integer, keyword, kind, mark, maybe_name, name, name_row, spelling, text_of,
+    unexpected, within, word,
 };
 use lexer::{Keyword, Kind};
 use sqlval::limits::MAX_COLUMNS;
@@ -19,7 +21,7 @@ use std::alloc::Global;
 use syntax::{ColumnDefinition, ColumnRule, DeclaredType, TableDefinition, TableRule};
 
 /// A table, after CREATE TABLE.
-#[tactic(auto, unfolding(grammar::specs::Readers::made, grammar::specs::Readers::both, grammar::specs::Readers::after_mark, grammar::specs::Readers::before_mark, grammar::specs::Readers::limited, crate::specs::TableReading::table_from))]
+#[tactic(auto, unfolding(grammar::specs::Readers::made, grammar::specs::Readers::both, crate::specs::TableReading::table_from))]
 pub fn table<'a>(
     alloc: Global,
     spelled: SourceTokens<'_>,
@@ -28,10 +30,8 @@ pub fn table<'a>(
     ensures { ReadsBy spelled.now tokens.now result spec.table_from }
 {
     let (name, rest) = name(alloc, spelled, tokens)?;
-    let (columns, rest) = columns(alloc, spelled, mark(Kind::LeftParen, rest)?)?;
-    within(columns.len(), MAX_COLUMNS)?;
-    let (rules, rest) = table_rules(alloc, spelled, rest)?;
-    let rest = mark(Kind::RightParen, rest)?;
+    let (columns, rest) = few_columns(alloc, spelled, rest)?;
+    let (rules, rest) = last_rules(alloc, spelled, rest)?;
     Ok((
         TableDefinition {
             name,
@@ -40,6 +40,33 @@ pub fn table<'a>(
         },
         rest,
     ))
+}
+
+/// The columns after the open parenthesis.
+#[tactic(auto, unfolding(grammar::specs::Readers::after_mark, grammar::specs::Readers::limited))]
+fn few_columns<'a>(
+    alloc: Global,
+    spelled: SourceTokens<'_>,
+    tokens: Rest<'a>,
+) -> Read<'a, Many<ColumnDefinition>>
+    ensures { ReadsBy spelled.now tokens.now result (readers.after_mark kinds.LeftParen (readers.limited few spec.columns_from)) }
+{
+    let (columns, rest) = columns(alloc, spelled, mark(Kind::LeftParen, tokens)?)?;
+    within(columns.len(), MAX_COLUMNS)?;
+    Ok((columns, rest))
+}
+
+/// The rules up to the closing parenthesis.
+#[tactic(auto, unfolding(grammar::specs::Readers::before_mark))]
+fn last_rules<'a>(
+    alloc: Global,
+    spelled: SourceTokens<'_>,
+    tokens: Rest<'a>,
+) -> Read<'a, Many<TableRule>>
+    ensures { ReadsBy spelled.now tokens.now result (readers.before_mark kinds.RightParen (readers.many spec.next_rule_from)) }
+{
+    let (rules, rest) = table_rules(alloc, spelled, tokens)?;
+    beside(rules, mark(Kind::RightParen, rest))
 }
 
 /// One or more columns with commas between, up to a rule or the end.
@@ -300,13 +327,15 @@ fn column_rule<'a>(
     ensures { ReadsBy spelled.now tokens.now result spec.column_rule_from }
 {
     if let Some(rest) = after_word(Keyword::Primary, tokens) {
-        return Ok((Some(ColumnRule::PrimaryKey), word(Keyword::Key, rest)?));
+        let rest = word(Keyword::Key, rest)?;
+        return Ok((Some(ColumnRule::PrimaryKey), rest));
     }
     if let Some(rest) = after_word(Keyword::Unique, tokens) {
         return Ok((Some(ColumnRule::Unique), rest));
     }
     if let Some(rest) = after_word(Keyword::Not, tokens) {
-        return Ok((Some(ColumnRule::NotNull), word(Keyword::Null, rest)?));
+        let rest = word(Keyword::Null, rest)?;
+        return Ok((Some(ColumnRule::NotNull), rest));
     }
     if let Some(rest) = after_word(Keyword::Default, tokens) {
         let (value, rest) = signed(alloc, spelled, rest)?;
