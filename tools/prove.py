@@ -32,6 +32,11 @@ def load_rt():
 rt = load_rt()
 
 
+def say(text):
+    """Writes a line at once, so that those of other threads stand beside it and not in it."""
+    sys.stderr.write(f"{text}\n")
+
+
 def crates():
     """Returns the crates by name, lowest first."""
     found = rt.rtlib.crates_below(f"{ROOT}/crates")
@@ -47,13 +52,13 @@ def prove(libraries):
     def work(crate, given, jobs):
         if not all(given.get((it.name, "proof"), True) for it in crate.below()):
             return False
-        print(f"crate {next(started)} of {len(left)}: {crate.name}", file=sys.stderr)
+        say(f"crate {next(started)} of {len(left)}: {crate.name}")
         begun = time.monotonic()
         os.makedirs(f"{crate.folder}/out", exist_ok=True)
         with open(f"{crate.folder}/out/build.log", "w", errors="replace") as crate.out:
             failed = crate.build_rlib(["--jobs", str(jobs)], anew=False)
         took = f"after {time.monotonic() - begun:.0f} s"
-        print(f"{crate.name}: {f'not proved {took}: see {crate.out.name}' if failed else f'proved {took}'}", file=sys.stderr)
+        say(f"{crate.name}: {f'not proved {took}: see {crate.out.name}' if failed else f'proved {took}'}")
         return not failed
 
     names = {it.name for it in left}

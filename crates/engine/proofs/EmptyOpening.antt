@@ -129,8 +129,9 @@ created_hold page_size page served e = record {
     header = empty_of page_size;
     header_is = page_header_is page_size page e;
     sized = refl;
+    none_free = record { first = refl; count = refl };
     rows = [];
     single_leaf = page_is_single page_size page served e;
     tell = tt;
-  }) (small page_size 1 page_size served refl refl);
+  }) refl (small page_size 1 page_size served refl refl);
 }

@@ -1,6 +1,6 @@
 -- Files that hold a database are opened as holding it.
 use Rattle.sqlval.specs.PageSizes.{IsPageSize}
-use Rattle.std.proofs.Common.{◌≡◌, ◌⊎◌, ◌<◌, ◌+◌, ◌-◌, ◌^◌, ◌++◌, inl, inr, refl, sym, ap, subst, ◌∙◌, ℕ, zero, suc, Bool, List, [], ◌∷◌, length, map, arith}
+use Rattle.std.proofs.Common.{◌≤◌, ◌≡◌, ◌⊎◌, ◌<◌, ◌+◌, ◌-◌, ◌^◌, ◌++◌, inl, inr, refl, sym, ap, subst, ◌∙◌, ℕ, zero, suc, Bool, List, [], ◌∷◌, length, map, arith}
 use Rattle.std.specs.Prelude.{Option, Some, None, Result, Ok, Err, IsTrue, IsErrAnd}
 use Rattle.disk.specs.declared.device.Disk.{Ghosts}
 use Rattle.disk.specs.File.{IsSynced}
@@ -41,6 +41,7 @@ use Rattle.session.proofs.Settled.{still_settled}
 use Rattle.engine.specs.Opening.{StartsWith}
 use Rattle.sqlval.specs.Faults.{IsOrOutside, IsOutside}
 use Rattle.engine.proofs.Refusing.{open_why}
+use Rattle.loading.specs.FirstPage.{FindsDatabase}
 
 -- ---- a log's committed frames
 
@@ -71,6 +72,10 @@ heads_framed h log (suc n) = heads_more (framed_to h log n) (framed_at h log n) 
 heads_are : (header : Option LogHeader) (log : List ℕ) (n : ℕ) → heads_in (frames_under header log n) ≡ heads log header n
 heads_are None log n = refl
 heads_are (Some h) log n = heads_framed h log n
+
+few_frames : (header : Option LogHeader) (log : List ℕ) (n : ℕ) → length (frames_under header log n) ≤ n
+few_frames None log n = omega arith
+few_frames (Some h) log n = (let long = framed_len h log n in omega (arith, long))
 
 -- ---- contents that hold a database
 
@@ -208,6 +213,38 @@ module _ {D : Type 0} {g : Ghosts D} where
         settled = opened_settled files counted held.view same held.found db_synced log_synced known;
         stored = subst (λ (v : View). Stores v held.tables database) (sym same) held.stored;
       }
+
+  -- ---- what was found
+
+  -- the view that was found is one that opening finds
+  pub found_view : (files : Log D g) (head : Header) (counted : Option ℕ) (catalog : Catalog) (found : FindsDatabase (newest_view files) catalog) → IsHeader (g.file (db_of files)).content head → counted ≡ counted_of head
+      → (state_of files).page_size ≡ head.page_size → IsStateOf counted (g.file (db_of files)).content (g.file (log_of files)).content (state_of files) → IsFound (newest_view files)
+  found_view files head counted catalog found is counts sized known = record {
+    head = head;
+    head_is = is;
+    head_size = sym sized;
+    sized = subst (λ (hs : List FrameHeader). IsViewSize hs (counted_of head) (length (g.file (db_of files)).content) (state_of files).page_size (state_of files).size)
+        (sym (heads_are (header_of (state_of files)) (g.file (log_of files)).content (state_of files).frames))
+        (subst (λ (o : Option ℕ). IsViewSize (heads (g.file (log_of files)).content (header_of (state_of files)) (state_of files).frames) o (length (g.file (db_of files)).content) (state_of files).page_size (state_of files).size) counts known.size_is);
+    few = (let few = few_frames (header_of (state_of files)) (g.file (log_of files)).content (state_of files).frames in omega (arith, few, known.few));
+    page = found.stored.first.page;
+    first = found.stored.first.there;
+    header = found.stored.first.header;
+    header_is = found.stored.first.header_is;
+    counted = found.counted;
+  }
+
+  -- so the contents hold the database
+  pub found_held : (files : Log D g) (counted : Option ℕ) (catalog : Catalog) (found : FindsDatabase (newest_view files) catalog) → IsFound (newest_view files)
+      → IsStateOf counted (g.file (db_of files)).content (g.file (log_of files)).content (state_of files) → Hold (g.file (db_of files)).content (g.file (log_of files)).content found.database
+  found_held files counted catalog found view known = record {
+    view = newest_view files;
+    db_is = refl;
+    commits = commits_under (header_of (state_of files)) (g.file (log_of files)).content (state_of files).page_size (state_of files).frames known.header_is known.frames_are;
+    found = view;
+    tables = tables_of catalog;
+    stored = found.stored;
+  }
 
   -- what was started shows the database
   pub starts_shown : (connections : Connections D g) (tables : List Table) (database : Database) (files : Log D g) (catalog : Catalog) → StartsWith tables database files catalog

@@ -16,6 +16,4 @@ pub mod TextSteps
 pub mod Running
 pub mod GivenUp
 pub mod Served
-pub mod SchemaTables
-pub mod FoundPages
 pub mod Marked

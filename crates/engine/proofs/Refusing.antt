@@ -28,6 +28,10 @@ never_ok P (Ok x) fault is = absurd is
 never_ok P (Err e) fault is = tt
 
 -- what follows of the refusal that a call's refusal is
+pub no_ok : {T : Type 0} (P : T → Type 0) (result : Result T Fault) (fault : Fault) → IsErrAnd result (λ e. e ≡ fault) → IfOk result P
+no_ok P (Ok x) fault is = absurd is
+no_ok P (Err e) fault is = tt
+
 pub on_err : {T : Type 0} (P : Fault → Type 0) (result : Result T Fault) (fault : Fault) → IsErrAnd result (λ e. e ≡ fault) → P fault → IfErr result P
 on_err P (Ok x) fault is holds = tt
 on_err P (Err e) fault is holds = subst P (sym is) holds
@@ -76,16 +80,19 @@ cut_failed has_failed old new failed fails fault refusal whole = elim (cut_why h
 pub open_why : (has_called cannot : Type 0) (fault : Fault) → IsOpenRefusal has_called cannot fault → (fault ≡ Memory) ⊎ (fault ≡ Io) ⊎ cannot
 open_why has_called cannot Memory refusal = inl refl
 open_why has_called cannot Io refusal = inr (inl refl)
-open_why has_called cannot (Damaged damages.Header page) refusal = absurd refusal
+open_why has_called cannot (Damaged damages.Header page) refusal = inr (inr refusal.1)
 open_why has_called cannot (Damaged damages.Size page) refusal = inr (inr refusal.1)
-open_why has_called cannot (Damaged damages.MissingPage page) refusal = absurd refusal
 open_why has_called cannot (Damaged damages.Page page) refusal = absurd refusal
-open_why has_called cannot (Damaged damages.Tree page) refusal = absurd refusal
-open_why has_called cannot (Damaged damages.Overflow page) refusal = absurd refusal
-open_why has_called cannot (Damaged damages.Freelist page) refusal = absurd refusal
+open_why has_called cannot (Damaged damages.Cell page) refusal = absurd refusal
+open_why has_called cannot (Damaged damages.FreeSpace page) refusal = absurd refusal
 open_why has_called cannot (Damaged damages.Record page) refusal = absurd refusal
+open_why has_called cannot (Damaged damages.Order page) refusal = absurd refusal
+open_why has_called cannot (Damaged damages.Depth page) refusal = absurd refusal
+open_why has_called cannot (Damaged damages.UsedTwice page) refusal = absurd refusal
+open_why has_called cannot (Damaged damages.Unused page) refusal = absurd refusal
+open_why has_called cannot (Damaged damages.Freelist page) refusal = absurd refusal
 open_why has_called cannot (Damaged damages.Schema page) refusal = absurd refusal
-open_why has_called cannot (Damaged damages.Log page) refusal = inr (inr refusal.1)
+open_why has_called cannot (Damaged damages.Index page) refusal = absurd refusal
 open_why has_called cannot (Unsupported features.Float) refusal = absurd refusal
 open_why has_called cannot (Unsupported features.RealColumn) refusal = absurd refusal
 open_why has_called cannot (Unsupported features.PageSize) refusal = inr (inr refusal)

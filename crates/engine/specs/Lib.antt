@@ -9,4 +9,3 @@ pub mod Promises
 pub mod Replies
 pub mod Representation
 pub mod Serving
-pub mod Loading

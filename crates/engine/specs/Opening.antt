@@ -32,6 +32,11 @@ use Rattle.engine.specs.Creating.{is_blank_content}
 use Rattle.engine.specs.EngineState.{connections_of, db_disk, has_failed_of, log_disk}
 use Rattle.engine.specs.declared.opening.Engine.{Engine}
 
+-- The header is this one; or a disk's call failed.
+abbrev pub ReadsHeader : Header → Result Header Fault → Type 0
+ReadsHeader head (Ok header) = header ≡ head
+ReadsHeader head (Err fault) = fault ≡ Io
+
 -- a header that a database file begins with says this page size
 abbrev pub HasPageSize : List ℕ → ℕ → Type 0
 HasPageSize bytes page_size = (head : Header) → IsHeader bytes head → head.page_size ≡ page_size
@@ -89,9 +94,16 @@ module _ {D : Type 0} {g : Ghosts D} where
   abbrev pub TakesSalts : Salts → Engine D g → Type 0
   TakesSalts salts engine = IsFalse (state_of (files_of engine.connections)).has_header → (state_of (files_of engine.connections)).header.salts ≡ salts
 
-  -- What was opened hasn't failed, its database file wasn't blank, and no call failed. The log has its committed frames and no more; one
-  -- that has no header is to get one with these salts.
+  -- The contents of the two files hold a database, and the engine represents it, with 16 idle connections.
+  pub record ShowsHeld (db log : List ℕ) (engine : Engine D g) : Type 0 where
+    pub database : Database
+    pub held : Hold db log database
+    pub shown : Represents (connections_of engine) (fresh database)
+
+  -- What was opened is the database that the files hold. It hasn't failed, its database file wasn't blank, and no call failed. The log
+  -- has its committed frames and no more; one that has no header is to get one with these salts.
   pub record IsOpenedFrom (db log : D) (salts : Salts) (engine : Engine D g) : Type 0 where
+    pub found : IsTrue (g.tells db) → IsTrue (g.tells log) → ShowsHeld (g.file db).content (g.file log).content engine
     pub whole : IsFalse (has_failed_of engine)
     pub not_blank : IsTrue (g.tells db) → is_blank_content (g.file db).content ≡ true → ⊥
     pub cut : IsTrue (g.tells log) → IsCutTo (state_of (files_of engine.connections)) (g.file log).content (g.file (log_disk engine)).content

@@ -8,7 +8,6 @@ mod literals;
 mod opening;
 mod output;
 mod refusals;
-mod schema;
 mod serving;
 
 pub use creating::{create, created_files_hold_nothing};

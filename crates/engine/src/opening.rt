@@ -7,15 +7,16 @@ ghost use Rattle.dbheader.specs.declared.fields.Header.{Header as FileHeader};
 ghost use Rattle.catalog.specs.Database.{Database};
 ghost use Rattle.catalog.specs.declared.tables.Table.{Table};
 ghost use Rattle.pager.specs.Views.{Tells, newest_view};
-ghost use Rattle.session.specs.Holding.{IsFound, IsSettled};
+ghost use Rattle.session.specs.Holding.{IsSettled};
 ghost use Rattle.session.specs.Stored.{Stores};
-ghost use Rattle.engine.specs.Loading.{ListsCommitted, ReadsHeader};
+ghost use Rattle.loading.specs.FirstPage.{FindsDatabase};
+ghost use Rattle.wal.specs.Sizes.{IsSizeWithinLimits};
 ghost use Rattle.disk.specs.File.{IsContentLeft, IsSynced, Throughout};
 ghost use Rattle.walframe.specs.Accepted.{KeepsFile};
 ghost use Rattle.wal.specs.LogState.{db_of, state_of, log_of};
 ghost use Rattle.wal.specs.ErrorCauses.{HasCause};
 ghost use Rattle.engine.specs.Creating.{CountsIo, is_blank_content};
-ghost use Rattle.engine.specs.Opening.{HasPageSize, IsCutTo, KeepsFilesBut, LeavesOpened, StartsWith, TellsBlank};
+ghost use Rattle.engine.specs.Opening.{HasPageSize, IsCutTo, KeepsFilesBut, LeavesOpened, ReadsHeader, StartsWith, TellsBlank};
 ghost use Rattle.sqlval.specs.declared.fault.Fault.TheVariants.{Io};
 ghost use Rattle.disk.specs.Calls.{Rose};
 ghost use Rattle.syntax.specs.declared.statement.Statement.{Statement};
@@ -24,16 +25,15 @@ ghost use Rattle.session.specs.Supported as forms;
 ghost use Rattle.session.specs.Limits.{may_be_full};
 
 use crate::creating::is_blank;
-use crate::schema::load;
 use catalog::Catalog;
 use dbheader::Header;
 use disk::Disk;
-use pager::{header_of, read_page};
+use loading::load;
 use parser::parse;
 use rowprog::Rows;
 use session::Connections;
 use sqlval::limits::DATABASE_HEADER_LEN;
-use sqlval::{Damage, Fault, Misuse, R};
+use sqlval::{Fault, Misuse, R};
 use std::alloc::Global;
 use wal::{Log, Refused, Synced, sync_both};
 use walframe::Salts;
@@ -48,6 +48,7 @@ pub struct Engine<D: Disk + Drop> {
 /// The header of a database file.
 fn file_header<D: Disk>(db: &mut D) -> R<Header>
     ensures kept { KeepsFile D.tells D.file db.old db.new }
+    ensures found { IsTrue (D.tells db.old) → IfOk result (λ header. IsHeader (D.file db.old).content header) }
     ensures read { (head : FileHeader) → IsTrue (D.tells db.old) → IsHeader (D.file db.old).content head → ReadsHeader head result }
     ensures counted { CountsIo result (D.failures db.old) (D.failures db.new) }
     ensures blank { IsTrue (D.tells db.old) → MatchResult result (λ _. is_blank_content (D.file db.old).content ≡ true → ⊥) (TellsBlank (D.file db.old).content) }
@@ -63,26 +64,7 @@ fn file_header<D: Disk>(db: &mut D) -> R<Header>
     dbheader::read(&front)
 }
 
-/// The schema of the newest snapshot, whose page 1 must have the snapshot's size and page size.
-fn newest_schema<D: Disk + Drop>(alloc: Global, log: &mut Log<D>) -> R<Catalog>
-    ensures kept { (state_of log.new ≡ state_of log.old) × KeepsFile D.tells D.file (db_of log.old) (db_of log.new) × KeepsFile D.tells D.file (log_of log.old) (log_of log.new) }
-    ensures listed { (tables : List Table) (database : Database) → Tells log.old → Stores (newest_view log.old) tables database → IsFound (newest_view log.old) → IsOrOutside (ListsCommitted tables) result }
-    ensures cause { HasCause false result log.old log.new }
-    ensures not_blank { IfErr result (λ fault. fault ≡ Fault.Blank → ⊥) }
-{
-    let snapshot = log.begin();
-    let page = read_page(alloc, log, snapshot, 1)?;
-    let header = header_of(&page)?;
-    if header.page_size != log.page_size() {
-        return Err(Fault::Damaged(Damage::Header, 1));
-    }
-    match header.counted_size() {
-        Some(size) if size != log.size(snapshot) => Err(Fault::Damaged(Damage::Size, 1)),
-        _ => load(alloc, &page, log.size(snapshot)),
-    }
-}
-
-/// Loads the schema of the newest snapshot, then truncates the log after its last committed frame.
+/// Loads the tables of the newest snapshot, then truncates the log after its last committed frame.
 fn load_and_truncate<D: Disk + Drop>(alloc: Global, log: &mut Log<D>) -> R<Catalog>
     ensures crash { IsFalse (state_of log.old).has_failed → HasPageSize (D.file (db_of log.old)).content (state_of log.old).page_size → IsTrue (D.tells (db_of log.old)) → IsTrue (D.tells (log_of log.old)) → IsSynced (D.file (db_of log.old)) → IsSynced (D.file (log_of log.old))
         → Throughout (LeavesOpened (D.file (db_of log.old)) (D.file (log_of log.old))) (D.file (db_of log.old)) (D.file (log_of log.old)) (D.file (db_of log.new)) (D.file (log_of log.new)) }
@@ -90,12 +72,14 @@ fn load_and_truncate<D: Disk + Drop>(alloc: Global, log: &mut Log<D>) -> R<Catal
     ensures left { IsFalse (state_of log.old).has_failed → IsTrue (D.tells (db_of log.old)) → IsTrue (D.tells (log_of log.old)) → IsContentLeft (D.file (db_of log.old)) → IsContentLeft (D.file (log_of log.old))
         → IsContentLeft (D.file (db_of log.new)) × IsContentLeft (D.file (log_of log.new)) }
     ensures kept { IsTrue (D.tells (db_of log.old)) → IsTrue (D.tells (log_of log.old)) → IfErr result (KeepsFilesBut Io (D.file (db_of log.old)) (D.file (log_of log.old)) (D.file (db_of log.new)) (D.file (log_of log.new))) }
+    // Tables are loaded only of a database that the newest view holds.
+    ensures found { Tells log.old → IsSizeWithinLimits (newest_view log.old).page_size (newest_view log.old).size → IfOk result (FindsDatabase (newest_view log.old)) }
     // Of settled files that hold a database the catalog lists the tables, and the files stay settled.
     ensures opens { (tables : List Table) (database : Database) → Tells log.old → IsSettled log.old → Stores (newest_view log.old) tables database → IsOrOutside (StartsWith tables database log.new) result }
     ensures cause { HasCause false result log.old log.new }
     ensures not_blank { IfErr result (λ fault. fault ≡ Fault.Blank → ⊥) }
 {
-    let catalog = newest_schema(alloc, log)?;
+    let catalog = load(alloc, log)?;
     log.cut_tail()?;
     Ok(catalog)
 }
@@ -110,7 +94,8 @@ impl<D: Disk + Drop> Engine<D> {
     ghost use Rattle.engine.specs.Representation.{StepsByText};
     ghost use Rattle.session.specs.Representation.{rows_reply};
 
-    /// Opens a database: syncs both files, checks them, and cuts the log to its committed frames. A log that has no valid
+    /// Opens a database: syncs both files, checks them, each page of the database among them, and cuts the log to its
+    /// committed frames. A log that has no valid
     /// header gets one with these salts at the first commit. Refusals give the files back, with no byte changed except for `Io`
     /// in the cut: `Blank`, `NotADatabase`, `Unsupported`, `Damaged`, `Io`, `Memory`.
     pub fn open(alloc: Global, db: D, log: D, salts: Salts) -> Result<Engine<D>, Refused<D>>

@@ -6,7 +6,8 @@ use Rattle.dbheader.specs.Header as fields
 use Rattle.dbheader.specs.Reading as reading
 use Rattle.dbheader.specs.Reading.{header_at}
 use Rattle.dbheader.proofs.HeaderLemmas.{header_is}
-use Rattle.tabletree.specs.Map.{Has, occurs}
+use Rattle.pages.specs.Map.{Has}
+use Rattle.pages.specs.Counting.{occurs}
 use Rattle.tabletree.specs.Tree.{IsTableTree}
 use Rattle.filecheck.specs.Schema.{Language}
 use Rattle.filecheck.specs.Stands.{StandsFor}

@@ -6,7 +6,7 @@ use Rattle.sqlval.specs.declared.value.Value.{Value}
 use Rattle.sqlval.specs.declared.value.Value.TheVariants.{Null, Int}
 use Rattle.record.specs.Record.{IsRecord}
 use Rattle.page.specs.Leaf.{Entry}
-use Rattle.tabletree.specs.Map.{PageMap}
+use Rattle.pages.specs.Map.{PageMap}
 use Rattle.tabletree.specs.Cells.{Pairwise}
 use Rattle.tabletree.specs.Tree.{IsTableTree}
 use Rattle.indextree.specs.Entries.{entry_cmp}

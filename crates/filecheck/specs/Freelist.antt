@@ -2,7 +2,7 @@
 use Rattle.std.specs.Prelude.{◌≡◌, ◌≤◌, ◌<◌, ◌^◌, ◌+◌, ◌/◌, ℕ, List, [], ◌∷◌, ◌++◌, length, ⊤}
 use Rattle.std.specs.List.{AllByRecursion, flat_map}
 use Rattle.std.specs.Int.{w32, to_be_bytes}
-use Rattle.tabletree.specs.Map.{PageMap, page_at, Has}
+use Rattle.pages.specs.Map.{PageMap, page_at, Has}
 
 -- a trunk page, and the free pages that it lists
 pub record Trunk : Type 0 where

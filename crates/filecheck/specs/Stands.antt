@@ -4,7 +4,8 @@ use Rattle.std.specs.List.{AllByRecursion, flat_map}
 use Rattle.dbheader.specs.Header.{IsHeader, counted_of}
 use Rattle.dbheader.specs.declared.fields.Header.{Header}
 use Rattle.page.specs.Leaf.{Entry}
-use Rattle.tabletree.specs.Map.{PageMap, page_at, Has, occurs}
+use Rattle.pages.specs.Map.{PageMap, page_at, Has}
+use Rattle.pages.specs.Counting.{occurs}
 use Rattle.tabletree.specs.Cells.{Pairwise}
 use Rattle.tabletree.specs.Tree.{IsTableTree}
 use Rattle.catalog.specs.Database.{Database}

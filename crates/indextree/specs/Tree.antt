@@ -5,9 +5,11 @@ use Rattle.std.specs.Int.{w32, to_be_bytes}
 use Rattle.record.specs.Varint.{IsVarint}
 use Rattle.record.specs.Record.{IsRecord}
 use Rattle.sqlval.specs.declared.collation.Collation.{Collation}
-use Rattle.tabletree.specs.Map.{PageMap, page_at, Has, IsOnce}
+use Rattle.pages.specs.Map.{PageMap, page_at, Has}
+use Rattle.pages.specs.Counting.{IsOnce}
 use Rattle.tabletree.specs.Payload.{index_most, IsPayload}
-use Rattle.tabletree.specs.Cells.{Pairwise, IsTreePage, start_of}
+use Rattle.pages.specs.Counting.{start_of}
+use Rattle.tabletree.specs.Cells.{Pairwise, IsTreePage}
 use Rattle.indextree.specs.Entries.{Entry, AreEntries}
 
 -- ---- cells

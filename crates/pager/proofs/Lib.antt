@@ -1,7 +1,12 @@
 pub mod CommitViews
 pub mod HeaderFronts
 pub mod Headers
+pub mod Mapping
 pub mod PageReads
+pub mod PageWrites
 pub mod Reheading
 pub mod Seeing
+pub mod Sighting
+pub mod Sounding
 pub mod WriterPages
+pub mod WriterSights

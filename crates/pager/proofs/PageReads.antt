@@ -4,7 +4,7 @@ use Rattle.std.specs.Prelude.{IfErr, IsErrAnd, OnOk, Result, Ok, Err, Bool, true
 use Rattle.std.proofs.lemmas.List.{take-append-le, take_all}
 use Rattle.sqlval.specs.declared.fault.Fault.{Fault}
 use Rattle.sqlval.specs.declared.fault.Fault.TheVariants.{Memory, Io, Failed, Damaged, Blank}
-use Rattle.sqlval.specs.declared.fault.Damage.TheVariants.{MissingPage}
+use Rattle.sqlval.specs.declared.fault.Damage.TheVariants.{Size}
 use Rattle.wal.specs.View as wal
 
 -- the front of what is written, where it fills the room
@@ -37,7 +37,7 @@ refused_on (Err e) fault is why = subst (λ f. (f ≡ Memory) ⊎ (f ≡ Io)) (s
 page_not_blank : (has_failed : Bool) (number : ℕ) (There : Type 0) (fault : Fault) → wal.IsPageRefusal has_failed number There fault → fault ≡ Blank → ⊥
 page_not_blank has_failed number There fault (inl io) blank = (let bad : Io ≡ Blank = sym io ∙ blank in cc)
 page_not_blank has_failed number There fault (inr (inl failed)) blank = (let bad : Failed ≡ Blank = sym failed.0 ∙ blank in cc)
-page_not_blank has_failed number There fault (inr (inr missing)) blank = (let bad : Damaged MissingPage number ≡ Blank = sym missing.0 ∙ blank in cc)
+page_not_blank has_failed number There fault (inr (inr missing)) blank = (let bad : Damaged Size number ≡ Blank = sym missing.0 ∙ blank in cc)
 
 pub refusal_not_blank : {T : Type 0} (result : Result T Fault) (has_failed : Bool) (number : ℕ) (There : Type 0) → IfErr result (wal.IsPageRefusal has_failed number There) → IfErr result (λ fault. fault ≡ Blank → ⊥)
 refusal_not_blank (Ok x) has_failed number There is = tt

@@ -17,7 +17,7 @@ use std::alloc::Global;
 use wal::{Log, Snapshot};
 
 /// Reads a page of a snapshot into a buffer of the page size.
-fn read_into<D: Disk + Drop>(
+pub(crate) fn read_into<D: Disk + Drop>(
     log: &mut Log<D>,
     snapshot: Snapshot,
     number: u32,

@@ -1,7 +1,7 @@
 //! The pages that a transaction has changed.
 
 ghost use Rattle.sqlval.specs.PageSizes.{IsPageSize};
-ghost use Rattle.std.specs.Prelude.{◌≡◌, ◌⊎◌, ◌↔◌, ◌<◌, ◌≤◌, ℕ, List, [], ◌∷◌, ◌++◌, length, drop, Ok, true, false, IfOk, IfErr, IfSome, IfNone, IsTrue, OnOk};
+ghost use Rattle.std.specs.Prelude.{◌≡◌, ◌⊎◌, ◌↔◌, ◌<◌, ◌≤◌, ◌+◌, ℕ, List, replicate, slice_index_or, [], ◌∷◌, ◌++◌, length, drop, Ok, true, false, IfOk, IfErr, IfSome, IfNone, IsTrue, OnOk};
 ghost use Rattle.sqlval.specs.Faults.{IsNotDiskFault, IsOutside};
 ghost use Rattle.sqlval.specs.declared.fault.Fault.TheVariants.{Memory, Io};
 ghost use Rattle.wal.specs.Commits.{IsStateAfter, KeepsDisks};
@@ -10,7 +10,10 @@ ghost use Rattle.wal.specs.Laws.{IsAmong, IsNotAmong};
 ghost use Rattle.wal.specs.ErrorCauses.{HasCause};
 ghost use Rattle.walframe.specs.Accepted.{KeepsFile};
 ghost use Rattle.pager.specs.Commits.{CommitsPages, IsRefusedCommit, LeavesCommit, MayCommit};
+ghost use Rattle.pager.specs.Limits as limits;
 ghost use Rattle.pager.specs.Limits.{one_more, pages_of, page_size_of};
+ghost use Rattle.pager.specs.Sights.{bytes_of};
+ghost use Rattle.pager.specs.Sound.{GetsPage, IsSound, KeepsRest, most_of};
 ghost use Rattle.pager.specs.Views.{ViewHas, IsViewPage, Tells, View, changes_of, view_at};
 ghost use Rattle.pager.specs.Writers.{AreObjectPages, HasHeader, IsAt, IsBegun, IsGapFor, IsHeaded, IsNextHeader, IsUnchanged, IsConsistent, ReplacesPages, Reheads, makes_objects, seen, snapshot_of};
 
@@ -204,7 +207,7 @@ impl Writer {
     {
         match self.find(1) {
             Some(page) => header_of(page),
-            None => Err(Fault::Damaged(Damage::MissingPage, 1)),
+            None => Err(Fault::Damaged(Damage::Size, 1)),
         }
     }
 
@@ -216,5 +219,121 @@ impl Writer {
         if let Some(page) = self.pages.first_mut() {
             give_header(page, header);
         }
+    }
+}
+
+/// Whether a database of so many pages is past the limits.
+fn is_too_large(pages: u32, page_size: u32) -> bool
+    ensures { result ≡ limits.is_too_large pages page_size }
+{
+    pages > MAX_PAGES || u64::from(pages) * u64::from(page_size) > MAX_DATABASE_BYTES
+}
+
+impl Writer {
+    /// The number of pages.
+    pub(crate) fn size(&self) -> u32
+        ensures { result ≡ pages_of self.now }
+    {
+        self.size
+    }
+
+    /// The place of a page among the changed ones; None if the page isn't changed.
+    pub(crate) fn place(&self, number: u32) -> Option<usize>
+        ensures found { IfSome result (λ index. IsAt (changes_of self.now) number index) }
+        ensures none { IsConsistent self.now → IfNone result (IsNotAmong (changes_of self.now) number) }
+    {
+        match self.search(number) {
+            Ok(index) => Some(index),
+            Err(_) => None,
+        }
+    }
+
+    /// The bytes of the changed page at a place, and none past the last place.
+    pub(crate) fn bytes_at(&self, index: usize) -> &[u8]
+        ensures { result.now ≡ slice_index_or (bytes_of (changes_of self.now)) index [] }
+    {
+        match self.pages.get(index) {
+            Some(page) => page.bytes.as_slice(),
+            None => &[],
+        }
+    }
+
+    /// Gives the changed page at a place these bytes. (`Damaged` where it had another length.)
+    fn overwrite(&mut self, index: usize, number: u32, bytes: &[u8]) -> R<()>
+        requires place { IsAt (changes_of self.old) number index }
+        requires length { length bytes.now ≡ page_size_of self.old }
+        ensures rest { KeepsRest self.old self.new }
+        ensures size { pages_of self.new ≡ pages_of self.old }
+        ensures page { IsConsistent self.old → OnOk result (GetsPage number bytes.now self.old self.new) }
+        ensures there { IsConsistent self.old → IfErr result (λ _. ⊥) }
+        ensures not_disk { IfErr result (λ fault. IsNotDiskFault fault) }
+    {
+        let page = &mut self.pages[index];
+        if page.bytes.len() != bytes.len() {
+            return Err(Fault::Damaged(Damage::Page, number));
+        }
+        page.bytes.copy_from_slice(bytes);
+        Ok(())
+    }
+
+    /// Puts a page that the snapshot shows among the changed ones, at its place.
+    fn insert(&mut self, index: usize, page: PageImage) -> R<()>
+        requires place { (1 ≤ index) × (index ≤ length (changes_of self.old)) }
+        requires gap { IsConsistent self.old → IsGapFor (changes_of self.old) page.number index }
+        requires number { (1 ≤ page.number) × (page.number ≤ pages_of self.old) × (page.number ≤ size_of (snapshot_of self.old)) }
+        requires length { length page.bytes.items ≡ page_size_of self.old }
+        ensures rest { KeepsRest self.old self.new }
+        ensures size { pages_of self.new ≡ pages_of self.old }
+        ensures page { IsConsistent self.old → OnOk result (GetsPage page.number page.bytes.items self.old self.new) }
+        ensures refused { IfErr result (λ fault. fault ≡ Memory) }
+    {
+        self.pages.insert(index, page)?;
+        Ok(())
+    }
+
+    /// Gives a page these bytes, over a snapshot of `shown` pages. (`Damaged` where the writer
+    /// can't have the page, or for another length; `Memory`.)
+    pub(crate) fn write(&mut self, alloc: Global, shown: u32, number: u32, bytes: &[u8]) -> R<()>
+        requires { shown ≡ size_of (snapshot_of self.old) }
+        ensures rest { KeepsRest self.old self.new }
+        ensures size { pages_of self.new ≡ pages_of self.old }
+        ensures page { IsConsistent self.old → OnOk result (GetsPage number bytes.now self.old self.new) }
+        ensures there { IsSound self.old → 1 ≤ number → number ≤ pages_of self.old → length bytes.now ≡ page_size_of self.old → IfErr result (λ fault. fault ≡ Memory) }
+        ensures within { OnOk result ((1 ≤ number) × (number ≤ pages_of self.old)) }
+        ensures not_disk { IfErr result (λ fault. IsNotDiskFault fault) }
+    {
+        if number == 0 || number > self.size || bytes.len() != self.page_size() {
+            return Err(Fault::Damaged(Damage::Size, number));
+        }
+        match self.search(number) {
+            Ok(index) => self.overwrite(index, number, bytes),
+            Err(index) => {
+                if index == 0 || number > shown {
+                    return Err(Fault::Damaged(Damage::Size, number));
+                }
+                let bytes = bytes.to_vec(alloc)?;
+                self.insert(index, PageImage { number, bytes })
+            }
+        }
+    }
+
+    /// Adds a page of zeros at the end, and answers its number. (`Full` where there are as many
+    /// pages as there may be; `Memory`; `Damaged` where the writer isn't sound.)
+    pub(crate) fn add(&mut self, alloc: Global) -> R<u32>
+        ensures rest { KeepsRest self.old self.new }
+        ensures page { IsConsistent self.old → OnOk result (GetsPage (pages_of self.old + 1) (replicate (page_size_of self.old) 0) self.old self.new) }
+        ensures counted { IfOk result (λ n. (n ≡ pages_of self.old + 1) × (pages_of self.new ≡ n) × (n ≤ most_of (page_size_of self.old))) }
+        ensures full { IfErr result (λ fault. fault ≡ Fault.Full → pages_of self.new ≡ most_of (page_size_of self.new)) }
+        ensures refused { IsSound self.old → IfErr result (λ fault. (fault ≡ Memory) ⊎ (fault ≡ Fault.Full)) }
+        ensures not_io { IfErr result (λ fault. fault ≡ Io → ⊥) }
+    {
+        if self.pages.is_empty() || is_too_large(self.size, self.page_size) {
+            return Err(Fault::Damaged(Damage::Size, self.size));
+        }
+        let number = self.next_number()?;
+        let bytes = vec![in alloc; 0; self.page_size()]?;
+        self.pages.push(PageImage { number, bytes })?;
+        self.size = number;
+        Ok(number)
     }
 }

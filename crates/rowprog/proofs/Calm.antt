@@ -51,3 +51,8 @@ page_calm number outputs f (inl e) = memory_calm f e
 page_calm number outputs f (inr (inl e)) = leaf_calm number f e
 page_calm number outputs f (inr (inr (inl e))) = row_calm f e
 page_calm number outputs f (inr (inr (inr e))) = overflow_calm f e.0
+
+pub rows_calm : (number : ℕ) (f : Fault) → (f ≡ fault.Memory) ⊎ (IsLeafRefusal number f ⊎ IsRowRefusal f) → IsNotDiskFault f
+rows_calm number f (inl e) = memory_calm f e
+rows_calm number f (inr (inl e)) = leaf_calm number f e
+rows_calm number f (inr (inr e)) = row_calm f e

@@ -1,4 +1,6 @@
 pub mod Calm
+pub mod HeldRows
 pub mod QueryAnswers
-mod RowLemmas
-mod Steps
+pub mod RowLemmas
+mod RowOrder
+pub mod Steps

@@ -39,7 +39,7 @@ ok_is e = cc
 
 -- ---- the value of a step that isn't refused
 
-and_ok : {A B : Type 0} (a : Result A Fault) (k : A → Result B Fault) (y : B) → (a and k) ≡ Ok y → (x : A) × (a ≡ Ok x) × (k x ≡ Ok y)
+pub and_ok : {A B : Type 0} (a : Result A Fault) (k : A → Result B Fault) (y : B) → (a and k) ≡ Ok y → (x : A) × (a ≡ Ok x) × (k x ≡ Ok y)
 and_ok (Ok x) k y e = (x, refl, e)
 and_ok (Err fault) k y e = absurd cc
 
@@ -94,14 +94,14 @@ all_again [] row within = refl
 all_again (output ∷ outputs) row within =
     as_answers (tried row.0 row.1 output) (all_tried outputs row) ∙ (λ i. given_again row output within.0 i then λ x. all_again outputs row within.1 i then λ xs. Ok (x ∷ xs))
 
-row_is : (width : ℕ) (entry : Entry) (row : TableRow) → AreBytes entry.payload → row_at width entry ≡ Ok row → IsRow width entry row
+pub row_is : (width : ℕ) (entry : Entry) (row : TableRow) → AreBytes entry.payload → row_at width entry ≡ Ok row → IsRow width entry row
 row_is width entry row fits e =
     let (values, reads, more) = and_ok (answer (record_at entry.payload)) (as_wide width entry.rowid) row e in
     let (wide, same) = test_ok (length values == width) (entry.rowid, values) row (f.Unsupported feature.ColumnCount) more in
     let is : IsRecord entry.payload values = record_is entry.payload values fits (answer_ok (record_at entry.payload) values reads) in
     subst (IsRow width entry) same (record { rowid = refl; values = is; full = eqb-true (length values) width wide })
 
-row_again : (width : ℕ) (entry : Entry) (row : TableRow) → IsRow width entry row → row_at width entry ≡ Ok row
+pub row_again : (width : ℕ) (entry : Entry) (row : TableRow) → IsRow width entry row → row_at width entry ≡ Ok row
 row_again width entry row is =
     rw (record_again entry.payload row.1 is.values, eq-eqb (length row.1) width is.full) (ap (λ (n : ℤ). fine (n, row.1)) is.rowid)
 
@@ -183,7 +183,7 @@ all_tried_refused (output ∷ outputs) row fault e = elim (and_err (tried row.0 
 ]
 
 -- what each item's refusal is, the first one's is too
-every_refused : {A X : Type 0} (P : Fault → Type 0) (f : X → Result A Fault) → ((x : X) (fault : Fault) → f x ≡ Err fault → P fault) → (xs : List X) (fault : Fault) → every (map f xs) ≡ Err fault → P fault
+pub every_refused : {A X : Type 0} (P : Fault → Type 0) (f : X → Result A Fault) → ((x : X) (fault : Fault) → f x ≡ Err fault → P fault) → (xs : List X) (fault : Fault) → every (map f xs) ≡ Err fault → P fault
 every_refused {A} P f each [] fault e = absurd (not_given {A = List A} [] fault e)
 every_refused {A} P f each (x ∷ xs) fault e = elim (and_err (f x) (λ y. every (map f xs) and λ ys. Ok (y ∷ ys)) fault e) [
   | inl h ↦ each x fault h
@@ -198,6 +198,13 @@ answer_refused (Ok values) fault e = absurd (not_given values fault e)
 answer_refused (Err Float) fault e = inl (same_fault fault (answer {X = List Value} (Err Float)) _ e refl)
 answer_refused (Err Broken) fault e = inr (inl (same_fault fault (answer {X = List Value} (Err Broken)) _ e refl))
 
+-- why an entry is no row of so many values
+pub row_refused : (width : ℕ) (entry : Entry) (fault : Fault) → row_at width entry ≡ Err fault → IsRowRefusal fault
+row_refused width entry fault e = elim (and_err (answer (record_at entry.payload)) (as_wide width entry.rowid) fault e) [
+  | inl reads ↦ answer_refused (record_at entry.payload) fault reads
+  | inr (values, reads, wide) ↦ inr (inr (test_err (length values == width) (entry.rowid, values) (f.Unsupported feature.ColumnCount) fault wide))
+]
+
 abbrev IsEntryRefusal : List Output → Fault → Type 0
 IsEntryRefusal outputs fault = IsRowRefusal fault ⊎ IsOverflow outputs fault
 
@@ -207,16 +214,13 @@ of_tried outputs fault (inr o) = inr o
 
 entry_refused : (width : ℕ) (outputs : List Output) (entry : Entry) (fault : Fault) → entry_given width outputs entry ≡ Err fault → IsEntryRefusal outputs fault
 entry_refused width outputs entry fault e = elim (and_err (row_at width entry) (all_tried outputs) fault e) [
-  | inl h ↦ elim (and_err (answer (record_at entry.payload)) (as_wide width entry.rowid) fault h) [
-    | inl reads ↦ inl (answer_refused (record_at entry.payload) fault reads)
-    | inr (values, reads, wide) ↦ inl (inr (inr (test_err (length values == width) (entry.rowid, values) (f.Unsupported feature.ColumnCount) fault wide)))
-  ]
+  | inl h ↦ inl (row_refused width entry fault h)
   | inr (row, reads, tries) ↦ of_tried outputs fault (all_tried_refused outputs row fault tries)
 ]
 
 -- ---- a page's rows
 
-payloads_fit : (page : List ℕ) (spans : List Span) (entries : List Entry) → AreBytes page → AreCells page spans entries → AllByRecursion (λ entry. AreBytes entry.payload) entries
+pub payloads_fit : (page : List ℕ) (spans : List Span) (entries : List Entry) → AreBytes page → AreCells page spans entries → AllByRecursion (λ entry. AreBytes entry.payload) entries
 payloads_fit page spans [] fits cells = tt
 payloads_fit page [] (entry ∷ entries) fits cells = absurd cells
 payloads_fit page (span ∷ spans) (entry ∷ entries) fits cells =

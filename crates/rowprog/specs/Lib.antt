@@ -1,3 +1,4 @@
 pub mod Answers
+pub mod Held
 pub mod Meaning
 pub mod Rows

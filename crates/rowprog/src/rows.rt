@@ -22,9 +22,9 @@ pub type Rows = Vec<Row>;
 
 /// A row that is read.
 #[derive(Drop)]
-struct Source<'a> {
-    rowid: i64,
-    record: Record<'a>,
+pub struct Source<'a> {
+    pub rowid: i64,
+    pub record: Record<'a>,
 }
 
 /// What an output gives of a row.
@@ -54,7 +54,7 @@ fn row_of(alloc: Global, source: &Source<'_>, outputs: &[Output]) -> R<Row>
 }
 
 /// The row of `width` values in a cell.
-fn source_of<'a>(alloc: Global, cell: Cell<'a>, width: usize) -> R<Source<'a>>
+pub fn source_of<'a>(alloc: Global, cell: Cell<'a>, width: usize) -> R<Source<'a>>
     ensures { Gives (λ source. (source.rowid, source.record)) result (row_at width (entry_of cell.entry)) }
 {
     let record = Record::over(alloc, cell.payload)?;

@@ -40,6 +40,7 @@ same_stores v w tables db sized long same held = record {
   rows_at = held.rows_at;
   lists = held.lists;
   only = held.only;
+  named = held.named;
   once = held.once;
   apart = held.apart;
   each = λ name t listed. (let it = held.each name t listed in record { page = it.page; above = it.above; there = there t.root it.page it.there; holds = it.holds });
@@ -49,10 +50,12 @@ same_stores v w tables db sized long same held = record {
     header = held.first.header;
     header_is = held.first.header_is;
     sized = held.first.sized ∙ sym sized;
+    none_free = held.first.none_free;
     rows = held.first.rows;
     single_leaf = held.first.single_leaf;
     tell = subst (λ (n : ℕ). AreRowsOf n [] tables held.first.rows) (sym long) held.first.tell;
   };
+  used = λ number above within. held.used number above (omega (arith, within, long));
   served = subst (λ n. IsSizeWithinLimits n w.size) (sym sized) (subst (IsSizeWithinLimits v.page_size) (sym long) held.served);
 }
   where

@@ -25,7 +25,7 @@ use Rattle.pager.specs.declared.writer.Writer.{Writer}
 use Rattle.session.specs.ConnectionState.{files_of, has_failed_in, is_io}
 use Rattle.session.specs.Representation.{IsNewest, IsWriter, ShowTheSame}
 use Rattle.session.specs.Schema.{AreRowsOf}
-use Rattle.session.specs.Stored.{HasFirstPage, Stores}
+use Rattle.session.specs.Stored.{HasNoFreePage, HasFirstPage, Stores}
 use Rattle.session.specs.Applying.{CommitsChanges, CommitsDatabase, HoldsEither, IsCommitCause, IsUncommitted, CanApply}
 use Rattle.session.specs.declared.transactions.Connections.{Connections}
 use Rattle.session.proofs.Settled.{db_left, either_throughout, found_over, log_left, still_settled}
@@ -34,13 +34,14 @@ use Rattle.session.proofs.Showing.{still_writer}
 -- ---- views that differ on page 1 alone
 
 -- the first page with another header, of the same page size
-first_headed : (v w : View) (tables : List Table) (was : HasFirstPage v tables) (page : List ℕ) (next : Header) → w.page_size ≡ v.page_size → w.size ≡ v.size → ViewHas w 1 page → IsHeaded was.page page next → next.page_size ≡ was.header.page_size → HasFirstPage w tables
-first_headed v w tables was page next sized long has headed same = record {
+first_headed : (v w : View) (tables : List Table) (was : HasFirstPage v tables) (page : List ℕ) (next : Header) → w.page_size ≡ v.page_size → w.size ≡ v.size → ViewHas w 1 page → IsHeaded was.page page next → next.page_size ≡ was.header.page_size → HasNoFreePage next → HasFirstPage w tables
+first_headed v w tables was page next sized long has headed same none_free = record {
   page = page;
   there = record { first = was.there.first; last = omega (arith, was.there.last, long); has = has };
   header = next;
   header_is = headed.header_is;
   sized = same ∙ was.sized ∙ sym sized;
+  none_free = none_free;
   rows = was.rows;
   single_leaf = kept_behind was.page page 1 was.rows headed.behind headed.long was.single_leaf;
   tell = subst (λ (n : ℕ). AreRowsOf n [] tables was.rows) (sym long) was.tell;
@@ -53,10 +54,12 @@ other_first v w tables db sized long same first held = record {
   rows_at = held.rows_at;
   lists = held.lists;
   only = held.only;
+  named = held.named;
   once = held.once;
   apart = held.apart;
   each = λ name t listed. (let it = held.each name t listed in record { page = it.page; above = it.above; there = there t.root it.page it.above it.there; holds = it.holds });
   first = first;
+  used = λ number above within. held.used number above (omega (arith, within, long));
   served = subst (λ n. IsSizeWithinLimits n w.size) (sym sized) (subst (IsSizeWithinLimits v.page_size) (sym long) held.served);
 }
   where
@@ -80,7 +83,7 @@ module _ {D : Type 0} {g : Ghosts D} where
       → IsCommittedOver old w held.first.page held.first.header view → Stores view tables db
   stores_over old w tables db held view sized is =
       other_first (view_of old w) view tables db sized is.size is.others
-      (first_headed (view_of old w) view tables held.first is.first is.next sized is.size is.has_first is.headed is.next_is.page_size) held
+      (first_headed (view_of old w) view tables held.first is.first is.next sized is.size is.has_first is.headed is.next_is.page_size (record { first = is.next_is.freelist_trunk ∙ held.first.none_free.first; count = is.next_is.freelist_count ∙ held.first.none_free.count })) held
 
   pub has_committed : (old new : Connections D g) (w : Writer) (db : Database) (applies : CanApply old w db) → CommitsPages (files_of old) w applies.stored.first.page applies.stored.first.header (files_of new)
       → db_of (files_of new) ≡ db_of (files_of old) → has_failed_in new ≡ has_failed_in old → new.transaction ≡ old.transaction → tables_of new.catalog ≡ tables_of old.catalog
@@ -134,7 +137,7 @@ module _ {D : Type 0} {g : Ghosts D} where
     stores_left : Stores (view_of (files_of old) left) (tables_of old.catalog) db
     stores_left =
         other_first (view_of (files_of old) w) (view_of (files_of old) left) (tables_of old.catalog) db refl is.size is.others
-        (first_headed (view_of (files_of old) w) (view_of (files_of old) left) (tables_of old.catalog) applies.stored.first is.first applies.stored.first.header refl is.size is.has_first is.headed refl) applies.stored
+        (first_headed (view_of (files_of old) w) (view_of (files_of old) left) (tables_of old.catalog) applies.stored.first is.first applies.stored.first.header refl is.size is.has_first is.headed refl applies.stored.first.none_free) applies.stored
 
     works_left : ShowTheSame (files_of old) (files_of new) → new.catalog ≡ old.catalog → CanApply new left db
     works_left same catalog = record {

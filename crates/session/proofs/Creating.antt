@@ -1,6 +1,6 @@
 -- CREATE TABLE makes the database with the new table, or leaves what was there.
 use Rattle.sqlval.specs.PageSizes.{IsPageSize}
-use Rattle.std.proofs.Common.{◌≡◌, ◌⊎◌, ◌<◌, ◌≤◌, ◌+◌, ◌*◌, ◌-◌, ◌^◌, ◌==◌, ◌||◌, inl, inr, refl, sym, ap, subst, ◌∙◌, ℕ, Bool, true, false, cond, List, [], ◌∷◌, ◌++◌, length, take, Some, None, arith, length-append}
+use Rattle.std.proofs.Common.{◌≡◌, ◌⊎◌, ◌<◌, ◌≤◌, ◌+◌, ◌*◌, ◌-◌, ◌^◌, ◌==◌, ◌||◌, inl, inr, refl, sym, ap, subst, ◌∙◌, ℕ, Bool, true, false, cond, List, [], ◌∷◌, ◌++◌, length, take, Some, None, arith, length-append, bytes_eq, ◌&&◌}
 use Rattle.std.specs.Prelude.{⊤, Result, Ok, Err, IsErrAnd, IfErr, OnOk, max, nat_lt, Contains}
 use Rattle.std.specs.List.{find}
 use Rattle.std.specs.Result.{is_err}
@@ -24,7 +24,7 @@ use Rattle.syntax.specs.declared.statement.Statement.TheVariants as statement
 use Rattle.record.specs.Record.{IsRecord}
 use Rattle.page.specs.Leaf.{Entry, IsTableLeaf}
 use Rattle.page.specs.Writing.{Fits}
-use Rattle.tabletree.specs.Cells.{start_of}
+use Rattle.pages.specs.Counting.{start_of}
 use Rattle.tabletree.specs.SingleLeaf.{IsSingleLeaf}
 use Rattle.wal.specs.LogState.{state_of}
 use Rattle.wal.specs.Laws.{IsAmong, IsNotAmong}
@@ -34,6 +34,7 @@ use Rattle.wal.specs.declared.log.Snapshot.{Snapshot}
 use Rattle.wal.specs.declared.pages.PageImage.{PageImage}
 use Rattle.catalog.specs.Database.{Database, Name, ATable, with_object}
 use Rattle.catalog.specs.Listed.{Lists, committed_in, is_table, plain_table, table_named, tables_of}
+use Rattle.catalog.specs.Named.{KeepsNamed}
 use Rattle.catalog.specs.Laws.{KeepsOnlyTables}
 use Rattle.catalog.specs.NewTables.{IsNewRoot, ListsNewTable}
 use Rattle.catalog.specs.declared.tables.Catalog.{Catalog}
@@ -55,7 +56,7 @@ use Rattle.session.specs.NewTables.{IsListedAfter, IsMadeBeside, IsNewTableFault
 use Rattle.session.specs.Outcomes.{of_known}
 use Rattle.session.specs.Schema.{AreRowsOf, IsCreateOf, IsRowOf}
 use Rattle.session.specs.Representation.{IsNewest, IsWriter}
-use Rattle.session.specs.Stored.{HaveOwnPages, IsStored, Stores}
+use Rattle.session.specs.Stored.{HaveOwnPages, IsRoot, IsStored, Stores}
 use Rattle.session.specs.Applying.{IsApplied, IsNotApplied, IsChangeRefusal, KeepsCommitted, Reaches, RefusesWith, Applies, CanApply, change_made}
 use Rattle.session.specs.declared.transactions.Connections.{Connections}
 use Rattle.session.proofs.SeenPages.{one_page}
@@ -133,6 +134,29 @@ found_behind p (y ∷ xs) x t h = by_test (found_behind p xs x t) (p y) h
     by_test rest true h = inl h
     by_test rest false h = rest h
 
+found_before : {A : Type 0} (p : A → Bool) (xs ys : List A) (t : A) → find p xs ≡ Some t → find p (xs ++ ys) ≡ Some t
+found_before p [] ys t h = absurd cc
+found_before p (x ∷ xs) ys t h = by_test (p x) (found_before p xs ys t) h
+  where
+    by_test : (b : Bool) → (find p xs ≡ Some t → find p (xs ++ ys) ≡ Some t) → cond b (Some x) (find p xs) ≡ Some t → cond b (Some x) (find p (xs ++ ys)) ≡ Some t
+    by_test true rest h = h
+    by_test false rest h = rest h
+
+found_last : {A : Type 0} (p : A → Bool) (xs : List A) (t : A) → find p xs ≡ None → p t ≡ true → find p (xs ++ t ∷ []) ≡ Some t
+found_last p [] t none is = ap (λ (b : Bool). cond b (Some t) None) is
+found_last p (x ∷ xs) t none is = by_test (p x) (λ h. found_last p xs t h is) none
+  where
+    by_test : (b : Bool) → (find p xs ≡ None → find p (xs ++ t ∷ []) ≡ Some t) → cond b (Some x) (find p xs) ≡ None → cond b (Some x) (find p (xs ++ t ∷ [])) ≡ Some t
+    by_test true rest h = absurd cc
+    by_test false rest h = rest h
+
+same_bytes : (xs : List ℕ) → bytes_eq xs xs ≡ true
+same_bytes [] = refl
+same_bytes (x ∷ xs) = ap (λ (b : Bool). b && bytes_eq xs xs) (itself x) ∙ same_bytes xs
+
+own_name : (t : Table) → is_table t.name t ≡ true
+own_name t = same_bytes (folded t.name)
+
 named_so : (t : Table) (name : Name) → is_table name t ≡ true → folded t.name ≡ folded name
 named_so t name is = tells_apart exact_bytes (folded t.name) (folded name) (is_eq-slice_cmp (folded t.name) (folded name) ∙ is)
 
@@ -152,6 +176,7 @@ no_rows rows_at root = ap (λ (b : Bool). cond {A = List TableRow} b [] (rows_at
 pub record Creates (view : View) (old new : Writer) (tables : List Table) (db : Database) (d : TableDefinition) (t : Table) (schema root : PageImage) : Type 0 where
   pub lists : ListsNewTable
   pub only : KeepsOnlyTables
+  pub named : KeepsNamed
   pub held : Stores (seen view old) tables db
   pub made : IsMadeBeside tables d root.number t
   pub past : IsOnePast (pages_of old) view.page_size root.number
@@ -160,7 +185,7 @@ pub record Creates (view : View) (old new : Writer) (tables : List Table) (db : 
   pub sql : List ℕ
   pub text : IsCreateOf sql (object.Table d)
   pub plain : is_table_supported d ≡ true
-  pub listed : IsListedAfter schema.bytes.items held.first.rows (schema_row d.name root.number sql)
+  pub listed : IsListedAfter schema.bytes.items held.first.rows (schema_row d.name d.name root.number sql)
   pub empty : IsTableLeaf root.bytes.items 0 []
   pub puts : ReplacesPages (schema ∷ root ∷ []) old new
 
@@ -256,17 +281,38 @@ module _ (view : View) (old new : Writer) (tables : List Table) (db : Database) 
     made = subst (λ (n : ℕ). IsMadeBeside tables d n t) (sym c.made.root_is) c.made;
     above = above_first;
     within = omega (arith, c.made.root_is, c.past.is, grown_to);
-    row_is = subst (λ (n : ℕ). IsRecord c.listed.entry.payload (schema_row d.name n c.sql)) (sym c.made.root_is) c.listed.is;
+    name = d.name;
+    name_is = refl;
+    table_name = d.name;
+    table_name_is = refl;
+    row_is = subst (λ (n : ℕ). IsRecord c.listed.entry.payload (schema_row d.name d.name n c.sql)) (sym c.made.root_is) c.listed.is;
   }
 
   told_more : AreRowsOf (pages_of new) [] (tables ++ t ∷ []) (c.held.first.rows ++ c.listed.entry ∷ [])
   told_more = one_row_more (pages_of new) [] tables c.held.first.rows t c.listed.entry (more_pages (pages_of old) (pages_of new) (omega (arith, grown_to)) [] tables c.held.first.rows c.held.first.tell) new_row
+
+  root_before : (number : ℕ) → IsRoot tables number → IsRoot (tables ++ t ∷ []) number
+  root_before number is = record { name = is.name; table = is.table; listed = found_before (is_table is.name) tables (t ∷ []) is.table is.listed; root_is = is.root_is }
+
+  new_is_root : (number : ℕ) → number ≡ t.root → IsRoot (tables ++ t ∷ []) number
+  new_is_root number is = record { name = t.name; table = t; listed = found_last (is_table t.name) tables t unnamed (own_name t); root_is = sym is }
+
+  all_used : (number : ℕ) → 1 < number → (number ≤ pages_of old) ⊎ (number ≡ t.root) → IsRoot (tables ++ t ∷ []) number
+  all_used number above (inl within) = root_before number (c.held.used number above within)
+  all_used number above (inr is) = new_is_root number is
+
+  new_or_not : (number : ℕ) → number ≤ pages_of new → (number ≤ pages_of old) ⊎ (number ≡ t.root)
+  new_or_not number within = elim (cases_lt (pages_of old) number) [
+    | inl more ↦ inr (omega (arith, more, within, grown_to, c.made.root_is, c.past.is))
+    | inr few ↦ inl few
+  ]
 
   pub stores_more : Stores (seen view new) (tables ++ t ∷ []) (with_object db d.name (ATable (plain_table t [])))
   stores_more = record {
     rows_at = rows_beside c.held.rows_at t.root;
     lists = lists_more;
     only = c.only db d.name (plain_table t []) c.held.only;
+    named = c.named db d.name (ATable (plain_table t [])) c.held.named;
     once = keeps_once tables d t c.held.once c.made.fresh.once c.made.columns;
     apart = still_apart;
     each = each_stored;
@@ -276,10 +322,12 @@ module _ (view : View) (old new : Writer) (tables : List Table) (db : Database) 
       header = c.held.first.header;
       header_is = header_moves c.held.first.page schema.bytes.items c.held.first.header c.front c.held.first.header_is;
       sized = c.held.first.sized;
+      none_free = c.held.first.none_free;
       rows = c.held.first.rows ++ c.listed.entry ∷ [];
       single_leaf = c.listed.single_leaf;
       tell = told_more;
     };
+    used = λ number above within. all_used number above (new_or_not number within);
     served = subst (IsSizeWithinLimits view.page_size) (c.past.is ∙ sym grown_to) c.past.served;
   }
 
@@ -331,12 +379,12 @@ module _ {D : Type 0} {g : Ghosts D} where
 
     -- the table isn't made
     pub why_unmade : (sql : List ℕ) (d : TableDefinition) (page : List ℕ) (root : ℕ) (f : Fault) → has_no_rules d ≡ true → ((v : View) → ViewHas (seen v w) 1 page) → root ≡ pages_of w + 1
-        → ((entries : List Entry) → IsSingleLeaf page 1 entries → IsNewTableFault (tables_of c.catalog) d root (length page) entries (schema_row d.name root sql) f) → IsChangeRefusal (creating sql d) c w db f
+        → ((entries : List Entry) → IsSingleLeaf page 1 entries → IsNewTableFault (tables_of c.catalog) d root (length page) entries (schema_row d.name d.name root sql) f) → IsChangeRefusal (creating sql d) c w db f
     why_unmade sql d page root f plain shown past faults =
-        by_why (subst (λ (n : ℕ). IsNewTableFault (tables_of c.catalog) d n (length applies.stored.first.page) applies.stored.first.rows (schema_row d.name n sql) f) past
-        (subst (λ (p : List ℕ). (entries : List Entry) → IsSingleLeaf p 1 entries → IsNewTableFault (tables_of c.catalog) d root (length p) entries (schema_row d.name root sql) f) (first_page page shown) faults applies.stored.first.rows applies.stored.first.single_leaf)).why
+        by_why (subst (λ (n : ℕ). IsNewTableFault (tables_of c.catalog) d n (length applies.stored.first.page) applies.stored.first.rows (schema_row d.name d.name n sql) f) past
+        (subst (λ (p : List ℕ). (entries : List Entry) → IsSingleLeaf p 1 entries → IsNewTableFault (tables_of c.catalog) d root (length p) entries (schema_row d.name d.name root sql) f) (first_page page shown) faults applies.stored.first.rows applies.stored.first.single_leaf)).why
       where
-        of_row : (row : IsRowFault (tables_of c.catalog) d (pages_of w + 1) (length applies.stored.first.page) applies.stored.first.rows (schema_row d.name (pages_of w + 1) sql) f) → IsChangeRefusal (creating sql d) c w db f
+        of_row : (row : IsRowFault (tables_of c.catalog) d (pages_of w + 1) (length applies.stored.first.page) applies.stored.first.rows (schema_row d.name d.name (pages_of w + 1) sql) f) → IsChangeRefusal (creating sql d) c w db f
         of_row row = elim row.why [
           | inl memory ↦ inl memory
           | inr full ↦ inr (inr (inr (inr (
@@ -347,7 +395,7 @@ module _ {D : Type 0} {g : Ghosts D} where
           ))))
         ]
 
-        by_why : (f ≡ fault.Memory) ⊎ IsCreateRefusal (tables_of c.catalog) d (refusal_of f) ⊎ IsRowFault (tables_of c.catalog) d (pages_of w + 1) (length applies.stored.first.page) applies.stored.first.rows (schema_row d.name (pages_of w + 1) sql) f
+        by_why : (f ≡ fault.Memory) ⊎ IsCreateRefusal (tables_of c.catalog) d (refusal_of f) ⊎ IsRowFault (tables_of c.catalog) d (pages_of w + 1) (length applies.stored.first.page) applies.stored.first.rows (schema_row d.name d.name (pages_of w + 1) sql) f
             → IsChangeRefusal (creating sql d) c w db f
         by_why (inl memory) = inl memory
         by_why (inr (inl h)) = inr (inr (inr (inl (refused_work (create db (object.Table d)) (refusal_of f) (refuses_table applies.stored.rows_at (tables_of c.catalog) db d (refusal_of f) applies.stored.lists h)))))
@@ -363,6 +411,7 @@ module _ {D : Type 0} {g : Ghosts D} where
     pub record HasMade (d : TableDefinition) (t : Table) (schema root : PageImage) : Type 0 where
       pub lists : ListsNewTable
       pub only : KeepsOnlyTables
+      pub named : KeepsNamed
       pub page : List ℕ
       pub found : IsAmong (changes_of w) 1 page
       pub shown : (v : View) → ViewHas (seen v w) 1 page
@@ -372,7 +421,7 @@ module _ {D : Type 0} {g : Ghosts D} where
       pub sql : List ℕ
       pub text : IsCreateOf sql (object.Table d)
       pub plain : is_table_supported d ≡ true
-      pub listed : (entries : List Entry) → IsSingleLeaf page 1 entries → IsListedAfter schema.bytes.items entries (schema_row d.name root.number sql)
+      pub listed : (entries : List Entry) → IsSingleLeaf page 1 entries → IsListedAfter schema.bytes.items entries (schema_row d.name d.name root.number sql)
       pub size : length schema.bytes.items ≡ length page
       pub front : take 100 schema.bytes.items ≡ take 100 page
       pub empty : IsTableLeaf root.bytes.items 0 []
@@ -396,6 +445,7 @@ module _ {D : Type 0} {g : Ghosts D} where
           record {
             lists = m.lists;
             only = m.only;
+            named = m.named;
             held = applies.stored;
             made = m.made;
             past = subst (λ (n : ℕ). IsOnePast (pages_of w) n root.number) applies.writer.page_size one_more_page;

@@ -25,16 +25,18 @@ all_idle : (n : ℕ) → AllByRecursion (λ k. k ≡ Idle) (idle n)
 all_idle zero = tt
 all_idle (suc n) = (refl, all_idle n)
 
--- pages whose first is there hold no tables
-pub nothing_stored : (view : View) → HasFirstPage view [] → IsSizeWithinLimits view.page_size view.size → Stores view [] []
-nothing_stored view first served = record {
+-- one page holds no tables
+pub nothing_stored : (view : View) → HasFirstPage view [] → view.size ≡ 1 → IsSizeWithinLimits view.page_size view.size → Stores view [] []
+nothing_stored view first alone served = record {
   rows_at = λ root. [];
   lists = λ name. refl;
   only = refl;
+  named = record { rising = refl; each_folded = tt };
   once = λ name t listed. none_listed t listed;
   apart = λ a b s t one other same. none_listed s one;
   each = λ name t listed. none_listed t listed;
   first = first;
+  used = λ number above within. absurd (omega (arith, alone, above, within));
   served = served;
 }
 

@@ -62,11 +62,11 @@ literals (source.Rows rows) supported_forms = supported_forms
 literals (source.Query q) supported_forms = supported_forms
 
 -- the table that a refused real is for
-pub record IsNamed (tables : List Table) (i : Insert) : Type 0 where
+pub record NamesTable (tables : List Table) (i : Insert) : Type 0 where
   pub table : Table
   pub is : table_named i.table tables ≡ Some table
 
-real_for : (tables : List Table) (i : Insert) (f : Fault) → f ≡ fault.RealRefused → IsInsertFault tables i f → IsNamed tables i
+real_for : (tables : List Table) (i : Insert) (f : Fault) → f ≡ fault.RealRefused → IsInsertFault tables i f → NamesTable tables i
 real_for tables i f e (inl memory) = absurd cc
 real_for tables i f e (inr (inl (inl (none, h)))) = (let h : refusal.RealRefused ≡ refusal.NoSuch = sym (ap refusal_of e) ∙ none in absurd cc)
 real_for tables i f e (inr (inl (inr (t, named, h)))) = record { table = t; is = named }
@@ -82,7 +82,7 @@ bind_refused laws view tables db held i f supported_forms why = elim (refuses db
   | inr (inr (e, real)) ↦ inr (past e real (real_for tables i f e why))
 ]
   where
-    past : f ≡ fault.RealRefused → IsRealRefused db i → IsNamed tables i → work i db (refusal_of f)
+    past : f ≡ fault.RealRefused → IsRealRefused db i → NamesTable tables i → work i db (refusal_of f)
     past e real named =
         let is = laws.refused db i named.table (held.rows_at named.table.root) real.at real.terms refusal.RealRefused (listed_table held.rows_at tables db i.table named.table held.lists named.is) real.stands real.refused in
         inr (not_refused laws db i _ held.only real.stands, subst (λ (a : Answer Database). RefusesWith (of_answer a) (refusal_of f)) (sym is) (0, omega arith, sym (ap refusal_of e)))
@@ -224,7 +224,7 @@ module _ {D : Type 0} {g : Ghosts D} where
       settled = still_settled (files_of old) (files_of new) reads.files on.settled;
       writer = still_writer (files_of old) (files_of new) v reads.files (put_writer (files_of old) w v page (omega (arith, at, it.there.last)) on.writer whole puts);
       stored = subst (λ (c : Catalog). Stores (view_of (files_of new) v) (tables_of c) m.made) (sym reads.catalog) (subst (λ (x : View). Stores x (tables_of old.catalog) m.made) (sym view)
-          (stores_put (view_at (files_of old) (snapshot_of w)) w v (tables_of old.catalog) db m.made page i.table t inserted.added on.stored puts named at inserted.holds m.lists m.only));
+          (stores_put (view_at (files_of old) (snapshot_of w)) w v (tables_of old.catalog) db m.made page i.table t inserted.added on.stored puts named at inserted.holds m.lists m.only m.in_order));
       listed = subst (λ (c : Catalog). committed_in c ≤ length (tables_of c)) (sym reads.catalog) on.listed;
     };
   }

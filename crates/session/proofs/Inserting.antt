@@ -21,6 +21,7 @@ use Rattle.catalog.specs.Database as database
 use Rattle.catalog.specs.Database.{ATable, Database, Name, Object, with_object}
 use Rattle.catalog.specs.Laws.{KeepsOnlyTables, ListsOtherRows}
 use Rattle.catalog.specs.Listed.{Lists, has_only_tables, plain_table, table_named}
+use Rattle.catalog.specs.Named.{IsNamed, KeepsNamed}
 use Rattle.catalog.specs.declared.tables.Table.{Table}
 use Rattle.bind.specs.Checked.{Checked, Meant, faults}
 use Rattle.bind.proofs.ColumnNames.{folded_twice}
@@ -101,11 +102,12 @@ named_as tables a b e = ap (λ n. find (λ t. bytes_eq (folded t.name) n) tables
 
 pub stores_put : (view : View) (old new : Writer) (tables : List Table) (db made : Database) (page : PageImage) (name : Name) (t : Table) (added : List TableRow) (held : Stores (seen view old) tables db) → ReplacesPages (page ∷ []) old new
     → table_named name tables ≡ Some t → page.number ≡ t.root → Holds page.bytes.items t.root (length t.columns.items) (held.rows_at t.root ++ added)
-    → Lists (rows_with held.rows_at t.root (held.rows_at t.root ++ added)) tables made → has_only_tables made ≡ true → Stores (seen view new) tables made
-stores_put view old new tables db made page name t added held puts named at holds lists only = record {
+    → Lists (rows_with held.rows_at t.root (held.rows_at t.root ++ added)) tables made → has_only_tables made ≡ true → IsNamed made → Stores (seen view new) tables made
+stores_put view old new tables db made page name t added held puts named at holds lists only in_order = record {
   rows_at = rows_with held.rows_at t.root (held.rows_at t.root ++ added);
   lists = lists;
   only = only;
+  named = in_order;
   once = held.once;
   apart = held.apart;
   each = λ other u listed. each other u listed (cases_eq u.root t.root);
@@ -115,10 +117,12 @@ stores_put view old new tables db made page name t added held puts named at hold
     header = held.first.header;
     header_is = held.first.header_is;
     sized = held.first.sized;
+    none_free = held.first.none_free;
     rows = held.first.rows;
     single_leaf = held.first.single_leaf;
     tell = subst (λ (n : ℕ). AreRowsOf n [] tables held.first.rows) (sym size) held.first.tell;
   };
+  used = λ number above within. held.used number above (omega (arith, within, size));
   served = subst (IsSizeWithinLimits view.page_size) (sym size) held.served;
 }
   where
@@ -156,6 +160,7 @@ stores_put view old new tables db made page name t added held puts named at hold
 pub record Laws : Type 0 where
   pub lists : ListsOtherRows
   pub tables : KeepsOnlyTables
+  pub named : KeepsNamed
   pub binds : BindsAlone
   pub refused : InsertIsRefused
   pub inserts : InsertAddsRows
@@ -199,6 +204,7 @@ pub record IsMade (rows_at : ℕ → List TableRow) (tables : List Table) (db : 
   pub is : change db (kind.Insert i) ≡ Ok made
   pub lists : Lists (rows_with rows_at t.root (rows_at t.root ++ added)) tables made
   pub only : has_only_tables made ≡ true
+  pub in_order : IsNamed made
 
 abbrev rows_answer : List TableRow → Answer (List TableRow)
 rows_answer rows = Ok rows
@@ -245,6 +251,7 @@ module _ (laws : Laws) (view : View) (tables : List Table) (db : Database) (held
             is = laws.none db i t (held.rows_at t.root) is.at is.terms (listed_table held.rows_at tables db i.table t held.lists named) is.stands (is.answered ∙ ap (λ (rows : List (List Value)). Ok rows) none);
             lists = subst (λ (rows_at : ℕ → List TableRow). Lists rows_at tables db) (λ k root. same nothing root k) held.lists;
             only = held.only;
+            in_order = held.named;
           }
       by (inr some) = record {
         made = with_object db (folded i.table) (ATable (plain_table t (held.rows_at t.root ++ added)));
@@ -252,6 +259,7 @@ module _ (laws : Laws) (view : View) (tables : List Table) (db : Database) (held
         lists = laws.lists held.rows_at tables db (folded i.table) t (held.rows_at t.root ++ added) held.lists (named_folded tables i.table t named)
             (λ other u found here. held.apart other (folded i.table) u t found (named_folded tables i.table t named) here);
         only = laws.tables db (folded i.table) (plain_table t (held.rows_at t.root ++ added)) held.only;
+        in_order = laws.named db (folded i.table) (ATable (plain_table t (held.rows_at t.root ++ added))) held.named;
       }
 
   pub reaches : (made : Database) → change db (kind.Insert i) ≡ Ok made → Reaches (change_made (statement.Change (kind.Insert i)) db) made

@@ -53,6 +53,18 @@ found_back None (Some v) u same is = absurd same
 found_back (Some t) None u same is = absurd same
 found_back (Some t) (Some v) u same is = record { table = t; found = refl; same = subst (IsSameTable t) (same_some v u is) same }
 
+-- what is found among those is found among these
+pub record IsFound (b : Option Table) (t : Table) : Type 0 where
+  pub table : Table
+  pub found : b ≡ Some table
+  pub same : IsSameTable t table
+
+found_forth : (a b : Option Table) (t : Table) → AreSameFound a b → a ≡ Some t → IsFound b t
+found_forth None None t same is = no_table t is
+found_forth None (Some v) t same is = no_table t is
+found_forth (Some s) None t same is = absurd same
+found_forth (Some s) (Some v) t same is = record { table = v; found = refl; same = subst (λ (x : Table). IsSameTable x v) (same_some s t is) same }
+
 pub not_found : (a b : Option Table) → AreSameFound a b → a ≡ None → b ≡ None
 not_found None None same is = refl
 not_found None (Some u) same is = absurd same
@@ -84,7 +96,11 @@ same_row pages before others t u row same is tells = record {
   };
   above = omega (arith, is.root_is, tells.above);
   within = omega (arith, is.root_is, tells.within);
-  row_is = subst (λ (n : ℕ). IsRecord row.payload (schema_row tells.definition.name n tells.sql)) (sym is.root_is) tells.row_is;
+  name = tells.name;
+  name_is = tells.name_is;
+  table_name = tells.table_name;
+  table_name_is = tells.table_name_is;
+  row_is = subst (λ (n : ℕ). IsRecord row.payload (schema_row tells.name tells.table_name n tells.sql)) (sym is.root_is) tells.row_is;
 }
 
 same_rows : (pages : ℕ) (before others ts us : List Table) (rows : List Entry) → AreSameTables before others → AreSameTables ts us → AreRowsOf pages before ts rows → AreRowsOf pages others us rows
@@ -125,6 +141,7 @@ stores_same view ts us db same held = record {
   rows_at = held.rows_at;
   lists = λ name. held.lists name ∙ same_objects held.rows_at (table_named name ts) (table_named name us) (found name);
   only = held.only;
+  named = held.named;
   once = λ name u is. (let was = back name u is in subst (λ (cs : List Column). is_twice_named cs ≡ false) (sym was.same.columns_are) (held.once name was.table was.found));
   apart = λ a b s t one other at. (let was = back a s one in let and = back b t other in held.apart a b was.table and.table was.found and.found (sym was.same.root_is ∙ at ∙ and.same.root_is));
   each = λ name u is. (let was = back name u is in same_stored held.rows_at view was.table u was.same (held.each name was.table was.found));
@@ -134,15 +151,20 @@ stores_same view ts us db same held = record {
     header = held.first.header;
     header_is = held.first.header_is;
     sized = held.first.sized;
+    none_free = held.first.none_free;
     rows = held.first.rows;
     single_leaf = held.first.single_leaf;
     tell = same_rows view.size [] [] ts us held.first.rows tt same held.first.tell;
   };
+  used = λ number above within. (let was = held.used number above within in let is = forth was.name was.table was.listed in record { name = was.name; table = is.table; listed = is.found; root_is = is.same.root_is ∙ was.root_is });
   served = held.served;
 }
   where
     found : (name : Name) → AreSameFound (table_named name ts) (table_named name us)
     found name = same_found name ts us same
+
+    forth : (name : Name) (t : Table) → table_named name ts ≡ Some t → IsFound (table_named name us) t
+    forth name t is = found_forth (table_named name ts) (table_named name us) t (found name) is
 
     back : (name : Name) (u : Table) → table_named name us ≡ Some u → WasFound (table_named name ts) u
     back name u is = found_back (table_named name ts) (table_named name us) u (found name) is

@@ -13,7 +13,7 @@ use Rattle.record.specs.Record.{IsRecord}
 use Rattle.record.specs.Writing.{AreStorable, record_of}
 use Rattle.page.specs.Leaf.{Entry, IsTableLeaf}
 use Rattle.page.specs.Writing.{Fits}
-use Rattle.tabletree.specs.Cells.{start_of}
+use Rattle.pages.specs.Counting.{start_of}
 use Rattle.tabletree.specs.SingleLeaf.{AreRising, IsLeafRefusal, IsSingleLeaf, IsTooFull}
 use Rattle.syntax.specs.declared.create.TableDefinition.{TableDefinition}
 use Rattle.catalog.specs.Database.{Name}

@@ -1,6 +1,6 @@
 -- What a crash leaves of files that are settled, and of what a commit makes of them.
 use Rattle.std.proofs.Common.{◌≡◌, ◌⊎◌, ◌≤◌, inl, inr, refl, sym, ap, subst, ◌∙◌, ℕ, List, [], ◌∷◌, length, map, take, arith}
-use Rattle.std.specs.Prelude.{Option, Some}
+use Rattle.std.specs.Prelude.{Option, Some, MatchOption, ⊤, None}
 use Rattle.disk.proofs.Current.{synced_left}
 use Rattle.disk.specs.File.{File, IsContentLeft, IsLeft, IsRun, IsSynced, OnDb, OnLog, Phase, Version, versions, whole}
 use Rattle.disk.proofs.Left.{left_synced}
@@ -31,6 +31,10 @@ use Rattle.session.specs.declared.transactions.Connections.{Connections}
 -- of a synced file a crash leaves the content
 synced_is : (file : File) → IsSynced file → (c : List ℕ) → IsLeft (versions file) c → c ≡ file.content
 synced_is file synced c left = left_synced (whole file.content) c (subst (λ (vs : List Version). IsLeft vs c) (alone file synced) left)
+
+counts_so : (counted : Option ℕ) (pages size : ℕ) → counted ≡ Some pages → pages ≡ size → MatchOption counted (⊤) (λ count. count ≡ size)
+counts_so None pages size is same = tt
+counts_so (Some count) pages size is same = cc
 
 -- what a run may leave at its end
 run_end : (Good : List Version → List Version → Type 0) (phases : List Phase) (db log new_db new_log : File) → IsRun Good phases db log new_db new_log → Good (versions new_db) (versions new_log)
@@ -116,7 +120,7 @@ module _ {D : Type 0} {g : Ghosts D} where
     first = record { first = omega arith; last = omega (arith, some, is.size); has = is.has_first };
     header = is.next;
     header_is = is.headed.header_is;
-    counted = is.next_is.counts ∙ ap Some (sym is.size);
+    counted = counts_so (counted_of is.next) (pages_of w) view.size is.next_is.counts (sym is.size);
   }
 
   module _ (old new : Log D g) (w : Writer) (page : List ℕ) (header : Header) (settled : IsSettled old) (db_same : db_of new ≡ db_of old) (some : 1 ≤ pages_of w) (before behind : List Table) (was db : Database)

@@ -14,6 +14,10 @@ row_with_more n m le before t row is = record {
   made = is.made;
   above = is.above;
   within = omega (arith, is.within, le);
+  name = is.name;
+  name_is = is.name_is;
+  table_name = is.table_name;
+  table_name_is = is.table_name_is;
   row_is = is.row_is;
 }
 

@@ -66,7 +66,7 @@ same_room v u tables (write.CreateTable sql d) db long same (inr fills) = inr (r
   there = record { first = fills.there.first; last = omega (arith, fills.there.last, long); has = (same 1 fills.page).0 fills.there.has };
   entries = fills.entries;
   single_leaf = fills.single_leaf;
-  full = subst (λ n. HasRoomAfter (length fills.page) fills.entries (schema_row d.now.name (n + 1) sql.now) → ⊥) long fills.full;
+  full = subst (λ n. HasRoomAfter (length fills.page) fills.entries (schema_row d.now.name d.now.name (n + 1) sql.now) → ⊥) long fills.full;
 })
 
 -- ---- commits

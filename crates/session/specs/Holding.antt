@@ -1,5 +1,5 @@
 -- Which database the two files hold, and what a crash leaves of them (Write-Ahead Logging; Database File Format, "Reader Algorithm").
-use Rattle.std.specs.Prelude.{◌≡◌, ◌≤◌, ℕ, List, length, map, Some}
+use Rattle.std.specs.Prelude.{◌≡◌, ◌≤◌, ⊤, ℕ, List, length, map, MatchOption}
 use Rattle.disk.specs.File.{Version, IsLeft, IsSynced, IsContentLeft, Throughout, versions}
 use Rattle.disk.specs.declared.device.Disk.{Ghosts}
 use Rattle.dbheader.specs.Header.{IsHeader, counted_of}
@@ -17,7 +17,7 @@ use Rattle.session.specs.Crashes.{MayShow}
 use Rattle.session.specs.Stored.{Stores}
 
 -- Opening finds the view: the database file begins with a header of the view's page size, the view is as large as its last commit
--- says, or that header where there is none, and page 1 counts so many pages.
+-- says, or that header where there is none, and page 1 counts so many pages, where its count holds.
 pub record IsFound (view : View) : Type 0 where
   pub head : Header
   pub head_is : IsHeader view.db head
@@ -28,7 +28,7 @@ pub record IsFound (view : View) : Type 0 where
   pub first : IsViewPage view 1 page
   pub header : Header
   pub header_is : IsHeader page header
-  pub counted : counted_of header ≡ Some view.size
+  pub counted : MatchOption (counted_of header) (⊤) (λ count. count ≡ view.size)
 
 -- The contents of a database file and its log hold this database: the log's committed frames over the file's pages make a view that
 -- opening finds, and it stores the database.

@@ -12,7 +12,7 @@ use Rattle.record.specs.Record.{IsRecord}
 use Rattle.record.specs.Writing.{AreStorable, record_of}
 use Rattle.page.specs.Leaf.{Entry}
 use Rattle.page.specs.Writing.{Fits}
-use Rattle.tabletree.specs.Cells.{start_of}
+use Rattle.pages.specs.Counting.{start_of}
 use Rattle.tabletree.specs.SingleLeaf.{IsSingleLeaf}
 use Rattle.syntax.specs.declared.create.TableDefinition.{TableDefinition}
 use Rattle.catalog.specs.Database.{Name}
@@ -27,8 +27,8 @@ pub record IsMadeBeside (tables : List Table) (d : TableDefinition) (root : ℕ)
   pub columns : HasColumnsOf d t
 
 -- the values of a table's row in the schema table: its kind, its name as an object and as a table, the page where its tree begins, and its text
-abbrev pub schema_row : Name → ℕ → List ℕ → List Value
-schema_row name root sql = Text (codes "table") ∷ Text name ∷ Text name ∷ Int (pos root) ∷ Text sql ∷ []
+abbrev pub schema_row : Name → Name → ℕ → List ℕ → List Value
+schema_row name table_name root sql = Text (codes "table") ∷ Text name ∷ Text table_name ∷ Int (pos root) ∷ Text sql ∷ []
 
 -- page 1 holds these rows, and after them one of these values
 pub record IsListedAfter (page : List ℕ) (entries : List Entry) (values : List Value) : Type 0 where

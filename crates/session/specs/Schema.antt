@@ -1,6 +1,7 @@
 -- What the rows of page 1 tell of the tables: each has the text of a CREATE TABLE (Database File Format, "Storage Of The SQL
 -- Database Schema").
 use Rattle.std.specs.Prelude.{◌≡◌, ◌<◌, ◌≤◌, ⊤, true, ℕ, List, [], ◌∷◌, ◌++◌, length}
+use Rattle.sqlval.specs.Names.{folded}
 use Rattle.record.specs.Record.{IsRecord}
 use Rattle.page.specs.Leaf.{Entry}
 use Rattle.syntax.specs.declared.create.NewObject.{NewObject}
@@ -8,6 +9,7 @@ use Rattle.syntax.specs.declared.create.NewObject.TheVariants as new
 use Rattle.syntax.specs.declared.create.TableDefinition.{TableDefinition}
 use Rattle.syntax.specs.declared.statement.Statement.{Statement}
 use Rattle.syntax.specs.declared.statement.Statement.TheVariants as statement
+use Rattle.catalog.specs.Database.{Name}
 use Rattle.catalog.specs.declared.tables.Table.{Table}
 use Rattle.grammar.specs.NewObjects.{is_object_within}
 use Rattle.grammar.specs.Texts.{IsStatementText}
@@ -31,7 +33,7 @@ abbrev pub WhereSupported : Statement → Type 0 → Type 0
 WhereSupported s Holds = is_supported s ≡ true → KeepsItsText s → Holds
 
 -- The row tells this table: it has the text of a CREATE TABLE that is supported, which makes the table beside those before it, and
--- the page where its tree begins is one of so many.
+-- the page where its tree begins is one of so many. It has the table's name twice, in letters of either case.
 pub record IsRowOf (pages : ℕ) (before : List Table) (table : Table) (row : Entry) : Type 0 where
   pub sql : List ℕ
   pub definition : TableDefinition
@@ -40,7 +42,11 @@ pub record IsRowOf (pages : ℕ) (before : List Table) (table : Table) (row : En
   pub made : IsMadeBeside before definition table.root table
   pub above : 1 < table.root
   pub within : table.root ≤ pages
-  pub row_is : IsRecord row.payload (schema_row definition.name table.root sql)
+  pub name : Name
+  pub name_is : folded name ≡ folded definition.name
+  pub table_name : Name
+  pub table_name_is : folded table_name ≡ folded definition.name
+  pub row_is : IsRecord row.payload (schema_row name table_name table.root sql)
 
 -- The rows tell these tables after those before them, one each, in a database of so many pages.
 abbrev pub AreRowsOf : ℕ → List Table → List Table → List Entry → Type 0

@@ -5,7 +5,7 @@ ghost use Rattle.std.specs.Int.{w64};
 ghost use Rattle.record.specs.Record.{IsRecord};
 ghost use Rattle.record.specs.Writing.{AreStorable, record_of};
 ghost use Rattle.page.specs.Leaf.{Entry, entry_of};
-ghost use Rattle.tabletree.specs.Cells.{start_of};
+ghost use Rattle.pages.specs.Counting.{start_of};
 ghost use Rattle.tabletree.specs.SingleLeaf.{IsSingleLeaf};
 ghost use Rattle.sqlval.specs.Faults.{IsNotDiskFault};
 ghost use Rattle.catalog.specs.Listed.{tables_of};
@@ -23,7 +23,7 @@ use tabletree::{Leaf, next_rowid, with_rows};
 
 /// The values of a table's row in the schema table.
 fn schema_values(alloc: Global, name: &Name, root: u32, sql: &Text) -> R<Vec<Value>>
-    ensures values { IfOk result (λ values. values.items ≡ schema_row name.now root sql.now) }
+    ensures values { IfOk result (λ values. values.items ≡ schema_row name.now name.now root sql.now) }
     ensures memory { IfErr result (λ fault. fault ≡ Fault.Memory) }
 {
     let mut values = Vec::new(alloc);
@@ -97,10 +97,10 @@ pub fn new_table(
     definition: &TableDefinition,
 ) -> R<NewTable>
     ensures made { IfOk result (λ made. IsMadeBeside (tables_of catalog.now) definition.now root made.table) }
-    ensures listed { IfOk result (λ made. (entries : List Entry) → IsSingleLeaf page.now 1 entries → IsListedAfter made.schema.items entries (schema_row definition.now.name root sql.now)) }
+    ensures listed { IfOk result (λ made. (entries : List Entry) → IsSingleLeaf page.now 1 entries → IsListedAfter made.schema.items entries (schema_row definition.now.name definition.now.name root sql.now)) }
     ensures size { IfOk result (λ made. length made.schema.items ≡ length page.now) }
     ensures front { IfOk result (λ made. take (start_of 1) made.schema.items ≡ take (start_of 1) page.now) }
-    ensures why { IfErr result (λ fault. (entries : List Entry) → IsSingleLeaf page.now 1 entries → IsNewTableFault (tables_of catalog.now) definition.now root (length page.now) entries (schema_row definition.now.name root sql.now) fault) }
+    ensures why { IfErr result (λ fault. (entries : List Entry) → IsSingleLeaf page.now 1 entries → IsNewTableFault (tables_of catalog.now) definition.now root (length page.now) entries (schema_row definition.now.name definition.now.name root sql.now) fault) }
     ensures refused { IfErr result (λ fault. IsNotDiskFault fault) }
 {
     let table = table_of(alloc, catalog, root, definition)?;

@@ -25,7 +25,7 @@ ghost use Rattle.session.specs.Applying.{CommitsChanges, EndsAlone, SeesRows, Ap
 use crate::forms::is_supported;
 use crate::tables::{NewTable, new_table};
 use bind::{BoundInsert, BoundSource, Output, bind_insert, bind_query};
-use catalog::{Catalog, new_tables_are_listed, other_rows_are_listed};
+use catalog::{Catalog, named_databases_are_one, new_tables_are_listed, other_rows_are_listed};
 use disk::Disk;
 use pager::{Writer, read_page};
 use rowprog::{Plan, Rows, Scan, plan_of, single_row, table_rows};
@@ -520,6 +520,7 @@ impl<D: Disk + Drop> Connections<D> {
             → Applies (statement.Change (change.Insert insert.now)) self.old writer.old db result self.new writer.new }
     {
         other_rows_are_listed();
+        named_databases_are_one();
         only_tables_set_nothing_off();
         let bound = bind_insert(self.alloc, insert, &self.catalog)?;
         let number = bound.table.root;
@@ -534,13 +535,14 @@ impl<D: Disk + Drop> Connections<D> {
             → Applies (statement.Create (record { sql = sql.now; object = object.Table table.now })) self.old writer.old db result self.new writer.new }
     {
         let Some(page) = writer.find(1) else {
-            return Err(Fault::Damaged(Damage::MissingPage, 1));
+            return Err(Fault::Damaged(Damage::Size, 1));
         };
         let root = writer.next_number()?;
         let made = new_table(self.alloc, &self.catalog, page, root, sql, table)?;
         let NewTable { table, schema } = made;
         new_tables_are_listed();
         other_rows_are_listed();
+        named_databases_are_one();
         let bytes = tabletree::empty(self.alloc, schema.len())?;
         self.catalog.add(table)?;
         let result = writer.put_object(

@@ -4,7 +4,7 @@ use Rattle.std.proofs.lemmas.List.{take-append-drop, drop-append-le, length-appe
 use Rattle.std.specs.List.{AllByRecursion}
 use Rattle.page.specs.Leaf.{Entry, Span, IsApart, IsCell, AreCells, AreApart, IsTableLeaf, front_span}
 use Rattle.page.proofs.CellLemmas.{cell_nonempty}
-use Rattle.tabletree.specs.Cells.{start_of}
+use Rattle.pages.specs.Counting.{start_of}
 use Rattle.tabletree.specs.SingleLeaf.{KeepsLeafAfter}
 
 -- one page has the bytes and the length of the other, except for so many bytes at its front

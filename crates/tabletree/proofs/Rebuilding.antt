@@ -8,7 +8,7 @@ use Rattle.sqlval.specs.declared.fault.Fault.TheVariants.{Memory, Unsupported}
 use Rattle.sqlval.specs.declared.fault.Feature.TheVariants as Feature
 use Rattle.page.specs.Leaf.{Entry}
 use Rattle.page.specs.Writing.{leaf_of, Fits}
-use Rattle.tabletree.specs.Cells.{start_of}
+use Rattle.pages.specs.Counting.{start_of}
 use Rattle.tabletree.specs.SingleLeaf.{IsSingleLeaf, IsLeafRefusal, IsTooFull}
 
 take_front : (xs ys : List ℕ) (n : ℕ) → n ≤ length xs → take n (take n xs ++ ys) ≡ take n xs

@@ -3,9 +3,10 @@ use Rattle.std.proofs.Common.{◌≡◌, ◌≤◌, ◌<◌, ◌+◌, ◌-◌, �
 use Rattle.std.proofs.lemmas.List.{take_all, drop_all, length-append, append-nil}
 use Rattle.std.specs.List.{flat_map}
 use Rattle.page.specs.Leaf.{Entry, Span, IsCell, AreCells, IsTableLeaf, AreApart, pointer}
-use Rattle.tabletree.specs.Map.{PageMap, page_at, Has}
+use Rattle.pages.specs.Map.{PageMap, page_at, Has}
 use Rattle.tabletree.specs.Payload.{IsPayload, table_most, local_size}
-use Rattle.tabletree.specs.Cells.{Pairwise, IsAt, page_header, start_of}
+use Rattle.pages.specs.Counting.{start_of}
+use Rattle.tabletree.specs.Cells.{Pairwise, IsAt, page_header}
 use Rattle.tabletree.specs.Tree.{Held, IsRowCell, IsLeaf, Rises, IsTableTree}
 
 -- the row of an entry whose payload is whole

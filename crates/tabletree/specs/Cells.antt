@@ -1,5 +1,5 @@
 -- The cells of a page of a tree, as bytes (Database File Format, "B-tree Pages").
-use Rattle.std.specs.Prelude.{◌≡◌, ◌<◌, ◌^◌, ◌+◌, ◌*◌, ◌==◌, ℕ, List, [], ◌∷◌, ◌++◌, length, if◌then◌else◌, ⊤}
+use Rattle.std.specs.Prelude.{◌≡◌, ◌<◌, ◌^◌, ◌+◌, ◌*◌, ℕ, List, [], ◌∷◌, ◌++◌, length, ⊤}
 use Rattle.std.specs.List.{flat_map}
 use Rattle.std.specs.Int.{w16, to_be_bytes}
 use Rattle.page.specs.Leaf.{Span, pointer, AreApart}
@@ -19,10 +19,6 @@ pub record IsAt (page : List ℕ) (span : Span) (bytes : List ℕ) : Type 0 wher
   pub from_is : span.from ≡ length before
   pub to_is : span.to ≡ length before + length bytes
   pub near : span.from < 2 ^ 16
-
--- where the page header begins: after the database header on page 1 (Database File Format, "B-tree Pages")
-abbrev pub start_of : ℕ → ℕ
-start_of number = if number == 1 then 100 else 0
 
 -- The type, the first freeblock, the number of cells, the start of the cells and the number of fragmented bytes.
 abbrev pub page_header : ℕ → List ℕ → ℕ → List ℕ → ℕ → List ℕ

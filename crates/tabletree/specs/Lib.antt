@@ -1,5 +1,4 @@
 pub mod SingleLeaf
-pub mod Map
 pub mod Payload
 pub mod Cells
 pub mod Tree

@@ -2,7 +2,7 @@
 -- "Cell Payload Overflow Pages").
 use Rattle.std.specs.Prelude.{◌≡◌, ◌≤◌, ◌<◌, ◌^◌, ◌+◌, ◌-◌, ◌*◌, ◌/◌, ◌%◌, ℕ, List, [], ◌∷◌, ◌++◌, length, take, drop, nat_le, if◌then◌else◌}
 use Rattle.std.specs.Int.{w32, to_be_bytes}
-use Rattle.tabletree.specs.Map.{PageMap, page_at, Has}
+use Rattle.pages.specs.Map.{PageMap, page_at, Has}
 
 -- the longest payload that lies whole in a table leaf's cell (X of a table leaf)
 abbrev pub table_most : ℕ → ℕ

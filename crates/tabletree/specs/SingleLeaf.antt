@@ -6,8 +6,8 @@ use Rattle.sqlval.specs.declared.fault.Damage.TheVariants as Damage
 use Rattle.sqlval.specs.declared.fault.Feature.TheVariants as Feature
 use Rattle.page.specs.Leaf.{Entry, IsTableLeaf}
 use Rattle.page.specs.Writing.{Fits}
-use Rattle.tabletree.specs.Map.{PageMap, page_at, Has}
-use Rattle.tabletree.specs.Cells.{start_of}
+use Rattle.pages.specs.Map.{PageMap, page_at, Has}
+use Rattle.pages.specs.Counting.{start_of}
 use Rattle.tabletree.specs.Tree.{IsTableTree}
 
 -- each row's number is greater than that of the row before it
@@ -23,7 +23,7 @@ pub record IsSingleLeaf (page : List ℕ) (number : ℕ) (rows : List Entry) : T
 -- rows that don't rise.
 abbrev pub IsLeafRefusal : ℕ → Fault → Type 0
 IsLeafRefusal number fault =
-    (fault ≡ Unsupported Feature.PageKind) ⊎ ((fault ≡ Damaged Damage.Page number) ⊎ (fault ≡ Damaged Damage.Tree number))
+    (fault ≡ Unsupported Feature.PageKind) ⊎ ((fault ≡ Damaged Damage.Page number) ⊎ (fault ≡ Damaged Damage.Order number))
 
 -- there is no room for these rows after those of the page
 abbrev pub IsTooFull : List ℕ → ℕ → List Entry → Fault → Type 0

@@ -4,9 +4,11 @@ use Rattle.std.specs.List.{flat_map}
 use Rattle.std.specs.Int.{w32, w64, to_be_bytes, cast_signed}
 use Rattle.record.specs.Varint.{IsVarint}
 use Rattle.page.specs.Leaf.{Entry}
-use Rattle.tabletree.specs.Map.{PageMap, page_at, Has, IsOnce}
+use Rattle.pages.specs.Map.{PageMap, page_at, Has}
+use Rattle.pages.specs.Counting.{IsOnce}
 use Rattle.tabletree.specs.Payload.{table_most, IsPayload}
-use Rattle.tabletree.specs.Cells.{Pairwise, IsTreePage, start_of}
+use Rattle.pages.specs.Counting.{start_of}
+use Rattle.tabletree.specs.Cells.{Pairwise, IsTreePage}
 
 -- ---- cells
 

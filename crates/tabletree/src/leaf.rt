@@ -4,7 +4,7 @@ ghost use Rattle.std.specs.Prelude.{◌≡◌, ◌<◌, ◌+◌, ◌<ℤ◌, ◌
 ghost use Rattle.sqlval.specs.Gives.{Gives};
 ghost use Rattle.page.specs.Leaf.{Entry, entry_of, IsTableLeaf};
 ghost use Rattle.page.specs.Writing.{Fits};
-ghost use Rattle.tabletree.specs.Cells as cells;
+ghost use Rattle.pages.specs.Counting as counting;
 ghost use Rattle.tabletree.specs.SingleLeaf.{AreRising, IsSingleLeaf, IsLeafRefusal, IsOwnTree, IsTooFull, KeepsLeafAfter, placed};
 
 use page::{Cell, Node, build};
@@ -15,7 +15,7 @@ use std::marker::Model;
 
 /// Where the tree's node begins on a page: after the database's header on page 1.
 fn start_of(number: u32) -> usize
-    ensures { result ≡ cells.start_of number }
+    ensures { result ≡ counting.start_of number }
 {
     if number == 1 { DATABASE_HEADER_LEN } else { 0 }
 }
@@ -47,7 +47,7 @@ impl<'a> Model for Leaf<'a> {
 
 impl<'a> Leaf<'a> {
     /// The rows on the page of this number. A page of another kind, or a payload that goes on in overflow pages, is
-    /// `Unsupported(PageKind)`; another page is `Damaged(Page)`, one whose rows don't rise `Damaged(Tree)`.
+    /// `Unsupported(PageKind)`; another page is `Damaged(Page)`, one whose rows don't rise `Damaged(Order)`.
     pub fn over(alloc: Global, page: &'a [u8], number: u32) -> R<Leaf<'a>>
         ensures found { IfOk result (λ leaf. IsSingleLeaf page.now number leaf) }
         ensures only { (rows : List Entry) → IsSingleLeaf page.now number rows → Gives (λ leaf. leaf) result (Ok rows) }
@@ -58,7 +58,7 @@ impl<'a> Leaf<'a> {
             Err(fault) => return Err(at_page(fault, number)),
         };
         if !is_rising(&node) {
-            return Err(Fault::Damaged(Damage::Tree, number));
+            return Err(Fault::Damaged(Damage::Order, number));
         }
         Ok(Leaf { node })
     }
@@ -121,9 +121,9 @@ pub fn next_rowid(last: Option<i64>) -> R<i64>
 /// Builds page `number` anew with more rows after its own; what stands before the tree's node stays. A page that is no leaf
 /// of rising rows is refused as by `Leaf::over`; rows that don't fit are `Unsupported(RowSize)`.
 pub fn with_rows(alloc: Global, page: &[u8], number: u32, more: &[Cell<'_>]) -> R<Vec<u8>>
-    ensures leaf { IfOk result (λ new. (rows : List Entry) → IsSingleLeaf page.now number rows → IsTableLeaf new.items (cells.start_of number) (rows ++ map entry_of more.now)) }
+    ensures leaf { IfOk result (λ new. (rows : List Entry) → IsSingleLeaf page.now number rows → IsTableLeaf new.items (counting.start_of number) (rows ++ map entry_of more.now)) }
     ensures size { IfOk result (λ new. length new.items ≡ length page.now) }
-    ensures front { IfOk result (λ new. take (cells.start_of number) new.items ≡ take (cells.start_of number) page.now) }
+    ensures front { IfOk result (λ new. take (counting.start_of number) new.items ≡ take (counting.start_of number) page.now) }
     ensures refused { IfErr result (λ fault. (fault ≡ Fault.Memory) ⊎ (IsLeafRefusal number fault ⊎ IsTooFull page.now number (map entry_of more.now) fault)) }
     ensures single_leaf { IfErr result (λ fault. (rows : List Entry) → IsSingleLeaf page.now number rows → (fault ≡ Fault.Memory) ⊎ IsTooFull page.now number (map entry_of more.now) fault) }
 {

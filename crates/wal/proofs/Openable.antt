@@ -8,7 +8,7 @@ use Rattle.std.proofs.lemmas.Bool.{cases_lt}
 use Rattle.disk.specs.Calls.{Rose}
 use Rattle.sqlval.specs.declared.fault.Fault.{Fault}
 use Rattle.sqlval.specs.declared.fault.Fault.TheVariants.{Memory, Io, Damaged, Unsupported, NotADatabase, Full, Syntax, NoSuch, Exists, Ambiguous, Misuse, Busy, StaleSnapshot, NoTransaction, InTransaction, NoSavepoint, NotNull, Unique, Check, Raised, RealRefused, TypeRefused, RowidFull, RowidMismatch, TooLong, RowChangedBefore, ViewReadOnly, Blank, Failed}
-use Rattle.sqlval.specs.declared.fault.Damage.TheVariants.{Header, Size, MissingPage, Page, Tree, Overflow, Freelist, Record, Schema, Log}
+use Rattle.sqlval.specs.declared.fault.Damage.TheVariants.{Header, Size, Page, Cell, FreeSpace, Record, Order, Depth, UsedTwice, Unused, Freelist, Schema, Index}
 use Rattle.sqlval.specs.declared.fault.Feature.TheVariants.{Float, RealColumn, PageSize, FileVersion, ReservedBytes, SchemaFormat, Encoding, AutoVacuum, LogFormat, PageKind, ColumnCount, SchemaObject, Limit, Statement, StatementForm, Connection, RowSize}
 use Rattle.walframe.specs.declared.frame.FrameHeader.{FrameHeader}
 use Rattle.walframe.specs.declared.log_header.LogHeader.{LogHeader}
@@ -86,16 +86,19 @@ one_size (f ∷ fs) counted db_len page_size a b some is_a is_b = is_a ∙ sym i
 pub refused_more : (A B C D : Type 0) (e : Fault) → IsOpenRefusal A B e → (A → C) → (B → D) → IsOpenRefusal C D e
 refused_more A B C D Memory is call none = tt
 refused_more A B C D Io is call none = call is
-refused_more A B C D (Damaged Header number) is call none = absurd is
+refused_more A B C D (Damaged Header number) is call none = (is.0, none is.1)
 refused_more A B C D (Damaged Size number) is call none = (is.0, none is.1)
-refused_more A B C D (Damaged MissingPage number) is call none = absurd is
 refused_more A B C D (Damaged Page number) is call none = absurd is
-refused_more A B C D (Damaged Tree number) is call none = absurd is
-refused_more A B C D (Damaged Overflow number) is call none = absurd is
-refused_more A B C D (Damaged Freelist number) is call none = absurd is
+refused_more A B C D (Damaged Cell number) is call none = absurd is
+refused_more A B C D (Damaged FreeSpace number) is call none = absurd is
 refused_more A B C D (Damaged Record number) is call none = absurd is
+refused_more A B C D (Damaged Order number) is call none = absurd is
+refused_more A B C D (Damaged Depth number) is call none = absurd is
+refused_more A B C D (Damaged UsedTwice number) is call none = absurd is
+refused_more A B C D (Damaged Unused number) is call none = absurd is
+refused_more A B C D (Damaged Freelist number) is call none = absurd is
 refused_more A B C D (Damaged Schema number) is call none = absurd is
-refused_more A B C D (Damaged Log number) is call none = (is.0, none is.1)
+refused_more A B C D (Damaged Index number) is call none = absurd is
 refused_more A B C D (Unsupported Float) is call none = absurd is
 refused_more A B C D (Unsupported RealColumn) is call none = absurd is
 refused_more A B C D (Unsupported PageSize) is call none = none is

@@ -3,7 +3,7 @@ use Rattle.std.specs.Prelude.{◌≡◌, ℕ, Bool, IsTrue}
 use Rattle.disk.specs.Calls.{Rose}
 use Rattle.sqlval.specs.declared.fault.Fault.{Fault}
 use Rattle.sqlval.specs.declared.fault.Fault.TheVariants.{Memory, Io, Failed, Full, Damaged, Unsupported}
-use Rattle.sqlval.specs.declared.fault.Damage.TheVariants.{Page, Log, Size}
+use Rattle.sqlval.specs.declared.fault.Damage.TheVariants.{Page, Header, Size}
 use Rattle.sqlval.specs.declared.fault.Feature.TheVariants.{PageSize, LogFormat, Limit}
 use Rattle.wal.specs.LogState.{LogState}
 use Rattle.wal.specs.Sizes.{IsWithinLimits}
@@ -38,7 +38,7 @@ IsCutRefusal has_failed old new failed fails _ = ⊥
 abbrev pub IsOpenRefusal : Type 0 → Type 0 → Fault → Type 0
 IsOpenRefusal call_failed cannot_open Memory = Unit {0}
 IsOpenRefusal call_failed cannot_open Io = call_failed
-IsOpenRefusal call_failed cannot_open (Damaged Log number) = (number ≡ 0) × cannot_open
+IsOpenRefusal call_failed cannot_open (Damaged Header number) = (number ≡ 0) × cannot_open
 IsOpenRefusal call_failed cannot_open (Damaged Size number) = (number ≡ 0) × cannot_open
 IsOpenRefusal call_failed cannot_open (Unsupported PageSize) = cannot_open
 IsOpenRefusal call_failed cannot_open (Unsupported LogFormat) = cannot_open

@@ -2,7 +2,7 @@
 use Rattle.std.specs.Prelude.{◌≡◌, ◌⊎◌, ◌<◌, ◌≤◌, ◌-◌, ◌*◌, ℕ, Bool, IsTrue, List, [], length, take, drop, slice_index_or, Option, Some, None, Ok}
 use Rattle.sqlval.specs.declared.fault.Fault.{Fault}
 use Rattle.sqlval.specs.declared.fault.Fault.TheVariants.{Io, Failed, Damaged}
-use Rattle.sqlval.specs.declared.fault.Damage.TheVariants.{MissingPage}
+use Rattle.sqlval.specs.declared.fault.Damage.TheVariants.{Size}
 use Rattle.walframe.specs.declared.frame.FrameHeader.{FrameHeader}
 use Rattle.walframe.specs.declared.log_header.LogHeader.{LogHeader}
 use Rattle.walframe.specs.Log.{header_in}
@@ -81,4 +81,4 @@ pub record IsThere (db log : List ℕ) (page_size : ℕ) (header : Option LogHea
 
 -- Why a page can't be read: a call of a disk failed, now or before, or the page isn't there.
 abbrev pub IsPageRefusal : Bool → ℕ → Type 0 → Fault → Type 0
-IsPageRefusal has_failed number There e = (e ≡ Io) ⊎ (e ≡ Failed) × IsTrue has_failed ⊎ (e ≡ Damaged MissingPage number) × (There → ⊥)
+IsPageRefusal has_failed number There e = (e ≡ Io) ⊎ (e ≡ Failed) × IsTrue has_failed ⊎ (e ≡ Damaged Size number) × (There → ⊥)

@@ -78,7 +78,7 @@ impl<D: Disk> Log<D> {
     }
 
     /// Reads a page of a snapshot: the newest frame of the page up to the snapshot's mark, or what the database file has.
-    /// (`Io`, `Failed` after it; `Damaged(MissingPage)` where the number isn't one of 1 to the size, neither file has the page, or `out` has
+    /// (`Io`, `Failed` after it; `Damaged(Size)` where the number isn't one of 1 to the size, neither file has the page, or `out` has
     /// another length than a page.)
     pub fn page(&mut self, snapshot: Snapshot, number: u32, out: &mut [u8]) -> R<()>
         ensures read { IsTrue (D.tells (db_of self.old)) → IsTrue (D.tells (log_of self.old)) → seen_by snapshot ≤ (state_of self.old).frames
@@ -91,7 +91,7 @@ impl<D: Disk> Log<D> {
         ensures within { OnOk result ((1 ≤ number) × (number ≤ size_of snapshot) × (length out.old ≡ (state_of self.old).page_size)) }
     {
         if number == 0 || number > snapshot.size || out.len() != self.state.page_size as usize {
-            return Err(Fault::Damaged(Damage::MissingPage, number));
+            return Err(Fault::Damaged(Damage::Size, number));
         }
         if self.state.is_failed {
             return Err(Fault::Failed);
@@ -102,7 +102,7 @@ impl<D: Disk> Log<D> {
         }
         let size = self.state.page_size as u64;
         if number as u64 * size > self.state.db_len {
-            return Err(Fault::Damaged(Damage::MissingPage, number));
+            return Err(Fault::Damaged(Damage::Size, number));
         }
         self.db.read_at((number as u64 - 1) * size, out)
     }

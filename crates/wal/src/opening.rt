@@ -49,7 +49,7 @@ fn header_of(scanned: &Scan, page_size: u32, salts: Salts) -> R<LogHeader>
     ensures refused { IfErr result (λ fault. IsOpenRefusal ⊥ (IsOfSize scanned.now.header page_size → ⊥) fault) }
 {
     match scanned.header {
-        Some(header) if header.page_size != page_size => Err(Fault::Damaged(Damage::Log, 0)),
+        Some(header) if header.page_size != page_size => Err(Fault::Damaged(Damage::Header, 0)),
         Some(header) => Ok(header),
         None => Ok(LogHeader {
             order: WordOrder::Big,
@@ -157,7 +157,7 @@ impl<D: Disk> Log<D> {
     ghost use Rattle.wal.specs.Opened.{db_in, log_in};
 
     /// Opens a database file, whose pages have `page_size` bytes and whose header counts `counted_size` pages, with its log. A
-    /// log without a valid header gets one with these salts at the first commit. Nothing is written. (`Memory`, `Io`; `Damaged(Log)`
+    /// log without a valid header gets one with these salts at the first commit. Nothing is written. (`Memory`, `Io`; `Damaged(Header)`
     /// where the log is of another page size, `Damaged(Size)` where nothing counts the pages and the file isn't of whole ones;
     /// `Unsupported` of `PageSize`, `LogFormat`, or `Limit` where there are more than 65,536 pages, 1,073,741,824 bytes or
     /// 1,000,000 committed frames.)

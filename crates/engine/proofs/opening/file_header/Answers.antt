@@ -1,7 +1,7 @@
 use Rattle.std.proofs.Common.{rules, refl, sym, ap, subst, ◌∙◌, length, take, drop, arith}
 use Rattle.disk.specs.File.{File}
-use Rattle.pager.proofs.HeaderFronts.{front_of, header_moves}
-use Rattle.engine.specs.Loading.{ReadsHeader}
+use Rattle.pager.proofs.HeaderFronts.{front_of, header_found, header_moves}
+use Rattle.engine.specs.Opening.{ReadsHeader}
 use Rattle.engine.proofs.EmptyOpening as empty
 use Rattle.engine.proofs.EmptyOpening.{clash}
 use Rattle.pager.proofs.Headers.{header_fault, header_not_blank}
@@ -26,6 +26,14 @@ returns-clause-read g c = λ head told is.
     let same = c.in_ok-len.ensures.same told_len ∙ kept.same told in
     let front = c.in_ok-read_at.ensures.read told_read ∙ ap (λ (f : File). take 100 (drop 0 f.content)) same in
     subst (ReadsHeader head) (sym (c.read.ensures.only head (header_moves _ _ head (sym (front_of _ _ front)) is))) refl
+
+pub returns-clause-found : goal.returns-clause-found
+returns-clause-found g c = λ told.
+    let kept = c.in_ok-is_blank.ensures.kept in
+    let told_len = kept.told ∙ told in
+    let told_read = c.in_ok-len.ensures.tells ∙ told_len in
+    let same = c.in_ok-len.ensures.same told_len ∙ kept.same told in
+    header_found _ (g.D.Disk.file c.args.db.now).content (c.in_ok-read_at.ensures.read told_read ∙ ap (λ (f : File). take 100 (drop 0 f.content)) same) c.read.result c.read.ensures.found
 
 pub returns-in_err-is_blank-clause-counted : goal.returns-in_err-is_blank-clause-counted
 returns-in_err-is_blank-clause-counted g c = part_refused _ c.in_err-is_blank.field-0.0 _ _ c.from_residual.ensures.1 c.in_err-is_blank.ensures.counted.counts c.in_err-is_blank.ensures.counted.io

@@ -5,7 +5,7 @@ use Rattle.wal.specs.LogState.{LogState, db_of, log_of}
 use Rattle.engine.specs.Opening.{HasPageSize, KeepsFilesBut}
 use Rattle.session.proofs.Showing.{read_files}
 use Rattle.engine.proofs.HeldOpening.{not_started, starts}
-use Rattle.engine.proofs.Refusing.{cut_failed, cut_kept, never_ok, on_err}
+use Rattle.engine.proofs.Refusing.{cut_failed, cut_kept, never_ok, no_ok, on_err}
 use Rattle.engine.proofs.Opened.{cut_as, read_then_cut}
 use Rattle.engine.proofs.BlankFiles.{cut_not_blank}
 use Rattle.engine.proofs.CountedCalls.{cut_whys, whys_passed}
@@ -13,45 +13,46 @@ use Rattle.engine.proofs.opening.load_and_truncate.Goals as goal
 
 pub returns-in_err-catalog-clause-opens : goal.returns-in_err-catalog-clause-opens
 returns-in_err-catalog-clause-opens g c = λ tables database told settled stored.
-    not_started tables database c.newest_schema.new.log c.from_residual.result c.in_err-catalog.field-0.0 c.from_residual.ensures.1 (c.in_err-catalog.ensures.listed tables database told stored settled.found)
+    not_started tables database c.load.new.log c.from_residual.result c.in_err-catalog.field-0.0 c.from_residual.ensures.1 (c.in_err-catalog.ensures.listed tables database told stored settled.found)
 
 pub returns-in_err-catalog-clause-left : goal.returns-in_err-catalog-clause-left
 returns-in_err-catalog-clause-left g c = λ whole told_db told_log db_left log_left.
-    let k = c.newest_schema.ensures.kept in (subst IsContentLeft (sym (k.1.same told_db)) db_left, subst IsContentLeft (sym (k.2.same told_log)) log_left)
+    let k = c.load.ensures.kept in (subst IsContentLeft (sym (k.db.same told_db)) db_left, subst IsContentLeft (sym (k.log.same told_log)) log_left)
 
 pub returns-in_err-catalog-clause-kept : goal.returns-in_err-catalog-clause-kept
 returns-in_err-catalog-clause-kept g c = λ told_db told_log.
-    let k = c.newest_schema.ensures.kept in
-    on_err (KeepsFilesBut Io (g.D.Disk.file (db_of c.args.log.now)) (g.D.Disk.file (log_of c.args.log.now)) (g.D.Disk.file (db_of c.newest_schema.new.log)) (g.D.Disk.file (log_of c.newest_schema.new.log)))
-    c.from_residual.result c.in_err-catalog.field-0.0 c.from_residual.ensures.1 (λ other. (k.1.same told_db, k.2.same told_log))
+    let k = c.load.ensures.kept in
+    on_err (KeepsFilesBut Io (g.D.Disk.file (db_of c.args.log.now)) (g.D.Disk.file (log_of c.args.log.now)) (g.D.Disk.file (db_of c.load.new.log)) (g.D.Disk.file (log_of c.load.new.log)))
+    c.from_residual.result c.in_err-catalog.field-0.0 c.from_residual.ensures.1 (λ other. (k.db.same told_db, k.log.same told_log))
 
 pub returns-in_err-cut_tail : goal.returns-in_err-cut_tail
 returns-in_err-cut_tail g c = record {
+  found = λ told served. no_ok _ c.from_residual-in_err-cut_tail.result c.in_err-cut_tail.field-0.0 c.from_residual-in_err-cut_tail.ensures.1;
   cut = never_ok _ c.from_residual-in_err-cut_tail.result c.in_err-cut_tail.field-0.0 c.from_residual-in_err-cut_tail.ensures.1;
   left = λ whole told_db told_log db_left log_left.
-      let k = c.newest_schema.ensures.kept in (
-        subst IsContentLeft (sym (ap g.D.Disk.file c.cut_tail.ensures.same.db ∙ k.1.same told_db)) db_left,
-        c.cut_tail.ensures.left (ap (λ (known : LogState). known.has_failed) k.0 ∙ whole) (k.2.tells_same ∙ told_log),
+      let k = c.load.ensures.kept in (
+        subst IsContentLeft (sym (ap g.D.Disk.file c.cut_tail.ensures.same.db ∙ k.db.same told_db)) db_left,
+        c.cut_tail.ensures.left (ap (λ (known : LogState). known.has_failed) k.known ∙ whole) (k.log.tells_same ∙ told_log),
       );
   crash = λ whole pages told_db told_log db_synced log_synced.
-      let k = c.newest_schema.ensures.kept in
-      read_then_cut _ _ _ _ (g.D.Disk.file (db_of c.newest_schema.new.log)) (g.D.Disk.file (log_of c.newest_schema.new.log)) _ _ (subst (λ (known : LogState). HasPageSize (g.D.Disk.file (db_of c.args.log.now)).content known.page_size) (sym k.0) pages) db_synced log_synced (k.1.same told_db) (k.2.same told_log)
-      (ap g.D.Disk.file c.cut_tail.ensures.same.db) (c.cut_tail.ensures.crash (ap (λ (known : LogState). known.has_failed) k.0 ∙ whole) (k.2.tells_same ∙ told_log));
+      let k = c.load.ensures.kept in
+      read_then_cut _ _ _ _ (g.D.Disk.file (db_of c.load.new.log)) (g.D.Disk.file (log_of c.load.new.log)) _ _ (subst (λ (known : LogState). HasPageSize (g.D.Disk.file (db_of c.args.log.now)).content known.page_size) (sym k.known) pages) db_synced log_synced (k.db.same told_db) (k.log.same told_log)
+      (ap g.D.Disk.file c.cut_tail.ensures.same.db) (c.cut_tail.ensures.crash (ap (λ (known : LogState). known.has_failed) k.known ∙ whole) (k.log.tells_same ∙ told_log));
   kept = λ told_db told_log.
-      let k = c.newest_schema.ensures.kept in
+      let k = c.load.ensures.kept in
       on_err (KeepsFilesBut Io (g.D.Disk.file (db_of c.args.log.now)) (g.D.Disk.file (log_of c.args.log.now)) (g.D.Disk.file (db_of c.cut_tail.new.self)) (g.D.Disk.file (log_of c.cut_tail.new.self)))
       c.from_residual-in_err-cut_tail.result c.in_err-cut_tail.field-0.0 c.from_residual-in_err-cut_tail.ensures.1
       (λ other. (
-        ap g.D.Disk.file c.cut_tail.ensures.same.db ∙ k.1.same told_db,
-        ap g.D.Disk.file (cut_kept _ _ _ _ _ _ c.in_err-cut_tail.ensures.refused other) ∙ k.2.same told_log,
+        ap g.D.Disk.file c.cut_tail.ensures.same.db ∙ k.db.same told_db,
+        ap g.D.Disk.file (cut_kept _ _ _ _ _ _ c.in_err-cut_tail.ensures.refused other) ∙ k.log.same told_log,
       ));
   opens = λ tables database told settled stored.
-      let k = c.newest_schema.ensures.kept in
+      let k = c.load.ensures.kept in
       not_started tables database c.cut_tail.new.self c.from_residual-in_err-cut_tail.result c.in_err-cut_tail.field-0.0 c.from_residual-in_err-cut_tail.ensures.1
-      (inr (cut_failed _ _ _ _ _ _ c.in_err-cut_tail.ensures.refused (ap (λ (known : LogState). known.has_failed) k.0 ∙ told.whole)));
+      (inr (cut_failed _ _ _ _ _ _ c.in_err-cut_tail.ensures.refused (ap (λ (known : LogState). known.has_failed) k.known ∙ told.whole)));
   cause =
-      cut_whys g.D.Disk.failures c.from_residual-in_err-cut_tail.result c.in_err-cut_tail.field-0.0 _ (db_of c.args.log.now) (db_of c.newest_schema.new.log) (db_of c.cut_tail.new.self) (log_of c.args.log.now) (log_of c.newest_schema.new.log) (log_of c.cut_tail.new.self)
-      c.newest_schema.ensures.cause.db_counts c.newest_schema.ensures.cause.log_counts c.cut_tail.ensures.same.db c.cut_tail.ensures.same.counts c.from_residual-in_err-cut_tail.ensures.1 c.in_err-cut_tail.ensures.refused;
+      cut_whys g.D.Disk.failures c.from_residual-in_err-cut_tail.result c.in_err-cut_tail.field-0.0 _ (db_of c.args.log.now) (db_of c.load.new.log) (db_of c.cut_tail.new.self) (log_of c.args.log.now) (log_of c.load.new.log) (log_of c.cut_tail.new.self)
+      c.load.ensures.cause.db_counts c.load.ensures.cause.log_counts c.cut_tail.ensures.same.db c.cut_tail.ensures.same.counts c.from_residual-in_err-cut_tail.ensures.1 c.in_err-cut_tail.ensures.refused;
   not_blank =
       on_err (λ f. f ≡ Blank → ⊥) c.from_residual-in_err-cut_tail.result c.in_err-cut_tail.field-0.0 c.from_residual-in_err-cut_tail.ensures.1
       (cut_not_blank _ _ _ _ _ c.in_err-cut_tail.field-0.0 c.in_err-cut_tail.ensures.refused);
@@ -63,30 +64,31 @@ returns-in_err-catalog-clause-not_blank g c = on_err (λ f. f ≡ Blank → ⊥)
 pub returns : goal.returns
 returns g c = record {
   cut = (
-    c.in_ok-cut_tail.ensures.known ∙ c.newest_schema.ensures.kept.0,
+    c.in_ok-cut_tail.ensures.known ∙ c.load.ensures.kept.known,
     λ told_log.
-        let k = c.newest_schema.ensures.kept in
-        cut_as _ _ _ _ (g.D.Disk.file (log_of c.cut_tail.new.self)).content k.0 (ap (λ (f : File). f.content) (k.2.same told_log)) (c.in_ok-cut_tail.ensures.done (k.2.tells_same ∙ told_log)).content,
+        let k = c.load.ensures.kept in
+        cut_as _ _ _ _ (g.D.Disk.file (log_of c.cut_tail.new.self)).content k.known (ap (λ (f : File). f.content) (k.log.same told_log)) (c.in_ok-cut_tail.ensures.done (k.log.tells_same ∙ told_log)).content,
   );
   left = λ whole told_db told_log db_left log_left.
-      let k = c.newest_schema.ensures.kept in (
-        subst IsContentLeft (sym (ap g.D.Disk.file c.cut_tail.ensures.same.db ∙ k.1.same told_db)) db_left,
-        c.cut_tail.ensures.left (ap (λ (known : LogState). known.has_failed) k.0 ∙ whole) (k.2.tells_same ∙ told_log),
+      let k = c.load.ensures.kept in (
+        subst IsContentLeft (sym (ap g.D.Disk.file c.cut_tail.ensures.same.db ∙ k.db.same told_db)) db_left,
+        c.cut_tail.ensures.left (ap (λ (known : LogState). known.has_failed) k.known ∙ whole) (k.log.tells_same ∙ told_log),
       );
   crash = λ whole pages told_db told_log db_synced log_synced.
-      let k = c.newest_schema.ensures.kept in
-      read_then_cut _ _ _ _ (g.D.Disk.file (db_of c.newest_schema.new.log)) (g.D.Disk.file (log_of c.newest_schema.new.log)) _ _ (subst (λ (known : LogState). HasPageSize (g.D.Disk.file (db_of c.args.log.now)).content known.page_size) (sym k.0) pages) db_synced log_synced (k.1.same told_db) (k.2.same told_log)
-      (ap g.D.Disk.file c.cut_tail.ensures.same.db) (c.cut_tail.ensures.crash (ap (λ (known : LogState). known.has_failed) k.0 ∙ whole) (k.2.tells_same ∙ told_log));
+      let k = c.load.ensures.kept in
+      read_then_cut _ _ _ _ (g.D.Disk.file (db_of c.load.new.log)) (g.D.Disk.file (log_of c.load.new.log)) _ _ (subst (λ (known : LogState). HasPageSize (g.D.Disk.file (db_of c.args.log.now)).content known.page_size) (sym k.known) pages) db_synced log_synced (k.db.same told_db) (k.log.same told_log)
+      (ap g.D.Disk.file c.cut_tail.ensures.same.db) (c.cut_tail.ensures.crash (ap (λ (known : LogState). known.has_failed) k.known ∙ whole) (k.log.tells_same ∙ told_log));
   kept = λ told_db told_log. tt;
+  found = λ told served. c.in_ok-catalog.ensures.found told served;
   opens = λ tables database told settled stored.
-      let k = c.newest_schema.ensures.kept in
-      starts tables database c.args.log.now c.newest_schema.new.log c.cut_tail.new.self _ (read_files c.args.log.now c.newest_schema.new.log told k.0 k.1 k.2) settled stored
+      let k = c.load.ensures.kept in
+      starts tables database c.args.log.now c.load.new.log c.cut_tail.new.self _ (read_files c.args.log.now c.load.new.log told k.known k.db k.log) settled stored
       c.in_ok-cut_tail.ensures.known c.cut_tail.ensures.same.db c.cut_tail.ensures.same.tells_same
-      (c.in_ok-cut_tail.ensures.done (k.2.tells_same ∙ told.log))
+      (c.in_ok-cut_tail.ensures.done (k.log.tells_same ∙ told.log))
       (c.in_ok-catalog.ensures.listed tables database told stored settled.found);
   cause = record {
-    db_counts = omega (arith, c.newest_schema.ensures.cause.db_counts, ap g.D.Disk.failures c.cut_tail.ensures.same.db);
-    log_counts = omega (arith, c.newest_schema.ensures.cause.log_counts, c.cut_tail.ensures.same.counts);
+    db_counts = omega (arith, c.load.ensures.cause.db_counts, ap g.D.Disk.failures c.cut_tail.ensures.same.db);
+    log_counts = omega (arith, c.load.ensures.cause.log_counts, c.cut_tail.ensures.same.counts);
     none_failed = (ap g.D.Disk.failures c.cut_tail.ensures.same.db ∙ c.in_ok-catalog.ensures.cause.none_failed.0, c.in_ok-cut_tail.ensures.refused ∙ c.in_ok-catalog.ensures.cause.none_failed.1);
     why = tt;
   };

@@ -1,16 +1,20 @@
 use Rattle.std.proofs.Common.{arith, inl, inr, ◌≡◌, refl, ap, sym, subst, ◌∙◌, Ok, Err}
-use Rattle.std.specs.Prelude.{IfErr, IsFalse, IsTrue}
+use Rattle.std.specs.Prelude.{ℕ, List, IfErr, IsFalse, IsTrue}
 use Rattle.std.proofs.lemmas.Result.{err_from_is_err_and}
 use Rattle.disk.specs.File.{File, IsContentLeft, IsSynced, Throughout}
 use Rattle.sqlval.specs.declared.fault.Fault.TheVariants.{Io}
 use Rattle.walframe.specs.declared.log_header.LogHeader.{LogHeader}
 use Rattle.wal.specs.LogState.{LogState, db_of, state_of, log_of}
+use Rattle.dbheader.specs.Header.{IsHeader}
 use Rattle.wal.specs.Opened.{CanOpen}
+use Rattle.wal.specs.Sizes.{IsSizeWithinLimits}
+use Rattle.catalog.specs.Listed.{tables_of}
+use Rattle.pager.specs.Views.{Tells, newest_view}
 use Rattle.engine.specs.Creating.{is_blank_content}
 use Rattle.engine.specs.Opening.{HasPageSize, IsCutTo, TellsBlank, KeepsFilesBut, LeavesOpened, Opens}
 use Rattle.engine.proofs.BlankFiles.{failed, open_not_blank, other_refusal}
 use Rattle.engine.proofs.CountedCalls.{opened_rose, rose_both}
-use Rattle.engine.proofs.HeldOpening.{can_open, head_of, held_as, not_opened, opened_held, starts_shown}
+use Rattle.engine.proofs.HeldOpening.{can_open, found_held, found_view, head_of, held_as, not_opened, opened_held, opened_settled, starts_shown}
 use Rattle.engine.proofs.HeldCrashes.{has_pages}
 use Rattle.engine.proofs.Opened.{WereRead, cut_as, read_on, synced_as, not_called}
 use Rattle.engine.proofs.OpenAnswers.{IsAnswer, cut_crash, given_back, holds, refused_read}
@@ -129,6 +133,19 @@ returns-in-Ok-load_and_truncate g c =
           subst (λ f. IsContentLeft (file (db_of f)) × IsContentLeft (file (log_of f))) (sym c.new.ensures.files)
           (two.ensures.left c.in_ok-log.ensures.known.whole (were.db_kept.tells_same ∙ told_db) (were.log_kept.tells_same ∙ told_log) (were.db_kept.left told_db db_was) (were.log_kept.left told_log log_was));
       opened = record {
+        found = λ told_db told_log.
+            let known = c.in_ok-log.ensures.view (header.db_kept.tells_same ∙ told_db) (header.log_kept.tells_same ∙ told_log) in
+            let tells : Tells {g = g.D.Disk} opened = record { db = were.db_kept.tells_same ∙ told_db; log = were.log_kept.tells_same ∙ told_log; whole = c.in_ok-log.ensures.known.whole } in
+            let served = subst (λ n. IsSizeWithinLimits n (state_of opened).size) (sym c.in_ok-log.ensures.known.page_size_is) c.in_ok-log.ensures.known.served in
+            let found = c.in-Ok-load_and_truncate.ensures.found tells served in
+            let head_is = subst (λ (bytes : List ℕ). IsHeader bytes c.in-Ok.header) (synced.db_kept.same told_db ∙ sym (were.db_kept.same told_db)) (c.in-Ok.ensures.found (told told_db)) in
+            let view = found_view opened _ _ c.in-Ok-load_and_truncate.catalog found head_is c.counted_size.ensures c.in_ok-log.ensures.known.page_size_is known in
+            let settled = opened_settled opened _ (newest_view opened) refl view (db_synced told_db) (log_synced told_log) known in
+            record {
+              database = found.database;
+              held = held_as _ _ (file c.args.db).content (file c.args.log).content found.database (sym (were.db_kept.same told_db)) (sym (were.log_kept.same told_log)) (found_held opened _ c.in-Ok-load_and_truncate.catalog found view known);
+              shown = starts_shown _ (tables_of c.in-Ok-load_and_truncate.catalog) found.database c.load_and_truncate.new.log _ (c.in-Ok-load_and_truncate.ensures.opens (tables_of c.in-Ok-load_and_truncate.catalog) found.database tells settled found.stored) c.new.ensures.shown;
+            };
         whole = c.new.ensures.whole;
         not_blank = λ told_db blank. c.in-Ok.ensures.blank (told told_db) (ap is_blank_content (synced.db_kept.same told_db) ∙ blank);
         cut = λ told_log.

@@ -1,0 +1,37 @@
+-- Databases whose names are in order and folded, and those that tables are listed of.
+use Rattle.std.specs.Prelude.{◌≡◌, ◌↔◌, ℕ, ℤ, true, List, map, Some}
+use Rattle.std.specs.List.{AllByRecursion, Contains}
+use Rattle.sqlval.specs.Lists.{is_rising}
+use Rattle.sqlval.specs.Names.{folded}
+use Rattle.sqlval.specs.declared.value.Value.{Value}
+use Rattle.catalog.specs.Database.{Name, Database, Object, name_order, object, with_object}
+use Rattle.catalog.specs.Listed.{Lists, has_only_tables, plain_table, table_named}
+use Rattle.catalog.specs.Rows.{are_rows, is_in_order}
+use Rattle.catalog.specs.declared.tables.Table.{Table}
+
+-- The names rise, each once, and each is folded: so an object is found under one name alone.
+pub record IsNamed (db : Database) : Type 0 where
+  pub rising : is_rising name_order (map (λ o. o.0) db) ≡ true
+  pub each_folded : AllByRecursion (λ o. folded o.0 ≡ o.0) db
+
+-- databases in which each name finds the same are equal
+abbrev pub OneDatabase : Type 0
+OneDatabase = (a b : Database) → IsNamed a → IsNamed b → ((name : Name) → object a name ≡ object b name) → a ≡ b
+
+-- with an object more, or another in its place, the names still are so
+abbrev pub KeepsNamed : Type 0
+KeepsNamed = (db : Database) (name : Name) (o : Object) → IsNamed db → IsNamed (with_object db name o)
+
+-- any tables, with any rows, are those of a database without other objects
+abbrev pub ListedDatabase : Type 0
+ListedDatabase = (rows_at : ℕ → List (ℤ × List Value)) (tables : List Table) → (db : Database) × IsNamed db × (has_only_tables db ≡ true) × Lists rows_at tables db
+
+-- a database of listed tables is in order where each table's rows are such as it may hold
+abbrev pub IsInOrder : Type 0
+IsInOrder = (rows_at : ℕ → List (ℤ × List Value)) (tables : List Table) (db : Database) → IsNamed db → Lists rows_at tables db
+    → ((name : Name) (t : Table) → table_named name tables ≡ Some t → are_rows (plain_table t (rows_at t.root)) ≡ true) → is_in_order db ≡ true
+
+-- a database of listed tables has their names, folded, and no others
+abbrev pub ListedNames : Type 0
+ListedNames = (rows_at : ℕ → List (ℤ × List Value)) (tables : List Table) (db : Database) → IsNamed db → Lists rows_at tables db
+    → (name : Name) → Contains (map (λ o. o.0) db) name ↔ ((folded name ≡ name) × ((t : Table) × (table_named name tables ≡ Some t)))

@@ -1,0 +1,9 @@
+pub mod Causes
+pub mod CheckedTables
+pub mod LoadedTables
+pub mod MarkedRoots
+pub mod OneStored
+pub mod OneView
+pub mod SchemaTables
+pub mod StoredTables
+pub mod TablePages

@@ -1,0 +1,6 @@
+pub mod FirstPage
+pub mod Loading
+pub mod Marks
+pub mod Roots
+pub mod Tables
+pub mod Unique

@@ -1,0 +1,72 @@
+-- What is read of page 1, whose rows tell the tables (Database File Format, "Storage Of The SQL Database Schema").
+use Rattle.std.specs.Prelude.{◌≡◌, ◌<◌, ◌≤◌, ◌++◌, ◌∷◌, true, false, ℕ, List, [], Result, Ok, Err}
+use Rattle.sqlval.specs.declared.fault.Fault.{Fault}
+use Rattle.sqlval.specs.declared.fault.Fault.TheVariants.{Memory, Blank}
+use Rattle.sqlval.specs.declared.value.Value.{Value}
+use Rattle.sqlval.specs.Faults.{IsNotDiskFault}
+use Rattle.sqlval.specs.Names.{is_same_name}
+use Rattle.page.specs.Leaf.{Entry}
+use Rattle.syntax.specs.declared.create.NewObject.TheVariants as new
+use Rattle.syntax.specs.declared.create.TableDefinition.{TableDefinition}
+use Rattle.tabletree.specs.SingleLeaf.{IsSingleLeaf}
+use Rattle.catalog.specs.Listed.{is_reserved, tables_of}
+use Rattle.catalog.specs.declared.tables.Catalog.{Catalog}
+use Rattle.catalog.specs.declared.tables.Table.{Table}
+use Rattle.session.specs.Supported.{is_table_supported}
+use Rattle.session.specs.NewTables.{IsMadeBeside, schema_row}
+use Rattle.session.specs.Schema.{AreRowsOf, AreSameTables, IsCreateOf, IsRowOf}
+use Rattle.session.specs.Representation.{AreCommitted}
+use Rattle.loading.specs.declared.schema.SchemaRow.{SchemaRow}
+
+-- neither a disk's failure, nor that of a full database or a blank file
+abbrev pub IsSchemaFault : Fault → Type 0
+IsSchemaFault fault = IsNotDiskFault fault × (fault ≡ Blank → ⊥)
+
+-- the catalog lists these tables, all of them committed
+abbrev pub ListsCommitted : List Table → Catalog → Type 0
+ListsCommitted tables catalog = AreSameTables tables (tables_of catalog) × AreCommitted catalog
+
+-- The page is a leaf of rows that tell the tables of the catalog, all of them committed, in a database of so many pages.
+pub record TellsTables (pages : ℕ) (page : List ℕ) (catalog : Catalog) : Type 0 where
+  pub committed : AreCommitted catalog
+  pub rows : List Entry
+  pub single_leaf : IsSingleLeaf page 1 rows
+  pub tell : AreRowsOf pages [] (tables_of catalog) rows
+
+-- The catalog lists these tables; or memory was short.
+abbrev pub AddsTables : {X : Type 0} → List Table → Result X Fault → Catalog → Type 0
+AddsTables tables (Ok x) catalog = AreSameTables tables (tables_of catalog)
+AddsTables tables (Err fault) catalog = fault ≡ Memory
+
+-- The catalog lists one table more than before, and the row tells it beside those.
+pub record AddsToldTable (pages : ℕ) (row : Entry) (old new : Catalog) : Type 0 where
+  pub table : Table
+  pub added : tables_of new ≡ tables_of old ++ table ∷ []
+  pub tells : IsRowOf pages (tables_of old) table row
+
+-- the parts of a table's row
+pub record HasParts (called table_called : List ℕ) (page : ℕ) (text : List ℕ) (row : SchemaRow) : Type 0 where
+  pub name_is : row.name.now ≡ called
+  pub table_name_is : row.table_name.now ≡ table_called
+  pub root_is : row.root ≡ page
+  pub sql_is : row.sql.now ≡ text
+
+-- The values are those of a table's row with these parts. The page where its tree begins is one of so many.
+pub record AreRowValues (pages : ℕ) (row : SchemaRow) (values : List Value) : Type 0 where
+  pub values_are : values ≡ schema_row row.name.now row.table_name.now row.root row.sql.now
+  pub above : 1 < row.root
+  pub within : row.root ≤ pages
+
+-- The definition is supported, and its name isn't reserved. The row has that name twice.
+pub record IsOfRow (row : SchemaRow) (definition : TableDefinition) : Type 0 where
+  pub supported_forms : is_table_supported definition ≡ true
+  pub name_is : is_same_name definition.name row.name.now ≡ true
+  pub table_name_is : is_same_name definition.name row.table_name.now ≡ true
+  pub free : is_reserved definition.name ≡ false
+
+-- The parts of a row tell this table beside those before it.
+pub record TellsTable (before : List Table) (table : Table) (row : SchemaRow) : Type 0 where
+  pub definition : TableDefinition
+  pub creates : IsCreateOf row.sql.now (new.Table definition)
+  pub names : IsOfRow row definition
+  pub made : IsMadeBeside before definition row.root table

@@ -1,0 +1,5 @@
+pub mod Calls
+pub mod Counting
+pub mod Laws
+pub mod Map
+pub mod Memory
