@@ -114,21 +114,21 @@ place_below t i k (c ∷ cs) e = below_by i k (length cs) (position_from t (i + 
 abbrev or_rowid : List ℕ → List Term → List Term
 or_rowid n cs = if length cs == 0 && true && is_same_name n (codes "rowid") then (Cell 0 RowId (Some kind.Integer) Binary ∷ []) else cs
 
-module _ (n as_name : List ℕ) (t : Table) (once : is_twice_named t.columns.items ≡ false) where
+module _ (n as_name : List ℕ) (t : Table) (once : is_twice_named t.columns ≡ false) where
   -- a column of that name
-  pub column_shown : (k : ℕ) → place_named n t.columns.items ≡ Some k → IsTheOne (Some (out.Column k)) (named_in 0 n (source_seen as_name t))
-  column_shown k h = let e = subst (λ o. IsNamed 0 o (named_from 0 0 n (seen t.columns.items))) h (named_is 0 0 n t.columns.items once) in
+  pub column_shown : (k : ℕ) → place_named n t.columns ≡ Some k → IsTheOne (Some (out.Column k)) (named_in 0 n (source_seen as_name t))
+  column_shown k h = let e = subst (λ o. IsNamed 0 o (named_from 0 0 n (seen t.columns))) h (named_is 0 0 n t.columns once) in
       (Cell 0 (At k) e.0 Binary, ap (or_rowid n) e.1, (refl, λ env. refl))
 
-  none : place_named n t.columns.items ≡ None → named_from 0 0 n (seen t.columns.items) ≡ []
-  none h = subst (λ o. IsNamed 0 o (named_from 0 0 n (seen t.columns.items))) h (named_is 0 0 n t.columns.items once)
+  none : place_named n t.columns ≡ None → named_from 0 0 n (seen t.columns) ≡ []
+  none h = subst (λ o. IsNamed 0 o (named_from 0 0 n (seen t.columns))) h (named_is 0 0 n t.columns once)
 
   -- no column of that name, which is the rowid's
-  pub rowid_shown : place_named n t.columns.items ≡ None → is_same_name n (codes "rowid") ≡ true → IsTheOne (Some out.Rowid) (named_in 0 n (source_seen as_name t))
+  pub rowid_shown : place_named n t.columns ≡ None → is_same_name n (codes "rowid") ≡ true → IsTheOne (Some out.Rowid) (named_in 0 n (source_seen as_name t))
   rowid_shown h r = (Cell 0 RowId (Some kind.Integer) Binary, ap (or_rowid n) (none h) ∙ ap (λ b. cond b (Cell 0 RowId (Some kind.Integer) Binary ∷ []) []) r, (refl, λ env. refl))
 
   -- no column of that name, which isn't the rowid's
-  pub none_shown : place_named n t.columns.items ≡ None → is_same_name n (codes "rowid") ≡ false → named_in 0 n (source_seen as_name t) ≡ []
+  pub none_shown : place_named n t.columns ≡ None → is_same_name n (codes "rowid") ≡ false → named_in 0 n (source_seen as_name t) ≡ []
   none_shown h r = ap (or_rowid n) (none h) ∙ ap (λ b. cond b (Cell 0 RowId (Some kind.Integer) Binary ∷ []) []) r
 
   abbrev among : Bool → List Term → Checked Term

@@ -195,12 +195,12 @@ counted_refused n written w c (inr (inr h)) = inr (inr (inr (h.0, c, h.1)))
 
 module _ (tables : List Table) (i : Insert) (t : Table) (found : table_named i.table tables ≡ Some t) where
   -- its list of columns is refused
-  pub list_refused : (w : Fault) → (w ≡ fault.Memory) ⊎ IsListRefusal t.columns.items i.columns (refusal_of w) → IsInsertFault tables i w
+  pub list_refused : (w : Fault) → (w ≡ fault.Memory) ⊎ IsListRefusal t.columns i.columns (refusal_of w) → IsInsertFault tables i w
   list_refused w (inl h) = inl h
   list_refused w (inr h) = inr (inl (inr (t, found, inl h)))
 
   -- its rows are
-  pub source_refused : (w : Fault) → AreColumns t.columns.items i.columns → IsRowsFault (count_wanted i.columns t) i.source w → IsInsertFault tables i w
+  pub source_refused : (w : Fault) → AreColumns t.columns i.columns → IsRowsFault (count_wanted i.columns t) i.source w → IsInsertFault tables i w
   source_refused w l (inl h) = inl h
   source_refused w l (inr (inl h)) = inr (inl (inr (t, found, inr h)))
   source_refused w l (inr (inr (inl h))) = inr (inr (inl h))

@@ -113,7 +113,7 @@ module _ (outputs : List Output) (small : length outputs ≤ 64) where
   plain_bound look tables q scope knows h is shown = subst (λ q. IsBound look q outputs) (sym (is_plain q h)) (bound look tables q.results q.from scope knows h.5 is shown)
 
 -- the source of a table
-pub source_is : (tables : List Table) (from : Option FromClause) (scope : Option Scope) (s : Scope) (n : ℕ) → scope ≡ Some s → n ≡ length s.table.now.columns.items → IsScope tables from scope
+pub source_is : (tables : List Table) (from : Option FromClause) (scope : Option Scope) (s : Scope) (n : ℕ) → scope ≡ Some s → n ≡ length s.table.now.columns → IsScope tables from scope
     → IsSource tables from (Some (record { root = s.table.now.root; width = n }))
 source_is tables from scope s n e w h = by from (subst (IsScope tables from) e h)
   where

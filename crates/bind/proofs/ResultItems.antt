@@ -68,16 +68,16 @@ shows_append (o ∷ os) ps (t ∷ ts) us h k = (h.0, shows_append os ps ts us h.
 stars : (cs : List Column) → map (λ r. r.0) (cells_from 0 0 (seen cs) ++ []) ≡ map (λ r. r.0) (cells_from 0 0 (seen cs))
 stars cs = ap (map (λ r. r.0)) (append-nil (cells_from 0 0 (seen cs)))
 
-module _ (before after : List Output) (name : List ℕ) (t : Table) (pushed : after ≡ before ++ columns_from 0 t.columns.items) where
-  shown : (ts : List Term) → ShowsAll before ts → ShowsAll after (ts ++ map (λ r. r.0) (cells_from 0 0 (seen t.columns.items) ++ []))
-  shown ts h = subst (λ os. ShowsAll os (ts ++ map (λ r. r.0) (cells_from 0 0 (seen t.columns.items) ++ []))) (sym pushed)
-      (shows_append before (columns_from 0 t.columns.items) ts _ h (subst (ShowsAll (columns_from 0 t.columns.items)) (sym (stars t.columns.items)) (columns_show 0 t.columns.items)))
+module _ (before after : List Output) (name : List ℕ) (t : Table) (pushed : after ≡ before ++ columns_from 0 t.columns) where
+  shown : (ts : List Term) → ShowsAll before ts → ShowsAll after (ts ++ map (λ r. r.0) (cells_from 0 0 (seen t.columns) ++ []))
+  shown ts h = subst (λ os. ShowsAll os (ts ++ map (λ r. r.0) (cells_from 0 0 (seen t.columns) ++ []))) (sym pushed)
+      (shows_append before (columns_from 0 t.columns) ts _ h (subst (ShowsAll (columns_from 0 t.columns)) (sym (stars t.columns)) (columns_show 0 t.columns)))
 
   pub all_shown : IsShownAfter before after (resolve_item (source_seen name t ∷ []) item_of.All)
   all_shown = (refl, shown)
 
   abbrev item : List ℕ → Bool → Bool → Checked (List (Term × ScopeColumn))
-  item q own same = unless false Misuse (unless (not (own || false)) NoSuch (good ((if same && true then cells_from 0 0 (seen t.columns.items) else []) ++ [])))
+  item q own same = unless false Misuse (unless (not (own || false)) NoSuch (good ((if same && true then cells_from 0 0 (seen t.columns) else []) ++ [])))
 
   -- the query's table by its name
   pub named_shown : (q : List ℕ) → is_same_name q name ≡ true → IsShownAfter before after (resolve_item (source_seen name t ∷ []) (AllOf q))
@@ -88,7 +88,7 @@ module _ (before after : List Output) (name : List ℕ) (t : Table) (pushed : af
 
 -- another name than the query's table has
 pub other_name : (name : List ℕ) (t : Table) (q : List ℕ) → is_same_name q name ≡ false → faults (resolve_item (source_seen name t ∷ []) (AllOf q)) ≡ NoSuch ∷ []
-other_name name t q h = ap (λ b. faults (unless false Misuse (unless (not (b || false)) NoSuch (good ((if is_same_name (folded q) (folded name) && true then cells_from 0 0 (seen t.columns.items) else []) ++ []))))) (same_folded q name ∙ h)
+other_name name t q h = ap (λ b. faults (unless false Misuse (unless (not (b || false)) NoSuch (good ((if is_same_name (folded q) (folded name) && true then cells_from 0 0 (seen t.columns) else []) ++ []))))) (same_folded q name ∙ h)
 
 -- a name, and there is no table
 pub no_table : (q : List ℕ) (f : Fault) → (f ≡ Memory) ⊎ (refusal_of f ≡ NoSuch) → IsFaultOf (faults (resolve_item [] (AllOf q))) f

@@ -1,5 +1,5 @@
 -- Worked examples of which rows a query gives, and in which order.
-use Rattle.std.specs.Prelude.{◌≡◌, refl, true, false, negsuc, Ok, Err, codes, None, Some, List, [], ◌∷◌}
+use Rattle.std.specs.Prelude.{◌≡◌, refl, true, false, negsuc, Ok, Err, codes, Some, List, [], ◌∷◌}
 use Rattle.sqlval.specs.Refusals.{Ambiguous, Misuse}
 use Rattle.sqlval.specs.declared.value.Value.TheVariants.{Null, Int, Text}
 use Rattle.syntax.specs.Tree.{Tree, Call, CallAll, Negated, Binary, Collate, Between, End, More}

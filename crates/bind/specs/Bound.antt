@@ -66,7 +66,7 @@ sources_seen (Some s) = source_seen s.name.now s.table.now ∷ []
 -- no two columns of the query's table have one name
 abbrev pub IsOnce : Option Scope → Type 0
 IsOnce None = ⊤
-IsOnce (Some s) = is_twice_named s.table.now.columns.items ≡ false
+IsOnce (Some s) = is_twice_named s.table.now.columns ≡ false
 
 -- ---- outputs
 
@@ -123,7 +123,7 @@ IsOf width out.Overflow = ⊤
 -- how many columns the query's table has, where there is one
 abbrev pub columns_in : Option Scope → Option ℕ
 columns_in None = None
-columns_in (Some s) = Some (length s.table.now.columns.items)
+columns_in (Some s) = Some (length s.table.now.columns)
 
 -- how many values each row of the source has, where there is one
 abbrev pub width_of : Option BoundSource → Option ℕ
@@ -171,7 +171,7 @@ IsItemFault scope f (Of e n) = IsValueFault scope e f
 
 -- each listed table's columns have different names
 abbrev pub AreOnce : List Table → Type 0
-AreOnce tables = (name : Name) (t : Table) → table_named name tables ≡ Some t → is_twice_named t.columns.items ≡ false
+AreOnce tables = (name : Name) (t : Table) → table_named name tables ≡ Some t → is_twice_named t.columns ≡ false
 
 -- the table of FROM and its name in the query, or none
 abbrev pub IsScope : List Table → Option FromClause → Option Scope → Type 0
@@ -210,7 +210,7 @@ IsBound look q outputs = (faults (resolve_query look [] q) ≡ []) × GivesEach 
 -- where the table of FROM begins and how many columns it has
 abbrev pub IsSource : List Table → Option FromClause → Option BoundSource → Type 0
 IsSource tables None s = s ≡ None
-IsSource tables (Some f) s = (t : Table) × (table_named f.first.name tables ≡ Some t) × (s ≡ Some (record { root = t.root; width = length t.columns.items }))
+IsSource tables (Some f) s = (t : Table) × (table_named f.first.name tables ≡ Some t) × (s ≡ Some (record { root = t.root; width = length t.columns }))
 
 -- nothing has the name in FROM
 abbrev pub IsMissing : List Table → Option FromClause → Type 0
@@ -252,5 +252,5 @@ AreGiven n rows (given.Query q) = ⊥
 
 -- how many values each row has: one for each listed column, or for each of the table
 abbrev pub count_wanted : Option (List Name) → Table → ℕ
-count_wanted None t = length t.columns.items
+count_wanted None t = length t.columns
 count_wanted (Some names) t = length names

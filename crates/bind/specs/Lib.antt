@@ -8,7 +8,6 @@ pub mod Inserts
 pub mod Keys
 pub mod Checked
 pub mod Laws
-pub mod Limits
 pub mod Queries
 pub mod Readings
 pub mod Schema
@@ -18,4 +17,3 @@ pub mod Tables
 pub mod Terms
 pub mod Values
 pub mod Views
-pub mod WellFormed

@@ -97,16 +97,16 @@ module _ (fire : Fire) (name : Name) (places : List ℕ) (table : Table) (by_col
   with_rows db rows = with_object db name (ATable (plain_table table rows))
 
   abbrev added_to : List TableRow → List Value → Answer TableRow
-  added_to rows given = row_added table.columns.items by_column (last_rowid rows) given
+  added_to rows given = row_added table.columns by_column (last_rowid rows) given
 
   row_changes : (db : Database) (rows : List TableRow) (given : List Value) → has_only_tables db ≡ true → table_of db name ≡ Ok (plain_table table rows) → Rises rows → IsSetFor table by_column places given
       → insert_row fire name places db given ≡ (added_to rows given then λ row. Ok (with_rows db (rows ++ row ∷ [])))
-  row_changes db rows given only is rises set = by_values (row_stored table.columns.items by_column given) refl
+  row_changes db rows given only is rises set = by_values (row_stored table.columns by_column given) refl
     where
-      stored_is : with_affinity (map plain_column table.columns.items) (set_values (default_values (plain_table table [])) (zip places given)) ≡ row_stored table.columns.items by_column given
-      stored_is = ap (with_affinity (map plain_column table.columns.items)) (given_at_each table.columns.items by_column given (set_values (default_values (plain_table table [])) (zip places given)) set.full set.each)
+      stored_is : with_affinity (map plain_column table.columns) (set_values (default_values (plain_table table [])) (zip places given)) ≡ row_stored table.columns by_column given
+      stored_is = ap (with_affinity (map plain_column table.columns)) (given_at_each table.columns by_column given (set_values (default_values (plain_table table [])) (zip places given)) set.full set.each)
 
-      by_rowid : (values : List Value) → row_stored table.columns.items by_column given ≡ Ok values → (r : Answer ℤ) → rowid_after (last_rowid rows) ≡ r
+      by_rowid : (values : List Value) → row_stored table.columns by_column given ≡ Ok values → (r : Answer ℤ) → rowid_after (last_rowid rows) ≡ r
           → insert_row fire name places db given ≡ (added_to rows given then λ row. Ok (with_rows db (rows ++ row ∷ [])))
       by_rowid values e (Ok rowid) h =
           let below : AreBelow rowid rows = rows_below rowid rows rises h in
@@ -118,16 +118,16 @@ module _ (fire : Fire) (name : Name) (places : List ℕ) (table : Table) (by_col
           let next : next_rowid (plain_table table rows) ≡ Err r = next_of table rows rises ∙ h in
           rw (is, stored_is, e, still, is, next, h) refl
 
-      by_values : (s : Answer (List Value)) → row_stored table.columns.items by_column given ≡ s → insert_row fire name places db given ≡ (added_to rows given then λ row. Ok (with_rows db (rows ++ row ∷ [])))
+      by_values : (s : Answer (List Value)) → row_stored table.columns by_column given ≡ s → insert_row fire name places db given ≡ (added_to rows given then λ row. Ok (with_rows db (rows ++ row ∷ [])))
       by_values (Ok values) e = by_rowid values e (rowid_after (last_rowid rows)) refl
       by_values (Err r) e = rw (is, stored_is, e) refl
 
   row_rises : (rows : List TableRow) (given : List Value) (row : TableRow) → Rises rows → added_to rows given ≡ Ok row → Rises (rows ++ row ∷ [])
-  row_rises rows given row rises e = rises_on row.0 row.1 rows rises (rows_below row.0 rows rises (row_parts table.columns.items by_column (last_rowid rows) given row e).1)
+  row_rises rows given row rises e = rises_on row.0 row.1 rows rises (rows_below row.0 rows rises (row_parts table.columns by_column (last_rowid rows) given row e).1)
 
   -- what is left where the rows given are these
   abbrev changed : Database → List TableRow → List (List Value) → Answer Database
-  changed db rows given = rows_added table.columns.items by_column (last_rowid rows) given then λ added. Ok (with_rows db (rows ++ added))
+  changed db rows given = rows_added table.columns by_column (last_rowid rows) given then λ added. Ok (with_rows db (rows ++ added))
 
   joined : (db : Database) (rows : List TableRow) (row : TableRow) (answer : Answer (List TableRow))
       → (answer then λ added. Ok (with_rows (with_rows db (rows ++ row ∷ [])) ((rows ++ row ∷ []) ++ added))) ≡ ((answer then λ added. Ok (row ∷ added)) then λ added. Ok (with_rows db (rows ++ added)))
@@ -146,12 +146,12 @@ module _ (fire : Fire) (name : Name) (places : List ℕ) (table : Table) (by_col
       by (Ok row) e =
           ap (λ (a : Answer Database). a then λ b. fold_answer (insert_row fire name places) b rest) (first ∙ ap (λ (a : Answer TableRow). a then λ row. Ok (with_rows db (rows ++ row ∷ []))) e)
           ∙ (others row e
-          ∙ (ap (λ last. rows_added table.columns.items by_column last rest then λ added. Ok (with_rows (with_rows db (rows ++ row ∷ [])) ((rows ++ row ∷ []) ++ added))) (last_of_more rows row)
-          ∙ (joined db rows row (rows_added table.columns.items by_column (Some row.0) rest)
-          ∙ sym (ap (λ (a : Answer TableRow). (a then λ row. rows_added table.columns.items by_column (Some row.0) rest then λ added. Ok (row ∷ added)) then λ added. Ok (with_rows db (rows ++ added))) e))))
+          ∙ (ap (λ last. rows_added table.columns by_column last rest then λ added. Ok (with_rows (with_rows db (rows ++ row ∷ [])) ((rows ++ row ∷ []) ++ added))) (last_of_more rows row)
+          ∙ (joined db rows row (rows_added table.columns by_column (Some row.0) rest)
+          ∙ sym (ap (λ (a : Answer TableRow). (a then λ row. rows_added table.columns by_column (Some row.0) rest then λ added. Ok (row ∷ added)) then λ added. Ok (with_rows db (rows ++ added))) e))))
       by (Err r) e =
           ap (λ (a : Answer Database). a then λ b. fold_answer (insert_row fire name places) b rest) (first ∙ ap (λ (a : Answer TableRow). a then λ row. Ok (with_rows db (rows ++ row ∷ []))) e)
-          ∙ sym (ap (λ (a : Answer TableRow). (a then λ row. rows_added table.columns.items by_column (Some row.0) rest then λ added. Ok (row ∷ added)) then λ added. Ok (with_rows db (rows ++ added))) e)
+          ∙ sym (ap (λ (a : Answer TableRow). (a then λ row. rows_added table.columns by_column (Some row.0) rest then λ added. Ok (row ∷ added)) then λ added. Ok (with_rows db (rows ++ added))) e)
 
   -- row by row, where the table already is in the database
   folds : (given : List (List Value)) (db : Database) (rows : List TableRow) → has_only_tables db ≡ true → table_of db name ≡ Ok (plain_table table rows) → Rises rows → All (IsSetFor table by_column places) given
@@ -172,4 +172,4 @@ module _ (fire : Fire) (name : Name) (places : List ℕ) (table : Table) (by_col
 
 pub inserts_rows : KeepsOnlyTables → InsertsRows
 inserts_rows keeps fire name places db table by_column rows given page number still only is holds set some =
-    some_rows fire name places table by_column still keeps given db rows only is (held_rows_rise page number (length table.columns.items) rows holds) set some
+    some_rows fire name places table by_column still keeps given db rows only is (held_rows_rise page number (length table.columns) rows holds) set some

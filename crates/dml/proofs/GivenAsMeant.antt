@@ -252,8 +252,8 @@ all_is i (c ∷ cs) = ap (λ ps. i ∷ ps) (ap (λ j. all_from j (seen cs)) (one
 
 -- the places of the values' columns
 abbrev value_places : Table → Option (List Name) → List ℕ
-value_places t None = map (λ p. p) (range_with_len 0 (length t.columns.items))
-value_places t (Some ns) = map (column_place t.columns.items) ns
+value_places t None = map (λ p. p) (range_with_len 0 (length t.columns))
+value_places t (Some ns) = map (column_place t.columns) ns
 
 rows_fused : (written : List (List Tree)) → row_values (terms written) ≡ all_answers (map written_values written)
 rows_fused [] = refl
@@ -262,16 +262,16 @@ rows_fused (r ∷ written) = ap (λ a. values (env_of []) (map term r) then λ z
 both_faults : {A B C : Type 0} (f : A → B → C) (k : Checked A) (l : Checked B) → faults (both f k l) ≡ faults k ++ faults l
 both_faults f (Meant x rs) (Meant y ss) = refl
 
-module _ (db : Database) (n : Name) (written : List (List Tree)) (t : Table) (found : look_up db n ≡ good (columns_seen t)) (once : is_twice_named t.columns.items ≡ false) where
+module _ (db : Database) (n : Name) (written : List (List Tree)) (t : Table) (found : look_up db n ≡ good (columns_seen t)) (once : is_twice_named t.columns ≡ false) where
   wanted_is : (columns : Option (List Name)) → wanted (source_seen n t) columns ≡ Some (count_wanted columns t)
-  wanted_is None = ap Some (seen_count t.columns.items)
+  wanted_is None = ap Some (seen_count t.columns)
   wanted_is (Some ns) = refl
 
-  places_stand : (columns : Option (List Name)) → AreColumns t.columns.items columns → places_known (source_seen n t) columns ≡ good (value_places t columns)
-  places_stand None l = ap good (all_is 0 t.columns.items)
+  places_stand : (columns : Option (List Name)) → AreColumns t.columns columns → places_known (source_seen n t) columns ≡ good (value_places t columns)
+  places_stand None l = ap good (all_is 0 t.columns)
   places_stand (Some ns) l = list_places n t once ns l.0 l.1
 
-  pub stands : (columns : Option (List Name)) → AreColumns t.columns.items columns → list_all (λ row. length row == count_wanted columns t) written ≡ true → AllByRecursion AreGood written
+  pub stands : (columns : Option (List Name)) → AreColumns t.columns columns → list_all (λ row. length row == count_wanted columns t) written ≡ true → AllByRecursion AreGood written
       → IsInsertOf db (insertion n columns (given.Rows written)) (value_places t columns) (terms written)
   stands columns l c h =
       target_known n (look_up db n) t (rest n columns written) found
@@ -279,22 +279,22 @@ module _ (db : Database) (n : Name) (written : List (List Tree)) (t : Table) (fo
       ∙ (ap (λ w. both (Inserts (folded n)) (good (value_places t columns)) (rows_known w written)) (wanted_is columns)
       ∙ ap (both (Inserts (folded n)) (good (value_places t columns))) (rows_stand (count_wanted columns t) written c h)))
 
-  pub row_is : (columns : Option (List Name)) → AreColumns t.columns.items columns → (vs : List Value) → length vs ≡ count_wanted columns t
-      → row_with t (value_places t columns) vs ≡ map (given_at vs) (places_in t.columns.items columns)
+  pub row_is : (columns : Option (List Name)) → AreColumns t.columns columns → (vs : List Value) → length vs ≡ count_wanted columns t
+      → row_with t (value_places t columns) vs ≡ map (given_at vs) (places_in t.columns columns)
   row_is None l vs k = own_row t vs k
   row_is (Some ns) l vs k = listed_row t ns vs once l.0 l.1 k
 
-  pub rows_given : (columns : Option (List Name)) (rows : List (Vec Value Global)) → AreColumns t.columns.items columns → EachOf (AreValuesOf (count_wanted columns t)) rows written
-      → IsGivenAs db (insertion n columns (given.Rows written)) t (places_in t.columns.items columns) (map (λ row. row.items) rows)
+  pub rows_given : (columns : Option (List Name)) (rows : List (Vec Value Global)) → AreColumns t.columns columns → EachOf (AreValuesOf (count_wanted columns t)) rows written
+      → IsGivenAs db (insertion n columns (given.Rows written)) t (places_in t.columns columns) (map (λ row. row.items) rows)
   rows_given columns rows l h = record {
     at = value_places t columns;
     terms = terms written;
     stands = stands columns l (given_counts (count_wanted columns t) rows written h) (given_good (count_wanted columns t) rows written h);
     answered = answers (count_wanted columns t) rows written h;
-    placed = each_row (count_wanted columns t) (λ vs. row_with t (value_places t columns) vs ≡ map (given_at vs) (places_in t.columns.items columns)) (row_is columns l) rows written h;
+    placed = each_row (count_wanted columns t) (λ vs. row_with t (value_places t columns) vs ≡ map (given_at vs) (places_in t.columns columns)) (row_is columns l) rows written h;
   }
 
-  pub real_refused : (columns : Option (List Name)) → AreColumns t.columns.items columns → list_all (λ row. length row == count_wanted columns t) written ≡ true → AllByRecursion AreGood written
+  pub real_refused : (columns : Option (List Name)) → AreColumns t.columns columns → list_all (λ row. length row == count_wanted columns t) written ≡ true → AllByRecursion AreGood written
       → all_answers (map written_values written) ≡ Err RealRefused → IsRealRefused db (insertion n columns (given.Rows written))
   real_refused columns l c h past = record {
     at = value_places t columns;
@@ -303,7 +303,7 @@ module _ (db : Database) (n : Name) (written : List (List Tree)) (t : Table) (fo
     refused = rows_fused written ∙ past;
   }
 
-  list_fault : (columns : Option (List Name)) (r : Refusal) → IsListRefusal t.columns.items columns r → Contains (faults (places_known (source_seen n t) columns)) r
+  list_fault : (columns : Option (List Name)) (r : Refusal) → IsListRefusal t.columns columns r → Contains (faults (places_known (source_seen n t) columns)) r
   list_fault None r h = absurd h
   list_fault (Some ns) r (inl (e, u)) = subst (Contains (faults (resolve_places (source_seen n t) ns))) (sym e) (unknown_list n t once ns u)
   list_fault (Some ns) r (inr (e, u)) = subst (Contains (faults (resolve_places (source_seen n t) ns))) (sym e) (doubled_list n t once ns u)
@@ -314,7 +314,7 @@ module _ (db : Database) (n : Name) (written : List (List Tree)) (t : Table) (fo
       subst (λ k. Contains (faults k) r) (sym (target_known n (look_up db n) t (rest n columns written) found))
       (subst (λ rs. Contains rs r) (sym (both_faults (Inserts (folded n)) (places_known (source_seen n t) columns) (rows_known (wanted (source_seen n t) columns) written))) h)
 
-  pub list_refused : (columns : Option (List Name)) (r : Refusal) → IsListRefusal t.columns.items columns r
+  pub list_refused : (columns : Option (List Name)) (r : Refusal) → IsListRefusal t.columns columns r
       → Contains (faults (resolve_change db no_outer (change.Insert (insertion n columns (given.Rows written))))) r
   list_refused columns r h = has_fault columns r (Contains-append_left (faults (places_known (source_seen n t) columns)) (faults (rows_known (wanted (source_seen n t) columns) written)) r (list_fault columns r h))
 
@@ -326,8 +326,8 @@ module _ (db : Database) (n : Name) (written : List (List Tree)) (t : Table) (fo
 -- ---- among listed tables
 
 module _ (db : Database) (tables : List Table) (knows : Knows (look_up db) tables) (once : AreOnce tables) where
-  pub gives : (n : Name) (columns : Option (List Name)) (source : InsertSource) (t : Table) (rows : List (Vec Value Global)) → table_named n tables ≡ Some t → AreColumns t.columns.items columns
-      → AreGiven (count_wanted columns t) rows source → IsGivenAs db (insertion n columns source) t (places_in t.columns.items columns) (map (λ row. row.items) rows)
+  pub gives : (n : Name) (columns : Option (List Name)) (source : InsertSource) (t : Table) (rows : List (Vec Value Global)) → table_named n tables ≡ Some t → AreColumns t.columns columns
+      → AreGiven (count_wanted columns t) rows source → IsGivenAs db (insertion n columns source) t (places_in t.columns columns) (map (λ row. row.items) rows)
   gives n columns (given.Rows written) t rows found l h = rows_given db n written t (knows n ∙ ap looked_up found) (once n t found) columns rows l h
   gives n columns (given.Query q) t rows found l h = absurd h
 

@@ -114,9 +114,9 @@ abbrev pub column_place : List Column → List ℕ → ℕ
 column_place cs name = unwrap_or (place_named name cs) 0
 
 abbrev pub Once : Table → Type 0
-Once t = is_twice_named t.columns.items ≡ false
+Once t = is_twice_named t.columns ≡ false
 
-module _ (as_name : List ℕ) (t : Table) (once : is_twice_named t.columns.items ≡ false) where
+module _ (as_name : List ℕ) (t : Table) (once : is_twice_named t.columns ≡ false) where
   by_place : (o : Option ℕ) (ps : List ℕ) → IsPlaced o ps → is_none o ≡ false → the_one false 0 ps ≡ good (unwrap_or o 0)
   by_place None ps h k = absurd (false≢true (sym k))
   by_place (Some p) ps h k = ap (the_one false 0) h
@@ -125,20 +125,20 @@ module _ (as_name : List ℕ) (t : Table) (once : is_twice_named t.columns.items
   by_none None ps h k = ap (λ ps. faults (the_one false 0 ps)) h
   by_none (Some p) ps h k = absurd (false≢true k)
 
-  one_place : (name : List ℕ) → is_none (place_named name t.columns.items) ≡ false → place_of (source_seen as_name t) name ≡ good (column_place t.columns.items name)
-  one_place name h = by_place (place_named name t.columns.items) (placed_from 0 name (seen t.columns.items)) (placed_is 0 name t.columns.items once) h
+  one_place : (name : List ℕ) → is_none (place_named name t.columns) ≡ false → place_of (source_seen as_name t) name ≡ good (column_place t.columns name)
+  one_place name h = by_place (place_named name t.columns) (placed_from 0 name (seen t.columns)) (placed_is 0 name t.columns once) h
 
-  no_place : (name : List ℕ) → is_none (place_named name t.columns.items) ≡ true → faults (place_of (source_seen as_name t) name) ≡ NoSuch ∷ []
-  no_place name h = by_none (place_named name t.columns.items) (placed_from 0 name (seen t.columns.items)) (placed_is 0 name t.columns.items once) h
+  no_place : (name : List ℕ) → is_none (place_named name t.columns) ≡ true → faults (place_of (source_seen as_name t) name) ≡ NoSuch ∷ []
+  no_place name h = by_none (place_named name t.columns) (placed_from 0 name (seen t.columns)) (placed_is 0 name t.columns once) h
 
-  all_places : (names : List (List ℕ)) → has_unknown t.columns.items names ≡ false → known_all (map (place_of (source_seen as_name t)) names) ≡ good (map (column_place t.columns.items) names)
+  all_places : (names : List (List ℕ)) → has_unknown t.columns names ≡ false → known_all (map (place_of (source_seen as_name t)) names) ≡ good (map (column_place t.columns) names)
   all_places [] h = refl
   all_places (n ∷ ns) h =
-      ap (λ k. both (λ x xs. x ∷ xs) k (known_all (map (place_of (source_seen as_name t)) ns))) (one_place n (or_left (is_none (place_named n t.columns.items)) (has_unknown t.columns.items ns) h))
-      ∙ ap (both (λ x xs. x ∷ xs) (good (column_place t.columns.items n))) (all_places ns (or_right (is_none (place_named n t.columns.items)) (has_unknown t.columns.items ns) h))
+      ap (λ k. both (λ x xs. x ∷ xs) k (known_all (map (place_of (source_seen as_name t)) ns))) (one_place n (or_left (is_none (place_named n t.columns)) (has_unknown t.columns ns) h))
+      ∙ ap (both (λ x xs. x ∷ xs) (good (column_place t.columns n))) (all_places ns (or_right (is_none (place_named n t.columns)) (has_unknown t.columns ns) h))
 
   -- a list of columns stands for their places
-  pub list_places : (names : List (List ℕ)) → has_unknown t.columns.items names ≡ false → is_doubled names ≡ false → resolve_places (source_seen as_name t) names ≡ good (map (column_place t.columns.items) names)
+  pub list_places : (names : List (List ℕ)) → has_unknown t.columns names ≡ false → is_doubled names ≡ false → resolve_places (source_seen as_name t) names ≡ good (map (column_place t.columns) names)
   list_places names h d = ap (λ b. unless b Misuse (known_all (map (place_of (source_seen as_name t)) names))) d ∙ ap (unless false Misuse) (all_places names h)
 
   in_front : (rs : List Refusal) (r : Refusal) (k : List Refusal) → k ≡ r ∷ [] → Contains (k ++ rs) r
@@ -147,11 +147,11 @@ module _ (as_name : List ℕ) (t : Table) (once : is_twice_named t.columns.items
   both_faults : {A B C : Type 0} (f : A → B → C) (k : Checked A) (l : Checked B) → faults (both f k l) ≡ faults k ++ faults l
   both_faults f (Meant x rs) (Meant y ss) = refl
 
-  unknown_refused : (names : List (List ℕ)) → has_unknown t.columns.items names ≡ true → Contains (faults (known_all (map (place_of (source_seen as_name t)) names))) NoSuch
+  unknown_refused : (names : List (List ℕ)) → has_unknown t.columns names ≡ true → Contains (faults (known_all (map (place_of (source_seen as_name t)) names))) NoSuch
   unknown_refused [] h = absurd (false≢true h)
   unknown_refused (n ∷ ns) h =
       subst (λ rs. Contains rs NoSuch) (sym (both_faults (λ x xs. x ∷ xs) (place_of (source_seen as_name t) n) (known_all (map (place_of (source_seen as_name t)) ns))))
-      (elim (or_true (is_none (place_named n t.columns.items)) (has_unknown t.columns.items ns) h) [
+      (elim (or_true (is_none (place_named n t.columns)) (has_unknown t.columns ns) h) [
         | inl e ↦ in_front (faults (known_all (map (place_of (source_seen as_name t)) ns))) NoSuch (faults (place_of (source_seen as_name t) n)) (no_place n e)
         | inr e ↦ Contains-append_right (faults (place_of (source_seen as_name t) n)) (faults (known_all (map (place_of (source_seen as_name t)) ns))) NoSuch (unknown_refused ns e)
       ])
@@ -160,7 +160,7 @@ module _ (as_name : List ℕ) (t : Table) (once : is_twice_named t.columns.items
   unless_faults b r (Meant x rs) = refl
 
   -- a list with a name that no column has is refused
-  pub unknown_list : (names : List (List ℕ)) → has_unknown t.columns.items names ≡ true → Contains (faults (resolve_places (source_seen as_name t) names)) NoSuch
+  pub unknown_list : (names : List (List ℕ)) → has_unknown t.columns names ≡ true → Contains (faults (resolve_places (source_seen as_name t) names)) NoSuch
   unknown_list names h =
       subst (λ rs. Contains rs NoSuch) (sym (unless_faults (is_doubled names) Misuse (known_all (map (place_of (source_seen as_name t)) names))))
       (Contains-append_right (if is_doubled names then (Misuse ∷ []) else []) (faults (known_all (map (place_of (source_seen as_name t)) names))) NoSuch (unknown_refused names h))
@@ -294,19 +294,19 @@ same_count ds (p ∷ ps) = same_count (set ds p.0 p.1) ps ∙ length-set ds p.0 
 
 -- the values at the places of their columns are the columns' values
 module _ {X : Type 0} (t : Table) (place : X → ℕ) (xs : List X) (places : List (Option ℕ)) where
-  row_given : (vs : List Value) → length vs ≡ length xs → length places ≡ length t.columns.items
-      → ((k : ℕ) → k < length t.columns.items → (test : X → Bool) × AllByRecursion (λ x. (place x == k) ≡ test x) xs × IsSingleLeaf test xs × (get_or places k None ≡ position_from test 0 xs))
+  row_given : (vs : List Value) → length vs ≡ length xs → length places ≡ length t.columns
+      → ((k : ℕ) → k < length t.columns → (test : X → Bool) × AllByRecursion (λ x. (place x == k) ≡ test x) xs × IsSingleLeaf test xs × (get_or places k None ≡ position_from test 0 xs))
       → row_with t (map place xs) vs ≡ map (given_at vs) places
   row_given vs l count f =
       ext_get_or Null (row_with t (map place xs) vs) (map (given_at vs) places) (long ∙ sym (length-map places (given_at vs) ∙ count))
       (λ k lt. let g = f k (omega (arith, lt, long)) in
-      written g.0 place k xs vs (nulls t.columns.items) l g.1 g.2 (omega (arith, lt, long, nulls_count t.columns.items))
-      ∙ (ap (λ d. picked vs d (position_from g.0 0 xs)) (nulls_at t.columns.items k)
+      written g.0 place k xs vs (nulls t.columns) l g.1 g.2 (omega (arith, lt, long, nulls_count t.columns))
+      ∙ (ap (λ d. picked vs d (position_from g.0 0 xs)) (nulls_at t.columns k)
       ∙ (picked_given vs (position_from g.0 0 xs)
       ∙ (ap (given_at vs) (sym g.3) ∙ sym (get_or-map (given_at vs) places k None Null (omega (arith, lt, long, count)))))))
     where
-      long : length (row_with t (map place xs) vs) ≡ length t.columns.items
-      long = same_count (nulls t.columns.items) (zip (map place xs) vs) ∙ nulls_count t.columns.items
+      long : length (row_with t (map place xs) vs) ≡ length t.columns
+      long = same_count (nulls t.columns) (zip (map place xs) vs) ∙ nulls_count t.columns
 
 -- ---- without a list of columns
 
@@ -330,10 +330,10 @@ all_same : {X : Type 0} (f : X → Bool) (xs : List X) → AllByRecursion (λ x.
 all_same f [] = tt
 all_same f (x ∷ xs) = (refl, all_same f xs)
 
-pub own_row : (t : Table) (vs : List Value) → length vs ≡ length t.columns.items
-    → row_with t (map (λ p. p) (range_with_len 0 (length t.columns.items))) vs ≡ map (given_at vs) (places_in t.columns.items None)
+pub own_row : (t : Table) (vs : List Value) → length vs ≡ length t.columns
+    → row_with t (map (λ p. p) (range_with_len 0 (length t.columns))) vs ≡ map (given_at vs) (places_in t.columns None)
 own_row t vs l =
-    let n = length t.columns.items in
+    let n = length t.columns in
     row_given t (λ p. p) (range_with_len 0 n) (map Some (range_with_len 0 n)) vs (l ∙ sym (length-range_with_len 0 n)) (length-map-range_with_len Some 0 n)
     (λ k lt. (
       λ p. p == k,
@@ -358,13 +358,13 @@ place_by : (cs : List Column) (name : List ℕ) (k : ℕ) (b : Bool) (o : Option
 place_by cs name k b None h f = absurd (false≢true (sym h))
 place_by cs name k b (Some p) h f = f p refl
 
-names_agree : (t : Table) (k : ℕ) (d : Column) (ns : List (List ℕ)) → is_twice_named t.columns.items ≡ false → k < length t.columns.items → has_unknown t.columns.items ns ≡ false
-    → AllByRecursion (λ name. (column_place t.columns.items name == k) ≡ is_same_name name (get_or t.columns.items k d).name) ns
+names_agree : (t : Table) (k : ℕ) (d : Column) (ns : List (List ℕ)) → is_twice_named t.columns ≡ false → k < length t.columns → has_unknown t.columns ns ≡ false
+    → AllByRecursion (λ name. (column_place t.columns name == k) ≡ is_same_name name (get_or t.columns k d).name) ns
 names_agree t k d [] once lt h = tt
 names_agree t k d (n ∷ ns) once lt h = (
-  place_by t.columns.items n k (is_same_name n (get_or t.columns.items k d).name) (place_named n t.columns.items) (or_left (is_none (place_named n t.columns.items)) (has_unknown t.columns.items ns) h)
-      (λ p e. ap (λ m. p == m) (from_zero k) ∙ named_at 0 p k n t.columns.items d once e lt),
-  names_agree t k d ns once lt (or_right (is_none (place_named n t.columns.items)) (has_unknown t.columns.items ns) h),
+  place_by t.columns n k (is_same_name n (get_or t.columns k d).name) (place_named n t.columns) (or_left (is_none (place_named n t.columns)) (has_unknown t.columns ns) h)
+      (λ p e. ap (λ m. p == m) (from_zero k) ∙ named_at 0 p k n t.columns d once e lt),
+  names_agree t k d ns once lt (or_right (is_none (place_named n t.columns)) (has_unknown t.columns ns) h),
 )
   where
     from_zero : (k : ℕ) → k ≡ 0 + k
@@ -374,13 +374,13 @@ column_in : (cs : List Column) (k : ℕ) → k < length cs → Column
 column_in [] k lt = absurd (omega (arith, lt))
 column_in (c ∷ cs) k lt = c
 
-pub listed_row : (t : Table) (ns : List (List ℕ)) (vs : List Value) → is_twice_named t.columns.items ≡ false → has_unknown t.columns.items ns ≡ false → is_doubled ns ≡ false → length vs ≡ length ns
-    → row_with t (map (column_place t.columns.items) ns) vs ≡ map (given_at vs) (places_in t.columns.items (Some ns))
+pub listed_row : (t : Table) (ns : List (List ℕ)) (vs : List Value) → is_twice_named t.columns ≡ false → has_unknown t.columns ns ≡ false → is_doubled ns ≡ false → length vs ≡ length ns
+    → row_with t (map (column_place t.columns) ns) vs ≡ map (given_at vs) (places_in t.columns (Some ns))
 listed_row t ns vs once h two l =
-    row_given t (column_place t.columns.items) ns (places_in t.columns.items (Some ns)) vs l (length-map t.columns.items (λ c. position_from (λ name. is_same_name name c.name) 0 ns))
+    row_given t (column_place t.columns) ns (places_in t.columns (Some ns)) vs l (length-map t.columns (λ c. position_from (λ name. is_same_name name c.name) 0 ns))
     (λ k lt. (
-      λ name. is_same_name name (get_or t.columns.items k (column_in t.columns.items k lt)).name,
-      names_agree t k (column_in t.columns.items k lt) ns once lt h,
-      names_single (get_or t.columns.items k (column_in t.columns.items k lt)).name ns two,
-      get_or-map (λ c. position_from (λ name. is_same_name name c.name) 0 ns) t.columns.items k (column_in t.columns.items k lt) None lt,
+      λ name. is_same_name name (get_or t.columns k (column_in t.columns k lt)).name,
+      names_agree t k (column_in t.columns k lt) ns once lt h,
+      names_single (get_or t.columns k (column_in t.columns k lt)).name ns two,
+      get_or-map (λ c. position_from (λ name. is_same_name name c.name) 0 ns) t.columns k (column_in t.columns k lt) None lt,
     ))

@@ -29,13 +29,13 @@ pub record AreGivenFor (columns : List Column) (places : List (Option ℕ)) (giv
 
 -- Set at their places among a table's columns, the values of a row given are those given for the columns.
 abbrev pub IsSetFor : Table → List (Option ℕ) → List ℕ → List Value → Type 0
-IsSetFor table by_column places given = AreGivenFor table.columns.items by_column given (set_values (default_values (plain_table table [])) (zip places given))
+IsSetFor table by_column places given = AreGivenFor table.columns by_column given (set_values (default_values (plain_table table [])) (zip places given))
 
 -- An INSERT of rows into a listed table, where nothing is set off, leaves it with those that the rows become after its own, or
 -- is refused as these are.
 abbrev pub InsertsRows : Type 0
 InsertsRows = (fire : Fire) (name : Name) (places : List ℕ) (db : Database) (table : Table) (by_column : List (Option ℕ)) (rows : List TableRow) (given : List (List Value)) (page : List ℕ) (number : ℕ)
-    → IsStill fire → has_only_tables db ≡ true → table_of db name ≡ Ok (plain_table table rows) → Holds page number (length table.columns.items) rows
+    → IsStill fire → has_only_tables db ≡ true → table_of db name ≡ Ok (plain_table table rows) → Holds page number (length table.columns) rows
     → All (IsSetFor table by_column places) given → 1 ≤ length given
     → fold_answer (insert_row fire name places) db given
-    ≡ (rows_added table.columns.items by_column (last_rowid rows) given then λ added. Ok (with_object db name (ATable (plain_table table (rows ++ added)))))
+    ≡ (rows_added table.columns by_column (last_rowid rows) given then λ added. Ok (with_object db name (ATable (plain_table table (rows ++ added)))))

@@ -52,8 +52,8 @@ pub record IsRealRefused (db : Database) (i : Insert) : Type 0 where
 -- an insertion that is looked up among the tables that are listed of a database gives what its text stands for there
 abbrev pub GivesAsMeant : Type 0
 GivesAsMeant = (rows_at : ℕ → List (ℤ × List Value)) (tables : List Table) (db : Database) → Lists rows_at tables db → AreOnce tables
-    → (i : Insert) (t : Table) (rows : List (Vec Value Global)) → table_named i.table tables ≡ Some t → AreColumns t.columns.items i.columns → AreGiven (count_wanted i.columns t) rows i.source
-    → IsGivenAs db i t (places_in t.columns.items i.columns) (map (λ row. row.items) rows)
+    → (i : Insert) (t : Table) (rows : List (Vec Value Global)) → table_named i.table tables ≡ Some t → AreColumns t.columns i.columns → AreGiven (count_wanted i.columns t) rows i.source
+    → IsGivenAs db i t (places_in t.columns i.columns) (map (λ row. row.items) rows)
 
 -- one of literals that is refused there is refused as its text is, or for its values where the text isn't refused
 abbrev pub RefusesAsMeant : Type 0

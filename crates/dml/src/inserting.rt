@@ -172,10 +172,10 @@ fn cells_of(alloc: Global, records: &[RowRecord]) -> R<Vec<Cell<'_>>>
 /// no leaf of rising rows is refused as by `Leaf::over`. Row by row, a real is `RealRefused`, and a row after the greatest rowid
 /// of all is `RowidFull`; only then rows that don't fit are `Unsupported(RowSize)`.
 pub fn insert(alloc: Global, page: &[u8], number: u32, insert: BoundInsert<'_>) -> R<Vec<u8>>
-    ensures inserted { IfOk result (λ new. (rows : List TableRow) → Holds page.now number (length insert.entry.table.now.columns.items) rows → IsInserted new.items number insert.entry.table.now.columns.items insert.entry.places.items (map (λ row. row.items) insert.entry.rows.items) rows) }
+    ensures inserted { IfOk result (λ new. (rows : List TableRow) → Holds page.now number (length insert.entry.table.now.columns) rows → IsInserted new.items number insert.entry.table.now.columns insert.entry.places.items (map (λ row. row.items) insert.entry.rows.items) rows) }
     ensures size { IfOk result (λ new. length new.items ≡ length page.now) }
     ensures front { IfOk result (λ new. take (start_of number) new.items ≡ take (start_of number) page.now) }
-    ensures refused { IfErr result (λ fault. IsInsertRefusal page.now number insert.entry.table.now.columns.items insert.entry.places.items (map (λ row. row.items) insert.entry.rows.items) fault) }
+    ensures refused { IfErr result (λ fault. IsInsertRefusal page.now number insert.entry.table.now.columns insert.entry.places.items (map (λ row. row.items) insert.entry.rows.items) fault) }
     ensures not_disk { IfErr result (λ fault. IsNotDiskFault fault) }
 {
     let BoundInsert {
@@ -184,7 +184,7 @@ pub fn insert(alloc: Global, page: &[u8], number: u32, insert: BoundInsert<'_>) 
         rows,
     } = insert;
     let last = Leaf::over(alloc, page, number)?.last();
-    let added = new_rows(alloc, &table.columns, &places, &rows, last)?;
+    let added = new_rows(alloc, table.columns.as_slice(), &places, &rows, last)?;
     let records = records_of(alloc, &added)?;
     let cells = cells_of(alloc, &records)?;
     with_rows(alloc, page, number, &cells)

@@ -1,5 +1,5 @@
 -- What is left of files by a crash is opened as a database that was committed.
-use Rattle.std.proofs.Common.{inl, inr, refl, sym, ap, subst, ◌∙◌, ℕ, List, [], ◌++◌, append-nil}
+use Rattle.std.proofs.Common.{◌≡◌, inl, inr, refl, sym, ap, subst, ◌∙◌, ℕ, List, [], ◌++◌, append-nil}
 use Rattle.std.proofs.lemmas.Bool.{false≢true}
 use Rattle.disk.specs.File.{File, Version}
 use Rattle.disk.specs.declared.device.Disk.{Ghosts}
@@ -7,12 +7,13 @@ use Rattle.disk.proofs.Moments.{left_more, meets_db_moment, meets_log_moment}
 use Rattle.catalog.specs.Database.{Database}
 use Rattle.wal.proofs.Chance.{chance_more}
 use Rattle.session.specs.Crashes.{MayShow}
-use Rattle.session.specs.Holding.{LeaveHeld}
+use Rattle.session.specs.Machine.{newest}
+use Rattle.session.specs.Holding.{Hold, LeaveHeld}
+use Rattle.session.proofs.Standing.{held_if_stored}
 use Rattle.engine.specs.Creating.{LeavesBlankOrCreated}
 use Rattle.engine.specs.Opening.{LeavesOpened}
 use Rattle.engine.specs.Promises.{AreFoundAgain, CrashKeepsCommits, HoldsEarlier, IsTrueEarlier, RepresentedFilesHold}
 use Rattle.engine.specs.declared.opening.Engine.{Engine}
-use Rattle.engine.proofs.HeldOpening.{held_as}
 
 -- ---- fewer versions
 
@@ -46,6 +47,10 @@ module _ (May : Database → Type 0) where
   fewer_dbs : (d l more : List Version) → LeaveHeld May (d ++ more) l → LeaveHeld May d l
   fewer_dbs d l more held = held_earlier May d more l [] (subst (λ (vs : List Version). LeaveHeld May (d ++ more) vs) (sym (append-nil l)) held)
 
+held_too : {db log : List ℕ} (new_db new_log : List ℕ) (database : Database) → new_db ≡ db → new_log ≡ log → Hold db log database → Hold new_db new_log database
+held_too {db = db} new_db new_log database same_db same_log held =
+    subst (λ (d : List ℕ). Hold d new_log database) (sym same_db) (subst (λ (l : List ℕ). Hold db l database) (sym same_log) held)
+
 module _ {D : Type 0} {g : Ghosts D} where
   pub found_again : (engine : Engine D g) (May : Database → Type 0) (dbs logs : List Version) → LeaveHeld May dbs logs → AreFoundAgain engine May dbs logs
   found_again engine May dbs logs held db log left_db left_log chance =
@@ -55,7 +60,7 @@ module _ {D : Type 0} {g : Ghosts D} where
         may = is.1;
         held = is.2;
         opens = λ d l result told_db told_log same_db same_log opens.
-            opens is.0 told_db told_log (held_as db log (g.file d).content (g.file l).content is.0 (ap (λ (f : File). f.content) same_db) (ap (λ (f : File). f.content) same_log) is.2);
+            opens is.0 told_db told_log (held_too (g.file d).content (g.file l).content is.0 (ap (λ (f : File). f.content) same_db) (ap (λ (f : File). f.content) same_log) is.2);
       }
 
   pub crash_keeps : (old new : Engine D g) → CrashKeepsCommits old new
@@ -72,11 +77,11 @@ module _ {D : Type 0} {g : Ghosts D} where
 
   pub represented_hold : (engine : Engine D g) → RepresentedFilesHold engine
   represented_hold engine m (inl (stopped, failed, left)) on = absurd (false≢true (sym on ∙ failed))
-  represented_hold engine m (inr shown) on = record {
+  represented_hold engine m (inr shown) on = held_if_stored _ _ (newest m) (record {
     view = _;
     db_is = refl;
     commits = shown.settled.commits;
     found = shown.settled.found;
     tables = _;
     stored = shown.stored;
-  }
+  })

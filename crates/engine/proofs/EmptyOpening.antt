@@ -17,6 +17,7 @@ use Rattle.wal.specs.View.{IsInFile}
 use Rattle.pager.specs.Views.{IsViewPage, View}
 use Rattle.pager.proofs.HeaderFronts.{header_moves}
 use Rattle.session.specs.Holding.{Hold}
+use Rattle.session.proofs.Standing.{held_if_stored}
 use Rattle.session.proofs.Fresh.{nothing_stored}
 use Rattle.engine.specs.Creating.{IsEmptyDatabase, is_blank_content, is_zero_byte}
 use Rattle.engine.proofs.NewFiles.{fits_empty}
@@ -106,7 +107,7 @@ first_page page_size page served e = record {
 }
 
 pub created_hold : (page_size : ℕ) (page : List ℕ) → IsPageSize page_size → IsEmptyDatabase page_size page → Hold page [] []
-created_hold page_size page served e = record {
+created_hold page_size page served e = held_if_stored page [] [] (record {
   view = page_view page_size page;
   db_is = refl;
   commits = record { header = None; header_is = refl; committed = refl; frames_are = refl };
@@ -134,4 +135,4 @@ created_hold page_size page served e = record {
     single_leaf = page_is_single page_size page served e;
     tell = tt;
   }) refl (small page_size 1 page_size served refl refl);
-}
+})

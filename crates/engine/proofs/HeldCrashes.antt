@@ -9,7 +9,8 @@ use Rattle.walframe.specs.Written.{Framed}
 use Rattle.walframe.specs.declared.log_header.LogHeader.{LogHeader}
 use Rattle.wal.specs.Committed.{AreCommitted, HasCommits, frames_under}
 use Rattle.catalog.specs.Database.{Database}
-use Rattle.session.specs.Holding.{Hold, LeaveHeld}
+use Rattle.session.specs.Holding.{LeaveHeld, StoreFiles}
+use Rattle.session.proofs.Standing.{held_if_stored}
 use Rattle.engine.specs.Opening.{HasPageSize, LeavesOpened}
 use Rattle.engine.proofs.EmptyOpening.{ok_is}
 use Rattle.engine.proofs.HeldOpening.{head_of, held_as, one_count}
@@ -31,27 +32,27 @@ pub has_pages : (db : List ℕ) (mid : List ℕ) (head : Header) (page_size : �
 has_pages db mid head page_size read sized same = λ h is.
     sym (ap (λ (x : Header). x.page_size) (read h (subst (λ (b : List ℕ). IsHeader b h) same is))) ∙ sym sized
 
-module _ (db log : File) (db_synced : IsSynced db) (log_synced : IsSynced log) (database : Database) (held : Hold db.content log.content database) where
+module _ (db log : File) (db_synced : IsSynced db) (log_synced : IsSynced log) (database : Database) (held : StoreFiles db.content log.content database) where
   leave_held : (d l : List Version) → LeavesOpened db log d l → LeaveHeld (λ (x : Database). x ≡ database) d l
   leave_held d l (inl before) a b left_a left_b chance =
       let both = before a b left_a left_b in (
         database,
         refl,
-        held_as db.content log.content a b database (⊎_elim (synced_is db db_synced a) (λ same. same) both.0) (⊎_elim (synced_is log log_synced b) (λ same. same) both.1) held,
+        held_if_stored a b database (held_as db.content log.content a b database (⊎_elim (synced_is db db_synced a) (λ same. same) both.0) (⊎_elim (synced_is log log_synced b) (λ same. same) both.1) held),
       )
   leave_held d l (inr cut) a b left_a left_b chance =
       let sized : cut.page_size ≡ held.view.page_size = sym (cut.headed held.found.head (head_of db.content log.content database held)) ∙ held.found.head_size in
       let frames : cut.frames ≡ held.view.frames = one_commits log.content cut.page_size held.view.page_size cut.frames held.view.frames cut.read held.commits in (
         database,
         refl,
-        record {
+        held_if_stored a b database (record {
           view = held.view;
           db_is = held.db_is ∙ sym (cut.db_read a left_a);
           commits = subst (λ (n : ℕ). HasCommits n b held.view.frames) sized (subst (λ (fs : List Framed). HasCommits cut.page_size b fs) frames (cut.left b left_b));
           found = held.found;
           tables = held.tables;
           stored = held.stored;
-        },
+        }),
       )
 
   pub held_throughout : (new_db new_log : File) → Throughout (LeavesOpened db log) db log new_db new_log → Throughout (LeaveHeld (λ (x : Database). x ≡ database)) db log new_db new_log

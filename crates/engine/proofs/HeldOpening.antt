@@ -30,7 +30,7 @@ use Rattle.catalog.specs.Listed.{tables_of}
 use Rattle.catalog.specs.declared.tables.Table.{Table}
 use Rattle.catalog.specs.declared.tables.Catalog.{Catalog}
 use Rattle.pager.specs.Views.{Tells, View, newest_view}
-use Rattle.session.specs.Holding.{Hold, IsFound, IsSettled}
+use Rattle.session.specs.Holding.{StoreFiles, IsFound, IsSettled}
 use Rattle.session.specs.Machine.{fresh}
 use Rattle.session.specs.Schema.{AreSameTables}
 use Rattle.session.specs.Representation.{AreCommitted as AllCommitted, RepresentsRunning, ShowTheSame, Represents}
@@ -79,7 +79,7 @@ few_frames (Some h) log n = (let long = framed_len h log n in omega (arith, long
 
 -- ---- contents that hold a database
 
-abbrev pub held_as : (db log new_db new_log : List ℕ) (database : Database) → new_db ≡ db → new_log ≡ log → Hold db log database → Hold new_db new_log database
+abbrev pub held_as : (db log new_db new_log : List ℕ) (database : Database) → new_db ≡ db → new_log ≡ log → StoreFiles db log database → StoreFiles new_db new_log database
 held_as db log new_db new_log database same_db same_log held = record {
   view = held.view;
   db_is = held.db_is ∙ sym same_db;
@@ -89,18 +89,18 @@ held_as db log new_db new_log database same_db same_log held = record {
   stored = held.stored;
 }
 
-pub head_of : (db log : List ℕ) (database : Database) (held : Hold db log database) → IsHeader db held.found.head
+pub head_of : (db log : List ℕ) (database : Database) (held : StoreFiles db log database) → IsHeader db held.found.head
 head_of db log database held = subst (λ (d : List ℕ). IsHeader d held.found.head) held.db_is held.found.head_is
 
 -- its size is that of the frames' heads
-held_size : (db log : List ℕ) (database : Database) (held : Hold db log database)
+held_size : (db log : List ℕ) (database : Database) (held : StoreFiles db log database)
     → IsViewSize (heads log held.commits.header (length held.view.frames)) (counted_of held.found.head) (length db) held.view.page_size held.view.size
 held_size db log database held =
     let same = ap heads_in held.commits.frames_are ∙ heads_are held.commits.header log (length held.view.frames) in
     subst (λ (hs : List FrameHeader). IsViewSize hs (counted_of held.found.head) (length db) held.view.page_size held.view.size) same
     (subst (λ (d : List ℕ). IsViewSize (heads_in held.view.frames) (counted_of held.found.head) (length d) held.view.page_size held.view.size) held.db_is held.found.sized)
 
-pub can_open : (db log : List ℕ) (database : Database) (head : Header) (held : Hold db log database) → head ≡ held.found.head → CanOpen head.page_size (counted_of head) db log
+pub can_open : (db log : List ℕ) (database : Database) (head : Header) (held : StoreFiles db log database) → head ≡ held.found.head → CanOpen head.page_size (counted_of head) db log
 can_open db log database head held is =
     subst (λ (h : Header). CanOpen h.page_size (counted_of h) db log) (sym is)
     (subst (λ (n : ℕ). CanOpen n (counted_of held.found.head) db log) (sym held.found.head_size) (record {
@@ -122,7 +122,7 @@ abbrev known_view : List ℕ → List ℕ → LogState → View
 known_view db log known = record { db = db; frames = frames_under (header_of known) log known.frames; page_size = known.page_size; size = known.size }
 
 -- what is known of them is the view that they hold
-pub known_held : (db log : List ℕ) (database : Database) (known : LogState) (counted : Option ℕ) (held : Hold db log database) → known.page_size ≡ held.view.page_size → counted ≡ counted_of held.found.head
+pub known_held : (db log : List ℕ) (database : Database) (known : LogState) (counted : Option ℕ) (held : StoreFiles db log database) → known.page_size ≡ held.view.page_size → counted ≡ counted_of held.found.head
     → IsStateOf counted db log known → known_view db log known ≡ held.view
 known_held db log database known counted held sized counts is =
     λ i. record { db = sym held.db_is i; frames = frames i; page_size = sized i; size = size i }
@@ -202,7 +202,7 @@ module _ {D : Type 0} {g : Ghosts D} where
     pub stored : Stores (newest_view files) tables database
 
   -- so they were opened
-  pub opened_held : (salts : Salts) (files : Log D g) (database : Database) (head : Header) (counted : Option ℕ) (held : Hold (g.file (db_of files)).content (g.file (log_of files)).content database) → head ≡ held.found.head → counted ≡ counted_of head
+  pub opened_held : (salts : Salts) (files : Log D g) (database : Database) (head : Header) (counted : Option ℕ) (held : StoreFiles (g.file (db_of files)).content (g.file (log_of files)).content database) → head ≡ held.found.head → counted ≡ counted_of head
       → IsOpened head.page_size salts (state_of files) → IsStateOf counted (g.file (db_of files)).content (g.file (log_of files)).content (state_of files)
       → IsSynced (g.file (db_of files)) → IsSynced (g.file (log_of files)) → IsTrue (g.tells (db_of files)) → IsTrue (g.tells (log_of files)) → IsHeld held.tables database files
   opened_held salts files database head counted held is counts opened known db_synced log_synced told_db told_log =
@@ -236,7 +236,7 @@ module _ {D : Type 0} {g : Ghosts D} where
 
   -- so the contents hold the database
   pub found_held : (files : Log D g) (counted : Option ℕ) (catalog : Catalog) (found : FindsDatabase (newest_view files) catalog) → IsFound (newest_view files)
-      → IsStateOf counted (g.file (db_of files)).content (g.file (log_of files)).content (state_of files) → Hold (g.file (db_of files)).content (g.file (log_of files)).content found.database
+      → IsStateOf counted (g.file (db_of files)).content (g.file (log_of files)).content (state_of files) → StoreFiles (g.file (db_of files)).content (g.file (log_of files)).content found.database
   found_held files counted catalog found view known = record {
     view = newest_view files;
     db_is = refl;

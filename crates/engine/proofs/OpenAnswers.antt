@@ -10,6 +10,7 @@ use Rattle.catalog.specs.Database.{Database}
 use Rattle.walframe.specs.declared.log_header.Salts.{Salts}
 use Rattle.wal.specs.declared.log.Refused.{Refused}
 use Rattle.session.specs.Holding.{Hold, LeaveHeld}
+use Rattle.session.proofs.StoredFiles.{stored_if_held}
 use Rattle.engine.specs.Opening.{IsOpenedFrom, TellsBlank, IsRefusedOpen, LeavesOpened, db_left, log_left}
 use Rattle.engine.specs.declared.opening.Engine.{Engine}
 use Rattle.engine.proofs.HeldCrashes.{held_throughout}
@@ -27,7 +28,7 @@ module _ {D : Type 0} {g : Ghosts D} where
   pub holds : (db log : D) (salts : Salts) (result : Result (Engine D g) (Refused D)) → IsAnswer db log salts result → (database : Database) → IsTrue (g.tells db) → IsTrue (g.tells log) → IsSynced (g.file db) → IsSynced (g.file log)
       → Hold (g.file db).content (g.file log).content database → Throughout (LeaveHeld (λ (d : Database). d ≡ database)) (g.file db) (g.file log) (g.file (db_left result)) (g.file (log_left result))
   holds db log salts result answer database told_db told_log db_synced log_synced held =
-      held_throughout (g.file db) (g.file log) db_synced log_synced database held (g.file (db_left result)) (g.file (log_left result)) (answer.crash told_db told_log)
+      held_throughout (g.file db) (g.file log) db_synced log_synced database (stored_if_held (g.file db).content (g.file log).content database held) (g.file (db_left result)) (g.file (log_left result)) (answer.crash told_db told_log)
 
   -- files that were read, and refused
   pub refused_read : (db log : D) (salts : Salts) (refused : Refused D) → WereRead g.tells g.file g.failures db log refused.db refused.log

@@ -1,21 +1,13 @@
--- The grammar of SQL, as the definitions of steps by texts and of files take it.
-use Rattle.std.specs.Prelude.{◌≡◌, not, ℕ, false, List, [], ◌++◌, filter, Option, Some, None, Result, Ok, Err}
+-- The grammar of SQL, as the definitions of steps by texts take it.
+use Rattle.std.specs.Prelude.{◌≡◌, ℕ, false, List, ◌++◌, Option, Some, None, Result, Ok, Err}
 use Rattle.lexer.specs.Cut.{Cuts}
 use Rattle.lexer.specs.Lex.{Lexed, tokens}
-use Rattle.sqlval.specs.Names.{is_same_name}
 use Rattle.sqlval.specs.Refusals.{Refusal, refusal_of}
 use Rattle.sqlval.specs.declared.fault.Fault.{Fault}
 use Rattle.sqlval.specs.declared.fault.Fault.TheVariants as fault
-use Rattle.syntax.specs.declared.create.NewObject.{NewObject}
-use Rattle.syntax.specs.declared.create.NewObject.TheVariants as object
-use Rattle.catalog.specs.Database.{Name, Database}
-use Rattle.bind.specs.Checked.{faults}
-use Rattle.bind.specs.Schema.{create}
 use Rattle.parser.specs.Parsing.{parsed_by}
 use Rattle.grammar.specs.Statements.{is_statement_within}
 use Rattle.grammar.specs.Texts.{IsStatementText, IsUnsupportedText}
-use Rattle.filecheck.specs.Schema.{Language}
-use Rattle.session.specs.Schema.{IsCreateOf}
 use Rattle.session.specs.Texts.{Grammar}
 
 -- ---- texts of statements
@@ -51,23 +43,3 @@ grammar = record {
   Passes = Passes;
   Begins = IsBeginning;
 }
-
--- ---- texts of the schema
-
-abbrev name_of : NewObject → Name
-name_of (object.Table t) = t.name
-name_of (object.Index i) = i.name
-name_of (object.View v) = v.name
-name_of (object.Trigger t) = t.name
-
--- the objects of other names
-abbrev others : Database → Name → Database
-others db name = filter (λ o. not (is_same_name name o.0)) db
-
--- a CREATE of this object is not refused beside the others
-abbrev pub Accepts : Database → NewObject → Type 0
-Accepts db made = faults (create (others db (name_of made)) made) ≡ []
-
--- what is known of SQL where files are read
-abbrev pub language : Language
-language = record { Creates = IsCreateOf; Accepts = Accepts }

@@ -10,7 +10,7 @@ use std::alloc::{AllocError, AllocFailed};
 pub type Read<'a, T> = Result<(T, Rest<'a>), Refusal>;
 
 /// Why tokens are refused: the first reason from left to right.
-#[derive(Clone, Copy, Debug)]
+#[derive(Clone, Copy)]
 pub enum Refusal {
     Memory,
     /// No statement goes on so, with this many tokens left.

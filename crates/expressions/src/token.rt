@@ -13,7 +13,7 @@ pub type SourceTokens<'a> = &'a [Token<'a>];
 pub type Rest<'a> = &'a [TokenAt];
 
 /// A token without its text, which stands at this place of the whole statement's tokens.
-#[derive(Clone, Copy, Debug)]
+#[derive(Clone, Copy)]
 pub struct TokenAt {
     pub kind: Kind,
     pub place: usize,

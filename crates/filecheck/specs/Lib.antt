@@ -1,6 +1,5 @@
 pub mod Files
 pub mod Freelist
-pub mod Making
 pub mod Schema
 pub mod Contents
 pub mod Stands

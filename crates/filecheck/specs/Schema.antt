@@ -1,8 +1,9 @@
 -- What the rows of the schema table say (Database File Format, "Storage Of The SQL Database Schema").
-use Rattle.std.specs.Prelude.{◌≡◌, ◌⊎◌, ℕ, true, List, [], ◌∷◌, map, filter, codes, pos, Option, Some, None}
+use Rattle.std.specs.Prelude.{◌≡◌, ◌⊎◌, ◌&&◌, ℕ, Bool, true, false, List, [], ◌∷◌, map, filter, codes, pos, Option, Some, None}
 use Rattle.std.specs.List.{AllByRecursion}
-use Rattle.sqlval.specs.Names.{folded}
+use Rattle.sqlval.specs.Names.{folded, is_same_name}
 use Rattle.sqlval.specs.Lists.{sorted}
+use Rattle.sqlval.specs.declared.collation.Collation.{Collation}
 use Rattle.sqlval.specs.declared.value.Value.{Value}
 use Rattle.sqlval.specs.declared.value.Value.TheVariants.{Null, Int, Text}
 use Rattle.record.specs.Record.{IsRecord}
@@ -13,8 +14,10 @@ use Rattle.syntax.specs.declared.create.TableDefinition.{TableDefinition}
 use Rattle.syntax.specs.declared.create.IndexDefinition.{IndexDefinition}
 use Rattle.syntax.specs.declared.create.ViewDefinition.{ViewDefinition}
 use Rattle.syntax.specs.declared.create.TriggerDefinition.{TriggerDefinition}
-use Rattle.catalog.specs.Database.{Name, Database, Object, ATable, AnIndex, AView, ATrigger, Table, Index, View, name_order, object, indexes_of}
-use Rattle.filecheck.specs.Making.{IsTableOf, IsIndexOf, IsViewOf, automatic_of}
+use Rattle.catalog.specs.Database.{Name, Database, Object, ATable, AnIndex, AView, ATrigger, Table, Index, View, name_order, object}
+use Rattle.bind.specs.Checked.{good}
+use Rattle.bind.specs.Schema.{automatic, index_made, view_made}
+use Rattle.bind.specs.Tables.{table_made}
 
 -- What is known of SQL: which text is, from its first to its last token, a CREATE of which object, and which of them are
 -- not refused beside the objects of a database.
@@ -49,30 +52,34 @@ pub record HasText (language : Language) (db : Database) (row : SchemaRow) (made
   pub creates : language.Creates text made
   pub accepts : language.Accepts db made
 
--- the indexes of a table that it made itself, by name
-abbrev pub automatic_indexes : Database → Name → List (Name × Index)
-automatic_indexes db table = filter (λ i. i.1.is_automatic) (indexes_of db table)
+abbrev is_automatic_on : Name → Name × Object → Bool
+is_automatic_on table (name, AnIndex i) = i.is_automatic && is_same_name i.table table
+is_automatic_on table _ = false
 
--- A table's row: the type, the name twice and the text. The table's automatic indexes are those that the text asks for.
+-- the indexes that a table made itself, by name
+abbrev pub automatic_indexes : Database → Name → List (Name × Object)
+automatic_indexes db table = filter (is_automatic_on table) db
+
+-- A table's row: the type, the name twice and the text, which makes the table, whatever rows it has. The table's automatic indexes
+-- are those that the text asks for.
 pub record IsTableRow (language : Language) (db : Database) (row : SchemaRow) (t : Table) : Type 0 where
   pub definition : TableDefinition
   pub kind : row.kind ≡ codes "table"
   pub text : HasText language db row (new.Table definition)
   pub name : folded row.name ≡ folded definition.name
   pub table : folded row.table ≡ folded definition.name
-  pub made : IsTableOf definition t
-  pub automatic : sorted (λ a b. name_order a.0 b.0) (automatic_of definition t.columns) ≡ automatic_indexes db definition.name
+  pub keys : List (List (ℕ × Collation))
+  pub made : table_made definition ≡ good (record t { rows = [] }, keys)
+  pub automatic_are : sorted (λ a b. name_order a.0 b.0) (automatic definition.name 1 keys) ≡ automatic_indexes db definition.name
 
--- The row of an index with a text: the type, the names of the index and of its table, and the text.
+-- The row of an index with a text: the type, the names of the index and of its table, and the text, which makes the index.
 pub record IsIndexRow (language : Language) (db : Database) (row : SchemaRow) (i : Index) : Type 0 where
   pub definition : IndexDefinition
-  pub t : Table
   pub kind : row.kind ≡ codes "index"
   pub text : HasText language db row (new.Index definition)
   pub name : folded row.name ≡ folded definition.name
   pub table : folded row.table ≡ folded definition.table
-  pub on : object db definition.table ≡ Some (ATable t)
-  pub made : IsIndexOf t.columns definition i
+  pub made : index_made (object db definition.table) definition ≡ good (AnIndex i)
 
 -- The row of an index that a table made itself: the type, the table's name, and no text. The table's row says what it is.
 pub record IsAutomaticRow (db : Database) (row : SchemaRow) (i : Index) : Type 0 where
@@ -91,7 +98,7 @@ pub record IsViewRow (language : Language) (db : Database) (row : SchemaRow) (v 
   pub name : folded row.name ≡ folded definition.name
   pub table : folded row.table ≡ folded definition.name
   pub root : row.root ≡ 0
-  pub made : IsViewOf definition v
+  pub made : view_made definition ≡ good (AView v)
 
 -- A trigger's row: the type, its name and its table's or view's, no page and the text.
 pub record IsTriggerRow (language : Language) (db : Database) (row : SchemaRow) (t : TriggerDefinition) : Type 0 where

@@ -5,7 +5,7 @@ ghost use Rattle.lexer.specs.Bytes as spec;
 ghost use Rattle.lexer.specs.Lex as lex;
 
 /// Which bytes go on in a token.
-#[derive(Clone, Copy, Debug)]
+#[derive(Clone, Copy)]
 pub enum Class {
     /// Letters, digits, `_`, `$`, and parts of a character past ASCII.
     Word,

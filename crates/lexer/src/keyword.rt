@@ -5,7 +5,7 @@ ghost use Rattle.std.specs.Str.{str_eq_ignore_ascii_case};
 ghost use Rattle.lexer.specs.Lex as spec;
 
 /// A reserved word.
-#[derive(Clone, Copy, Debug, PartialEq, Eq)]
+#[derive(Clone, Copy, PartialEq, Eq)]
 pub enum Keyword {
     Abort,
     After,

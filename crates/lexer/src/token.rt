@@ -6,7 +6,7 @@ ghost use Rattle.lexer.specs.Lex as spec;
 use crate::keyword::Keyword;
 
 /// What a token is.
-#[derive(Clone, Copy, Debug, PartialEq, Eq)]
+#[derive(Clone, Copy, PartialEq, Eq)]
 pub enum Kind {
     /// A reserved word.
     Word(Keyword),
@@ -45,7 +45,7 @@ pub enum Kind {
 }
 
 /// A token, its text as it is written, and the byte where it begins.
-#[derive(Clone, Copy, Debug)]
+#[derive(Clone, Copy)]
 pub struct Token<'a> {
     pub kind: Kind,
     pub text: &'a str,

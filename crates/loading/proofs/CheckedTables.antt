@@ -1,5 +1,5 @@
 -- Tables whose pages are checked one after another.
-use Rattle.std.proofs.Common.{◌≡◌, ◌<◌, ◌≤◌, ◌+◌, ◌∙◌, refl, sym, ap, subst, inl, ℕ, zero, suc, List, [], ◌∷◌, ◌++◌, length, take, slice_index_or, Ok, Err, arith}
+use Rattle.std.proofs.Common.{true, ◌≡◌, ◌<◌, ◌≤◌, ◌+◌, ◌∙◌, refl, sym, ap, subst, inl, ℕ, zero, suc, List, [], ◌∷◌, ◌++◌, length, take, slice_index_or, Ok, Err, arith}
 use Rattle.std.specs.Prelude.{⊤, Result, IsTrue, IsErrAnd, OnOk, IfErr}
 use Rattle.std.specs.List.{AllByRecursion}
 use Rattle.std.proofs.lemmas.List.{take_more}
@@ -10,6 +10,8 @@ use Rattle.sqlval.specs.declared.fault.Fault.TheVariants.{Memory}
 use Rattle.wal.specs.LogState.{LogState, db_of, log_of, seen_by, size_of, state_of}
 use Rattle.wal.specs.declared.log.Log.{Log}
 use Rattle.wal.specs.declared.log.Snapshot.{Snapshot}
+use Rattle.catalog.specs.Listed.{plain_table}
+use Rattle.catalog.specs.Rows.{are_rows}
 use Rattle.catalog.specs.declared.tables.Table.{Table}
 use Rattle.bind.specs.declared.queries.BoundSource.{BoundSource}
 use Rattle.rowprog.specs.Rows.{Holds, TableRow}
@@ -32,6 +34,14 @@ held_at P [] i t lt is all = absurd (omega (arith, lt))
 held_at P (u ∷ tables) zero t lt is all = subst P (sym is) all.0
 held_at P (u ∷ tables) (suc i) t lt is all = held_at P tables i t (omega (arith, lt)) is all.1
 
+-- the rows that were found on the page are such as the table may hold
+abbrev pub AreFit : List ℕ → BoundSource → Table → Type 0
+AreFit read source t = (rows : List TableRow) → Holds read source.root source.width rows → are_rows (plain_table t rows) ≡ true
+
+held_here : (page read : List ℕ) (t : Table) (source : BoundSource) → read ≡ page → source.root ≡ t.root → source.width ≡ length t.columns → (rows : List TableRow) → Holds read source.root source.width rows → Holds page t.root (length t.columns) rows
+held_here page read t source is root width rows holds = subst (λ (b : List ℕ). Holds b t.root (length t.columns) rows) is
+    (subst (λ (n : ℕ). Holds read n (length t.columns) rows) root (subst (λ (n : ℕ). Holds read source.root n rows) width holds))
+
 module _ {D : Type 0} {g : Ghosts D} where
   pub keeps_none : (log : Log D g) → KeepsFiles log log
   keeps_none log = record { known = refl; db = record { tells_same = refl; same = λ t. refl }; log = record { tells_same = refl; same = λ t. refl } }
@@ -53,19 +63,19 @@ module _ {D : Type 0} {g : Ghosts D} where
   pub record AreChecked (old now : Log D g) (s : Snapshot) (tables : List Table) (index : ℕ) : Type 0 where
     pub kept : KeepsFiles old now
     pub counts : (g.failures (db_of now) ≡ g.failures (db_of old)) × (g.failures (log_of now) ≡ g.failures (log_of old))
-    pub found : Tells old → IsNewest old s → AllByRecursion (HoldsRows (newest_view old)) (take index tables)
+    pub found : Tells old → IsNewest old s → (state_of old).page_size ≤ 65536 → AllByRecursion (HoldsRows (newest_view old)) (take index tables)
 
   pub none_checked : (log : Log D g) (s : Snapshot) (tables : List Table) → AreChecked log log s tables 0
-  none_checked log s tables = record { kept = keeps_none log; counts = (refl, refl); found = λ told newest. tt }
+  none_checked log s tables = record { kept = keeps_none log; counts = (refl, refl); found = λ told newest small. tt }
 
   pub one_checked : (old mid new : Log D g) (s : Snapshot) (tables : List Table) (i : ℕ) (t : Table) → i < length tables → t ≡ slice_index_or tables i t → AreChecked old mid s tables i → KeepsFiles mid new
-      → (Tells mid → IsNewest mid s → HoldsRows (newest_view mid) t) → (g.failures (db_of new) ≡ g.failures (db_of mid)) × (g.failures (log_of new) ≡ g.failures (log_of mid)) → AreChecked old new s tables (i + 1)
+      → (Tells mid → IsNewest mid s → (state_of mid).page_size ≤ 65536 → HoldsRows (newest_view mid) t) → (g.failures (db_of new) ≡ g.failures (db_of mid)) × (g.failures (log_of new) ≡ g.failures (log_of mid)) → AreChecked old new s tables (i + 1)
   one_checked old mid new s tables i t lt is so_far kept found counts = record {
     kept = keeps_both old mid new so_far.kept kept;
     counts = (counts.0 ∙ so_far.counts.0, counts.1 ∙ so_far.counts.1);
-    found = λ told newest. (let same = same_seen old mid told so_far.kept in
-        held_more (HoldsRows (newest_view old)) tables i t lt is (so_far.found told newest)
-        (subst (λ (v : View). HoldsRows v t) same.newest (found same.told (still_newest old mid s so_far.kept newest))));
+    found = λ told newest small. (let same = same_seen old mid told so_far.kept in
+        held_more (HoldsRows (newest_view old)) tables i t lt is (so_far.found told newest small)
+        (subst (λ (v : View). HoldsRows v t) same.newest (found same.told (still_newest old mid s so_far.kept newest) (subst (λ (k : LogState). k.page_size ≤ 65536) (sym so_far.kept.known) small))));
   }
 
   -- a table whose rows are there is refused for want of memory or by a disk alone
@@ -88,22 +98,22 @@ module _ {D : Type 0} {g : Ghosts D} where
   seen_newest log s number page newest has = subst (λ (v : View). ViewHas v number page) (at_newest log s newest) has
 
   -- rows that were found on the page that was read
-  rows_there : (log : Log D g) (s : Snapshot) (t : Table) (newest : IsNewest log s) (page read : List ℕ) (source : BoundSource) → read ≡ page → source.root ≡ t.root → source.width ≡ length t.columns.items → ViewHas (view_at log s) t.root page
-      → (1 ≤ t.root) × (t.root ≤ size_of s) → (rows : List TableRow) × Holds read source.root source.width rows → HoldsRows (newest_view log) t
-  rows_there log s t newest page read source is root width has within rows = record {
+  rows_there : (log : Log D g) (s : Snapshot) (t : Table) (newest : IsNewest log s) (page read : List ℕ) (source : BoundSource) → read ≡ page → source.root ≡ t.root → source.width ≡ length t.columns → ViewHas (view_at log s) t.root page
+      → (1 ≤ t.root) × (t.root ≤ size_of s) → AreFit read source t → (rows : List TableRow) × Holds read source.root source.width rows → HoldsRows (newest_view log) t
+  rows_there log s t newest page read source is root width has within fit rows = record {
     page = page;
     there = record { first = within.0; last = omega (arith, within.1, newest.sized); has = seen_newest log s t.root page newest has };
     rows = rows.0;
-    holds = subst (λ (b : List ℕ). Holds b t.root (length t.columns.items) rows.0) is
-        (subst (λ (n : ℕ). Holds read n (length t.columns.items) rows.0) root (subst (λ (n : ℕ). Holds read source.root n rows.0) width rows.1));
+    holds = held_here page read t source is root width rows.0 rows.1;
+    fit = fit rows.0 rows.1;
   }
 
-  pub held_by : (log : Log D g) (s : Snapshot) (t : Table) (newest : IsNewest log s) (page read : List ℕ) (source : BoundSource) (result : Result ⊤ Fault) → read ≡ page → source.root ≡ t.root → source.width ≡ length t.columns.items
-      → ViewHas (view_at log s) t.root page → (1 ≤ t.root) × (t.root ≤ size_of s) → OnOk result ((rows : List TableRow) × Holds read source.root source.width rows) → OnOk result (HoldsRows (newest_view log) t)
-  held_by log s t newest page read source (Ok done) is root width has within rows = rows_there log s t newest page read source is root width has within rows
-  held_by log s t newest page read source (Err fault) is root width has within rows = tt
+  pub held_by : (log : Log D g) (s : Snapshot) (t : Table) (newest : IsNewest log s) (page read : List ℕ) (source : BoundSource) (result : Result ⊤ Fault) → read ≡ page → source.root ≡ t.root → source.width ≡ length t.columns
+      → ViewHas (view_at log s) t.root page → (1 ≤ t.root) × (t.root ≤ size_of s) → AreFit read source t → OnOk result ((rows : List TableRow) × Holds read source.root source.width rows) → OnOk result (HoldsRows (newest_view log) t)
+  held_by log s t newest page read source (Ok done) is root width has within fit rows = rows_there log s t newest page read source is root width has within fit rows
+  held_by log s t newest page read source (Err fault) is root width has within fit rows = tt
 
-  pub refused_rows : (log : Log D g) (s : Snapshot) (t : Table) (newest : IsNewest log s) (page read : List ℕ) (source : BoundSource) (result : Result ⊤ Fault) → read ≡ page → source.root ≡ t.root → source.width ≡ length t.columns.items
+  pub refused_rows : (log : Log D g) (s : Snapshot) (t : Table) (newest : IsNewest log s) (page read : List ℕ) (source : BoundSource) (result : Result ⊤ Fault) → read ≡ page → source.root ≡ t.root → source.width ≡ length t.columns
       → ViewHas (view_at log s) t.root page → (held : HoldsRows (newest_view log) t) → ((rows : List TableRow) → Holds read source.root source.width rows → IfErr result (λ fault. fault ≡ Memory)) → IfErr result IsOutside
   refused_rows log s t newest page read source (Ok done) is root width has held only = tt
   refused_rows log s t newest page read source (Err fault) is root width has held only =

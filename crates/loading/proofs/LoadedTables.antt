@@ -1,5 +1,6 @@
 -- Page 1 of the newest view, as loading reads it.
-use Rattle.std.proofs.Common.{◌≡◌, ◌≤◌, ◌∙◌, sym, ap, subst, ℕ, List, arith}
+use Rattle.std.proofs.Common.{◌≡◌, ◌≤◌, ◌^◌, ◌∙◌, sym, ap, subst, ℕ, List, arith}
+use Rattle.std.proofs.Math.Nat.{pow-le-pow_right}
 use Rattle.std.specs.List.{AllByRecursion}
 use Rattle.disk.specs.declared.device.Disk.{Ghosts}
 use Rattle.walframe.specs.Accepted.{KeepsFile}
@@ -16,9 +17,16 @@ use Rattle.session.specs.Schema.{AreSameTables}
 use Rattle.session.specs.Stored.{Stores}
 use Rattle.session.proofs.SameTables.{stores_same}
 use Rattle.session.proofs.SeenPages.{at_newest}
-use Rattle.loading.specs.FirstPage.{IsFirstPage}
+use Rattle.loading.specs.FirstPage.{IsFirstHeader, IsFirstPage}
 use Rattle.loading.specs.Tables.{HoldsRows, KeepsFiles}
 use Rattle.loading.proofs.StoredTables.{all_held}
+
+-- a page size that a header tells is small
+pub small_pages : (page_size size : ℕ) (page : List ℕ) (known : LogState) → IsFirstHeader page page_size size → page_size ≡ known.page_size → known.page_size ≤ 65536
+small_pages page_size size page known first is =
+    let fits = first.header_is.served in
+    let most : 2 ^ fits.exponent ≤ 2 ^ 15 = pow-le-pow_right (omega arith) fits.high in
+    omega (arith, most, fits.power, first.sized, is)
 
 module _ {D : Type 0} {g : Ghosts D} (files : Log D g) (snapshot : Snapshot) (newest : IsNewest files snapshot) where
   pub first_there : (tables : List Table) (database : Database) (stored : Stores (newest_view files) tables database) → IsViewPage (view_at files snapshot) 1 stored.first.page

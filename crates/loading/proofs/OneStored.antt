@@ -18,6 +18,7 @@ use Rattle.rowprog.specs.Held.{OneRows}
 use Rattle.rowprog.specs.Rows.{Holds, TableRow}
 use Rattle.pager.specs.Views.{View}
 use Rattle.session.specs.Holding.{Hold}
+use Rattle.session.proofs.StoredFiles.{stored_if_held}
 use Rattle.session.specs.NewTables.{schema_row}
 use Rattle.session.specs.Schema.{AreRowsOf, AreSameTables, IsCreateOf, IsRowOf, IsSameTable}
 use Rattle.session.specs.Stored.{IsStored, Stores}
@@ -61,7 +62,7 @@ one_definition texts sql text c d same one other =
 one_table : OneText → DetermineValues → (pages : ℕ) (before others : List Table) (t u : Table) (row : Entry) → IsRowOf pages before t row → IsRowOf pages others u row → IsSameTable t u
 one_table texts values pages before others t u row one other = record {
   name_is = other.made.name_is ∙ ap (λ (d : TableDefinition). d.name) (sym same) ∙ sym one.made.name_is;
-  columns_are = columns_are u.columns.items t.columns.items (other.made.columns ∙ ap (λ (d : TableDefinition). map defined d.columns) (sym same) ∙ sym one.made.columns);
+  columns_are = columns_are u.columns t.columns (other.made.columns ∙ ap (λ (d : TableDefinition). map defined d.columns) (sym same) ∙ sym one.made.columns);
   root_is = sym (root_is one.name other.name one.table_name other.table_name t.root u.root one.sql other.sql row_is);
 }
   where
@@ -99,8 +100,8 @@ same_tables leaves texts values view ts us a b one other =
 -- a table's page holds one list of rows
 same_rows : OneRows → (view : View) (rows_at others_at : ℕ → List TableRow) (t : Table) → IsStored view rows_at t → IsStored view others_at t → rows_at t.root ≡ others_at t.root
 same_rows lists view rows_at others_at t one other =
-    lists other.page t.root (length t.columns.items) (rows_at t.root) (others_at t.root)
-    (subst (λ (p : List ℕ). Holds p t.root (length t.columns.items) (rows_at t.root)) (one_page view t.root one.page other.page one.there.has other.there.has) one.holds) other.holds
+    lists other.page t.root (length t.columns) (rows_at t.root) (others_at t.root)
+    (subst (λ (p : List ℕ). Holds p t.root (length t.columns) (rows_at t.root)) (one_page view t.root one.page other.page one.there.has other.there.has) one.holds) other.holds
 
 abbrev object_of : (ℕ → List TableRow) → Table → Object
 object_of rows_at t = ATable (plain_table t (rows_at t.root))
@@ -128,5 +129,7 @@ one_stored leaves texts values lists databases view ts us a b one other =
 -- Two databases that the contents of two files hold are one.
 pub held_once : OneLeaf → OneText → DetermineValues → OneRows → OneDatabase → (db log : List ℕ) (a b : Database) → Hold db log a → Hold db log b → a ≡ b
 held_once leaves texts values lists databases db log a b one other =
-    one_stored leaves texts values lists databases other.view one.tables other.tables a b
-    (subst (λ (v : View). Stores v one.tables a) (one_view db log a b one other) one.stored) other.stored
+    let first = stored_if_held db log a one in
+    let second = stored_if_held db log b other in
+    one_stored leaves texts values lists databases second.view first.tables second.tables a b
+    (subst (λ (v : View). Stores v first.tables a) (one_view db log a b first second) first.stored) second.stored

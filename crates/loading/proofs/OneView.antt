@@ -10,7 +10,7 @@ use Rattle.wal.specs.Committed.{AreCommitted, frames_under}
 use Rattle.wal.specs.Sizes.{IsViewSize}
 use Rattle.wal.proofs.Openable.{committed_one, one_size, some_size}
 use Rattle.catalog.specs.Database.{Database}
-use Rattle.session.specs.Holding.{Hold}
+use Rattle.session.specs.Holding.{StoreFiles}
 use Rattle.loading.proofs.StoredTables.{one_header}
 
 ok_is : {A E : Type 0} (a b : A) → ◌≡◌ {A = Result A E} (Ok a) (Ok b) → a ≡ b
@@ -21,10 +21,10 @@ one_count : (header : Option LogHeader) (log : List ℕ) (a b m n : ℕ) → Are
 one_count None log a b m n one other = one ∙ sym other
 one_count (Some h) log a b m n one other = committed_one h log m n one.1 other.1
 
-head_of : (db log : List ℕ) (database : Database) (held : Hold db log database) → IsHeader db held.found.head
+head_of : (db log : List ℕ) (database : Database) (held : StoreFiles db log database) → IsHeader db held.found.head
 head_of db log database held = subst (λ (d : List ℕ). IsHeader d held.found.head) held.db_is held.found.head_is
 
-module _ (db log : List ℕ) (a b : Database) (one : Hold db log a) (other : Hold db log b) where
+module _ (db log : List ℕ) (a b : Database) (one : StoreFiles db log a) (other : StoreFiles db log b) where
   one_head : one.found.head ≡ other.found.head
   one_head = one_header db db one.found.head other.found.head refl (head_of db log a one) (head_of db log b other)
 

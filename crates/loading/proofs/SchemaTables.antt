@@ -310,15 +310,15 @@ module _ (before : List Table) (table : Table) (row : SchemaRow) (tells : TellsT
   pub names_of : (d : TableDefinition) → d ≡ tells.definition → IsOfRow row d
   names_of d same = subst (IsOfRow row) (sym same) tells.names
 
-  pub table_is : (d : TableDefinition) (found : Table) → d ≡ tells.definition → found.name ≡ d.name → found.columns.items ≡ table.columns.items → found.root ≡ row.root → IsSameTable table found
+  pub table_is : (d : TableDefinition) (found : Table) → d ≡ tells.definition → found.name ≡ d.name → found.columns ≡ table.columns → found.root ≡ row.root → IsSameTable table found
   table_is d found same name columns root = record {
     name_is = name ∙ ap (λ (x : TableDefinition). x.name) same ∙ sym tells.made.name_is;
     columns_are = columns;
     root_is = root ∙ sym tells.made.root_is;
   }
 
-  pub columns_premise : (d : TableDefinition) → d ≡ tells.definition → (has_doubled d.columns ≡ false) × (map described table.columns.items ≡ map defined d.columns)
+  pub columns_premise : (d : TableDefinition) → d ≡ tells.definition → (has_doubled d.columns ≡ false) × (map described table.columns ≡ map defined d.columns)
   columns_premise d same = (
     subst (λ (x : TableDefinition). has_doubled x.columns ≡ false) (sym same) tells.made.fresh.once,
-    subst (λ (x : TableDefinition). map described table.columns.items ≡ map defined x.columns) (sym same) tells.made.columns,
+    subst (λ (x : TableDefinition). map described table.columns ≡ map defined x.columns) (sym same) tells.made.columns,
   )

@@ -18,8 +18,9 @@ use Rattle.wal.specs.Sizes.{IsSizeWithinLimits}
 use Rattle.bind.specs.Bound.{AreOnce}
 use Rattle.bind.proofs.CreatedTables.{keeps_once}
 use Rattle.catalog.specs.Database.{Database}
-use Rattle.catalog.specs.Listed.{Lists, has_only_tables, is_table, table_named, tables_of}
+use Rattle.catalog.specs.Listed.{Lists, has_only_tables, is_table, plain_table, table_named, tables_of}
 use Rattle.catalog.specs.Named.{IsNamed, ListedDatabase}
+use Rattle.catalog.specs.Rows.{are_rows}
 use Rattle.catalog.specs.declared.tables.Catalog.{Catalog}
 use Rattle.catalog.specs.declared.tables.Table.{Table}
 use Rattle.rowprog.specs.Rows.{Holds, TableRow}
@@ -62,7 +63,8 @@ stored_here view t tables held rest above = record {
   page = held.page;
   above = above;
   there = held.there;
-  holds = subst (Holds held.page t.root (length t.columns.items)) (sym (ap (λ (b : Bool). cond b held.rows (rows_in view tables rest t.root)) (itself t.root))) held.holds;
+  holds = subst (Holds held.page t.root (length t.columns)) (sym (ap (λ (b : Bool). cond b held.rows (rows_in view tables rest t.root)) (itself t.root))) held.holds;
+  fit = subst (λ (rs : List TableRow). are_rows (plain_table t rs) ≡ true) (sym (ap (λ (b : Bool). cond b held.rows (rows_in view tables rest t.root)) (itself t.root))) held.fit;
 }
 
 stored_later : (view : View) (u t : Table) (tables : List Table) (held : HoldsRows view u) (rest : AllByRecursion (HoldsRows view) tables) → (t.root ≡ u.root → ⊥) → IsStored view (rows_in view tables rest) t
@@ -71,7 +73,8 @@ stored_later view u t tables held rest differ it = record {
   page = it.page;
   above = it.above;
   there = it.there;
-  holds = subst (Holds it.page t.root (length t.columns.items)) (sym (ap (λ (b : Bool). cond b held.rows (rows_in view tables rest t.root)) (not_same t.root u.root differ))) it.holds;
+  holds = subst (Holds it.page t.root (length t.columns)) (sym (ap (λ (b : Bool). cond b held.rows (rows_in view tables rest t.root)) (not_same t.root u.root differ))) it.holds;
+  fit = subst (λ (rs : List TableRow). are_rows (plain_table t rs) ≡ true) (sym (ap (λ (b : Bool). cond b held.rows (rows_in view tables rest t.root)) (not_same t.root u.root differ))) it.fit;
 }
 
 stored_in : (view : View) (p : Table → Bool) (tables : List Table) (held : AllByRecursion (HoldsRows view) tables) (t : Table) → find p tables ≡ Some t → occurs t.root (roots_of tables) ≤ 1 → 1 < t.root → IsStored view (rows_in view tables held) t
@@ -174,7 +177,7 @@ all_held view tables database stored = among tables (each_found view.size tables
   where
     among : (some : List Table) → AllByRecursion (λ t. table_named t.name tables ≡ Some t) some → AllByRecursion (HoldsRows view) some
     among [] are = tt
-    among (t ∷ some) are = (record { page = (stored.each t.name t are.0).page; there = (stored.each t.name t are.0).there; rows = stored.rows_at t.root; holds = (stored.each t.name t are.0).holds }, among some are.1)
+    among (t ∷ some) are = (record { page = (stored.each t.name t are.0).page; there = (stored.each t.name t are.0).there; rows = stored.rows_at t.root; holds = (stored.each t.name t are.0).holds; fit = (stored.each t.name t are.0).fit }, among some are.1)
 
 -- ---- what refuses it
 

@@ -22,7 +22,7 @@ use catalog::{Catalog, Column, Table, columns_of, is_reserved};
 use parser::parse;
 use record::Record;
 use session::is_table_supported;
-use sqlval::{Damage, Fault, Feature, Field, R};
+use sqlval::{Damage, Fault, Feature, Field, Many, R};
 use std::alloc::Global;
 use syntax::{Create, NewObject, Statement, TableDefinition};
 use tabletree::Leaf;
@@ -164,9 +164,9 @@ fn definition_of(alloc: Global, sql: &str) -> R<TableDefinition>
 }
 
 /// The columns that a definition gives its table.
-fn columns_in(alloc: Global, definition: &TableDefinition) -> R<Vec<Column>>
-    ensures tells { (columns : List Column) → has_doubled definition.now.columns ≡ false → map described columns ≡ map defined definition.now.columns → IsOrMemory (λ found. found.items ≡ columns) result }
-    ensures found { IfOk result (λ columns. (has_doubled definition.now.columns ≡ false) × (map described columns.items ≡ map defined definition.now.columns)) }
+fn columns_in(alloc: Global, definition: &TableDefinition) -> R<Many<Column>>
+    ensures tells { (columns : List Column) → has_doubled definition.now.columns ≡ false → map described columns ≡ map defined definition.now.columns → IsOrMemory (λ found. found ≡ columns) result }
+    ensures found { IfOk result (λ columns. (has_doubled definition.now.columns ≡ false) × (map described columns ≡ map defined definition.now.columns)) }
     ensures not_disk { IfErr result (λ fault. IsSchemaFault fault) }
 {
     match columns_of(alloc, definition) {

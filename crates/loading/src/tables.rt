@@ -1,10 +1,11 @@
 //! Each table's page holds its rows.
 
-ghost use Rattle.std.specs.Prelude.{◌≡◌, length, false, OnOk, IfErr};
+ghost use Rattle.std.specs.Prelude.{◌≡◌, ◌≤◌, length, false, OnOk, IfErr};
 ghost use Rattle.std.specs.List.{AllByRecursion};
 ghost use Rattle.sqlval.specs.Faults.{IsOutside};
 ghost use Rattle.pager.specs.Views.{Tells, newest_view};
 ghost use Rattle.wal.specs.ErrorCauses.{HasCause};
+ghost use Rattle.wal.specs.LogState.{state_of};
 ghost use Rattle.session.specs.Representation.{IsNewest};
 ghost use Rattle.loading.specs.Tables.{HoldsRows, KeepsFiles};
 
@@ -20,7 +21,7 @@ use wal::{Log, Snapshot};
 /// The page of a table, as a source of rows.
 fn source_of(table: &Table) -> BoundSource
     ensures root { result.root ≡ table.now.root }
-    ensures width { result.width ≡ length table.now.columns.items }
+    ensures width { result.width ≡ length table.now.columns }
 {
     BoundSource {
         root: table.root,
@@ -28,7 +29,7 @@ fn source_of(table: &Table) -> BoundSource
     }
 }
 
-/// Checks that a table's page is a leaf of rows of as many values as the table has columns.
+/// Checks that a table's page is a leaf of rows such as the table may hold, of as many values as it has columns.
 fn check_table<D: Disk + Drop>(
     alloc: Global,
     log: &mut Log<D>,
@@ -36,7 +37,7 @@ fn check_table<D: Disk + Drop>(
     table: &Table,
 ) -> R<()>
     ensures kept { KeepsFiles log.old log.new }
-    ensures found { Tells log.old → IsNewest log.old snapshot → OnOk result (HoldsRows (newest_view log.old) table.now) }
+    ensures found { Tells log.old → IsNewest log.old snapshot → (state_of log.old).page_size ≤ 65536 → OnOk result (HoldsRows (newest_view log.old) table.now) }
     ensures only { Tells log.old → IsNewest log.old snapshot → HoldsRows (newest_view log.old) table.now → IfErr result IsOutside }
     ensures cause { HasCause false result log.old log.new }
     ensures not_blank { IfErr result (λ fault. fault ≡ Fault.Blank → ⊥) }
@@ -53,7 +54,7 @@ pub fn check_tables<D: Disk + Drop>(
     tables: &[Table],
 ) -> R<()>
     ensures kept { KeepsFiles log.old log.new }
-    ensures found { Tells log.old → IsNewest log.old snapshot → OnOk result (AllByRecursion (HoldsRows (newest_view log.old)) tables.now) }
+    ensures found { Tells log.old → IsNewest log.old snapshot → (state_of log.old).page_size ≤ 65536 → OnOk result (AllByRecursion (HoldsRows (newest_view log.old)) tables.now) }
     ensures only { Tells log.old → IsNewest log.old snapshot → AllByRecursion (HoldsRows (newest_view log.old)) tables.now → IfErr result IsOutside }
     ensures cause { HasCause false result log.old log.new }
     ensures not_blank { IfErr result (λ fault. fault ≡ Fault.Blank → ⊥) }

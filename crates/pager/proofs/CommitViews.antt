@@ -28,6 +28,7 @@ use Rattle.pager.specs.Limits.{pages_of, page_size_of}
 use Rattle.pager.specs.Views.{View, ViewHas, changes_of, newest_view, view_at, view_of}
 use Rattle.pager.specs.Writers.{BeginAtPageOne, HasHeader, IsNextHeader, IsConsistent, makes_objects, seen, snapshot_of}
 use Rattle.pager.proofs.Reheading.{IsFew, IsReheaded, few_keep, few_know, first_among, has_header, not_forth, refusal_is_few, reheaded_back, reheaded_first, reheaded_forth, reheaded_whole, reheads_has, reheads_length, reheads_twice}
+use Rattle.pager.proofs.Restoring.{IsReset, marks_again, now_again}
 use Rattle.pager.proofs.Seeing.{seen_to}
 
 framed_count : (ps : List PageImage) (size : ℕ) → length (framed ps size) ≡ length ps
@@ -233,14 +234,15 @@ module _ {D : Type 0} {g : Ghosts D} where
         by_fault (inr (inl is)) = (let at : Rose failed fails × Within = subst (IsCommitRefusal (state_of files).has_failed _ Within (log_of files) (log_of new) failed fails) is why in inr (leaves ps ps_is at.1.few next_is crash content))
         by_fault (inr (inr is)) = inl (few_keep (state_of files).has_failed _ Within (log_of files) (log_of new) failed fails fault (inr (inr is)) (λ io. full_not_io (sym is.0 ∙ io)) why)
 
-    pub refused_commit : (left : Writer) (ps : List PageImage) (fault : Fault) (failed fails : ℕ) → IsReheaded mid left header → ps ≡ changes_of mid
+    pub refused_commit : (left : Writer) (ps : List PageImage) (fault : Fault) (failed fails : ℕ) → IsReheaded mid left header → IsReset writer mid → IsReset mid left → ps ≡ changes_of mid
         → IsCommitRefusal (state_of files).has_failed (ArePages 0 (pages_of mid) (state_of files).page_size ps × (0 < length ps)) (IsWithin (state_of files) (length ps) (pages_of mid)) (log_of files) (log_of new) failed fails fault
         → state_of new ≡ after_refusal (state_of files) fault → KeepsDisks g.tells g.failures (db_of files) (db_of new) (log_of files) (log_of new) → IsRefusedCommit files writer page header new left fault
-    refused_commit left ps fault failed fails again ps_is why known keeps =
+    refused_commit left ps fault failed fails again one two ps_is why known keeps =
         let both : IsReheaded writer left header = record {
           pages = reheads_twice (changes_of writer) (changes_of mid) (changes_of left) next header re.pages again.pages may.whole.first;
           rest = (again.rest.0 ∙ re.rest.0, again.rest.1 ∙ re.rest.1, again.rest.2 ∙ re.rest.2, again.rest.3 ∙ re.rest.3);
         } in
+        let has = may_header files writer page header may in
         let is_few = refusal_is_few (state_of files).has_failed _ _ (log_of files) (log_of new) failed fails fault may.tells.whole (are_pages ps ps_is) why in
         let first = reheaded_first seen_view writer left header both may.whole page may.first in
         let left_whole = reheaded_whole writer left header both may.whole in
@@ -256,6 +258,8 @@ module _ {D : Type 0} {g : Ghosts D} where
           page_size = both.rest.1;
           snapshot = both.rest.2;
           objects = both.rest.3;
+          now = now_again writer mid left header has one two both.pages both.rest.0 both.rest.3;
+          marks = marks_again writer mid left header has one two both.pages;
           numbers = λ number none. not_forth (changes_of writer) (changes_of left) header number both.pages none;
           others = λ number bytes other. (
             (λ has. reheaded_forth seen_view writer left header both may.whole number bytes other (back number bytes has)),

@@ -12,10 +12,11 @@ use Rattle.wal.specs.Pages.{ArePages}
 use Rattle.pager.specs.declared.writer.Writer.{Writer}
 use Rattle.pager.specs.Limits.{is_too_large, one_more, pages_of, page_size_of}
 use Rattle.pager.specs.Sound.{GetsPage, IsSound, KeepsRest, most_of}
+use Rattle.pager.specs.Marks.{marks_of}
 use Rattle.pager.specs.Views.{changes_of}
-use Rattle.pager.specs.Writers.{BeginAtPageOne, IsAt, IsConsistent, IsGapFor, makes_objects, snapshot_of}
+use Rattle.pager.specs.Writers.{BeginAtPageOne, DiffersInPages, IsAt, IsConsistent, IsGapFor, makes_objects, snapshot_of}
 use Rattle.pager.proofs.Seeing.{inserted, replaced}
-use Rattle.pager.proofs.Sounding.{AreBeside, end_gap, insert_end, insert_sound, past_limits, push_sound, set_sound, within_limits}
+use Rattle.pager.proofs.Sounding.{AreBeside, beside_back, end_gap, insert_end, insert_sound, past_limits, push_sound, set_sound, sound_alike, sound_same, within_limits}
 use Rattle.pager.proofs.WriterPages.{not_among_gap}
 
 no_larger : (a b : ℕ) → b ≤ a → a ≡ max a b
@@ -24,7 +25,7 @@ no_larger a b le = grind (arith, nat_tests)
 one_larger : (a b : ℕ) → b ≡ a + 1 → a + 1 ≡ max a b
 one_larger a b is = grind (arith, nat_tests)
 
-any_default : (ps : List PageImage) (i : ℕ) (a b : PageImage) → i < length ps → get_or ps i a ≡ get_or ps i b
+pub any_default : (ps : List PageImage) (i : ℕ) (a b : PageImage) → i < length ps → get_or ps i a ≡ get_or ps i b
 any_default [] i a b lt = absurd (omega (arith, lt))
 any_default (p ∷ ps) zero a b lt = refl
 any_default (p ∷ ps) (suc i) a b lt = any_default ps i a b (omega (arith, lt))
@@ -40,19 +41,33 @@ pub record IsWritten (number : ℕ) (bytes : List ℕ) (old new : Writer) : Type
   pub rest : KeepsRest old new
   pub gets : IsConsistent old → GetsPage number bytes old new
 
+beside_of : (old new : Writer) → DiffersInPages old new → AreBeside old new
+beside_of old new rest = record { size = rest.size; page_size = rest.page_size; snapshot = rest.snapshot }
+
+-- where not even the pages differ, nothing does
+pub rest_same : (old new : Writer) → DiffersInPages old new → changes_of new ≡ changes_of old → KeepsRest old new
+rest_same old new rest changes = record {
+  sound = sound_same old new (sound_alike old new (beside_of old new rest) changes) (sound_alike new old (beside_back old new (beside_of old new rest)) (sym changes));
+  page_size = rest.page_size;
+  snapshot = rest.snapshot;
+  objects = rest.objects;
+  marks = rest.marks;
+}
+
 -- ---- bytes in the place of as many others
 
-pub overwrites : (old new : Writer) (i number : ℕ) (here page : PageImage) (bytes : List ℕ) → AreBeside old new → makes_objects new ≡ makes_objects old → changes_of new ≡ set (changes_of old) i page
+pub overwrites : (old new : Writer) (i number : ℕ) (here page : PageImage) (bytes : List ℕ) → DiffersInPages old new → changes_of new ≡ set (changes_of old) i page
     → IsAt (changes_of old) number i → here ≡ get_or (changes_of old) i here → page.number ≡ here.number → page.bytes.items ≡ bytes → length bytes ≡ page_size_of old → length here.bytes.items ≡ length bytes
     → IsWritten number bytes old new
-overwrites old new i number here page bytes beside objects changes at here_is same bytes_are long old_long = record {
+overwrites old new i number here page bytes rest changes at here_is same bytes_are long old_long = record {
   rest = record {
-    sound = set_sound old new i page beside changes there len (λ d. ap (λ (p : PageImage). length p.bytes.items) (any_default (changes_of old) i d here at.within ∙ sym here_is) ∙ old_long ∙ long);
-    page_size = beside.page_size;
-    snapshot = beside.snapshot;
-    objects = objects;
+    sound = set_sound old new i page (beside_of old new rest) changes there len (λ d. ap (λ (p : PageImage). length p.bytes.items) (any_default (changes_of old) i d here at.within ∙ sym here_is) ∙ old_long ∙ long);
+    page_size = rest.page_size;
+    snapshot = rest.snapshot;
+    objects = rest.objects;
+    marks = rest.marks;
   };
-  gets = λ whole. record { page = page; number_is = number_is; bytes_are = bytes_are; puts = (replaced old new i page whole there len changes beside.size beside.page_size beside.snapshot).puts };
+  gets = λ whole. record { page = page; number_is = number_is; bytes_are = bytes_are; puts = (replaced old new i page whole there len changes rest.size rest.page_size rest.snapshot rest.marks).puts };
 }
   where
     number_is : page.number ≡ number
@@ -66,21 +81,22 @@ overwrites old new i number here page bytes beside objects changes at here_is sa
 
 -- ---- a page in its gap
 
-pub inserts : (old new : Writer) (i : ℕ) (page : PageImage) → AreBeside old new → makes_objects new ≡ makes_objects old → changes_of new ≡ insert (changes_of old) i page
+pub inserts : (old new : Writer) (i : ℕ) (page : PageImage) → DiffersInPages old new → changes_of new ≡ insert (changes_of old) i page
     → 1 ≤ i → i ≤ length (changes_of old) → (IsConsistent old → IsGapFor (changes_of old) page.number i) → 1 ≤ page.number → page.number ≤ pages_of old → page.number ≤ size_of (snapshot_of old)
     → length page.bytes.items ≡ page_size_of old → IsWritten page.number page.bytes.items old new
-inserts old new i page beside objects changes low le gap first last shown len = record {
+inserts old new i page rest changes low le gap first last shown len = record {
   rest = record {
-    sound = insert_sound old new i page beside changes low le gap first last shown len;
-    page_size = beside.page_size;
-    snapshot = beside.snapshot;
-    objects = objects;
+    sound = insert_sound old new i page (beside_of old new rest) changes low le gap first last shown len;
+    page_size = rest.page_size;
+    snapshot = rest.snapshot;
+    objects = rest.objects;
+    marks = rest.marks;
   };
   gets = λ whole. record {
     page = page;
     number_is = refl;
     bytes_are = refl;
-    puts = (inserted old new i page whole (gap whole) first len changes (beside.size ∙ no_larger (pages_of old) page.number last) beside.page_size beside.snapshot).puts;
+    puts = (inserted old new i page whole (gap whole) first len changes (rest.size ∙ no_larger (pages_of old) page.number last) rest.page_size rest.snapshot rest.marks).puts;
   };
 }
 
@@ -98,14 +114,15 @@ no_gap_past writer number i sound above below gap = sound.reaches number above b
 -- ---- a page at the end
 
 pub adds : (old new : Writer) (page : PageImage) (bytes : List ℕ) → changes_of new ≡ changes_of old ++ (page ∷ []) → pages_of new ≡ pages_of old + 1 → page_size_of new ≡ page_size_of old → snapshot_of new ≡ snapshot_of old
-    → makes_objects new ≡ makes_objects old → 1 ≤ length (changes_of old) → page.number ≡ pages_of old + 1 → page.bytes.items ≡ bytes → length bytes ≡ page_size_of old → pages_of old + 1 ≤ most_of (page_size_of old)
+    → makes_objects new ≡ makes_objects old → marks_of new ≡ marks_of old → 1 ≤ length (changes_of old) → page.number ≡ pages_of old + 1 → page.bytes.items ≡ bytes → length bytes ≡ page_size_of old → pages_of old + 1 ≤ most_of (page_size_of old)
     → IsWritten (pages_of old + 1) bytes old new
-adds old new page bytes changes size page_size snapshot objects some is bytes_are long within = record {
+adds old new page bytes changes size page_size snapshot objects marks some is bytes_are long within = record {
   rest = record {
     sound = push_sound old new page changes size page_size snapshot some is (ap length bytes_are ∙ long) within;
     page_size = page_size;
     snapshot = snapshot;
     objects = objects;
+    marks = marks;
   };
   gets = λ whole. record {
     page = page;
@@ -113,7 +130,7 @@ adds old new page bytes changes size page_size snapshot objects some is bytes_ar
     bytes_are = bytes_are;
     puts = (inserted old new (length (changes_of old)) page whole
         (subst (λ (n : ℕ). IsGapFor (changes_of old) n (length (changes_of old))) (sym is) (end_gap 0 (pages_of old) (page_size_of old) (changes_of old) whole.pages))
-        (omega (arith, is)) (ap length bytes_are ∙ long) (changes ∙ sym (insert_end (changes_of old) page)) (size ∙ one_larger (pages_of old) page.number is) page_size snapshot).puts;
+        (omega (arith, is)) (ap length bytes_are ∙ long) (changes ∙ sym (insert_end (changes_of old) page)) (size ∙ one_larger (pages_of old) page.number is) page_size snapshot marks).puts;
   };
 }
 

@@ -11,6 +11,7 @@ use Rattle.wal.specs.Pages.{ArePages}
 use Rattle.wal.proofs.Changes.{from_commit, page_one, to_commit}
 use Rattle.pager.specs.declared.writer.Writer.{Writer}
 use Rattle.pager.specs.Limits.{pages_of, page_size_of}
+use Rattle.pager.specs.Marks.{marks_of}
 use Rattle.pager.specs.Views.{View, ViewHas, after, changes_of}
 use Rattle.pager.specs.Writers.{AreObjectPages, BeginAtPageOne, IsAt, IsBegun, IsGapFor, IsConsistent, ReplacesPages, makes_objects, seen, snapshot_of}
 use Rattle.pager.proofs.WriterPages.{Put, among_and_not, at_most, insert_begins, insert_pages, insert_puts, larger, set_begins, set_pages, set_puts}
@@ -70,12 +71,13 @@ module _ (page : PageImage) (old new : Writer) (was : IsConsistent old) (is : Is
       now (inl among) = inl (put.back number bytes rest.0.0 among)
       now (inr none) = inr (put.none_back number rest.0.0 none.0, none.1)
 
-  pub puts : pages_of new ≡ max (pages_of old) page.number → page_size_of new ≡ page_size_of old → snapshot_of new ≡ snapshot_of old → ReplacesPages (page ∷ []) old new
-  puts size page_size snapshot = record {
+  pub puts : pages_of new ≡ max (pages_of old) page.number → page_size_of new ≡ page_size_of old → snapshot_of new ≡ snapshot_of old → marks_of new ≡ marks_of old → ReplacesPages (page ∷ []) old new
+  puts size page_size snapshot marks = record {
     sees = λ view number bytes. ((λ has. put_forth view number bytes (seen_from view new number bytes is has)), put_back view number bytes);
     size = size;
     page_size = page_size;
     snapshot = snapshot;
+    marks = marks;
     rest = λ number none. (let away = others_rest number none in ((away, tt), put.none_forth number away none));
   }
     where
@@ -88,8 +90,8 @@ pub record IsPut (page : PageImage) (old new : Writer) : Type 0 where
   pub puts : ReplacesPages (page ∷ []) old new
 
 pub replaced : (old new : Writer) (i : ℕ) (page : PageImage) → IsConsistent old → IsAt (changes_of old) page.number i → length page.bytes.items ≡ page_size_of old
-    → changes_of new ≡ set (changes_of old) i page → pages_of new ≡ pages_of old → page_size_of new ≡ page_size_of old → snapshot_of new ≡ snapshot_of old → IsPut page old new
-replaced old new i page was at len changes size page_size snapshot =
+    → changes_of new ≡ set (changes_of old) i page → pages_of new ≡ pages_of old → page_size_of new ≡ page_size_of old → snapshot_of new ≡ snapshot_of old → marks_of new ≡ marks_of old → IsPut page old new
+replaced old new i page was at len changes size page_size snapshot marks =
     let are : ArePages 0 (pages_of old) (page_size_of old) (changes_of new) =
     subst (ArePages 0 (pages_of old) (page_size_of old)) (sym changes) (set_pages 0 (pages_of old) (page_size_of old) (changes_of old) i page was.pages at len) in
     let whole : IsConsistent new = record {
@@ -98,11 +100,11 @@ replaced old new i page was at len changes size page_size snapshot =
     } in
     let put : Put page (changes_of old) (changes_of new) = subst (Put page (changes_of old)) (sym changes) (set_puts 0 (pages_of old) (page_size_of old) (changes_of old) i page was.pages at) in
     let most = at_most 0 (pages_of old) (page_size_of old) (changes_of old) page.number i was.pages at in
-    record { whole = whole; puts = puts page old new was whole put (size ∙ sym (no_larger (pages_of old) page.number most)) page_size snapshot }
+    record { whole = whole; puts = puts page old new was whole put (size ∙ sym (no_larger (pages_of old) page.number most)) page_size snapshot marks }
 
 pub inserted : (old new : Writer) (i : ℕ) (page : PageImage) → IsConsistent old → IsGapFor (changes_of old) page.number i → 1 ≤ page.number → length page.bytes.items ≡ page_size_of old
-    → changes_of new ≡ insert (changes_of old) i page → pages_of new ≡ max (pages_of old) page.number → page_size_of new ≡ page_size_of old → snapshot_of new ≡ snapshot_of old → IsPut page old new
-inserted old new i page was gap low len changes size page_size snapshot =
+    → changes_of new ≡ insert (changes_of old) i page → pages_of new ≡ max (pages_of old) page.number → page_size_of new ≡ page_size_of old → snapshot_of new ≡ snapshot_of old → marks_of new ≡ marks_of old → IsPut page old new
+inserted old new i page was gap low len changes size page_size snapshot marks =
     let more = larger 0 (pages_of old) (max (pages_of old) page.number) (page_size_of old) (changes_of old) (left_of (pages_of old) page.number) was.pages in
     let are : ArePages 0 (max (pages_of old) page.number) (page_size_of old) (changes_of new) =
     subst (ArePages 0 (max (pages_of old) page.number) (page_size_of old)) (sym changes)
@@ -112,7 +114,7 @@ inserted old new i page was gap low len changes size page_size snapshot =
       first = subst BeginAtPageOne (sym changes) (insert_begins (changes_of old) i page was.first gap low);
     } in
     let put : Put page (changes_of old) (changes_of new) = subst (Put page (changes_of old)) (sym changes) (insert_puts (changes_of old) i page gap) in
-    record { whole = whole; puts = puts page old new was whole put size page_size snapshot }
+    record { whole = whole; puts = puts page old new was whole put size page_size snapshot marks }
 
 -- what holds anyway holds at a refusal
 pub at_any : {T : Type 0} (result : Result T Fault) (P : Type 0) → P → IfErr result (λ fault. P)
@@ -140,8 +142,8 @@ seen_is view old new same number bytes has = subst (λ (n : ℕ). ViewHas (after
 back_same : (old new : Writer) → AreAlike old new → AreAlike new old
 back_same old new same = record { changes = sym same.changes; size = sym same.size; page_size = sym same.page_size; snapshot = sym same.snapshot }
 
-pub puts_same : (pages : List PageImage) (old new then : Writer) → AreAlike new then → ReplacesPages pages old new → ReplacesPages pages old then
-puts_same pages old new then same puts = record {
+pub puts_same : (pages : List PageImage) (old new then : Writer) → AreAlike new then → marks_of then ≡ marks_of new → ReplacesPages pages old new → ReplacesPages pages old then
+puts_same pages old new then same marks puts = record {
   sees = λ view number bytes. (
     (λ has. (puts.sees view number bytes).0 (seen_is view then new (back_same new then same) number bytes has)),
     (λ is. seen_is view new then same number bytes ((puts.sees view number bytes).1 is)),
@@ -149,6 +151,7 @@ puts_same pages old new then same puts = record {
   size = same.size ∙ puts.size;
   page_size = same.page_size ∙ puts.page_size;
   snapshot = same.snapshot ∙ puts.snapshot;
+  marks = marks ∙ puts.marks;
   rest = λ number none. puts.rest number (subst (λ (ps : List PageImage). IsNotAmong ps number) same.changes none);
 }
 
@@ -184,6 +187,7 @@ puts_both schema root old mid new are first second = record {
   size = second.size ∙ ap (λ (n : ℕ). max n schema.number) first.size ∙ turned (pages_of old) root.number schema.number;
   page_size = second.page_size ∙ first.page_size;
   snapshot = second.snapshot ∙ first.snapshot;
+  marks = second.marks ∙ first.marks;
   rest = λ number none. (let now = second.rest number none in let before = first.rest number now.1 in ((now.0.0, before.0), before.1));
 }
   where
@@ -206,8 +210,8 @@ refuted (Err fault) P not bad = not bad
 -- ---- the beginning
 
 pub begun : (view : View) (writer : Writer) (page : PageImage) → page.number ≡ 1 → changes_of writer ≡ page ∷ [] → pages_of writer ≡ view.size → page_size_of writer ≡ view.page_size → IsFalse (makes_objects writer) → 1 ≤ view.size
-    → length page.bytes.items ≡ view.page_size → ViewHas view 1 page.bytes.items → IsBegun view writer
-begun view writer page number_is changes size page_size objects some len has = record { whole = whole; size = size; page_size = page_size; objects = objects; sees = λ number bytes. (forth number bytes, back number bytes) }
+    → length page.bytes.items ≡ view.page_size → ViewHas view 1 page.bytes.items → marks_of writer ≡ [] → IsBegun view writer
+begun view writer page number_is changes size page_size objects some len has marks = record { whole = whole; size = size; page_size = page_size; objects = objects; marks = marks; sees = λ number bytes. (forth number bytes, back number bytes) }
   where
     whole : IsConsistent writer
     whole = record {

@@ -154,7 +154,7 @@ pub record AreBeside (old new : Writer) : Type 0 where
   pub page_size : page_size_of new ≡ page_size_of old
   pub snapshot : snapshot_of new ≡ snapshot_of old
 
-beside_back : (old new : Writer) → AreBeside old new → AreBeside new old
+pub beside_back : (old new : Writer) → AreBeside old new → AreBeside new old
 beside_back old new beside = record { size = sym beside.size; page_size = sym beside.page_size; snapshot = sym beside.snapshot }
 
 -- where the one's pages are pages, the other's are, and what the one has past the snapshot, so has the other
@@ -171,6 +171,13 @@ sound_beside old new beside pages first others_too sound = record {
       sound.reaches number more (omega (arith, below, beside.size)) (others_too number more none));
   within = subst (λ (n : ℕ). n ≤ most_of (page_size_of new)) (sym beside.size) (subst (λ (n : ℕ). pages_of old ≤ most_of n) (sym beside.page_size) sound.within);
 }
+
+-- where the pages are the same too, the one is sound as the other
+pub sound_alike : (old new : Writer) → AreBeside old new → changes_of new ≡ changes_of old → IsSound old → IsSound new
+sound_alike old new beside changes = sound_beside old new beside
+    (λ are. subst (ArePages 0 (pages_of old) (page_size_of old)) (sym changes) are)
+    (λ first. subst BeginAtPageOne (sym changes) first)
+    (λ number above none. subst (λ (ps : List PageImage). IsNotAmong ps number) changes none)
 
 -- a page of the same length took the place of another
 pub set_sound : (old new : Writer) (i : ℕ) (page : PageImage) → AreBeside old new → changes_of new ≡ set (changes_of old) i page → IsAt (changes_of old) page.number i → length page.bytes.items ≡ page_size_of old

@@ -1,11 +1,6 @@
 -- Where a page is among those of a writer, and what putting one there makes of them.
-use Rattle.std.proofs.Common.{◌≡◌, inl, inr, ◌<◌, ◌≤◌, ℕ, zero, suc, List, [], ◌∷◌, length, take, drop, get_or, set, refl, sym, ◌∙◌, subst, arith}
-use Rattle.std.specs.Prelude.{Result, Ok, Err, IfOk, IfErr}
+use Rattle.std.proofs.Common.{◌≡◌, inl, inr, ◌<◌, ◌≤◌, ℕ, zero, suc, List, [], ◌∷◌, length, get_or, set, refl, sym, ◌∙◌, subst, arith}
 use Rattle.std.specs.List.{insert, AllByRecursion}
-use Rattle.std.specs.List.Sorted.{IsSearchInRange, IsBinarySearchResult, IsNonDecreasingBy}
-use Rattle.std.specs.Ordering.{nat_cmp, ordering_index}
-use Rattle.std.proofs.lemmas.Cmp.{ranked}
-use Rattle.std.proofs.lemmas.Bool.Decides.{nat_tests}
 use Rattle.wal.specs.declared.pages.PageImage.{PageImage}
 use Rattle.wal.specs.Laws.{IsAmong, IsNotAmong}
 use Rattle.wal.specs.Pages.{ArePages}
@@ -19,40 +14,6 @@ above : (last size bytes : ℕ) (ps : List PageImage) → ArePages last size byt
 above last size bytes [] are j d lt = absurd (omega (arith, lt))
 above last size bytes (p ∷ ps) are zero d lt = are.0
 above last size bytes (p ∷ ps) are (suc j) d lt = (let more = above p.number size bytes ps are.3 j d (omega (arith, lt)) in omega (arith, more, are.0))
-
-rising : (last size bytes : ℕ) (ps : List PageImage) → ArePages last size bytes ps → (i j : ℕ) (d : PageImage) → i ≤ j → j < length ps → number_at ps i d ≤ number_at ps j d
-rising last size bytes [] are i j d le lt = absurd (omega (arith, lt))
-rising last size bytes (p ∷ ps) are zero zero d le lt = omega arith
-rising last size bytes (p ∷ ps) are zero (suc j) d le lt = (let more = above p.number size bytes ps are.3 j d (omega (arith, lt)) in omega (arith, more))
-rising last size bytes (p ∷ ps) are (suc i) zero d le lt = absurd (omega (arith, le))
-rising last size bytes (p ∷ ps) are (suc i) (suc j) d le lt = rising p.number size bytes ps are.3 i j d (omega (arith, le)) (omega (arith, lt))
-
-all_take : (P : PageImage → Type 0) (ps : List PageImage) (i : ℕ) → ((j : ℕ) (d : PageImage) → j < i → P (get_or ps j d)) → i ≤ length ps → AllByRecursion P (take i ps)
-all_take P ps zero each le = tt
-all_take P [] (suc i) each le = tt
-all_take P (p ∷ ps) (suc i) each le = (each 0 p (omega arith), all_take P ps i (λ j d lt. each (suc j) d (omega (arith, lt))) (omega (arith, le)))
-
-all_drop : (P : PageImage → Type 0) (ps : List PageImage) (i : ℕ) → ((j : ℕ) (d : PageImage) → i ≤ j → j < length ps → P (get_or ps j d)) → AllByRecursion P (drop i ps)
-all_drop P [] zero each = tt
-all_drop P [] (suc i) each = tt
-all_drop P (p ∷ ps) zero each = (each 0 p (omega arith) (omega arith), all_drop P ps zero (λ j d le lt. each (suc j) d (omega arith) (omega (arith, lt))))
-all_drop P (p ∷ ps) (suc i) each = all_drop P ps i (λ j d le lt. each (suc j) d (omega (arith, le)) (omega (arith, lt)))
-
--- a binary search by number ends at the page, or at the place where it would go
-pub found : (ps : List PageImage) (number : ℕ) (r : Result ℕ ℕ) → IsSearchInRange r (length ps) → IsBinarySearchResult (λ (p : PageImage). nat_cmp p.number number) ps r → IfOk r (λ index. IsAt ps number index)
-found ps number (Ok at) within is = record { within = within; number_is = λ d. ranked _ number _ (sym (is d)) }
-found ps number (Err at) within is = tt
-
-pub gap : (last size bytes : ℕ) (ps : List PageImage) → ArePages last size bytes ps → (number : ℕ) (r : Result ℕ ℕ) → IsSearchInRange r (length ps) → IsBinarySearchResult (λ (p : PageImage). nat_cmp p.number number) ps r → IfErr r (λ index. IsGapFor ps number index)
-gap last size bytes ps are number (Ok at) within is = tt
-gap last size bytes ps are number (Err at) within parted = record {
-  within = within;
-  smaller = all_take (λ (p : PageImage). p.number < number) ps at (λ j d lt. ranked _ number _ (sym ((parted rise).0 j d (omega arith) lt))) within;
-  greater = all_drop (λ (p : PageImage). number < p.number) ps at (λ j d le lt. ranked _ number _ (sym ((parted rise).1 j d le lt)));
-}
-  where
-    rise : IsNonDecreasingBy (λ (p : PageImage). ordering_index (nat_cmp p.number number)) ps
-    rise i j d le lt = (let up = rising last size bytes ps are i j d le lt in grind (arith, nat_tests))
 
 -- ---- the page at a place is among them, and a page that has a gap is not
 

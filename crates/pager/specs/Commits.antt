@@ -18,6 +18,7 @@ use Rattle.wal.specs.Refusals.{IsWithin}
 use Rattle.wal.specs.Crashes.{LeavesEither}
 use Rattle.pager.specs.declared.writer.Writer.{Writer}
 use Rattle.pager.specs.Limits.{pages_of, page_size_of}
+use Rattle.pager.specs.Marks.{marks_of, now_of}
 use Rattle.pager.specs.Views.{View, ViewHas, Tells, changes_of, newest_view, view_at, view_of}
 use Rattle.pager.specs.Writers.{IsHeaded, IsNextHeader, IsConsistent, makes_objects, snapshot_of}
 
@@ -66,8 +67,8 @@ module _ {D : Type 0} {g : Ghosts D} where
     pub crash : Always (g.file (log_of old)) (g.file (log_of new)) (LeavesEither (state_of old).page_size (newest_view old).frames view.frames)
     pub content : IsContentLeft (g.file (log_of new))
 
-  -- What a refused commit leaves: nothing of the files has changed unless a call of theirs failed; and the writer sees what it saw, with
-  -- the same header on page 1. It is `Full` only where it isn't within the limits.
+  -- What a refused commit leaves: nothing of the files has changed unless a call of theirs failed; and the writer would commit what it
+  -- would have, now and at its marks. It is `Full` only where it isn't within the limits.
   pub record IsRefusedCommit (old : Log D g) (writer : Writer) (page : List ℕ) (header : Header) (new : Log D g) (left : Writer) (fault : Fault) : Type 0 where
     pub why : (fault ≡ Memory) ⊎ ((fault ≡ Io) ⊎ ((fault ≡ Full) × (IsWithin (state_of old) (length (changes_of writer)) (pages_of writer) → ⊥)))
     pub files : (fault ≡ Io → ⊥) → (db_of new ≡ db_of old) × (log_of new ≡ log_of old) × (state_of new ≡ state_of old)
@@ -76,6 +77,8 @@ module _ {D : Type 0} {g : Ghosts D} where
     pub page_size : page_size_of left ≡ page_size_of writer
     pub snapshot : snapshot_of left ≡ snapshot_of writer
     pub objects : makes_objects left ≡ makes_objects writer
+    pub now : now_of left ≡ now_of writer
+    pub marks : marks_of left ≡ marks_of writer
     -- a page that isn't among its changes now wasn't before
     pub numbers : (number : ℕ) → IsNotAmong (changes_of left) number → IsNotAmong (changes_of writer) number
     pub others : (number : ℕ) (bytes : List ℕ) → (number ≡ 1 → ⊥) → ViewHas (view_of old left) number bytes ↔ ViewHas (view_of old writer) number bytes

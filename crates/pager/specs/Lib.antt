@@ -1,7 +1,9 @@
 pub mod Commits
 pub mod Limits
 pub mod Maps
+pub mod Marks
 pub mod Sights
 pub mod Sound
+pub mod Undo
 pub mod Views
 pub mod Writers

@@ -11,6 +11,7 @@ use Rattle.wal.specs.declared.pages.PageImage.{PageImage}
 use Rattle.pager.specs.declared.writer.Writer.{Writer}
 use Rattle.pager.specs.Limits.{page_size_of}
 use Rattle.pager.specs.Maps.{pages_in}
+use Rattle.pager.specs.Marks.{Changes, marks_of}
 use Rattle.pager.specs.Sound.{is_sound}
 use Rattle.pager.specs.Views.{View}
 use Rattle.pager.specs.Writers.{makes_objects, seen, snapshot_of}
@@ -70,11 +71,12 @@ module _ {D : Type 0} {g : Ghosts D} where
 -- ---- a writer
 
 -- What calls of a writer's pages leave as it is: whether it is sound, its page size, whether a new object is among what it changes,
--- which writer was lent, and what stands below a reader of its snapshot.
+-- what it would have committed at its marks, which writer was lent, and what stands below a reader of its snapshot.
 pub record UnderWriter : Type 0 where
   pub is_sound : Bool
   pub page_size : ℕ
   pub makes_objects : Bool
+  pub marks : List Changes
   pub writer_name : ℕ
   pub reader : UnderReader
 
@@ -102,6 +104,7 @@ module _ {D : Type 0} {g : Ghosts D} where
     is_sound = is_sound writer;
     page_size = page_size_of writer;
     makes_objects = makes_objects writer;
+    marks = marks_of writer;
     writer_name = writer_name;
     reader = under_reader files (snapshot_of writer) log_name buffer_name;
   }

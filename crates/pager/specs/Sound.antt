@@ -7,8 +7,9 @@ use Rattle.wal.specs.LogState.{size_of}
 use Rattle.wal.specs.Sizes.{IsSizeWithinLimits}
 use Rattle.pager.specs.declared.writer.Writer.{Writer}
 use Rattle.pager.specs.Limits.{pages_of, page_size_of}
+use Rattle.pager.specs.Marks.{marks_of, now_of, IsOverTheSame}
 use Rattle.pager.specs.Views.{View, changes_of}
-use Rattle.pager.specs.Writers.{IsBegun, IsConsistent, ReplacesPages, makes_objects, snapshot_of}
+use Rattle.pager.specs.Writers.{IsBegun, IsConsistent, ReplacesPages, makes_objects, seen, snapshot_of}
 
 -- how many pages of a size a database may have: at most 65,536, and 1,073,741,824 bytes in all
 abbrev pub most_of : ℕ → ℕ
@@ -58,12 +59,13 @@ BegunIsSound = (view : View) (writer : Writer) → IsBegun view writer → view.
 
 -- ---- what is written
 
--- what a page that is written leaves as it is of a writer: whether it is sound, and all that isn't its pages
+-- what a page that is written leaves as it is of a writer: whether it is sound, what it would have committed at its marks, and all that isn't its pages
 pub record KeepsRest (old new : Writer) : Type 0 where
   pub sound : is_sound new ≡ is_sound old
   pub page_size : page_size_of new ≡ page_size_of old
   pub snapshot : snapshot_of new ≡ snapshot_of old
   pub objects : makes_objects new ≡ makes_objects old
+  pub marks : marks_of new ≡ marks_of old
 
 -- the page of this number got these bytes
 pub record GetsPage (number : ℕ) (bytes : List ℕ) (old new : Writer) : Type 0 where
@@ -71,3 +73,13 @@ pub record GetsPage (number : ℕ) (bytes : List ℕ) (old new : Writer) : Type 
   pub number_is : page.number ≡ number
   pub bytes_are : page.bytes.items ≡ bytes
   pub puts : ReplacesPages (page ∷ []) old new
+
+-- ---- a writer that went back to a mark
+
+-- it can be committed, and is sound, if that was so when the mark was set
+abbrev pub BackIsSound : Type 0
+BackIsSound = (was back : Writer) → now_of back ≡ now_of was → IsOverTheSame was back → (IsConsistent was → IsConsistent back) × (IsSound was → IsSound back)
+
+-- and it sees what it saw then
+abbrev pub BackSeesTheSame : Type 0
+BackSeesTheSame = (was back : Writer) → now_of back ≡ now_of was → (view : View) → seen view back ≡ seen view was

@@ -1,5 +1,5 @@
 -- What a transaction makes of the pages that it sees, and what its commit leaves (Database File Format, "Reader Algorithm").
-use Rattle.std.specs.Prelude.{◌≡◌, ◌⊎◌, ◌↔◌, ◌<◌, ◌≤◌, ◌+◌, ◌%◌, ◌^◌, ℕ, max, Bool, IsFalse, List, [], ◌∷◌, length, take, drop, Some, if◌then◌else◌}
+use Rattle.std.specs.Prelude.{◌≡◌, ⊤, ◌⊎◌, ◌↔◌, ◌<◌, ◌≤◌, ◌+◌, ◌%◌, ◌^◌, ℕ, max, Bool, IsFalse, List, [], ◌∷◌, length, set, slice_index_or, take, drop, Some, if◌then◌else◌}
 use Rattle.std.specs.List.{AllByRecursion, HoldsAt}
 use Rattle.dbheader.specs.declared.fields.Header.{Header}
 use Rattle.dbheader.specs.Header.{IsHeader, counted_of}
@@ -10,6 +10,7 @@ use Rattle.wal.specs.Laws.{IsAmong, IsNotAmong}
 use Rattle.wal.specs.Pages.{ArePages}
 use Rattle.pager.specs.declared.writer.Writer.{Writer}
 use Rattle.pager.specs.Limits.{pages_of, page_size_of}
+use Rattle.pager.specs.Marks.{marks_of}
 use Rattle.pager.specs.Views.{View, ViewHas, after, changes_of}
 
 -- the snapshot that a writer stands on
@@ -34,12 +35,13 @@ pub record IsConsistent (writer : Writer) : Type 0 where
 abbrev pub seen : View → Writer → View
 seen view writer = after view (changes_of writer) (pages_of writer)
 
--- A writer that has changed nothing yet: it sees what the view shows.
+-- A writer that has changed nothing yet: it sees what the view shows, and has no mark.
 pub record IsBegun (view : View) (writer : Writer) : Type 0 where
   pub whole : IsConsistent writer
   pub size : pages_of writer ≡ view.size
   pub page_size : page_size_of writer ≡ view.page_size
   pub objects : IsFalse (makes_objects writer)
+  pub marks : marks_of writer ≡ []
   pub sees : (number : ℕ) (bytes : List ℕ) → ViewHas (seen view writer) number bytes ↔ ViewHas view number bytes
 
 -- the page of this number is at this place
@@ -58,22 +60,62 @@ abbrev pub size_with : List PageImage → ℕ → ℕ
 size_with [] size = size
 size_with (p ∷ ps) size = size_with ps (max size p.number)
 
--- nothing that a writer sees or would commit differs
+-- nothing that a writer sees, would commit or would have committed at its marks differs
 pub record IsUnchanged (old new : Writer) : Type 0 where
   pub changes : changes_of new ≡ changes_of old
   pub size : pages_of new ≡ pages_of old
   pub page_size : page_size_of new ≡ page_size_of old
   pub snapshot : snapshot_of new ≡ snapshot_of old
   pub objects : makes_objects new ≡ makes_objects old
+  pub marks : marks_of new ≡ marks_of old
 
--- These pages were put: over whatever view the writer sees them, and at each other number what it saw before.
+-- nothing differs but the pages that a writer has changed: what it had changed at its marks is as it was too
+pub record DiffersInPages (old new : Writer) : Type 0 where
+  pub size : pages_of new ≡ pages_of old
+  pub page_size : page_size_of new ≡ page_size_of old
+  pub snapshot : snapshot_of new ≡ snapshot_of old
+  pub objects : makes_objects new ≡ makes_objects old
+  pub marks : marks_of new ≡ marks_of old
+
+-- These pages were put: over whatever view the writer sees them, and at each other number what it saw before. What it saw at its marks stays.
 pub record ReplacesPages (pages : List PageImage) (old new : Writer) : Type 0 where
   pub sees : (view : View) (number : ℕ) (bytes : List ℕ) → ViewHas (seen view new) number bytes ↔ (IsAmong pages number bytes ⊎ (IsNotAmong pages number × ViewHas (seen view old) number bytes))
   pub size : pages_of new ≡ size_with pages (pages_of old)
   pub page_size : page_size_of new ≡ page_size_of old
   pub snapshot : snapshot_of new ≡ snapshot_of old
+  pub marks : marks_of new ≡ marks_of old
   -- what isn't among the changes now wasn't before, and is none of these pages
   pub rest : (number : ℕ) → IsNotAmong (changes_of new) number → IsNotAmong pages number × IsNotAmong (changes_of old) number
+
+-- the page at this place got these bytes
+pub record Refills (index : ℕ) (bytes : List ℕ) (old new : List PageImage) : Type 0 where
+  pub page : PageImage
+  pub number_is : (d : PageImage) → page.number ≡ (slice_index_or old index d).number
+  pub bytes_are : page.bytes.items ≡ bytes
+  pub set_is : new ≡ set old index page
+
+-- the bytes of the one page stand in memory where those of the other did
+pub record IsInPlace (old new : PageImage) : Type 0 where
+  pub start : new.bytes.ptr ≡ old.bytes.ptr
+  pub capacity : new.bytes.cap ≡ old.bytes.cap
+  pub allocator : new.bytes.alloc ≡ old.bytes.alloc
+
+-- the first of these pages has another image, in the same place
+abbrev pub SetsFirst : List PageImage → List PageImage → Type 0
+SetsFirst [] new = new ≡ []
+SetsFirst (p ∷ ps) [] = ⊥
+SetsFirst (p ∷ ps) (q ∷ qs) = (q.number ≡ p.number) × IsInPlace p q × (qs ≡ ps)
+
+-- the first of these pages, if there is one, is of bytes
+abbrev pub FirstIsBytes : List PageImage → Type 0
+FirstIsBytes [] = ⊤
+FirstIsBytes (p ∷ ps) = IsBytes p.bytes.items
+
+-- there are pages, and the number of the last one is at most this
+abbrev pub EndsWithin : ℕ → List PageImage → Type 0
+EndsWithin size [] = ⊥
+EndsWithin size (p ∷ []) = p.number ≤ size
+EndsWithin size (p ∷ q ∷ ps) = EndsWithin size (q ∷ ps)
 
 -- page 1 and the root page of a new object, each as long as a page is
 pub record AreObjectPages (page_size : ℕ) (schema root : PageImage) : Type 0 where

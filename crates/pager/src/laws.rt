@@ -5,7 +5,7 @@ ghost use Rattle.wal.specs.LogState.{state_of, seen_by};
 ghost use Rattle.pager.specs.Limits.{page_size_of};
 ghost use Rattle.pager.specs.Maps.{MapsAlike, MapsAll, MapsShown, PutsAtEnd, PutsInPlace, ShowsMapped, pages_in};
 ghost use Rattle.pager.specs.Sights.{map_over, tells_reader, tells_writer, under_reader, under_writer, view_under};
-ghost use Rattle.pager.specs.Sound.{BegunIsSound, IsSound, TellsSound};
+ghost use Rattle.pager.specs.Sound.{BackIsSound, BackSeesTheSame, BegunIsSound, IsSound, TellsSound};
 ghost use Rattle.pager.specs.Views.{Tells, view_at, view_of};
 ghost use Rattle.pager.specs.Writers.{snapshot_of};
 
@@ -31,6 +31,13 @@ pub fn puts_change_maps()
 pub fn soundness_is_tested()
     ensures tested { TellsSound }
     ensures begun { BegunIsSound }
+{}
+
+/// A writer that went back to a mark is consistent and sound if it was so when the mark was set,
+/// and sees what it saw then.
+pub fn marks_are_sound()
+    ensures sound { BackIsSound }
+    ensures sees { BackSeesTheSame }
 {}
 
 /// The pages of a snapshot are told where the two files are, and are those of its view.

@@ -1,23 +1,12 @@
 //! The pages that a transaction has changed.
 
-ghost use Rattle.sqlval.specs.PageSizes.{IsPageSize};
-ghost use Rattle.std.specs.Prelude.{◌≡◌, ◌⊎◌, ◌↔◌, ◌<◌, ◌≤◌, ◌+◌, ℕ, List, replicate, slice_index_or, [], ◌∷◌, ◌++◌, length, drop, Ok, true, false, IfOk, IfErr, IfSome, IfNone, IsTrue, OnOk};
-ghost use Rattle.sqlval.specs.Faults.{IsNotDiskFault, IsOutside};
-ghost use Rattle.sqlval.specs.declared.fault.Fault.TheVariants.{Memory, Io};
-ghost use Rattle.wal.specs.Commits.{IsStateAfter, KeepsDisks};
-ghost use Rattle.wal.specs.LogState.{db_of, state_of, log_of, seen_by, size_of};
-ghost use Rattle.wal.specs.Laws.{IsAmong, IsNotAmong};
-ghost use Rattle.wal.specs.ErrorCauses.{HasCause};
-ghost use Rattle.walframe.specs.Accepted.{KeepsFile};
-ghost use Rattle.pager.specs.Commits.{CommitsPages, IsRefusedCommit, LeavesCommit, MayCommit};
-ghost use Rattle.pager.specs.Limits as limits;
-ghost use Rattle.pager.specs.Limits.{one_more, pages_of, page_size_of};
-ghost use Rattle.pager.specs.Sights.{bytes_of};
-ghost use Rattle.pager.specs.Sound.{GetsPage, IsSound, KeepsRest, most_of};
-ghost use Rattle.pager.specs.Views.{ViewHas, IsViewPage, Tells, View, changes_of, view_at};
-ghost use Rattle.pager.specs.Writers.{AreObjectPages, HasHeader, IsAt, IsBegun, IsGapFor, IsHeaded, IsNextHeader, IsUnchanged, IsConsistent, ReplacesPages, Reheads, makes_objects, seen, snapshot_of};
+ghost use Rattle.std.specs.Prelude.{◌+◌, ◌≤◌, length, vec_capacity};
+ghost use Rattle.pager.specs.Undo.{IsKept, IsKept-prop, newest_stamp, older_than};
 
+use crate::heading::rehead;
 use crate::reading::{header_of, read_page};
+use crate::saved::{Mark, Saved, ends_within, place_of, refill};
+use crate::sizes::is_too_large;
 use dbheader::Header;
 use disk::Disk;
 use sqlval::limits::{MAX_DATABASE_BYTES, MAX_PAGES};
@@ -25,34 +14,43 @@ use sqlval::{Damage, Fault, R};
 use std::alloc::Global;
 use wal::{Log, PageImage, Snapshot};
 
-/// Writes bytes at the front of a page, as far as it has room.
-fn put_front(page: &mut [u8], front: &[u8])
-    ensures { length front.now ≤ length page.old → page.new ≡ front.now ++ drop (length front.now) page.old }
-{
-    let count = page.len().min(front.len());
-    page[..count].copy_from_slice(&front[..count]);
-}
-
-/// Writes a header at the front of a page.
-fn give_header(page: &mut PageImage, header: &Header)
-    requires { IsPageSize header.now.page_size }
-    ensures number { page.new.number ≡ page.old.number }
-    ensures headed { 100 ≤ length page.old.bytes.items → IsHeaded page.old.bytes.items page.new.bytes.items header.now }
-{
-    put_front(page.bytes.as_mut_slice(), &dbheader::write(header));
-}
-
 /// The pages that a transaction has changed, by rising number, page 1 among them, over a snapshot.
 #[derive(Drop)]
 pub struct Writer {
-    snapshot: Snapshot,
-    size: u32,
-    page_size: u32,
-    pages: Vec<PageImage>,
-    has_new_objects: bool,
+    pub(crate) snapshot: Snapshot,
+    pub(crate) size: u32,
+    pub(crate) page_size: u32,
+    pub(crate) pages: Vec<PageImage>,
+    pub(crate) has_new_objects: bool,
+    /// For each page the greatest stamp that there was when it came, or when its image before was saved.
+    pub(crate) stamps: Vec<u64>,
+    /// What pages were since the oldest mark, the newest last. It has room for each page that is older than the newest mark.
+    pub(crate) saved: Vec<Saved>,
+    pub(crate) marks: Vec<Mark>,
+    /// The greatest stamp so far.
+    pub(crate) stamp: u64,
+    ghost kept: { IsKept stamp saved.items pages.items stamps.items marks.items } by { IsKept-prop stamp saved.items pages.items stamps.items marks.items },
+    ghost room: { older_than (newest_stamp marks.items) stamps.items + length saved.items ≤ vec_capacity saved },
 }
 
 impl Writer {
+    ghost use Rattle.sqlval.specs.PageSizes.{IsPageSize};
+    ghost use Rattle.std.specs.Prelude.{◌≡◌, ◌⊎◌, ◌↔◌, ◌<◌, ◌≤◌, ◌+◌, ℕ, List, replicate, slice_index_or, [], ◌∷◌, ◌++◌, length, drop, Ok, true, false, IfOk, IfErr, IfSome, IfNone, IsTrue, OnOk, vec_capacity};
+    ghost use Rattle.sqlval.specs.Faults.{IsNotDiskFault, IsOutside};
+    ghost use Rattle.sqlval.specs.declared.fault.Fault.TheVariants.{Memory, Io};
+    ghost use Rattle.wal.specs.Commits.{IsStateAfter, KeepsDisks};
+    ghost use Rattle.wal.specs.LogState.{db_of, state_of, log_of, seen_by, size_of};
+    ghost use Rattle.wal.specs.Laws.{IsAmong, IsNotAmong};
+    ghost use Rattle.wal.specs.ErrorCauses.{HasCause};
+    ghost use Rattle.walframe.specs.Accepted.{KeepsFile};
+    ghost use Rattle.pager.specs.Commits.{CommitsPages, IsRefusedCommit, LeavesCommit, MayCommit};
+    ghost use Rattle.pager.specs.Limits as limits;
+    ghost use Rattle.pager.specs.Limits.{one_more, pages_of, page_size_of};
+    ghost use Rattle.pager.specs.Sights.{bytes_of};
+    ghost use Rattle.pager.specs.Sound.{GetsPage, IsSound, KeepsRest, most_of};
+    ghost use Rattle.pager.specs.Views.{ViewHas, IsViewPage, Tells, View, changes_of, view_at};
+    ghost use Rattle.pager.specs.Writers.{AreObjectPages, DiffersInPages, EndsWithin, FirstIsBytes, HasHeader, IsAt, IsBegun, IsGapFor, IsHeaded, IsInPlace, IsNextHeader, IsUnchanged, IsConsistent, ReplacesPages, Reheads, SetsFirst, makes_objects, seen, snapshot_of};
+
     /// Starts a writer on a snapshot, with no change but a copy of page 1.
     pub fn begin<D: Disk + Drop>(alloc: Global, log: &mut Log<D>, snapshot: Snapshot) -> R<Writer>
         ensures kept { (state_of log.new ≡ state_of log.old) × KeepsFile D.tells D.file (db_of log.old) (db_of log.new) × KeepsFile D.tells D.file (log_of log.old) (log_of log.new) }
@@ -66,12 +64,18 @@ impl Writer {
         let bytes = read_page(alloc, log, snapshot, 1)?;
         let mut pages = Vec::new(alloc);
         pages.push(PageImage { number: 1, bytes })?;
+        let mut stamps = Vec::new(alloc);
+        stamps.push(0)?;
         Ok(Writer {
             snapshot,
             size: log.size(snapshot),
             page_size: log.page_size(),
             pages,
             has_new_objects: false,
+            stamps,
+            saved: Vec::new(alloc),
+            marks: Vec::new(alloc),
+            stamp: 0,
         })
     }
 
@@ -85,10 +89,9 @@ impl Writer {
     /// The place of a page among the changed ones, or the place where it would go.
     fn search(&self, number: u32) -> Result<usize, usize>
         ensures found { IfOk result (λ index. IsAt (changes_of self.now) number index) }
-        ensures gap { IsConsistent self.now → IfErr result (λ index. IsGapFor (changes_of self.now) number index) }
-        ensures within { IfErr result (λ index. index ≤ length (changes_of self.now)) }
+        ensures gap { IfErr result (λ index. IsGapFor (changes_of self.now) number index) }
     {
-        self.pages.binary_search_by_key(&number, |page| page.number)
+        place_of(&self.pages, number)
     }
 
     /// The content of a changed page; None if the page isn't changed.
@@ -135,10 +138,10 @@ impl Writer {
         ensures replaced { IsConsistent self.old → IfErr result (λ fault. IsNotAmong (changes_of self.old) page.number) }
     {
         match self.search(page.number) {
-            Ok(index) => self.pages[index] = page,
+            Ok(index) => self.replace(index, page),
             Err(index) => {
                 let number = page.number;
-                self.pages.insert(index, page)?;
+                self.insert_page(index, page)?;
                 self.size = self.size.max(number);
             }
         }
@@ -215,21 +218,13 @@ impl Writer {
         requires { IsPageSize header.now.page_size }
         ensures reheads { (old : Header) → HasHeader (changes_of self.old) old → Reheads (changes_of self.old) (changes_of self.new) header.now }
         ensures rest { (pages_of self.new ≡ pages_of self.old) × (page_size_of self.new ≡ page_size_of self.old) × (snapshot_of self.new ≡ snapshot_of self.old) × (makes_objects self.new ≡ makes_objects self.old) }
+        ensures first { SetsFirst (changes_of self.old) (changes_of self.new) }
+        ensures bytes { FirstIsBytes (changes_of self.old) }
+        ensures log { (self.new.saved ≡ self.old.saved) × (self.new.marks ≡ self.old.marks) }
     {
-        if let Some(page) = self.pages.first_mut() {
-            give_header(page, header);
-        }
+        rehead(&mut self.pages, header);
     }
-}
 
-/// Whether a database of so many pages is past the limits.
-fn is_too_large(pages: u32, page_size: u32) -> bool
-    ensures { result ≡ limits.is_too_large pages page_size }
-{
-    pages > MAX_PAGES || u64::from(pages) * u64::from(page_size) > MAX_DATABASE_BYTES
-}
-
-impl Writer {
     /// The number of pages.
     pub(crate) fn size(&self) -> u32
         ensures { result ≡ pages_of self.now }
@@ -258,28 +253,33 @@ impl Writer {
         }
     }
 
-    /// Gives the changed page at a place these bytes. (`Damaged` where it had another length.)
-    fn overwrite(&mut self, index: usize, number: u32, bytes: &[u8]) -> R<()>
+    /// Gives the changed page at a place these bytes. (`Damaged` where it had another length;
+    /// `Memory` where its image has to be saved.)
+    fn overwrite(&mut self, alloc: Global, index: usize, number: u32, bytes: &[u8]) -> R<()>
         requires place { IsAt (changes_of self.old) number index }
         requires length { length bytes.now ≡ page_size_of self.old }
         ensures rest { KeepsRest self.old self.new }
         ensures size { pages_of self.new ≡ pages_of self.old }
         ensures page { IsConsistent self.old → OnOk result (GetsPage number bytes.now self.old self.new) }
-        ensures there { IsConsistent self.old → IfErr result (λ _. ⊥) }
+        ensures there { IsConsistent self.old → IfErr result (λ fault. fault ≡ Memory) }
         ensures not_disk { IfErr result (λ fault. IsNotDiskFault fault) }
     {
-        let page = &mut self.pages[index];
-        if page.bytes.len() != bytes.len() {
+        if self.pages[index].bytes.len() != bytes.len() {
             return Err(Fault::Damaged(Damage::Page, number));
         }
-        page.bytes.copy_from_slice(bytes);
+        if self.is_saved(index) {
+            refill(&mut self.pages, index, bytes);
+            return Ok(());
+        }
+        let bytes = bytes.to_vec(alloc)?;
+        self.replace(index, PageImage { number, bytes });
         Ok(())
     }
 
     /// Puts a page that the snapshot shows among the changed ones, at its place.
     fn insert(&mut self, index: usize, page: PageImage) -> R<()>
-        requires place { (1 ≤ index) × (index ≤ length (changes_of self.old)) }
-        requires gap { IsConsistent self.old → IsGapFor (changes_of self.old) page.number index }
+        requires place { 1 ≤ index }
+        requires gap { IsGapFor (changes_of self.old) page.number index }
         requires number { (1 ≤ page.number) × (page.number ≤ pages_of self.old) × (page.number ≤ size_of (snapshot_of self.old)) }
         requires length { length page.bytes.items ≡ page_size_of self.old }
         ensures rest { KeepsRest self.old self.new }
@@ -287,7 +287,7 @@ impl Writer {
         ensures page { IsConsistent self.old → OnOk result (GetsPage page.number page.bytes.items self.old self.new) }
         ensures refused { IfErr result (λ fault. fault ≡ Memory) }
     {
-        self.pages.insert(index, page)?;
+        self.insert_page(index, page)?;
         Ok(())
     }
 
@@ -306,7 +306,7 @@ impl Writer {
             return Err(Fault::Damaged(Damage::Size, number));
         }
         match self.search(number) {
-            Ok(index) => self.overwrite(index, number, bytes),
+            Ok(index) => self.overwrite(alloc, index, number, bytes),
             Err(index) => {
                 if index == 0 || number > shown {
                     return Err(Fault::Damaged(Damage::Size, number));
@@ -327,12 +327,13 @@ impl Writer {
         ensures refused { IsSound self.old → IfErr result (λ fault. (fault ≡ Memory) ⊎ (fault ≡ Fault.Full)) }
         ensures not_io { IfErr result (λ fault. fault ≡ Io → ⊥) }
     {
-        if self.pages.is_empty() || is_too_large(self.size, self.page_size) {
+        if !ends_within(&self.pages, self.size) || is_too_large(self.size, self.page_size) {
             return Err(Fault::Damaged(Damage::Size, self.size));
         }
         let number = self.next_number()?;
         let bytes = vec![in alloc; 0; self.page_size()]?;
-        self.pages.push(PageImage { number, bytes })?;
+        let index = self.pages.len();
+        self.insert_page(index, PageImage { number, bytes })?;
         self.size = number;
         Ok(number)
     }

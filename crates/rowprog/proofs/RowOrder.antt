@@ -126,18 +126,18 @@ record_values bytes values fits short is =
 
 module _ (page : List ℕ) (t : Table) (held : List TableRow) (fits : AreBytes page) (short : length page ≤ 65536) where
   each_row : (spans : List Span) (entries : List Entry) (rows : List TableRow) → AreCells page spans entries → AllByRecursion (λ entry. AreBytes entry.payload) entries
-      → Pairwise (IsRow (length t.columns.items)) entries rows → list_all (is_row (plain_table t held)) rows ≡ true
+      → Pairwise (IsRow (length t.columns)) entries rows → list_all (is_row (plain_table t held)) rows ≡ true
   each_row spans [] [] cells bytes each = refl
   each_row spans [] (row ∷ rows) cells bytes each = absurd each
   each_row spans (entry ∷ entries) [] cells bytes each = absurd each
   each_row [] (entry ∷ entries) (row ∷ rows) cells bytes each = absurd cells
   each_row (span ∷ spans) (entry ∷ entries) (row ∷ rows) cells bytes each =
       both_true (is_row (plain_table t held) row) (list_all (is_row (plain_table t held)) rows)
-      (both_true (is_word row.0 && length row.1 == length (map plain_column t.columns.items) && list_all is_value row.1) true
-      (both_true (is_word row.0 && length row.1 == length (map plain_column t.columns.items)) (list_all is_value row.1)
-      (both_true (is_word row.0) (length row.1 == length (map plain_column t.columns.items))
+      (both_true (is_word row.0 && length row.1 == length (map plain_column t.columns) && list_all is_value row.1) true
+      (both_true (is_word row.0 && length row.1 == length (map plain_column t.columns)) (list_all is_value row.1)
+      (both_true (is_word row.0) (length row.1 == length (map plain_column t.columns))
       (ap is_word (sym each.0.rowid ∙ cells.0.signed) ∙ signed_word cells.0.number)
-      (eq-eqb (length row.1) (length (map plain_column t.columns.items)) (each.0.full ∙ sym (length-map t.columns.items plain_column))))
+      (eq-eqb (length row.1) (length (map plain_column t.columns)) (each.0.full ∙ sym (length-map t.columns plain_column))))
       (record_values entry.payload row.1 bytes.0 (omega (arith, short, cells.0.whole)) each.0.values)) refl)
       (each_row spans entries rows cells.1 bytes.1 each.1)
 
@@ -168,5 +168,5 @@ rows_in_order page number t rows fits short holds =
     let bytes = AreBytes-from_index page fits in
     let leaf = holds.single_leaf.leaf in
     both_true (is_rising int_cmp (map (λ r. r.0) rows)) (list_all (is_row (plain_table t rows)) rows)
-    (rowids_rise (length t.columns.items) holds.entries rows holds.single_leaf.rising holds.each)
+    (rowids_rise (length t.columns) holds.entries rows holds.single_leaf.rising holds.each)
     (each_row page t rows bytes short leaf.spans holds.entries rows leaf.cells (payloads_fit page leaf.spans holds.entries bytes leaf.cells) holds.each)

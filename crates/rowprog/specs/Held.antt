@@ -14,4 +14,4 @@ OneRows = (page : List ℕ) (number width : ℕ) (a b : List TableRow) → Holds
 -- rise, their integers have 64 bits, and their texts are UTF-8 (Database File Format, "B-tree Pages" and "Record Format").
 abbrev pub RowsInOrder : Type 0
 RowsInOrder = (page : List ℕ) (number : ℕ) (t : Table) (rows : List TableRow) → IsBytes page → length page ≤ 65536
-    → Holds page number (length t.columns.items) rows → are_rows (plain_table t rows) ≡ true
+    → Holds page number (length t.columns) rows → are_rows (plain_table t rows) ≡ true

@@ -43,7 +43,7 @@ same_stores v w tables db sized long same held = record {
   named = held.named;
   once = held.once;
   apart = held.apart;
-  each = λ name t listed. (let it = held.each name t listed in record { page = it.page; above = it.above; there = there t.root it.page it.there; holds = it.holds });
+  each = λ name t listed. (let it = held.each name t listed in record { page = it.page; above = it.above; there = there t.root it.page it.there; holds = it.holds; fit = it.fit });
   first = record {
     page = held.first.page;
     there = there 1 held.first.page held.first.there;

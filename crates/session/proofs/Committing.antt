@@ -57,7 +57,7 @@ other_first v w tables db sized long same first held = record {
   named = held.named;
   once = held.once;
   apart = held.apart;
-  each = λ name t listed. (let it = held.each name t listed in record { page = it.page; above = it.above; there = there t.root it.page it.above it.there; holds = it.holds });
+  each = λ name t listed. (let it = held.each name t listed in record { page = it.page; above = it.above; there = there t.root it.page it.above it.there; holds = it.holds; fit = it.fit });
   first = first;
   used = λ number above within. held.used number above (omega (arith, within, long));
   served = subst (λ n. IsSizeWithinLimits n w.size) (sym sized) (subst (IsSizeWithinLimits v.page_size) (sym long) held.served);

@@ -35,6 +35,7 @@ use Rattle.wal.specs.declared.pages.PageImage.{PageImage}
 use Rattle.catalog.specs.Database.{Database, Name, ATable, with_object}
 use Rattle.catalog.specs.Listed.{Lists, committed_in, is_table, plain_table, table_named, tables_of}
 use Rattle.catalog.specs.Named.{KeepsNamed}
+use Rattle.catalog.specs.Rows.{are_rows}
 use Rattle.catalog.specs.Laws.{KeepsOnlyTables}
 use Rattle.catalog.specs.NewTables.{IsNewRoot, ListsNewTable}
 use Rattle.catalog.specs.declared.tables.Catalog.{Catalog}
@@ -226,7 +227,7 @@ module _ (view : View) (old new : Writer) (tables : List Table) (db : Database) 
   above_first : 1 < t.root
   above_first = omega (arith, c.made.root_is, c.past.is, some_page)
 
-  new_holds : Holds root.bytes.items t.root (length t.columns.items) []
+  new_holds : Holds root.bytes.items t.root (length t.columns) []
   new_holds = record {
     entries = [];
     single_leaf = record {
@@ -241,7 +242,8 @@ module _ (view : View) (old new : Writer) (tables : List Table) (db : Database) 
     page = root.bytes.items;
     above = above_first;
     there = new_root;
-    holds = subst (Holds root.bytes.items t.root (length t.columns.items)) (no_rows c.held.rows_at t.root) new_holds;
+    holds = subst (Holds root.bytes.items t.root (length t.columns)) (no_rows c.held.rows_at t.root) new_holds;
+    fit = subst (λ (rows : List TableRow). are_rows (plain_table t rows) ≡ true) (no_rows c.held.rows_at t.root) refl;
   }
 
   still_stored : (name : Name) (u : Table) → table_named name tables ≡ Some u → IsStored (seen view new) (rows_beside c.held.rows_at t.root) u
@@ -251,7 +253,8 @@ module _ (view : View) (old new : Writer) (tables : List Table) (db : Database) 
         page = it.page;
         above = it.above;
         there = stays u.root it.page it.above it.there;
-        holds = subst (Holds it.page u.root (length u.columns.items)) (kept_rows c.held.rows_at t.root u.root (own_root name u found)) it.holds;
+        holds = subst (Holds it.page u.root (length u.columns)) (kept_rows c.held.rows_at t.root u.root (own_root name u found)) it.holds;
+        fit = subst (λ (rows : List TableRow). are_rows (plain_table u rows) ≡ true) (kept_rows c.held.rows_at t.root u.root (own_root name u found)) it.fit;
       }
 
   each_stored : (name : Name) (u : Table) → table_named name (tables ++ t ∷ []) ≡ Some u → IsStored (seen view new) (rows_beside c.held.rows_at t.root) u

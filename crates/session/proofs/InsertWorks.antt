@@ -1,5 +1,5 @@
 -- An INSERT is a step of a writer's work.
-use Rattle.std.proofs.Common.{◌≡◌, ◌⊎◌, ◌≤◌, inl, inr, refl, sym, ap, subst, ◌∙◌, ℕ, true, List, [], ◌∷◌, ◌++◌, length, map, take, Option, Some, None, Result, Ok, Err, ℤ, arith}
+use Rattle.std.proofs.Common.{◌≡◌, ◌⊎◌, ◌≤◌, ◌^◌, inl, inr, refl, sym, ap, subst, ◌∙◌, ℕ, true, List, [], ◌∷◌, ◌++◌, length, map, take, Option, Some, None, Result, Ok, Err, ℤ, arith}
 use Rattle.std.specs.Prelude.{⊤, IfErr, IsErrAnd, OnOk, Vec, option_map}
 use Rattle.std.specs.List.{position_from, range_with_len}
 use Rattle.std.proofs.Math.Nat.{max-eq_left}
@@ -22,6 +22,7 @@ use Rattle.syntax.specs.declared.statement.Statement.{Statement}
 use Rattle.syntax.specs.declared.statement.Statement.TheVariants as statement
 use Rattle.catalog.specs.Database.{ATable, Database, Name}
 use Rattle.catalog.specs.Listed.{committed_in, plain_table, table_named, tables_of}
+use Rattle.catalog.specs.Rows.{are_rows}
 use Rattle.catalog.specs.declared.tables.Catalog.{Catalog}
 use Rattle.catalog.specs.declared.tables.Column.{Column}
 use Rattle.catalog.specs.declared.tables.Table.{Table}
@@ -33,10 +34,13 @@ use Rattle.wal.specs.declared.log.Log.{Log}
 use Rattle.wal.specs.declared.log.Snapshot.{Snapshot}
 use Rattle.wal.specs.declared.pages.PageImage.{PageImage}
 use Rattle.rowprog.specs.Rows.{Holds, TableRow}
+use Rattle.rowprog.specs.Held.{RowsInOrder}
+use Rattle.record.specs.Writing.{IsBytes}
+use Rattle.std.proofs.Math.Nat.{pow-le-pow_right}
 use Rattle.dml.specs.Binding.{IsGivenAs, IsRealRefused}
 use Rattle.dml.specs.Inserting.{FindNoRoom, IsInserted, IsInsertRefusal, IsRefusedAs, rows_added}
 use Rattle.dml.proofs.GivenAsMeant.{gives, refuses}
-use Rattle.pager.specs.Limits.{pages_of}
+use Rattle.pager.specs.Limits.{page_size_of, pages_of}
 use Rattle.pager.specs.Views.{IsViewPage, View, after, changes_of, view_at, view_of}
 use Rattle.pager.specs.Writers.{IsUnchanged, IsConsistent, ReplacesPages, seen, snapshot_of}
 use Rattle.pager.specs.declared.writer.Writer.{Writer}
@@ -96,9 +100,9 @@ places_long columns None = length-map (range_with_len 0 (length columns)) (λ (n
 places_long columns (Some names) = length-map columns (λ column. position_from (λ name. is_same_name name column.name) 0 names)
 
 module _ (laws : Laws) (view : View) (tables : List Table) (db : Database) (held : Stores view tables db) (i : Insert) (t : Table) (places : List (Option ℕ)) (given : List (List Value)) (named : table_named i.table tables ≡ Some t)
-    (is : IsGivenAs db i t places given) (long : length places ≡ length t.columns.items) (page : List ℕ) (there : IsViewPage view t.root page) (holds : Holds page t.root (length t.columns.items) (held.rows_at t.root)) where
+    (is : IsGivenAs db i t places given) (long : length places ≡ length t.columns) (page : List ℕ) (there : IsViewPage view t.root page) (holds : Holds page t.root (length t.columns) (held.rows_at t.root)) where
   -- a refusal after that
-  pub page_refused : (f : Fault) → (f ≡ fault.Io) ⊎ IsInsertRefusal page t.root t.columns.items places given f
+  pub page_refused : (f : Fault) → (f ≡ fault.Io) ⊎ IsInsertRefusal page t.root t.columns places given f
       → (f ≡ fault.Memory) ⊎ (f ≡ fault.Full) ⊎ (f ≡ fault.Io) ⊎ work i db (refusal_of f)
       ⊎ (f ≡ fault.Unsupported RowSize) × (made : Database) × Reaches (change_made (statement.Change (kind.Insert i)) db) made × LacksRoom view tables (statement.Change (kind.Insert i)) made
   page_refused f (inl io) = inr (inr (inl io))
@@ -106,10 +110,10 @@ module _ (laws : Laws) (view : View) (tables : List Table) (db : Database) (held
   page_refused f (inr (inr (inl none))) = absurd (none.1 (held.rows_at t.root) holds)
   page_refused f (inr (inr (inr (inl are)))) =
       inr (inr (inr (inl (refused laws view tables db held i t places given named is long page holds f
-      (subst (λ (last : Option ℤ). IsRefusedAs (rows_added t.columns.items places last given) f) (sym (are.ends (held.rows_at t.root) holds)) are.answer)))))
+      (subst (λ (last : Option ℤ). IsRefusedAs (rows_added t.columns places last given) f) (sym (are.ends (held.rows_at t.root) holds)) are.answer)))))
   page_refused f (inr (inr (inr (inr full)))) =
       let m = made laws view tables db held i t places given named is long page holds full.added
-      (subst (λ (last : Option ℤ). rows_added t.columns.items places last given ≡ Ok full.added) (sym (full.ends (held.rows_at t.root) holds)) full.answer) in
+      (subst (λ (last : Option ℤ). rows_added t.columns places last given ≡ Ok full.added) (sym (full.ends (held.rows_at t.root) holds)) full.answer) in
       inr (inr (inr (inr (
         no_room page t.root full.added f full.full,
         m.made,
@@ -131,15 +135,15 @@ module _ (laws : Laws) (view : View) (tables : List Table) (db : Database) (held
       ))))
 
 -- what the insertion gives
-pub given_as : (view : View) (tables : List Table) (db : Database) (held : Stores view tables db) (i : Insert) (t : Table) (places : List (Option ℕ)) (rows : List (Vec Value Global)) → table_named i.table tables ≡ Some t → AreColumns t.columns.items i.columns
-    → AreGiven (count_wanted i.columns t) rows i.source → places ≡ places_in t.columns.items i.columns → IsGivenAs db i t places (map (λ row. row.items) rows)
+pub given_as : (view : View) (tables : List Table) (db : Database) (held : Stores view tables db) (i : Insert) (t : Table) (places : List (Option ℕ)) (rows : List (Vec Value Global)) → table_named i.table tables ≡ Some t → AreColumns t.columns i.columns
+    → AreGiven (count_wanted i.columns t) rows i.source → places ≡ places_in t.columns i.columns → IsGivenAs db i t places (map (λ row. row.items) rows)
 given_as view tables db held i t places rows named columns given is =
     subst (λ (ps : List (Option ℕ)). IsGivenAs db i t ps (map (λ row. row.items) rows)) (sym is) (gives db tables (known_listed held.rows_at tables db held.lists) held.once i.table i.columns i.source t rows named columns given)
 
 -- ---- the connections after it
 
 pub unchanged : (w : Writer) → IsUnchanged w w
-unchanged w = record { changes = refl; size = refl; page_size = refl; snapshot = refl; objects = refl }
+unchanged w = record { changes = refl; size = refl; page_size = refl; snapshot = refl; objects = refl; marks = refl }
 
 module _ {D : Type 0} {g : Ghosts D} where
   -- nothing but the files has changed, and these were read at most
@@ -213,9 +217,10 @@ module _ {D : Type 0} {g : Ghosts D} where
   }
 
   pub worked : (laws : Laws) (old new : Connections D g) (w v : Writer) (db : Database) (i : Insert) (t : Table) (places : List (Option ℕ)) (given : List (List Value)) (page : PageImage) (on : CanApply old w db) → Reads old new
-      → table_named i.table (tables_of old.catalog) ≡ Some t → IsGivenAs db i t places given → length places ≡ length t.columns.items → page.number ≡ t.root
-      → IsInserted page.bytes.items t.root t.columns.items places given (on.stored.rows_at t.root) → IsConsistent v → ReplacesPages (page ∷ []) w v → IsApplied (statement.Change (kind.Insert i)) old db new v
-  worked laws old new w v db i t places given page on reads named is long at inserted whole puts = record {
+      → table_named i.table (tables_of old.catalog) ≡ Some t → IsGivenAs db i t places given → length places ≡ length t.columns → page.number ≡ t.root
+      → IsInserted page.bytes.items t.root t.columns places given (on.stored.rows_at t.root) → RowsInOrder → IsBytes page.bytes.items → length page.bytes.items ≡ page_size_of w
+      → IsConsistent v → ReplacesPages (page ∷ []) w v → IsApplied (statement.Change (kind.Insert i)) old db new v
+  worked laws old new w v db i t places given page on reads named is long at inserted rows_in_order bytes len whole puts = record {
     kept = keeps old new reads;
     made = m.made;
     reaches = reaches laws (view_of (files_of old) w) (tables_of old.catalog) db on.stored i t places given named is long it.page it.holds m.made m.is;
@@ -224,13 +229,22 @@ module _ {D : Type 0} {g : Ghosts D} where
       settled = still_settled (files_of old) (files_of new) reads.files on.settled;
       writer = still_writer (files_of old) (files_of new) v reads.files (put_writer (files_of old) w v page (omega (arith, at, it.there.last)) on.writer whole puts);
       stored = subst (λ (c : Catalog). Stores (view_of (files_of new) v) (tables_of c) m.made) (sym reads.catalog) (subst (λ (x : View). Stores x (tables_of old.catalog) m.made) (sym view)
-          (stores_put (view_at (files_of old) (snapshot_of w)) w v (tables_of old.catalog) db m.made page i.table t inserted.added on.stored puts named at inserted.holds m.lists m.only m.in_order));
+          (stores_put (view_at (files_of old) (snapshot_of w)) w v (tables_of old.catalog) db m.made page i.table t inserted.added on.stored puts named at inserted.holds fit m.lists m.only m.in_order));
       listed = subst (λ (c : Catalog). committed_in c ≤ length (tables_of c)) (sym reads.catalog) on.listed;
     };
   }
     where
       it : IsStored (view_of (files_of old) w) on.stored.rows_at t
       it = on.stored.each i.table t named
+
+      small : length page.bytes.items ≤ 65536
+      small =
+          let fits = on.stored.first.header_is.served in
+          let most : 2 ^ fits.exponent ≤ 2 ^ 15 = pow-le-pow_right (omega arith) fits.high in
+          omega (arith, most, fits.power, on.stored.first.sized, on.writer.page_size, len)
+
+      fit : are_rows (plain_table t (on.stored.rows_at t.root ++ inserted.added)) ≡ true
+      fit = rows_in_order page.bytes.items t.root t (on.stored.rows_at t.root ++ inserted.added) bytes small inserted.holds
 
       m : IsMade on.stored.rows_at (tables_of old.catalog) db i t inserted.added
       m = made laws (view_of (files_of old) w) (tables_of old.catalog) db on.stored i t places given named is long it.page it.holds inserted.added inserted.answer

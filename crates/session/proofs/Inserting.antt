@@ -22,6 +22,7 @@ use Rattle.catalog.specs.Database.{ATable, Database, Name, Object, with_object}
 use Rattle.catalog.specs.Laws.{KeepsOnlyTables, ListsOtherRows}
 use Rattle.catalog.specs.Listed.{Lists, has_only_tables, plain_table, table_named}
 use Rattle.catalog.specs.Named.{IsNamed, KeepsNamed}
+use Rattle.catalog.specs.Rows.{are_rows}
 use Rattle.catalog.specs.declared.tables.Table.{Table}
 use Rattle.bind.specs.Checked.{Checked, Meant, faults}
 use Rattle.bind.proofs.ColumnNames.{folded_twice}
@@ -101,9 +102,9 @@ named_as : (tables : List Table) (a b : Name) → folded a ≡ folded b → tabl
 named_as tables a b e = ap (λ n. find (λ t. bytes_eq (folded t.name) n) tables) e
 
 pub stores_put : (view : View) (old new : Writer) (tables : List Table) (db made : Database) (page : PageImage) (name : Name) (t : Table) (added : List TableRow) (held : Stores (seen view old) tables db) → ReplacesPages (page ∷ []) old new
-    → table_named name tables ≡ Some t → page.number ≡ t.root → Holds page.bytes.items t.root (length t.columns.items) (held.rows_at t.root ++ added)
-    → Lists (rows_with held.rows_at t.root (held.rows_at t.root ++ added)) tables made → has_only_tables made ≡ true → IsNamed made → Stores (seen view new) tables made
-stores_put view old new tables db made page name t added held puts named at holds lists only in_order = record {
+    → table_named name tables ≡ Some t → page.number ≡ t.root → Holds page.bytes.items t.root (length t.columns) (held.rows_at t.root ++ added)
+    → are_rows (plain_table t (held.rows_at t.root ++ added)) ≡ true → Lists (rows_with held.rows_at t.root (held.rows_at t.root ++ added)) tables made → has_only_tables made ≡ true → IsNamed made → Stores (seen view new) tables made
+stores_put view old new tables db made page name t added held puts named at holds fit lists only in_order = record {
   rows_at = rows_with held.rows_at t.root (held.rows_at t.root ++ added);
   lists = lists;
   only = only;
@@ -140,7 +141,8 @@ stores_put view old new tables db made page name t added held puts named at hold
       page = page.bytes.items;
       above = it.above;
       there = record { first = it.there.first; last = omega (arith, it.there.last, size); has = (puts.sees view t.root page.bytes.items).1 (inl (inl (at, refl))) };
-      holds = subst (λ rows. Holds page.bytes.items t.root (length t.columns.items) rows) (sym (rows_here held.rows_at t.root t.root (held.rows_at t.root ++ added) refl)) holds;
+      holds = subst (λ rows. Holds page.bytes.items t.root (length t.columns) rows) (sym (rows_here held.rows_at t.root t.root (held.rows_at t.root ++ added) refl)) holds;
+      fit = subst (λ rows. are_rows (plain_table t rows) ≡ true) (sym (rows_here held.rows_at t.root t.root (held.rows_at t.root ++ added) refl)) fit;
     }
 
     each : (other : Name) (u : Table) → table_named other tables ≡ Some u → (u.root ≡ t.root) ⊎ (u.root ≡ t.root → ⊥) → IsStored (seen view new) (rows_with held.rows_at t.root (held.rows_at t.root ++ added)) u
@@ -151,7 +153,8 @@ stores_put view old new tables db made page name t added held puts named at hold
       page = that.page;
       above = that.above;
       there = still u.root that.page (λ e. differ (sym e ∙ at)) that.there;
-      holds = subst (λ rows. Holds that.page u.root (length u.columns.items) rows) (sym (rows_elsewhere held.rows_at t.root u.root (held.rows_at t.root ++ added) differ)) that.holds;
+      holds = subst (λ rows. Holds that.page u.root (length u.columns) rows) (sym (rows_elsewhere held.rows_at t.root u.root (held.rows_at t.root ++ added) differ)) that.holds;
+      fit = subst (λ rows. are_rows (plain_table u rows) ≡ true) (sym (rows_elsewhere held.rows_at t.root u.root (held.rows_at t.root ++ added) differ)) that.fit;
     }
 
 -- ---- the statement's work
@@ -216,7 +219,7 @@ not_none : (r : Refusal) → rows_answer [] ≡ Err r → ⊥
 not_none r e = absurd cc
 
 module _ (laws : Laws) (view : View) (tables : List Table) (db : Database) (held : Stores view tables db) (i : Insert) (t : Table) (places : List (Option ℕ)) (given : List (List Value)) (named : table_named i.table tables ≡ Some t)
-    (is : IsGivenAs db i t places given) (long : length places ≡ length t.columns.items) (page : List ℕ) (holds : Holds page t.root (length t.columns.items) (held.rows_at t.root)) where
+    (is : IsGivenAs db i t places given) (long : length places ≡ length t.columns) (page : List ℕ) (holds : Holds page t.root (length t.columns) (held.rows_at t.root)) where
   set_for : All (IsSetFor t places is.at) given
   set_for = all_of (IsSetFor t places is.at) given (each_for (λ vs. row_with t is.at vs ≡ map (given_at vs) places) (IsSetFor t places is.at) given one is.placed)
     where
@@ -228,13 +231,13 @@ module _ (laws : Laws) (view : View) (tables : List Table) (db : Database) (held
 
   -- what the statement comes to on the database
   abbrev changed : List (List Value) → Answer Database
-  changed rows = rows_added t.columns.items places (last_rowid (held.rows_at t.root)) rows then λ added. Ok (with_object db (folded i.table) (ATable (plain_table t (held.rows_at t.root ++ added))))
+  changed rows = rows_added t.columns places (last_rowid (held.rows_at t.root)) rows then λ added. Ok (with_object db (folded i.table) (ATable (plain_table t (held.rows_at t.root ++ added))))
 
   change_is : 1 ≤ length given → change db (kind.Insert i) ≡ changed given
   change_is some =
       laws.inserts db i t (held.rows_at t.root) is.at is.terms places given page t.root held.only (listed_table held.rows_at tables db i.table t held.lists named) holds is.stands is.answered set_for some
 
-  pub made : (added : List TableRow) → rows_added t.columns.items places (last_rowid (held.rows_at t.root)) given ≡ Ok added → IsMade held.rows_at tables db i t added
+  pub made : (added : List TableRow) → rows_added t.columns places (last_rowid (held.rows_at t.root)) given ≡ Ok added → IsMade held.rows_at tables db i t added
   made added e = by (some_or_none given)
     where
       same : [] ≡ added → (root : ℕ) → held.rows_at root ≡ rows_with held.rows_at t.root (held.rows_at t.root ++ added) root
@@ -245,7 +248,7 @@ module _ (laws : Laws) (view : View) (tables : List Table) (db : Database) (held
 
       by : (given ≡ []) ⊎ (1 ≤ length given) → IsMade held.rows_at tables db i t added
       by (inl none) =
-          let nothing = nothing_added added (subst (λ rows. rows_added t.columns.items places (last_rowid (held.rows_at t.root)) rows ≡ Ok added) none e) in
+          let nothing = nothing_added added (subst (λ rows. rows_added t.columns places (last_rowid (held.rows_at t.root)) rows ≡ Ok added) none e) in
           record {
             made = db;
             is = laws.none db i t (held.rows_at t.root) is.at is.terms (listed_table held.rows_at tables db i.table t held.lists named) is.stands (is.answered ∙ ap (λ (rows : List (List Value)). Ok rows) none);
@@ -265,11 +268,11 @@ module _ (laws : Laws) (view : View) (tables : List Table) (db : Database) (held
   pub reaches : (made : Database) → change db (kind.Insert i) ≡ Ok made → Reaches (change_made (statement.Change (kind.Insert i)) db) made
   reaches made e = (not_refused laws db i _ held.only is.stands, subst (λ (a : Answer Database). Reaches (of_answer a) made) (sym e) refl)
 
-  pub refused : (f : Fault) → IsRefusedAs (rows_added t.columns.items places (last_rowid (held.rows_at t.root)) given) f → RefusesWith (change_made (statement.Change (kind.Insert i)) db) (refusal_of f)
+  pub refused : (f : Fault) → IsRefusedAs (rows_added t.columns places (last_rowid (held.rows_at t.root)) given) f → RefusesWith (change_made (statement.Change (kind.Insert i)) db) (refusal_of f)
   refused f (what, e) = inr (not_refused laws db i _ held.only is.stands, subst (λ (a : Answer Database). RefusesWith (of_answer a) (refusal_of f)) (sym (by (some_or_none given))) (as_answer what))
     where
       by : (given ≡ []) ⊎ (1 ≤ length given) → change db (kind.Insert i) ≡ Err (refusal_of f)
-      by (inl none) = absurd (not_none (refusal_of f) (subst (λ rows. rows_added t.columns.items places (last_rowid (held.rows_at t.root)) rows ≡ Err (refusal_of f)) none e))
+      by (inl none) = absurd (not_none (refusal_of f) (subst (λ rows. rows_added t.columns places (last_rowid (held.rows_at t.root)) rows ≡ Err (refusal_of f)) none e))
       by (inr some) = change_is some ∙ ap (λ (a : Answer (List TableRow)). a then λ added. Ok (with_object db (folded i.table) (ATable (plain_table t (held.rows_at t.root ++ added))))) e
 
       as_answer : (f ≡ fault.RealRefused) ⊎ (f ≡ fault.RowidFull) → RefusesWith (of_answer (Err (refusal_of f))) (refusal_of f)

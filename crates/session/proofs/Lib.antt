@@ -25,3 +25,20 @@ pub mod Fresh
 pub mod Telling
 pub mod SameTables
 pub mod StatementCauses
+mod WellFormedRows
+pub mod StandingViews
+pub mod StandingLengths
+pub mod StandingNames
+pub mod StandingLists
+pub mod StandingPages
+pub mod StandingTexts
+pub mod StandingRows
+pub mod StandingTrees
+pub mod Standing
+mod StoredNames
+mod StoredDefinitions
+mod StoredListings
+mod StoredApart
+mod StoredObjects
+mod StoredTables
+pub mod StoredFiles

@@ -5,7 +5,9 @@ use Rattle.std.specs.List.{find}
 use Rattle.sqlval.specs.Names.{is_same_name}
 use Rattle.page.specs.Leaf.{Entry}
 use Rattle.record.specs.Record.{IsRecord}
+use Rattle.catalog.specs.Database as database
 use Rattle.catalog.specs.Database.{Database, Name, Object, ATable}
+use Rattle.catalog.specs.Rows.{are_rows}
 use Rattle.catalog.specs.Listed.{described, is_table, plain_column, plain_table, table_named}
 use Rattle.catalog.specs.declared.tables.Column.{Column}
 use Rattle.catalog.specs.declared.tables.Table.{Table}
@@ -118,8 +120,11 @@ module _ (rows_at : ℕ → List TableRow) where
   abbrev object_of : Table → Object
   object_of t = ATable (plain_table t (rows_at t.root))
 
+  abbrev plain_with : List Column → List TableRow → database.Table
+  plain_with cs rows = record { columns = map plain_column cs; rowid_column = None; checks = []; rows = rows }
+
   abbrev plain_of : List Column → ℕ → Object
-  plain_of cs root = ATable (record { columns = map plain_column cs; rowid_column = None; checks = []; rows = rows_at root })
+  plain_of cs root = ATable (plain_with cs (rows_at root))
 
   same_objects : (a b : Option Table) → AreSameFound a b → option_map object_of a ≡ option_map object_of b
   same_objects None None same = refl
@@ -133,7 +138,9 @@ module _ (rows_at : ℕ → List TableRow) where
     above = omega (arith, same.root_is, it.above);
     there = subst (λ (n : ℕ). IsViewPage view n it.page) (sym same.root_is) it.there;
     holds = subst (λ (cs : List Column). Holds it.page u.root (length cs) (rows_at u.root)) (sym same.columns_are)
-        (subst (λ (n : ℕ). Holds it.page n (length t.columns.items) (rows_at n)) (sym same.root_is) it.holds);
+        (subst (λ (n : ℕ). Holds it.page n (length t.columns) (rows_at n)) (sym same.root_is) it.holds);
+    fit = subst (λ (cs : List Column). are_rows (plain_with cs (rows_at u.root)) ≡ true) (sym same.columns_are)
+        (subst (λ (n : ℕ). are_rows (plain_with t.columns (rows_at n)) ≡ true) (sym same.root_is) it.fit);
   }
 
 pub stores_same : (view : View) (ts us : List Table) (db : Database) → AreSameTables ts us → Stores view ts db → Stores view us db

@@ -232,7 +232,7 @@ pub source_read : (view : View) (tables : List Table) (db : Database) (stored : 
 source_read view tables db stored None s is = (let bad : Some s ≡ None = is in cc)
 source_read view tables db stored (Some f) s is =
     let t = is.0 in
-    let same : s ≡ record { root = t.root; width = length t.columns.items } = some_one s _ is.2 in
+    let same : s ≡ record { root = t.root; width = length t.columns } = some_one s _ is.2 in
     let there = stored.each f.first.name t is.1 in
     subst (IsReadAt view stored.rows_at) (sym same) (record { page = there.page; there = there.there; holds = there.holds })
   where

@@ -21,6 +21,7 @@ use Rattle.pager.specs.Limits.{pages_of}
 use Rattle.pager.specs.Views.{View, newest_view}
 use Rattle.pager.specs.declared.writer.Writer.{Writer}
 use Rattle.session.specs.Holding.{HoldThroughout, IsFound, IsSettled, LeaveHeld}
+use Rattle.session.proofs.Standing.{held_if_stored}
 use Rattle.session.specs.ConnectionState.{files_of}
 use Rattle.session.specs.Machine.{Machine, newest}
 use Rattle.session.specs.Representation.{RepresentsRunning, ShowTheSame, Represents}
@@ -56,14 +57,14 @@ module _ {D : Type 0} {g : Ghosts D} where
   settled_leaves May files tables db may settled stored d l left_db left_log chance = (
     db,
     may,
-    record {
+    held_if_stored d l db (record {
       view = newest_view files;
       db_is = sym (synced_is (g.file (db_of files)) settled.db_synced d left_db);
       commits = subst (λ (c : List ℕ). HasCommits (state_of files).page_size c (newest_view files).frames) (sym (synced_is (g.file (log_of files)) settled.log_synced l left_log)) settled.commits;
       found = settled.found;
       tables = tables;
       stored = stored;
-    },
+    }),
   )
 
   -- files that were read at most are settled still
@@ -130,18 +131,18 @@ module _ {D : Type 0} {g : Ghosts D} where
 
     either_held : (leaves : LeavesCommit old w page header new) (logs : List Version) → LeavesEither (state_of old).page_size (newest_view old).frames leaves.view.frames logs → LeaveHeld Either (versions (g.file (db_of old))) logs
     either_held leaves logs either d l left_db left_log chance = elim (either l left_log chance) [
-      | inl these ↦ (was, inl refl, record { view = newest_view old; db_is = sym same; commits = these; found = settled.found; tables = before; stored = stored })
+      | inl these ↦ (was, inl refl, held_if_stored d l was (record { view = newest_view old; db_is = sym same; commits = these; found = settled.found; tables = before; stored = stored }))
       | inr those ↦ (
         db,
         inr refl,
-        record {
+        held_if_stored d l db (record {
           view = leaves.view;
           db_is = leaves.db_is ∙ sym same;
           commits = subst (λ (n : ℕ). HasCommits n l leaves.view.frames) (sym leaves.page_size_is) those;
           found = found_over old w page header leaves.view settled.found leaves.db_is leaves.page_size_is leaves.is leaves.sized leaves.few some;
           tables = behind;
           stored = stores leaves.view leaves.page_size_is leaves.is;
-        },
+        }),
       )
     ]
       where

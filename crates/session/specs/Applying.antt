@@ -74,7 +74,7 @@ module _ {D : Type 0} {g : Ghosts D} where
     pub told : Tells files
     pub writer : IsWriter files w
     pub there : IsViewPage (view_of files w) table.root page
-    pub holds : Holds page table.root (length table.columns.items) rows
+    pub holds : Holds page table.root (length table.columns) rows
 
   -- the files were read at most, no transaction has begun or ended, and the committed tables are what they were
   pub record KeepsCommitted (old new : Connections D g) : Type 0 where

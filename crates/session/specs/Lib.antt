@@ -11,6 +11,9 @@ pub mod Limits
 pub mod Representation
 pub mod Stored
 pub mod Schema
+pub mod Language
 pub mod Holding
 pub mod Applying
 pub mod Failing
+pub mod WellFormed
+pub mod Meaning

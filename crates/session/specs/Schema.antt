@@ -58,7 +58,7 @@ AreRowsOf pages before (table ∷ tables) (row ∷ rows) = IsRowOf pages before 
 -- the same table: by its name, its columns, and the page where its tree begins
 pub record IsSameTable (t u : Table) : Type 0 where
   pub name_is : u.name ≡ t.name
-  pub columns_are : u.columns.items ≡ t.columns.items
+  pub columns_are : u.columns ≡ t.columns
   pub root_is : u.root ≡ t.root
 
 -- the same tables, one by one

@@ -15,6 +15,7 @@ use Rattle.syntax.specs.declared.statement.Statement.TheVariants as statement
 use Rattle.catalog.specs.Database.{Name, Database, ATable, object}
 use Rattle.catalog.specs.Listed.{Lists, has_only_tables, plain_table, table_named}
 use Rattle.catalog.specs.Named.{IsNamed}
+use Rattle.catalog.specs.Rows.{are_rows}
 use Rattle.catalog.specs.declared.tables.Table.{Table}
 use Rattle.bind.specs.Bound.{AreOnce}
 use Rattle.rowprog.specs.Rows.{Holds, TableRow}
@@ -23,12 +24,13 @@ use Rattle.pager.specs.Views.{View, IsViewPage}
 use Rattle.session.specs.NewTables.{HasRoomAfter, schema_row}
 use Rattle.session.specs.Schema.{AreRowsOf}
 
--- the table's page holds these rows
+-- the table's page holds these rows, which are such as the table may hold
 pub record IsStored (view : View) (rows_at : ℕ → List TableRow) (table : Table) : Type 0 where
   pub page : List ℕ
   pub above : 1 < table.root
   pub there : IsViewPage view table.root page
-  pub holds : Holds page table.root (length table.columns.items) (rows_at table.root)
+  pub holds : Holds page table.root (length table.columns) (rows_at table.root)
+  pub fit : are_rows (plain_table table (rows_at table.root)) ≡ true
 
 -- the header tells of no free page
 pub record HasNoFreePage (header : Header) : Type 0 where
@@ -82,7 +84,7 @@ pub record FillsItsPage (view : View) (tables : List Table) (db : Database) : Ty
   pub is : object db name ≡ Some (ATable (plain_table table (rows ++ added)))
   pub page : List ℕ
   pub there : IsViewPage view table.root page
-  pub holds : Holds page table.root (length table.columns.items) rows
+  pub holds : Holds page table.root (length table.columns) rows
   pub fault : Fault
   pub full : FindNoRoom page table.root added fault
 

@@ -46,7 +46,7 @@ is_source_supported (source.Query q) = false
 abbrev pub is_table_supported : TableDefinition → Bool
 is_table_supported d = length d.rules == 0 && list_all (λ c. length c.rules == 0) d.columns
 
-abbrev is_object_supported : NewObject → Bool
+abbrev pub is_object_supported : NewObject → Bool
 is_object_supported (new.Table d) = is_table_supported d
 is_object_supported _ = false
 

@@ -3,12 +3,14 @@
 #![tactic(auto)]
 
 mod forms;
+mod laws;
 mod tables;
 mod transactions;
 
 ghost use Rattle.session.specs.Laws.{SupportedIsPlain, LeavesOthers, ReadsAsBound, RefusalsAddNothing, RefusesAsRead};
 
 pub use forms::{is_supported, is_table_supported};
+pub use laws::stored_files_hold;
 pub use transactions::Connections;
 
 /// A refused statement commits nothing.

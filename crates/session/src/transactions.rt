@@ -6,6 +6,7 @@ ghost use Rattle.sqlval.specs.declared.fault.Fault.TheVariants.{Memory, Io};
 ghost use Rattle.dml.specs.Inserting.{IsInsertRefusal, IsInserted};
 ghost use Rattle.pager.specs.Limits.{page_size_of};
 ghost use Rattle.pager.specs.Views.{ViewHas, IsViewPage, Tells, newest_view, view_at};
+ghost use Rattle.record.specs.Writing.{IsBytes};
 ghost use Rattle.rowprog.specs.Rows.{Holds, TableRow, answers_of};
 ghost use Rattle.session.specs.Representation.{AnswersOrFails, AnswersRead, IsWriter, ShowTheSame};
 ghost use Rattle.session.specs.Schema.{IsCreateOf, KeepsItsText, WhereSupported};
@@ -28,7 +29,7 @@ use bind::{BoundInsert, BoundSource, Output, bind_insert, bind_query};
 use catalog::{Catalog, named_databases_are_one, new_tables_are_listed, other_rows_are_listed};
 use disk::Disk;
 use pager::{Writer, read_page};
-use rowprog::{Plan, Rows, Scan, plan_of, single_row, table_rows};
+use rowprog::{Plan, Rows, Scan, held_rows_are_in_order, plan_of, single_row, table_rows};
 use sqlval::{Damage, Fault, Feature, Misuse, R, Text};
 use std::alloc::Global;
 use std::mem;
@@ -112,6 +113,14 @@ fn rows_on<D: Disk + Drop>(
     table_rows(alloc, &page, source, outputs)
 }
 
+/// The image of a page.
+fn image_of(number: u32, bytes: Vec<u8>) -> PageImage
+    ensures is { result ≡ record { number = number; bytes = bytes } }
+    ensures fits { IsBytes bytes.items }
+{
+    PageImage { number, bytes }
+}
+
 /// Builds a table's page anew with an INSERT's rows after those that the writer sees.
 fn with_new_rows<D: Disk + Drop>(
     alloc: Global,
@@ -122,10 +131,10 @@ fn with_new_rows<D: Disk + Drop>(
     ensures cause { HasCause false result log.old log.new }
     ensures same { Tells log.old → ShowTheSame log.old log.new }
     ensures inserted { (page : List ℕ) (rows : List TableRow) → SeesRows log.old writer.now insert.entry.table.now page rows
-        → IfOk result (λ new. IsInserted new.items insert.entry.table.now.root insert.entry.table.now.columns.items insert.entry.places.items (map (λ row. row.items) insert.entry.rows.items) rows) }
+        → IfOk result (λ new. IsInserted new.items insert.entry.table.now.root insert.entry.table.now.columns insert.entry.places.items (map (λ row. row.items) insert.entry.rows.items) rows) }
     ensures len { IsWriter log.old writer.now → IfOk result (λ new. length new.items ≡ page_size_of writer.now) }
     ensures refused { (page : List ℕ) (rows : List TableRow) → SeesRows log.old writer.now insert.entry.table.now page rows
-        → IfErr result (λ fault. (fault ≡ Io) ⊎ IsInsertRefusal page insert.entry.table.now.root insert.entry.table.now.columns.items insert.entry.places.items (map (λ row. row.items) insert.entry.rows.items) fault) }
+        → IfErr result (λ fault. (fault ≡ Io) ⊎ IsInsertRefusal page insert.entry.table.now.root insert.entry.table.now.columns insert.entry.places.items (map (λ row. row.items) insert.entry.rows.items) fault) }
 {
     let number = insert.table.root;
     if let Some(page) = writer.find(number) {
@@ -354,7 +363,9 @@ impl<D: Disk + Drop> Connections<D> {
 
     /// The snapshot that a statement reads on, except for the changes of its own transaction.
     fn snapshot(&self) -> Snapshot
-        ensures { (m : Machine) → RepresentsRunning self.now m → IsNewest (files_of self.now) result }
+        ensures newest { (m : Machine) → RepresentsRunning self.now m → IsNewest (files_of self.now) result }
+        // A transaction that reads goes on with the snapshot that it has.
+        ensures same { (own : Snapshot) → self.now.transaction ≡ transaction.Reading own → result ≡ own }
     {
         match &self.transaction {
             Transaction::Idle | Transaction::Begun => self.log.begin(),
@@ -522,10 +533,11 @@ impl<D: Disk + Drop> Connections<D> {
         other_rows_are_listed();
         named_databases_are_one();
         only_tables_set_nothing_off();
+        held_rows_are_in_order();
         let bound = bind_insert(self.alloc, insert, &self.catalog)?;
         let number = bound.table.root;
         let bytes = with_new_rows(self.alloc, &mut self.log, writer, bound)?;
-        writer.put(PageImage { number, bytes })
+        writer.put(image_of(number, bytes))
     }
 
     fn create_table(&mut self, writer: &mut Writer, sql: &Text, table: &TableDefinition) -> R<()>

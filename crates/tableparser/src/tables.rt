@@ -1,12 +1,13 @@
 //! Tables with their columns and rules.
 
-ghost use Rattle.std.specs.Prelude.{◌≡◌, List, length, option_map};
+ghost use Rattle.std.specs.Prelude.{◌≡◌, List, Some, length, option_map};
 ghost use Rattle.lexer.specs.declared.token.Kind.TheVariants as kinds;
 ghost use Rattle.lexer.specs.declared.token.Token.{Token as Spelling};
 ghost use Rattle.expressions.specs.Symbols.{seen};
-ghost use Rattle.expressions.specs.Reading.{ReadsBy, maybe_name_from};
+ghost use Rattle.expressions.specs.Reading.{ReadsBy, enclosed_from, maybe_name_from, name_from};
 ghost use Rattle.grammar.specs.Limits.{few};
 ghost use Rattle.grammar.specs.Readers as readers;
+ghost use Rattle.syntax.specs.declared.create.ColumnRule.TheVariants as rule;
 ghost use Rattle.tableparser.specs.TableReading as spec;
 
 use expressions::{
@@ -338,18 +339,54 @@ fn column_rule<'a>(
         return Ok((Some(ColumnRule::NotNull), rest));
     }
     if let Some(rest) = after_word(Keyword::Default, tokens) {
-        let (value, rest) = signed(alloc, spelled, rest)?;
-        return Ok((Some(ColumnRule::Default(value)), rest));
+        return default_value(alloc, spelled, rest);
     }
     if let Some(rest) = after_word(Keyword::Collate, tokens) {
-        let (collation, rest) = name(alloc, spelled, rest)?;
-        return Ok((Some(ColumnRule::Collate(collation)), rest));
+        return collation(alloc, spelled, rest);
     }
     if let Some(rest) = after_word(Keyword::Check, tokens) {
-        let (condition, rest) = enclosed(alloc, spelled, rest)?;
-        return Ok((Some(ColumnRule::Check(condition)), rest));
+        return column_check(alloc, spelled, rest);
     }
     Ok((None, tokens))
+}
+
+/// The value after DEFAULT.
+#[tactic(auto, unfolding(grammar::specs::Readers::made))]
+fn default_value<'a>(
+    alloc: Global,
+    spelled: SourceTokens<'_>,
+    tokens: Rest<'a>,
+) -> Read<'a, Option<ColumnRule>>
+    ensures { ReadsBy spelled.now tokens.now result (readers.made (λ v. Some (rule.Default v)) spec.signed_from) }
+{
+    let (value, rest) = signed(alloc, spelled, tokens)?;
+    Ok((Some(ColumnRule::Default(value)), rest))
+}
+
+/// The name after COLLATE.
+#[tactic(auto, unfolding(grammar::specs::Readers::made))]
+fn collation<'a>(
+    alloc: Global,
+    spelled: SourceTokens<'_>,
+    tokens: Rest<'a>,
+) -> Read<'a, Option<ColumnRule>>
+    ensures { ReadsBy spelled.now tokens.now result (readers.made (λ c. Some (rule.Collate c)) name_from) }
+{
+    let (collation, rest) = name(alloc, spelled, tokens)?;
+    Ok((Some(ColumnRule::Collate(collation)), rest))
+}
+
+/// The condition after CHECK.
+#[tactic(auto, unfolding(grammar::specs::Readers::made))]
+fn column_check<'a>(
+    alloc: Global,
+    spelled: SourceTokens<'_>,
+    tokens: Rest<'a>,
+) -> Read<'a, Option<ColumnRule>>
+    ensures { ReadsBy spelled.now tokens.now result (readers.made (λ e. Some (rule.Check e)) enclosed_from) }
+{
+    let (condition, rest) = enclosed(alloc, spelled, tokens)?;
+    Ok((Some(ColumnRule::Check(condition)), rest))
 }
 
 /// The tokens after a minus, where it comes next.

@@ -2,5 +2,7 @@ pub mod PayloadRows
 pub mod WholeLeaf
 mod Refused
 mod Rebuilding
-mod SinglePages
+pub mod SinglePages
 pub mod AfterFront
+pub mod SameRows
+pub mod LeafTrees

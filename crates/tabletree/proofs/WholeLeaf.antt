@@ -17,7 +17,7 @@ first_part : (b : Bool) (p k : ℕ) → b ≡ true → (if b then p else k) ≡ 
 first_part true p k h = refl
 first_part false p k h = cc
 
-is_local : (usable : ℕ) (payload : List ℕ) → length payload + 35 ≤ usable → local_size usable (table_most usable) (length payload) ≡ length payload
+pub is_local : (usable : ℕ) (payload : List ℕ) → length payload + 35 ≤ usable → local_size usable (table_most usable) (length payload) ≡ length payload
 is_local usable payload h = first_part (nat_le (length payload) (usable - 35)) _ _ (grind arith)
 
 payload_is : (pages : PageMap) (usable : ℕ) (payload : List ℕ) → length payload + 35 ≤ usable → IsPayload pages usable (table_most usable) payload payload []

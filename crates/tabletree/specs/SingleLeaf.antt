@@ -43,3 +43,8 @@ KeepsLeafAfter = (old new : List ℕ) (number : ℕ) (rows : List Entry) → dro
 abbrev pub IsOwnTree : Type 0
 IsOwnTree = (pages : PageMap) (number : ℕ) (rows : List Entry) → Has pages number → IsSingleLeaf (page_at pages number) number rows
     → IsTableTree pages (length (page_at pages number)) number rows (number ∷ [])
+
+-- where each page is a leaf of whole rows, a table's tree is the page of its root, with the rows of that page
+abbrev pub LeavesAreTrees : Type 0
+LeavesAreTrees = (pages : PageMap) (root : ℕ) (rows : List Entry) (used : List ℕ) → ((number : ℕ) → Has pages number → (own : List Entry) × IsSingleLeaf (page_at pages number) number own)
+    → IsTableTree pages (length (page_at pages root)) root rows used → IsSingleLeaf (page_at pages root) root rows × (used ≡ root ∷ [])

@@ -5,7 +5,7 @@ ghost use Rattle.sqlval.specs.Gives.{Gives};
 ghost use Rattle.page.specs.Leaf.{Entry, entry_of, IsTableLeaf};
 ghost use Rattle.page.specs.Writing.{Fits};
 ghost use Rattle.pages.specs.Counting as counting;
-ghost use Rattle.tabletree.specs.SingleLeaf.{AreRising, IsSingleLeaf, IsLeafRefusal, IsOwnTree, IsTooFull, KeepsLeafAfter, placed};
+ghost use Rattle.tabletree.specs.SingleLeaf.{AreRising, IsSingleLeaf, IsLeafRefusal, IsOwnTree, IsTooFull, KeepsLeafAfter, LeavesAreTrees, placed};
 
 use page::{Cell, Node, build};
 use sqlval::limits::DATABASE_HEADER_LEN;
@@ -186,4 +186,9 @@ pub fn single_page_is_a_tree()
 /// What stands before a leaf's header says nothing of its rows: on page 1 that is the header of the database.
 pub fn front_of_page_holds_no_row()
     ensures { KeepsLeafAfter }
+{}
+
+/// A tree is one page where each page is a leaf of whole rows.
+pub fn a_tree_of_leaves_is_one_page()
+    ensures { LeavesAreTrees }
 {}

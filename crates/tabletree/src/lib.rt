@@ -5,5 +5,6 @@
 mod leaf;
 
 pub use leaf::{
-    Leaf, empty, front_of_page_holds_no_row, next_rowid, single_page_is_a_tree, with_rows,
+    Leaf, a_tree_of_leaves_is_one_page, empty, front_of_page_holds_no_row, next_rowid,
+    single_page_is_a_tree, with_rows,
 };

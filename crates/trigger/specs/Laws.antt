@@ -44,8 +44,8 @@ InsertOfNoneStays = (db : Database) (i : Insert) (table : Table) (rows : List Ta
 -- And where its values are these, the table has after its own rows those that they become, or the statement is refused as they are.
 abbrev pub InsertAddsRows : Type 0
 InsertAddsRows = (db : Database) (i : Insert) (table : Table) (rows : List TableRow) (places : List ℕ) (terms : List (List Term)) (by_column : List (Option ℕ)) (given : List (List Value)) (page : List ℕ) (number : ℕ)
-    → has_only_tables db ≡ true → table_of db (folded i.table) ≡ Ok (plain_table table rows) → Holds page number (length table.columns.items) rows
+    → has_only_tables db ≡ true → table_of db (folded i.table) ≡ Ok (plain_table table rows) → Holds page number (length table.columns) rows
     → resolve_change db no_outer (statement.Insert i) ≡ Meant (Inserts (folded i.table) places (GivenRows terms)) [] → all_answers (map (values (env_of [])) terms) ≡ Ok given
     → All (IsSetFor table by_column places) given → 1 ≤ length given
     → change db (statement.Insert i)
-    ≡ (rows_added table.columns.items by_column (last_rowid rows) given then λ added. Ok (with_object db (folded i.table) (ATable (plain_table table (rows ++ added)))))
+    ≡ (rows_added table.columns by_column (last_rowid rows) given then λ added. Ok (with_object db (folded i.table) (ATable (plain_table table (rows ++ added)))))

@@ -5,7 +5,8 @@ use Rattle.session.specs.Representation.{IsNewest}
 use Rattle.loading.specs.Loading.{ListsCommitted}
 use Rattle.loading.proofs.CheckedTables.{same_seen, still_newest}
 use Rattle.loading.proofs.StoredTables.{first_read, found_database, memory_or, passed_outside, roots_memory}
-use Rattle.loading.proofs.LoadedTables.{first_page, first_sized, first_there, held_tables, kept_page, seen_first, sized_first, tables_held}
+use Rattle.wal.specs.LogState.{state_of}
+use Rattle.loading.proofs.LoadedTables.{small_pages, first_page, first_sized, first_there, held_tables, kept_page, seen_first, sized_first, tables_held}
 use Rattle.std.specs.Prelude.{◌+◌}
 use Rattle.sqlval.specs.declared.fault.Fault.TheVariants.{Memory}
 use Rattle.catalog.specs.declared.tables.Table.{Table}
@@ -62,7 +63,8 @@ returns-clause-found g c = λ told served.
     let first = first_sized c.args.log.now c.begin-snapshot.result newest c.read_page.new.log c.page_size.result c.size-size.result c.read_page.ensures.kept.0 c.page_size.ensures c.size-size.ensures (tables_of c.in_ok-catalog.catalog) c.deref.result.now whole in
     found_database c.listed_tables_are_a_database.ensures.exists (newest_view c.args.log.now) c.in_ok-catalog.catalog c.deref.result.now found.1.committed
     (first_page c.args.log.now c.begin-snapshot.result newest c.in_ok-page.page.items c.deref.result.now c.deref.ensures.value (c.in_ok-page.ensures.read told (omega (arith, c.begin-snapshot.ensures.seen))) c.in_ok-page.ensures.within) first
-    (held_tables c.args.log.now c.read_page.new.log same.newest c.in_ok-catalog.catalog c.tables.result.now c.tables.ensures (c.in_ok-check_tables.ensures.found same.told (still_newest c.args.log.now c.read_page.new.log c.begin-snapshot.result kept newest))) served
+    (held_tables c.args.log.now c.read_page.new.log same.newest c.in_ok-catalog.catalog c.tables.result.now c.tables.ensures (c.in_ok-check_tables.ensures.found same.told (still_newest c.args.log.now c.read_page.new.log c.begin-snapshot.result kept newest)
+    (small_pages c.page_size.result c.size-size.result c.deref.result.now (state_of c.read_page.new.log) found.0 c.page_size.ensures))) served
 
 pub returns-in_err-check_roots-clause-listed : goal.returns-in_err-check_roots-clause-listed
 returns-in_err-check_roots-clause-listed g c = λ tables database told stored found.

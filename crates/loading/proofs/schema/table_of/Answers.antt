@@ -16,11 +16,11 @@ pub returns-in_err-columns-clause-tells : goal.returns-in_err-columns-clause-tel
 returns-in_err-columns-clause-tells c = λ before table tells.
     let same = c.in_ok-definition.ensures.tells tells.definition tells.creates in
     let columns = columns_premise before table c.args.row.now tells c.in_ok-definition.definition same in
-    passed_on (IsSameTable table) c.from_residual-in_err-columns.result c.in_err-columns.field-0.0 c.from_residual-in_err-columns.ensures.1 (c.in_err-columns.ensures.tells table.columns.items columns.0 columns.1)
+    passed_on (IsSameTable table) c.from_residual-in_err-columns.result c.in_err-columns.field-0.0 c.from_residual-in_err-columns.ensures.1 (c.in_err-columns.ensures.tells table.columns columns.0 columns.1)
 
 pub returns-clause-tells : goal.returns-clause-tells
 returns-clause-tells c = λ before table tells.
     let same = c.in_ok-definition.ensures.tells tells.definition tells.creates in
     let columns = columns_premise before table c.args.row.now tells c.in_ok-definition.definition same in
     table_is before table c.args.row.now tells c.in_ok-definition.definition (record { name = c.in_ok-definition.definition.name; columns = c.in_ok-columns.columns; root = c.args.row.now.root }) same refl
-    (c.in_ok-columns.ensures.tells table.columns.items columns.0 columns.1) refl
+    (c.in_ok-columns.ensures.tells table.columns columns.0 columns.1) refl

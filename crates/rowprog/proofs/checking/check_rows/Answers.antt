@@ -1,10 +1,12 @@
-use Rattle.std.proofs.Common.{◌≡◌, rules, sym, arith}
+use Rattle.std.proofs.Common.{◌≡◌, ℕ, rules, subst, sym, arith}
 use Rattle.std.proofs.lemmas.Result.{IfErr-weaker}
 use Rattle.sqlval.specs.declared.fault.Fault.TheVariants as fault
 use Rattle.record.proofs.VarintLemmas.{AreBytes-from_index}
 use Rattle.rowprog.proofs.Calm.{rows_calm}
 use Rattle.rowprog.proofs.HeldRows.{page_held, page_only, page_refused}
 use Rattle.rowprog.proofs.RowLemmas.{ok_is, only_memory}
+use Rattle.rowprog.proofs.RowOrder.{rows_in_order}
+use Rattle.rowprog.specs.Rows.{Holds}
 use Rattle.rowprog.proofs.checking.check_rows.Goals as goal
 
 pub returns-in_err-leaf-clause-only : goal.returns-in_err-leaf-clause-only
@@ -26,3 +28,11 @@ returns-clause-refused c = page_refused c.check_leaf.result c.args.table.root c.
 
 pub returns-clause-not_disk : goal.returns-clause-not_disk
 returns-clause-not_disk c = IfErr-weaker c.check_leaf.result _ _ (λ d h. rows_calm c.args.table.root d h) (returns-clause-refused c)
+
+pub returns-in_err-leaf-clause-fit : goal.returns-in_err-leaf-clause-fit
+returns-in_err-leaf-clause-fit c = λ t rows short width holds.
+    rows_in_order c.args.page.now c.args.table.root t rows (λ i. omega (arith, c.type_inv.page i)) short (subst (λ (n : ℕ). Holds c.args.page.now c.args.table.root n rows) width holds)
+
+pub returns-clause-fit : goal.returns-clause-fit
+returns-clause-fit c = λ t rows short width holds.
+    rows_in_order c.args.page.now c.args.table.root t rows (λ i. omega (arith, c.type_inv.page i)) short (subst (λ (n : ℕ). Holds c.args.page.now c.args.table.root n rows) width holds)

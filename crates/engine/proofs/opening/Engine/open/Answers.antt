@@ -12,6 +12,8 @@ use Rattle.catalog.specs.Listed.{tables_of}
 use Rattle.pager.specs.Views.{Tells, newest_view}
 use Rattle.engine.specs.Creating.{is_blank_content}
 use Rattle.engine.specs.Opening.{HasPageSize, IsCutTo, TellsBlank, KeepsFilesBut, LeavesOpened, Opens}
+use Rattle.session.proofs.Standing.{held_if_stored}
+use Rattle.session.proofs.StoredFiles.{stored_if_held}
 use Rattle.engine.proofs.BlankFiles.{failed, open_not_blank, other_refusal}
 use Rattle.engine.proofs.CountedCalls.{opened_rose, rose_both}
 use Rattle.engine.proofs.HeldOpening.{can_open, found_held, found_view, head_of, held_as, not_opened, opened_held, opened_settled, starts_shown}
@@ -59,7 +61,8 @@ returns-in-Err g c =
       left = answer.left;
       opened = answer.opened;
       refused = answer.refused;
-      opens = λ database told_db told_log held.
+      opens = λ database told_db told_log is_held.
+          let held = stored_if_held _ _ database is_held in
           let now = held_as _ _ (g.D.Disk.file files.db).content (g.D.Disk.file c.args.log).content database (same told_db) refl held in
           inr (c.in-Err.ensures.read held.found.head (told told_db) (head_of _ _ database now));
     }
@@ -93,7 +96,8 @@ returns-in_err-log g c =
       left = answer.left;
       opened = answer.opened;
       refused = answer.refused;
-      opens = λ database told_db told_log held.
+      opens = λ database told_db told_log is_held.
+          let held = stored_if_held _ _ database is_held in
           let first = held_as _ _ (file files.db).content (file files.log).content database (synced.db_kept.same told_db) (synced.log_kept.same told_log) held in
           let found = c.in-Ok.ensures.read held.found.head (told told_db) (head_of _ _ database first) in
           let now = held_as _ _ (file c.file_header.new.db).content (file files.log).content database (header.db_kept.same told_db) (header.log_kept.same told_log) held in
@@ -143,7 +147,8 @@ returns-in-Ok-load_and_truncate g c =
             let settled = opened_settled opened _ (newest_view opened) refl view (db_synced told_db) (log_synced told_log) known in
             record {
               database = found.database;
-              held = held_as _ _ (file c.args.db).content (file c.args.log).content found.database (sym (were.db_kept.same told_db)) (sym (were.log_kept.same told_log)) (found_held opened _ c.in-Ok-load_and_truncate.catalog found view known);
+              held = held_if_stored _ _ found.database
+                  (held_as _ _ (file c.args.db).content (file c.args.log).content found.database (sym (were.db_kept.same told_db)) (sym (were.log_kept.same told_log)) (found_held opened _ c.in-Ok-load_and_truncate.catalog found view known));
               shown = starts_shown _ (tables_of c.in-Ok-load_and_truncate.catalog) found.database c.load_and_truncate.new.log _ (c.in-Ok-load_and_truncate.ensures.opens (tables_of c.in-Ok-load_and_truncate.catalog) found.database tells settled found.stored) c.new.ensures.shown;
             };
         whole = c.new.ensures.whole;
@@ -168,7 +173,8 @@ returns-in-Ok-load_and_truncate g c =
       left = answer.left;
       opened = answer.opened;
       refused = answer.refused;
-      opens = λ database told_db told_log held.
+      opens = λ database told_db told_log is_held.
+          let held = stored_if_held _ _ database is_held in
           let first = held_as _ _ (file files.db).content (file files.log).content database (synced.db_kept.same told_db) (synced.log_kept.same told_log) held in
           let found = c.in-Ok.ensures.read held.found.head (told told_db) (head_of _ _ database first) in
           let now = held_as _ _ (file (db_of opened)).content (file (log_of opened)).content database (were.db_kept.same told_db) (were.log_kept.same told_log) held in
@@ -224,7 +230,8 @@ returns-in-Err-load_and_truncate g c =
       left = answer.left;
       opened = answer.opened;
       refused = answer.refused;
-      opens = λ database told_db told_log held.
+      opens = λ database told_db told_log is_held.
+          let held = stored_if_held _ _ database is_held in
           let first = held_as _ _ (file files.db).content (file files.log).content database (synced.db_kept.same told_db) (synced.log_kept.same told_log) held in
           let found = c.in-Ok.ensures.read held.found.head (told told_db) (head_of _ _ database first) in
           let now = held_as _ _ (file (db_of opened)).content (file (log_of opened)).content database (were.db_kept.same told_db) (were.log_kept.same told_log) held in

@@ -1,6 +1,7 @@
 use Rattle.std.proofs.Common.{◌≡◌, ◌∙◌, [], ◌∷◌, ap, refl, rules}
 use Rattle.wal.specs.LogState.{LogState}
 use Rattle.wal.specs.declared.pages.PageImage.{PageImage}
+use Rattle.pager.specs.Marks.{changes_at_each}
 use Rattle.pager.specs.Views.{view_at}
 use Rattle.pager.proofs.PageReads.{refused_on}
 use Rattle.pager.proofs.Seeing.{begun}
@@ -15,3 +16,4 @@ returns-clause-begun g c told until some =
     let changes : c.push.new.self.items ≡ page ∷ [] = search rules in
     begun (view_at c.args.log.now c.args.snapshot) _ page refl changes c.size.ensures (c.page_size.ensures ∙ ap (λ (k : LogState). k.page_size) c.in_ok-bytes.ensures.kept.0) refl some
     c.in_ok-bytes.ensures.len (c.in_ok-bytes.ensures.read told until)
+    (ap (changes_at_each c.new.result.items c.push.new.self.items) c.new-2.ensures.items)

@@ -5,6 +5,7 @@ use Rattle.pager.specs.Views.{changes_of}
 use Rattle.pager.specs.Writers.{IsNextHeader, Reheads, makes_objects}
 use Rattle.pager.proofs.CommitViews.{committed, has_pages, known_after, left_either, may_header, next_header_there, not_refused, refused_commit, refused_leaves, same_header}
 use Rattle.pager.proofs.Reheading.{IsReheaded}
+use Rattle.pager.proofs.Restoring.{IsReset}
 use Rattle.pager.proofs.writer.Writer.commit.Goals as goal
 
 pub returns-in_err-old-clause-refused : goal.returns-in_err-old-clause-refused
@@ -37,7 +38,9 @@ returns-in-Err-clause-refused g c page header may =
       pages = subst (Reheads (changes_of c.set_header.new.self) (changes_of c.set_header-in-Err.new.self)) is (c.set_header-in-Err.ensures.reheads c.next_header-new.result there);
       rest = c.set_header-in-Err.ensures.rest;
     } in
-    refused_commit c.args.log.now c.commit.new.self c.args.self.now c.set_header.new.self page header c.next_header-new.result may re c.set_header-in-Err.new.self c.deref.result.now c.in-Err.fault _ _ again c.deref.ensures.value
+    let one : IsReset c.args.self.now c.set_header.new.self = record { first = c.set_header.ensures.first; bytes = c.set_header.ensures.bytes; saved = c.set_header.ensures.log.0; marks = c.set_header.ensures.log.1 } in
+    let two : IsReset c.set_header.new.self c.set_header-in-Err.new.self = record { first = c.set_header-in-Err.ensures.first; bytes = c.set_header-in-Err.ensures.bytes; saved = c.set_header-in-Err.ensures.log.0; marks = c.set_header-in-Err.ensures.log.1 } in
+    refused_commit c.args.log.now c.commit.new.self c.args.self.now c.set_header.new.self page header c.next_header-new.result may re c.set_header-in-Err.new.self c.deref.result.now c.in-Err.fault _ _ again one two c.deref.ensures.value
     c.in-Err.ensures.refused c.in-Err.ensures.known c.commit.ensures.same
 
 pub returns-in_err-old-clause-crash : goal.returns-in_err-old-clause-crash

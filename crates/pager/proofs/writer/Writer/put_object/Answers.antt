@@ -8,5 +8,5 @@ returns-clause-puts c whole are =
     let mid = c.in_ok-put.ensures.whole whole low are.root_is_long in
     let first = c.in_ok-put.ensures.puts whole low are.root_is_long in
     let second = c.in_ok-put-2.ensures.puts mid (omega (arith, are.first)) (are.schema_is_long ∙ sym first.page_size) in
-    puts_same _ c.args.self.now c.put-2.new.self _ (record { changes = refl; size = refl; page_size = refl; snapshot = refl })
+    puts_same _ c.args.self.now c.put-2.new.self _ (record { changes = refl; size = refl; page_size = refl; snapshot = refl }) refl
     (puts_both c.args.schema c.args.root c.args.self.now c.put.new.self c.put-2.new.self are first second)

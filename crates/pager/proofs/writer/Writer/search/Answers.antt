@@ -1,19 +1,10 @@
-use Rattle.std.proofs.Common.{sym, subst, rules}
-use Rattle.std.proofs.lemmas.List.Sorted.{answers_always}
-use Rattle.wal.specs.Pages.{ArePages}
-use Rattle.wal.specs.declared.pages.PageImage.{PageImage}
-use Rattle.pager.specs.Limits.{pages_of, page_size_of}
-use Rattle.pager.proofs.WriterPages.{found, gap}
+use Rattle.std.proofs.Common.{subst, sym}
+use Rattle.std.specs.Prelude.{IfErr}
+use Rattle.pager.specs.Undo.{NumbersRise}
+use Rattle.pager.specs.Writers.{IsGapFor}
 use Rattle.pager.proofs.writer.Writer.search.Goals as goal
 
-pub returns-clause-found : goal.returns-clause-found
-returns-clause-found c =
-    let facts = c.binary_search_by_key.ensures in
-    let by_number = facts.position (λ (p : PageImage). p.number) (answers_always _ _ _ (λ f a r g called. search rules)) in
-    rw (← c.deref.ensures.value) (found _ c.args.number _ facts.bound by_number)
-
 pub returns-clause-gap : goal.returns-clause-gap
-returns-clause-gap c whole =
-    let facts = c.binary_search_by_key.ensures in
-    let by_number = facts.position (λ (p : PageImage). p.number) (answers_always _ _ _ (λ f a r g called. search rules)) in
-    rw (← c.deref.ensures.value) (gap 0 (pages_of c.args.self.now) (page_size_of c.args.self.now) c.deref.result.now (subst (ArePages 0 (pages_of c.args.self.now) (page_size_of c.args.self.now)) (sym c.deref.ensures.value) whole.pages) c.args.number _ facts.bound by_number)
+returns-clause-gap c =
+    let rises = c.args.self.now.kept.0 in
+    subst (λ ps. IfErr c.place_of.result (λ index. IsGapFor ps c.args.number index)) c.deref.ensures.value (c.place_of.ensures.gap (subst (NumbersRise 0) (sym c.deref.ensures.value) rises))

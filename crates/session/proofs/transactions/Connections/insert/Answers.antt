@@ -1,7 +1,9 @@
-use Rattle.std.proofs.Common.{◌≡◌, ◌≤◌, ◌∙◌, ap, refl, map, length, arith}
+use Rattle.std.proofs.Common.{◌≡◌, ◌≤◌, ◌∙◌, ap, refl, subst, sym, map, length, ℕ, List, arith}
 use Rattle.catalog.specs.Listed.{tables_of}
 use Rattle.pager.specs.Views.{view_of}
 use Rattle.wal.specs.declared.pages.PageImage.{PageImage}
+use Rattle.record.specs.Writing.{IsBytes}
+use Rattle.dml.specs.Inserting.{IsInserted}
 use Rattle.session.specs.ConnectionState.{files_of}
 use Rattle.session.proofs.Inserting.{Laws}
 use Rattle.session.proofs.InsertWorks.{Reads, bind_refused, given_as, page_refused, places_long, put_works, refused_at_once, sees, unchanged, unworked, worked}
@@ -49,7 +51,7 @@ returns-in_err-bytes-clause-applies g c db supported_forms on =
     let named = c.in_ok-bound.ensures.table in
     let view = view_of (files_of old) w in
     let is = given_as view (tables_of old.catalog) db on.stored i t b.places.items b.rows.items named c.in_ok-bound.ensures.bound c.in_ok-bound.ensures.rows c.in_ok-bound.ensures.places in
-    let long : length b.places.items ≡ length t.columns.items = ap length c.in_ok-bound.ensures.places ∙ places_long t.columns.items i.columns in
+    let long : length b.places.items ≡ length t.columns = ap length c.in_ok-bound.ensures.places ∙ places_long t.columns i.columns in
     let it = on.stored.each i.table t named in
     unworked (statement.Change (change.Insert i)) old new w w db c.from_residual-in_err-bytes.result f c.from_residual-in_err-bytes.ensures.1
     (record { files = c.in_err-bytes.ensures.same on.told; failed = refl; transaction = refl; catalog = refl }) (unchanged w) on
@@ -64,7 +66,9 @@ returns-clause-applies g c db supported_forms on =
     let i = c.args.insert.now in
     let b = c.in_ok-bound.bound in
     let t = b.table.now in
-    let page : PageImage = record { number = t.root; bytes = c.in_ok-bytes.bytes } in
+    let page : PageImage = c.image_of.result in
+    let at : page.number ≡ t.root = ap (λ (p : PageImage). p.number) c.image_of.ensures.is in
+    let bytes : page.bytes.items ≡ c.in_ok-bytes.bytes.items = ap (λ (p : PageImage). p.bytes.items) c.image_of.ensures.is in
     let laws : Laws = record {
       lists = c.other_rows_are_listed.ensures.lists;
       tables = c.other_rows_are_listed.ensures.tables;
@@ -77,11 +81,12 @@ returns-clause-applies g c db supported_forms on =
     let named = c.in_ok-bound.ensures.table in
     let view = view_of (files_of old) w in
     let is = given_as view (tables_of old.catalog) db on.stored i t b.places.items b.rows.items named c.in_ok-bound.ensures.bound c.in_ok-bound.ensures.rows c.in_ok-bound.ensures.places in
-    let long : length b.places.items ≡ length t.columns.items = ap length c.in_ok-bound.ensures.places ∙ places_long t.columns.items i.columns in
+    let long : length b.places.items ≡ length t.columns = ap length c.in_ok-bound.ensures.places ∙ places_long t.columns i.columns in
     let it = on.stored.each i.table t named in
     let reads : Reads old new = record { files = c.in_ok-bytes.ensures.same on.told; failed = refl; transaction = refl; catalog = refl } in
-    let inserted = c.in_ok-bytes.ensures.inserted it.page (on.stored.rows_at t.root) (sees old w db on i.table t named) in
-    let len = c.in_ok-bytes.ensures.len on.writer in
-    let first : 1 ≤ t.root = omega (arith, it.above) in
+    let inserted = subst (λ (bs : List ℕ). IsInserted bs t.root t.columns b.places.items (map (λ row. row.items) b.rows.items) (on.stored.rows_at t.root)) (sym bytes) (c.in_ok-bytes.ensures.inserted it.page (on.stored.rows_at t.root) (sees old w db on i.table t named)) in
+    let len = ap length bytes ∙ c.in_ok-bytes.ensures.len on.writer in
+    let first : 1 ≤ page.number = omega (arith, it.above, at) in
+    let fits = subst IsBytes (sym bytes) c.image_of.ensures.fits in
     put_works (statement.Change (change.Insert i)) old new w c.put.new.self db c.put.result page reads on (c.put.ensures.whole on.writer.whole first len) (c.put.ensures.puts on.writer.whole first len) c.put.ensures.unchanged
-    (worked laws old new w c.put.new.self db i t b.places.items (map (λ row. row.items) b.rows.items) page on reads named is long refl inserted)
+    (worked laws old new w c.put.new.self db i t b.places.items (map (λ row. row.items) b.rows.items) page on reads named is long at inserted c.held_rows_are_in_order.ensures fits len)

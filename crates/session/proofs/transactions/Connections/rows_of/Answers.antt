@@ -20,7 +20,7 @@ returns-in-Some-clause-answered g c m page rows shown there holds placed =
 pub returns-clause-answered : goal.returns-clause-answered
 returns-clause-answered g c m page rows shown there holds placed =
     let self = c.args.self.now in
-    let newest = c.snapshot-snapshot.ensures m shown in
+    let newest = c.snapshot-snapshot.ensures.newest m shown in
     let here = subst (λ (v : View). IsViewPage v c.args.source.root page) (sym (at_newest (files_of self) c.snapshot-snapshot.result newest)) (c.in_default.ensures.below m shown page there) in
     subst (λ (os : List Output). AnswersOrFails (answers_of os rows) c.rows_on.result) c.deref-2.ensures.value
     (c.rows_on.ensures.answered page rows shown.told (omega (arith, newest.seen)) here holds (subst (All (IsOf (Some c.args.source.width))) (sym c.deref-2.ensures.value) placed))

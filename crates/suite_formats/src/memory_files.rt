@@ -1,6 +1,6 @@
 //! Files in memory: what a crash leaves of them, and calls that fail.
 
-use crate::databases::{file, filled};
+use crate::files::{file, filled};
 use disk::{Disk, MemDisk};
 use std::test::*;
 

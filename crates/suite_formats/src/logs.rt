@@ -1,6 +1,6 @@
 //! Logs: their sums, header and frames, and the commits that snapshots see.
 
-use crate::databases::{SALTS, file, filled};
+use crate::files::{SALTS, file, filled};
 use disk::{Disk, MemDisk};
 use std::alloc::Global;
 use std::test::*;

@@ -1,0 +1,168 @@
+//! What pages were before they changed, and how that is put back.
+
+ghost use Rattle.std.specs.Prelude.{◌≡◌, ◌<◌, ◌≤◌, ◌+◌, ◌++◌, length, drop, set, take, vec_capacity, slice_index_or, IfErr, IfOk, IsTrue, OnOk};
+ghost use Rattle.pager.specs.Undo.{NumbersRise, needed, newest_stamp, stays, swapped, swapped_stamps, without, without_stamps};
+ghost use Rattle.std.specs.List.{insert};
+ghost use Rattle.sqlval.specs.declared.fault.Fault.TheVariants.{Memory};
+ghost use Rattle.pager.specs.Writers.{EndsWithin, IsAt, IsGapFor, Refills};
+
+use sqlval::R;
+use std::mem;
+use wal::PageImage;
+
+/// What a page was before a change.
+#[derive(Drop)]
+pub enum Saved {
+    /// A page of this number wasn't among the changed ones.
+    Added(u32),
+    /// It had this image, with this stamp.
+    Changed(PageImage, u64),
+}
+
+/// A moment to which a transaction's changes can go back.
+#[derive(Clone, Copy)]
+pub struct Mark {
+    /// How much was saved before it.
+    pub saved: usize,
+    /// Pages with a lesser stamp have the image that they had then.
+    pub stamp: u64,
+    /// How many pages the database had.
+    pub size: u32,
+    /// Whether a new object was among the changes.
+    pub has_new_objects: bool,
+}
+
+/// The place of a page among those by rising number, or the place where it would go.
+pub fn place_of(pages: &[PageImage], number: u32) -> Result<usize, usize>
+    ensures found { IfOk result (λ index. IsAt pages.now number index) }
+    ensures gap { NumbersRise 0 pages.now → IfErr result (λ index. IsGapFor pages.now number index) }
+    ensures within { IfErr result (λ index. index ≤ length pages.now) }
+{
+    pages.binary_search_by_key(&number, |page| page.number)
+}
+
+/// Puts a page in the place of another, and returns that.
+pub fn exchange(pages: &mut Vec<PageImage>, index: usize, page: PageImage) -> PageImage
+    requires { index < length pages.old.items }
+    ensures pages { pages.new.items ≡ set pages.old.items index page }
+    ensures was { result ≡ slice_index_or pages.old.items index result }
+{
+    mem::replace(&mut pages[index], page)
+}
+
+/// Gives the page at a place other bytes, as many as it has.
+pub fn refill(pages: &mut Vec<PageImage>, index: usize, bytes: &[u8])
+    requires within { index < length pages.old.items }
+    requires long { (d : PageImage) → length (slice_index_or pages.old.items index d).bytes.items ≡ length bytes.now }
+    ensures { Refills index bytes.now pages.old.items pages.new.items }
+{
+    pages[index].bytes.copy_from_slice(bytes);
+}
+
+/// Puts a page and its stamp in their place. A refused page changes nothing.
+pub fn insert_stamped(
+    pages: &mut Vec<PageImage>,
+    stamps: &mut Vec<u64>,
+    index: usize,
+    page: PageImage,
+    stamp: u64,
+) -> R<()>
+    requires within { index ≤ length pages.old.items }
+    requires even { length stamps.old.items ≡ length pages.old.items }
+    ensures pages { OnOk result (pages.new.items ≡ insert pages.old.items index page) }
+    ensures stamps { OnOk result (stamps.new.items ≡ insert stamps.old.items index stamp) }
+    ensures refused { IfErr result (λ fault. (fault ≡ Memory) × (pages.new.items ≡ pages.old.items) × (stamps.new.items ≡ stamps.old.items)) }
+{
+    stamps.reserve(1)?;
+    pages.insert(index, page)?;
+    let _ = stamps.insert(index, stamp);
+    Ok(())
+}
+
+/// Whether there are pages, and none past a size.
+pub fn ends_within(pages: &[PageImage], size: u32) -> bool
+    ensures within { IsTrue result → EndsWithin size pages.now }
+    ensures past { EndsWithin size pages.now → IsTrue result }
+{
+    match pages {
+        [] => false,
+        [.., last] => last.number <= size,
+    }
+}
+
+/// The stamp of the newest mark, or 0.
+pub fn newest_stamp(marks: &[Mark]) -> u64
+    ensures { result ≡ newest_stamp marks.now }
+{
+    match marks {
+        [] => 0,
+        [.., last] => last.stamp,
+    }
+}
+
+/// Gives a page its older image, where it is there.
+pub fn put_back(pages: &mut Vec<PageImage>, stamps: &mut Vec<u64>, page: PageImage, stamp: u64)
+    requires rises { NumbersRise 0 pages.old.items }
+    requires even { length stamps.old.items ≡ length pages.old.items }
+    ensures pages { pages.new.items ≡ swapped page pages.old.items }
+    ensures stamps { stamps.new.items ≡ swapped_stamps page.number stamp pages.old.items stamps.old.items }
+{
+    if let Ok(index) = place_of(pages, page.number) {
+        pages[index] = page;
+        stamps[index] = stamp;
+    }
+}
+
+/// Takes a page out, where it is there.
+pub fn take_out(pages: &mut Vec<PageImage>, stamps: &mut Vec<u64>, number: u32)
+    requires rises { NumbersRise 0 pages.old.items }
+    requires even { length stamps.old.items ≡ length pages.old.items }
+    ensures pages { pages.new.items ≡ without number pages.old.items }
+    ensures stamps { stamps.new.items ≡ without_stamps number pages.old.items stamps.old.items }
+{
+    if let Ok(index) = place_of(pages, number) {
+        let _ = pages.remove(index);
+        let _ = stamps.remove(index);
+    }
+}
+
+/// Whether what was saved has to stay for marks up to this stamp.
+fn stays(saved: &Saved, limit: u64) -> bool
+    ensures { result ≡ stays limit saved.now }
+{
+    match saved {
+        Saved::Added(_) => true,
+        Saved::Changed(_, stamp) => *stamp < limit,
+    }
+}
+
+/// Moves one that stays to the end of those that stayed, and returns where that is then.
+fn step(saved: &mut Vec<Saved>, to: usize, at: usize, limit: u64) -> usize
+    requires low { to ≤ at }
+    requires high { at < length saved.old.items }
+    ensures bounds { (to ≤ result) × (result ≤ at + 1) }
+    ensures len { length saved.new.items ≡ length saved.old.items }
+    ensures capacity { vec_capacity saved.new ≡ vec_capacity saved.old }
+    ensures same { take result saved.new.items ++ needed limit (drop (at + 1) saved.new.items) ≡ take to saved.old.items ++ needed limit (drop at saved.old.items) }
+{
+    if !stays(&saved[at], limit) {
+        return to;
+    }
+    saved.swap(to, at);
+    to + 1
+}
+
+/// Leaves out those from a place on that don't have to stay.
+pub fn leave_out(saved: &mut Vec<Saved>, from: usize, limit: u64)
+    requires { from ≤ length saved.old.items }
+    ensures left { saved.new.items ≡ take from saved.old.items ++ needed limit (drop from saved.old.items) }
+    ensures capacity { vec_capacity saved.new ≡ vec_capacity saved.old }
+{
+    let mut to = from;
+    let mut at = from;
+    'saved: while at < saved.len() {
+        to = step(saved, to, at, limit);
+        at += 1;
+    }
+    saved.truncate(to);
+}

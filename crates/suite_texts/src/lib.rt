@@ -1,0 +1,7 @@
+//! The tests of the lexer and the parsers, on public calls alone.
+#![tactic(auto)]
+
+#[cfg(test)]
+mod offsets;
+#[cfg(test)]
+mod texts;
