@@ -8,7 +8,7 @@ use Rattle.pager.specs.Writers.{IsConsistent, seen}
 use Rattle.pager.proofs.Seeing.{AreAlike, whole_same}
 use Rattle.pager.proofs.Sounding.{sound_alike}
 
-alike : (was back : Writer) → now_of back ≡ now_of was → IsOverTheSame was back → AreAlike was back
+pub alike : (was back : Writer) → now_of back ≡ now_of was → IsOverTheSame was back → AreAlike was back
 alike was back same over = record {
   changes = ap (λ (c : Changes). c.pages) same;
   size = ap (λ (c : Changes). c.size) same;

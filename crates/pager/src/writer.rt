@@ -46,6 +46,7 @@ impl Writer {
     ghost use Rattle.pager.specs.Commits.{CommitsPages, IsRefusedCommit, LeavesCommit, MayCommit};
     ghost use Rattle.pager.specs.Limits as limits;
     ghost use Rattle.pager.specs.Limits.{one_more, pages_of, page_size_of};
+    ghost use Rattle.pager.specs.Marks.{marks_of};
     ghost use Rattle.pager.specs.Sights.{bytes_of};
     ghost use Rattle.pager.specs.Sound.{GetsPage, IsSound, KeepsRest, most_of};
     ghost use Rattle.pager.specs.Views.{ViewHas, IsViewPage, Tells, View, changes_of, view_at};
@@ -133,7 +134,7 @@ impl Writer {
         ensures whole { IsConsistent self.old → 1 ≤ page.number → length page.bytes.items ≡ page_size_of self.old → OnOk result (IsConsistent self.new) }
         ensures puts { IsConsistent self.old → 1 ≤ page.number → length page.bytes.items ≡ page_size_of self.old → OnOk result (ReplacesPages (page ∷ []) self.old self.new) }
         ensures unchanged { IfErr result (λ fault. (fault ≡ Memory) × IsUnchanged self.old self.new) }
-        ensures objects { makes_objects self.new ≡ makes_objects self.old }
+        ensures kept { (makes_objects self.new ≡ makes_objects self.old) × (marks_of self.new ≡ marks_of self.old) }
         // A page that is already changed is replaced without fail.
         ensures replaced { IsConsistent self.old → IfErr result (λ fault. IsNotAmong (changes_of self.old) page.number) }
     {
@@ -155,6 +156,7 @@ impl Writer {
         ensures objects { OnOk result (IsTrue (makes_objects self.new)) }
         ensures puts { IsConsistent self.old → AreObjectPages (page_size_of self.old) schema root → OnOk result (ReplacesPages (schema ∷ root ∷ []) self.old self.new) }
         ensures unchanged { IsConsistent self.old → AreObjectPages (page_size_of self.old) schema root → IfErr result (λ fault. (fault ≡ Memory) × IsUnchanged self.old self.new) }
+        ensures kept { marks_of self.new ≡ marks_of self.old }
     {
         self.put(root)?;
         self.put(schema)?;

@@ -14,9 +14,9 @@ use Rattle.session.specs.Supported.{LeavesWith, StepSoFar, is_supported, working
 use Rattle.session.specs.Machine.{Machine, Connection, Idle, InTransactionOf, NoSnapshot, Reads, Writes, Rows, Refused, connection, is_writing, last_place, newest, with_connection}
 use Rattle.session.specs.Outcomes.{Outcome, RefusedBy, Work, Makes, IsRefused, Undoes, Binds, outcome, unless_busy, worked, worked_alone, write_outcome}
 use Rattle.session.specs.Steps.{Allowed, Instead}
-use Rattle.session.specs.Applying.{Reaches, RefusesWith, change_made, written}
-use Rattle.session.specs.declared.transactions.Write.{Write}
-use Rattle.session.specs.declared.transactions.Write.TheVariants as write
+use Rattle.session.specs.Changing.{Reaches, RefusesWith, change_made, written}
+use Rattle.session.specs.declared.changes.Write.{Write}
+use Rattle.session.specs.declared.changes.Write.TheVariants as write
 use Rattle.session.proofs.Stepping.{by_outcome, first_is, first_set, instead, no_other}
 
 -- ---- in a transaction

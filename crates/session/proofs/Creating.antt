@@ -52,14 +52,12 @@ use Rattle.pager.specs.declared.writer.Writer.{Writer}
 use Rattle.pager.proofs.HeaderFronts.{header_moves}
 use Rattle.pager.proofs.Seeing.{first_not_missing, whole_same}
 use Rattle.session.specs.Supported.{is_table_supported}
-use Rattle.session.specs.ConnectionState.{files_of}
 use Rattle.session.specs.NewTables.{IsListedAfter, IsMadeBeside, IsNewTableFault, IsRowFault, schema_row}
 use Rattle.session.specs.Outcomes.{of_known}
 use Rattle.session.specs.Schema.{AreRowsOf, IsCreateOf, IsRowOf}
 use Rattle.session.specs.Representation.{IsNewest, IsWriter}
 use Rattle.session.specs.Stored.{HaveOwnPages, IsRoot, IsStored, Stores}
-use Rattle.session.specs.Applying.{IsApplied, IsNotApplied, IsChangeRefusal, KeepsCommitted, Reaches, RefusesWith, Applies, CanApply, change_made}
-use Rattle.session.specs.declared.transactions.Connections.{Connections}
+use Rattle.session.specs.Changing.{CanChange, MakesChange, IsChangeMade, IsChangeRefusal, IsChangeRefused, KeepsListed, Listing, Reaches, RefusesWith, change_made, listing}
 use Rattle.session.proofs.SeenPages.{one_page}
 use Rattle.session.proofs.Showing.{the_same}
 use Rattle.session.proofs.Telling.{more_pages, one_row_more}
@@ -352,26 +350,23 @@ last_taken : (tables : List Table) (t : Table) → take (length (tables ++ t ∷
 last_taken tables t = take_at tables (t ∷ []) (length (tables ++ t ∷ []) - 1) (omega (arith, length-append tables (t ∷ [])))
 
 module _ {D : Type 0} {g : Ghosts D} where
-  abbrev with_catalog : Connections D g → Catalog → Connections D g
-  with_catalog c k = record { alloc = c.alloc; log = c.log; catalog = k; transaction = c.transaction; has_failed = c.has_failed }
+  abbrev with_catalog : Listing D g → Catalog → Listing D g
+  with_catalog c k = listing c.files k
 
-  keeps : (c : Connections D g) (k : Catalog) → Tells (files_of c) → committed_in k ≡ committed_in c.catalog → take (committed_in c.catalog) (tables_of k) ≡ take (committed_in c.catalog) (tables_of c.catalog) → KeepsCommitted c (with_catalog c k)
-  keeps c k told committed tables = record { files = the_same (files_of c) told; failed = refl; transaction = refl; committed = committed; tables = tables }
+  keeps : (c : Listing D g) (k : Catalog) → Tells c.files → committed_in k ≡ committed_in c.catalog → take (committed_in c.catalog) (tables_of k) ≡ take (committed_in c.catalog) (tables_of c.catalog) → KeepsListed c (with_catalog c k)
+  keeps c k told committed tables = record { files = the_same c.files told; committed = committed; tables = tables }
 
   -- a refusal before anything was done
-  pub refused_first : (s : Statement) (c : Connections D g) (w : Writer) (db : Database) (r : Result ⊤ Fault) (f : Fault) → IsErrAnd r (λ e. e ≡ f) → CanApply c w db → IsChangeRefusal s c w db f → Applies s c w db r c w
+  pub refused_first : (s : Statement) (c : Listing D g) (w : Writer) (db : Database) (r : Result ⊤ Fault) (f : Fault) → IsErrAnd r (λ e. e ≡ f) → CanChange c w db → IsChangeRefusal s c w db f → MakesChange s c w db r c w
   refused_first s c w db (Ok x) f is applies why = absurd is
-  refused_first s c w db (Err e) f is applies why = subst (IsNotApplied s c w db c w) (sym is) (record { kept = keeps c c.catalog applies.told refl refl; tables = refl; applies = applies; why = why })
+  refused_first s c w db (Err e) f is applies why = subst (IsChangeRefused s c w db c w) (sym is) (record { kept = keeps c c.catalog applies.told refl refl; tables = refl; applies = applies; why = why })
 
-  module _ (c : Connections D g) (w : Writer) (db : Database) (applies : CanApply c w db) where
+  module _ (c : Listing D g) (w : Writer) (db : Database) (applies : CanChange c w db) where
     abbrev under : View
-    under = view_at (files_of c) (snapshot_of w)
+    under = view_at c.files (snapshot_of w)
 
     first_page : (page : List ℕ) → ((v : View) → ViewHas (seen v w) 1 page) → page ≡ applies.stored.first.page
     first_page page shown = one_page (seen under w) 1 page applies.stored.first.page (shown under) applies.stored.first.there.has
-
-    served_size : IsPageSize (page_size_of w)
-    served_size = subst IsPageSize (applies.stored.first.sized ∙ sym applies.writer.page_size) applies.stored.first.header_is.served
 
     long_page : (page : List ℕ) → IsAmong (changes_of w) 1 page → length page ≡ page_size_of w
     long_page page among = among_long 0 (pages_of w) (page_size_of w) (changes_of w) 1 page applies.writer.whole.pages among
@@ -405,9 +400,9 @@ module _ {D : Type 0} {g : Ghosts D} where
         by_why (inr (inr row)) = of_row row
 
     -- the page of its tree isn't made
-    pub why_no_page : (s : Statement) (page : List ℕ) (size : ℕ) (f : Fault) → IsAmong (changes_of w) 1 page → size ≡ length page → (f ≡ fault.Memory) ⊎ ((f ≡ fault.Unsupported RowSize) × (Fits size 0 [] → ⊥)) → IsChangeRefusal s c w db f
-    why_no_page s page size f among long (inl memory) = inl memory
-    why_no_page s page size f among long (inr full) = absurd (full.1 (fits_empty size (subst IsPageSize (sym (long ∙ long_page page among)) served_size)))
+    pub why_no_page : (s : Statement) (size : ℕ) (f : Fault) → size ≡ (state_of c.files).page_size → (f ≡ fault.Memory) ⊎ ((f ≡ fault.Unsupported RowSize) × (Fits size 0 [] → ⊥)) → IsChangeRefusal s c w db f
+    why_no_page s size f is (inl memory) = inl memory
+    why_no_page s size f is (inr full) = absurd (full.1 (fits_empty size (subst IsPageSize (applies.stored.first.sized ∙ sym is) applies.stored.first.header_is.served)))
 
     -- ---- a table and its pages
 
@@ -428,7 +423,7 @@ module _ {D : Type 0} {g : Ghosts D} where
       pub size : length schema.bytes.items ≡ length page
       pub front : take 100 schema.bytes.items ≡ take 100 page
       pub empty : IsTableLeaf root.bytes.items 0 []
-      pub long : length root.bytes.items ≡ length schema.bytes.items
+      pub long : length root.bytes.items ≡ (state_of c.files).page_size
 
     module _ (d : TableDefinition) (t : Table) (schema root : PageImage) (m : HasMade d t schema root) where
       one_more_page : IsOnePast (pages_of w) (page_size_of w) root.number
@@ -439,7 +434,7 @@ module _ {D : Type 0} {g : Ghosts D} where
         first = m.first;
         behind = omega (arith, one_more_page.is, applies.stored.first.there.last);
         schema_is_long = m.size ∙ long_page m.page m.found;
-        root_is_long = m.long ∙ m.size ∙ long_page m.page m.found;
+        root_is_long = m.long ∙ sym applies.writer.page_size;
       }
 
       creates : (left : Writer) → ReplacesPages (schema ∷ root ∷ []) w left → Creates under w left (tables_of c.catalog) db d t schema root
@@ -462,20 +457,20 @@ module _ {D : Type 0} {g : Ghosts D} where
             puts = puts;
           }
 
-      writer_left : (left : Writer) → IsConsistent left → ReplacesPages (schema ∷ root ∷ []) w left → IsWriter (files_of c) left
+      writer_left : (left : Writer) → IsConsistent left → ReplacesPages (schema ∷ root ∷ []) w left → IsWriter c.files left
       writer_left left whole puts = record {
-        newest = subst (IsNewest (files_of c)) (sym puts.snapshot) applies.writer.newest;
+        newest = subst (IsNewest c.files) (sym puts.snapshot) applies.writer.newest;
         whole = whole;
         page_size = puts.page_size ∙ applies.writer.page_size;
         grown = λ n past last none. by_size n past last (puts.rest n none) (cases_lt (pages_of w) n);
       }
         where
-          by_size : (n : ℕ) → (state_of (files_of c)).size < n → n ≤ pages_of left → IsNotAmong (schema ∷ root ∷ []) n × IsNotAmong (changes_of w) n → (pages_of w < n) ⊎ (n ≤ pages_of w) → ⊥
+          by_size : (n : ℕ) → (state_of c.files).size < n → n ≤ pages_of left → IsNotAmong (schema ∷ root ∷ []) n × IsNotAmong (changes_of w) n → (pages_of w < n) ⊎ (n ≤ pages_of w) → ⊥
           by_size n past last none (inl behind) = none.0.1.0 (omega (arith, behind, last, one_more_page.is, grown_to under w left (tables_of c.catalog) db d t schema root (creates left puts)))
           by_size n past last none (inr le) = applies.writer.grown n past le none.1
 
       pub has_worked : (sql : List ℕ) (k : Catalog) (left : Writer) → has_no_rules d ≡ true → tables_of k ≡ tables_of c.catalog ++ t ∷ [] → committed_in k ≡ committed_in c.catalog → IsConsistent left → ReplacesPages (schema ∷ root ∷ []) w left
-          → IsApplied (creating sql d) c db (with_catalog c k) left
+          → IsChangeMade (creating sql d) c db (with_catalog c k) left
       has_worked sql k left plain added committed whole puts =
           let made : Database = with_object db d.name (ATable (plain_table t [])) in
           record {
@@ -486,7 +481,7 @@ module _ {D : Type 0} {g : Ghosts D} where
               told = applies.told;
               settled = applies.settled;
               writer = writer_left left whole puts;
-              stored = subst (λ (s : Snapshot). Stores (seen (view_at (files_of c) s) left) (tables_of k) made) (sym puts.snapshot)
+              stored = subst (λ (s : Snapshot). Stores (seen (view_at c.files s) left) (tables_of k) made) (sym puts.snapshot)
                   (subst (λ (ts : List Table). Stores (seen under left) ts made) (sym added) (stores_more under w left (tables_of c.catalog) db d t schema root (creates left puts)));
               listed = omega (arith, committed, applies.listed, ap length added, length-append (tables_of c.catalog) (t ∷ []));
             };
@@ -494,34 +489,34 @@ module _ {D : Type 0} {g : Ghosts D} where
 
       -- the pages were put
       pub table_put : (sql : List ℕ) (k : Catalog) (left : Writer) (r : Result ⊤ Fault) → is_err r ≡ false → has_no_rules d ≡ true → tables_of k ≡ tables_of c.catalog ++ t ∷ [] → committed_in k ≡ committed_in c.catalog
-          → OnOk r (IsConsistent left) → OnOk r (ReplacesPages (schema ∷ root ∷ []) w left) → Applies (creating sql d) c w db r (with_catalog c k) left
+          → OnOk r (IsConsistent left) → OnOk r (ReplacesPages (schema ∷ root ∷ []) w left) → MakesChange (creating sql d) c w db r (with_catalog c k) left
       table_put sql k left (Ok x) fine plain added committed whole puts = has_worked sql k left plain added committed whole puts
       table_put sql k left (Err f) fine plain added committed whole puts = absurd (false≢true (sym fine))
 
     -- ---- the pages weren't put
 
-    writer_stays : (left : Writer) → IsUnchanged w left → IsWriter (files_of c) left
+    writer_stays : (left : Writer) → IsUnchanged w left → IsWriter c.files left
     writer_stays left same = record {
-      newest = subst (IsNewest (files_of c)) (sym same.snapshot) applies.writer.newest;
+      newest = subst (IsNewest c.files) (sym same.snapshot) applies.writer.newest;
       whole = whole_same w left (record { changes = same.changes; size = same.size; page_size = same.page_size; snapshot = same.snapshot }) applies.writer.whole;
       page_size = same.page_size ∙ applies.writer.page_size;
       grown = λ n past last none. applies.writer.grown n past (omega (arith, last, same.size)) (subst (λ (ps : List PageImage). IsNotAmong ps n) same.changes none);
     }
 
-    view_stays : (left : Writer) → IsUnchanged w left → view_of (files_of c) left ≡ view_of (files_of c) w
-    view_stays left same = λ i. after (view_at (files_of c) (same.snapshot i)) (same.changes i) (same.size i)
+    view_stays : (left : Writer) → IsUnchanged w left → view_of c.files left ≡ view_of c.files w
+    view_stays left same = λ i. after (view_at c.files (same.snapshot i)) (same.changes i) (same.size i)
 
-    still_works : (k : Catalog) (left : Writer) → tables_of k ≡ tables_of c.catalog → committed_in k ≡ committed_in c.catalog → IsUnchanged w left → CanApply (with_catalog c k) left db
+    still_works : (k : Catalog) (left : Writer) → tables_of k ≡ tables_of c.catalog → committed_in k ≡ committed_in c.catalog → IsUnchanged w left → CanChange (with_catalog c k) left db
     still_works k left tables committed same = record {
       told = applies.told;
       settled = applies.settled;
       writer = writer_stays left same;
-      stored = subst (λ (v : View). Stores v (tables_of k) db) (sym (view_stays left same)) (subst (λ (ts : List Table). Stores (view_of (files_of c) w) ts db) (sym tables) applies.stored);
+      stored = subst (λ (v : View). Stores v (tables_of k) db) (sym (view_stays left same)) (subst (λ (ts : List Table). Stores (view_of c.files w) ts db) (sym tables) applies.stored);
       listed = omega (arith, applies.listed, committed, ap length tables);
     }
 
     pub table_taken_back : (s : Statement) (k next : Catalog) (t : Table) (left : Writer) (r : Result ⊤ Fault) → is_err r ≡ true → tables_of k ≡ tables_of c.catalog ++ t ∷ [] → committed_in k ≡ committed_in c.catalog
-        → tables_of next ≡ take (length (tables_of k) - 1) (tables_of k) → committed_in next ≡ committed_in k → IfErr r (λ f. (f ≡ fault.Memory) × IsUnchanged w left) → Applies s c w db r (with_catalog c next) left
+        → tables_of next ≡ take (length (tables_of k) - 1) (tables_of k) → committed_in next ≡ committed_in k → IfErr r (λ f. (f ≡ fault.Memory) × IsUnchanged w left) → MakesChange s c w db r (with_catalog c next) left
     table_taken_back s k next t left (Ok x) failed added committed back still same = absurd (false≢true failed)
     table_taken_back s k next t left (Err f) failed added committed back still same =
         let tables : tables_of next ≡ tables_of c.catalog = back ∙ ap (λ (ts : List Table). take (length ts - 1) ts) added ∙ last_taken (tables_of c.catalog) t in

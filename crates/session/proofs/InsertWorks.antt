@@ -44,14 +44,12 @@ use Rattle.pager.specs.Limits.{page_size_of, pages_of}
 use Rattle.pager.specs.Views.{IsViewPage, View, after, changes_of, view_at, view_of}
 use Rattle.pager.specs.Writers.{IsUnchanged, IsConsistent, ReplacesPages, seen, snapshot_of}
 use Rattle.pager.specs.declared.writer.Writer.{Writer}
-use Rattle.pager.proofs.Seeing.{whole_same}
+use Rattle.pager.proofs.Seeing.{AreAlike, whole_same}
 use Rattle.session.specs.Supported.{is_source_supported}
-use Rattle.session.specs.ConnectionState.{files_of, has_failed_in}
 use Rattle.session.specs.Outcomes.{of_answer}
 use Rattle.session.specs.Representation.{IsNewest, IsWriter, ShowTheSame}
 use Rattle.session.specs.Stored.{LacksRoom, IsStored, Stores}
-use Rattle.session.specs.Applying.{IsApplied, IsNotApplied, IsChangeRefusal, KeepsCommitted, Reaches, RefusesWith, SeesRows, Applies, CanApply, change_made}
-use Rattle.session.specs.declared.transactions.Connections.{Connections}
+use Rattle.session.specs.Changing.{CanChange, MakesChange, IsChangeMade, IsChangeRefusal, IsChangeRefused, KeepsListed, Listing, Reaches, RefusesWith, SeesRows, change_made}
 use Rattle.session.proofs.Inserting.{Laws, IsMade, listed_table, made, not_refused, reaches, refused, rows_here, rows_with, stores_put}
 use Rattle.session.proofs.Settled.{still_settled}
 use Rattle.session.proofs.Showing.{still_writer}
@@ -140,70 +138,66 @@ pub given_as : (view : View) (tables : List Table) (db : Database) (held : Store
 given_as view tables db held i t places rows named columns given is =
     subst (λ (ps : List (Option ℕ)). IsGivenAs db i t ps (map (λ row. row.items) rows)) (sym is) (gives db tables (known_listed held.rows_at tables db held.lists) held.once i.table i.columns i.source t rows named columns given)
 
--- ---- the connections after it
+-- ---- what is listed after it
 
 pub unchanged : (w : Writer) → IsUnchanged w w
 unchanged w = record { changes = refl; size = refl; page_size = refl; snapshot = refl; objects = refl; marks = refl }
 
 module _ {D : Type 0} {g : Ghosts D} where
   -- nothing but the files has changed, and these were read at most
-  pub record Reads (old new : Connections D g) : Type 0 where
-    pub files : ShowTheSame (files_of old) (files_of new)
-    pub failed : has_failed_in new ≡ has_failed_in old
-    pub transaction : new.transaction ≡ old.transaction
+  pub record Reads (old new : Listing D g) : Type 0 where
+    pub files : ShowTheSame old.files new.files
     pub catalog : new.catalog ≡ old.catalog
 
-  keeps : (old new : Connections D g) → Reads old new → KeepsCommitted old new
+  keeps : (old new : Listing D g) → Reads old new → KeepsListed old new
   keeps old new reads = record {
     files = reads.files;
-    failed = reads.failed;
-    transaction = reads.transaction;
     committed = ap committed_in reads.catalog;
     tables = ap (λ (c : Catalog). take (committed_in old.catalog) (tables_of c)) reads.catalog;
   }
 
-  -- a writer that differs in nothing
-  writer_same : (files : Log D g) (w v : Writer) → IsUnchanged w v → IsWriter files w → IsWriter files v
+  -- a writer that would commit the same
+  pub writer_same : (files : Log D g) (w v : Writer) → AreAlike w v → IsWriter files w → IsWriter files v
   writer_same files w v same is = record {
     newest = subst (IsNewest files) (sym same.snapshot) is.newest;
-    whole = whole_same w v (record { changes = same.changes; size = same.size; page_size = same.page_size; snapshot = same.snapshot }) is.whole;
+    whole = whole_same w v same is.whole;
     page_size = same.page_size ∙ is.page_size;
     grown = λ number past last none. is.grown number past (omega (arith, last, same.size)) (subst (λ (ps : List PageImage). IsNotAmong ps number) same.changes none);
   }
 
-  still_works : (old new : Connections D g) (w v : Writer) (db : Database) → Reads old new → IsUnchanged w v → CanApply old w db → CanApply new v db
+  pub still_works : (old new : Listing D g) (w v : Writer) (db : Database) → Reads old new → AreAlike w v → CanChange old w db → CanChange new v db
   still_works old new w v db reads same on = record {
     told = reads.files.told;
-    settled = still_settled (files_of old) (files_of new) reads.files on.settled;
-    writer = writer_same (files_of new) w v same (still_writer (files_of old) (files_of new) w reads.files on.writer);
-    stored = subst (λ (c : Catalog). Stores (view_of (files_of new) v) (tables_of c) db) (sym reads.catalog) (subst (λ (x : View). Stores x (tables_of old.catalog) db) (sym view) on.stored);
+    settled = still_settled old.files new.files reads.files on.settled;
+    writer = writer_same new.files w v same (still_writer old.files new.files w reads.files on.writer);
+    stored = subst (λ (c : Catalog). Stores (view_of new.files v) (tables_of c) db) (sym reads.catalog) (subst (λ (x : View). Stores x (tables_of old.catalog) db) (sym view) on.stored);
     listed = subst (λ (c : Catalog). committed_in c ≤ length (tables_of c)) (sym reads.catalog) on.listed;
   }
     where
-      view : view_of (files_of new) v ≡ view_of (files_of old) w
-      view = (λ k. after (view_at (files_of new) (same.snapshot k)) (same.changes k) (same.size k)) ∙ ap (λ (x : View). after x (changes_of w) (pages_of w)) (reads.files.at (snapshot_of w))
+      view : view_of new.files v ≡ view_of old.files w
+      view = (λ k. after (view_at new.files (same.snapshot k)) (same.changes k) (same.size k)) ∙ ap (λ (x : View). after x (changes_of w) (pages_of w)) (reads.files.at (snapshot_of w))
 
-  pub unworked : (s : Statement) (old new : Connections D g) (w v : Writer) (db : Database) (r : Result ⊤ Fault) (f : Fault) → IsErrAnd r (λ e. e ≡ f) → Reads old new → IsUnchanged w v → CanApply old w db → IsChangeRefusal s old w db f
-      → Applies s old w db r new v
+  pub unworked : (s : Statement) (old new : Listing D g) (w v : Writer) (db : Database) (r : Result ⊤ Fault) (f : Fault) → IsErrAnd r (λ e. e ≡ f) → Reads old new → IsUnchanged w v → CanChange old w db → IsChangeRefusal s old w db f
+      → MakesChange s old w db r new v
   unworked s old new w v db (Ok done) f is reads same on why = absurd is
-  unworked s old new w v db (Err e) f is reads same on why = subst (λ (x : Fault). IsNotApplied s old w db new v x) (sym is) (record {
+  unworked s old new w v db (Err e) f is reads same on why = subst (λ (x : Fault). IsChangeRefused s old w db new v x) (sym is) (record {
     kept = keeps old new reads;
     tables = ap tables_of reads.catalog;
-    applies = still_works old new w v db reads same on;
+    applies = still_works old new w v db reads (record { changes = same.changes; size = same.size; page_size = same.page_size; snapshot = same.snapshot }) on;
     why = why;
   })
 
-  pub refused_at_once : (s : Statement) (old : Connections D g) (w : Writer) (db : Database) (f : Fault) → (f ≡ fault.Memory) ⊎ RefusesWith (change_made s db) (refusal_of f) → IsChangeRefusal s old w db f
+  pub refused_at_once : (s : Statement) (old : Listing D g) (w : Writer) (db : Database) (f : Fault) → (f ≡ fault.Memory) ⊎ RefusesWith (change_made s db) (refusal_of f) → IsChangeRefusal s old w db f
   refused_at_once s old w db f (inl memory) = inl memory
   refused_at_once s old w db f (inr why) = inr (inr (inr (inl why)))
 
   -- what the writer sees of a table's page
-  pub sees : (c : Connections D g) (w : Writer) (db : Database) (on : CanApply c w db) (name : Name) (t : Table) (named : table_named name (tables_of c.catalog) ≡ Some t)
-      → SeesRows (files_of c) w t (on.stored.each name t named).page (on.stored.rows_at t.root)
+  pub sees : (c : Listing D g) (w : Writer) (db : Database) (on : CanChange c w db) (name : Name) (t : Table) (named : table_named name (tables_of c.catalog) ≡ Some t)
+      → SeesRows c.files w t (on.stored.each name t named).page (on.stored.rows_at t.root)
   sees c w db on name t named = (let it = on.stored.each name t named in record { told = on.told; writer = on.writer; there = it.there; holds = it.holds })
 
-  pub put_works : (s : Statement) (old new : Connections D g) (w v : Writer) (db : Database) (r : Result ⊤ Fault) (page : PageImage) → Reads old new → CanApply old w db → OnOk r (IsConsistent v) → OnOk r (ReplacesPages (page ∷ []) w v)
-      → IfErr r (λ f. (f ≡ fault.Memory) × IsUnchanged w v) → (IsConsistent v → ReplacesPages (page ∷ []) w v → IsApplied s old db new v) → Applies s old w db r new v
+  pub put_works : (s : Statement) (old new : Listing D g) (w v : Writer) (db : Database) (r : Result ⊤ Fault) (page : PageImage) → Reads old new → CanChange old w db → OnOk r (IsConsistent v) → OnOk r (ReplacesPages (page ∷ []) w v)
+      → IfErr r (λ f. (f ≡ fault.Memory) × IsUnchanged w v) → (IsConsistent v → ReplacesPages (page ∷ []) w v → IsChangeMade s old db new v) → MakesChange s old w db r new v
   put_works s old new w v db (Ok done) page reads on whole puts refused all = all whole puts
   put_works s old new w v db (Err f) page reads on whole puts refused all = unworked s old new w v db (Err f) f refl reads refused.1 on (inl refused.0)
 
@@ -216,25 +210,25 @@ module _ {D : Type 0} {g : Ghosts D} where
     grown = λ number past last none. is.grown number past (omega (arith, last, puts.size, max-eq_left within)) (puts.rest number none).1;
   }
 
-  pub worked : (laws : Laws) (old new : Connections D g) (w v : Writer) (db : Database) (i : Insert) (t : Table) (places : List (Option ℕ)) (given : List (List Value)) (page : PageImage) (on : CanApply old w db) → Reads old new
+  pub worked : (laws : Laws) (old new : Listing D g) (w v : Writer) (db : Database) (i : Insert) (t : Table) (places : List (Option ℕ)) (given : List (List Value)) (page : PageImage) (on : CanChange old w db) → Reads old new
       → table_named i.table (tables_of old.catalog) ≡ Some t → IsGivenAs db i t places given → length places ≡ length t.columns → page.number ≡ t.root
       → IsInserted page.bytes.items t.root t.columns places given (on.stored.rows_at t.root) → RowsInOrder → IsBytes page.bytes.items → length page.bytes.items ≡ page_size_of w
-      → IsConsistent v → ReplacesPages (page ∷ []) w v → IsApplied (statement.Change (kind.Insert i)) old db new v
+      → IsConsistent v → ReplacesPages (page ∷ []) w v → IsChangeMade (statement.Change (kind.Insert i)) old db new v
   worked laws old new w v db i t places given page on reads named is long at inserted rows_in_order bytes len whole puts = record {
     kept = keeps old new reads;
     made = m.made;
-    reaches = reaches laws (view_of (files_of old) w) (tables_of old.catalog) db on.stored i t places given named is long it.page it.holds m.made m.is;
+    reaches = reaches laws (view_of old.files w) (tables_of old.catalog) db on.stored i t places given named is long it.page it.holds m.made m.is;
     applies = record {
       told = reads.files.told;
-      settled = still_settled (files_of old) (files_of new) reads.files on.settled;
-      writer = still_writer (files_of old) (files_of new) v reads.files (put_writer (files_of old) w v page (omega (arith, at, it.there.last)) on.writer whole puts);
-      stored = subst (λ (c : Catalog). Stores (view_of (files_of new) v) (tables_of c) m.made) (sym reads.catalog) (subst (λ (x : View). Stores x (tables_of old.catalog) m.made) (sym view)
-          (stores_put (view_at (files_of old) (snapshot_of w)) w v (tables_of old.catalog) db m.made page i.table t inserted.added on.stored puts named at inserted.holds fit m.lists m.only m.in_order));
+      settled = still_settled old.files new.files reads.files on.settled;
+      writer = still_writer old.files new.files v reads.files (put_writer old.files w v page (omega (arith, at, it.there.last)) on.writer whole puts);
+      stored = subst (λ (c : Catalog). Stores (view_of new.files v) (tables_of c) m.made) (sym reads.catalog) (subst (λ (x : View). Stores x (tables_of old.catalog) m.made) (sym view)
+          (stores_put (view_at old.files (snapshot_of w)) w v (tables_of old.catalog) db m.made page i.table t inserted.added on.stored puts named at inserted.holds fit m.lists m.only m.in_order));
       listed = subst (λ (c : Catalog). committed_in c ≤ length (tables_of c)) (sym reads.catalog) on.listed;
     };
   }
     where
-      it : IsStored (view_of (files_of old) w) on.stored.rows_at t
+      it : IsStored (view_of old.files w) on.stored.rows_at t
       it = on.stored.each i.table t named
 
       small : length page.bytes.items ≤ 65536
@@ -247,7 +241,7 @@ module _ {D : Type 0} {g : Ghosts D} where
       fit = rows_in_order page.bytes.items t.root t (on.stored.rows_at t.root ++ inserted.added) bytes small inserted.holds
 
       m : IsMade on.stored.rows_at (tables_of old.catalog) db i t inserted.added
-      m = made laws (view_of (files_of old) w) (tables_of old.catalog) db on.stored i t places given named is long it.page it.holds inserted.added inserted.answer
+      m = made laws (view_of old.files w) (tables_of old.catalog) db on.stored i t places given named is long it.page it.holds inserted.added inserted.answer
 
-      view : view_of (files_of new) v ≡ seen (view_at (files_of old) (snapshot_of w)) v
-      view = ap (λ (s : Snapshot). after (view_at (files_of new) s) (changes_of v) (pages_of v)) puts.snapshot ∙ ap (λ (x : View). after x (changes_of v) (pages_of v)) (reads.files.at (snapshot_of w))
+      view : view_of new.files v ≡ seen (view_at old.files (snapshot_of w)) v
+      view = ap (λ (s : Snapshot). after (view_at new.files s) (changes_of v) (pages_of v)) puts.snapshot ∙ ap (λ (x : View). after x (changes_of v) (pages_of v)) (reads.files.at (snapshot_of w))

@@ -49,7 +49,7 @@ use Rattle.session.specs.Outcomes.{of_answer}
 use Rattle.session.specs.Representation.{IsWriter}
 use Rattle.session.specs.Schema.{AreRowsOf}
 use Rattle.session.specs.Stored.{IsStored, Stores}
-use Rattle.session.specs.Applying.{Reaches, RefusesWith, change_made}
+use Rattle.session.specs.Changing.{Reaches, RefusesWith, change_made}
 use Rattle.session.specs.declared.transactions.Transaction.TheVariants as transaction
 use Rattle.session.proofs.SeenPages.{at_newest, below_shown}
 

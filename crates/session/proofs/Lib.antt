@@ -14,6 +14,7 @@ pub mod SeenPages
 pub mod Beginning
 pub mod Applying
 pub mod Writing
+pub mod Marked
 pub mod Creating
 pub mod Committing
 pub mod CommitCrashes

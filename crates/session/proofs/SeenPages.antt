@@ -1,6 +1,6 @@
 -- The pages that the first connection sees.
-use Rattle.std.proofs.Common.{◌≡◌, ◌⊎◌, ◌≤◌, inl, inr, refl, sym, subst, ◌∙◌, ℕ, List, map, Ok, Err, arith}
-use Rattle.std.specs.Prelude.{Option, Some, None, Result, IfSome, IfNone, IsErrAnd, Vec, ◌↔◌}
+use Rattle.std.proofs.Common.{◌≡◌, ◌⊎◌, ◌≤◌, inl, inr, refl, subst, ◌∙◌, ℕ, List, map, Ok, Err, arith}
+use Rattle.std.specs.Prelude.{Result, IsErrAnd, Vec, ◌↔◌}
 use Rattle.std.proofs.lemmas.Bool.{cases_lt}
 use Rattle.std.specs.declared.alloc.Global.{Global}
 use Rattle.disk.specs.declared.device.Disk.{Ghosts}
@@ -43,16 +43,6 @@ answers answer (Err e) (inr refused) = inr (inr refused)
 pub one_page : (view : View) (number : ℕ) (a b : List ℕ) → ViewHas view number a → ViewHas view number b → a ≡ b
 one_page view number a b = page_one view.db view.page_size view.frames number a b
 
--- ---- options
-
-pub some_of : {A : Type 0} (P Q : A → Type 0) (o : Option A) → ((x : A) → P x → Q x) → IfSome o P → IfSome o Q
-some_of P Q None go is = tt
-some_of P Q (Some x) go is = go x is
-
-pub none_of : {A : Type 0} (P Q R : Type 0) (o : Option A) → (P → Q → R) → IfNone o P → IfNone o Q → IfNone o R
-none_of P Q R None go p q = go p q
-none_of P Q R (Some x) go p q = tt
-
 module _ {D : Type 0} {g : Ghosts D} where
   pub at_newest : (files : Log D g) (snapshot : Snapshot) → IsNewest files snapshot → view_at files snapshot ≡ newest_view files
   at_newest files snapshot is = λ i. record {
@@ -65,11 +55,7 @@ module _ {D : Type 0} {g : Ghosts D} where
   pub writer_of : (files : Log D g) (catalog : Catalog) (last : ℕ) (t : Transaction) (k : Connection) (w : Writer) → t ≡ transaction.Writing w → IsTransaction files catalog last t k → IsWriter files w
   writer_of files catalog last t k w is are = (subst (λ (x : Transaction). IsTransaction files catalog last x k) is are).2
 
-  -- a page that a writer has changed
-  pub changed_shown : (files : Log D g) (t : Transaction) (w : Writer) (number : ℕ) (page : List ℕ) → t ≡ transaction.Writing w → ((view : View) → ViewHas (seen view w) number page) → ViewHas (seen_in t files) number page
-  changed_shown files t w number page is has = subst (λ (x : Transaction). ViewHas (seen_in x files) number page) (sym is) (has (view_at files (snapshot_of w)))
-
-  -- a page that it hasn't
+  -- a page that a writer hasn't changed
   pub below_shown : (files : Log D g) (t : Transaction) (w : Writer) (number : ℕ) → t ≡ transaction.Writing w → IsWriter files w → IsNotAmong (changes_of w) number
       → ((view : View) (bytes : List ℕ) → ViewHas (seen view w) number bytes ↔ ViewHas view number bytes) → (bytes : List ℕ) → IsViewPage (seen_in t files) number bytes → IsViewPage (newest_view files) number bytes
   below_shown files t w number is stands none same bytes page =

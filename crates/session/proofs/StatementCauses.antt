@@ -1,5 +1,5 @@
 -- Which refusals of statements have which causes.
-use Rattle.std.proofs.Common.{◌≡◌, inl, inr, refl, sym, ap, subst, ◌∙◌, true, false}
+use Rattle.std.proofs.Common.{◌≡◌, inl, inr, refl, sym, ap, subst, ◌∙◌, false}
 use Rattle.std.specs.Prelude.{⊤, Result, Ok, Err, IfErr}
 use Rattle.disk.specs.declared.device.Disk.{Ghosts}
 use Rattle.sqlval.specs.declared.fault.Fault.{Fault}
@@ -9,17 +9,16 @@ use Rattle.syntax.specs.declared.statement.Statement.TheVariants as statement
 use Rattle.wal.specs.declared.log.Log.{Log}
 use Rattle.catalog.specs.Database.{Database}
 use Rattle.pager.specs.declared.writer.Writer.{Writer}
-use Rattle.session.specs.Applying.{CanApply, CommitsChanges, IsInDoubt, IsPast, IsUncommitted, written}
+use Rattle.session.specs.Applying.{CanApply, CommitsChanges, IsPast}
+use Rattle.session.specs.Changing.{written}
 use Rattle.session.specs.ConnectionState.{files_of, has_failed_in}
 use Rattle.session.specs.Failing.{IsPastIn, IsPastLimits, IsRefusedFor, has_written}
-use Rattle.session.specs.Machine.{Machine}
-use Rattle.session.specs.Representation.{RepresentsRunning}
 use Rattle.session.specs.declared.transactions.Connections.{Connections}
 use Rattle.session.specs.declared.transactions.Transaction.{Transaction}
 use Rattle.session.specs.declared.transactions.Transaction.TheVariants as transaction
-use Rattle.session.specs.declared.transactions.Write.{Write}
-use Rattle.session.specs.declared.transactions.Write.TheVariants as write
-use Rattle.session.proofs.CommitSteps.{WritesIn, writes_in}
+use Rattle.session.specs.declared.changes.Write.{Write}
+use Rattle.session.specs.declared.changes.Write.TheVariants as write
+use Rattle.session.proofs.CommitSteps.{writes_in}
 
 io_not_full : fault.Io ≡ fault.Full → ⊥
 io_not_full bad = absurd cc

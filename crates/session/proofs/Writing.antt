@@ -26,12 +26,13 @@ use Rattle.session.specs.Outcomes.{Outcome, Work, Makes, IsRefused, Undoes, Bind
 use Rattle.session.specs.Steps.{Allowed, after_commit}
 use Rattle.session.specs.Stored.{LacksRoom, Stores}
 use Rattle.session.specs.Representation.{AreCommitted, FindsNoRoom, RepresentsRunning, IsTransaction, OnlyReads, ShowTheSame, StepsOn, StepsTo, done_reply, is_idle, is_reading, seen_in, with_transaction}
-use Rattle.session.specs.Applying.{CommitsChanges, EndsAlone, IsApplied, IsCommitCause, IsDropped, IsNotApplied, IsChangeRefusal, Reaches, Applies, CanApply, change_made, written}
+use Rattle.session.specs.Applying.{CommitsChanges, EndsAlone, IsApplied, IsCommitCause, IsDropped, IsNotApplied, KeepsCommitted, Applies, CanApply, listing_of}
+use Rattle.session.specs.Changing.{MakesChange, IsChangeRefusal, KeepsListed, Reaches, change_made, written}
 use Rattle.session.specs.declared.transactions.Connections.{Connections}
 use Rattle.session.specs.declared.transactions.Transaction.{Transaction}
 use Rattle.session.specs.declared.transactions.Transaction.TheVariants as transaction
-use Rattle.session.specs.declared.transactions.Write.{Write}
-use Rattle.session.specs.declared.transactions.Write.TheVariants as write
+use Rattle.session.specs.declared.changes.Write.{Write}
+use Rattle.session.specs.declared.changes.Write.TheVariants as write
 use Rattle.session.proofs.Beginning.{StartsWriting, writer_begins, writer_stores}
 use Rattle.session.proofs.CommitSteps.{committed_shown}
 use Rattle.session.proofs.CommitCrashes.{commit_crashes, doubt_left, doubt_crashes, doubted}
@@ -123,10 +124,21 @@ module _ {D : Type 0} {g : Ghosts D} where
     transaction = is;
   }
 
+  -- ---- a change
+
+  keeps : (old new : Connections D g) → has_failed_in new ≡ has_failed_in old → new.transaction ≡ old.transaction → KeepsListed (listing_of old) (listing_of new) → KeepsCommitted old new
+  keeps old new failed same kept = record { files = kept.files; failed = failed; transaction = same; committed = kept.committed; tables = kept.tables }
+
+  -- what a change of the files and the catalog comes to for the connections that have them
+  pub applied : (s : Statement) (old : Connections D g) (w : Writer) (db : Database) (r : Result ⊤ Fault) (new : Connections D g) (left : Writer) → has_failed_in new ≡ has_failed_in old → new.transaction ≡ old.transaction
+      → MakesChange s (listing_of old) w db r (listing_of new) left → Applies s old w db r new left
+  applied s old w db (Ok done) new left failed same has = record { kept = keeps old new failed same has.kept; made = has.made; reaches = has.reaches; applies = has.applies }
+  applied s old w db (Err f) new left failed same has = record { kept = keeps old new failed same has.kept; tables = has.tables; applies = has.applies; why = has.why }
+
   -- ---- refusals
 
   pub why_of : (R : Database → Type 0) (s : Statement) (c : Connections D g) (w : Writer) (db : Database) (f : Fault) → ((made : Database) → LacksRoom (view_of (files_of c) w) (tables_of c.catalog) s made → R made)
-      → IsChangeRefusal s c w db f → IsErrorCause R (change_made s db) f
+      → IsChangeRefusal s (listing_of c) w db f → IsErrorCause R (change_made s db) f
   why_of R s c w db f room (inl memory) = inl memory
   why_of R s c w db f room (inr (inl full)) = inr (inl full)
   why_of R s c w db f room (inr (inr (inl io))) = inr (inr (inl io))

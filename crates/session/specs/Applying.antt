@@ -1,80 +1,36 @@
 -- What a statement makes of the database that its connection works on, and what a commit makes of that (SQL As Understood By
 -- SQLite, "BEGIN TRANSACTION").
-use Rattle.std.specs.Prelude.{◌≡◌, ◌⊎◌, ◌≤◌, ⊤, true, ℕ, List, [], length, take, Result, Ok, Err, Contains}
-use Rattle.sqlval.specs.Refusals.{Refusal, refusal_of}
+use Rattle.std.specs.Prelude.{◌≡◌, ◌⊎◌, ⊤, true, length, take, Result, Ok, Err}
 use Rattle.sqlval.specs.declared.fault.Fault.{Fault}
 use Rattle.sqlval.specs.declared.fault.Fault.TheVariants as fault
-use Rattle.sqlval.specs.declared.fault.Feature.TheVariants.{RowSize}
 use Rattle.disk.specs.File.{IsContentLeft}
 use Rattle.disk.specs.declared.device.Disk.{Ghosts}
-use Rattle.syntax.specs.declared.change.Change.TheVariants as change
-use Rattle.syntax.specs.declared.create.NewObject.TheVariants as new
 use Rattle.syntax.specs.declared.statement.Statement.{Statement}
-use Rattle.syntax.specs.declared.statement.Statement.TheVariants as statement
 use Rattle.catalog.specs.Database.{Database}
 use Rattle.catalog.specs.Listed.{committed_in, tables_of}
-use Rattle.catalog.specs.declared.tables.Table.{Table}
-use Rattle.rowprog.specs.Rows.{Holds, TableRow}
 use Rattle.wal.specs.LogState.{db_of, log_of, state_of}
 use Rattle.wal.specs.Refusals.{IsWithin}
 use Rattle.wal.specs.declared.log.Log.{Log}
 use Rattle.pager.specs.Limits.{pages_of}
-use Rattle.pager.specs.Views.{IsViewPage, Tells, changes_of, newest_view, view_of}
+use Rattle.pager.specs.Views.{Tells, changes_of, newest_view}
 use Rattle.pager.specs.declared.writer.Writer.{Writer}
-use Rattle.trigger.specs.Binding.{IsFault}
+use Rattle.session.specs.Changing.{Listing, CanChange, IsChangeRefusal, Reaches, change_made, listing}
 use Rattle.session.specs.Holding.{HoldThroughout, IsSettled}
 use Rattle.session.specs.ConnectionState.{files_of, has_failed_in}
-use Rattle.session.specs.Outcomes.{Sort, Writing, Work, Makes, IsRefused, Binds, sort}
-use Rattle.session.specs.Representation.{AreCommitted, IsWriter, ShowTheSame}
-use Rattle.session.specs.Stored.{LacksRoom, Stores}
+use Rattle.session.specs.Representation.{AreCommitted, ShowTheSame}
+use Rattle.session.specs.Stored.{Stores}
 use Rattle.session.specs.declared.transactions.Connections.{Connections}
-use Rattle.session.specs.declared.transactions.Write.{Write}
-use Rattle.session.specs.declared.transactions.Write.TheVariants as write
-
--- ---- what a statement comes to on a database
-
-abbrev work_by : Sort → Database → Work
-work_by (Writing work) db = work db
-work_by _ db = IsRefused []
-
--- what a statement that may write comes to on a database
-abbrev pub change_made : Statement → Database → Work
-change_made s db = work_by (sort s) db
-
--- the statement that a change is
-abbrev pub written : Write → Statement
-written (write.Insert i) = statement.Change (change.Insert i.now)
-written (write.CreateTable sql d) = statement.Create (record { sql = sql.now; object = new.Table d.now })
-
--- its change isn't refused when it is bound, and it makes this database
-abbrev pub Reaches : Work → Database → Type 0
-Reaches (Makes db) made = db ≡ made
-Reaches (Binds over change work) made = ((r : Refusal) → IsFault over change r → ⊥) × Reaches work made
-Reaches _ made = ⊥
-
--- it is refused so, when its change is bound or after that
-abbrev pub RefusesWith : Work → Refusal → Type 0
-RefusesWith (IsRefused rs) r = Contains rs r
-RefusesWith (Binds over change work) r = IsFault over change r ⊎ ((s : Refusal) → IsFault over change s → ⊥) × RefusesWith work r
-RefusesWith _ r = ⊥
-
--- ---- a writer's pages
 
 module _ {D : Type 0} {g : Ghosts D} where
-  -- the writer's pages hold this database, whose tables the catalog lists
-  pub record CanApply (c : Connections D g) (w : Writer) (db : Database) : Type 0 where
-    pub told : Tells (files_of c)
-    pub settled : IsSettled (files_of c)
-    pub writer : IsWriter (files_of c) w
-    pub stored : Stores (view_of (files_of c) w) (tables_of c.catalog) db
-    pub listed : committed_in c.catalog ≤ length (tables_of c.catalog)
+  -- ---- a change
 
-  -- the writer sees this page where the table begins, and it holds these rows
-  pub record SeesRows (files : Log D g) (w : Writer) (table : Table) (page : List ℕ) (rows : List TableRow) : Type 0 where
-    pub told : Tells files
-    pub writer : IsWriter files w
-    pub there : IsViewPage (view_of files w) table.root page
-    pub holds : Holds page table.root (length table.columns) rows
+  -- the files of the connections with their catalog
+  abbrev pub listing_of : Connections D g → Listing D g
+  listing_of c = listing (files_of c) c.catalog
+
+  -- the writer's pages hold this database, whose tables the connections' catalog lists
+  abbrev pub CanApply : Connections D g → Writer → Database → Type 0
+  CanApply c = CanChange (listing_of c)
 
   -- the files were read at most, no transaction has begun or ended, and the committed tables are what they were
   pub record KeepsCommitted (old new : Connections D g) : Type 0 where
@@ -84,25 +40,19 @@ module _ {D : Type 0} {g : Ghosts D} where
     pub committed : committed_in new.catalog ≡ committed_in old.catalog
     pub tables : take (committed_in old.catalog) (tables_of new.catalog) ≡ take (committed_in old.catalog) (tables_of old.catalog)
 
-  -- the statement has made a database of this one
+  -- the statement has made a database of this one, and the connections are as they were but for that
   pub record IsApplied (s : Statement) (old : Connections D g) (db : Database) (new : Connections D g) (left : Writer) : Type 0 where
     pub kept : KeepsCommitted old new
     pub made : Database
     pub reaches : Reaches (change_made s db) made
     pub applies : CanApply new left made
 
-  -- why a statement makes nothing: when out of memory or of pages, by a disk, as its work is refused, or because there is no room for what it makes
-  abbrev pub IsChangeRefusal : Statement → Connections D g → Writer → Database → Fault → Type 0
-  IsChangeRefusal s c writer db f =
-      (f ≡ fault.Memory) ⊎ (f ≡ fault.Full) ⊎ (f ≡ fault.Io) ⊎ RefusesWith (change_made s db) (refusal_of f)
-      ⊎ (f ≡ fault.Unsupported RowSize) × (made : Database) × Reaches (change_made s db) made × LacksRoom (view_of (files_of c) writer) (tables_of c.catalog) s made
-
-  -- the statement was refused, and its writer has what it had
+  -- the statement was refused, and the connections and its writer have what they had
   pub record IsNotApplied (s : Statement) (old : Connections D g) (writer : Writer) (db : Database) (new : Connections D g) (left : Writer) (f : Fault) : Type 0 where
     pub kept : KeepsCommitted old new
     pub tables : tables_of new.catalog ≡ tables_of old.catalog
     pub applies : CanApply new left db
-    pub why : IsChangeRefusal s old writer db f
+    pub why : IsChangeRefusal s (listing_of old) writer db f
 
   -- what a statement's write has come to
   abbrev pub Applies : Statement → Connections D g → Writer → Database → Result ⊤ Fault → Connections D g → Writer → Type 0

@@ -13,6 +13,8 @@ pub mod Stored
 pub mod Schema
 pub mod Language
 pub mod Holding
+pub mod Changing
+pub mod Reading
 pub mod Applying
 pub mod Failing
 pub mod WellFormed

@@ -2,8 +2,10 @@
 //! defines it.
 #![tactic(auto)]
 
+mod changes;
 mod forms;
 mod laws;
+mod reads;
 mod tables;
 mod transactions;
 

@@ -1,41 +1,36 @@
 //! The connections: whose transaction reads what, and what is committed.
 
-ghost use Rattle.std.specs.Prelude.{◌≡◌, ◌⊎◌, ◌≤◌, ◌&&◌, ℕ, List, All, length, map, Ok, Err, Some, IfOk, IfErr, IfSome, IfNone, true, false, IsTrue, IsFalse};
-ghost use Rattle.bind.specs.Bound.{IsOf};
-ghost use Rattle.sqlval.specs.declared.fault.Fault.TheVariants.{Memory, Io};
-ghost use Rattle.dml.specs.Inserting.{IsInsertRefusal, IsInserted};
-ghost use Rattle.pager.specs.Limits.{page_size_of};
-ghost use Rattle.pager.specs.Views.{ViewHas, IsViewPage, Tells, newest_view, view_at};
-ghost use Rattle.record.specs.Writing.{IsBytes};
-ghost use Rattle.rowprog.specs.Rows.{Holds, TableRow, answers_of};
-ghost use Rattle.session.specs.Representation.{AnswersOrFails, AnswersRead, IsWriter, ShowTheSame};
-ghost use Rattle.session.specs.Schema.{IsCreateOf, KeepsItsText, WhereSupported};
+ghost use Rattle.std.specs.Prelude.{◌≡◌, ◌&&◌, Ok, Err, IfErr, true, false, IsTrue, IsFalse};
+ghost use Rattle.sqlval.specs.declared.fault.Fault.TheVariants.{Memory};
+ghost use Rattle.pager.specs.Marks.{marks_of, now_of};
+ghost use Rattle.pager.specs.Views.{Tells, newest_view};
+ghost use Rattle.session.specs.Representation.{AnswersRead};
+ghost use Rattle.session.specs.Schema.{KeepsItsText, WhereSupported};
 ghost use Rattle.session.specs.Stored.{Stores};
 ghost use Rattle.session.specs.Supported.{is_query_supported};
 ghost use Rattle.session.specs.Outcomes.{read_on};
 ghost use Rattle.catalog.specs.Database.{Database};
 ghost use Rattle.catalog.specs.Listed.{tables_of};
 ghost use Rattle.session.specs.Supported as forms;
-ghost use Rattle.wal.specs.LogState.{db_of, state_of, log_of, seen_by};
-ghost use Rattle.wal.specs.ErrorCauses.{HasCause};
+ghost use Rattle.wal.specs.LogState.{db_of, log_of};
 ghost use Rattle.session.specs.ConnectionState.{is_io};
 ghost use Rattle.session.specs.Limits.{may_be_full};
 ghost use Rattle.session.specs.Failing.{IsRefusedFor, MarksFailure, ReadsFiles, is_immediate};
-ghost use Rattle.session.specs.Applying.{CommitsChanges, EndsAlone, SeesRows, Applies, CanApply, written};
+ghost use Rattle.session.specs.Applying.{CommitsChanges, EndsAlone, Applies, CanApply};
+ghost use Rattle.session.specs.Changing.{written};
 
+use crate::changes::{Write, apply, write_of};
 use crate::forms::is_supported;
-use crate::tables::{NewTable, new_table};
-use bind::{BoundInsert, BoundSource, Output, bind_insert, bind_query};
-use catalog::{Catalog, named_databases_are_one, new_tables_are_listed, other_rows_are_listed};
+use crate::reads::{Sight, read};
+use catalog::Catalog;
 use disk::Disk;
-use pager::{Writer, read_page};
-use rowprog::{Plan, Rows, Scan, held_rows_are_in_order, plan_of, single_row, table_rows};
-use sqlval::{Damage, Fault, Feature, Misuse, R, Text};
+use pager::Writer;
+use rowprog::Rows;
+use sqlval::{Fault, Feature, Misuse, R};
 use std::alloc::Global;
 use std::mem;
-use syntax::{BeginMode, Change, Create, Insert, NewObject, Query, Statement, TableDefinition};
-use trigger::only_tables_set_nothing_off;
-use wal::{Log, PageImage, Snapshot};
+use syntax::{BeginMode, Query, Statement};
+use wal::{Log, Snapshot};
 
 /// The state of a transaction.
 #[derive(Drop)]
@@ -46,13 +41,6 @@ enum Transaction {
     Begun,
     Reading(Snapshot),
     Writing(Writer),
-}
-
-/// A statement that changes the database.
-#[derive(Clone, Copy)]
-enum Write<'a> {
-    Insert(&'a Insert),
-    CreateTable(&'a Text, &'a TableDefinition),
 }
 
 /// The connections of an open database. For now the first alone is supported.
@@ -78,79 +66,11 @@ fn is_io(fault: &Fault) -> bool
     matches!(fault, Fault::Io)
 }
 
-/// The change that a statement makes, if it makes one.
-fn write_of(statement: &Statement) -> Option<Write<'_>>
-    ensures full { IfSome result (λ write. IsTrue (may_be_full statement.now)) }
-    ensures same { IfSome result (λ write. written write ≡ statement.now) }
-    ensures none { IfNone result (forms.is_write statement.now ≡ false) }
-{
-    match statement {
-        Statement::Change(Change::Insert(insert)) => Some(Write::Insert(insert)),
-        Statement::Create(
-            Create {
-                sql,
-                object: NewObject::Table(table),
-            },
-        ) => Some(Write::CreateTable(sql, table)),
-        _ => None,
-    }
-}
-
-/// The rows of a table on a snapshot.
-fn rows_on<D: Disk + Drop>(
-    alloc: Global,
-    log: &mut Log<D>,
-    snapshot: Snapshot,
-    source: BoundSource,
-    outputs: &[Output],
-) -> R<Rows>
-    ensures cause { HasCause false result log.old log.new }
-    ensures same { Tells log.old → ShowTheSame log.old log.new }
-    ensures answered { (page : List ℕ) (rows : List TableRow) → Tells log.old → seen_by snapshot ≤ (state_of log.old).frames → IsViewPage (view_at log.old snapshot) source.root page → Holds page source.root source.width rows
-        → All (IsOf (Some source.width)) outputs.now → AnswersOrFails (answers_of outputs.now rows) result }
-{
-    let page = read_page(alloc, log, snapshot, source.root)?;
-    table_rows(alloc, &page, source, outputs)
-}
-
-/// The image of a page.
-fn image_of(number: u32, bytes: Vec<u8>) -> PageImage
-    ensures is { result ≡ record { number = number; bytes = bytes } }
-    ensures fits { IsBytes bytes.items }
-{
-    PageImage { number, bytes }
-}
-
-/// Builds a table's page anew with an INSERT's rows after those that the writer sees.
-fn with_new_rows<D: Disk + Drop>(
-    alloc: Global,
-    log: &mut Log<D>,
-    writer: &Writer,
-    insert: BoundInsert<'_>,
-) -> R<Vec<u8>>
-    ensures cause { HasCause false result log.old log.new }
-    ensures same { Tells log.old → ShowTheSame log.old log.new }
-    ensures inserted { (page : List ℕ) (rows : List TableRow) → SeesRows log.old writer.now insert.entry.table.now page rows
-        → IfOk result (λ new. IsInserted new.items insert.entry.table.now.root insert.entry.table.now.columns insert.entry.places.items (map (λ row. row.items) insert.entry.rows.items) rows) }
-    ensures len { IsWriter log.old writer.now → IfOk result (λ new. length new.items ≡ page_size_of writer.now) }
-    ensures refused { (page : List ℕ) (rows : List TableRow) → SeesRows log.old writer.now insert.entry.table.now page rows
-        → IfErr result (λ fault. (fault ≡ Io) ⊎ IsInsertRefusal page insert.entry.table.now.root insert.entry.table.now.columns insert.entry.places.items (map (λ row. row.items) insert.entry.rows.items) fault) }
-{
-    let number = insert.table.root;
-    if let Some(page) = writer.find(number) {
-        return dml::insert(alloc, page, number, insert);
-    }
-    let page = read_page(alloc, log, writer.snapshot(), number)?;
-    dml::insert(alloc, &page, number, insert)
-}
-
 impl<D: Disk + Drop> Connections<D> {
     ghost use Rattle.session.specs.Representation.{AreCommitted, IsGivenUp, IsNewest, RepresentsRunning, OnlyReads, StartsReading, Steps, StepsOn, done_reply, is_begun, is_idle, is_reading, rows_reply, seen_in, with_transaction};
     ghost use Rattle.session.specs.declared.transactions.Transaction.TheVariants as transaction;
     ghost use Rattle.session.specs.Holding.{IsSettled};
     ghost use Rattle.session.specs.Machine.{Machine, fresh};
-    ghost use Rattle.syntax.specs.declared.change.Change.TheVariants as change;
-    ghost use Rattle.syntax.specs.declared.create.NewObject.TheVariants as object;
     ghost use Rattle.syntax.specs.declared.statement.BeginMode.TheVariants.{Deferred, Immediate};
     ghost use Rattle.syntax.specs.declared.statement.Statement.TheVariants as statement;
     ghost use Rattle.session.specs.ConnectionState.{AnswersUnsupported, HasCauseIn, files_of, first_refusal, has_failed_in};
@@ -374,41 +294,30 @@ impl<D: Disk + Drop> Connections<D> {
         }
     }
 
-    /// A page as the transaction changed it, if it did.
-    fn changed(&self, number: u32) -> Option<&[u8]>
-        ensures shown { (m : Machine) → RepresentsRunning self.now m → IfSome result (λ page. ViewHas (seen_in self.now.transaction (files_of self.now)) number page.now) }
-        ensures below { (m : Machine) → RepresentsRunning self.now m → IfNone result ((bytes : List ℕ) → IsViewPage (seen_in self.now.transaction (files_of self.now)) number bytes → IsViewPage (newest_view (files_of self.now)) number bytes) }
-    {
-        match &self.transaction {
-            Transaction::Writing(writer) => writer.find(number),
-            _ => None,
-        }
-    }
-
-    /// The rows of a table, as the transaction sees them.
-    fn rows_of(&mut self, plan: &Plan, source: BoundSource) -> R<Rows>
-        ensures cause { HasCauseIn false result self.old self.new }
-        ensures reads { OnlyReads self.old self.new }
-        ensures answered { (m : Machine) (page : List ℕ) (rows : List TableRow) → RepresentsRunning self.old m → IsViewPage (seen_in self.old.transaction (files_of self.old)) source.root page → Holds page source.root source.width rows
-            → All (IsOf (Some source.width)) plan.now.outputs.items → AnswersOrFails (answers_of plan.now.outputs.items rows) result }
-    {
-        let snapshot = self.snapshot();
-        if let Some(page) = self.changed(source.root) {
-            return table_rows(self.alloc, page, source, &plan.outputs);
-        }
-        rows_on(self.alloc, &mut self.log, snapshot, source, &plan.outputs)
-    }
-
     /// The rows of a query on what the transaction sees.
     fn read(&mut self, query: &Query) -> R<Rows>
         ensures cause { HasCauseIn false result self.old self.new }
         ensures reads { OnlyReads self.old self.new }
         ensures answered { (m : Machine) (db : Database) → RepresentsRunning self.old m → Stores (seen_in self.old.transaction (files_of self.old)) (tables_of self.old.catalog) db → is_query_supported query.now ≡ true → AnswersRead (read_on db query.now) result }
     {
-        let plan = plan_of(bind_query(self.alloc, query, &self.catalog)?);
-        match plan.scan {
-            Scan::Once => single_row(self.alloc, &plan.outputs),
-            Scan::Table(source) => self.rows_of(&plan, source),
+        match &self.transaction {
+            Transaction::Writing(writer) => read(
+                self.alloc,
+                &mut self.log,
+                &self.catalog,
+                Sight::Writer(writer),
+                query,
+            ),
+            _ => {
+                let snapshot = self.snapshot();
+                read(
+                    self.alloc,
+                    &mut self.log,
+                    &self.catalog,
+                    Sight::Snapshot(snapshot),
+                    query,
+                )
+            }
         }
     }
 
@@ -458,7 +367,7 @@ impl<D: Disk + Drop> Connections<D> {
         ensures step { WhereSupported (written write.entry) (StepsOn (with_transaction self.old (transaction.Writing writer)) (written write.entry) (done_reply result) self.new) }
     {
         let mut writer = writer;
-        let result = self.apply(&mut writer, write);
+        let result = self.apply_marked(&mut writer, write);
         self.transaction = Transaction::Writing(writer);
         result
     }
@@ -513,63 +422,35 @@ impl<D: Disk + Drop> Connections<D> {
         Ok(())
     }
 
+    /// Makes a statement's change in the writer's pages, under a mark. A refused one goes back to it.
+    fn apply_marked(&mut self, writer: &mut Writer, write: Write<'_>) -> R<()>
+        ensures cause { HasCauseIn true result self.old self.new }
+        ensures reads { ReadsFiles self.old self.new }
+        ensures applies { (db : Database) → WhereSupported (written write.entry) (CanApply self.old writer.old db → Applies (written write.entry) self.old writer.old db result self.new writer.new) }
+        ensures marks { marks_of writer.new ≡ marks_of writer.old }
+        ensures back { IfErr result (λ fault. now_of writer.new ≡ now_of writer.old) }
+    {
+        let place = writer.mark()?;
+        match self.apply(writer, write) {
+            Ok(()) => {
+                writer.release(place);
+                Ok(())
+            }
+            Err(fault) => {
+                writer.back_to(place);
+                writer.release(place);
+                Err(fault)
+            }
+        }
+    }
+
+    /// Makes a statement's change in the writer's pages.
     fn apply(&mut self, writer: &mut Writer, write: Write<'_>) -> R<()>
         ensures cause { HasCauseIn true result self.old self.new }
         ensures reads { ReadsFiles self.old self.new }
         ensures applies { (db : Database) → WhereSupported (written write.entry) (CanApply self.old writer.old db → Applies (written write.entry) self.old writer.old db result self.new writer.new) }
+        ensures marks { marks_of writer.new ≡ marks_of writer.old }
     {
-        match write {
-            Write::Insert(insert) => self.insert(writer, insert),
-            Write::CreateTable(sql, table) => self.create_table(writer, sql, table),
-        }
-    }
-
-    fn insert(&mut self, writer: &mut Writer, insert: &Insert) -> R<()>
-        ensures cause { HasCauseIn true result self.old self.new }
-        ensures reads { ReadsFiles self.old self.new }
-        ensures applies { (db : Database) → forms.is_source_supported insert.now.source ≡ true → CanApply self.old writer.old db
-            → Applies (statement.Change (change.Insert insert.now)) self.old writer.old db result self.new writer.new }
-    {
-        other_rows_are_listed();
-        named_databases_are_one();
-        only_tables_set_nothing_off();
-        held_rows_are_in_order();
-        let bound = bind_insert(self.alloc, insert, &self.catalog)?;
-        let number = bound.table.root;
-        let bytes = with_new_rows(self.alloc, &mut self.log, writer, bound)?;
-        writer.put(image_of(number, bytes))
-    }
-
-    fn create_table(&mut self, writer: &mut Writer, sql: &Text, table: &TableDefinition) -> R<()>
-        ensures cause { HasCauseIn true result self.old self.new }
-        ensures reads { ReadsFiles self.old self.new }
-        ensures applies { (db : Database) → forms.is_table_supported table.now ≡ true → IsCreateOf sql.now (object.Table table.now) → CanApply self.old writer.old db
-            → Applies (statement.Create (record { sql = sql.now; object = object.Table table.now })) self.old writer.old db result self.new writer.new }
-    {
-        let Some(page) = writer.find(1) else {
-            return Err(Fault::Damaged(Damage::Size, 1));
-        };
-        let root = writer.next_number()?;
-        let made = new_table(self.alloc, &self.catalog, page, root, sql, table)?;
-        let NewTable { table, schema } = made;
-        new_tables_are_listed();
-        other_rows_are_listed();
-        named_databases_are_one();
-        let bytes = tabletree::empty(self.alloc, schema.len())?;
-        self.catalog.add(table)?;
-        let result = writer.put_object(
-            PageImage {
-                number: 1,
-                bytes: schema,
-            },
-            PageImage {
-                number: root,
-                bytes,
-            },
-        );
-        if result.is_err() {
-            self.catalog.remove_last();
-        }
-        result
+        apply(self.alloc, &mut self.log, &mut self.catalog, writer, write)
     }
 }

@@ -28,7 +28,7 @@ fn a_text_is_cut_into_words_marks_and_literals(rt: HostRuntime) -> Result<(), Fa
     ];
     assert_eq!(rt; found.len(), kinds.len());
     for (token, kind) in found.iter().zip(&kinds) {
-        assert_eq!(rt; token.kind, *kind);
+        assert!(rt; token.kind == *kind);
     }
     assert_eq!(rt; found[1].start, 14);
     assert_eq!(rt; found[5].text, "'it''s'");

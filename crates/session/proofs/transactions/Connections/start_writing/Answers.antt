@@ -1,7 +1,7 @@
 use Rattle.std.proofs.Common.{refl, sym, subst, arith}
 use Rattle.session.specs.Machine.{Reply}
 use Rattle.session.specs.Representation.{StepsTo}
-use Rattle.session.specs.Applying.{written}
+use Rattle.session.specs.Changing.{written}
 use Rattle.session.proofs.Beginning.{done_refused, first_there}
 use Rattle.session.proofs.Showing.{read_files}
 use Rattle.session.proofs.Applying.{in_transaction}

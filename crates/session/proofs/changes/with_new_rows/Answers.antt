@@ -6,7 +6,7 @@ use Rattle.pager.specs.Views.{view_at, view_of}
 use Rattle.rowprog.specs.Rows.{Holds}
 use Rattle.session.proofs.Inserting.{changed_len, page_below, unread}
 use Rattle.session.proofs.SeenPages.{one_page}
-use Rattle.session.proofs.transactions.with_new_rows.Goals as goal
+use Rattle.session.proofs.changes.with_new_rows.Goals as goal
 
 pub returns-in-Some-clause-inserted : goal.returns-in-Some-clause-inserted
 returns-in-Some-clause-inserted g c page rows sees =

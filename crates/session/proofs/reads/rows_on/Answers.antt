@@ -2,7 +2,7 @@ use Rattle.std.proofs.Common.{◌≡◌, ◌∙◌, ℕ, List, sym, subst}
 use Rattle.rowprog.specs.Rows.{Holds, answers_of}
 use Rattle.pager.specs.Views.{view_at}
 use Rattle.session.proofs.SeenPages.{answers, fails, one_page}
-use Rattle.session.proofs.transactions.rows_on.Goals as goal
+use Rattle.session.proofs.reads.rows_on.Goals as goal
 
 pub returns-in_err-page-clause-answered : goal.returns-in_err-page-clause-answered
 returns-in_err-page-clause-answered g c page rows told until there holds placed =
