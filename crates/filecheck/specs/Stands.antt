@@ -10,7 +10,7 @@ use Rattle.tabletree.specs.Cells.{Pairwise}
 use Rattle.tabletree.specs.Tree.{IsTableTree}
 use Rattle.catalog.specs.Database.{Database}
 use Rattle.catalog.specs.Rows.{is_in_order}
-use Rattle.filecheck.specs.Freelist.{Trunk, IsFreelist, pages_of}
+use Rattle.freelist.specs.Freelist.{Trunk, IsFreelist, pages_of}
 use Rattle.filecheck.specs.Schema.{Language, SchemaRow, IsSchemaEntry, IsSchema}
 use Rattle.filecheck.specs.Contents.{HasTree}
 

@@ -25,7 +25,7 @@ use Rattle.catalog.specs.Rows.{holds_rows}
 use Rattle.tabletree.specs.Cells.{Pairwise}
 use Rattle.filecheck.specs.Schema.{SchemaRow, IsSchemaEntry}
 use Rattle.filecheck.specs.Files.{FilesStandFor}
-use Rattle.filecheck.specs.Freelist.{pages_of}
+use Rattle.freelist.specs.Freelist.{pages_of}
 use Rattle.pager.specs.Views.{View}
 use Rattle.session.specs.Holding.{IsFound, IsThin, StoreFiles}
 use Rattle.session.specs.Language.{supported_language}

@@ -1,0 +1,2 @@
+pub mod Freelist
+pub mod Calls
