@@ -1,2 +1,3 @@
 pub mod Freelist
 pub mod Calls
+pub mod PageBytes

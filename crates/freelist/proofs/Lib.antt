@@ -1,0 +1,5 @@
+pub mod HeaderBytes
+pub mod Causing
+pub mod TrunkBytes
+pub mod Lists
+pub mod Taken

@@ -1,0 +1,73 @@
+//! Numbers and the header on a page, as bytes.
+
+ghost use Rattle.std.specs.Prelude.{◌≡◌, ◌≤◌, ◌<◌, ◌^◌, ◌++◌, ◌+◌, ◌/◌, [], ◌∷◌, ℕ, List, length, Some, IfSome};
+ghost use Rattle.std.specs.Int.{w32, to_be_bytes};
+ghost use Rattle.sqlval.specs.PageSizes.{IsPageSize};
+ghost use Rattle.dbheader.specs.declared.fields.Header.{Header};
+ghost use Rattle.dbheader.specs.Header.{IsHeader};
+ghost use Rattle.freelist.specs.PageBytes.{Reheads, IsTrunkPage, IsLastTaken};
+
+use dbheader::Header;
+
+/// The number in the four bytes from a place on; None if the page ends before.
+pub fn number_at(page: &[u8], at: usize) -> Option<u32>
+    ensures only { (n : ℕ) (front rest : List ℕ) → n < 2 ^ 32 → page.now ≡ front ++ (to_be_bytes w32 n ++ rest) → length front ≡ at → result ≡ Some n }
+{
+    if page.len() < 4 || at > page.len() - 4 {
+        return None;
+    }
+    Some(u32::from_be_bytes([page[at], page[at + 1], page[at + 2], page[at + 3]]))
+}
+
+/// Writes a number over the four bytes from a place on, if the page has them.
+pub fn set_number(page: &mut [u8], at: usize, number: u32)
+    ensures set { (cell front rest : List ℕ) → length cell ≡ 4 → page.old ≡ front ++ (cell ++ rest) → length front ≡ at → page.new ≡ front ++ (to_be_bytes w32 number ++ rest) }
+    ensures same { length page.new ≡ length page.old }
+{
+    if page.len() >= 4 && at <= page.len() - 4 {
+        page[at..at + 4].copy_from_slice(&number.to_be_bytes());
+    }
+}
+
+/// The header on page 1; None if it tells none.
+pub fn header_in(page: &[u8]) -> Option<Header>
+    ensures found { IfSome result (λ header. IsHeader page.now header) }
+    ensures only { (header : Header) → IsHeader page.now header → result ≡ Some header }
+{
+    dbheader::read(page).ok()
+}
+
+/// Writes a header over the one on page 1.
+pub fn set_header(page: &mut [u8], header: &Header)
+    requires { IsPageSize header.now.page_size }
+    ensures reheads { 100 ≤ length page.old → Reheads page.old page.new header.now }
+{
+    if page.len() >= 100 {
+        page[..100].copy_from_slice(&dbheader::write(header));
+    }
+}
+
+/// The next trunk page, and how many pages a trunk page lists; None if it has no room for them.
+pub fn listed(page: &[u8]) -> Option<(u32, u32)>
+    ensures only { (next : ℕ) (leaves : List ℕ) → IsTrunkPage page.now next leaves → result ≡ Some (next, length leaves) }
+    ensures room { IfSome result (λ found. found.1 + 2 ≤ length page.now / 4) }
+{
+    let next = number_at(page, 0)?;
+    let len = number_at(page, 4)?;
+    if page.len() / 4 < 2 || len as usize > page.len() / 4 - 2 {
+        return None;
+    }
+    Some((next, len))
+}
+
+/// Takes the last of so many pages from the list of a trunk page.
+pub fn take_last(page: &mut [u8], len: u32) -> Option<u32>
+    requires some { 1 ≤ len }
+    requires room { len + 2 ≤ length page.now / 4 }
+    ensures last { IsLastTaken page.old page.new len result }
+    ensures same { length page.new ≡ length page.old }
+{
+    let leaf = number_at(page, 4 + 4 * len as usize)?;
+    set_number(page, 4, len - 1);
+    Some(leaf)
+}
