@@ -1,11 +1,11 @@
 -- What a refusal after other calls comes of.
-use Rattle.std.proofs.Common.{◌≡◌, ◌⊎◌, inl, inr, ◌≤◌, ◌<◌, ◌-◌, ◌^◌, ℕ, List, [], length, ap, sym, ◌∙◌, subst, arith}
+use Rattle.std.proofs.Common.{inl, inr, ◌≤◌, ◌<◌, ◌-◌, ◌^◌, ℕ, List, [], length, ap, ◌∙◌, arith}
 use Rattle.std.proofs.lemmas.Bool.{cases_lt}
 use Rattle.std.proofs.lemmas.List.{get_or-set_other, length-set}
 use Rattle.std.specs.Prelude.{Result, Ok, Err, IfErr}
 use Rattle.sqlval.specs.declared.fault.Fault.{Fault}
 use Rattle.pages.specs.Calls.{HasGrown, HasRisen, IsCause, Causes}
-use Rattle.pages.specs.Map.{PageMap, page_at, with_page, Has, IsThere}
+use Rattle.pages.specs.Map.{PageMap, with_page, IsThere}
 
 grown_since : (a b c : ℕ) → a ≤ b → HasGrown b c → HasGrown a c
 grown_since a b c le (inl lt) = inl (omega (arith, le, lt))

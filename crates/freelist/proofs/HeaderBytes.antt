@@ -1,7 +1,7 @@
 -- A header stands in the first 100 bytes of a page.
-use Rattle.std.proofs.Common.{◌≡◌, inl, inr, ℕ, ◌+◌, ◌<◌, ◌≤◌, List, ◌++◌, length, take, drop, get_or, sym, ap, subst, ◌∙◌, arith, length-append}
+use Rattle.std.proofs.Common.{◌≡◌, inl, inr, ℕ, ◌+◌, ◌<◌, ◌≤◌, List, ◌++◌, length, take, drop, get_or, sym, ap, ◌∙◌, arith, length-append}
 use Rattle.std.proofs.lemmas.Bool.{cases_lt}
-use Rattle.std.proofs.lemmas.List.{get_or-take, take-take, drop-take, take_all, drop_all, length-take-le, length-drop, take-append-drop, take-append-le, drop-append-le}
+use Rattle.std.proofs.lemmas.List.{get_or-take, take-take, drop-take, take_all, drop_all, length-take-le, length-drop, take-append-le, drop-append-le}
 use Rattle.dbheader.specs.declared.fields.Header.{Header}
 use Rattle.dbheader.specs.Header.{part, two_at, four_at, IsHeader}
 use Rattle.freelist.specs.PageBytes.{Reheads}

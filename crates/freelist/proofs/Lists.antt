@@ -1,17 +1,16 @@
 -- What a freelist of pages has, and what stays of it when two pages are written.
-use Rattle.std.proofs.Common.{◌≡◌, ◌⊎◌, inl, inr, ℕ, ◌+◌, ◌*◌, ◌-◌, ◌/◌, ◌^◌, ◌<◌, ◌≤◌, List, [], ◌∷◌, ◌++◌, length, drop, refl, sym, ap, subst, ◌∙◌, arith, length-append}
+use Rattle.std.proofs.Common.{◌≡◌, inl, inr, ℕ, ◌+◌, ◌-◌, ◌<◌, ◌≤◌, List, [], ◌∷◌, ◌++◌, length, drop, sym, ap, subst, ◌∙◌, arith}
 use Rattle.std.proofs.lemmas.Grind.{common_steps}
 use Rattle.std.proofs.lemmas.Bool.{cases_lt, cases_eq}
-use Rattle.std.proofs.lemmas.List.{get_or-set_other, get_or-set_same, get_or_past, length-set, set-get_or}
-use Rattle.std.specs.List.{flat_map, AllByRecursion}
-use Rattle.std.specs.Int.{w32, to_be_bytes}
+use Rattle.std.proofs.lemmas.List.{get_or-set_other, get_or-set_same, length-set}
+use Rattle.std.specs.List.{AllByRecursion}
 use Rattle.dbheader.specs.Header.{IsHeader}
 use Rattle.dbheader.specs.declared.fields.Header.{Header}
-use Rattle.pages.specs.Counting.{occurs, fresh, IsOnce, Moves, body_at, start_of}
-use Rattle.pages.specs.Map.{PageMap, page_at, with_page, AreWhole, Has, IsThere}
-use Rattle.freelist.specs.Freelist.{Trunk, IsTrunk, AreTrunks, IsFreelist, first_of, pages_of}
-use Rattle.freelist.specs.Calls.{HasFree, AreFree, KeepsHeader}
-use Rattle.freelist.specs.PageBytes.{Reheads, IsTrunkPage, IsFront, LeadsTo, listing}
+use Rattle.pages.specs.Counting.{occurs, fresh, Moves, body_at, start_of}
+use Rattle.pages.specs.Map.{PageMap, page_at, with_page, AreWhole, Has}
+use Rattle.freelist.specs.Freelist.{Trunk, IsTrunk, AreTrunks, first_of, pages_of}
+use Rattle.freelist.specs.Calls.{KeepsHeader}
+use Rattle.freelist.specs.PageBytes.{Reheads, listing}
 
 -- A page after page 1 was written, with as many bytes as it had, and then page 1's header.
 pub record IsRewritten (old new : PageMap) (number : ℕ) (header : Header) : Type 0 where

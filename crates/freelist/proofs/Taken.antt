@@ -1,22 +1,22 @@
 -- A page of the freelist was taken.
-use Rattle.std.proofs.Common.{◌≡◌, ◌⊎◌, inl, inr, ℕ, ◌+◌, ◌*◌, ◌-◌, ◌/◌, ◌^◌, ◌<◌, ◌≤◌, List, [], ◌∷◌, ◌++◌, length, drop, refl, sym, ap, subst, ◌∙◌, arith, length-append, replicate}
+use Rattle.std.proofs.Common.{◌≡◌, inl, inr, ℕ, ◌+◌, ◌-◌, ◌/◌, ◌^◌, ◌<◌, ◌≤◌, List, [], ◌∷◌, ◌++◌, length, drop, refl, sym, ap, subst, ◌∙◌, arith, length-append, replicate}
 use Rattle.std.proofs.lemmas.Grind.{common_steps}
-use Rattle.std.proofs.lemmas.Bool.{cases_lt, cases_eq}
-use Rattle.std.proofs.lemmas.List.{get_or_past, set-get_or, length-replicate, get_or_append_left, get_or_at, append_assoc}
-use Rattle.std.specs.List.{flat_map, AllByRecursion}
+use Rattle.std.proofs.lemmas.Bool.{cases_lt}
+use Rattle.std.proofs.lemmas.List.{get_or_past, set-get_or, length-replicate, get_or_append_left, get_or_at}
+use Rattle.std.specs.List.{AllByRecursion}
 use Rattle.std.specs.Prelude.{Result, Ok, Err, MatchResult, Option, Some, None, IsTrue, Bool, IfErr, IfOk, OnOk, IsErrAnd}
 use Rattle.sqlval.specs.declared.fault.Fault.{Fault}
 use Rattle.sqlval.specs.Faults.{IsOutside}
 use Rattle.dbheader.specs.Header.{IsHeader}
 use Rattle.dbheader.specs.declared.fields.Header.{Header}
 use Rattle.pages.specs.Calls.{IsOutsideOrFull, Limits}
-use Rattle.pages.specs.Counting.{occurs, fresh, IsOnce, Moves, body_at, start_of}
-use Rattle.pages.specs.Map.{PageMap, page_at, with_page, AreWhole, Has, IsThere}
+use Rattle.pages.specs.Counting.{occurs, fresh, start_of}
+use Rattle.pages.specs.Map.{PageMap, page_at, with_page, Has, IsThere}
 use Rattle.freelist.specs.Freelist.{Trunk, IsTrunk, AreTrunks, IsFreelist, first_of, pages_of}
-use Rattle.freelist.specs.Calls.{HasFree, AreFree, KeepsHeader, IsTaken, Takes}
+use Rattle.freelist.specs.Calls.{AreFree, IsTaken, Takes}
 use Rattle.freelist.specs.PageBytes.{Reheads, IsTrunkPage, IsFront, LeadsTo, IsLastTaken, listing}
 use Rattle.freelist.proofs.TrunkBytes.{all_front, all_last}
-use Rattle.freelist.proofs.Lists.{IsRewritten, occurs_here, occurs_later, occurs_both, occurs_self, all_has, trunk_stays, trunks_stay, pages_moved, header_kept, rewritten, as_written}
+use Rattle.freelist.proofs.Lists.{IsRewritten, occurs_here, occurs_both, occurs_self, all_has, trunks_stay, pages_moved, header_kept, rewritten, as_written}
 
 -- The freelist by its first trunk, and the trunks after it.
 pub record BeginsWith (map : PageMap) (size : ℕ) (free : List ℕ) (header : Header) (leaves : List ℕ) (ts : List Trunk) : Type 0 where

@@ -1,5 +1,5 @@
 -- What taking a page, and giving one back, do to the pages (Database File Format, "The Freelist").
-use Rattle.std.specs.Prelude.{◌≡◌, ◌⊎◌, ◌≤◌, ◌<◌, ℕ, List, [], ◌∷◌, length, ⊤, Result, MatchResult}
+use Rattle.std.specs.Prelude.{◌≡◌, ◌⊎◌, ◌<◌, ℕ, List, [], ◌∷◌, length, ⊤, Result, MatchResult}
 use Rattle.sqlval.specs.declared.fault.Fault.{Fault}
 use Rattle.sqlval.specs.Faults.{IsOutside}
 use Rattle.dbheader.specs.Header.{IsHeader}

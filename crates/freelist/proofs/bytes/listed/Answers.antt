@@ -1,4 +1,4 @@
-use Rattle.std.proofs.Common.{refl, ◌≡◌, ◌≤◌, ◌<◌, ◌/◌, inl, inr, ℕ, Option, None, Some, ap, sym, ◌∙◌, arith, length}
+use Rattle.std.proofs.Common.{refl, ◌≡◌, ℕ, None, Some, arith}
 use Rattle.freelist.proofs.TrunkBytes.{next_found, count_found}
 use Rattle.freelist.proofs.bytes.listed.Goals as goal
 use Rattle.freelist.proofs.bytes.listed.Goals.{then-page-lt2-via-then-page-lt2, then-page-lt2-via-else-page-lt2+then-len-page}

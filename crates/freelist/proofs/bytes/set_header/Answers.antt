@@ -1,4 +1,4 @@
-use Rattle.std.proofs.Common.{◌≡◌, ◌++◌, ◌∙◌, List, ℕ, length, drop, ap, sym, subst, rules, arith}
+use Rattle.std.proofs.Common.{◌≡◌, ◌++◌, ◌∙◌, List, ℕ, length, drop, sym, subst, rules}
 use Rattle.std.proofs.lemmas.List.{length-take-le}
 use Rattle.freelist.specs.PageBytes.{Reheads}
 use Rattle.freelist.proofs.HeaderBytes.{reheaded}

@@ -1,4 +1,4 @@
-use Rattle.std.proofs.Common.{◌≡◌, ℕ, Option, None, Some, arith}
+use Rattle.std.proofs.Common.{◌≡◌, ℕ, None, Some}
 use Rattle.freelist.proofs.TrunkBytes.{last_found, lowered}
 use Rattle.freelist.proofs.bytes.take_last.Goals as goal
 

@@ -1,4 +1,4 @@
-use Rattle.std.proofs.Common.{◌≡◌, ◌∙◌, ◌<◌, ◌^◌, ℕ, rules, refl, sym, ap, None, Some, arith, subst, List}
+use Rattle.std.proofs.Common.{◌≡◌, ◌∙◌, ℕ, refl, sym, ap, subst, List}
 use Rattle.dbheader.specs.Header.{IsHeader}
 use Rattle.pages.specs.Map.{PageMap, page_at}
 use Rattle.freelist.specs.Calls.{IsTaken}

@@ -1,7 +1,5 @@
-use Rattle.std.proofs.Common.{◌≡◌, ◌<◌, ◌≤◌, ◌^◌, ◌-◌, ◌∙◌, ℕ, length, rules, sym, ap, subst, None, Some, arith}
-use Rattle.pages.specs.Map.{PageMap, with_page}
+use Rattle.std.proofs.Common.{◌<◌, ◌^◌, ◌∙◌, length, rules, ap}
 use Rattle.freelist.specs.Calls.{IsTaken}
-use Rattle.freelist.specs.PageBytes.{IsLastTaken}
 use Rattle.freelist.proofs.Taken.{leaf_taken, told_leaf, hundred, refused, begins, stands_alone, page_there, one_there}
 use Rattle.freelist.proofs.taking.take_leaf.Goals as goal
 

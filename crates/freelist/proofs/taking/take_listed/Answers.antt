@@ -1,4 +1,4 @@
-use Rattle.std.proofs.Common.{◌≡◌, ◌∙◌, ◌<◌, ◌≤◌, ◌^◌, ℕ, List, length, rules, refl, sym, ap, None, Some, arith, subst}
+use Rattle.std.proofs.Common.{◌≡◌, ◌∙◌, ◌<◌, ◌^◌, ℕ, rules, sym, ap, subst}
 use Rattle.pages.specs.Map.{PageMap, page_at}
 use Rattle.freelist.specs.Calls.{IsTaken}
 use Rattle.freelist.specs.PageBytes.{LeadsTo}

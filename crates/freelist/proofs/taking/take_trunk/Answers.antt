@@ -1,5 +1,4 @@
-use Rattle.std.proofs.Common.{◌≡◌, ◌<◌, ◌^◌, ◌-◌, rules, sym, ap, subst}
-use Rattle.pages.specs.Map.{PageMap, with_page}
+use Rattle.std.proofs.Common.{◌<◌, ◌^◌, rules}
 use Rattle.freelist.proofs.Taken.{trunk_taken, hundred}
 use Rattle.freelist.proofs.taking.take_trunk.Goals as goal
 
