@@ -29,7 +29,7 @@ use catalog::Catalog;
 use dbheader::Header;
 use disk::Disk;
 use loading::load;
-use parser::parse;
+use parser::{parse, release};
 use rowprog::Rows;
 use session::Connections;
 use sqlval::limits::DATABASE_HEADER_LEN;
@@ -166,7 +166,9 @@ impl<D: Disk + Drop> Engine<D> {
     {
         self.connections.check(connection)?;
         let statement = parse(self.alloc, text)?;
-        self.connections.execute(connection, &statement)
+        let rows = self.connections.execute(connection, &statement);
+        release(statement);
+        rows
     }
 
     /// Whether a commit has failed, so that the files must be opened again.

@@ -54,7 +54,8 @@ refused_alone f y h = not_ok f y h
 
 -- ---- texts
 
-created : (sql : List ℕ) (s : Statement) (made : Create) (d : TableDefinition) → s ≡ statement.Create made → made.object ≡ new.Table d
+-- the text of a CREATE TABLE
+pub created : (sql : List ℕ) (s : Statement) (made : Create) (d : TableDefinition) → s ≡ statement.Create made → made.object ≡ new.Table d
     → IsStatementText sql s → is_statement_within s ≡ true → length sql ≤ 65536 → IsCreateOf sql (new.Table d)
 created sql s made d is of text within short = record {
   sql = made.sql;
@@ -65,11 +66,6 @@ created sql s made d is of text within short = record {
   where
     whole : s ≡ statement.Create (record { sql = made.sql; object = new.Table d })
     whole = is ∙ ap (λ (o : NewObject). statement.Create (record { sql = made.sql; object = o })) of
-
-pub defined_by : (sql : List ℕ) (s : Statement) (object : NewObject) (result : Result TableDefinition Fault) → IsStatementText sql s × (is_statement_within s ≡ true) × (length sql ≤ 65536)
-    → (made : Create) × (s ≡ statement.Create made) × (made.object ≡ object) → IfOk result (λ d. object ≡ new.Table d) → IfOk result (λ d. IsCreateOf sql (new.Table d))
-defined_by sql s object (Ok d) found made is = created sql s made.0 d made.1 (made.2 ∙ is) found.0 found.1 found.2
-defined_by sql s object (Err f) found made is = tt
 
 -- ---- columns
 

@@ -19,7 +19,7 @@ ghost use Rattle.session.specs.Schema.{AreRowsOf, AreSameTables, IsCreateOf, IsR
 ghost use Rattle.loading.specs.Loading.{AddsTables, AddsToldTable, AreRowValues, HasParts, IsOfRow, IsSchemaFault, ListsCommitted, TellsTable, TellsTables};
 
 use catalog::{Catalog, Column, Table, columns_of, is_reserved};
-use parser::parse;
+use parser::{parse, release};
 use record::Record;
 use session::is_table_supported;
 use sqlval::{Damage, Fault, Feature, Field, Many, R};
@@ -128,22 +128,21 @@ fn statement_of(alloc: Global, sql: &str) -> R<Statement>
 }
 
 /// What a CREATE makes.
-fn created_by(statement: Statement) -> R<NewObject>
-    ensures tells { (made : Made) → statement ≡ parsed.Create made → result ≡ Ok made.object }
-    ensures found { IfOk result (λ object. (made : Made) × (statement ≡ parsed.Create made) × (made.object ≡ object)) }
+fn created_by(statement: &Statement) -> R<&NewObject>
+    ensures tells { (made : Made) → statement.now ≡ parsed.Create made → IsOkAnd result (λ object. object.now ≡ made.object) }
+    ensures found { IfOk result (λ object. (made : Made) × (statement.now ≡ parsed.Create made) × (made.object ≡ object.now)) }
     ensures not_disk { IfErr result (λ fault. IsSchemaFault fault) }
 {
-    let Statement::Create(create) = statement else {
-        return Err(Fault::Unsupported(Feature::SchemaObject));
-    };
-    let Create { sql: _, object } = create;
-    Ok(object)
+    match statement {
+        Statement::Create(create) => Ok(&create.object),
+        _ => Err(Fault::Unsupported(Feature::SchemaObject)),
+    }
 }
 
 /// The definition of a table, which the object must be.
-fn table_in(object: NewObject) -> R<TableDefinition>
-    ensures tells { (definition : TableDefinition) → object ≡ new.Table definition → result ≡ Ok definition }
-    ensures found { IfOk result (λ definition. object ≡ new.Table definition) }
+fn table_in(object: &NewObject) -> R<&TableDefinition>
+    ensures tells { (definition : TableDefinition) → object.now ≡ new.Table definition → IsOkAnd result (λ found. found.now ≡ definition) }
+    ensures found { IfOk result (λ definition. object.now ≡ new.Table definition.now) }
     ensures not_disk { IfErr result (λ fault. IsSchemaFault fault) }
 {
     match object {
@@ -152,15 +151,13 @@ fn table_in(object: NewObject) -> R<TableDefinition>
     }
 }
 
-/// The definition in the text of a CREATE TABLE.
-fn definition_of(alloc: Global, sql: &str) -> R<TableDefinition>
-    ensures tells { (definition : TableDefinition) → IsCreateOf sql.now (new.Table definition) → IsOrMemory (λ found. found ≡ definition) result }
-    ensures found { IfOk result (λ definition. IsCreateOf sql.now (new.Table definition)) }
+/// The definition in a CREATE TABLE.
+fn definition_in(statement: &Statement) -> R<&TableDefinition>
+    ensures tells { (made : Made) (definition : TableDefinition) → statement.now ≡ parsed.Create made → made.object ≡ new.Table definition → IsOkAnd result (λ found. found.now ≡ definition) }
+    ensures found { IfOk result (λ definition. (made : Made) × (statement.now ≡ parsed.Create made) × (made.object ≡ new.Table definition.now)) }
     ensures not_disk { IfErr result (λ fault. IsSchemaFault fault) }
 {
-    let statement = statement_of(alloc, sql)?;
-    let object = created_by(statement)?;
-    table_in(object)
+    table_in(created_by(statement)?)
 }
 
 /// The columns that a definition gives its table.
@@ -196,20 +193,35 @@ fn is_of_row(definition: &TableDefinition, row: &SchemaRow<'_>) -> R<()>
     Ok(())
 }
 
+/// The table of this row and of the statement that its text is, under the name in the statement.
+fn table_made(alloc: Global, row: &SchemaRow<'_>, statement: &Statement) -> R<Table>
+    ensures tells { (before : List Table) (table : Table) (tells : TellsTable before table row.now) (made : Made) → statement.now ≡ parsed.Create made → made.object ≡ new.Table tells.definition
+        → IsOrMemory (IsSameTable table) result }
+    ensures found { IsStatementText row.now.sql.now statement.now × (is_statement_within statement.now ≡ true) × (length row.now.sql.now ≤ 65536)
+        → IfOk result (λ table. (before : List Table) → listed.table_named table.name before ≡ None → TellsTable before table row.now) }
+    ensures not_disk { IfErr result (λ fault. IsSchemaFault fault) }
+{
+    let definition = definition_in(statement)?;
+    is_of_row(definition, row)?;
+    let columns = columns_in(alloc, definition)?;
+    let name = definition.name.copy(alloc)?;
+    Ok(Table {
+        name,
+        columns,
+        root: row.root,
+    })
+}
+
 /// The table that a row tells, under the name in its definition.
 fn table_of(alloc: Global, row: &SchemaRow<'_>) -> R<Table>
     ensures tells { (before : List Table) (table : Table) → TellsTable before table row.now → IsOrMemory (IsSameTable table) result }
     ensures found { IfOk result (λ table. (before : List Table) → listed.table_named table.name before ≡ None → TellsTable before table row.now) }
     ensures not_disk { IfErr result (λ fault. IsSchemaFault fault) }
 {
-    let definition = definition_of(alloc, row.sql)?;
-    is_of_row(&definition, row)?;
-    let columns = columns_in(alloc, &definition)?;
-    Ok(Table {
-        name: definition.name,
-        columns,
-        root: row.root,
-    })
+    let statement = statement_of(alloc, row.sql)?;
+    let table = table_made(alloc, row, &statement);
+    release(statement);
+    table
 }
 
 /// Checks that no table of the catalog has this table's name.

@@ -8,6 +8,6 @@ mod statements;
 mod triggers;
 
 pub use laws::{kept_text_is_the_same, objects_are_exact, one_tree};
-pub use parsing::parse;
+pub use parsing::{parse, release};
 pub use queryparser::{changes_are_exact, queries_are_exact};
 pub use tableparser::tables_are_exact;

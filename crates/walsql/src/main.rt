@@ -1,12 +1,8 @@
 //! Runs SQL statements on a database file and its log: each line of input is a connection number, a space and one statement.
 #![tactic(auto)]
 
-mod arguments;
-mod file_disk;
 mod program;
 
-pub use arguments::{ArgsError, StartOptions, settings};
-pub use file_disk::FileDisk;
 pub use program::program;
 use std::alloc::Global;
 use std::io::{BufReader, BufWriter};

@@ -1,8 +1,8 @@
 //! The program over given arguments, input and output.
 
-use crate::arguments::{ArgsError, StartOptions, settings};
-use crate::file_disk::FileDisk;
 use engine::{Engine, Refused, create, put_reply};
+use filedisk::FileDisk;
+use settings::{ArgsError, StartOptions, settings};
 use sqlval::{Fault, R};
 use std::alloc::Global;
 use std::fs::File;

@@ -25,16 +25,16 @@ returns-in_err-statement-clause-counted g c =
     (λ io. absurd (subst (λ (f : Fault). IsTextRefusal c.args.text.now f) io c.in_err-statement.ensures.refused))
 
 pub returns-clause-counted : goal.returns-clause-counted
-returns-clause-counted g c = record { cause = for_any _ c.execute.result _ _ _ _ c.execute.ensures.cause; marks = c.execute.ensures.marks }
+returns-clause-counted g c = record { cause = for_any _ c.execute-rows.result _ _ _ _ c.execute-rows.ensures.cause; marks = c.execute-rows.ensures.marks }
 
 pub returns-clause-full : goal.returns-clause-full
-returns-clause-full g c is = (c.in_ok-statement.statement, c.in_ok-statement.ensures.found.0, full_of _ c.execute.result _ _ _ _ c.execute.ensures.cause is)
+returns-clause-full g c is = (c.in_ok-statement.statement, c.in_ok-statement.ensures.found.0, full_of _ c.execute-rows.result _ _ _ _ c.execute-rows.ensures.cause is)
 
 pub returns-clause-unsupported : goal.returns-clause-unsupported
 returns-clause-unsupported g c = λ statement first is unsupported.
     let same = one_text exact_statement c.args.text.now c.in_ok-statement.statement statement c.in_ok-statement.ensures.found.0 is in
-    let kept = c.execute.ensures.unsupported (subst (λ (s : Statement). IsFalse (forms.is_supported s && forms.is_connection_supported c.args.connection)) (sym same) unsupported) in
-    (never_answered c.execute.result kept.0, ap (λ connections. record c.args.self.now { connections = connections }) kept.1)
+    let kept = c.execute-rows.ensures.unsupported (subst (λ (s : Statement). IsFalse (forms.is_supported s && forms.is_connection_supported c.args.connection)) (sym same) unsupported) in
+    (never_answered c.execute-rows.result kept.0, ap (λ connections. record c.args.self.now { connections = connections }) kept.1)
 
 pub returns-in_err-check-clause-step : goal.returns-in_err-check-clause-step
 returns-in_err-check-clause-step g c =
@@ -56,5 +56,5 @@ returns-clause-step g c =
     let statement = c.in_ok-statement.statement in
     let found = c.in_ok-statement.ensures.found in
     let stands = read_candidate c.args.text.now statement c.in_ok-statement.ensures.exact c.in_ok-statement.ensures.unsupported in
-    executed c.args.self.now c.args.connection c.args.text.now statement (rows_reply c.execute.result) c.execute.new.self
-    (sym c.in_ok-check.ensures) stands found.0 found.1 c.execute.ensures.step
+    executed c.args.self.now c.args.connection c.args.text.now statement (rows_reply c.execute-rows.result) c.execute-rows.new.self
+    (sym c.in_ok-check.ensures) stands found.0 found.1 c.execute-rows.ensures.step

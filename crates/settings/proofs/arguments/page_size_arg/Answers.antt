@@ -2,7 +2,7 @@ use Rattle.std.proofs.Common.{rules, ap, codes, ◌≡◌, ◌∙◌, Option, So
 use Rattle.clap.specs.Words.{Rule, new_rule, rule_of}
 use Rattle.clap.specs.declared.builder.value_parser.ValueParser.{ValueParser}
 use Rattle.clap.specs.declared.builder.value_parser.ValueParser.TheVariants as parser
-use Rattle.walsql.proofs.arguments.page_size_arg.Goals as goal
+use Rattle.settings.proofs.arguments.page_size_arg.Goals as goal
 
 abbrev plain : Rule
 plain = record (new_rule (codes "page-size")) { long = Some (codes "page-size"); value_names = 1 }

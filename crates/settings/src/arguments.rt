@@ -3,13 +3,13 @@
 ghost use Rattle.std.specs.Prelude.{◌≡◌, IfOk, IfErr, MatchOption, codes, map, option_map, Some, true, false, string_bytes};
 ghost use Rattle.clap.specs.Words.{app_of, first_value, found_of, kind_of, rule_of, takes};
 ghost use Rattle.clap.specs.declared.error.ErrorKind.TheVariants.{OutOfMemory};
-ghost use Rattle.walsql.specs.Settings.{AreSettings, Counts, IsRefusalOf, SpellsSalts, value_in, name_rule, page_size_rule, salt_rule, walsql};
+ghost use Rattle.settings.specs.Settings.{AreSettings, Counts, IsRefusalOf, SpellsSalts, value_in, name_rule, page_size_rule, salt_rule, walsql};
 
 use byteorder::{BigEndian, ByteOrder};
 use clap::{Arg, ArgAction, ArgMatches, Command, value_parser};
-use engine::Salts;
 use hex::FromHex;
 use std::alloc::Global;
+use walframe::Salts;
 
 /// Page size of a new database without `--page-size`, in bytes.
 const DEFAULT_PAGE_SIZE: u32 = 4096;
@@ -39,7 +39,7 @@ pub enum ArgsError<'a> {
 }
 
 impl<'a> From<clap::Error> for ArgsError<'a> {
-    ghost use Rattle.walsql.specs.declared.arguments.ArgsError.TheVariants.{Usage};
+    ghost use Rattle.settings.specs.declared.arguments.ArgsError.TheVariants.{Usage};
 
     ghost from_gives = { λ error refused. refused ≡ Usage error };
 

@@ -4,9 +4,9 @@ use Rattle.clap.specs.Words.{App, HasMatchesOf, Text, first_of, first_value, fou
 use Rattle.clap.specs.declared.parser.matches.ArgMatches.{ArgMatches}
 use Rattle.clap.proofs.OnLiterals.{clap_on_literals}
 use Rattle.clap.proofs.WalkLemmas.{first_value-rows}
-use Rattle.walsql.specs.declared.arguments.ArgsError.{ArgsError}
-use Rattle.walsql.specs.Settings.{AreSettings, IsRefusalOf, value_in, walsql}
-use Rattle.walsql.proofs.arguments.settings.Goals as goal
+use Rattle.settings.specs.declared.arguments.ArgsError.{ArgsError}
+use Rattle.settings.specs.Settings.{AreSettings, IsRefusalOf, value_in, walsql}
+use Rattle.settings.proofs.arguments.settings.Goals as goal
 
 simple : is_simple walsql ≡ true
 unfolding clap_on_literals

@@ -8,8 +8,8 @@ use Rattle.clap.specs.declared.builder.action.ArgAction.TheVariants.{Set}
 use Rattle.clap.specs.declared.builder.value_parser.ValueParser.TheVariants as parser
 use Rattle.clap.specs.declared.error.ErrorKind.TheVariants.{OutOfMemory}
 use Rattle.walframe.specs.declared.log_header.Salts.{Salts}
-use Rattle.walsql.specs.declared.arguments.ArgsError.{ArgsError}
-use Rattle.walsql.specs.declared.arguments.ArgsError.TheVariants as refused
+use Rattle.settings.specs.declared.arguments.ArgsError.{ArgsError}
+use Rattle.settings.specs.declared.arguments.ArgsError.TheVariants as refused
 
 abbrev pub page_size_rule : Rule
 page_size_rule = record (new_rule (codes "page-size")) {

@@ -1,0 +1,6 @@
+//! A disk over a file of the operating system.
+#![tactic(auto)]
+
+mod file_disk;
+
+pub use file_disk::FileDisk;

@@ -1,0 +1,20 @@
+use Rattle.std.proofs.Common.{◌≡◌, None, refl, subst}
+use Rattle.catalog.specs.Database.{Name}
+use Rattle.catalog.specs.Listed.{table_named}
+use Rattle.loading.proofs.SchemaTables.{created}
+use Rattle.loading.proofs.schema.table_made.Goals as goal
+
+pub returns-clause-found : goal.returns-clause-found
+returns-clause-found c = λ is before new.
+    let found = c.in_ok-definition.ensures.found in
+    let names = c.in_ok-is_of_row.ensures.found in record {
+      definition = c.in_ok-definition.definition.now;
+      creates = created c.args.row.now.sql.now c.args.statement.now found.0 c.in_ok-definition.definition.now found.1 found.2 is.0 is.1 is.2;
+      names = names;
+      made = record {
+        fresh = record { free = names.free; new = subst (λ (n : Name). table_named n before ≡ None) c.in_ok-name.ensures new; once = c.in_ok-columns.ensures.found.0 };
+        name_is = c.in_ok-name.ensures;
+        root_is = refl;
+        columns = c.in_ok-columns.ensures.found.1;
+      };
+    }
