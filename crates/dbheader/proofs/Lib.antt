@@ -1,2 +1,3 @@
 pub mod HeaderLemmas
 pub mod SpellingLemmas
+pub mod Fronts

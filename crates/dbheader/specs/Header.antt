@@ -1,6 +1,6 @@
 -- What the first 100 bytes of a database file say (Database File Format, "The Database Header").
 use Rattle.sqlval.specs.PageSizes.{IsPageSize}
-use Rattle.std.specs.Prelude.{◌≡◌, ◌≤◌, ◌^◌, ◌&&◌, ℕ, List, [], ◌∷◌, ◌++◌, length, take, drop, replicate, codes, not, ◌==◌, Option, Some, None, if◌then◌else◌}
+use Rattle.std.specs.Prelude.{◌≡◌, ◌≤◌, ◌&&◌, ℕ, List, [], ◌∷◌, ◌++◌, length, take, drop, replicate, codes, not, ◌==◌, Option, Some, None, if◌then◌else◌}
 use Rattle.byteorder.specs.Endian.{big_number}
 use Rattle.dbheader.specs.declared.fields.Header.{Header}
 

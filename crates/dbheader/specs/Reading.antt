@@ -1,6 +1,6 @@
 -- Reading a header, with the first refusal.
 use Rattle.sqlval.specs.PageSizes.{is_size}
-use Rattle.std.specs.Prelude.{ℕ, List, [], ◌∷◌, length, replicate, Bool, ◌==◌, ◌&&◌, ◌||◌, nat_le, not, Option, Some, None, Result, Ok, Err, if◌then◌else◌}
+use Rattle.std.specs.Prelude.{ℕ, List, [], ◌∷◌, length, replicate, Bool, ◌==◌, ◌&&◌, nat_le, not, Option, Some, None, Result, Ok, Err, if◌then◌else◌}
 use Rattle.std.specs.Str.{bytes_eq}
 use Rattle.sqlval.specs.declared.fault.Fault.{Fault}
 use Rattle.sqlval.specs.declared.fault.Fault.TheVariants.{NotADatabase, Unsupported, Damaged}

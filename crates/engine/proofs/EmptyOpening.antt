@@ -15,7 +15,7 @@ use Rattle.tabletree.specs.SingleLeaf.{IsSingleLeaf}
 use Rattle.wal.specs.Sizes.{IsSizeWithinLimits}
 use Rattle.wal.specs.View.{IsInFile}
 use Rattle.pager.specs.Views.{IsViewPage, View}
-use Rattle.pager.proofs.HeaderFronts.{header_moves}
+use Rattle.dbheader.proofs.Fronts.{header_moves}
 use Rattle.session.specs.Holding.{Hold}
 use Rattle.session.proofs.Standing.{held_if_stored}
 use Rattle.session.proofs.Fresh.{nothing_stored}

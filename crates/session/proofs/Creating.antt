@@ -49,7 +49,7 @@ use Rattle.pager.specs.Limits.{is_too_large, one_more, page_size_of, pages_of}
 use Rattle.pager.specs.Views.{ViewHas, IsViewPage, Tells, View, after, changes_of, view_at, view_of}
 use Rattle.pager.specs.Writers.{AreObjectPages, IsUnchanged, IsConsistent, ReplacesPages, seen, snapshot_of}
 use Rattle.pager.specs.declared.writer.Writer.{Writer}
-use Rattle.pager.proofs.HeaderFronts.{header_moves}
+use Rattle.dbheader.proofs.Fronts.{header_moves}
 use Rattle.pager.proofs.Seeing.{first_not_missing, whole_same}
 use Rattle.session.specs.Supported.{is_table_supported}
 use Rattle.session.specs.NewTables.{IsListedAfter, IsMadeBeside, IsNewTableFault, IsRowFault, schema_row}
