@@ -1,9 +1,10 @@
 -- What a refusal after other calls comes of.
-use Rattle.std.proofs.Common.{inl, inr, ◌≤◌, ◌<◌, ◌-◌, ◌^◌, ℕ, List, [], length, ap, ◌∙◌, arith}
+use Rattle.std.proofs.Common.{◌≡◌, inl, inr, sym, ◌≤◌, ◌<◌, ◌-◌, ◌^◌, ℕ, List, [], length, ap, ◌∙◌, arith}
 use Rattle.std.proofs.lemmas.Bool.{cases_lt}
 use Rattle.std.proofs.lemmas.List.{get_or-set_other, length-set}
-use Rattle.std.specs.Prelude.{Result, Ok, Err, IfErr}
+use Rattle.std.specs.Prelude.{Result, Ok, Err, IfErr, IsErrAnd}
 use Rattle.sqlval.specs.declared.fault.Fault.{Fault}
+use Rattle.sqlval.specs.declared.fault.Fault.TheVariants.{Memory, Io, Full}
 use Rattle.pages.specs.Calls.{HasGrown, HasRisen, IsCause, Causes}
 use Rattle.pages.specs.Map.{PageMap, with_page, IsThere}
 
@@ -46,3 +47,13 @@ cause_at_last (Err fault) a b F why = record { io = why.io; full = λ is. absurd
 -- a call that never says `Full`, after an earlier call
 pub causes_still : {S T : Type 0} (before : Result S Fault) (result : Result T Fault) (a b c : ℕ × ℕ) (F : Type 0) → Causes before a b ⊥ → Causes result b c ⊥ → Causes result a c F
 causes_still before result a b c F first then = (let all = causes_after before result a b c ⊥ ⊥ first then in record { db = all.db; log = all.log; why = cause_at_last result a c F all.why })
+
+-- a refusal for want of memory, before any other call
+pub memory_alone : {T : Type 0} (result : Result T Fault) (fault : Fault) (a : ℕ × ℕ) → IsErrAnd result (λ e. e ≡ fault) → fault ≡ Memory → Causes result a a ⊥
+memory_alone (Ok x) fault a is memory = absurd is
+memory_alone (Err e) fault a is memory = record { db = omega arith; log = omega arith; why = record { io = λ io. absurd (not_io (sym (is ∙ memory) ∙ io)); full = λ full. absurd (not_full (sym (is ∙ memory) ∙ full)) } } where
+  not_io : Memory ≡ Io → ⊥
+  not_io e = cc
+
+  not_full : Memory ≡ Full → ⊥
+  not_full e = cc

@@ -1,6 +1,6 @@
 -- The numbers on a trunk page.
-use Rattle.std.proofs.Common.{◌≡◌, ℕ, ◌+◌, ◌*◌, ◌-◌, ◌^◌, ◌<◌, List, [], ◌∷◌, ◌++◌, length, refl, ap, ◌∙◌, arith, length-append}
-use Rattle.std.proofs.lemmas.List.{append_assoc}
+use Rattle.std.proofs.Common.{◌≡◌, ℕ, ◌+◌, ◌*◌, ◌-◌, ◌/◌, ◌^◌, ◌<◌, ◌≤◌, List, [], ◌∷◌, ◌++◌, length, take, drop, replicate, refl, sym, ap, ◌∙◌, arith, length-append}
+use Rattle.std.proofs.lemmas.List.{append_assoc, take-append-drop, length-take-le, length-replicate, replicate-append-replicate}
 use Rattle.std.proofs.lemmas.List.Concat.{flat_map-append}
 use Rattle.std.specs.List.{flat_map, AllByRecursion}
 use Rattle.std.specs.Int.{w32, to_be_bytes}
@@ -31,6 +31,10 @@ all_front p (y ∷ ys) x all = (all.0, all_front p ys x all.1)
 pub all_last : (p : ℕ → Type 0) (xs : List ℕ) (x : ℕ) → AllByRecursion p (xs ++ x ∷ []) → p x
 all_last p [] x all = all.0
 all_last p (y ∷ ys) x all = all_last p ys x all.1
+
+pub all_more : (p : ℕ → Type 0) (xs : List ℕ) (x : ℕ) → AllByRecursion p xs → p x → AllByRecursion p (xs ++ x ∷ [])
+all_more p [] x all last = (last, tt)
+all_more p (y ∷ ys) x all last = (all.0, all_more p ys x all.1 last)
 
 -- what reading a number at a place answers
 abbrev pub Finds : List ℕ → ℕ → Option ℕ → Type 0
@@ -71,4 +75,51 @@ lowered old new next len leaves leaf sets same trunk is =
       few = omega (arith, trunk.few, more, same);
       short = omega (arith, trunk.short, more);
       leaves_near = all_front (λ (l : ℕ). l < 2 ^ 32) leaves leaf trunk.leaves_near;
+    }
+
+pub grouped : (a b c rest : List ℕ) → a ++ (b ++ (c ++ rest)) ≡ (a ++ (b ++ c)) ++ rest
+grouped a b c rest = rw (append_assoc a (b ++ c) rest, append_assoc b c rest) refl
+
+-- a leaf was written behind the others, and then their number
+pub raised : (old mid new : List ℕ) (next len : ℕ) (leaves : List ℕ) (leaf : ℕ) → Sets old mid (8 + 4 * len) leaf → Sets mid new 4 (len + 1) → length mid ≡ length old → length new ≡ length mid
+    → len + 8 < length old / 4 → len + 1 < 2 ^ 32 → leaf < 2 ^ 32 → IsTrunkPage old next leaves → len ≡ length leaves → IsTrunkPage new next (leaves ++ leaf ∷ [])
+raised old mid new next len leaves leaf first then same_mid same room short near trunk is =
+    let a = to_be_bytes w32 next in
+    let b = to_be_bytes w32 (length leaves) in
+    let c = flat_map (to_be_bytes w32) leaves in
+    let cell = take 4 trunk.rest in
+    let more = drop 4 trunk.rest in
+    let front = front_long a b c (length leaves) refl refl (leaves_long (to_be_bytes w32) four_long leaves) in
+    let long : length old ≡ length (a ++ (b ++ c)) + length trunk.rest = ap length (trunk.parts ∙ grouped a b c trunk.rest) ∙ length-append (a ++ (b ++ c)) trunk.rest in
+    let cell_long : length cell ≡ 4 = length-take-le 4 trunk.rest (omega (arith, long, front, room, is)) in
+    let parts : old ≡ (a ++ (b ++ c)) ++ (cell ++ more)
+    = trunk.parts ∙ grouped a b c trunk.rest ∙ ap (λ (l : List ℕ). (a ++ (b ++ c)) ++ l) (sym (take-append-drop 4 trunk.rest)) in
+    let put : mid ≡ a ++ (b ++ (c ++ (to_be_bytes w32 leaf ++ more)))
+    = first cell (a ++ (b ++ c)) more cell_long parts (front ∙ omega (arith, is)) ∙ sym (grouped a b c (to_be_bytes w32 leaf ++ more)) in
+    let now = then b a (c ++ (to_be_bytes w32 leaf ++ more)) refl put refl in
+    let one_more : length (leaves ++ leaf ∷ []) ≡ length leaves + 1 = length-append leaves (leaf ∷ []) in
+    record {
+      near = trunk.near;
+      rest = more;
+      parts = now ∙ ap (λ (n : ℕ). a ++ (to_be_bytes w32 n ++ (c ++ (to_be_bytes w32 leaf ++ more)))) (omega (arith, is, one_more))
+          ∙ ap (λ (l : List ℕ). a ++ (to_be_bytes w32 (length (leaves ++ leaf ∷ [])) ++ l)) (sym (shifted (to_be_bytes w32) leaves leaf more));
+      few = omega (arith, same_mid, same, room, is, one_more);
+      short = omega (arith, short, is, one_more);
+      leaves_near = all_more (λ (l : ℕ). l < 2 ^ 32) leaves leaf trunk.leaves_near near;
+    }
+
+-- zeros with a number at their front
+pub begun : (zeros new : List ℕ) (size next : ℕ) → zeros ≡ replicate size 0 → Sets zeros new 0 next → length new ≡ length zeros → 8 ≤ size → next < 2 ^ 32 → IsTrunkPage new next []
+begun zeros new size next is sets same large near =
+    let rest : List ℕ = replicate (size - 8) 0 in
+    let cut : replicate size 0 ≡ replicate 8 0 ++ rest = ap (λ (n : ℕ). replicate n 0) (omega (arith, large)) ∙ sym (replicate-append-replicate 8 (size - 8) 0) in
+    let now = sets (replicate 4 0) [] (replicate 4 0 ++ rest) refl (is ∙ cut) refl in
+    let long : length zeros ≡ size = ap length is ∙ length-replicate {A = ℕ} size 0 in
+    record {
+      near = near;
+      rest = rest;
+      parts = now;
+      few = omega (arith, same, long, large);
+      short = omega arith;
+      leaves_near = tt;
     }

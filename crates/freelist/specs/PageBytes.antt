@@ -30,6 +30,10 @@ abbrev pub IsLastTaken : List ℕ → List ℕ → ℕ → Option ℕ → Type 0
 IsLastTaken old new len result = (next : ℕ) (leaves : List ℕ) (leaf : ℕ) → IsTrunkPage old next (leaves ++ leaf ∷ []) → len ≡ length leaves + 1
     → (result ≡ Some leaf) × IsTrunkPage new next leaves
 
+-- Where the bytes list so many leaves, they list this one behind them now.
+abbrev pub IsLeafPut : List ℕ → List ℕ → ℕ → ℕ → Type 0
+IsLeafPut old new len leaf = (next : ℕ) (leaves : List ℕ) → IsTrunkPage old next leaves → len ≡ length leaves → IsTrunkPage new next (leaves ++ leaf ∷ [])
+
 -- a page that is a trunk page tells this next one, and lists so many pages
 abbrev pub LeadsTo : List ℕ → ℕ → ℕ → Type 0
 LeadsTo bytes next len = (n : ℕ) (leaves : List ℕ) → IsTrunkPage bytes n leaves → (n ≡ next) × (length leaves ≡ len)

@@ -1,13 +1,16 @@
 //! Numbers and the header on a page, as bytes.
 
-ghost use Rattle.std.specs.Prelude.{◌≡◌, ◌≤◌, ◌<◌, ◌^◌, ◌++◌, ◌+◌, ◌/◌, [], ◌∷◌, ℕ, List, length, Some, IfSome};
+ghost use Rattle.std.specs.Prelude.{◌≡◌, ◌≤◌, ◌<◌, ◌^◌, ◌++◌, ◌+◌, ◌/◌, [], ◌∷◌, ℕ, List, length, Some, IfSome, IfOk, IfErr, true};
 ghost use Rattle.std.specs.Int.{w32, to_be_bytes};
+ghost use Rattle.sqlval.specs.declared.fault.Fault.TheVariants.{Memory};
 ghost use Rattle.sqlval.specs.PageSizes.{IsPageSize};
 ghost use Rattle.dbheader.specs.declared.fields.Header.{Header};
 ghost use Rattle.dbheader.specs.Header.{IsHeader};
-ghost use Rattle.freelist.specs.PageBytes.{Reheads, IsTrunkPage, IsLastTaken};
+ghost use Rattle.freelist.specs.PageBytes.{Reheads, IsTrunkPage, IsLastTaken, IsLeafPut};
 
 use dbheader::Header;
+use sqlval::R;
+use std::alloc::Global;
 
 /// The number in the four bytes from a place on; None if the page ends before.
 pub fn number_at(page: &[u8], at: usize) -> Option<u32>
@@ -70,4 +73,35 @@ pub fn take_last(page: &mut [u8], len: u32) -> Option<u32>
     let leaf = number_at(page, 4 + 4 * len as usize)?;
     set_number(page, 4, len - 1);
     Some(leaf)
+}
+
+/// Whether a trunk page of so many bytes that lists so many pages takes one more. Older readers of
+/// the format want six places at its end left free.
+pub fn has_room(len: u32, size: usize) -> bool
+    ensures room { result ≡ true → len + 8 < size / 4 }
+    ensures short { result ≡ true → len + 1 < 2 ^ 32 }
+{
+    len < u32::MAX && len as usize + 8 < size / 4
+}
+
+/// Puts a page behind the so many that a trunk page lists.
+pub fn put_leaf(page: &mut [u8], len: u32, leaf: u32)
+    requires room { len + 8 < length page.now / 4 }
+    requires short { len + 1 < 2 ^ 32 }
+    ensures listed { IsLeafPut page.old page.new len leaf }
+    ensures same { length page.new ≡ length page.old }
+{
+    set_number(page, 8 + 4 * len as usize, leaf);
+    set_number(page, 4, len + 1);
+}
+
+/// The bytes of a trunk page that tells the next one and lists no page. (`Memory`.)
+pub fn empty_trunk(alloc: Global, size: usize, next: u32) -> R<Vec<u8>>
+    ensures trunk { 8 ≤ size → IfOk result (λ page. IsTrunkPage page.items next []) }
+    ensures size { IfOk result (λ page. length page.items ≡ size) }
+    ensures refusal { IfErr result (λ fault. fault ≡ Memory) }
+{
+    let mut page = vec![in alloc; 0; size]?;
+    set_number(page.as_mut_slice(), 0, next);
+    Ok(page)
 }

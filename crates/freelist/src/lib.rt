@@ -2,7 +2,9 @@
 #![tactic(auto)]
 
 mod bytes;
+mod giving;
 mod taking;
 mod writing;
 
+pub use giving::give;
 pub use taking::take;

@@ -23,6 +23,7 @@ pub fn page_of<P: WritePages>(alloc: Global, pages: &mut P, number: u32) -> R<Ve
 #[tactic(auto, using(crate::proofs::Causing::causes_after, crate::proofs::Causing::there_after))]
 pub fn put_both<P: WritePages>(pages: &mut P, number: u32, page: &[u8], first: &[u8]) -> R<()>
     ensures kept { P.Pages.below pages.new ≡ P.Pages.below pages.old }
+    ensures counted { P.Pages.count pages.new ≡ P.Pages.count pages.old }
     ensures done { IsTrue (P.Pages.tells (P.Pages.below pages.old)) → OnOk result (P.Pages.map pages.new ≡ with_page (with_page (P.Pages.map pages.old) number page.now) 1 first.now) }
     ensures refusal { IsTrue (P.Pages.tells (P.Pages.below pages.old)) → 1 < number → IsThere (P.Pages.map pages.old) (P.Pages.limits (P.Pages.below pages.old)).page number
         → IsThere (P.Pages.map pages.old) (P.Pages.limits (P.Pages.below pages.old)).page 1
