@@ -1,0 +1,10 @@
+pub mod BuildingLemmas
+pub mod CellLemmas
+pub mod Totals
+pub mod Joins
+pub mod FillingLemmas
+pub mod RowLemmas
+pub mod SpreadLemmas
+pub mod SayLemmas
+pub mod PackLemmas
+pub mod SmallLemmas

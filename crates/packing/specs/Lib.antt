@@ -1,0 +1,7 @@
+pub mod Parts
+pub mod Lists
+pub mod Rows
+pub mod Filling
+pub mod Building
+pub mod Packing
+pub mod Spreading

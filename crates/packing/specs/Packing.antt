@@ -1,0 +1,67 @@
+-- The cells of a node on as many pages as they need.
+use Rattle.std.specs.Prelude.{◌≡◌, ◌≤◌, ◌<◌, ◌+◌, ◌-◌, ◌*◌, ◌^◌, ℕ, Bool, List, [], ◌∷◌, ◌++◌, length, map}
+use Rattle.std.specs.List.{AllByRecursion}
+use Rattle.treepage.specs.Cells.{Pairwise}
+use Rattle.treepage.specs.Node.{Node, Rows, Keys, Entries, Between, code_of, right_of, Say, IsNode}
+use Rattle.treepage.specs.Reading.{type_of}
+use Rattle.treepage.specs.declared.items.Kind.{Kind}
+use Rattle.treepage.specs.declared.items.Kind.TheVariants.{TableLeaf, TableInterior, IndexLeaf, IndexInterior}
+use Rattle.packing.specs.declared.spreading.Packed.{Packed}
+use Rattle.packing.specs.Parts.{IsCut}
+use Rattle.packing.specs.Lists.{parts_of, pieces, entry_parts, side_parts, all_sides}
+use Rattle.packing.specs.Building.{cell_room, right_room}
+
+-- how many cells go to the page above between two pages: none for rows
+abbrev pub up_of : Kind → ℕ
+up_of TableLeaf = 0
+up_of TableInterior = 1
+up_of IndexLeaf = 1
+up_of IndexInterior = 1
+
+-- The cell fits a page of this kind, together with as large ones that go up.
+abbrev pub IsSmall : Kind → ℕ → List ℕ → Type 0
+IsSmall kind page_size cell = (up_of kind + 1) * cell_room cell ≤ page_size - 8 - right_room kind
+
+-- What stands before the header, at most half of the page, leaves room for it, and each cell is small.
+pub record CanPack (page_size start : ℕ) (kind : Kind) (cells : List (List ℕ)) : Type 0 where
+  pub addressed : page_size < 2 ^ 16
+  pub header : 2 * start + 8 + right_room kind ≤ page_size
+  pub small : AllByRecursion (IsSmall kind page_size) cells
+
+-- the cells of a page of this kind and size, with the last child of an interior page, say this
+pub record AreOf (kind : Kind) (page_size : ℕ) (right : List ℕ) (cells : List (List ℕ)) (node : Node) : Type 0 where
+  pub kind_is : type_of kind ≡ code_of node
+  pub right_is : right_of node ≡ right
+  pub say : Say page_size cells node
+
+-- what each page says, by the counts of the cells of all pages but the last
+abbrev pub nodes_of : List ℕ → Node → List Node
+nodes_of counts (Rows rows) = map (λ part. Rows part) (parts_of 0 counts rows)
+nodes_of counts (Keys kids last) =
+    map (λ side. Keys side.0 side.1) (all_sides (side_parts counts (kids, last)).0 (side_parts counts (kids, last)).1)
+nodes_of counts (Entries entries) = map (λ part. Entries part) (pieces (entry_parts counts entries).0 (entry_parts counts entries).1)
+nodes_of counts (Between kids last) =
+    map (λ side. Between side.0 side.1) (all_sides (side_parts counts (kids, last)).0 (side_parts counts (kids, last)).1)
+
+-- the bytes of all pages
+abbrev pub images : Packed → List (List ℕ)
+images packed = map (λ piece. piece.page.items) packed.pieces.items ++ packed.last.items ∷ []
+
+-- where the header of each page begins: a page alone keeps what stands before its header
+abbrev pub start_of : List ℕ → List ℕ → ℕ
+start_of front [] = length front
+start_of front (count ∷ counts) = 0
+
+-- the place of the cell after each part, from this place on
+abbrev pub ends_of : ℕ → ℕ → List ℕ → List ℕ
+ends_of up place [] = []
+ends_of up place (count ∷ counts) = (place + count) ∷ ends_of up (place + count + up) counts
+
+-- The node is packed: its cells are cut by their room, and each page says its part of the node.
+pub record Packs (kind : Kind) (page_size : ℕ) (front : List ℕ) (rises : Bool) (cells : List (List ℕ)) (node : Node) (packed : Packed) : Type 0 where
+  pub counts : List ℕ
+  pub cut : IsCut (up_of kind) (page_size - length front - 8 - right_room kind) rises (map cell_room cells) counts
+  pub say : Pairwise (λ image part. IsNode image (start_of front counts) part) (images packed) (nodes_of counts node)
+  pub sized : AllByRecursion (λ image. length image ≡ page_size) (images packed)
+  pub front_is : counts ≡ [] → (rest : List ℕ) × (packed.last.items ≡ front ++ rest)
+  pub ends : map (λ piece. piece.end) packed.pieces.items ≡ ends_of (up_of kind) 0 counts
