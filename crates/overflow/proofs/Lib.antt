@@ -1,0 +1,6 @@
+pub mod ReadChains
+pub mod ReadPayloads
+pub mod Laying
+pub mod LayingChains
+pub mod WritePayloads
+pub mod FreedChains
