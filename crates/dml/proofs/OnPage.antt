@@ -10,7 +10,7 @@ use Rattle.sqlval.specs.declared.value.Value.{Value}
 use Rattle.record.specs.Writing.{AreStorable}
 use Rattle.page.specs.Leaf.{Entry, IsTableLeaf}
 use Rattle.pages.specs.Counting.{start_of}
-use Rattle.tabletree.specs.Cells.{Pairwise}
+use Rattle.treepage.specs.Cells.{Pairwise}
 use Rattle.tabletree.specs.SingleLeaf.{AreRising, IsSingleLeaf, IsLeafRefusal, IsTooFull}
 use Rattle.catalog.specs.declared.tables.Column.{Column}
 use Rattle.rowprog.specs.Rows.{TableRow, IsRow, Holds}

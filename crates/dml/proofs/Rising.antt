@@ -8,7 +8,7 @@ use Rattle.std.specs.declared.cmp.Ordering.TheVariants.{Greater}
 use Rattle.sqlval.specs.Refusals.{Answer, RowidFull}
 use Rattle.sqlval.specs.declared.value.Value.{Value}
 use Rattle.page.specs.Leaf.{Entry}
-use Rattle.tabletree.specs.Cells.{Pairwise}
+use Rattle.treepage.specs.Cells.{Pairwise}
 use Rattle.tabletree.specs.SingleLeaf.{AreRising}
 use Rattle.rowprog.specs.Rows.{TableRow, IsRow, Holds}
 use Rattle.dml.specs.Agreement.{NextIsGreater}

@@ -8,7 +8,7 @@ ghost use Rattle.record.specs.Record.{IsRecord};
 ghost use Rattle.record.specs.Writing.{AreStorable, record_of};
 ghost use Rattle.page.specs.Leaf.{entry_of};
 ghost use Rattle.pages.specs.Counting.{start_of};
-ghost use Rattle.tabletree.specs.Cells.{Pairwise};
+ghost use Rattle.treepage.specs.Cells.{Pairwise};
 ghost use Rattle.rowprog.specs.Rows.{Holds, TableRow};
 ghost use Rattle.dml.specs.Agreement.{NextIsGreater, InsertsRows};
 ghost use Rattle.dml.specs.Inserting.{AllStorable, IsInserted, IsInsertRefusal, IsRefusedAs, given_at, row_added, row_stored, rows_added};

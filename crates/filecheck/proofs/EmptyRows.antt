@@ -42,22 +42,28 @@ leaf = record {
   shallow = omega arith;
   root_is = refl;
   lies = record {
-    has = record { first = omega arith; last = omega arith };
-    cells = [];
-    page = record {
-      before = head;
-      freeblock = 0 ∷ 0 ∷ [];
-      content = 2 ∷ 0 ∷ [];
-      fragments = 0;
-      spans = [];
-      rest = replicate 404 0;
-      parts = refl;
-      start_is = refl;
-      freeblock_is = refl;
-      content_is = refl;
-      few = omega arith;
-      cells_are = tt;
-      apart = tt;
+    said = [];
+    says = record {
+      has = record { first = omega arith; last = omega arith };
+      node_is = record {
+        cells = [];
+        page_is = record {
+          before = head;
+          freeblock = 0 ∷ 0 ∷ [];
+          content = 2 ∷ 0 ∷ [];
+          fragments = 0;
+          spans = [];
+          rest = replicate 404 0;
+          parts = refl;
+          start_is = refl;
+          freeblock_is = refl;
+          content_is = refl;
+          few = omega arith;
+          cells_are = tt;
+          apart = tt;
+        };
+        say = tt;
+      };
     };
     rows = tt;
   };

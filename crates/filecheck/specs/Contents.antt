@@ -7,7 +7,7 @@ use Rattle.sqlval.specs.declared.value.Value.TheVariants.{Null, Int}
 use Rattle.record.specs.Record.{IsRecord}
 use Rattle.page.specs.Leaf.{Entry}
 use Rattle.pages.specs.Map.{PageMap}
-use Rattle.tabletree.specs.Cells.{Pairwise}
+use Rattle.treepage.specs.Cells.{Pairwise}
 use Rattle.tabletree.specs.Tree.{IsTableTree}
 use Rattle.indextree.specs.Entries.{entry_cmp}
 use Rattle.indextree.specs.Tree.{IsIndexTree}

@@ -6,7 +6,7 @@ use Rattle.dbheader.specs.declared.fields.Header.{Header}
 use Rattle.page.specs.Leaf.{Entry}
 use Rattle.pages.specs.Map.{PageMap, page_at, Has}
 use Rattle.pages.specs.Counting.{occurs}
-use Rattle.tabletree.specs.Cells.{Pairwise}
+use Rattle.treepage.specs.Cells.{Pairwise}
 use Rattle.tabletree.specs.Tree.{IsTableTree}
 use Rattle.catalog.specs.Database.{Database}
 use Rattle.catalog.specs.Rows.{is_in_order}

@@ -9,7 +9,8 @@ use Rattle.std.proofs.lemmas.List.Sums.{sum_by-cons}
 use Rattle.std.proofs.lemmas.Grind.{flat_map-append}
 use Rattle.record.specs.Varint.{varint}
 use Rattle.record.proofs.VarintLemmas.{varint_shortest, length-varint}
-use Rattle.page.specs.Leaf.{Entry, Span, pointer, IsCell, AreCells, IsApart, AreApart, leaf_header, front_span, IsTableLeaf}
+use Rattle.page.specs.Leaf.{Entry, IsCell, AreCells, leaf_header, front_span, IsTableLeaf}
+use Rattle.treepage.specs.Cells.{Span, pointer, IsApart, AreApart}
 use Rattle.page.specs.Writing.{Fits, IsNumbered, cell_text, cell_size, content_bytes, spans_below, leaf_of}
 use Rattle.page.proofs.PutLemmas.{texts, header_len, length-pointed}
 

@@ -9,7 +9,8 @@ use Rattle.record.proofs.VarintLemmas.{AreBytes, varint_takes, varint_again}
 use Rattle.record.proofs.RecordLemmas.{AreBytes-rest}
 use Rattle.record.proofs.ShortestLemmas.{some_byte}
 use Rattle.page.specs.declared.cell.Wrong.TheVariants.{Kind, Broken}
-use Rattle.page.specs.Leaf.{Entry, Span, IsCell}
+use Rattle.page.specs.Leaf.{Entry, IsCell}
+use Rattle.treepage.specs.Cells.{Span}
 use Rattle.page.specs.Reading.{◌>>=◌, or_broken, is_whole, payload_at, front_at, cell_at}
 use Rattle.page.proofs.Steps.{bind_ok, ok_is, some_from_or_broken, guard_ok, keep_ok}
 

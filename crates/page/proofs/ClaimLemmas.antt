@@ -5,7 +5,8 @@ use Rattle.std.proofs.lemmas.Bool.{cases_lt, le-leb, lt-leb, lt-ltb, le-ltb}
 use Rattle.std.proofs.lemmas.List.{take_all, get_or-take, get_or-drop, get_or_append_left, get_or-append_right, get_or-replicate, length-take, length-take-le, length-drop, length-append, length-replicate}
 use Rattle.page.specs.declared.cell.Wrong.{Wrong}
 use Rattle.page.specs.declared.cell.Wrong.TheVariants.{Broken}
-use Rattle.page.specs.Leaf.{Entry, Span, IsApart}
+use Rattle.page.specs.Leaf.{Entry}
+use Rattle.treepage.specs.Cells.{Span, IsApart}
 use Rattle.page.specs.Reading.{◌>>=◌, number, cell_at, claimed, cells_at}
 use Rattle.page.proofs.Steps.{with_front, go_on, ok_is, guard_ok}
 

@@ -10,7 +10,8 @@ use Rattle.record.proofs.VarintLemmas.{AreBytes}
 use Rattle.record.proofs.RecordLemmas.{AreBytes-rest, AreBytes-front}
 use Rattle.page.specs.declared.cell.Wrong.{Wrong}
 use Rattle.page.specs.declared.cell.Wrong.TheVariants.{Kind, Broken}
-use Rattle.page.specs.Leaf.{Entry, Span, pointer, IsCell, AreCells, AreApart, leaf_header, IsTableLeaf}
+use Rattle.page.specs.Leaf.{Entry, IsCell, AreCells, leaf_header, IsTableLeaf}
+use Rattle.treepage.specs.Cells.{Span, pointer, AreApart}
 use Rattle.page.specs.Reading.{◌>>=◌, number, cell_at, claimed, cells_at, kind_at, front_of, array_at, taken_up_to, leaf_at}
 use Rattle.page.proofs.Steps.{bind_ok, ok_is, guard_ok}
 use Rattle.page.proofs.CellLemmas.{cell_is, cell_again, cell_nonempty}

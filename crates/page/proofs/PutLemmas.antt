@@ -6,7 +6,8 @@ use Rattle.record.specs.Varint.{varint}
 use Rattle.std.proofs.lemmas.List.{map_push, reverse-append, take_all, length-append}
 use Rattle.std.proofs.lemmas.List.Sums.{sum_by-cons}
 use Rattle.page.specs.declared.cell.Cell.{Cell}
-use Rattle.page.specs.Leaf.{Entry, entry_of, pointer, leaf_header}
+use Rattle.page.specs.Leaf.{Entry, entry_of, leaf_header}
+use Rattle.treepage.specs.Cells.{pointer}
 use Rattle.page.specs.Writing.{IsNumbered, cell_text, cell_size, content_bytes, spans_below, node_of, leaf_of}
 use Rattle.page.proofs.LeafLemmas.{length-pointers}
 

@@ -3,6 +3,7 @@ use Rattle.std.specs.Prelude.{◌≡◌, ◌⊎◌, ◌≤◌, ◌<◌, ◌+◌,
 use Rattle.std.specs.List.{AllByRecursion, flat_map}
 use Rattle.std.specs.Int.{w16, w64, to_be_bytes, cast_signed}
 use Rattle.record.specs.Varint.{IsVarint}
+use Rattle.treepage.specs.Cells.{Span, pointer, AreApart}
 use Rattle.page.specs.declared.cell.Cell.{Cell}
 
 -- a row of a table: its number, and the bytes of its record
@@ -13,15 +14,6 @@ pub record Entry : Type 0 where
 -- the row that a cell is
 abbrev pub entry_of : Cell → Entry
 entry_of cell = record { rowid = cell.rowid; payload = cell.payload.now }
-
--- the bytes of a page from one offset up to another
-pub record Span : Type 0 where
-  pub from : ℕ
-  pub to : ℕ
-
--- the pointer to a cell: the offset where it begins, big-endian
-abbrev pub pointer : Span → List ℕ
-pointer span = to_be_bytes w16 span.from
 
 -- A cell of this row stands there: the payload's length, the row's number in two's complement of 64 bits, and the payload,
 -- which is whole where at most 35 bytes less than the page (Database File Format, "B-tree Pages", table leaf cells).
@@ -46,15 +38,6 @@ AreCells page [] [] = ⊤
 AreCells page [] (entry ∷ entries) = ⊥
 AreCells page (span ∷ spans) [] = ⊥
 AreCells page (span ∷ spans) (entry ∷ entries) = IsCell page span entry × AreCells page spans entries
-
--- no byte is in both
-abbrev pub IsApart : Span → Span → Type 0
-IsApart a b = (a.to ≤ b.from) ⊎ (b.to ≤ a.from)
-
--- each shares no byte with those before it
-abbrev pub AreApart : List Span → List Span → Type 0
-AreApart before [] = ⊤
-AreApart before (span ∷ spans) = AllByRecursion (IsApart span) before × AreApart (span ∷ before) spans
 
 -- The type 13, the first freeblock, the number of cells, the start of the cells and the number of fragmented bytes
 -- (Database File Format, "B-tree Pages", the page header).

@@ -3,7 +3,8 @@ use Rattle.std.specs.Prelude.{◌≤◌, ◌+◌, ◌-◌, ◌*◌, ◌%◌, ◌
 use Rattle.std.specs.List.{AllByRecursion, flat_map}
 use Rattle.std.specs.Int.{w16, w64, to_be_bytes, cast_unsigned}
 use Rattle.record.specs.Varint.{varint}
-use Rattle.page.specs.Leaf.{Entry, Span, pointer, leaf_header}
+use Rattle.page.specs.Leaf.{Entry, leaf_header}
+use Rattle.treepage.specs.Cells.{Span, pointer}
 use Rattle.page.specs.Reading.{is_whole}
 
 -- the row's number has 64 bits

@@ -2,7 +2,8 @@
 
 ghost use Rattle.std.specs.Prelude.{◌≡◌, ◌≤◌, ◌<◌, ◌+◌, ◌++◌, ◌*◌, ◌⊎◌, ◌↔◌, ◌^◌, ◌-◌, [], ◌∷◌, IsTrue, length, map, reverse, sum_by, IfOk, IfErr, OnOk};
 ghost use Rattle.std.specs.List.{AllByRecursion, flat_map};
-ghost use Rattle.page.specs.Leaf.{entry_of, pointer, leaf_header, IsTableLeaf};
+ghost use Rattle.page.specs.Leaf.{entry_of, leaf_header, IsTableLeaf};
+ghost use Rattle.treepage.specs.Cells.{pointer};
 ghost use Rattle.page.specs.Writing.{Fits, IsNumbered, cell_size, cell_text, content_of, content_bytes, spans_below, leaf_of};
 
 use crate::cell::{Cell, is_local};

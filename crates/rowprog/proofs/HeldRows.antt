@@ -7,7 +7,7 @@ use Rattle.sqlval.specs.declared.fault.Fault.{Fault}
 use Rattle.sqlval.specs.declared.fault.Fault.TheVariants.{Memory}
 use Rattle.record.proofs.VarintLemmas.{AreBytes}
 use Rattle.page.specs.Leaf.{Entry}
-use Rattle.tabletree.specs.Cells.{Pairwise}
+use Rattle.treepage.specs.Cells.{Pairwise}
 use Rattle.tabletree.specs.SingleLeaf.{IsLeafRefusal, IsSingleLeaf}
 use Rattle.rowprog.specs.Answers.{◌and◌, IsRowRefusal, every, row_at}
 use Rattle.rowprog.specs.Rows.{Holds, IsRow, TableRow}

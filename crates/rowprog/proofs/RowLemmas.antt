@@ -18,8 +18,9 @@ use Rattle.record.specs.Reading.{answer, record_at}
 use Rattle.record.specs.Record.{IsRecord}
 use Rattle.record.proofs.VarintLemmas.{AreBytes}
 use Rattle.record.proofs.RecordLemmas.{AreBytes-rest, AreBytes-front, record_is, record_again}
-use Rattle.page.specs.Leaf.{Entry, Span, AreCells}
-use Rattle.tabletree.specs.Cells.{Pairwise}
+use Rattle.page.specs.Leaf.{Entry, AreCells}
+use Rattle.treepage.specs.Cells.{Span}
+use Rattle.treepage.specs.Cells.{Pairwise}
 use Rattle.tabletree.specs.SingleLeaf.{IsSingleLeaf, IsLeafRefusal}
 use Rattle.bind.specs.declared.queries.Output.{Output}
 use Rattle.bind.specs.declared.queries.Output.TheVariants.{Column, Rowid, Literal, Overflow}

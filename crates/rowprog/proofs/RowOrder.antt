@@ -22,8 +22,9 @@ use Rattle.record.specs.Record.{AreColumns, IsBody, IsRecord, width}
 use Rattle.record.specs.Writing.{IsBytes}
 use Rattle.record.proofs.RecordLemmas.{AreBytes-front, AreBytes-rest}
 use Rattle.record.proofs.VarintLemmas.{AreBytes, AreBytes-from_index}
-use Rattle.page.specs.Leaf.{AreCells, Entry, Span}
-use Rattle.tabletree.specs.Cells.{Pairwise}
+use Rattle.page.specs.Leaf.{AreCells, Entry}
+use Rattle.treepage.specs.Cells.{Span}
+use Rattle.treepage.specs.Cells.{Pairwise}
 use Rattle.tabletree.specs.SingleLeaf.{AreRising}
 use Rattle.catalog.specs.Listed.{plain_column, plain_table}
 use Rattle.catalog.specs.Rows.{is_row, is_value}

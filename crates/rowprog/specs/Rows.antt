@@ -8,7 +8,7 @@ use Rattle.sqlval.specs.declared.value.Value.{Value}
 use Rattle.sqlval.specs.declared.value.Value.TheVariants.{Null, Int}
 use Rattle.record.specs.Record.{IsRecord}
 use Rattle.page.specs.Leaf.{Entry}
-use Rattle.tabletree.specs.Cells.{Pairwise}
+use Rattle.treepage.specs.Cells.{Pairwise}
 use Rattle.tabletree.specs.SingleLeaf.{IsSingleLeaf}
 use Rattle.bind.specs.declared.queries.BoundSource.{BoundSource}
 use Rattle.bind.specs.declared.queries.Output.{Output}

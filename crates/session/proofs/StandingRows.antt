@@ -6,7 +6,7 @@ use Rattle.std.specs.List.{AllByRecursion}
 use Rattle.page.specs.Leaf.{Entry}
 use Rattle.sqlval.specs.Names.{folded}
 use Rattle.sqlval.specs.declared.value.Value.{Value}
-use Rattle.tabletree.specs.Cells.{Pairwise}
+use Rattle.treepage.specs.Cells.{Pairwise}
 use Rattle.catalog.specs.Database.{ATable, Database, Name, Object, name_order, object}
 use Rattle.catalog.specs.Listed.{Lists, has_only_tables, plain_table, table_named}
 use Rattle.catalog.specs.declared.tables.Table.{Table}

@@ -7,7 +7,7 @@ use Rattle.dbheader.specs.Header.{IsHeader, counted_of}
 use Rattle.dbheader.specs.declared.fields.Header.{Header}
 use Rattle.page.specs.Leaf.{Entry}
 use Rattle.pages.specs.Map.{Has, PageMap, page_at}
-use Rattle.tabletree.specs.Cells.{Pairwise}
+use Rattle.treepage.specs.Cells.{Pairwise}
 use Rattle.tabletree.specs.SingleLeaf.{IsOwnTree, IsSingleLeaf}
 use Rattle.tabletree.specs.Tree.{IsTableTree}
 use Rattle.catalog.specs.Database.{ATable, Database}

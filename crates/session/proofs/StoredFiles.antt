@@ -22,7 +22,7 @@ use Rattle.tabletree.proofs.LeafTrees.{root_there}
 use Rattle.catalog.specs.Database.{Database, Name, name_order}
 use Rattle.catalog.specs.Listed.{table_named}
 use Rattle.catalog.specs.Rows.{holds_rows}
-use Rattle.tabletree.specs.Cells.{Pairwise}
+use Rattle.treepage.specs.Cells.{Pairwise}
 use Rattle.filecheck.specs.Schema.{SchemaRow, IsSchemaEntry}
 use Rattle.filecheck.specs.Files.{FilesStandFor}
 use Rattle.freelist.specs.Freelist.{pages_of}

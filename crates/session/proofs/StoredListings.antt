@@ -8,7 +8,7 @@ use Rattle.sqlval.specs.Names.{folded}
 use Rattle.record.specs.Record.{IsRecord}
 use Rattle.page.specs.Leaf.{Entry}
 use Rattle.pages.specs.Map.{PageMap, page_at, Has}
-use Rattle.tabletree.specs.Cells.{Pairwise}
+use Rattle.treepage.specs.Cells.{Pairwise}
 use Rattle.tabletree.specs.SingleLeaf.{IsSingleLeaf}
 use Rattle.tabletree.specs.Tree.{IsTableTree}
 use Rattle.tabletree.proofs.LeafTrees.{leaves_are_trees, root_there}

@@ -10,7 +10,7 @@ use Rattle.record.specs.Record.{IsRecord}
 use Rattle.page.specs.Leaf.{Entry}
 use Rattle.pages.specs.Counting.{occurs}
 use Rattle.pages.specs.Map.{PageMap, page_at, Has}
-use Rattle.tabletree.specs.Cells.{Pairwise}
+use Rattle.treepage.specs.Cells.{Pairwise}
 use Rattle.catalog.specs.Database.{Name, Database}
 use Rattle.catalog.specs.Listed.{is_table, plain_table, table_named}
 use Rattle.catalog.specs.Rows.{are_rows}

@@ -2,7 +2,8 @@
 use Rattle.std.proofs.Common.{◌≡◌, inl, inr, ◌≤◌, ◌+◌, ◌*◌, ℕ, sym, ◌∙◌, ap, subst, arith, List, [], ◌∷◌, ◌++◌, length, take, drop, append_assoc}
 use Rattle.std.proofs.lemmas.List.{take-append-drop, drop-append-le, length-append, length-drop, length-take-le}
 use Rattle.std.specs.List.{AllByRecursion}
-use Rattle.page.specs.Leaf.{Entry, Span, IsApart, IsCell, AreCells, AreApart, IsTableLeaf, front_span}
+use Rattle.page.specs.Leaf.{Entry, IsCell, AreCells, IsTableLeaf, front_span}
+use Rattle.treepage.specs.Cells.{Span, IsApart, AreApart}
 use Rattle.page.proofs.CellLemmas.{cell_nonempty}
 use Rattle.pages.specs.Counting.{start_of}
 use Rattle.tabletree.specs.SingleLeaf.{KeepsLeafAfter}

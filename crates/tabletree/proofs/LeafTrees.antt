@@ -1,20 +1,23 @@
 -- A tree whose pages are leaves of whole rows is one page.
 use Rattle.std.proofs.Common.{◌≡◌, ℕ, ℤ, zero, suc, refl, sym, ◌∙◌, ap, subst, arith, List, [], ◌∷◌, length}
 use Rattle.std.specs.List.{flat_map}
-use Rattle.page.specs.Leaf.{Entry, Span, pointer, IsTableLeaf}
+use Rattle.page.specs.Leaf.{Entry, IsTableLeaf}
+use Rattle.treepage.specs.Cells.{Span, pointer}
 use Rattle.page.proofs.LeafLemmas.{length-pointers, same_count}
 use Rattle.pages.specs.Map.{PageMap, page_at, Has}
 use Rattle.pages.specs.Counting.{start_of}
 use Rattle.tabletree.specs.SingleLeaf.{IsSingleLeaf, LeavesAreTrees}
-use Rattle.tabletree.specs.Cells.{Pairwise, IsAt}
-use Rattle.tabletree.specs.Tree.{Tree, Leaf, IsLeaf, IsInterior, IsTableTree, Lies, top, rows_of, pages_of}
+use Rattle.treepage.specs.Cells.{Pairwise, IsAt}
+use Rattle.treepage.specs.Node.{Keys}
+use Rattle.forest.specs.Saying.{Says}
+use Rattle.tabletree.specs.Tree.{Tree, Leaf, IsLeaf, IsTableTree, Lies, top, rows_of, pages_of}
 use Rattle.tabletree.proofs.SameRows.{AreWholly, like_leaf, same_cells, split}
 
 -- there is no page above a leaf
-no_interior : (pages : PageMap) (number : ℕ) (kids : List (ℕ × ℤ)) (last : ℕ) (own : List Entry) → IsInterior pages number kids last
+no_interior : (pages : PageMap) (number : ℕ) (kids : List (ℕ × ℤ)) (last : ℕ) (own : List Entry) → Says pages number (Keys kids last)
     → IsTableLeaf (page_at pages number) (start_of number) own → ⊥
 no_interior pages number kids last own above leaf =
-    omega (arith, (like_leaf 5 (page_at pages number) (start_of number) _ above.cells own above.page leaf).kind_is)
+    omega (arith, (like_leaf 5 (page_at pages number) (start_of number) _ above.node_is.cells own above.node_is.page_is leaf).kind_is)
 
 cell_count : (page : List ℕ) (spans : List Span) (cells : List (List ℕ)) → Pairwise (IsAt page) spans cells → length spans ≡ length cells
 cell_count page [] [] at = refl
@@ -26,11 +29,12 @@ cell_count page (span ∷ spans) (cell ∷ cells) at = ap suc (cell_count page s
 leaf_rows : (pages : PageMap) (leaf : Leaf) (own : List Entry) → IsLeaf pages (length (page_at pages leaf.page)) leaf
     → IsTableLeaf (page_at pages leaf.page) (start_of leaf.page) own → AreWholly leaf.rows own
 leaf_rows pages leaf own is table =
-    let like = like_leaf 13 (page_at pages leaf.page) (start_of leaf.page) [] is.cells own is.page table in
-    let long : length (flat_map pointer is.page.spans) ≡ length (flat_map pointer table.spans) =
-    omega (arith, like.count, length-pointers is.page.spans, length-pointers table.spans, cell_count _ is.page.spans is.cells is.page.cells_are, same_count _ table.spans own table.cells) in
-    let pointers = split (flat_map pointer is.page.spans) is.page.rest (flat_map pointer table.spans) table.rest long like.after in
-    same_cells pages (page_at pages leaf.page) table.spans is.page.spans own is.cells leaf.rows (sym pointers.0) table.cells is.page.cells_are is.rows
+    let node = is.says.node_is in
+    let like = like_leaf 13 (page_at pages leaf.page) (start_of leaf.page) [] node.cells own node.page_is table in
+    let long : length (flat_map pointer node.page_is.spans) ≡ length (flat_map pointer table.spans) =
+    omega (arith, like.count, length-pointers node.page_is.spans, length-pointers table.spans, cell_count _ node.page_is.spans node.cells node.page_is.cells_are, same_count _ table.spans own table.cells) in
+    let pointers = split (flat_map pointer node.page_is.spans) node.page_is.rest (flat_map pointer table.spans) table.rest long like.after in
+    same_cells pages (page_at pages leaf.page) table.spans node.page_is.spans own node.cells is.said leaf.rows (sym pointers.0) table.cells node.page_is.cells_are node.say is.rows
 
 -- what is below the top, by the depth
 one_page : (pages : PageMap) (depth : ℕ) (tree : Tree depth) (own : List Entry) → IsTableLeaf (page_at pages (top depth tree)) (start_of (top depth tree)) own
@@ -41,7 +45,7 @@ one_page pages (suc depth) tree own leaf lies = absurd (no_interior pages tree.p
 
 -- the page at the top is there
 top_there : (pages : PageMap) (usable depth : ℕ) (tree : Tree depth) → Lies pages usable depth tree → Has pages (top depth tree)
-top_there pages usable zero tree lies = lies.has
+top_there pages usable zero tree lies = lies.says.has
 top_there pages usable (suc depth) tree lies = lies.0.has
 
 -- the page of a tree's root is there

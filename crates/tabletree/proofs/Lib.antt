@@ -1,4 +1,3 @@
-pub mod PayloadRows
 pub mod WholeLeaf
 mod Refused
 mod Rebuilding

@@ -5,11 +5,14 @@ use Rattle.std.specs.List.{flat_map}
 use Rattle.std.specs.Int.{w16, w64, to_be_bytes, cast_signed}
 use Rattle.record.specs.Varint.{varint_at, IsVarint}
 use Rattle.record.proofs.VarintLemmas.{varint_again}
-use Rattle.page.specs.Leaf.{Entry, Span, IsCell, AreCells, IsTableLeaf, pointer}
+use Rattle.page.specs.Leaf.{Entry, IsCell, AreCells, IsTableLeaf}
+use Rattle.treepage.specs.Cells.{Span, pointer}
 use Rattle.pages.specs.Map.{PageMap}
-use Rattle.tabletree.specs.Payload.{IsPayload, IsChain, local_size, table_most, first_link}
-use Rattle.tabletree.specs.Cells.{Pairwise, IsAt, IsTreePage, page_header}
-use Rattle.tabletree.specs.Tree.{Held, IsRowCell}
+use Rattle.overflow.specs.Chains.{IsPayload, IsChain, first_link}
+use Rattle.treepage.specs.Payload.{local_size, table_most}
+use Rattle.treepage.specs.Cells.{Pairwise, IsAt, IsTreePage, page_header}
+use Rattle.treepage.specs.Node.{Local, IsRowCell}
+use Rattle.tabletree.specs.Tree.{Held, IsHeldAs}
 use Rattle.tabletree.proofs.WholeLeaf.{is_local}
 
 -- two ways to part a list, whose first parts are of one length, are one
@@ -65,17 +68,18 @@ cell_bytes page span other entry bytes from c a = (split c.before _ a.before _ (
 grouped : (size rowid rest after : List ℕ) → (size ++ (rowid ++ rest)) ++ after ≡ size ++ (rowid ++ (rest ++ after))
 grouped size rowid rest after = append_assoc size (rowid ++ rest) after ∙ ap (λ z. size ++ z) (append_assoc rowid rest after)
 
-same_cell : (pages : PageMap) (page : List ℕ) (span other : Span) (entry : Entry) (bytes : List ℕ) (held : Held) → span.from ≡ other.from → IsCell page span entry → IsAt page other bytes
-    → IsRowCell pages (length page) bytes held → IsWholly held entry
-same_cell pages page span other entry bytes held from c a r =
-    let both : c.size ++ (c.rowid ++ (entry.payload ++ c.after)) ≡ r.size ++ (r.rowid ++ (r.rest ++ a.after)) =
-    cell_bytes page span other entry bytes from c a ∙ (ap (λ z. z ++ a.after) r.parts ∙ grouped r.size r.rowid r.rest a.after) in
-    let sizes = one_varint c.size r.size (length entry.payload) (length held.row.payload) _ _ c.size_is r.size_is both in
+same_cell : (pages : PageMap) (page : List ℕ) (span other : Span) (entry : Entry) (bytes : List ℕ) (said : ℤ × Local) (held : Held) → span.from ≡ other.from → IsCell page span entry
+    → IsAt page other bytes → IsRowCell (length page) bytes said → IsHeldAs pages (length page) said held → IsWholly held entry
+same_cell pages page span other entry bytes said held from c a r h =
+    let both : c.size ++ (c.rowid ++ (entry.payload ++ c.after)) ≡ r.size ++ (r.rowid ++ (said.1.bytes ++ a.after)) =
+    cell_bytes page span other entry bytes from c a ∙ (ap (λ z. z ++ a.after) r.parts ∙ grouped r.size r.rowid said.1.bytes a.after) in
+    let sizes = one_varint c.size r.size (length entry.payload) said.1.size _ _ c.size_is r.size_is both in
     let rowids = one_varint c.rowid r.rowid c.number r.number _ _ c.rowid_is r.rowid_is sizes.1 in
-    let stands = stands_whole pages (length page) r.rest held.row.payload held.pages (subst (λ (n : ℕ). n + 35 ≤ length page) sizes.0 c.whole) r.payload in
-    let payloads = split entry.payload c.after r.rest a.after (sizes.0 ∙ sym (ap length stands.0)) rowids.1 in
+    let long : length entry.payload ≡ length held.row.payload = sizes.0 ∙ h.size in
+    let stands = stands_whole pages (length page) said.1.bytes held.row.payload held.pages (subst (λ (n : ℕ). n + 35 ≤ length page) long c.whole) h.payload in
+    let payloads = split entry.payload c.after said.1.bytes a.after (long ∙ sym (ap length stands.0)) rowids.1 in
     record {
-      row = same_entry held.row entry (r.signed ∙ (ap (cast_signed w64) (sym rowids.0) ∙ sym c.signed)) (sym (payloads.0 ∙ stands.0));
+      row = same_entry held.row entry (sym h.rowid ∙ (r.signed ∙ (ap (cast_signed w64) (sym rowids.0) ∙ sym c.signed))) (sym (payloads.0 ∙ stands.0));
       none = stands.1;
     }
 
@@ -99,22 +103,24 @@ one_wholly held rows entry entries first rest = record {
   none = ap (λ (xs : List ℕ). xs ++ flat_map (λ (h : Held). h.pages) rows) first.none ∙ rest.none;
 }
 
-pub same_cells : (pages : PageMap) (page : List ℕ) (spans others : List Span) (entries : List Entry) (cells : List (List ℕ)) (rows : List Held)
+pub same_cells : (pages : PageMap) (page : List ℕ) (spans others : List Span) (entries : List Entry) (cells : List (List ℕ)) (saids : List (ℤ × Local)) (rows : List Held)
     → flat_map pointer spans ≡ flat_map pointer others → AreCells page spans entries → Pairwise (IsAt page) others cells
-    → Pairwise (IsRowCell pages (length page)) cells rows → AreWholly rows entries
-same_cells pages page [] [] [] [] [] e are at is = record { rows_are = refl; none = refl }
-same_cells pages page [] [] [] [] (row ∷ rows) e are at is = absurd is
-same_cells pages page [] [] [] (cell ∷ cells) rows e are at is = absurd at
-same_cells pages page [] [] (entry ∷ entries) cells rows e are at is = absurd are
-same_cells pages page [] (other ∷ others) entries cells rows e are at is = absurd (omega (arith, ap length e))
-same_cells pages page (span ∷ spans) [] entries cells rows e are at is = absurd (omega (arith, ap length e))
-same_cells pages page (span ∷ spans) (other ∷ others) [] cells rows e are at is = absurd are
-same_cells pages page (span ∷ spans) (other ∷ others) (entry ∷ entries) [] rows e are at is = absurd at
-same_cells pages page (span ∷ spans) (other ∷ others) (entry ∷ entries) (cell ∷ cells) [] e are at is = absurd is
-same_cells pages page (span ∷ spans) (other ∷ others) (entry ∷ entries) (cell ∷ cells) (row ∷ rows) e are at is =
+    → Pairwise (IsRowCell (length page)) cells saids → Pairwise (IsHeldAs pages (length page)) saids rows → AreWholly rows entries
+same_cells pages page [] [] [] [] [] [] e are at say is = record { rows_are = refl; none = refl }
+same_cells pages page [] [] [] [] [] (row ∷ rows) e are at say is = absurd is
+same_cells pages page [] [] [] [] (said ∷ saids) rows e are at say is = absurd say
+same_cells pages page [] [] [] (cell ∷ cells) saids rows e are at say is = absurd at
+same_cells pages page [] [] (entry ∷ entries) cells saids rows e are at say is = absurd are
+same_cells pages page [] (other ∷ others) entries cells saids rows e are at say is = absurd (omega (arith, ap length e))
+same_cells pages page (span ∷ spans) [] entries cells saids rows e are at say is = absurd (omega (arith, ap length e))
+same_cells pages page (span ∷ spans) (other ∷ others) [] cells saids rows e are at say is = absurd are
+same_cells pages page (span ∷ spans) (other ∷ others) (entry ∷ entries) [] saids rows e are at say is = absurd at
+same_cells pages page (span ∷ spans) (other ∷ others) (entry ∷ entries) (cell ∷ cells) [] rows e are at say is = absurd say
+same_cells pages page (span ∷ spans) (other ∷ others) (entry ∷ entries) (cell ∷ cells) (said ∷ saids) [] e are at say is = absurd is
+same_cells pages page (span ∷ spans) (other ∷ others) (entry ∷ entries) (cell ∷ cells) (said ∷ saids) (row ∷ rows) e are at say is =
     let from = near_is span.from other.from _ _ are.0.near at.0.near e in
-    one_wholly row rows entry entries (same_cell pages page span other entry cell row from.0 are.0 at.0 is.0)
-    (same_cells pages page spans others entries cells rows from.1 are.1 at.1 is.1)
+    one_wholly row rows entry entries (same_cell pages page span other entry cell said row from.0 are.0 at.0 say.0 is.0)
+    (same_cells pages page spans others entries cells saids rows from.1 are.1 at.1 say.1 is.1)
 
 -- ---- a page
 

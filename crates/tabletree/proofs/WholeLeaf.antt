@@ -2,16 +2,23 @@
 use Rattle.std.proofs.Common.{◌≡◌, ◌≤◌, ◌<◌, ◌+◌, ◌-◌, ◌*◌, ◌^◌, ◌==◌, ℕ, ℤ, suc, refl, sym, ◌∙◌, ap, subst, arith, List, [], ◌∷◌, ◌++◌, length, take, drop, map, Bool, true, false, nat_le, if◌then◌else◌, append_assoc}
 use Rattle.std.proofs.lemmas.List.{take_all, drop_all, length-append, append-nil}
 use Rattle.std.specs.List.{flat_map}
-use Rattle.page.specs.Leaf.{Entry, Span, IsCell, AreCells, IsTableLeaf, AreApart, pointer}
+use Rattle.page.specs.Leaf.{Entry, IsCell, AreCells, IsTableLeaf}
+use Rattle.treepage.specs.Cells.{Span, AreApart, pointer}
 use Rattle.pages.specs.Map.{PageMap, page_at, Has}
-use Rattle.tabletree.specs.Payload.{IsPayload, table_most, local_size}
+use Rattle.overflow.specs.Chains.{IsPayload}
+use Rattle.treepage.specs.Payload.{table_most, local_size, held_size}
+use Rattle.treepage.specs.Node.{Local, IsRowCell}
 use Rattle.pages.specs.Counting.{start_of}
-use Rattle.tabletree.specs.Cells.{Pairwise, IsAt, page_header}
-use Rattle.tabletree.specs.Tree.{Held, IsRowCell, IsLeaf, Rises, IsTableTree}
+use Rattle.treepage.specs.Cells.{Pairwise, IsAt, page_header}
+use Rattle.tabletree.specs.Tree.{Held, IsHeldAs, IsLeaf, Rises, IsTableTree}
 
 -- the row of an entry whose payload is whole
 abbrev pub whole : Entry → Held
 whole entry = record { row = entry; pages = [] }
+
+-- what a leaf says of it
+abbrev pub said : Entry → ℤ × Local
+said entry = (entry.rowid, record { size = length entry.payload; bytes = entry.payload })
 
 first_part : (b : Bool) (p k : ℕ) → b ≡ true → (if b then p else k) ≡ p
 first_part true p k h = refl
@@ -39,28 +46,34 @@ at page span entry c =
     ap length parts ∙ (length-append c.before (cell ++ c.after) ∙ ap (λ n. length c.before + n) (length-append cell c.after)) in
     record { before = c.before; after = c.after; parts = parts; from_is = c.from_is; to_is = omega (arith, long, c.to_is); near = c.near }
 
-row_is : (pages : PageMap) (page : List ℕ) (span : Span) (entry : Entry) (c : IsCell page span entry) → IsRowCell pages (length page) (c.size ++ (c.rowid ++ entry.payload)) (whole entry)
-row_is pages page span entry c = record {
+is_held : (usable : ℕ) (payload : List ℕ) → length payload + 35 ≤ usable → held_size usable (table_most usable) (length payload) ≡ length payload
+is_held usable payload h = first_part (nat_le (length payload) (usable - 35)) _ _ (grind arith)
+
+row_is : (page : List ℕ) (span : Span) (entry : Entry) (c : IsCell page span entry) → IsRowCell (length page) (c.size ++ (c.rowid ++ entry.payload)) (said entry)
+row_is page span entry c = record {
   size = c.size;
   rowid = c.rowid;
-  rest = entry.payload;
   number = c.number;
   parts = refl;
   size_is = c.size_is;
   rowid_is = c.rowid_is;
   signed = c.signed;
-  payload = payload_is pages (length page) entry.payload c.whole;
+  held = sym (is_held (length page) entry.payload c.whole);
 }
 
--- the bytes of cells, and the rows that they hold
+held_as : (pages : PageMap) (usable : ℕ) (entry : Entry) → length entry.payload + 35 ≤ usable → IsHeldAs pages usable (said entry) (whole entry)
+held_as pages usable entry h = record { rowid = refl; size = refl; payload = payload_is pages usable entry.payload h }
+
+-- the bytes of cells, what they say, and the rows that they hold
 pub record AreWhole (pages : PageMap) (page : List ℕ) (spans : List Span) (entries : List Entry) : Type 0 where
   pub cells : List (List ℕ)
   pub count : length cells ≡ length entries
   pub at : Pairwise (IsAt page) spans cells
-  pub rows : Pairwise (IsRowCell pages (length page)) cells (map whole entries)
+  pub say : Pairwise (IsRowCell (length page)) cells (map said entries)
+  pub rows : Pairwise (IsHeldAs pages (length page)) (map said entries) (map whole entries)
 
 are_whole : (pages : PageMap) (page : List ℕ) (spans : List Span) (entries : List Entry) → AreCells page spans entries → AreWhole pages page spans entries
-are_whole pages page [] [] h = record { cells = []; count = refl; at = tt; rows = tt }
+are_whole pages page [] [] h = record { cells = []; count = refl; at = tt; say = tt; rows = tt }
 are_whole pages page [] (entry ∷ entries) h = absurd h
 are_whole pages page (span ∷ spans) [] h = absurd h
 are_whole pages page (span ∷ spans) (entry ∷ entries) (c, h) =
@@ -69,7 +82,8 @@ are_whole pages page (span ∷ spans) (entry ∷ entries) (c, h) =
       cells = (c.size ++ (c.rowid ++ entry.payload)) ∷ more.cells;
       count = ap suc more.count;
       at = (at page span entry c, more.at);
-      rows = (row_is pages page span entry c, more.rows);
+      say = (row_is page span entry c, more.say);
+      rows = (held_as pages (length page) entry c.whole, more.rows);
     }
 
 front_end : (start n m : ℕ) → n ≡ m → start + 8 + 2 * n ≡ start + 8 + 0 + 2 * m
@@ -82,22 +96,28 @@ whole_leaf pages number entries has leaf =
     let cells : AreWhole pages (page_at pages number) leaf.spans entries = are_whole pages (page_at pages number) leaf.spans entries leaf.cells in
     let counted : length entries ≡ length cells.cells = sym cells.count in
     record {
-      has = has;
-      cells = cells.cells;
-      page = record {
-        before = leaf.before;
-        freeblock = leaf.freeblock;
-        content = leaf.content;
-        fragments = leaf.fragments;
-        spans = leaf.spans;
-        rest = leaf.rest;
-        parts = leaf.parts ∙ ap (λ (n : ℕ). leaf.before ++ (page_header 13 leaf.freeblock n leaf.content leaf.fragments ++ (flat_map pointer leaf.spans ++ leaf.rest))) counted;
-        start_is = leaf.start_is;
-        freeblock_is = leaf.freeblock_is;
-        content_is = leaf.content_is;
-        few = subst (λ (n : ℕ). n < 2 ^ 16) counted leaf.few;
-        cells_are = cells.at;
-        apart = subst (λ (n : ℕ). AreApart (record { from = 0; to = n } ∷ []) leaf.spans) (front_end (start_of number) (length entries) (length cells.cells) counted) leaf.apart;
+      said = map said entries;
+      says = record {
+        has = has;
+        node_is = record {
+          cells = cells.cells;
+          page_is = record {
+            before = leaf.before;
+            freeblock = leaf.freeblock;
+            content = leaf.content;
+            fragments = leaf.fragments;
+            spans = leaf.spans;
+            rest = leaf.rest;
+            parts = leaf.parts ∙ ap (λ (n : ℕ). leaf.before ++ (page_header 13 leaf.freeblock n leaf.content leaf.fragments ++ (flat_map pointer leaf.spans ++ leaf.rest))) counted;
+            start_is = leaf.start_is;
+            freeblock_is = leaf.freeblock_is;
+            content_is = leaf.content_is;
+            few = subst (λ (n : ℕ). n < 2 ^ 16) counted leaf.few;
+            cells_are = cells.at;
+            apart = subst (λ (n : ℕ). AreApart (record { from = 0; to = n } ∷ []) leaf.spans) (front_end (start_of number) (length entries) (length cells.cells) counted) leaf.apart;
+          };
+          say = cells.say;
+        };
       };
       rows = cells.rows;
     }

@@ -1,4 +1,2 @@
 pub mod SingleLeaf
-pub mod Payload
-pub mod Cells
 pub mod Tree

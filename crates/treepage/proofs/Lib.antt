@@ -4,3 +4,4 @@ pub mod NodeLemmas
 pub mod OneThing
 pub mod AfterFront
 pub mod Places
+pub mod PayloadRows

@@ -1,7 +1,7 @@
 use Rattle.std.proofs.Common.{ap, subst, sym, rules, map, ◌∙◌}
 use Rattle.std.proofs.lemmas.Result.{IfErr-weaker}
 use Rattle.page.specs.Leaf.{entry_of}
-use Rattle.tabletree.specs.Cells.{Pairwise}
+use Rattle.treepage.specs.Cells.{Pairwise}
 use Rattle.dml.specs.Inserting.{IsInsertRefusal}
 use Rattle.dml.specs.NewRows.{IsWritten, entry_in, row_of}
 use Rattle.dml.proofs.Calm.{insert_calm}

@@ -1,6 +1,6 @@
 -- the records up to here are those of the rows up to here
 use Rattle.std.proofs.Common.{map, take}
-use Rattle.tabletree.specs.Cells.{Pairwise}
+use Rattle.treepage.specs.Cells.{Pairwise}
 use Rattle.dml.specs.NewRows.{IsWritten, entry_in, row_of}
 use Rattle.dml.proofs.inserting.records_of.Given as goal
 

@@ -1,6 +1,7 @@
 use Rattle.std.proofs.Common.{◌≡◌, ◌≤◌, ◌++◌, length, map, sum_by}
 use Rattle.std.specs.List.{AllByRecursion, flat_map}
-use Rattle.page.specs.Leaf.{entry_of, pointer}
+use Rattle.page.specs.Leaf.{entry_of}
+use Rattle.treepage.specs.Cells.{pointer}
 use Rattle.page.specs.Writing.{IsNumbered, cell_size, spans_below}
 use Rattle.page.proofs.writing.put_pointers.Given as goal
 

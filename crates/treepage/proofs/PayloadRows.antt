@@ -1,6 +1,6 @@
 -- How payloads are parted, by example, on pages of 512 bytes.
 use Rattle.std.specs.Prelude.{◌≡◌, refl, ℕ, [], ◌∷◌, map}
-use Rattle.tabletree.specs.Payload.{table_most, index_most, local_size, overflow_count}
+use Rattle.treepage.specs.Payload.{table_most, index_most, local_size, overflow_count}
 
 abbrev in_table : ℕ → ℕ
 in_table size = local_size 512 (table_most 512) size

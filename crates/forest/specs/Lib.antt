@@ -1,0 +1,3 @@
+pub mod Sides
+pub mod Frames
+pub mod Saying
