@@ -252,7 +252,7 @@ grown old new size first header page free are front none page_is is =
       };
       header = λ other is_header. (other.freelist_trunk, other.freelist_count, subst (λ (l : List ℕ). IsHeader l other) (sym first_stays) is_header);
       behind = omega (arith, page_is, some);
-      rule = inr free_none;
+      rule = inr (free_none, refl);
     }
 
 -- a refusal that is passed on

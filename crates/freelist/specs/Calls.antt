@@ -29,14 +29,14 @@ abbrev pub KeepsHeader : PageMap → PageMap → Type 0
 KeepsHeader old new = (header : Header) → IsHeader (page_at old 1) header
     → (trunk : ℕ) × (count : ℕ) × IsHeader (page_at new 1) (record header { freelist_trunk = trunk; freelist_count = count })
 
--- A page was taken: one of the freelist, or if that was empty, one more at the end.
+-- A page was taken: one of the freelist, or if that was empty, one more at the end; then nothing is free.
 pub record IsTaken (old new : PageMap) (size : ℕ) (free : List ℕ) (page : ℕ) : Type 0 where
   pub now_free : List ℕ
   pub has : HasFree new size now_free
   pub moves : Moves old new [] free (page ∷ []) now_free
   pub header : KeepsHeader old new
   pub behind : 1 < page
-  pub rule : (length new ≡ length old) ⊎ (free ≡ [])
+  pub rule : (length new ≡ length old) ⊎ ((free ≡ []) × (now_free ≡ []))
 
 -- Where these pages are free, one was taken; or memory was short, a disk's call failed, or there are as many pages as there may be.
 abbrev pub Takes : PageMap → PageMap → ℕ → Result ℕ Fault → Type 0
