@@ -1,6 +1,6 @@
 -- What is left of a chain to be written decides.
-use Rattle.std.proofs.Common.{◌≡◌, inl, ℕ, ◌-◌, ◌^◌, ◌<◌, ◌≤◌, List, [], ◌∷◌, ◌++◌, length, take, drop, sym, ap, subst, ◌∙◌, arith}
-use Rattle.std.proofs.lemmas.List.{length-drop, length-take-le, take_all, drop_all}
+use Rattle.std.proofs.Common.{◌≡◌, ◌⊎◌, inl, inr, refl, ℕ, ◌-◌, ◌^◌, ◌<◌, ◌≤◌, List, [], ◌∷◌, ◌++◌, length, take, drop, sym, ap, subst, ◌∙◌, arith}
+use Rattle.std.proofs.lemmas.List.{length-drop, length-set, length-take-le, take_all, drop_all}
 use Rattle.std.specs.Int.{w32, to_be_bytes}
 use Rattle.std.specs.Prelude.{⊤, Bool, IsTrue, Result, Ok, Err, MatchResult, IsErrAnd, max}
 use Rattle.sqlval.specs.declared.fault.Fault.{Fault}
@@ -13,8 +13,19 @@ use Rattle.freelist.specs.Calls.{AreFree, IsTaken, Takes}
 use Rattle.freelist.proofs.Lists.{occurs_self}
 use Rattle.overflow.specs.Chains.{IsChain}
 use Rattle.overflow.specs.Writing.{IsPut, PutsLink, IsLaid, Lays, LaysAnew}
+use Rattle.overflow.proofs.Growing.{grew_then}
 use Rattle.overflow.proofs.Laying.{IsTakenFrom, taken_from, put_free, put_moves, put_keeps, as_put, keeps_then, beside, whole_body, large}
 use Rattle.overflow.proofs.ReadChains.{unrefused}
+
+-- a page that is written stays among as many
+put_long : (old new : PageMap) (page next : ℕ) (bytes : List ℕ) → IsPut old new page next bytes → length new ≡ length old
+put_long old new page next bytes put = ap length put.2 ∙ length-set old (page - 1) (to_be_bytes w32 next ++ (bytes ++ put.0))
+
+-- a page was taken, and another written
+taken_grew : (old mid new : PageMap) (mid_free free : List ℕ) → length new ≡ length mid → (length mid ≡ length old) ⊎ ((free ≡ []) × (mid_free ≡ []))
+    → (length new ≡ length old) ⊎ (mid_free ≡ [])
+taken_grew old mid new mid_free free same (inl long) = inl (same ∙ long)
+taken_grew old mid new mid_free free same (inr none) = inr none.1
 
 -- the last page of a chain was written
 last_laid : (old new : PageMap) (usable page : ℕ) (free left : List ℕ) → AreFree old usable free → 1 < page → page < 2 ^ 32 → Has old page → occurs page free ≡ 0 → 1 ≤ length left → length left ≤ usable - 4
@@ -38,6 +49,7 @@ last_laid old new usable page free left are behind near has other some fits put 
       has = put_free old new usable free page 0 left are behind has other put;
       moves = moves;
       header = put_keeps old new page 0 left behind put;
+      rule = inl (put_long old new page 0 left put);
     }
 
 -- the next page was taken, this one was written, and the others were laid
@@ -79,6 +91,8 @@ next_laid old mid put_map new usable page next free left here rest are behind ne
       has = laid.has;
       moves = all_moves;
       header = keeps_then old mid new t.header (keeps_then mid put_map new (put_keeps mid put_map page next here behind put) laid.header);
+      rule = grew_then old put_map new (next ∷ []) (next ∷ laid.others) free_now laid.now_free
+          (taken_grew old mid put_map free_now free (put_long mid put_map page next here put) t.rule) (λ n. omega arith) laid.moves laid.rule;
     }
 
 matched_full : {T : Type 0} (A B : Type 0) (result : Result T Fault) → (A → B) → MatchResult result (λ done. A) IsOutsideOrFull → MatchResult result (λ done. B) IsOutsideOrFull
@@ -179,6 +193,7 @@ laid_anew old mid new usable first bytes near takes lays free are some =
       has = laid.has;
       moves = in_sequence old mid new [] free (first ∷ []) t.now_free (first ∷ laid.others) laid.now_free t.moves laid.moves;
       header = keeps_then old mid new t.header laid.header;
+      rule = grew_then old mid new (first ∷ []) (first ∷ laid.others) t.now_free laid.now_free (taken_grew old mid mid t.now_free free refl t.rule) (λ n. omega arith) laid.moves laid.rule;
     }
 
 -- the first page was taken, and the chain wasn't laid

@@ -4,3 +4,5 @@ pub mod Laying
 pub mod LayingChains
 pub mod WritePayloads
 pub mod FreedChains
+pub mod Staying
+pub mod Growing

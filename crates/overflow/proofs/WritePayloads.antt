@@ -30,4 +30,5 @@ written_on old new usable most local first free payload rest held are local_is r
       has = laid.has;
       moves = laid.moves;
       header = laid.header;
+      rule = laid.rule;
     }

@@ -1,5 +1,5 @@
 -- What reading a payload, writing one, and giving its pages back do.
-use Rattle.std.specs.Prelude.{◌≡◌, ℕ, List, [], ◌++◌, length, ⊤, Result, MatchResult}
+use Rattle.std.specs.Prelude.{◌≡◌, ◌⊎◌, ℕ, List, [], ◌++◌, length, ⊤, Result, MatchResult}
 use Rattle.sqlval.specs.declared.fault.Fault.{Fault}
 use Rattle.sqlval.specs.Faults.{IsOutside}
 use Rattle.pages.specs.Calls.{IsOutsideOrFull}
@@ -14,7 +14,7 @@ abbrev pub Reads : PageMap → ℕ → ℕ → List ℕ → ℕ → List ℕ →
 Reads map page most held size before after result = (payload chain : List ℕ) → AreWhole page map → IsPayload map page most held payload chain
     → length payload ≡ size → MatchResult result (λ done. after ≡ before ++ payload) IsOutside
 
--- A payload begins in these bytes of a cell and goes on over pages that were taken, each once.
+-- A payload begins in these bytes of a cell and goes on over pages that were taken, each once. The file grew only if no page is free.
 pub record IsWritten (old new : PageMap) (page most : ℕ) (free payload held : List ℕ) : Type 0 where
   pub chain : List ℕ
   pub now_free : List ℕ
@@ -22,6 +22,7 @@ pub record IsWritten (old new : PageMap) (page most : ℕ) (free payload held : 
   pub has : HasFree new page now_free
   pub moves : Moves old new [] free chain now_free
   pub header : KeepsHeader old new
+  pub rule : (length new ≡ length old) ⊎ (now_free ≡ [])
 
 -- Where these pages are free, a payload was written; or memory was short, a disk's call failed, or there are as many pages as there may be.
 abbrev pub Writes : {T : Type 0} → (T → List ℕ) → PageMap → PageMap → ℕ → ℕ → List ℕ → Result T Fault → Type 0

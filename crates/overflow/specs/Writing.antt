@@ -1,5 +1,5 @@
 -- What the calls that write a chain of overflow pages do.
-use Rattle.std.specs.Prelude.{◌≡◌, ◌≤◌, ◌<◌, ◌+◌, ◌^◌, ℕ, List, [], ◌∷◌, ◌++◌, length, ⊤, Result, MatchResult}
+use Rattle.std.specs.Prelude.{◌≡◌, ◌⊎◌, ◌≤◌, ◌<◌, ◌+◌, ◌^◌, ℕ, List, [], ◌∷◌, ◌++◌, length, ⊤, Result, MatchResult}
 use Rattle.std.specs.Int.{w32, to_be_bytes}
 use Rattle.sqlval.specs.declared.fault.Fault.{Fault}
 use Rattle.sqlval.specs.Faults.{IsOutside}
@@ -19,7 +19,7 @@ abbrev pub PutsLink : PageMap → PageMap → ℕ → List ℕ → ℕ → ℕ �
 PutsLink old new usable link page next bytes result = AreWhole usable old → Has old page → length link ≡ usable → 4 + length bytes ≤ usable
     → MatchResult result (λ done. IsPut old new page next bytes) IsOutside
 
--- Bytes lie on a chain that begins with a page, and whose other pages were taken.
+-- Bytes lie on a chain that begins with a page, and whose other pages were taken. The file grew only if no page is free.
 pub record IsLaid (old new : PageMap) (usable : ℕ) (free bytes : List ℕ) (page : ℕ) : Type 0 where
   pub others : List ℕ
   pub now_free : List ℕ
@@ -27,6 +27,7 @@ pub record IsLaid (old new : PageMap) (usable : ℕ) (free bytes : List ℕ) (pa
   pub has : HasFree new usable now_free
   pub moves : Moves old new (page ∷ []) free (page ∷ others) now_free
   pub header : KeepsHeader old new
+  pub rule : (length new ≡ length old) ⊎ (now_free ≡ [])
 
 -- where a page was taken, bytes lie on a chain that begins with it; or memory was short, a disk's call failed, or the file is full
 abbrev pub Lays : PageMap → PageMap → ℕ → ℕ → List ℕ → Result ⊤ Fault → Type 0
@@ -34,7 +35,7 @@ Lays old new usable page bytes result = (free : List ℕ) → AreFree old usable
     → occurs page free ≡ 0 → 1 ≤ length bytes
     → MatchResult result (λ done. IsLaid old new usable free bytes page) IsOutsideOrFull
 
--- Bytes lie on a chain of pages that were taken, which begins with this page.
+-- Bytes lie on a chain of pages that were taken, which begins with this page. The file grew only if no page is free.
 pub record IsLaidAnew (old new : PageMap) (usable : ℕ) (free bytes : List ℕ) (first : ℕ) : Type 0 where
   pub others : List ℕ
   pub now_free : List ℕ
@@ -42,6 +43,7 @@ pub record IsLaidAnew (old new : PageMap) (usable : ℕ) (free bytes : List ℕ)
   pub has : HasFree new usable now_free
   pub moves : Moves old new [] free (first ∷ others) now_free
   pub header : KeepsHeader old new
+  pub rule : (length new ≡ length old) ⊎ (now_free ≡ [])
 
 -- where these pages are free, bytes lie on a chain of pages that were taken; or memory was short, a disk's call failed, or the file is full
 abbrev pub LaysAnew : PageMap → PageMap → ℕ → List ℕ → Result ℕ Fault → Type 0
