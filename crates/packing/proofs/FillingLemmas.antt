@@ -143,7 +143,7 @@ last_of up room goal [] sizes h parts = refl
 last_of up room goal (count ∷ counts) sizes (inl fits) parts = let lt = parts.1 in absurd (omega (arith, fits, lt))
 last_of up room goal (count ∷ counts) sizes (inr few) parts = let first = parts.0 in absurd (omega (arith, few, first.some, first.behind))
 
-take_rises : (m n : ℕ) (sizes : List ℕ) → m ≤ n → total (take m sizes) ≤ total (take n sizes)
+pub take_rises : (m n : ℕ) (sizes : List ℕ) → m ≤ n → total (take m sizes) ≤ total (take n sizes)
 take_rises zero n sizes le = omega arith
 take_rises (suc m) zero sizes le = absurd (omega arith)
 take_rises (suc m) (suc n) [] le = omega arith

@@ -6,5 +6,9 @@ pub mod FillingLemmas
 pub mod RowLemmas
 pub mod SpreadLemmas
 pub mod SayLemmas
+pub mod DividingLemmas
 pub mod PackLemmas
 pub mod SmallLemmas
+pub mod SplicingLemmas
+pub mod CountLemmas
+pub mod Splices

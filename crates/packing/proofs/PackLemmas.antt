@@ -8,10 +8,11 @@ use Rattle.packing.specs.declared.spreading.Piece.{Piece}
 use Rattle.packing.specs.declared.spreading.Packed.{Packed}
 use Rattle.packing.specs.Parts.{IsCut}
 use Rattle.packing.specs.Building.{Fits, cell_room, right_room, after_front, page_of}
-use Rattle.packing.specs.Packing.{up_of, CanPack, AreOf, nodes_of, images, ends_of, Packs}
-use Rattle.packing.specs.Spreading.{pages_of}
+use Rattle.packing.specs.Packing.{up_of, CanPack, AreOf, nodes_of, images, divider_bytes, Divide, dividers_of, Packs}
+use Rattle.packing.specs.Spreading.{pages_of, dividing}
 use Rattle.packing.proofs.BuildingLemmas.{page_built}
 use Rattle.packing.proofs.SpreadLemmas.{cut_parts_fit}
+use Rattle.packing.proofs.DividingLemmas.{several_divided, none_divide}
 use Rattle.packing.proofs.SayLemmas.{several_say, one_says, pages_sized}
 
 -- a page begins with what stands before its header
@@ -33,13 +34,13 @@ packs_one front kind n rises right cells node packed fits cut none_before last i
       say = subst (λ (pages : List (List ℕ)). Pairwise (λ image part. IsNode image (length front) part) pages (nodes_of [] node)) (sym pages) (one_says front kind n right cells node fits is);
       sized = subst (λ (pages : List (List ℕ)). AllByRecursion (λ (image : List ℕ). length image ≡ n) pages) (sym pages) ((page_built front n kind right cells fits).1, tt);
       front_is = λ alone. (first.0, last ∙ first.1);
-      ends = ap (λ (pieces : List Piece). map (λ (piece : Piece). piece.end) pieces) none_before;
+      divide = subst (λ (ends : List (List ℕ)). Divide n ends (dividers_of [] node)) (sym (ap (λ (pieces : List Piece). map (λ (piece : Piece). piece.divider.items) pieces) none_before)) (none_divide n node);
     }
 
 -- the cells on several pages
 pub packs_several : (front : List ℕ) (kind : Kind) (n : ℕ) (rises : Bool) (right counts : List ℕ) (cells : List (List ℕ)) (node : Node) (packed : Packed) → CanPack n (length front) kind cells → length right ≡ right_room kind
     → IsCut (up_of kind) (n - length front - 8 - right_room kind) rises (map cell_room cells) counts → (counts ≡ [] → ⊥) → images packed ≡ pages_of kind n right counts cells
-    → map (λ (piece : Piece). piece.end) packed.pieces.items ≡ ends_of (up_of kind) 0 counts → AreOf kind n right cells node → Packs kind n front rises cells node packed
+    → divider_bytes packed ≡ dividing kind counts cells → AreOf kind n right cells node → Packs kind n front rises cells node packed
 packs_several front kind n rises right [] cells node packed can len cut some pages ends is = absurd (some refl)
 packs_several front kind n rises right (count ∷ counts) cells node packed can len cut some pages ends is =
     let near = can.addressed in
@@ -55,7 +56,9 @@ packs_several front kind n rises right (count ∷ counts) cells node packed can 
           subst (λ (pages : List (List ℕ)). AllByRecursion (λ (image : List ℕ). length image ≡ n) pages) (sym pages)
           (pages_sized kind n right (count ∷ counts) cells near (omega (arith, header)) (omega (arith, len)) fit.fit);
       front_is = λ alone. absurd (some alone);
-      ends = ends;
+      divide =
+          subst (λ (ends : List (List ℕ)). Divide n ends (dividers_of (count ∷ counts) node)) (sym ends)
+          (several_divided kind n (n - length front - 8 - right_room kind) rises right (count ∷ counts) cells node is fit.within cut);
     }
 
 -- ---- what the code knows of a cut

@@ -19,14 +19,14 @@ use Rattle.packing.proofs.FillingLemmas.{cut_leaves_one, cut_entries}
 
 -- ---- lists side by side
 
-pairwise_take : {A B : Type 0} (P : A → B → Type 0) (n : ℕ) (xs : List A) (ys : List B) → Pairwise P xs ys → Pairwise P (take n xs) (take n ys)
+pub pairwise_take : {A B : Type 0} (P : A → B → Type 0) (n : ℕ) (xs : List A) (ys : List B) → Pairwise P xs ys → Pairwise P (take n xs) (take n ys)
 pairwise_take P zero xs ys h = tt
 pairwise_take P (suc n) [] [] h = tt
 pairwise_take P (suc n) [] (y ∷ ys) h = absurd h
 pairwise_take P (suc n) (x ∷ xs) [] h = absurd h
 pairwise_take P (suc n) (x ∷ xs) (y ∷ ys) h = (h.0, pairwise_take P n xs ys h.1)
 
-pairwise_drop : {A B : Type 0} (P : A → B → Type 0) (n : ℕ) (xs : List A) (ys : List B) → Pairwise P xs ys → Pairwise P (drop n xs) (drop n ys)
+pub pairwise_drop : {A B : Type 0} (P : A → B → Type 0) (n : ℕ) (xs : List A) (ys : List B) → Pairwise P xs ys → Pairwise P (drop n xs) (drop n ys)
 pairwise_drop P zero xs ys h = h
 pairwise_drop P (suc n) [] [] h = tt
 pairwise_drop P (suc n) [] (y ∷ ys) h = absurd h

@@ -14,7 +14,7 @@ use Rattle.packing.specs.Building.{right_room}
 use Rattle.packing.specs.Packing.{IsSmall, CanPack, AreOf}
 
 -- a varint of any spelling has at most nine bytes
-varint_len : (bytes : List ℕ) (n : ℕ) → IsVarint bytes n → length bytes ≤ 9
+pub varint_len : (bytes : List ℕ) (n : ℕ) → IsVarint bytes n → length bytes ≤ 9
 varint_len bytes n is = by_end is.ends
   where
     len : length bytes ≡ length is.high + 1
@@ -71,7 +71,7 @@ between_small n cell kid big is =
     child_len child = refl
 
 -- what holds of each pair holds of each first
-all_first : {A B : Type 0} (P : A → B → Type 0) (Q : A → Type 0) → ((x : A) (y : B) → P x y → Q x) → (xs : List A) (ys : List B) → Pairwise P xs ys → AllByRecursion Q xs
+pub all_first : {A B : Type 0} (P : A → B → Type 0) (Q : A → Type 0) → ((x : A) (y : B) → P x y → Q x) → (xs : List A) (ys : List B) → Pairwise P xs ys → AllByRecursion Q xs
 all_first P Q go [] ys h = tt
 all_first P Q go (x ∷ xs) [] h = absurd h
 all_first P Q go (x ∷ xs) (y ∷ ys) h = (go x y h.0, all_first P Q go xs ys h.1)

@@ -2,15 +2,15 @@
 use Rattle.std.proofs.Common.{◌≡◌, inl, inr, ◌≤◌, ◌<◌, ◌+◌, ◌-◌, ◌*◌, ◌^◌, ℕ, zero, suc, Bool, List, [], ◌∷◌, ◌++◌, append_assoc, length, take, drop, map, slice_index_or, Bor, sym, ap, subst, ◌∙◌, arith}
 use Rattle.std.specs.List.{AllByRecursion}
 use Rattle.std.proofs.lemmas.Bool.{cases_lt}
-use Rattle.std.proofs.lemmas.List.{take_all, take_rest, take-map, drop-map, drop-drop, length-drop, length-take, length-map, map_push}
+use Rattle.std.proofs.lemmas.List.{append-nil, take_all, take_rest, take-map, drop-map, drop-drop, length-drop, length-take, length-map, map_push}
 use Rattle.treepage.specs.declared.items.Kind.{Kind}
 use Rattle.treepage.specs.declared.items.Kind.TheVariants.{TableLeaf, TableInterior, IndexLeaf, IndexInterior}
 use Rattle.packing.specs.declared.spreading.Piece.{Piece}
 use Rattle.packing.specs.Parts.{total, IsCut}
 use Rattle.packing.specs.Rows.{LieWithin}
 use Rattle.packing.specs.Building.{Fits, cell_room, right_room, page_of}
-use Rattle.packing.specs.Packing.{up_of, IsSmall, CanPack, ends_of}
-use Rattle.packing.specs.Spreading.{first_cell, pages_of, PartsFit}
+use Rattle.packing.specs.Packing.{up_of, IsSmall, CanPack}
+use Rattle.packing.specs.Spreading.{first_cell, pages_of, divider_of, dividing, PartsFit}
 use Rattle.packing.proofs.FillingLemmas.{AreSmall, of_cells, cut_fits, cut_one}
 use Rattle.packing.proofs.RowLemmas.{cut_within}
 
@@ -20,8 +20,8 @@ bytes_of cells = map (λ (cell : Bor (List ℕ)). cell.now) cells
 abbrev page_items : Piece → List ℕ
 page_items piece = piece.page.items
 
-abbrev end_of : Piece → ℕ
-end_of piece = piece.end
+abbrev divider_items : Piece → List ℕ
+divider_items piece = piece.divider.items
 
 -- the cells of a part, as a slice
 pub slice_is : (start count : ℕ) (cells : List (Bor (List ℕ))) → bytes_of (take (start + count - start) (drop start cells)) ≡ take count (drop start (bytes_of cells))
@@ -79,14 +79,24 @@ pages_on kind n start up (count ∷ left) cells whole right pieces pushed piece 
     rw (take_all (suc (length left) - 1) left (omega arith), e)
     (ap (λ (xs : List (List ℕ)). xs ++ rest) (ap (map page_items) p ∙ map_push page_items pieces piece) ∙ append_assoc (map page_items pieces) (piece.page.items ∷ []) rest ∙ again)
 
-pub ends_on : (start up : ℕ) (left whole : List ℕ) (pieces pushed : List Piece) (piece : Piece) (n : ℕ) → n ≡ up → 1 ≤ length left → pushed ≡ pieces ++ piece ∷ [] → piece.end ≡ start + slice_index_or left 0 0
-    → map end_of pieces ++ ends_of up start left ≡ whole → map end_of pushed ++ ends_of up (start + slice_index_or left 0 0 + n) (take (length left - 1) (drop 1 left)) ≡ whole
-ends_on start up [] whole pieces pushed piece n e some p end so_far = absurd (omega arith)
-ends_on start up (count ∷ left) whole pieces pushed piece n e some p end so_far =
-    let rest = ends_of up (start + count + up) left in
+pub dividers_on : (kind : Kind) (start up : ℕ) (left : List ℕ) (cells whole : List (List ℕ)) (pieces pushed : List Piece) (piece : Piece) → up ≡ up_of kind → 1 ≤ length left → pushed ≡ pieces ++ piece ∷ []
+    → piece.divider.items ≡ divider_of kind (take (slice_index_or left 0 0) (drop start cells)) (drop (start + slice_index_or left 0 0) cells)
+    → map divider_items pieces ++ dividing kind left (drop start cells) ≡ whole
+    → map divider_items pushed ++ dividing kind (take (length left - 1) (drop 1 left)) (drop (start + slice_index_or left 0 0 + up) cells) ≡ whole
+dividers_on kind start up [] cells whole pieces pushed piece e some p is so_far = absurd (omega arith)
+dividers_on kind start up (count ∷ left) cells whole pieces pushed piece e some p is so_far =
+    let rest = dividing kind left (drop (start + count + up_of kind) cells) in
+    let here : divider_of kind (take count (drop start cells)) (drop count (drop start cells)) ≡ piece.divider.items =
+    ap (λ (xs : List (List ℕ)). divider_of kind (take count (drop start cells)) xs) (drop-drop count start cells) ∙ sym is in
+    let again : map divider_items pieces ++ piece.divider.items ∷ rest ≡ whole =
+    subst (λ (xs : List (List ℕ)). map divider_items pieces ++ piece.divider.items ∷ dividing kind left xs ≡ whole) (drop_on start count (up_of kind) cells)
+    (subst (λ (x : List ℕ). map divider_items pieces ++ x ∷ dividing kind left (drop (count + up_of kind) (drop start cells)) ≡ whole) here so_far) in
     rw (take_all (suc (length left) - 1) left (omega arith), e)
-    (ap (λ (xs : List ℕ). xs ++ rest) (ap (map end_of) p ∙ map_push end_of pieces piece) ∙ append_assoc (map end_of pieces) (piece.end ∷ []) rest
-    ∙ ap (λ (x : ℕ). map end_of pieces ++ x ∷ rest) end ∙ so_far)
+    (ap (λ (xs : List (List ℕ)). xs ++ rest) (ap (map divider_items) p ∙ map_push divider_items pieces piece) ∙ append_assoc (map divider_items pieces) (piece.divider.items ∷ []) rest ∙ again)
+
+pub dividers_last : (kind : Kind) (left : List ℕ) (rest whole front : List (List ℕ)) → length left < 1 → front ++ dividing kind left rest ≡ whole → front ≡ whole
+dividers_last kind [] rest whole front none_left so_far = sym (append-nil front) ∙ so_far
+dividers_last kind (count ∷ left) rest whole front none_left so_far = absurd (omega arith)
 
 pub pages_last : (kind : Kind) (n : ℕ) (left : List ℕ) (rest whole front : List (List ℕ)) (right last : List ℕ) → length left < 1 → last ≡ page_of [] n kind right rest → front ++ pages_of kind n right left rest ≡ whole → front ++ last ∷ [] ≡ whole
 pages_last kind n [] rest whole front right last none_left e so_far = ap (λ (x : List ℕ). front ++ x ∷ []) e ∙ so_far

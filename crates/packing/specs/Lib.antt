@@ -4,4 +4,5 @@ pub mod Rows
 pub mod Filling
 pub mod Building
 pub mod Packing
+pub mod Splicing
 pub mod Spreading

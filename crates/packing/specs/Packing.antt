@@ -1,15 +1,18 @@
 -- The cells of a node on as many pages as they need.
-use Rattle.std.specs.Prelude.{◌≡◌, ◌≤◌, ◌<◌, ◌+◌, ◌-◌, ◌*◌, ◌^◌, ℕ, Bool, List, [], ◌∷◌, ◌++◌, length, map}
+use Rattle.std.specs.Prelude.{◌≡◌, ◌≤◌, ◌<◌, ◌+◌, ◌-◌, ◌*◌, ◌^◌, ℕ, ℤ, pos, Bool, List, [], ◌∷◌, ◌++◌, length, map}
 use Rattle.std.specs.List.{AllByRecursion}
+use Rattle.std.specs.Int.{w64, cast_signed}
+use Rattle.record.specs.Varint.{IsVarint}
 use Rattle.treepage.specs.Cells.{Pairwise}
-use Rattle.treepage.specs.Node.{Node, Rows, Keys, Entries, Between, code_of, right_of, Say, IsNode}
+use Rattle.treepage.specs.Node.{Local, Node, Rows, Keys, Entries, Between, IsEntryCell, code_of, right_of, Say, IsNode}
 use Rattle.treepage.specs.Reading.{type_of}
 use Rattle.treepage.specs.declared.items.Kind.{Kind}
 use Rattle.treepage.specs.declared.items.Kind.TheVariants.{TableLeaf, TableInterior, IndexLeaf, IndexInterior}
 use Rattle.packing.specs.declared.spreading.Packed.{Packed}
 use Rattle.packing.specs.Parts.{IsCut}
-use Rattle.packing.specs.Lists.{parts_of, pieces, entry_parts, side_parts, all_sides}
+use Rattle.packing.specs.Lists.{parts_of, pieces, row_parts, entry_parts, side_parts, all_sides}
 use Rattle.packing.specs.Building.{cell_room, right_room}
+use Rattle.packing.specs.Rows.{last_number}
 
 -- how many cells go to the page above between two pages: none for rows
 abbrev pub up_of : Kind → ℕ
@@ -52,10 +55,32 @@ abbrev pub start_of : List ℕ → List ℕ → ℕ
 start_of front [] = length front
 start_of front (count ∷ counts) = 0
 
--- the place of the cell after each part, from this place on
-abbrev pub ends_of : ℕ → ℕ → List ℕ → List ℕ
-ends_of up place [] = []
-ends_of up place (count ∷ counts) = (place + count) ∷ ends_of up (place + count + up) counts
+-- what the page above has between its children: keys on a table's, entries on an index's
+pub data Dividers : Type 0 where
+  OfKeys : List ℤ → Dividers
+  OfEntries : List Local → Dividers
+
+-- what divides the pages, by the counts of the cells of all pages but the last: the last rowid of each part of rows, or what goes up
+abbrev pub dividers_of : List ℕ → Node → Dividers
+dividers_of counts (Rows rows) = OfKeys (map (λ part. part.1) (row_parts (last_number (pos 0)) counts rows).0)
+dividers_of counts (Keys kids last) = OfKeys (map (λ part. part.1) (side_parts counts (kids, last)).0)
+dividers_of counts (Entries entries) = OfEntries (map (λ part. part.1) (entry_parts counts entries).0)
+dividers_of counts (Between kids last) = OfEntries (map (λ part. part.1) (side_parts counts (kids, last)).0)
+
+-- a key as it stands in a cell, after the child's number
+pub record IsKey (bytes : List ℕ) (key : ℤ) : Type 0 where
+  pub number : ℕ
+  pub key_is : IsVarint bytes number
+  pub signed : key ≡ cast_signed w64 number
+
+-- these are the ends of cells, after the child's number, that say these dividers
+abbrev pub Divide : ℕ → List (List ℕ) → Dividers → Type 0
+Divide usable ends (OfKeys keys) = Pairwise IsKey ends keys
+Divide usable ends (OfEntries entries) = Pairwise (IsEntryCell usable) ends entries
+
+-- the ends of the cells that divide the pages
+abbrev pub divider_bytes : Packed → List (List ℕ)
+divider_bytes packed = map (λ piece. piece.divider.items) packed.pieces.items
 
 -- The node is packed: its cells are cut by their room, and each page says its part of the node.
 pub record Packs (kind : Kind) (page_size : ℕ) (front : List ℕ) (rises : Bool) (cells : List (List ℕ)) (node : Node) (packed : Packed) : Type 0 where
@@ -64,4 +89,4 @@ pub record Packs (kind : Kind) (page_size : ℕ) (front : List ℕ) (rises : Boo
   pub say : Pairwise (λ image part. IsNode image (start_of front counts) part) (images packed) (nodes_of counts node)
   pub sized : AllByRecursion (λ image. length image ≡ page_size) (images packed)
   pub front_is : counts ≡ [] → (rest : List ℕ) × (packed.last.items ≡ front ++ rest)
-  pub ends : map (λ piece. piece.end) packed.pieces.items ≡ ends_of (up_of kind) 0 counts
+  pub divide : Divide page_size (divider_bytes packed) (dividers_of counts node)

@@ -5,10 +5,11 @@ ghost use Rattle.std.specs.List.{AllByRecursion};
 ghost use Rattle.packing.specs.Parts.{total, IsCut};
 ghost use Rattle.packing.specs.Filling.{AreWithin, BeginsAboutHalf};
 ghost use Rattle.packing.specs.Rows.{Rises, last_number, Parted, LieWithin};
-ghost use Rattle.treepage.specs.Node.{Local, Node, IsRowCell, IsKeyCell, IsEntryCell, IsBetweenCell};
-ghost use Rattle.packing.specs.Packing.{IsSmall, CanPack, AreOf};
+ghost use Rattle.treepage.specs.Node.{Local, Node, Rows, Keys, IsRowCell, IsKeyCell, IsEntryCell, IsBetweenCell};
+ghost use Rattle.packing.specs.Packing.{IsSmall, CanPack, AreOf, divider_bytes, Packs};
 ghost use Rattle.packing.specs.Lists.{parts_of, row_parts, fan, pieces, entry_parts, between, Side, side_parts, joined, side_pieces};
 
+use crate::spreading::Packed;
 use treepage::Kind;
 
 /// The parts of rows are the rows.
@@ -62,6 +63,22 @@ pub fn parts_are_well_filled()
         → total sizes + most ≤ 2 * room → IsCut up room rises sizes counts → length counts ≤ 1 }
     ensures three { (up room : ℕ) (rises : Bool) (sizes counts : List ℕ) → total sizes ≤ 2 * room → IsCut up room rises sizes counts
         → length counts ≤ 2 }
+{}
+
+/// A part that has another after it overfills a page, with the cell that goes up or the first of the next part: so all
+/// pages but the last have at most twice the room that the cells take, and no more than it where a cell goes up.
+pub fn parts_are_few()
+    ensures few { (up room : ℕ) (rises : Bool) (sizes counts : List ℕ) → IsCut up room rises sizes counts → room * length counts ≤ 2 * total sizes }
+    ensures fewer { (up room : ℕ) (rises : Bool) (sizes counts : List ℕ) → 1 ≤ up → IsCut up room rises sizes counts
+        → room * length counts ≤ total sizes }
+{}
+
+/// What divides the pages of a table is a key, of at most nine bytes.
+pub fn keys_are_short()
+    ensures rows { (kind : Kind) (page_size : ℕ) (front : List ℕ) (rises : Bool) (cells : List (List ℕ)) (rows : List (ℤ × Local)) (packed : Packed)
+        → Packs kind page_size front rises cells (Rows rows) packed → AllByRecursion (λ bytes. length bytes ≤ 9) (divider_bytes packed) }
+    ensures keys { (kind : Kind) (page_size : ℕ) (front : List ℕ) (rises : Bool) (cells : List (List ℕ)) (kids : List (ℕ × ℤ)) (last : ℕ) (packed : Packed)
+        → Packs kind page_size front rises cells (Keys kids last) packed → AllByRecursion (λ bytes. length bytes ≤ 9) (divider_bytes packed) }
 {}
 
 /// The cells of the format are small from 512 bytes a page on, whatever spelling their numbers have, and so the cells of any

@@ -3,12 +3,13 @@
 ghost use Rattle.std.specs.Prelude.{◌≡◌, ◌≤◌, ◌<◌, ◌+◌, ◌*◌, ◌-◌, ◌^◌, ◌↔◌, ◌⊎◌, ℕ, List, [], ◌∷◌, IsTrue, length, map, take, IfOk, IfErr};
 ghost use Rattle.std.specs.List.{AllByRecursion};
 ghost use Rattle.treepage.specs.Node.{Node};
-ghost use Rattle.packing.specs.Building.{cell_room, right_room, right_bytes};
-ghost use Rattle.packing.specs.Packing.{up_of, IsSmall, CanPack, AreOf, images, ends_of, Packs};
-ghost use Rattle.packing.specs.Spreading.{first_cell, pages_of, PartsFit};
+ghost use Rattle.packing.specs.Building.{cell_room, right_room, right_bytes, Fits, page_of};
+ghost use Rattle.packing.specs.Packing.{up_of, IsSmall, CanPack, AreOf, images, divider_bytes, Packs};
+ghost use Rattle.packing.specs.Spreading.{first_cell, row_key, last_key, divider_of, pages_of, dividing, PartsFit};
 
 use crate::building::{cell_len, right_len, write};
 use crate::cutting::cut;
+use record::get_varint;
 use sqlval::{Damage, Fault, R};
 use std::alloc::{AllocError, Global};
 use treepage::Kind;
@@ -18,8 +19,8 @@ use treepage::Kind;
 pub struct Piece {
     /// Its bytes.
     pub page: Vec<u8>,
-    /// The place of the cell after this page's cells, among all cells.
-    pub end: usize,
+    /// The end of the cell that the page above gets for it, after the page's number: a key or an entry.
+    pub divider: Vec<u8>,
 }
 
 /// The pages that cells are put onto.
@@ -87,6 +88,60 @@ fn child_before<'a>(kind: Kind, cells: &[&'a [u8]]) -> &'a [u8]
     }
 }
 
+/// The bytes of the rowid in the cell of a row.
+fn row_key(cell: &[u8]) -> &[u8]
+    ensures { result.now ≡ row_key cell.now }
+{
+    let Some((_, rest)) = get_varint(cell) else {
+        return &[];
+    };
+    let Some((_, held)) = get_varint(rest) else {
+        return &[];
+    };
+    &rest[..rest.len() - held.len()]
+}
+
+/// The bytes of the rowid in the last of these cells of rows.
+fn last_key<'a>(cells: &[&'a [u8]]) -> &'a [u8]
+    ensures { result.now ≡ last_key (map (λ cell. cell.now) cells.now) }
+{
+    match cells.last() {
+        Some(cell) => row_key(cell),
+        None => &[],
+    }
+}
+
+/// The end of the cell that the page above gets for a page with these cells, which has others after it.
+fn divider_of<'a>(kind: Kind, part: &[&'a [u8]], after: &[&'a [u8]]) -> &'a [u8]
+    ensures { result.now ≡ divider_of kind (map (λ cell. cell.now) part.now) (map (λ cell. cell.now) after.now) }
+{
+    if kind == Kind::TableLeaf {
+        return last_key(part);
+    }
+    match after.first() {
+        Some(cell) => &cell[right_len(kind).min(cell.len())..],
+        None => &[],
+    }
+}
+
+/// The page of a part that has other cells after it. (`Memory` alone.)
+fn write_piece(
+    alloc: Global,
+    page_size: usize,
+    kind: Kind,
+    part: &[&[u8]],
+    after: &[&[u8]],
+) -> Result<Piece, AllocError>
+    requires { Fits page_size 0 (right_room kind) (map (λ cell. cell.now) part.now) }
+    ensures page { IfOk result (λ piece. piece.page.items ≡ page_of [] page_size kind
+        (take (right_room kind) (first_cell (map (λ cell. cell.now) after.now))) (map (λ cell. cell.now) part.now)) }
+    ensures divider { IfOk result (λ piece. piece.divider.items ≡ divider_of kind (map (λ cell. cell.now) part.now) (map (λ cell. cell.now) after.now)) }
+{
+    let page = write(alloc, &[], page_size, kind, child_before(kind, after), part)?;
+    let divider = divider_of(kind, part, after).to_vec(alloc)?;
+    Ok(Piece { page, divider })
+}
+
 /// The pages of several parts. (`Memory` alone.)
 fn write_parts(
     alloc: Global,
@@ -100,16 +155,15 @@ fn write_parts(
     requires right { length right.now ≡ right_room kind }
     requires parts { PartsFit kind page_size counts.now (map (λ cell. cell.now) cells.now) }
     ensures images { IfOk result (λ packed. images packed ≡ pages_of kind page_size right.now counts.now (map (λ cell. cell.now) cells.now)) }
-    ensures ends { IfOk result (λ packed. map (λ piece. piece.end) packed.pieces.items ≡ ends_of (up_of kind) 0 counts.now) }
+    ensures dividers { IfOk result (λ packed. divider_bytes packed ≡ dividing kind counts.now (map (λ cell. cell.now) cells.now)) }
 {
     let mut pieces = Vec::new(alloc);
     let mut start = 0;
     let mut left = counts;
     'parts: while let [count, after @ ..] = left {
         let end = start + count;
-        let right = child_before(kind, &cells[end..]);
-        let page = write(alloc, &[], page_size, kind, right, &cells[start..end])?;
-        pieces.push(Piece { page, end })?;
+        let piece = write_piece(alloc, page_size, kind, &cells[start..end], &cells[end..])?;
+        pieces.push(piece)?;
         start = end + up_len(kind);
         left = after;
     }

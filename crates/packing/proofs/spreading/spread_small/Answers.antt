@@ -3,8 +3,8 @@ use Rattle.std.proofs.lemmas.Grind.{common_steps}
 use Rattle.treepage.specs.Node.{Node}
 use Rattle.packing.specs.Parts.{IsCut}
 use Rattle.packing.specs.Building.{cell_room, right_room}
-use Rattle.packing.specs.Packing.{up_of, AreOf, images, ends_of, Packs}
-use Rattle.packing.specs.Spreading.{pages_of}
+use Rattle.packing.specs.Packing.{up_of, AreOf, images, divider_bytes, Packs}
+use Rattle.packing.specs.Spreading.{pages_of, dividing}
 use Rattle.packing.proofs.SpreadLemmas.{cut_parts_fit, uncut_fits}
 use Rattle.packing.proofs.PackLemmas.{packs_one, packs_several, cut_of, none_is, if_both}
 use Rattle.packing.proofs.spreading.spread_small.Goals as goal
@@ -55,5 +55,5 @@ returns c =
     let some : counts ≡ [] → ⊥ = λ e. let none_left : length counts ≡ 0 = ap length e in grind (arith, common_steps, none_left) in
     let made = rw c.deref.ensures.value at c.write_parts.ensures in
     λ (node : Node) (is : AreOf kind n right cells node).
-    if_both c.write_parts.result (λ packed. images packed ≡ pages_of kind n right counts cells) (λ packed. map (λ piece. piece.end) packed.pieces.items ≡ ends_of (up_of kind) 0 counts) (λ packed. Packs kind n front rises cells node packed)
-    (λ packed pages ends. packs_several front kind n rises right counts cells node packed c.requires.can c.requires.right cut some pages ends is) made.images made.ends
+    if_both c.write_parts.result (λ packed. images packed ≡ pages_of kind n right counts cells) (λ packed. divider_bytes packed ≡ dividing kind counts cells) (λ packed. Packs kind n front rises cells node packed)
+    (λ packed pages ends. packs_several front kind n rises right counts cells node packed c.requires.can c.requires.right cut some pages ends is) made.images made.dividers

@@ -1,0 +1,46 @@
+use Rattle.std.proofs.Common.{◌≡◌, ◌+◌, ◌==◌, min, length, map, take, refl, ap, ◌∙◌, arith}
+use Rattle.std.proofs.lemmas.List.{take_min, length-take}
+use Rattle.packing.specs.Building.{right_bytes}
+use Rattle.packing.specs.Splicing.{spliced}
+use Rattle.packing.proofs.SplicingLemmas.{refused_on, len_of, kind_of, packing_of, packs_or_memory}
+use Rattle.packing.proofs.splicing.splice.Goals as goal
+use Rattle.packing.proofs.splicing.splice.Goals.{then-len-from-via-then-len-from, then-len-from-via-else-len-from+then-len-from-2}
+
+pub returns-in_err-tree-clause-spliced : goal.returns-in_err-tree-clause-spliced
+returns-in_err-tree-clause-spliced c = λ kind old new is usual same within say. absurd (c.in_err-tree.ensures.only old is)
+
+pub returns-then-len-from-clause-spliced : goal.returns-then-len-from-clause-spliced
+returns-then-len-from-clause-spliced c =
+    λ kind old new is usual same within say.
+    let len : c.len-len.result ≡ length is.cells = len_of _ c.args.page.now c.args.start c.len-len.result old is c.in_ok-tree.ensures.place c.len-len.ensures in
+    elim c.then-len-from.branch [
+      | then-len-from-via-then-len-from w ↦ let past = w.if-len-from in absurd (omega (arith, past, within, len))
+      | then-len-from-via-else-len-from+then-len-from-2 w ↦ let past = w.if-len-from-2 in absurd (omega (arith, past, within, len))
+    ]
+
+pub returns-in_err-all-clause-spliced : goal.returns-in_err-all-clause-spliced
+returns-in_err-all-clause-spliced c =
+    λ kind old new is usual same within say.
+    let around = rw c.in_ok-tree.ensures.place at c.in_err-all.ensures.around in
+    refused_on c.from_residual-in_err-all.result c.in_err-all.field-0.0 _ c.from_residual-in_err-all.ensures.1 (around old old is is (omega (arith, within)) within)
+
+pub returns-clause-spliced : goal.returns-clause-spliced
+returns-clause-spliced c =
+    λ kind old new is usual same within say.
+    let page = c.args.page.now in
+    let start = c.args.start in
+    let place = c.in_ok-tree.ensures.place in
+    let len : c.len-len.result ≡ length is.cells = len_of _ page start c.len-len.result old is place c.len-len.ensures in
+    let around = rw place at c.in_ok-all.ensures.around in
+    let all = around old old is is (omega (arith, within)) within in
+    let kind_is : c.kind.result ≡ kind = kind_of _ page start c.kind.result kind old is place c.kind.ensures same in
+    let least = usual.least in
+    let addressed = usual.addressed in
+    let near = usual.near in
+    let cells = spliced c.args.from c.args.count (map (λ cell. cell.now) c.args.cells.now) is.cells in
+    let behind = c.args.from + c.args.count == length is.cells in
+    let front_is : c.min.result ≡ min start (length page) = c.min.ensures in
+    packs_or_memory c.pack.result (length page) (take start page) kind (right_bytes c.args.right) behind cells new least addressed (omega (arith, near, length-take start page)) say
+    (packing_of c.pack.result (length page) (take c.min.result page) (take start page) c.kind.result kind (right_bytes c.args.right) (right_bytes c.args.right) (c.args.from + c.args.count == c.len-len.result) behind
+    (map (λ cell. cell.now) c.deref.result.now) cells (ap (λ n. take n page) front_is ∙ take_min start page) kind_is refl (ap (λ n. c.args.from + c.args.count == n) len) (ap (λ xs. map (λ cell. cell.now) xs) c.deref.ensures.value ∙ all)
+    (λ node is_node. (c.pack.ensures.packed node is_node, c.pack.ensures.only node is_node)))
