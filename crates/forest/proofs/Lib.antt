@@ -1,1 +1,10 @@
 pub mod Windows
+pub mod PutPages
+pub mod MovedPages
+pub mod WrittenPages
+pub mod TakenPages
+pub mod CellsOver
+pub mod RaisedPages
+pub mod StoredPages
+pub mod RootedPages
+pub mod Staying

@@ -1,2 +1,6 @@
-//! Rows of subtrees that stand side by side: what they give, and windows in them, as definitions and laws.
+//! Subtrees that stand side by side: what they give, windows in rows of them, and storing their pages.
 #![tactic(auto)]
+
+mod storing;
+
+pub use storing::{Fan, put_node, store, store_root};
