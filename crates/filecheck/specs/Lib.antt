@@ -2,3 +2,4 @@ pub mod Files
 pub mod Schema
 pub mod Contents
 pub mod Stands
+pub mod Layout

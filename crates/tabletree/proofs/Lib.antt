@@ -5,3 +5,4 @@ pub mod SinglePages
 pub mod AfterFront
 pub mod SameRows
 pub mod LeafTrees
+pub mod Staying

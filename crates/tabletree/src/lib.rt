@@ -2,8 +2,10 @@
 //! one page alone are read and written so far.
 #![tactic(auto)]
 
+mod laws;
 mod leaf;
 
+pub use laws::table_trees_stay;
 pub use leaf::{
     Leaf, a_tree_of_leaves_is_one_page, empty, front_of_page_holds_no_row, next_rowid,
     single_page_is_a_tree, with_rows,

@@ -1,0 +1,13 @@
+//! What holds of files whose pages are shared by trees and the freelist.
+
+ghost use Rattle.filecheck.specs.Layout.{ReplacesTrees, TreesStand};
+
+/// Where some trees gave way to others, all pages are shared again.
+pub fn trees_give_way()
+    ensures { ReplacesTrees }
+{}
+
+/// Among trees that share pages with the freelist, each table's stands beside the free pages.
+pub fn table_trees_stand()
+    ensures { TreesStand }
+{}

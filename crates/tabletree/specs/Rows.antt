@@ -1,0 +1,27 @@
+-- Rows by rising rowid, as a map.
+use Rattle.std.specs.Prelude.{ℕ, ℤ, List, [], ◌∷◌, Option, Some, None, int_lt, if◌then◌else◌}
+use Rattle.std.specs.Ordering.{int_eq}
+use Rattle.page.specs.Leaf.{Entry}
+
+-- the payload of the row of this rowid
+abbrev pub payload_at : ℤ → List Entry → Option (List ℕ)
+payload_at rowid [] = None
+payload_at rowid (row ∷ rows) = if int_eq row.rowid rowid then Some row.payload else payload_at rowid rows
+
+-- the rows with this one, in its place by rowid, or in place of the one that has its rowid
+abbrev pub with_row : Entry → List Entry → List Entry
+with_row row [] = row ∷ []
+with_row row (first ∷ rows) =
+    if int_lt row.rowid first.rowid then row ∷ first ∷ rows
+    else (if int_eq row.rowid first.rowid then row ∷ rows else first ∷ with_row row rows)
+
+-- the rows without the one of this rowid
+abbrev pub without_row : ℤ → List Entry → List Entry
+without_row rowid [] = []
+without_row rowid (row ∷ rows) = if int_eq row.rowid rowid then rows else row ∷ without_row rowid rows
+
+-- the greatest rowid
+abbrev pub last_rowid : List Entry → Option ℤ
+last_rowid [] = None
+last_rowid (row ∷ []) = Some row.rowid
+last_rowid (row ∷ next ∷ rows) = last_rowid (next ∷ rows)
