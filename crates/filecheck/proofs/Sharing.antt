@@ -8,7 +8,7 @@ use Rattle.pages.specs.Map.{PageMap}
 use Rattle.forest.specs.Staying.{AreKept}
 use Rattle.forest.proofs.Staying.{occurs_both, occurs_here, kept_of}
 use Rattle.tabletree.specs.Tree.{IsTableTree, Tree, top, pages_of}
-use Rattle.tabletree.proofs.Staying as tables
+use Rattle.tabletree.proofs.KeptTrees as tables
 use Rattle.indextree.specs.Tree as index
 use Rattle.indextree.proofs.Staying as indexes
 use Rattle.filecheck.specs.Layout.{Content, OfRows, OfEntries, Owner, HoldsUnder, IsTree, used_by, AreShared, ReplacesTrees, TreesStand}

@@ -5,4 +5,25 @@ pub mod SinglePages
 pub mod AfterFront
 pub mod SameRows
 pub mod LeafTrees
-pub mod Staying
+mod Holes
+mod Staying
+mod Inserted
+mod Descents
+mod Exits
+mod Widening
+mod Fans
+mod Stepped
+mod Roots
+mod Putting
+mod Sums
+mod Leaves
+mod Starts
+mod Few
+mod Branches
+mod Rooms
+mod Cutting
+mod Growth
+mod Planting
+mod Passing
+pub mod Orders
+pub mod KeptTrees

@@ -1,61 +1,103 @@
--- A tree stays where what trees see of its pages stays.
-use Rattle.std.proofs.Common.{ℕ, zero, suc, ℤ, List, [], ◌∷◌, ◌++◌, subst, sym, arith}
+-- A tree of whose pages trees see what they saw is there as before.
+use Rattle.std.proofs.Common.{◌≡◌, ◌≤◌, ◌-◌, ℕ, zero, suc, ℤ, List, [], ◌∷◌, ◌++◌, length, drop, sym, ◌∙◌, arith}
+use Rattle.std.proofs.lemmas.Grind.{common_steps}
 use Rattle.std.specs.List.{flat_map}
-use Rattle.pages.specs.Map.{PageMap}
+use Rattle.pages.specs.Counting.{occurs, body_at, start_of}
+use Rattle.pages.specs.Map.{PageMap, page_at, Has, AreWhole}
+use Rattle.pages.proofs.Moving.{occurs_append}
 use Rattle.treepage.specs.Cells.{Pairwise}
-use Rattle.treepage.specs.Node.{Local, Rows, Keys}
-use Rattle.treepage.specs.Payload.{table_most}
-use Rattle.overflow.proofs.Staying.{payload_kept}
-use Rattle.forest.specs.Sides.{children, each_of, nothing}
-use Rattle.forest.specs.Staying.{AreKept}
-use Rattle.forest.proofs.Staying.{occurs_both, occurs_here, kept_of, says_kept, each_kept}
-use Rattle.tabletree.specs.Tree.{Held, IsHeldAs, Tree, top, pages_of, Lies}
-use Rattle.tabletree.specs.Laws.{TreesStay}
+use Rattle.treepage.specs.Node.{Local, Node}
+use Rattle.treepage.specs.Payload.{local_size, table_most}
+use Rattle.treepage.proofs.AfterFront.{stays_after_front}
+use Rattle.overflow.specs.Chains.{IsLink, IsChain, IsPayload, next_of}
+use Rattle.overflow.proofs.Laying.{whole_body}
+use Rattle.forest.specs.Saying.{Says}
+use Rattle.tabletree.specs.Growing.{below_of, Shows}
+use Rattle.tabletree.specs.Tree.{Held, IsHeldAs, Tree, pages_of, Lies}
+use Rattle.tabletree.proofs.Holes.{each_stays}
 
-held_kept : (old new : PageMap) (size : ℕ) (said : List (ℤ × Local)) (rows : List Held) → AreKept old new size (flat_map (λ held. held.pages) rows)
-    → Pairwise (IsHeldAs old size) said rows → Pairwise (IsHeldAs new size) said rows
-held_kept old new size [] [] kept all = tt
-held_kept old new size [] (row ∷ rows) kept all = absurd all
-held_kept old new size (item ∷ said) [] kept all = absurd all
-held_kept old new size (item ∷ said) (row ∷ rows) kept all =
-    let rest = flat_map (λ (held : Held). held.pages) rows in
-    let both = λ (n : ℕ). occurs_both n row.pages rest in
-    let first = all.0 in (
-      record {
-        rowid = first.rowid;
-        size = first.size;
-        payload = payload_kept old new size (table_most size) item.1.bytes row.row.payload row.pages kept.longer
-            (λ n has some. kept.same n has (let b = both n in omega (arith, b, some))) first.payload;
-      },
-      held_kept old new size said rows (kept_of old new size (row.pages ++ rest) rest (λ n some. (let b = both n in omega (arith, b, some))) kept) all.1,
-    )
+-- of these pages trees see what they saw
+pub record AreSeen (old new : PageMap) (pages : List ℕ) : Type 0 where
+  pub same : (n : ℕ) → 1 ≤ n → n ≤ length old → 1 ≤ occurs n pages → body_at new n ≡ body_at old n
 
-pub lies_kept : (old new : PageMap) (size : ℕ) (depth : ℕ) (t : Tree depth) → AreKept old new size (pages_of depth t) → Lies old size depth t → Lies new size depth t
-lies_kept old new size zero t kept lies =
-    let chains = flat_map (λ (held : Held). held.pages) t.rows in
-    record {
-      said = lies.said;
-      says = says_kept old new size t.page (t.page ∷ chains) (Rows lies.said) kept (occurs_here t.page chains) lies.says;
-      rows = held_kept old new size lies.said t.rows (kept_of old new size (t.page ∷ chains) chains (λ n some. omega (arith, some)) kept) lies.rows;
+-- the pages of the second list are among those of the first
+abbrev Among : List ℕ → List ℕ → Type 0
+Among pages part = (n : ℕ) → occurs n part ≤ occurs n pages
+
+seen_among : (old new : PageMap) (pages part : List ℕ) → Among pages part → AreSeen old new pages → AreSeen old new part
+seen_among old new pages part among are = record { same = λ n from to some. are.same n from to (let m = among n in omega (arith, m, some)) }
+
+first_of : (page : ℕ) (pages : List ℕ) → 1 ≤ occurs page (page ∷ pages)
+first_of page pages = grind (arith, common_steps)
+
+module _ (old new : PageMap) (longer : length old ≤ length new) where
+  has_stays : (n : ℕ) → Has old n → Has new n
+  has_stays n has = record { first = has.first; last = (let last = has.last in omega (arith, last, longer)) }
+
+  link_stays : (usable page : ℕ) (bytes : List ℕ) (next : ℕ) → body_at new page ≡ body_at old page → IsLink old usable page bytes next → IsLink new usable page bytes next
+  link_stays usable page bytes next same is = record {
+    has = has_stays page is.has;
+    behind = is.behind;
+    near = is.near;
+    some = is.some;
+    rest = is.rest;
+    parts = whole_body old new page is.behind same ∙ is.parts;
+  }
+
+  chain_stays : (usable : ℕ) (bytes chain : List ℕ) → AreSeen old new chain → IsChain old usable bytes chain → IsChain new usable bytes chain
+  chain_stays usable bytes [] are h = h
+  chain_stays usable bytes (page ∷ chain) are h = (
+    link_stays usable page bytes (next_of chain) (are.same page h.0.has.first h.0.has.last (first_of page chain)) h.0,
+    chain_stays usable (drop (usable - 4) bytes) chain (seen_among old new (page ∷ chain) chain (λ n. omega arith) are) h.1,
+  )
+
+  pub payload_stays : (usable most : ℕ) (bytes payload chain : List ℕ) → AreSeen old new chain → IsPayload old usable most bytes payload chain → IsPayload new usable most bytes payload chain
+  payload_stays usable most bytes payload chain are is = record {
+    parts = is.parts;
+    chain = chain_stays usable (drop (local_size usable most (length payload)) payload) chain are is.chain;
+  }
+
+  pub rows_stay : (usable : ℕ) (said : List (ℤ × Local)) (rows : List Held) → AreSeen old new (flat_map (λ (held : Held). held.pages) rows)
+      → Pairwise (IsHeldAs old usable) said rows → Pairwise (IsHeldAs new usable) said rows
+  rows_stay usable [] [] are h = tt
+  rows_stay usable [] (held ∷ rows) are h = absurd h
+  rows_stay usable (row ∷ said) [] are h = absurd h
+  rows_stay usable (row ∷ said) (held ∷ rows) are h =
+      let all = held.pages ++ flat_map (λ (held : Held). held.pages) rows in
+      let both = λ (n : ℕ). occurs_append n held.pages (flat_map (λ (held : Held). held.pages) rows) in (
+        record {
+          rowid = h.0.rowid;
+          size = h.0.size;
+          payload = payload_stays usable (table_most usable) row.1.bytes held.row.payload held.pages (seen_among old new all held.pages (λ n. (let e = both n in omega (arith, e))) are) h.0.payload;
+        },
+        rows_stay usable said rows (seen_among old new all (flat_map (λ (held : Held). held.pages) rows) (λ n. (let e = both n in omega (arith, e))) are) h.1,
+      )
+
+  module _ (size : ℕ) (whole : AreWhole size old) (whole_now : AreWhole size new) where
+    pub says_stays : (page : ℕ) (node : Node) → body_at new page ≡ body_at old page → Says old page node → Says new page node
+    says_stays page node same is = record {
+      has = has_stays page is.has;
+      node_is = stays_after_front (page_at old page) (page_at new page) (start_of page) node same (whole_now page (has_stays page is.has) ∙ sym (whole page is.has)) is.node_is;
     }
-lies_kept old new size (suc depth) t kept lies =
-    let below = each_of (pages_of depth) nothing t.kids t.last in (
-      says_kept old new size t.page (t.page ∷ below) (Keys (children (top depth) t.kids) (top depth t.last)) kept (occurs_here t.page below) lies.0,
-      each_kept (Lies old size depth) (Lies new size depth) (pages_of depth) nothing old new size (λ kid its. lies_kept old new size depth kid its) t.kids t.last
-          (kept_of old new size (t.page ∷ below) below (λ n some. omega (arith, some)) kept) lies.1,
+
+    pub lies_stays : (depth : ℕ) (t : Tree depth) → AreSeen old new (pages_of depth t) → Lies old size depth t → Lies new size depth t
+    lies_stays zero t are lies =
+        let says = lies.says in
+        record {
+          said = lies.said;
+          says = says_stays t.page _ (are.same t.page says.has.first says.has.last (first_of t.page _)) says;
+          rows = rows_stay size lies.said t.rows (seen_among old new (pages_of zero t) (below_of zero t) (λ n. omega arith) are) lies.rows;
+        }
+    lies_stays (suc depth) t are lies = (
+      says_stays t.page _ (are.same t.page lies.0.has.first lies.0.has.last (first_of t.page _)) lies.0,
+      each_stays depth (Lies old size depth) (Lies new size depth) t.kids t.last
+          (λ u some k. lies_stays depth u (seen_among old new (pages_of (suc depth) t) (pages_of depth u) (λ n. (let m = some n in omega (arith, m))) are) k) lies.1,
     )
 
-pub trees_stay : TreesStay
-trees_stay old new size root rows used kept tree = record {
-  depth = tree.depth;
-  tree = tree.tree;
-  low = tree.low;
-  high = tree.high;
-  shallow = tree.shallow;
-  root_is = tree.root_is;
-  lies = lies_kept old new size tree.depth tree.tree (subst (λ (pages : List ℕ). AreKept old new size pages) (sym tree.used_are) kept) tree.lies;
-  sorted = tree.sorted;
-  rows_are = tree.rows_are;
-  used_are = tree.used_are;
-  once = tree.once;
-}
+    pub shows_stays : (depth : ℕ) (t : Tree depth) (node : Node) → AreSeen old new (below_of depth t) → Shows old size depth t node → Shows new size depth t node
+    shows_stays zero t node are shows = (shows.0, shows.1, rows_stay size shows.0 t.rows are shows.2)
+    shows_stays (suc depth) t node are shows = (
+      shows.0,
+      each_stays depth (Lies old size depth) (Lies new size depth) t.kids t.last
+          (λ u some k. lies_stays depth u (seen_among old new (below_of (suc depth) t) (pages_of depth u) some are) k) shows.1,
+    )

@@ -14,14 +14,14 @@ use std::alloc::Global;
 use std::marker::Model;
 
 /// Where the tree's node begins on a page: after the database's header on page 1.
-fn start_of(number: u32) -> usize
+pub(crate) fn start_of(number: u32) -> usize
     ensures { result ≡ counting.start_of number }
 {
     if number == 1 { DATABASE_HEADER_LEN } else { 0 }
 }
 
 /// The fault, with this page's number if it has none.
-fn at_page(fault: Fault, number: u32) -> Fault
+pub(crate) fn at_page(fault: Fault, number: u32) -> Fault
     ensures { result ≡ placed number fault }
 {
     match fault {

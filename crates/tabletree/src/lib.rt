@@ -1,10 +1,14 @@
-//! The tree of a table: pages that hold rows by rising rowid, and long payloads on chains of pages, as definitions. Trees of
-//! one page alone are read and written so far.
+//! The tree of a table: pages that hold rows by rising rowid, and long payloads on chains of pages. It is a map from rowids to
+//! payloads.
 #![tactic(auto)]
 
+mod descending;
+mod growing;
+mod inserting;
 mod laws;
 mod leaf;
 
+pub use inserting::insert;
 pub use laws::table_trees_stay;
 pub use leaf::{
     Leaf, a_tree_of_leaves_is_one_page, empty, front_of_page_holds_no_row, next_rowid,

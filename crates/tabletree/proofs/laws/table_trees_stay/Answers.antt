@@ -1,4 +1,4 @@
-use Rattle.tabletree.proofs.Staying.{trees_stay}
+use Rattle.tabletree.proofs.KeptTrees.{trees_stay}
 use Rattle.tabletree.proofs.laws.table_trees_stay.Goals as goal
 
 pub returns : goal.returns

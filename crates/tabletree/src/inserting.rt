@@ -1,0 +1,44 @@
+//! Putting a row into a table's tree.
+
+ghost use Rattle.std.specs.Prelude.{◌≡◌, IsTrue};
+ghost use Rattle.pages.specs.Calls.{Causes};
+ghost use Rattle.tabletree.specs.Calls.{InsertsRow};
+
+use crate::growing::{Change, packed_below};
+use forest::store_root;
+use pages::WritePages;
+use sqlval::{Damage, Fault, R};
+use std::alloc::Global;
+use treepage::Kind;
+
+/// How many pages may stand below a page on each way from a root.
+const WAYS: u32 = 19;
+
+/// Puts a row into the tree under this root, which keeps its number. Answers `false` if there is a row of this rowid: then nothing changes.
+/// (`Damaged(Depth, root)` if a way of 20 pages would have to grow.)
+pub fn insert<P: WritePages>(
+    alloc: Global,
+    pages: &mut P,
+    root: u32,
+    rowid: i64,
+    payload: &[u8],
+) -> R<bool>
+    ensures inserted { IsTrue (P.Pages.tells (P.Pages.below pages.old))
+        → InsertsRow (P.Pages.map pages.old) (P.Pages.map pages.new) (P.Pages.limits (P.Pages.below pages.old)).page root
+        (record { rowid = rowid; payload = payload.now }) result }
+    ensures kept { P.Pages.below pages.new ≡ P.Pages.below pages.old }
+    ensures causes { Causes result (P.Pages.failures pages.old) (P.Pages.failures pages.new)
+        (P.Pages.count pages.new ≡ (P.Pages.limits (P.Pages.below pages.new)).most) }
+{
+    match packed_below(alloc, pages, root, WAYS, rowid, payload)? {
+        Change::There => Ok(false),
+        Change::Same => Ok(true),
+        Change::Spread(packed, deep) => {
+            if deep && !packed.pieces.is_empty() {
+                return Err(Fault::Damaged(Damage::Depth, root));
+            }
+            store_root(alloc, pages, root, Kind::TableInterior, &packed)?;
+            Ok(true)
+        }
+    }
+}
