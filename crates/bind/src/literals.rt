@@ -46,7 +46,8 @@ pub fn literal(alloc: Global, value: &Expr) -> R<Value>
     ensures refused { IfErr result (λ fault. (fault ≡ Fault.Memory)
         ⊎ (fault ≡ Fault.Unsupported Feature.StatementForm) × (is_literal value.now ≡ false)
         ⊎ (fault ≡ Fault.RealRefused) × ((totals : Bool) (scope : List ScopeSource) (env : Environment) → value_of (meant (resolve totals scope value.now)) env ≡ Err refusal.RealRefused)) }
-    ensures overflow { IfErr result (λ fault. fault ≡ Fault.RealRefused → (totals : Bool) (scope : List ScopeSource) → Means out.Overflow (resolve totals scope value.now)) }
+    ensures overflow { IfErr result (λ fault. fault ≡ Fault.RealRefused → (totals : Bool) (scope : List ScopeSource)
+        → Means out.Overflow (resolve totals scope value.now)) }
     ensures not_disk { IfErr result (λ fault. IsNotDiskFault fault) }
 {
     match &value.node {

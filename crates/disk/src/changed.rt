@@ -76,10 +76,13 @@ pub fn overwrite(
     lands: bool,
 ) -> Result<bool, AllocError>
     requires { IsTrue is_gone → IsFalse lands }
-    ensures landed { IsTrue (has_landed result) → (v : Vec ℕ Global) × (v.items ≡ bytes.now) × (changes.new.items ≡ changes.old.items ++ Write at v true ∷ []) × (content.new.items ≡ overwritten at bytes.now content.old.items) }
+    ensures landed { IsTrue (has_landed result)
+        → (v : Vec ℕ Global) × (v.items ≡ bytes.now) × (changes.new.items ≡ changes.old.items ++ Write at v true ∷ [])
+        × (content.new.items ≡ overwritten at bytes.now content.old.items) }
     ensures not_landed { IsFalse (has_landed result) → (content.new.items ≡ content.old.items)
         × ((changes.new.items ≡ changes.old.items) ⊎ ((v : Vec ℕ Global) × (v.items ≡ bytes.now) × (changes.new.items ≡ changes.old.items ++ Write at v false ∷ []))) }
-    ensures recorded { IsFalse is_gone → OnOk result ((v : Vec ℕ Global) × (v.items ≡ bytes.now) × (changes.new.items ≡ changes.old.items ++ Write at v lands ∷ [])) }
+    ensures recorded { IsFalse is_gone
+        → OnOk result ((v : Vec ℕ Global) × (v.items ≡ bytes.now) × (changes.new.items ≡ changes.old.items ++ Write at v lands ∷ [])) }
     ensures answer { IfOk result (λ landed. landed ≡ lands) }
 {
     if !is_gone {
@@ -97,7 +100,8 @@ pub fn cut_to(
     lands: bool,
 ) -> Result<bool, AllocError>
     requires { IsTrue is_gone → IsFalse lands }
-    ensures landed { IsTrue (has_landed result) → (changes.new.items ≡ changes.old.items ++ Cut len true ∷ []) × (content.new.items ≡ take len content.old.items) }
+    ensures landed { IsTrue (has_landed result)
+        → (changes.new.items ≡ changes.old.items ++ Cut len true ∷ []) × (content.new.items ≡ take len content.old.items) }
     ensures not_landed { IsFalse (has_landed result) → (content.new.items ≡ content.old.items)
         × ((changes.new.items ≡ changes.old.items) ⊎ (changes.new.items ≡ changes.old.items ++ Cut len false ∷ [])) }
     ensures recorded { IsFalse is_gone → OnOk result (changes.new.items ≡ changes.old.items ++ Cut len lands ∷ []) }

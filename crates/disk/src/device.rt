@@ -42,7 +42,8 @@ pub trait Disk {
     fn write_at(&mut self, at: u64, bytes: &[u8]) -> R<()>
         requires { IsTrue (tells self.old) → at ≤ length (file self.old).content }
         ensures done { IsTrue (tells self.old) → OnOk result (Writes at bytes.now (file self.old) (file self.new)) }
-        ensures failed { IsTrue (tells self.old) → OnErr result ((file self.new ≡ file self.old) ⊎ FailsToWrite at bytes.now (file self.old) (file self.new)) }
+        ensures failed { IsTrue (tells self.old)
+            → OnErr result ((file self.new ≡ file self.old) ⊎ FailsToWrite at bytes.now (file self.old) (file self.new)) }
         ensures moments { IsTrue (tells self.old) → Elapses (file self.old) (file self.new) }
         ensures tells { tells self.new ≡ tells self.old }
         ensures refused { IfErr result (λ fault. fault ≡ Io) }
@@ -52,7 +53,8 @@ pub trait Disk {
     fn cut(&mut self, len: u64) -> R<()>
         requires { IsTrue (tells self.old) → len ≤ length (file self.old).content }
         ensures done { IsTrue (tells self.old) → OnOk result (CutsFile len (file self.old) (file self.new)) }
-        ensures failed { IsTrue (tells self.old) → OnErr result ((file self.new ≡ file self.old) ⊎ FailsToCut len (file self.old) (file self.new)) }
+        ensures failed { IsTrue (tells self.old)
+            → OnErr result ((file self.new ≡ file self.old) ⊎ FailsToCut len (file self.old) (file self.new)) }
         ensures moments { IsTrue (tells self.old) → Elapses (file self.old) (file self.new) }
         ensures tells { tells self.new ≡ tells self.old }
         ensures refused { IfErr result (λ fault. fault ≡ Io) }

@@ -111,7 +111,8 @@ impl MemDisk {
         ensures variant { is_ok result ≡ ok }
         ensures refused { IfErr result (λ fault. fault ≡ Fault.Io) }
         ensures ok { OnOk result (self.new.failures ≡ self.old.failures) }
-        ensures count { OnErr result ((self.new.failures ≡ self.old.failures + 1) ⊎ ((2 ^ 64 - 1 ≤ self.old.failures) × (self.new.failures ≡ self.old.failures))) }
+        ensures count { OnErr result ((self.new.failures ≡ self.old.failures + 1)
+            ⊎ ((2 ^ 64 - 1 ≤ self.old.failures) × (self.new.failures ≡ self.old.failures))) }
     {
         if ok {
             Ok(())
@@ -173,7 +174,8 @@ impl Disk for MemDisk {
     fn write_at(&mut self, at: u64, bytes: &[u8]) -> R<()>
         requires { at ≤ length (memory_file self.old).content }
         ensures done { OnOk result (Writes at bytes.now (memory_file self.old) (memory_file self.new)) }
-        ensures failed { OnErr result ((memory_file self.new ≡ memory_file self.old) ⊎ FailsToWrite at bytes.now (memory_file self.old) (memory_file self.new)) }
+        ensures failed { OnErr result ((memory_file self.new ≡ memory_file self.old)
+            ⊎ FailsToWrite at bytes.now (memory_file self.old) (memory_file self.new)) }
         ensures moments { Elapses (memory_file self.old) (memory_file self.new) }
         ensures refused { IfErr result (λ fault. fault ≡ Fault.Io) }
         ensures count { CountsFailure result (failed_calls self.old) (failed_calls self.new) }
@@ -196,7 +198,8 @@ impl Disk for MemDisk {
     fn cut(&mut self, len: u64) -> R<()>
         requires { len ≤ length (memory_file self.old).content }
         ensures done { OnOk result (CutsFile len (memory_file self.old) (memory_file self.new)) }
-        ensures failed { OnErr result ((memory_file self.new ≡ memory_file self.old) ⊎ FailsToCut len (memory_file self.old) (memory_file self.new)) }
+        ensures failed { OnErr result ((memory_file self.new ≡ memory_file self.old)
+            ⊎ FailsToCut len (memory_file self.old) (memory_file self.new)) }
         ensures moments { Elapses (memory_file self.old) (memory_file self.new) }
         ensures refused { IfErr result (λ fault. fault ≡ Fault.Io) }
         ensures count { CountsFailure result (failed_calls self.old) (failed_calls self.new) }

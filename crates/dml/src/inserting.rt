@@ -54,7 +54,8 @@ struct NewRow {
 /// What a column stores of the value given for it.
 fn stored_value(alloc: Global, column: &Column, place: Option<usize>, given: &[Value]) -> R<Value>
     ensures stored { IfOk result (λ value. converted column.now.affinity (given_at given.now place) ≡ Ok value) }
-    ensures refused { IfErr result (λ fault. (fault ≡ Fault.Memory) ⊎ ((fault ≡ Fault.RealRefused) × (converted column.now.affinity (given_at given.now place) ≡ Err refusal.RealRefused))) }
+    ensures refused { IfErr result (λ fault. (fault ≡ Fault.Memory)
+        ⊎ ((fault ≡ Fault.RealRefused) × (converted column.now.affinity (given_at given.now place) ≡ Err refusal.RealRefused))) }
 {
     conversion_is_one();
     let value = value_given(alloc, given, place)?;
@@ -69,7 +70,8 @@ fn stored_values(
     given: &[Value],
 ) -> R<Vec<Value>>
     ensures stored { IfOk result (λ values. row_stored columns.now places.now given.now ≡ Ok values.items) }
-    ensures refused { IfErr result (λ fault. (fault ≡ Fault.Memory) ⊎ ((fault ≡ Fault.RealRefused) × (row_stored columns.now places.now given.now ≡ Err refusal.RealRefused))) }
+    ensures refused { IfErr result (λ fault. (fault ≡ Fault.Memory)
+        ⊎ ((fault ≡ Fault.RealRefused) × (row_stored columns.now places.now given.now ≡ Err refusal.RealRefused))) }
 {
     let mut values = Vec::new(alloc);
     'columns: for index in 0..columns.len() {
@@ -111,7 +113,8 @@ fn new_rows(
     last: Option<i64>,
 ) -> R<Vec<NewRow>>
     ensures added { IfOk result (λ added. rows_added columns.now places.now last (map (λ row. row.items) rows.now) ≡ Ok (map row_of added.items)) }
-    ensures refused { IfErr result (λ fault. (fault ≡ Fault.Memory) ⊎ IsRefusedAs (rows_added columns.now places.now last (map (λ row. row.items) rows.now)) fault) }
+    ensures refused { IfErr result (λ fault. (fault ≡ Fault.Memory)
+        ⊎ IsRefusedAs (rows_added columns.now places.now last (map (λ row. row.items) rows.now)) fault) }
 {
     let mut added = Vec::new(alloc);
     let mut before = last;
@@ -133,7 +136,8 @@ struct RowRecord {
 /// The record of a new row.
 fn record_for(alloc: Global, row: &NewRow) -> R<RowRecord>
     ensures written { IfOk result (λ made. IsWritten (row_of row.now) (entry_in made)) }
-    ensures refused { IfErr result (λ fault. (fault ≡ Fault.Memory) ⊎ ((fault ≡ Fault.Unsupported Feature.RowSize) × (AreStorable (row_of row.now).1 → ⊥))) }
+    ensures refused { IfErr result (λ fault. (fault ≡ Fault.Memory)
+        ⊎ ((fault ≡ Fault.Unsupported Feature.RowSize) × (AreStorable (row_of row.now).1 → ⊥))) }
 {
     Ok(RowRecord {
         rowid: row.rowid,
@@ -144,7 +148,8 @@ fn record_for(alloc: Global, row: &NewRow) -> R<RowRecord>
 /// The records of the new rows.
 fn records_of(alloc: Global, rows: &[NewRow]) -> R<Vec<RowRecord>>
     ensures written { IfOk result (λ records. Pairwise IsWritten (map row_of rows.now) (map entry_in records.items)) }
-    ensures refused { IfErr result (λ fault. (fault ≡ Fault.Memory) ⊎ ((fault ≡ Fault.Unsupported Feature.RowSize) × (AllStorable (map row_of rows.now) → ⊥))) }
+    ensures refused { IfErr result (λ fault. (fault ≡ Fault.Memory)
+        ⊎ ((fault ≡ Fault.Unsupported Feature.RowSize) × (AllStorable (map row_of rows.now) → ⊥))) }
 {
     let mut records = Vec::new(alloc);
     'rows: for row in rows {
@@ -172,7 +177,8 @@ fn cells_of(alloc: Global, records: &[RowRecord]) -> R<Vec<Cell<'_>>>
 /// no leaf of rising rows is refused as by `Leaf::over`. Row by row, a real is `RealRefused`, and a row after the greatest rowid
 /// of all is `RowidFull`; only then rows that don't fit are `Unsupported(RowSize)`.
 pub fn insert(alloc: Global, page: &[u8], number: u32, insert: BoundInsert<'_>) -> R<Vec<u8>>
-    ensures inserted { IfOk result (λ new. (rows : List TableRow) → Holds page.now number (length insert.entry.table.now.columns) rows → IsInserted new.items number insert.entry.table.now.columns insert.entry.places.items (map (λ row. row.items) insert.entry.rows.items) rows) }
+    ensures inserted { IfOk result (λ new. (rows : List TableRow) → Holds page.now number (length insert.entry.table.now.columns) rows
+        → IsInserted new.items number insert.entry.table.now.columns insert.entry.places.items (map (λ row. row.items) insert.entry.rows.items) rows) }
     ensures size { IfOk result (λ new. length new.items ≡ length page.now) }
     ensures front { IfOk result (λ new. take (start_of number) new.items ≡ take (start_of number) page.now) }
     ensures refused { IfErr result (λ fault. IsInsertRefusal page.now number insert.entry.table.now.columns insert.entry.places.items (map (λ row. row.items) insert.entry.rows.items) fault) }

@@ -87,7 +87,8 @@ fn empty_log<D: Disk>(log: &mut D) -> R<()>
 /// Makes a page the content of a blank file and syncs it.
 fn put_page<D: Disk>(db: &mut D, page: &[u8]) -> R<()>
     ensures made { IsTrue (D.tells db.old) → OnOk result (IsSyncedAs page.now (D.file db.new)) }
-    ensures crash { (size : ℕ) → IsPageSize size → IsEmptyDatabase size page.now → IsTrue (D.tells db.old) → IsSynced (D.file db.old) → is_blank_content (D.file db.old).content ≡ true
+    ensures crash { (size : ℕ) → IsPageSize size → IsEmptyDatabase size page.now → IsTrue (D.tells db.old) → IsSynced (D.file db.old)
+        → is_blank_content (D.file db.old).content ≡ true
         → BecomesPage page.now (D.file db.old) (D.file db.new) }
     ensures refused { IfErr result (λ fault. fault ≡ Io) }
     ensures counted { CountsIo result (D.failures db.old) (D.failures db.new) }
@@ -102,7 +103,8 @@ fn put_empty<D: Disk>(db: &mut D, log: &mut D, page: &[u8]) -> R<()>
     ensures made { IsTrue (D.tells db.old) → OnOk result (IsSyncedAs page.now (D.file db.new)) }
     ensures emptied { IsTrue (D.tells log.old) → OnOk result (IsSyncedAs [] (D.file log.new)) }
     ensures none_failed { OnOk result ((D.failures db.new ≡ D.failures db.old) × (D.failures log.new ≡ D.failures log.old)) }
-    ensures crash { (size : ℕ) → IsPageSize size → IsEmptyDatabase size page.now → IsTrue (D.tells db.old) → IsTrue (D.tells log.old) → IsSynced (D.file db.old) → is_blank_content (D.file db.old).content ≡ true
+    ensures crash { (size : ℕ) → IsPageSize size → IsEmptyDatabase size page.now → IsTrue (D.tells db.old) → IsTrue (D.tells log.old)
+        → IsSynced (D.file db.old) → is_blank_content (D.file db.old).content ≡ true
         → BecomesDatabase size (D.file db.old) (D.file log.old) (D.file db.new) (D.file log.new) }
     ensures refused { IfErr result (λ fault. fault ≡ Io) }
     ensures called { OnErr result (Rose (D.failures db.old) (D.failures db.new) ⊎ Rose (D.failures log.old) (D.failures log.new)) }
@@ -118,14 +120,17 @@ fn put_empty<D: Disk>(db: &mut D, log: &mut D, page: &[u8]) -> R<()>
 pub fn create<D: Disk>(alloc: Global, db: &mut D, log: &mut D, page_size: u32) -> R<()>
     ensures made { OnOk result (HasCreated D.tells D.file D.failures page_size db.old log.old db.new log.new) }
     // A blank file isn't refused for what it holds.
-    ensures refused { IfErr result (λ fault. IsNewFileRefusal page_size (IsTrue (D.tells db.old) → is_blank_content (D.file db.old).content ≡ false)
+    ensures refused { IfErr result (λ fault. IsNewFileRefusal page_size (IsTrue (D.tells db.old)
+        → is_blank_content (D.file db.old).content ≡ false)
         (Rose (D.failures db.old) (D.failures db.new) ⊎ Rose (D.failures log.old) (D.failures log.new)) fault) }
     // A refusal other than a disk's failure changes nothing.
     ensures kept { IfErr result (λ fault. fault ≢ Io → Stays D.tells D.file db.old db.new × Stays D.tells D.file log.old log.new) }
     // Whatever the answer, nothing but a blank file is written over, and its log alone is cut.
-    ensures untouched { IsTrue (D.tells db.old) → is_blank_content (D.file db.old).content ≡ false → Stays D.tells D.file db.old db.new × Stays D.tells D.file log.old log.new }
+    ensures untouched { IsTrue (D.tells db.old) → is_blank_content (D.file db.old).content ≡ false
+        → Stays D.tells D.file db.old db.new × Stays D.tells D.file log.old log.new }
     // Of a blank file, synced before, a crash at any moment leaves a blank database file, or the empty database beside a log without a byte; and so does each exit.
-    ensures crash { IsTrue (D.tells db.old) → IsTrue (D.tells log.old) → IsSynced (D.file db.old) → is_blank_content (D.file db.old).content ≡ true
+    ensures crash { IsTrue (D.tells db.old) → IsTrue (D.tells log.old) → IsSynced (D.file db.old)
+        → is_blank_content (D.file db.old).content ≡ true
         → BecomesDatabase page_size (D.file db.old) (D.file log.old) (D.file db.new) (D.file log.new) }
 {
     if !is_page_size(page_size) {

@@ -51,7 +51,8 @@ fn file_header<D: Disk>(db: &mut D) -> R<Header>
     ensures found { IsTrue (D.tells db.old) → IfOk result (λ header. IsHeader (D.file db.old).content header) }
     ensures read { (head : FileHeader) → IsTrue (D.tells db.old) → IsHeader (D.file db.old).content head → ReadsHeader head result }
     ensures counted { CountsIo result (D.failures db.old) (D.failures db.new) }
-    ensures blank { IsTrue (D.tells db.old) → MatchResult result (λ _. is_blank_content (D.file db.old).content ≡ true → ⊥) (TellsBlank (D.file db.old).content) }
+    ensures blank { IsTrue (D.tells db.old)
+        → MatchResult result (λ _. is_blank_content (D.file db.old).content ≡ true → ⊥) (TellsBlank (D.file db.old).content) }
 {
     if is_blank(db)? {
         return Err(Fault::Blank);
@@ -66,16 +67,24 @@ fn file_header<D: Disk>(db: &mut D) -> R<Header>
 
 /// Loads the tables of the newest snapshot, then truncates the log after its last committed frame.
 fn load_and_truncate<D: Disk + Drop>(alloc: Global, log: &mut Log<D>) -> R<Catalog>
-    ensures crash { IsFalse (state_of log.old).has_failed → HasPageSize (D.file (db_of log.old)).content (state_of log.old).page_size → IsTrue (D.tells (db_of log.old)) → IsTrue (D.tells (log_of log.old)) → IsSynced (D.file (db_of log.old)) → IsSynced (D.file (log_of log.old))
+    ensures crash { IsFalse (state_of log.old).has_failed → HasPageSize (D.file (db_of log.old)).content (state_of log.old).page_size
+        → IsTrue (D.tells (db_of log.old)) → IsTrue (D.tells (log_of log.old)) → IsSynced (D.file (db_of log.old))
+        → IsSynced (D.file (log_of log.old))
         → Throughout (LeavesOpened (D.file (db_of log.old)) (D.file (log_of log.old))) (D.file (db_of log.old)) (D.file (log_of log.old)) (D.file (db_of log.new)) (D.file (log_of log.new)) }
-    ensures cut { OnOk result ((state_of log.new ≡ state_of log.old) × (IsTrue (D.tells (log_of log.old)) → IsCutTo (state_of log.old) (D.file (log_of log.old)).content (D.file (log_of log.new)).content)) }
-    ensures left { IsFalse (state_of log.old).has_failed → IsTrue (D.tells (db_of log.old)) → IsTrue (D.tells (log_of log.old)) → IsContentLeft (D.file (db_of log.old)) → IsContentLeft (D.file (log_of log.old))
+    ensures cut { OnOk result ((state_of log.new ≡ state_of log.old)
+        × (IsTrue (D.tells (log_of log.old))
+        → IsCutTo (state_of log.old) (D.file (log_of log.old)).content (D.file (log_of log.new)).content)) }
+    ensures left { IsFalse (state_of log.old).has_failed → IsTrue (D.tells (db_of log.old)) → IsTrue (D.tells (log_of log.old))
+        → IsContentLeft (D.file (db_of log.old)) → IsContentLeft (D.file (log_of log.old))
         → IsContentLeft (D.file (db_of log.new)) × IsContentLeft (D.file (log_of log.new)) }
-    ensures kept { IsTrue (D.tells (db_of log.old)) → IsTrue (D.tells (log_of log.old)) → IfErr result (KeepsFilesBut Io (D.file (db_of log.old)) (D.file (log_of log.old)) (D.file (db_of log.new)) (D.file (log_of log.new))) }
+    ensures kept { IsTrue (D.tells (db_of log.old)) → IsTrue (D.tells (log_of log.old))
+        → IfErr result (KeepsFilesBut Io (D.file (db_of log.old)) (D.file (log_of log.old)) (D.file (db_of log.new)) (D.file (log_of log.new))) }
     // Tables are loaded only of a database that the newest view holds.
-    ensures found { Tells log.old → IsSizeWithinLimits (newest_view log.old).page_size (newest_view log.old).size → IfOk result (FindsDatabase (newest_view log.old)) }
+    ensures found { Tells log.old → IsSizeWithinLimits (newest_view log.old).page_size (newest_view log.old).size
+        → IfOk result (FindsDatabase (newest_view log.old)) }
     // Of settled files that hold a database the catalog lists the tables, and the files stay settled.
-    ensures opens { (tables : List Table) (database : Database) → Tells log.old → IsSettled log.old → Stores (newest_view log.old) tables database → IsOrOutside (StartsWith tables database log.new) result }
+    ensures opens { (tables : List Table) (database : Database) → Tells log.old → IsSettled log.old
+        → Stores (newest_view log.old) tables database → IsOrOutside (StartsWith tables database log.new) result }
     ensures cause { HasCause false result log.old log.new }
     ensures not_blank { IfErr result (λ fault. fault ≡ Fault.Blank → ⊥) }
 {
@@ -100,12 +109,15 @@ impl<D: Disk + Drop> Engine<D> {
     /// in the cut: `Blank`, `NotADatabase`, `Unsupported`, `Damaged`, `Io`, `Memory`.
     pub fn open(alloc: Global, db: D, log: D, salts: Salts) -> Result<Engine<D>, Refused<D>>
         // A crash leaves what was there before, or what was read of it; or the database file that was read, with a log of the same commits.
-        ensures crash { IsTrue (D.tells db) → IsTrue (D.tells log) → Throughout (LeavesOpened (D.file db) (D.file log)) (D.file db) (D.file log) (D.file (db_left result)) (D.file (log_left result)) }
+        ensures crash { IsTrue (D.tells db) → IsTrue (D.tells log)
+            → Throughout (LeavesOpened (D.file db) (D.file log)) (D.file db) (D.file log) (D.file (db_left result)) (D.file (log_left result)) }
         // Files that hold a database, as a crash left them, hold it at each moment.
-        ensures holds { (database : Database) → IsTrue (D.tells db) → IsTrue (D.tells log) → IsSynced (D.file db) → IsSynced (D.file log) → Hold (D.file db).content (D.file log).content database
+        ensures holds { (database : Database) → IsTrue (D.tells db) → IsTrue (D.tells log) → IsSynced (D.file db) → IsSynced (D.file log)
+            → Hold (D.file db).content (D.file log).content database
             → Throughout (LeaveHeld (λ d. d ≡ database)) (D.file db) (D.file log) (D.file (db_left result)) (D.file (log_left result)) }
         // What is in the files then, also where a call failed, a crash may leave.
-        ensures left { IsTrue (D.tells db) → IsTrue (D.tells log) → IsContentLeft (D.file db) → IsContentLeft (D.file log) → IsContentLeft (D.file (db_left result)) × IsContentLeft (D.file (log_left result)) }
+        ensures left { IsTrue (D.tells db) → IsTrue (D.tells log) → IsContentLeft (D.file db) → IsContentLeft (D.file log)
+            → IsContentLeft (D.file (db_left result)) × IsContentLeft (D.file (log_left result)) }
         ensures opened { IfOk result (IsOpenedFrom db log salts) }
         ensures refused { IfErr result (IsRefusedOpen D.tells D.file D.failures db log) }
         // Files that hold a database are opened with it and 16 idle connections, unless memory runs out or a disk's call fails.
@@ -154,13 +166,17 @@ impl<D: Disk + Drop> Engine<D> {
     pub fn execute(&mut self, connection: u32, text: &str) -> R<Rows>
         // After a failed commit every statement is refused, and nothing changes any more.
         ensures failed { IsTrue (has_failed_of self.old) → (result ≡ Err Fault.Failed) × (self.new ≡ self.old) }
-        ensures numbered { IsFalse (has_failed_of self.old) → IsNoConnection connection → (result ≡ Err (Fault.Misuse Misuse.Connection)) × (self.new ≡ self.old) }
+        ensures numbered { IsFalse (has_failed_of self.old) → IsNoConnection connection
+            → (result ≡ Err (Fault.Misuse Misuse.Connection)) × (self.new ≡ self.old) }
         // A statement that isn't supported yet, by its form or its connection, is refused and changes nothing.
-        ensures unsupported { (statement : Statement) → first_refusal (has_failed_of self.old) connection ≡ Ok tt → IsStatementText text.now statement → IsFalse (forms.is_supported statement && forms.is_connection_supported connection) → IfOk result (λ _. ⊥) × (self.new ≡ self.old) }
+        ensures unsupported { (statement : Statement) → first_refusal (has_failed_of self.old) connection ≡ Ok tt
+            → IsStatementText text.now statement → IsFalse (forms.is_supported statement && forms.is_connection_supported connection)
+            → IfOk result (λ _. ⊥) × (self.new ≡ self.old) }
         // What the counts of the two disks' failed calls say of the answer, and of the mark of a failed engine.
         ensures counted { CountsFailures result self.old self.new }
         // What only reads, begins or rolls back is never refused as `Full`.
-        ensures full { result ≡ Err Fault.Full → (statement : Statement) × IsStatementText text.now statement × IsTrue (may_be_full statement) }
+        ensures full { result ≡ Err Fault.Full
+            → (statement : Statement) × IsStatementText text.now statement × IsTrue (may_be_full statement) }
         // The reply to the text is a step of each machine that was represented, and the machine after it is represented then.
         ensures step { StepsByText self.old connection text.now (rows_reply result) self.new }
     {

@@ -53,9 +53,13 @@ pub fn expression<'a>(alloc: Global, spelled: SourceTokens<'_>, tokens: Rest<'a>
     // What is read is an expression within the limit, and what is left follows it.
     ensures found { IfOk result (λ x. Used IsExpression is_shallow (seen spelled.now tokens.now) (x.0, seen spelled.now x.1.now)) }
     // An expression within the limit is read, unless memory runs out.
-    ensures only { (us : List Symbol) (e : Tree) (rest : List Symbol) → IsExpression us e → deep e ≤ 100 → EndsExpression rest → seen spelled.now tokens.now ≡ us ++ rest → Gives {Y = Tree × List Symbol} (λ x. (x.0, seen spelled.now x.1.now)) result (Ok (e, rest)) }
+    ensures only { (us : List Symbol) (e : Tree) (rest : List Symbol) → IsExpression us e → deep e ≤ 100 → EndsExpression rest
+        → seen spelled.now tokens.now ≡ us ++ rest
+        → Gives {Y = Tree × List Symbol} (λ x. (x.0, seen spelled.now x.1.now)) result (Ok (e, rest)) }
     // An expression past the limit is refused for that.
-    ensures late { (us : List Symbol) (e : Tree) (rest : List Symbol) → IsExpression us e → 100 < deep e → EndsExpression rest → seen spelled.now tokens.now ≡ us ++ rest → Gives {Y = Tree × List Symbol} (λ x. (x.0, seen spelled.now x.1.now)) result (Err TooLong) }
+    ensures late { (us : List Symbol) (e : Tree) (rest : List Symbol) → IsExpression us e → 100 < deep e → EndsExpression rest
+        → seen spelled.now tokens.now ≡ us ++ rest
+        → Gives {Y = Tree × List Symbol} (λ x. (x.0, seen spelled.now x.1.now)) result (Err TooLong) }
     // Which refusal it is, and what else is read.
     ensures exact { ReadsBy spelled.now tokens.now result spec.expression_from }
 {

@@ -11,6 +11,8 @@ pub fn cut_in_one_way()
 
 /// From its first token to the end of one of them, a text is cut into the same tokens, and the last of them ends it.
 pub fn part_is_cut()
-    ensures cuts { (z : Text) (t : Lexed) (ts us : List Lexed) → Cuts 0 false z (t ∷ (ts ++ us)) → Cuts 0 false (slice_range z t.start (end_after t.start (t ∷ ts))) (earlier t.start (t ∷ ts)) }
-    ensures ends { (z : Text) (t : Lexed) (ts us : List Lexed) → Cuts 0 false z (t ∷ (ts ++ us)) → end_after 0 (earlier t.start (t ∷ ts)) ≡ end_after t.start (t ∷ ts) - t.start }
+    ensures cuts { (z : Text) (t : Lexed) (ts us : List Lexed) → Cuts 0 false z (t ∷ (ts ++ us))
+        → Cuts 0 false (slice_range z t.start (end_after t.start (t ∷ ts))) (earlier t.start (t ∷ ts)) }
+    ensures ends { (z : Text) (t : Lexed) (ts us : List Lexed) → Cuts 0 false z (t ∷ (ts ++ us))
+        → end_after 0 (earlier t.start (t ∷ ts)) ≡ end_after t.start (t ∷ ts) - t.start }
 {}

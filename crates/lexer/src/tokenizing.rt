@@ -22,7 +22,8 @@ pub fn tokens<'a>(alloc: Global, text: &'a str) -> R<Vec<Token<'a>>>
     // What is found are the tokens that the text is cut into.
     ensures found { IfOk result (λ found. Cuts 0 false text.now (map seen found.items)) }
     // A text that can be cut into tokens is, unless memory runs out.
-    ensures only { (ts : List Lexed) → length text.now ≤ 65536 → Cuts 0 false text.now ts → Gives (λ found. map seen found.items) result (Ok ts) }
+    ensures only { (ts : List Lexed) → length text.now ≤ 65536 → Cuts 0 false text.now ts
+        → Gives (λ found. map seen found.items) result (Ok ts) }
     ensures exact { Gives (λ found. map seen found.items) result (spec.tokens text.now) }
     ensures stand { IfOk result (λ found. Stand 0 text.now found.items) }
     ensures refused { IfErr result (λ fault. IsLexingFault (length text.now) fault) }

@@ -29,9 +29,11 @@ use wal::Log;
 pub fn load<D: Disk + Drop>(alloc: Global, log: &mut Log<D>) -> R<Catalog>
     ensures kept { KeepsFiles log.old log.new }
     // The tables of files that hold a database are loaded, unless memory runs out or a disk's call fails.
-    ensures listed { (tables : List Table) (database : Database) → Tells log.old → Stores (newest_view log.old) tables database → IsFound (newest_view log.old) → IsOrOutside (ListsCommitted tables) result }
+    ensures listed { (tables : List Table) (database : Database) → Tells log.old → Stores (newest_view log.old) tables database
+        → IsFound (newest_view log.old) → IsOrOutside (ListsCommitted tables) result }
     // Tables are loaded only of a database that the newest view holds.
-    ensures found { Tells log.old → IsSizeWithinLimits (newest_view log.old).page_size (newest_view log.old).size → IfOk result (FindsDatabase (newest_view log.old)) }
+    ensures found { Tells log.old → IsSizeWithinLimits (newest_view log.old).page_size (newest_view log.old).size
+        → IfOk result (FindsDatabase (newest_view log.old)) }
     ensures cause { HasCause false result log.old log.new }
     ensures not_blank { IfErr result (λ fault. fault ≡ Fault.Blank → ⊥) }
 {

@@ -42,7 +42,8 @@ fn mark(marks: &mut [bool], number: u32) -> R<()>
 /// Marks the pages at which the trees of these tables begin.
 fn mark_roots(marks: &mut [bool], tables: &[Table]) -> R<()>
     ensures marked { OnOk result (Marks marks.old marks.new (roots_of tables.now)) }
-    ensures taken { IfErr result (λ fault. AreWithin (length marks.old) tables.now → ((n : ℕ) → 1 < n → mark_of n marks.old + occurs n (roots_of tables.now) ≤ 1) → ⊥) }
+    ensures taken { IfErr result (λ fault. AreWithin (length marks.old) tables.now
+        → ((n : ℕ) → 1 < n → mark_of n marks.old + occurs n (roots_of tables.now) ≤ 1) → ⊥) }
     ensures not_disk { IfErr result (λ fault. IsSchemaFault fault) }
 {
     'tables: for table in tables {

@@ -98,7 +98,8 @@ fn root_of(field: Field<'_>, size: u32) -> R<u32>
 
 /// The parts of a table's row, in a database of `size` pages.
 fn row_of<'a>(row: &Record<'a>, size: u32) -> R<SchemaRow<'a>>
-    ensures tells { (name table_name : List ℕ) (root : ℕ) (sql : List ℕ) → row.now ≡ schema_row name table_name root sql → 1 < root → root ≤ size
+    ensures tells { (name table_name : List ℕ) (root : ℕ) (sql : List ℕ) → row.now ≡ schema_row name table_name root sql → 1 < root
+        → root ≤ size
         → IsOkAnd result (HasParts name table_name root sql) }
     ensures found { IfOk result (λ parts. AreRowValues size parts row.now) }
     ensures not_disk { IfErr result (λ fault. IsSchemaFault fault) }
@@ -117,8 +118,10 @@ fn row_of<'a>(row: &Record<'a>, size: u32) -> R<SchemaRow<'a>>
 
 /// The statement that the text of a row is.
 fn statement_of(alloc: Global, sql: &str) -> R<Statement>
-    ensures tells { (statement : Parsed) → IsStatementText sql.now statement → is_statement_within statement ≡ true → length sql.now ≤ 65536 → IsOrMemory (λ found. found ≡ statement) result }
-    ensures found { IfOk result (λ statement. IsStatementText sql.now statement × (is_statement_within statement ≡ true) × (length sql.now ≤ 65536)) }
+    ensures tells { (statement : Parsed) → IsStatementText sql.now statement → is_statement_within statement ≡ true
+        → length sql.now ≤ 65536 → IsOrMemory (λ found. found ≡ statement) result }
+    ensures found { IfOk result (λ statement. IsStatementText sql.now statement × (is_statement_within statement ≡ true)
+        × (length sql.now ≤ 65536)) }
     ensures not_disk { IfErr result (λ fault. IsSchemaFault fault) }
 {
     match parse(alloc, sql) {
@@ -153,8 +156,10 @@ fn table_in(object: &NewObject) -> R<&TableDefinition>
 
 /// The definition in a CREATE TABLE.
 fn definition_in(statement: &Statement) -> R<&TableDefinition>
-    ensures tells { (made : Made) (definition : TableDefinition) → statement.now ≡ parsed.Create made → made.object ≡ new.Table definition → IsOkAnd result (λ found. found.now ≡ definition) }
-    ensures found { IfOk result (λ definition. (made : Made) × (statement.now ≡ parsed.Create made) × (made.object ≡ new.Table definition.now)) }
+    ensures tells { (made : Made) (definition : TableDefinition) → statement.now ≡ parsed.Create made
+        → made.object ≡ new.Table definition → IsOkAnd result (λ found. found.now ≡ definition) }
+    ensures found { IfOk result (λ definition. (made : Made) × (statement.now ≡ parsed.Create made)
+        × (made.object ≡ new.Table definition.now)) }
     ensures not_disk { IfErr result (λ fault. IsSchemaFault fault) }
 {
     table_in(created_by(statement)?)
@@ -162,8 +167,10 @@ fn definition_in(statement: &Statement) -> R<&TableDefinition>
 
 /// The columns that a definition gives its table.
 fn columns_in(alloc: Global, definition: &TableDefinition) -> R<Many<Column>>
-    ensures tells { (columns : List Column) → has_doubled definition.now.columns ≡ false → map described columns ≡ map defined definition.now.columns → IsOrMemory (λ found. found ≡ columns) result }
-    ensures found { IfOk result (λ columns. (has_doubled definition.now.columns ≡ false) × (map described columns ≡ map defined definition.now.columns)) }
+    ensures tells { (columns : List Column) → has_doubled definition.now.columns ≡ false
+        → map described columns ≡ map defined definition.now.columns → IsOrMemory (λ found. found ≡ columns) result }
+    ensures found { IfOk result (λ columns. (has_doubled definition.now.columns ≡ false)
+        × (map described columns ≡ map defined definition.now.columns)) }
     ensures not_disk { IfErr result (λ fault. IsSchemaFault fault) }
 {
     match columns_of(alloc, definition) {
@@ -195,9 +202,11 @@ fn is_of_row(definition: &TableDefinition, row: &SchemaRow<'_>) -> R<()>
 
 /// The table of this row and of the statement that its text is, under the name in the statement.
 fn table_made(alloc: Global, row: &SchemaRow<'_>, statement: &Statement) -> R<Table>
-    ensures tells { (before : List Table) (table : Table) (tells : TellsTable before table row.now) (made : Made) → statement.now ≡ parsed.Create made → made.object ≡ new.Table tells.definition
+    ensures tells { (before : List Table) (table : Table) (tells : TellsTable before table row.now) (made : Made)
+        → statement.now ≡ parsed.Create made → made.object ≡ new.Table tells.definition
         → IsOrMemory (IsSameTable table) result }
-    ensures found { IsStatementText row.now.sql.now statement.now × (is_statement_within statement.now ≡ true) × (length row.now.sql.now ≤ 65536)
+    ensures found { IsStatementText row.now.sql.now statement.now × (is_statement_within statement.now ≡ true)
+        × (length row.now.sql.now ≤ 65536)
         → IfOk result (λ table. (before : List Table) → listed.table_named table.name before ≡ None → TellsTable before table row.now) }
     ensures not_disk { IfErr result (λ fault. IsSchemaFault fault) }
 {
@@ -215,7 +224,8 @@ fn table_made(alloc: Global, row: &SchemaRow<'_>, statement: &Statement) -> R<Ta
 /// The table that a row tells, under the name in its definition.
 fn table_of(alloc: Global, row: &SchemaRow<'_>) -> R<Table>
     ensures tells { (before : List Table) (table : Table) → TellsTable before table row.now → IsOrMemory (IsSameTable table) result }
-    ensures found { IfOk result (λ table. (before : List Table) → listed.table_named table.name before ≡ None → TellsTable before table row.now) }
+    ensures found { IfOk result (λ table. (before : List Table) → listed.table_named table.name before ≡ None
+        → TellsTable before table row.now) }
     ensures not_disk { IfErr result (λ fault. IsSchemaFault fault) }
 {
     let statement = statement_of(alloc, row.sql)?;
@@ -239,7 +249,8 @@ fn is_new(catalog: &Catalog, table: &Table) -> R<()>
 /// Adds the table that a row of the schema table describes.
 fn add_row(alloc: Global, catalog: &mut Catalog, payload: &[u8], size: u32) -> R<()>
     // The table of such a row is listed after the others, unless memory runs out.
-    ensures tells { (before : List Table) (table : Table) (entry : Entry) → AreSameTables before (tables_of catalog.old) → entry.payload ≡ payload.now → IsRowOf size before table entry
+    ensures tells { (before : List Table) (table : Table) (entry : Entry) → AreSameTables before (tables_of catalog.old)
+        → entry.payload ≡ payload.now → IsRowOf size before table entry
         → AddsTables (before ++ table ∷ []) result catalog.new }
     // What is listed after the others is the table that the row tells.
     ensures found { (entry : Entry) → entry.payload ≡ payload.now → OnOk result (AddsToldTable size entry catalog.old catalog.new) }
@@ -254,7 +265,8 @@ fn add_row(alloc: Global, catalog: &mut Catalog, payload: &[u8], size: u32) -> R
 
 /// The tables that these rows of the schema table describe.
 fn tables_in(alloc: Global, leaf: &Leaf<'_>, size: u32) -> R<Catalog>
-    ensures tells { (tables : List Table) → AreRowsOf size [] tables leaf.now → IsOrMemory (λ catalog. AreSameTables tables (tables_of catalog)) result }
+    ensures tells { (tables : List Table) → AreRowsOf size [] tables leaf.now
+        → IsOrMemory (λ catalog. AreSameTables tables (tables_of catalog)) result }
     ensures found { IfOk result (λ catalog. AreRowsOf size [] (tables_of catalog) leaf.now) }
     ensures not_disk { IfErr result (λ fault. IsSchemaFault fault) }
 {
@@ -268,7 +280,8 @@ fn tables_in(alloc: Global, leaf: &Leaf<'_>, size: u32) -> R<Catalog>
 /// The tables that the rows of page 1 tell, in a database of `size` pages.
 pub fn load_tables(alloc: Global, page: &[u8], size: u32) -> R<Catalog>
     // Where page 1's rows describe tables, these are loaded, unless memory runs out.
-    ensures listed { (tables : List Table) (rows : List Entry) → IsSingleLeaf page.now 1 rows → AreRowsOf size [] tables rows → IsOrMemory (ListsCommitted tables) result }
+    ensures listed { (tables : List Table) (rows : List Entry) → IsSingleLeaf page.now 1 rows → AreRowsOf size [] tables rows
+        → IsOrMemory (ListsCommitted tables) result }
     // What is loaded is what page 1's rows tell.
     ensures found { IfOk result (λ catalog. TellsTables size page.now catalog) }
     ensures not_disk { IfErr result (λ fault. IsSchemaFault fault) }

@@ -37,7 +37,8 @@ fn check_table<D: Disk + Drop>(
     table: &Table,
 ) -> R<()>
     ensures kept { KeepsFiles log.old log.new }
-    ensures found { Tells log.old → IsNewest log.old snapshot → (state_of log.old).page_size ≤ 65536 → OnOk result (HoldsRows (newest_view log.old) table.now) }
+    ensures found { Tells log.old → IsNewest log.old snapshot → (state_of log.old).page_size ≤ 65536
+        → OnOk result (HoldsRows (newest_view log.old) table.now) }
     ensures only { Tells log.old → IsNewest log.old snapshot → HoldsRows (newest_view log.old) table.now → IfErr result IsOutside }
     ensures cause { HasCause false result log.old log.new }
     ensures not_blank { IfErr result (λ fault. fault ≡ Fault.Blank → ⊥) }
@@ -54,8 +55,10 @@ pub fn check_tables<D: Disk + Drop>(
     tables: &[Table],
 ) -> R<()>
     ensures kept { KeepsFiles log.old log.new }
-    ensures found { Tells log.old → IsNewest log.old snapshot → (state_of log.old).page_size ≤ 65536 → OnOk result (AllByRecursion (HoldsRows (newest_view log.old)) tables.now) }
-    ensures only { Tells log.old → IsNewest log.old snapshot → AllByRecursion (HoldsRows (newest_view log.old)) tables.now → IfErr result IsOutside }
+    ensures found { Tells log.old → IsNewest log.old snapshot → (state_of log.old).page_size ≤ 65536
+        → OnOk result (AllByRecursion (HoldsRows (newest_view log.old)) tables.now) }
+    ensures only { Tells log.old → IsNewest log.old snapshot → AllByRecursion (HoldsRows (newest_view log.old)) tables.now
+        → IfErr result IsOutside }
     ensures cause { HasCause false result log.old log.new }
     ensures not_blank { IfErr result (λ fault. fault ≡ Fault.Blank → ⊥) }
 {

@@ -14,7 +14,8 @@ use std::alloc::Global;
 
 /// Writes the number of the next page and bytes over the front of a page, if it has room for them.
 fn fill_link(link: &mut [u8], next: u32, bytes: &[u8])
-    ensures filled { 4 + length bytes.now ≤ length link.old → link.new ≡ to_be_bytes w32 next ++ (bytes.now ++ drop (4 + length bytes.now) link.old) }
+    ensures filled { 4 + length bytes.now ≤ length link.old
+        → link.new ≡ to_be_bytes w32 next ++ (bytes.now ++ drop (4 + length bytes.now) link.old) }
     ensures same { length link.new ≡ length link.old }
 {
     if link.len() >= 4 && bytes.len() <= link.len() - 4 {

@@ -29,7 +29,8 @@ pub fn rows_are_parted<X>()
 /// The parts of an index's entries, with those that go up, are the entries.
 pub fn entries_are_joined<A>()
     ensures whole { (counts : List ℕ) (items : List A) → between (entry_parts counts items).0 (entry_parts counts items).1 ≡ items }
-    ensures parts { (room : ℕ) (rises : Bool) (sizes counts : List ℕ) (items : List A) → length sizes ≡ length items → IsCut 1 room rises sizes counts
+    ensures parts { (room : ℕ) (rises : Bool) (sizes counts : List ℕ) (items : List A) → length sizes ≡ length items
+        → IsCut 1 room rises sizes counts
         → pieces (entry_parts counts items).0 (entry_parts counts items).1 ≡ parts_of 1 counts items }
 {}
 
@@ -54,7 +55,8 @@ pub fn parts_are_filled<A>()
 /// What fits is one part, and nothing else is. If a cell is put after all others, the old ones stay; else the parts are about
 /// half full. Mostly there are two.
 pub fn parts_are_well_filled()
-    ensures one { (up room : ℕ) (rises : Bool) (sizes : List ℕ) → up + 1 ≤ length sizes → IsCut up room rises sizes [] → total sizes ≤ room }
+    ensures one { (up room : ℕ) (rises : Bool) (sizes : List ℕ) → up + 1 ≤ length sizes → IsCut up room rises sizes []
+        → total sizes ≤ room }
     ensures rising { (up room : ℕ) (sizes counts : List ℕ) → up + 2 ≤ length sizes → room < total sizes
         → total (take (length sizes - up - 1) sizes) ≤ room → IsCut up room true sizes counts → counts ≡ (length sizes - up - 1) ∷ [] }
     ensures half { (up room most : ℕ) (sizes counts : List ℕ) → up + 2 ≤ length sizes → room < total sizes → AreWithin most sizes
@@ -68,16 +70,19 @@ pub fn parts_are_well_filled()
 /// A part that has another after it overfills a page, with the cell that goes up or the first of the next part: so all
 /// pages but the last have at most twice the room that the cells take, and no more than it where a cell goes up.
 pub fn parts_are_few()
-    ensures few { (up room : ℕ) (rises : Bool) (sizes counts : List ℕ) → IsCut up room rises sizes counts → room * length counts ≤ 2 * total sizes }
+    ensures few { (up room : ℕ) (rises : Bool) (sizes counts : List ℕ) → IsCut up room rises sizes counts
+        → room * length counts ≤ 2 * total sizes }
     ensures fewer { (up room : ℕ) (rises : Bool) (sizes counts : List ℕ) → 1 ≤ up → IsCut up room rises sizes counts
         → room * length counts ≤ total sizes }
 {}
 
 /// What divides the pages of a table is a key, of at most nine bytes.
 pub fn keys_are_short()
-    ensures rows { (kind : Kind) (page_size : ℕ) (front : List ℕ) (rises : Bool) (cells : List (List ℕ)) (rows : List (ℤ × Local)) (packed : Packed)
+    ensures rows { (kind : Kind) (page_size : ℕ) (front : List ℕ) (rises : Bool) (cells : List (List ℕ)) (rows : List (ℤ
+        × Local)) (packed : Packed)
         → Packs kind page_size front rises cells (Rows rows) packed → AllByRecursion (λ bytes. length bytes ≤ 9) (divider_bytes packed) }
-    ensures keys { (kind : Kind) (page_size : ℕ) (front : List ℕ) (rises : Bool) (cells : List (List ℕ)) (kids : List (ℕ × ℤ)) (last : ℕ) (packed : Packed)
+    ensures keys { (kind : Kind) (page_size : ℕ) (front : List ℕ) (rises : Bool) (cells : List (List ℕ)) (kids : List (ℕ
+        × ℤ)) (last : ℕ) (packed : Packed)
         → Packs kind page_size front rises cells (Keys kids last) packed → AllByRecursion (λ bytes. length bytes ≤ 9) (divider_bytes packed) }
 {}
 

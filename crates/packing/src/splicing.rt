@@ -60,7 +60,8 @@ pub fn splice<'a>(
     right: Option<u32>,
 ) -> R<Packed>
     ensures spliced { Splices page.now start from count (map (λ cell. cell.now) cells.now) (right_bytes right) result }
-    ensures refused { IfErr result (λ fault. (fault ≡ Fault.Memory) ⊎ ((fault ≡ Fault.Damaged Damage.Cell 0) ⊎ (fault ≡ Fault.Damaged Damage.Page 0))) }
+    ensures refused { IfErr result (λ fault. (fault ≡ Fault.Memory)
+        ⊎ ((fault ≡ Fault.Damaged Damage.Cell 0) ⊎ (fault ≡ Fault.Damaged Damage.Page 0))) }
 {
     let tree = TreePage::over(page, start)?;
     let len = tree.len();
@@ -85,7 +86,8 @@ pub fn splice<'a>(
 /// as for `splice`.)
 pub fn join<'a>(alloc: Global, left: &'a [u8], between: &[&'a [u8]], right: &'a [u8]) -> R<Packed>
     ensures joined { Joins left.now (map (λ cell. cell.now) between.now) right.now result }
-    ensures refused { IfErr result (λ fault. (fault ≡ Fault.Memory) ⊎ ((fault ≡ Fault.Damaged Damage.Cell 0) ⊎ (fault ≡ Fault.Damaged Damage.Page 0))) }
+    ensures refused { IfErr result (λ fault. (fault ≡ Fault.Memory)
+        ⊎ ((fault ≡ Fault.Damaged Damage.Cell 0) ⊎ (fault ≡ Fault.Damaged Damage.Page 0))) }
 {
     let first = TreePage::over(left, 0)?;
     let second = TreePage::over(right, 0)?;

@@ -135,11 +135,13 @@ fn write(
 /// from the page's end downwards. Where they don't fit, the answer is `Fault::Unsupported(Feature::RowSize)`.
 pub fn build(alloc: Global, front: &[u8], page_size: usize, cells: &[Cell<'_>]) -> R<Vec<u8>>
     // The page is a table leaf of the cells, of the page's size,
-    ensures is { IfOk result (λ page. IsTableLeaf page.items (length front.now) (map entry_of cells.now) × (length page.items ≡ page_size)) }
+    ensures is { IfOk result (λ page. IsTableLeaf page.items (length front.now) (map entry_of cells.now)
+        × (length page.items ≡ page_size)) }
     // byte for byte.
     ensures exact { IfOk result (λ page. page.items ≡ leaf_of front.now page_size (map entry_of cells.now)) }
     ensures fits { OnOk result (Fits page_size (length front.now) (map entry_of cells.now)) }
-    ensures refused { IfErr result (λ fault. (fault ≡ Fault.Memory) ⊎ ((fault ≡ Fault.Unsupported Feature.RowSize) × (Fits page_size (length front.now) (map entry_of cells.now) → ⊥))) }
+    ensures refused { IfErr result (λ fault. (fault ≡ Fault.Memory)
+        ⊎ ((fault ≡ Fault.Unsupported Feature.RowSize) × (Fits page_size (length front.now) (map entry_of cells.now) → ⊥))) }
 {
     let Some(content) = content_start(page_size, front.len(), cells) else {
         return Err(Fault::Unsupported(Feature::RowSize));

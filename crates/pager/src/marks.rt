@@ -18,7 +18,8 @@ use wal::PageImage;
 impl Writer {
     /// Sets a mark, and answers its place. (`Memory`.)
     pub fn mark(&mut self) -> R<usize>
-        ensures marked { IfOk result (λ place. (place ≡ length (marks_of self.old)) × (marks_of self.new ≡ marks_of self.old ++ now_of self.old ∷ [])) }
+        ensures marked { IfOk result (λ place. (place ≡ length (marks_of self.old))
+            × (marks_of self.new ≡ marks_of self.old ++ now_of self.old ∷ [])) }
         ensures same { now_of self.new ≡ now_of self.old }
         ensures stands { IsOverTheSame self.old self.new }
         ensures refused { IfErr result (λ fault. (fault ≡ Memory) × (marks_of self.new ≡ marks_of self.old)) }

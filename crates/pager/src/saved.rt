@@ -71,7 +71,8 @@ pub fn insert_stamped(
     requires even { length stamps.old.items ≡ length pages.old.items }
     ensures pages { OnOk result (pages.new.items ≡ insert pages.old.items index page) }
     ensures stamps { OnOk result (stamps.new.items ≡ insert stamps.old.items index stamp) }
-    ensures refused { IfErr result (λ fault. (fault ≡ Memory) × (pages.new.items ≡ pages.old.items) × (stamps.new.items ≡ stamps.old.items)) }
+    ensures refused { IfErr result (λ fault. (fault ≡ Memory) × (pages.new.items ≡ pages.old.items)
+        × (stamps.new.items ≡ stamps.old.items)) }
 {
     stamps.reserve(1)?;
     pages.insert(index, page)?;

@@ -27,10 +27,13 @@ fn fill<D: Disk + Drop>(
     number: u32,
     buffer: &mut Vec<u8>,
 ) -> R<()>
-    ensures kept { (state_of log.new ≡ state_of log.old) × KeepsFile D.tells D.file (db_of log.old) (db_of log.new) × KeepsFile D.tells D.file (log_of log.old) (log_of log.new) }
+    ensures kept { (state_of log.new ≡ state_of log.old) × KeepsFile D.tells D.file (db_of log.old) (db_of log.new)
+        × KeepsFile D.tells D.file (log_of log.old) (log_of log.new) }
     ensures cause { HasCause false result log.old log.new }
-    ensures read { Tells log.old → seen_by snapshot ≤ (state_of log.old).frames → OnOk result (ViewHas (view_at log.old snapshot) number buffer.new.items) }
-    ensures there { (bytes : List ℕ) → Tells log.old → seen_by snapshot ≤ (state_of log.old).frames → IsViewPage (view_at log.old snapshot) number bytes
+    ensures read { Tells log.old → seen_by snapshot ≤ (state_of log.old).frames
+        → OnOk result (ViewHas (view_at log.old snapshot) number buffer.new.items) }
+    ensures there { (bytes : List ℕ) → Tells log.old → seen_by snapshot ≤ (state_of log.old).frames
+        → IsViewPage (view_at log.old snapshot) number bytes
         → IfErr result IsOutside }
     ensures within { OnOk result ((1 ≤ number) × (number ≤ size_of snapshot)) }
 {

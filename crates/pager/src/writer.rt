@@ -54,12 +54,15 @@ impl Writer {
 
     /// Starts a writer on a snapshot, with no change but a copy of page 1.
     pub fn begin<D: Disk + Drop>(alloc: Global, log: &mut Log<D>, snapshot: Snapshot) -> R<Writer>
-        ensures kept { (state_of log.new ≡ state_of log.old) × KeepsFile D.tells D.file (db_of log.old) (db_of log.new) × KeepsFile D.tells D.file (log_of log.old) (log_of log.new) }
+        ensures kept { (state_of log.new ≡ state_of log.old) × KeepsFile D.tells D.file (db_of log.old) (db_of log.new)
+            × KeepsFile D.tells D.file (log_of log.old) (log_of log.new) }
         ensures cause { HasCause false result log.old log.new }
         ensures stands { IfOk result (λ writer. snapshot_of writer ≡ snapshot) }
-        ensures begun { Tells log.old → seen_by snapshot ≤ (state_of log.old).frames → 1 ≤ size_of snapshot → IfOk result (λ writer. IsBegun (view_at log.old snapshot) writer) }
+        ensures begun { Tells log.old → seen_by snapshot ≤ (state_of log.old).frames → 1 ≤ size_of snapshot
+            → IfOk result (λ writer. IsBegun (view_at log.old snapshot) writer) }
         // Where page 1 exists, it is refused only if out of memory or if a disk's call failed.
-        ensures there { (bytes : List ℕ) → Tells log.old → seen_by snapshot ≤ (state_of log.old).frames → IsViewPage (view_at log.old snapshot) 1 bytes
+        ensures there { (bytes : List ℕ) → Tells log.old → seen_by snapshot ≤ (state_of log.old).frames
+            → IsViewPage (view_at log.old snapshot) 1 bytes
             → IfErr result IsOutside }
     {
         let bytes = read_page(alloc, log, snapshot, 1)?;
@@ -101,7 +104,8 @@ impl Writer {
         ensures none { IsConsistent self.now → IfNone result (IsNotAmong (changes_of self.now) number) }
         // So it is what the writer sees over any view; and where it is None, the writer sees what the view shows.
         ensures shown { IsConsistent self.now → IfSome result (λ page. (view : View) → ViewHas (seen view self.now) number page.now) }
-        ensures below { IsConsistent self.now → IfNone result ((view : View) (bytes : List ℕ) → ViewHas (seen view self.now) number bytes ↔ ViewHas view number bytes) }
+        ensures below { IsConsistent self.now
+            → IfNone result ((view : View) (bytes : List ℕ) → ViewHas (seen view self.now) number bytes ↔ ViewHas view number bytes) }
     {
         match self.search(number) {
             Ok(index) => Some(self.pages[index].bytes.as_slice()),
@@ -131,8 +135,10 @@ impl Writer {
     /// Replaces a page, or adds one at the end.
     pub fn put(&mut self, page: PageImage) -> R<()>
         ensures refused { IfErr result (λ fault. IsNotDiskFault fault) }
-        ensures whole { IsConsistent self.old → 1 ≤ page.number → length page.bytes.items ≡ page_size_of self.old → OnOk result (IsConsistent self.new) }
-        ensures puts { IsConsistent self.old → 1 ≤ page.number → length page.bytes.items ≡ page_size_of self.old → OnOk result (ReplacesPages (page ∷ []) self.old self.new) }
+        ensures whole { IsConsistent self.old → 1 ≤ page.number → length page.bytes.items ≡ page_size_of self.old
+            → OnOk result (IsConsistent self.new) }
+        ensures puts { IsConsistent self.old → 1 ≤ page.number → length page.bytes.items ≡ page_size_of self.old
+            → OnOk result (ReplacesPages (page ∷ []) self.old self.new) }
         ensures unchanged { IfErr result (λ fault. (fault ≡ Memory) × IsUnchanged self.old self.new) }
         ensures kept { (makes_objects self.new ≡ makes_objects self.old) × (marks_of self.new ≡ marks_of self.old) }
         // A page that is already changed is replaced without fail.
@@ -154,8 +160,10 @@ impl Writer {
         ensures refused { IfErr result (λ fault. IsNotDiskFault fault) }
         ensures whole { IsConsistent self.old → AreObjectPages (page_size_of self.old) schema root → OnOk result (IsConsistent self.new) }
         ensures objects { OnOk result (IsTrue (makes_objects self.new)) }
-        ensures puts { IsConsistent self.old → AreObjectPages (page_size_of self.old) schema root → OnOk result (ReplacesPages (schema ∷ root ∷ []) self.old self.new) }
-        ensures unchanged { IsConsistent self.old → AreObjectPages (page_size_of self.old) schema root → IfErr result (λ fault. (fault ≡ Memory) × IsUnchanged self.old self.new) }
+        ensures puts { IsConsistent self.old → AreObjectPages (page_size_of self.old) schema root
+            → OnOk result (ReplacesPages (schema ∷ root ∷ []) self.old self.new) }
+        ensures unchanged { IsConsistent self.old → AreObjectPages (page_size_of self.old) schema root
+            → IfErr result (λ fault. (fault ≡ Memory) × IsUnchanged self.old self.new) }
         ensures kept { marks_of self.new ≡ marks_of self.old }
     {
         self.put(root)?;
@@ -167,11 +175,15 @@ impl Writer {
     /// Commits the pages: page 1 gets the next change counter and the size, and the next schema cookie where an object
     /// was made. After a refusal the pages are as they were.
     pub fn commit<D: Disk + Drop>(&mut self, alloc: Global, log: &mut Log<D>) -> R<()>
-        ensures commits { (page : List ℕ) (header : Header) → MayCommit log.old self.old page header → OnOk result (CommitsPages log.old self.old page header log.new) }
-        ensures refused { (page : List ℕ) (header : Header) → MayCommit log.old self.old page header → IfErr result (IsRefusedCommit log.old self.old page header log.new self.new) }
+        ensures commits { (page : List ℕ) (header : Header) → MayCommit log.old self.old page header
+            → OnOk result (CommitsPages log.old self.old page header log.new) }
+        ensures refused { (page : List ℕ) (header : Header) → MayCommit log.old self.old page header
+            → IfErr result (IsRefusedCommit log.old self.old page header log.new self.new) }
         // A crash leaves the frames of the newest view, or those of the one that the commit leaves, unless the log is as it was.
-        ensures crash { (page : List ℕ) (header : Header) → MayCommit log.old self.old page header → (log_of log.new ≡ log_of log.old) ⊎ LeavesCommit log.old self.old page header log.new }
-        ensures known { (page : List ℕ) (header : Header) → MayCommit log.old self.old page header → IsStateAfter result (state_of log.old) (length (changes_of self.old)) (pages_of self.old) (state_of log.new) }
+        ensures crash { (page : List ℕ) (header : Header) → MayCommit log.old self.old page header
+            → (log_of log.new ≡ log_of log.old) ⊎ LeavesCommit log.old self.old page header log.new }
+        ensures known { (page : List ℕ) (header : Header) → MayCommit log.old self.old page header
+            → IsStateAfter result (state_of log.old) (length (changes_of self.old)) (pages_of self.old) (state_of log.new) }
         ensures disks { KeepsDisks D.tells D.failures (db_of log.old) (db_of log.new) (log_of log.old) (log_of log.new) }
         ensures cause { HasCause true result log.old log.new }
     {
@@ -218,8 +230,10 @@ impl Writer {
 
     fn set_header(&mut self, header: &Header)
         requires { IsPageSize header.now.page_size }
-        ensures reheads { (old : Header) → HasHeader (changes_of self.old) old → Reheads (changes_of self.old) (changes_of self.new) header.now }
-        ensures rest { (pages_of self.new ≡ pages_of self.old) × (page_size_of self.new ≡ page_size_of self.old) × (snapshot_of self.new ≡ snapshot_of self.old) × (makes_objects self.new ≡ makes_objects self.old) }
+        ensures reheads { (old : Header) → HasHeader (changes_of self.old) old
+            → Reheads (changes_of self.old) (changes_of self.new) header.now }
+        ensures rest { (pages_of self.new ≡ pages_of self.old) × (page_size_of self.new ≡ page_size_of self.old)
+            × (snapshot_of self.new ≡ snapshot_of self.old) × (makes_objects self.new ≡ makes_objects self.old) }
         ensures first { SetsFirst (changes_of self.old) (changes_of self.new) }
         ensures bytes { FirstIsBytes (changes_of self.old) }
         ensures log { (self.new.saved ≡ self.old.saved) × (self.new.marks ≡ self.old.marks) }
@@ -300,7 +314,8 @@ impl Writer {
         ensures rest { KeepsRest self.old self.new }
         ensures size { pages_of self.new ≡ pages_of self.old }
         ensures page { IsConsistent self.old → OnOk result (GetsPage number bytes.now self.old self.new) }
-        ensures there { IsSound self.old → 1 ≤ number → number ≤ pages_of self.old → length bytes.now ≡ page_size_of self.old → IfErr result (λ fault. fault ≡ Memory) }
+        ensures there { IsSound self.old → 1 ≤ number → number ≤ pages_of self.old → length bytes.now ≡ page_size_of self.old
+            → IfErr result (λ fault. fault ≡ Memory) }
         ensures within { OnOk result ((1 ≤ number) × (number ≤ pages_of self.old)) }
         ensures not_disk { IfErr result (λ fault. IsNotDiskFault fault) }
     {
@@ -323,7 +338,8 @@ impl Writer {
     /// pages as there may be; `Memory`; `Damaged` where the writer isn't sound.)
     pub(crate) fn add(&mut self, alloc: Global) -> R<u32>
         ensures rest { KeepsRest self.old self.new }
-        ensures page { IsConsistent self.old → OnOk result (GetsPage (pages_of self.old + 1) (replicate (page_size_of self.old) 0) self.old self.new) }
+        ensures page { IsConsistent self.old
+            → OnOk result (GetsPage (pages_of self.old + 1) (replicate (page_size_of self.old) 0) self.old self.new) }
         ensures counted { IfOk result (λ n. (n ≡ pages_of self.old + 1) × (pages_of self.new ≡ n) × (n ≤ most_of (page_size_of self.old))) }
         ensures full { IfErr result (λ fault. fault ≡ Fault.Full → pages_of self.new ≡ most_of (page_size_of self.new)) }
         ensures refused { IsSound self.old → IfErr result (λ fault. (fault ≡ Memory) ⊎ (fault ≡ Fault.Full)) }

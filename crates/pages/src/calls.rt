@@ -45,7 +45,8 @@ pub trait Pages {
     /// a page that isn't there; `Memory`; `Io`, and `Failed` where a call failed before.)
     fn load(&mut self, number: u32) -> R<()>
         ensures bytes { IsTrue (tells (below self.old)) → OnOk result (held self.new ≡ page_at (map self.old) number) }
-        ensures refusal { IsTrue (tells (below self.old)) → IsThere (map self.old) (limits (below self.old)).page number → IfErr result IsOutside }
+        ensures refusal { IsTrue (tells (below self.old)) → IsThere (map self.old) (limits (below self.old)).page number
+            → IfErr result IsOutside }
         ensures stays { Stays below map count failures result self.old self.new };
 
     /// The bytes of the page that was loaded last, until the next call that changes pages.
@@ -60,8 +61,11 @@ pub trait WritePages: Pages {
     fn put(&mut self, number: u32, bytes: &[u8]) -> R<()>
         ensures kept { Self.below self.new ≡ Self.below self.old }
         ensures counted { Self.count self.new ≡ Self.count self.old }
-        ensures done { IsTrue (Self.tells (Self.below self.old)) → OnOk result (Self.map self.new ≡ with_page (Self.map self.old) number bytes.now) }
-        ensures refusal { IsTrue (Self.tells (Self.below self.old)) → IsThere (Self.map self.old) (Self.limits (Self.below self.old)).page number → length bytes.now ≡ (Self.limits (Self.below self.old)).page → IfErr result IsOutside }
+        ensures done { IsTrue (Self.tells (Self.below self.old))
+            → OnOk result (Self.map self.new ≡ with_page (Self.map self.old) number bytes.now) }
+        ensures refusal { IsTrue (Self.tells (Self.below self.old))
+            → IsThere (Self.map self.old) (Self.limits (Self.below self.old)).page number
+            → length bytes.now ≡ (Self.limits (Self.below self.old)).page → IfErr result IsOutside }
         ensures causes { Causes result (Self.failures self.old) (Self.failures self.new) ⊥ };
 
     /// Adds a page of zeros at the end, and answers its number. (`Full` where there are as many
@@ -69,8 +73,10 @@ pub trait WritePages: Pages {
     fn grow(&mut self) -> R<u32>
         ensures kept { Self.below self.new ≡ Self.below self.old }
         ensures number { IsTrue (Self.tells (Self.below self.old)) → IfOk result (λ n. n ≡ length (Self.map self.old) + 1) }
-        ensures done { IsTrue (Self.tells (Self.below self.old)) → OnOk result (Self.map self.new ≡ Self.map self.old ++ (replicate (Self.limits (Self.below self.old)).page 0 ∷ [])) }
-        ensures counted { IfOk result (λ n. (n ≡ Self.count self.old + 1) × (Self.count self.new ≡ n) × (n ≤ (Self.limits (Self.below self.old)).most)) }
+        ensures done { IsTrue (Self.tells (Self.below self.old))
+            → OnOk result (Self.map self.new ≡ Self.map self.old ++ (replicate (Self.limits (Self.below self.old)).page 0 ∷ [])) }
+        ensures counted { IfOk result (λ n. (n ≡ Self.count self.old + 1) × (Self.count self.new ≡ n)
+            × (n ≤ (Self.limits (Self.below self.old)).most)) }
         ensures refusal { IsTrue (Self.tells (Self.below self.old)) → IfErr result IsOutsideOrFull }
         ensures causes { Causes result (Self.failures self.old) (Self.failures self.new) (Self.count self.new ≡ (Self.limits (Self.below self.new)).most) };
 }

@@ -28,11 +28,13 @@ pub fn parse(alloc: Global, text: &str) -> R<Statement>
     // What is answered is the statement that the text is in the grammar, within the limits, of which the text's length is one.
     ensures found { IfOk result (λ s. IsStatementText text.now s × (is_statement_within s ≡ true) × (length text.now ≤ 65536)) }
     // A text that is a statement within the limits is answered as that, unless memory runs out.
-    ensures only { (s : Parsed) → IsStatementText text.now s → is_statement_within s ≡ true → length text.now ≤ 65536 → Gives (λ s. s) result (Ok s) }
+    ensures only { (s : Parsed) → IsStatementText text.now s → is_statement_within s ≡ true → length text.now ≤ 65536
+        → Gives (λ s. s) result (Ok s) }
     // One past the limits is refused for that.
     ensures late { (s : Parsed) → IsStatementText text.now s → is_statement_within s ≡ false → Gives (λ s. s) result (Err Fault.TooLong) }
     // So is one that isn't supported.
-    ensures unsupported { IsUnsupportedText text.now → length text.now ≤ 65536 → Gives (λ s. s) result (Err (Fault.Unsupported Feature.Statement)) }
+    ensures unsupported { IsUnsupportedText text.now → length text.now ≤ 65536
+        → Gives (λ s. s) result (Err (Fault.Unsupported Feature.Statement)) }
     ensures refused { IfErr result (λ fault. IsTextRefusal text.now fault) }
 {
     let found = tokens(alloc, text)?;

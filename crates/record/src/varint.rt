@@ -11,7 +11,8 @@ pub fn get_varint(bytes: &[u8]) -> Option<(u64, &[u8])>
     // What is read is a spelling of the number,
     ensures found { IfSome result (λ found. (text : List ℕ) × (bytes.now ≡ text ++ found.1.now) × IsVarint text found.0) }
     // and each spelling is read, whatever follows it.
-    ensures only { (text rest : List ℕ) (n : ℕ) → IsVarint text n → bytes.now ≡ text ++ rest → IsSomeAnd result (λ found. (found.0 ≡ n) × (found.1.now ≡ rest)) }
+    ensures only { (text rest : List ℕ) (n : ℕ) → IsVarint text n → bytes.now ≡ text ++ rest
+        → IsSomeAnd result (λ found. (found.0 ≡ n) × (found.1.now ≡ rest)) }
     ensures exact { option_map (λ found. (found.0, found.1.now)) result ≡ varint_at bytes.now }
 {
     read(bytes)

@@ -173,7 +173,8 @@ pub fn encode(alloc: Global, values: &[Value]) -> R<Vec<u8>>
     requires { AreStorable values.now }
     ensures is { IfOk result (λ bytes. IsRecord bytes.items values.now) }
     // No record of these values is shorter.
-    ensures shortest { IfOk result (λ bytes. (other : List ℕ) → IsBytes other → IsRecord other values.now → length bytes.items ≤ length other) }
+    ensures shortest { IfOk result (λ bytes. (other : List ℕ) → IsBytes other → IsRecord other values.now
+        → length bytes.items ≤ length other) }
     ensures exact { IfOk result (λ bytes. bytes.items ≡ record_of values.now) }
     ensures memory { IfErr result (λ fault. fault ≡ Fault.Memory) }
 {
@@ -185,7 +186,8 @@ pub fn encode(alloc: Global, values: &[Value]) -> R<Vec<u8>>
 pub fn encode_row(alloc: Global, values: &[Value]) -> R<Vec<u8>>
     ensures is { IfOk result (λ bytes. IsRecord bytes.items values.now) }
     ensures exact { IfOk result (λ bytes. bytes.items ≡ record_of values.now) }
-    ensures refused { IfErr result (λ fault. (fault ≡ Fault.Memory) ⊎ ((fault ≡ Fault.Unsupported Feature.RowSize) × (AreStorable values.now → ⊥))) }
+    ensures refused { IfErr result (λ fault. (fault ≡ Fault.Memory)
+        ⊎ ((fault ≡ Fault.Unsupported Feature.RowSize) × (AreStorable values.now → ⊥))) }
 {
     if !is_storable(values) {
         return Err(Fault::Unsupported(Feature::RowSize));

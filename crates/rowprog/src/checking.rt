@@ -34,7 +34,8 @@ pub fn check_rows(alloc: Global, page: &[u8], table: BoundSource) -> R<()>
     ensures refused { IfErr result (λ fault. (fault ≡ Fault.Memory) ⊎ (IsLeafRefusal table.root fault ⊎ IsRowRefusal fault)) }
     ensures not_disk { IfErr result (λ fault. IsNotDiskFault fault) }
     // Such rows are those that a table of so many columns may hold.
-    ensures fit { (t : Listed) (rows : List TableRow) → length page.now ≤ 65536 → table.width ≡ length t.columns → Holds page.now table.root table.width rows → are_rows (plain_table t rows) ≡ true }
+    ensures fit { (t : Listed) (rows : List TableRow) → length page.now ≤ 65536 → table.width ≡ length t.columns
+        → Holds page.now table.root table.width rows → are_rows (plain_table t rows) ≡ true }
 {
     let leaf = Leaf::over(alloc, page, table.root)?;
     check_leaf(alloc, &leaf, table.width)

@@ -91,8 +91,10 @@ fn leaf_rows(alloc: Global, leaf: &Leaf<'_>, width: usize, outputs: &[Output]) -
 /// `Unsupported(ColumnCount)`. An output past 64 bits is `RealRefused` at the first row.
 pub fn table_rows(alloc: Global, page: &[u8], table: BoundSource, outputs: &[Output]) -> R<Rows>
     ensures found { IfOk result (λ answer. IsAnswer page.now table.root table.width outputs.now (map values_of answer.items)) }
-    ensures only { (rows : List TableRow) → Holds page.now table.root table.width rows → All (IsOf (Some table.width)) outputs.now → AnswersBy (λ answer. map values_of answer.items) (answers_of outputs.now rows) result }
-    ensures refused { IfErr result (λ fault. (fault ≡ Fault.Memory) ⊎ (IsLeafRefusal table.root fault ⊎ (IsRowRefusal fault ⊎ IsOverflow outputs.now fault))) }
+    ensures only { (rows : List TableRow) → Holds page.now table.root table.width rows → All (IsOf (Some table.width)) outputs.now
+        → AnswersBy (λ answer. map values_of answer.items) (answers_of outputs.now rows) result }
+    ensures refused { IfErr result (λ fault. (fault ≡ Fault.Memory)
+        ⊎ (IsLeafRefusal table.root fault ⊎ (IsRowRefusal fault ⊎ IsOverflow outputs.now fault))) }
     ensures not_disk { IfErr result (λ fault. IsNotDiskFault fault) }
 {
     let leaf = Leaf::over(alloc, page, table.root)?;

@@ -97,7 +97,8 @@ fn insert<D: Disk + Drop>(
 ) -> R<()>
     ensures cause { HasCause true result log.old log.new }
     ensures reads { Tells log.old → ShowTheSame log.old log.new }
-    ensures applies { (db : Database) → forms.is_source_supported insert.now.source ≡ true → CanChange (listing log.old catalog.now) writer.old db
+    ensures applies { (db : Database) → forms.is_source_supported insert.now.source ≡ true
+        → CanChange (listing log.old catalog.now) writer.old db
         → MakesChange (statement.Change (change.Insert insert.now)) (listing log.old catalog.now) writer.old db result (listing log.new catalog.now) writer.new }
     ensures marks { marks_of writer.new ≡ marks_of writer.old }
 {
@@ -121,7 +122,8 @@ fn create_table<D: Disk + Drop>(
     table: &TableDefinition,
 ) -> R<()>
     ensures cause { HasCause true result log.now log.now }
-    ensures applies { (db : Database) → forms.is_table_supported table.now ≡ true → IsCreateOf sql.now (object.Table table.now) → CanChange (listing log.now catalog.old) writer.old db
+    ensures applies { (db : Database) → forms.is_table_supported table.now ≡ true → IsCreateOf sql.now (object.Table table.now)
+        → CanChange (listing log.now catalog.old) writer.old db
         → MakesChange (statement.Create (record { sql = sql.now; object = object.Table table.now })) (listing log.now catalog.old) writer.old db result (listing log.now catalog.new) writer.new }
     ensures marks { marks_of writer.new ≡ marks_of writer.old }
 {

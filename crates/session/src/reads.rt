@@ -42,7 +42,8 @@ fn rows_on<D: Disk + Drop>(
 ) -> R<Rows>
     ensures cause { HasCause false result log.old log.new }
     ensures same { Tells log.old → ShowTheSame log.old log.new }
-    ensures answered { (page : List ℕ) (rows : List TableRow) → Tells log.old → seen_by snapshot ≤ (state_of log.old).frames → IsViewPage (view_at log.old snapshot) source.root page → Holds page source.root source.width rows
+    ensures answered { (page : List ℕ) (rows : List TableRow) → Tells log.old → seen_by snapshot ≤ (state_of log.old).frames
+        → IsViewPage (view_at log.old snapshot) source.root page → Holds page source.root source.width rows
         → All (IsOf (Some source.width)) outputs.now → AnswersOrFails (answers_of outputs.now rows) result }
 {
     let page = read_page(alloc, log, snapshot, source.root)?;
@@ -59,7 +60,8 @@ fn rows_with<D: Disk + Drop>(
 ) -> R<Rows>
     ensures cause { HasCause false result log.old log.new }
     ensures same { Tells log.old → ShowTheSame log.old log.new }
-    ensures answered { (page : List ℕ) (rows : List TableRow) → Tells log.old → IsWriter log.old writer.now → IsViewPage (view_of log.old writer.now) source.root page → Holds page source.root source.width rows
+    ensures answered { (page : List ℕ) (rows : List TableRow) → Tells log.old → IsWriter log.old writer.now
+        → IsViewPage (view_of log.old writer.now) source.root page → Holds page source.root source.width rows
         → All (IsOf (Some source.width)) outputs.now → AnswersOrFails (answers_of outputs.now rows) result }
 {
     if let Some(page) = writer.find(source.root) {
@@ -78,7 +80,8 @@ fn rows_of<D: Disk + Drop>(
 ) -> R<Rows>
     ensures cause { HasCause false result log.old log.new }
     ensures same { Tells log.old → ShowTheSame log.old log.new }
-    ensures answered { (page : List ℕ) (rows : List TableRow) → Tells log.old → IsSightOf log.old sight.entry → IsViewPage (view_by log.old sight.entry) source.root page → Holds page source.root source.width rows
+    ensures answered { (page : List ℕ) (rows : List TableRow) → Tells log.old → IsSightOf log.old sight.entry
+        → IsViewPage (view_by log.old sight.entry) source.root page → Holds page source.root source.width rows
         → All (IsOf (Some source.width)) outputs.now → AnswersOrFails (answers_of outputs.now rows) result }
 {
     match sight {
@@ -97,7 +100,8 @@ pub fn read<D: Disk + Drop>(
 ) -> R<Rows>
     ensures cause { HasCause false result log.old log.new }
     ensures same { Tells log.old → ShowTheSame log.old log.new }
-    ensures answered { (db : Database) → Tells log.old → IsSightOf log.old sight.entry → Stores (view_by log.old sight.entry) (tables_of catalog.now) db
+    ensures answered { (db : Database) → Tells log.old → IsSightOf log.old sight.entry
+        → Stores (view_by log.old sight.entry) (tables_of catalog.now) db
         → is_query_supported query.now ≡ true → AnswersRead (read_on db query.now) result }
 {
     let plan = plan_of(bind_query(alloc, query, catalog)?);

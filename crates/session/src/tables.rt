@@ -39,7 +39,8 @@ fn schema_values(alloc: Global, name: &Name, root: u32, sql: &Text) -> R<Vec<Val
 fn cell_after<'a>(leaf: &Leaf<'_>, payload: &'a [u8]) -> R<Cell<'a>>
     ensures next { IfOk result (λ cell. IsNextRowid leaf.now (entry_of cell).rowid) }
     ensures payload { IfOk result (λ cell. (entry_of cell).payload ≡ payload.now) }
-    ensures full { IfErr result (λ fault. (fault ≡ Fault.Unsupported Feature.RowSize) × ((rowid : ℤ) → IsNextRowid leaf.now rowid → FitsSigned w64 rowid → ⊥)) }
+    ensures full { IfErr result (λ fault. (fault ≡ Fault.Unsupported Feature.RowSize)
+        × ((rowid : ℤ) → IsNextRowid leaf.now rowid → FitsSigned w64 rowid → ⊥)) }
 {
     let Ok(rowid) = next_rowid(leaf.last()) else {
         return Err(Fault::Unsupported(Feature::RowSize));
@@ -49,10 +50,12 @@ fn cell_after<'a>(leaf: &Leaf<'_>, payload: &'a [u8]) -> R<Cell<'a>>
 
 /// Page 1 with one more row of the schema table.
 fn with_schema_row(alloc: Global, page: &[u8], values: &[Value]) -> R<Vec<u8>>
-    ensures listed { IfOk result (λ new. (entries : List Entry) → IsSingleLeaf page.now 1 entries → IsListedAfter new.items entries values.now) }
+    ensures listed { IfOk result (λ new. (entries : List Entry) → IsSingleLeaf page.now 1 entries
+        → IsListedAfter new.items entries values.now) }
     ensures size { IfOk result (λ new. length new.items ≡ length page.now) }
     ensures front { IfOk result (λ new. take (start_of 1) new.items ≡ take (start_of 1) page.now) }
-    ensures why { IfErr result (λ fault. (entries : List Entry) → IsSingleLeaf page.now 1 entries → IsListingFault (length page.now) entries values.now fault) }
+    ensures why { IfErr result (λ fault. (entries : List Entry) → IsSingleLeaf page.now 1 entries
+        → IsListingFault (length page.now) entries values.now fault) }
     ensures not_disk { IfErr result (λ fault. IsNotDiskFault fault) }
 {
     let payload = encode_row(alloc, values)?;
@@ -70,7 +73,8 @@ pub struct NewTable {
 /// The new table of a definition, with its tree at page `root`.
 fn table_of(alloc: Global, catalog: &Catalog, root: u32, definition: &TableDefinition) -> R<Table>
     ensures made { IfOk result (λ table. IsMadeBeside (tables_of catalog.now) definition.now root table) }
-    ensures why { IfErr result (λ fault. (fault ≡ Fault.Memory) ⊎ IsCreateRefusal (tables_of catalog.now) definition.now (refusal_of fault)) }
+    ensures why { IfErr result (λ fault. (fault ≡ Fault.Memory)
+        ⊎ IsCreateRefusal (tables_of catalog.now) definition.now (refusal_of fault)) }
     ensures not_disk { IfErr result (λ fault. IsNotDiskFault fault) }
 {
     let name = &definition.name;
@@ -97,10 +101,12 @@ pub fn new_table(
     definition: &TableDefinition,
 ) -> R<NewTable>
     ensures made { IfOk result (λ made. IsMadeBeside (tables_of catalog.now) definition.now root made.table) }
-    ensures listed { IfOk result (λ made. (entries : List Entry) → IsSingleLeaf page.now 1 entries → IsListedAfter made.schema.items entries (schema_row definition.now.name definition.now.name root sql.now)) }
+    ensures listed { IfOk result (λ made. (entries : List Entry) → IsSingleLeaf page.now 1 entries
+        → IsListedAfter made.schema.items entries (schema_row definition.now.name definition.now.name root sql.now)) }
     ensures size { IfOk result (λ made. length made.schema.items ≡ length page.now) }
     ensures front { IfOk result (λ made. take (start_of 1) made.schema.items ≡ take (start_of 1) page.now) }
-    ensures why { IfErr result (λ fault. (entries : List Entry) → IsSingleLeaf page.now 1 entries → IsNewTableFault (tables_of catalog.now) definition.now root (length page.now) entries (schema_row definition.now.name definition.now.name root sql.now) fault) }
+    ensures why { IfErr result (λ fault. (entries : List Entry) → IsSingleLeaf page.now 1 entries
+        → IsNewTableFault (tables_of catalog.now) definition.now root (length page.now) entries (schema_row definition.now.name definition.now.name root sql.now) fault) }
     ensures refused { IfErr result (λ fault. IsNotDiskFault fault) }
 {
     let table = table_of(alloc, catalog, root, definition)?;

@@ -80,7 +80,8 @@ impl<D: Disk + Drop> Connections<D> {
         ensures files { files_of result ≡ log }
         ensures whole { IsFalse (has_failed_in result) }
         // Where the files hold a database and the catalog lists its tables, the connections represent its machine.
-        ensures shown { (db : Database) → Tells log → IsSettled log → AreCommitted catalog → Stores (newest_view log) (tables_of catalog) db → RepresentsRunning result (fresh db) }
+        ensures shown { (db : Database) → Tells log → IsSettled log → AreCommitted catalog
+            → Stores (newest_view log) (tables_of catalog) db → RepresentsRunning result (fresh db) }
     {
         Connections {
             alloc,
@@ -132,7 +133,8 @@ impl<D: Disk + Drop> Connections<D> {
         // `check` is the test.
         requires free { first_refusal (has_failed_in self.old) connection ≡ Ok tt }
         // What isn't supported yet, a form or a connection, is refused as such, and changes nothing.
-        ensures unsupported { IsFalse (forms.is_supported statement.now && forms.is_connection_supported connection) → AnswersUnsupported result × (self.new ≡ self.old) }
+        ensures unsupported { IsFalse (forms.is_supported statement.now && forms.is_connection_supported connection)
+            → AnswersUnsupported result × (self.new ≡ self.old) }
         ensures cause { HasCauseIn (may_be_full statement.now) result self.old self.new }
         ensures marks { MarksFailure result self.old self.new }
         // Memory is short only where it is taken, and a COMMIT is refused as `Full` only past the limits.
@@ -168,7 +170,8 @@ impl<D: Disk + Drop> Connections<D> {
         ensures cause { HasCauseIn (may_be_full statement.now) result self.old self.new }
         ensures marks { MarksFailure result self.old self.new }
         ensures refused { IfErr result (IsRefusedFor self.old statement.now) }
-        ensures step { WhereSupported statement.now (forms.is_query statement.now ≡ false → StepsOn self.old statement.now (done_reply result) self.new) }
+        ensures step { WhereSupported statement.now (forms.is_query statement.now ≡ false
+            → StepsOn self.old statement.now (done_reply result) self.new) }
     {
         match statement {
             Statement::Begin(mode) => self.begin(*mode),
@@ -251,7 +254,8 @@ impl<D: Disk + Drop> Connections<D> {
     fn commit_writer(&mut self, writer: &mut Writer) -> R<()>
         ensures cause { HasCauseIn true result self.old self.new }
         ensures marks { MarksFailure result self.old self.new }
-        ensures commits { (db : Database) → has_failed_in self.old ≡ false → CanApply self.old writer.old db → CommitsChanges self.old writer.old db result self.new writer.new }
+        ensures commits { (db : Database) → has_failed_in self.old ≡ false → CanApply self.old writer.old db
+            → CommitsChanges self.old writer.old db result self.new writer.new }
     {
         if let Err(fault) = writer.commit(self.alloc, &mut self.log) {
             self.has_failed |= is_io(&fault);
@@ -298,7 +302,9 @@ impl<D: Disk + Drop> Connections<D> {
     fn read(&mut self, query: &Query) -> R<Rows>
         ensures cause { HasCauseIn false result self.old self.new }
         ensures reads { OnlyReads self.old self.new }
-        ensures answered { (m : Machine) (db : Database) → RepresentsRunning self.old m → Stores (seen_in self.old.transaction (files_of self.old)) (tables_of self.old.catalog) db → is_query_supported query.now ≡ true → AnswersRead (read_on db query.now) result }
+        ensures answered { (m : Machine) (db : Database) → RepresentsRunning self.old m
+            → Stores (seen_in self.old.transaction (files_of self.old)) (tables_of self.old.catalog) db
+            → is_query_supported query.now ≡ true → AnswersRead (read_on db query.now) result }
     {
         match &self.transaction {
             Transaction::Writing(writer) => read(
@@ -376,7 +382,8 @@ impl<D: Disk + Drop> Connections<D> {
     fn write_reading(&mut self, reading: Transaction, write: Write<'_>) -> R<()>
         ensures cause { HasCauseIn true result self.old self.new }
         ensures reads { ReadsFiles self.old self.new }
-        ensures step { WhereSupported (written write.entry) (is_reading reading ≡ true → StepsOn (with_transaction self.old reading) (written write.entry) (done_reply result) self.new) }
+        ensures step { WhereSupported (written write.entry) (is_reading reading ≡ true
+            → StepsOn (with_transaction self.old reading) (written write.entry) (done_reply result) self.new) }
     {
         self.transaction = reading;
         self.start_writing(write)
@@ -385,7 +392,8 @@ impl<D: Disk + Drop> Connections<D> {
     fn autocommit(&mut self, write: Write<'_>) -> R<()>
         ensures cause { HasCauseIn true result self.old self.new }
         ensures marks { MarksFailure result self.old self.new }
-        ensures step { WhereSupported (written write.entry) (is_idle self.old.transaction ≡ true → StepsOn self.old (written write.entry) (done_reply result) self.new) }
+        ensures step { WhereSupported (written write.entry) (is_idle self.old.transaction ≡ true
+            → StepsOn self.old (written write.entry) (done_reply result) self.new) }
     {
         let newest = self.log.begin();
         let mut writer = Writer::begin(self.alloc, &mut self.log, newest)?;
@@ -397,7 +405,8 @@ impl<D: Disk + Drop> Connections<D> {
     fn commit_autocommit(&mut self, writer: Writer) -> R<()>
         ensures cause { HasCauseIn true result self.old self.new }
         ensures marks { MarksFailure result self.old self.new }
-        ensures ends { (db : Database) → has_failed_in self.old ≡ false → CanApply self.old writer db → EndsAlone self.old writer db result self.new }
+        ensures ends { (db : Database) → has_failed_in self.old ≡ false → CanApply self.old writer db
+            → EndsAlone self.old writer db result self.new }
     {
         let mut writer = writer;
         match self.commit_writer(&mut writer) {
@@ -413,7 +422,8 @@ impl<D: Disk + Drop> Connections<D> {
     fn start_writing(&mut self, write: Write<'_>) -> R<()>
         ensures cause { HasCauseIn true result self.old self.new }
         ensures reads { ReadsFiles self.old self.new }
-        ensures step { WhereSupported (written write.entry) (is_reading self.old.transaction ≡ true → StepsOn self.old (written write.entry) (done_reply result) self.new) }
+        ensures step { WhereSupported (written write.entry) (is_reading self.old.transaction ≡ true
+            → StepsOn self.old (written write.entry) (done_reply result) self.new) }
     {
         let snapshot = self.snapshot();
         let mut writer = Writer::begin(self.alloc, &mut self.log, snapshot)?;
@@ -426,7 +436,9 @@ impl<D: Disk + Drop> Connections<D> {
     fn apply_marked(&mut self, writer: &mut Writer, write: Write<'_>) -> R<()>
         ensures cause { HasCauseIn true result self.old self.new }
         ensures reads { ReadsFiles self.old self.new }
-        ensures applies { (db : Database) → WhereSupported (written write.entry) (CanApply self.old writer.old db → Applies (written write.entry) self.old writer.old db result self.new writer.new) }
+        ensures applies { (db : Database)
+            → WhereSupported (written write.entry) (CanApply self.old writer.old db
+            → Applies (written write.entry) self.old writer.old db result self.new writer.new) }
         ensures marks { marks_of writer.new ≡ marks_of writer.old }
         ensures back { IfErr result (λ fault. now_of writer.new ≡ now_of writer.old) }
     {
@@ -448,7 +460,9 @@ impl<D: Disk + Drop> Connections<D> {
     fn apply(&mut self, writer: &mut Writer, write: Write<'_>) -> R<()>
         ensures cause { HasCauseIn true result self.old self.new }
         ensures reads { ReadsFiles self.old self.new }
-        ensures applies { (db : Database) → WhereSupported (written write.entry) (CanApply self.old writer.old db → Applies (written write.entry) self.old writer.old db result self.new writer.new) }
+        ensures applies { (db : Database)
+            → WhereSupported (written write.entry) (CanApply self.old writer.old db
+            → Applies (written write.entry) self.old writer.old db result self.new writer.new) }
         ensures marks { marks_of writer.new ≡ marks_of writer.old }
     {
         apply(self.alloc, &mut self.log, &mut self.catalog, writer, write)

@@ -156,7 +156,8 @@ pub fn settings<'a>(
     // The options are those that the arguments match.
     ensures given { IfOk result (λ options. AreSettings (value_in (map string_bytes arguments.entry.now)) options.page_size options.salts options.name.now) }
     // Of arguments that match the usage, only a `--salt` other than 16 hexadecimal digits is refused, or memory runs out.
-    ensures refused { takes walsql (map string_bytes arguments.entry.now) ≡ true → IfErr result (λ refused. IsRefusalOf (value_in (map string_bytes arguments.entry.now) (codes "salt")) refused) }
+    ensures refused { takes walsql (map string_bytes arguments.entry.now) ≡ true
+        → IfErr result (λ refused. IsRefusalOf (value_in (map string_bytes arguments.entry.now) (codes "salt")) refused) }
 {
     let matches = command(alloc)?.try_get_matches_from(arguments)?;
     settings_of(&matches)

@@ -66,7 +66,8 @@ impl<'a> Leaf<'a> {
     /// The greatest rowid.
     pub fn last(&self) -> Option<i64>
         ensures none { IsNone result → length self.now ≡ 0 }
-        ensures some { IfSome result (λ rowid. (1 ≤ length self.now) × ((d : Entry) → rowid ≡ (slice_index_or self.now (length self.now - 1) d).rowid)) }
+        ensures some { IfSome result (λ rowid. (1 ≤ length self.now)
+            × ((d : Entry) → rowid ≡ (slice_index_or self.now (length self.now - 1) d).rowid)) }
     {
         let len = self.node.len();
         if len == 0 {
@@ -121,11 +122,14 @@ pub fn next_rowid(last: Option<i64>) -> R<i64>
 /// Builds page `number` anew with more rows after its own; what stands before the tree's node stays. A page that is no leaf
 /// of rising rows is refused as by `Leaf::over`; rows that don't fit are `Unsupported(RowSize)`.
 pub fn with_rows(alloc: Global, page: &[u8], number: u32, more: &[Cell<'_>]) -> R<Vec<u8>>
-    ensures leaf { IfOk result (λ new. (rows : List Entry) → IsSingleLeaf page.now number rows → IsTableLeaf new.items (counting.start_of number) (rows ++ map entry_of more.now)) }
+    ensures leaf { IfOk result (λ new. (rows : List Entry) → IsSingleLeaf page.now number rows
+        → IsTableLeaf new.items (counting.start_of number) (rows ++ map entry_of more.now)) }
     ensures size { IfOk result (λ new. length new.items ≡ length page.now) }
     ensures front { IfOk result (λ new. take (counting.start_of number) new.items ≡ take (counting.start_of number) page.now) }
-    ensures refused { IfErr result (λ fault. (fault ≡ Fault.Memory) ⊎ (IsLeafRefusal number fault ⊎ IsTooFull page.now number (map entry_of more.now) fault)) }
-    ensures single_leaf { IfErr result (λ fault. (rows : List Entry) → IsSingleLeaf page.now number rows → (fault ≡ Fault.Memory) ⊎ IsTooFull page.now number (map entry_of more.now) fault) }
+    ensures refused { IfErr result (λ fault. (fault ≡ Fault.Memory)
+        ⊎ (IsLeafRefusal number fault ⊎ IsTooFull page.now number (map entry_of more.now) fault)) }
+    ensures single_leaf { IfErr result (λ fault. (rows : List Entry) → IsSingleLeaf page.now number rows
+        → (fault ≡ Fault.Memory) ⊎ IsTooFull page.now number (map entry_of more.now) fault) }
 {
     let start = start_of(number);
     if page.len() < start {
@@ -153,7 +157,8 @@ fn rebuilt(alloc: Global, page: &[u8], start: usize, cells: &[Cell<'_>]) -> R<Ve
     ensures leaf { IfOk result (λ new. IsTableLeaf new.items start (map entry_of cells.now)) }
     ensures size { IfOk result (λ new. length new.items ≡ length page.now) }
     ensures front { IfOk result (λ new. take start new.items ≡ take start page.now) }
-    ensures refused { IfErr result (λ fault. (fault ≡ Fault.Memory) ⊎ ((fault ≡ Fault.Unsupported Feature.RowSize) × (Fits (length page.now) start (map entry_of cells.now) → ⊥))) }
+    ensures refused { IfErr result (λ fault. (fault ≡ Fault.Memory)
+        ⊎ ((fault ≡ Fault.Unsupported Feature.RowSize) × (Fits (length page.now) start (map entry_of cells.now) → ⊥))) }
 {
     build(alloc, &page[..start], page.len(), cells)
 }
@@ -161,7 +166,8 @@ fn rebuilt(alloc: Global, page: &[u8], start: usize, cells: &[Cell<'_>]) -> R<Ve
 /// Builds the page of a table without rows, other than page 1. A page without room for a header is `Unsupported(RowSize)`.
 pub fn empty(alloc: Global, page_size: usize) -> R<Vec<u8>>
     ensures leaf { IfOk result (λ page. IsTableLeaf page.items 0 [] × (length page.items ≡ page_size)) }
-    ensures refused { IfErr result (λ fault. (fault ≡ Fault.Memory) ⊎ ((fault ≡ Fault.Unsupported Feature.RowSize) × (Fits page_size 0 [] → ⊥))) }
+    ensures refused { IfErr result (λ fault. (fault ≡ Fault.Memory)
+        ⊎ ((fault ≡ Fault.Unsupported Feature.RowSize) × (Fits page_size 0 [] → ⊥))) }
 {
     build(alloc, &[], page_size, &[])
 }

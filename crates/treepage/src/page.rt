@@ -68,7 +68,8 @@ impl<'a> TreePage<'a> {
 
     /// The bytes of a cell. (`Damaged(Cell, 0)` if the page ends before, or has no such cell.)
     pub fn cell(&self, index: usize) -> R<&'a [u8]>
-        ensures only { (node : Node) (is : IsNode self.now.bytes self.now.start node) → index < count_of node → Answers (λ cell. cell.now) result (slice_index_or is.cells index []) }
+        ensures only { (node : Node) (is : IsNode self.now.bytes self.now.start node) → index < count_of node
+            → Answers (λ cell. cell.now) result (slice_index_or is.cells index []) }
         ensures refused { IfErr result (λ fault. fault ≡ Fault.Damaged Damage.Cell 0) }
     {
         find_cell(self.bytes, self.start, self.header, index).ok_or(Fault::Damaged(Damage::Cell, 0))
@@ -76,7 +77,8 @@ impl<'a> TreePage<'a> {
 
     /// A row of a table's leaf. (`Damaged(Cell, 0)` as for `cell`.)
     pub fn row(&self, index: usize) -> R<Row<'a>>
-        ensures only { (rows : List (ℤ × LocalIs)) (d : ℤ × LocalIs) → IsNode self.now.bytes self.now.start (Rows rows) → index < length rows → Answers row_of result (slice_index_or rows index d) }
+        ensures only { (rows : List (ℤ × LocalIs)) (d : ℤ × LocalIs) → IsNode self.now.bytes self.now.start (Rows rows)
+            → index < length rows → Answers row_of result (slice_index_or rows index d) }
         ensures refused { IfErr result (λ fault. fault ≡ Fault.Damaged Damage.Cell 0) }
     {
         find_row(self.bytes, self.start, self.header, index).ok_or(Fault::Damaged(Damage::Cell, 0))
@@ -84,7 +86,8 @@ impl<'a> TreePage<'a> {
 
     /// A child of a table's interior page, with its key. (`Damaged(Cell, 0)` as for `cell`.)
     pub fn key(&self, index: usize) -> R<Key>
-        ensures only { (kids : List (ℕ × ℤ)) (last : ℕ) (d : ℕ × ℤ) → IsNode self.now.bytes self.now.start (Keys kids last) → index < length kids → Answers key_of result (slice_index_or kids index d) }
+        ensures only { (kids : List (ℕ × ℤ)) (last : ℕ) (d : ℕ × ℤ) → IsNode self.now.bytes self.now.start (Keys kids last)
+            → index < length kids → Answers key_of result (slice_index_or kids index d) }
         ensures refused { IfErr result (λ fault. fault ≡ Fault.Damaged Damage.Cell 0) }
     {
         find_key(self.bytes, self.start, self.header, index).ok_or(Fault::Damaged(Damage::Cell, 0))
@@ -92,7 +95,8 @@ impl<'a> TreePage<'a> {
 
     /// An entry of an index's leaf. (`Damaged(Cell, 0)` as for `cell`.)
     pub fn entry(&self, index: usize) -> R<Local<'a>>
-        ensures only { (entries : List LocalIs) (d : LocalIs) → IsNode self.now.bytes self.now.start (Entries entries) → index < length entries → Answers local_of result (slice_index_or entries index d) }
+        ensures only { (entries : List LocalIs) (d : LocalIs) → IsNode self.now.bytes self.now.start (Entries entries)
+            → index < length entries → Answers local_of result (slice_index_or entries index d) }
         ensures refused { IfErr result (λ fault. fault ≡ Fault.Damaged Damage.Cell 0) }
     {
         find_entry(self.bytes, self.start, self.header, index).ok_or(Fault::Damaged(
@@ -103,7 +107,9 @@ impl<'a> TreePage<'a> {
 
     /// A child of an index's interior page, with the entry after it. (`Damaged(Cell, 0)` as for `cell`.)
     pub fn between(&self, index: usize) -> R<Between<'a>>
-        ensures only { (kids : List (ℕ × LocalIs)) (last : ℕ) (d : ℕ × LocalIs) → IsNode self.now.bytes self.now.start (BetweenIs kids last) → index < length kids → Answers between_of result (slice_index_or kids index d) }
+        ensures only { (kids : List (ℕ × LocalIs)) (last : ℕ) (d : ℕ × LocalIs)
+            → IsNode self.now.bytes self.now.start (BetweenIs kids last) → index < length kids
+            → Answers between_of result (slice_index_or kids index d) }
         ensures refused { IfErr result (λ fault. fault ≡ Fault.Damaged Damage.Cell 0) }
     {
         find_between(self.bytes, self.start, self.header, index).ok_or(Fault::Damaged(
@@ -125,7 +131,8 @@ impl<'a> TreePage<'a> {
 
     /// The first place on a page of a table whose rowid, or key, isn't less; by halving. (`Damaged(Cell, 0)` as for `cell`.)
     pub fn place(&self, rowid: i64) -> R<usize>
-        ensures only { (node : Node) (numbers : List ℤ) → IsNode self.now.bytes self.now.start node → numbers_of node ≡ Some numbers → NeverFall numbers → result ≡ Ok (below rowid numbers) }
+        ensures only { (node : Node) (numbers : List ℤ) → IsNode self.now.bytes self.now.start node → numbers_of node ≡ Some numbers
+            → NeverFall numbers → result ≡ Ok (below rowid numbers) }
         ensures refused { IfErr result (λ fault. fault ≡ Fault.Damaged Damage.Cell 0) }
     {
         let mut low = 0;

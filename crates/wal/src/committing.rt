@@ -34,7 +34,8 @@ fn truncate_tail<D: Disk>(log: &mut D, end: u64, is_cut: bool) -> R<()>
     requires cut { IsTrue (D.tells log.old) → IsTrue is_cut → length (D.file log.old).content ≡ end }
     ensures cut { IsTrue (D.tells log.old) → OnOk result ((D.file log.new).content ≡ take end (D.file log.old).content) }
     ensures synced { IsTrue (D.tells log.old) → IsSynced (D.file log.old) → OnOk result (IsSynced (D.file log.new)) }
-    ensures crash { IsTrue (D.tells log.old) → IsSynced (D.file log.old) → Always (D.file log.old) (D.file log.new) (LeavesOneOf (D.file log.old).content (take end (D.file log.old).content)) }
+    ensures crash { IsTrue (D.tells log.old) → IsSynced (D.file log.old)
+        → Always (D.file log.old) (D.file log.new) (LeavesOneOf (D.file log.old).content (take end (D.file log.old).content)) }
     ensures left { LeavesContent D.tells D.file log.old log.new }
     ensures touches { TouchesDisk D.tells D.failures log.old log.new result }
 {
@@ -51,10 +52,12 @@ fn truncate_tail<D: Disk>(log: &mut D, end: u64, is_cut: bool) -> R<()>
 /// Writes a log's header and syncs it, if it has none.
 fn give_header<D: Disk>(log: &mut D, header: &LogHeader, is_begun: bool) -> R<()>
     requires { IsTrue (D.tells log.old) → IsFalse is_begun → length (D.file log.old).content ≡ 0 }
-    ensures given { IsTrue (D.tells log.old) → OnOk result ((D.file log.new).content ≡ front_at header.now is_begun (length (D.file log.old).content) (D.file log.old).content) }
+    ensures given { IsTrue (D.tells log.old)
+        → OnOk result ((D.file log.new).content ≡ front_at header.now is_begun (length (D.file log.old).content) (D.file log.old).content) }
     ensures fits { IsFalse is_begun → HeaderFits header.now }
     ensures synced { IsTrue (D.tells log.old) → IsSynced (D.file log.old) → OnOk result (IsSynced (D.file log.new)) }
-    ensures crash { IsTrue (D.tells log.old) → IsSynced (D.file log.old) → Always (D.file log.old) (D.file log.new) (LeavesHeader header.now is_begun (D.file log.old).content) }
+    ensures crash { IsTrue (D.tells log.old) → IsSynced (D.file log.old)
+        → Always (D.file log.old) (D.file log.new) (LeavesHeader header.now is_begun (D.file log.old).content) }
     ensures left { LeavesContent D.tells D.file log.old log.new }
     ensures touches { TouchesDisk D.tells D.failures log.old log.new result }
 {
@@ -70,7 +73,8 @@ fn append<D: Disk>(log: &mut D, at: u64, bytes: &[u8]) -> R<()>
     requires { IsTrue (D.tells log.old) → length (D.file log.old).content ≡ at }
     ensures written { IsTrue (D.tells log.old) → OnOk result ((D.file log.new).content ≡ (D.file log.old).content ++ bytes.now) }
     ensures synced { IsTrue (D.tells log.old) → OnOk result (IsSynced (D.file log.new)) }
-    ensures crash { IsTrue (D.tells log.old) → IsSynced (D.file log.old) → Always (D.file log.old) (D.file log.new) (AreEither (D.file log.old).content ((D.file log.old).content ++ bytes.now)) }
+    ensures crash { IsTrue (D.tells log.old) → IsSynced (D.file log.old)
+        → Always (D.file log.old) (D.file log.new) (AreEither (D.file log.old).content ((D.file log.old).content ++ bytes.now)) }
     ensures left { LeavesContent D.tells D.file log.old log.new }
     ensures touches { TouchesDisk D.tells D.failures log.old log.new result }
 {
@@ -90,10 +94,12 @@ fn write_out<D: Disk>(
     requires inside { IsTrue (D.tells log.old) → end ≤ length (D.file log.old).content }
     requires cut { IsTrue (D.tells log.old) → IsTrue is_cut → length (D.file log.old).content ≡ end }
     requires none { IsFalse is_begun → end ≡ 0 }
-    ensures written { IsTrue (D.tells log.old) → OnOk result ((D.file log.new).content ≡ front_at header is_begun end (D.file log.old).content ++ bytes.now) }
+    ensures written { IsTrue (D.tells log.old)
+        → OnOk result ((D.file log.new).content ≡ front_at header is_begun end (D.file log.old).content ++ bytes.now) }
     ensures fits { HeaderFits header }
     ensures synced { IsTrue (D.tells log.old) → OnOk result (IsSynced (D.file log.new)) }
-    ensures crash { IsTrue (D.tells log.old) → IsSynced (D.file log.old) → Always (D.file log.old) (D.file log.new) (LeavesWriting header is_begun end bytes.now (D.file log.old).content) }
+    ensures crash { IsTrue (D.tells log.old) → IsSynced (D.file log.old)
+        → Always (D.file log.old) (D.file log.new) (LeavesWriting header is_begun end bytes.now (D.file log.old).content) }
     ensures left { LeavesContent D.tells D.file log.old log.new }
     ensures touches { TouchesDisk D.tells D.failures log.old log.new result }
 {
@@ -111,10 +117,12 @@ impl<D: Disk> Log<D> {
     /// `Failed`; `Damaged(Page)` where there is no page, one's number isn't greater than that before it, or is past the size,
     /// or its length isn't that of a page; `Full` where frames, pages or bytes would pass the limits.)
     pub fn commit(&mut self, alloc: Global, pages: &[PageImage], size: u32) -> R<()>
-        ensures done { IsTrue (D.tells (log_of self.old)) → OnOk result (Commits (state_of self.old) (framed pages.now size) (D.file (log_of self.old)) (D.file (log_of self.new))) }
+        ensures done { IsTrue (D.tells (log_of self.old))
+            → OnOk result (Commits (state_of self.old) (framed pages.now size) (D.file (log_of self.old)) (D.file (log_of self.new))) }
         ensures known { IsStateAfter result (state_of self.old) (length pages.now) size (state_of self.new) }
         // A crash leaves what was committed, or that and these frames.
-        ensures crash { IsFalse (state_of self.old).has_failed → IsTrue (D.tells (log_of self.old)) → WritesCommit (state_of self.old) (framed pages.now size) (D.file (log_of self.old)) (D.file (log_of self.new)) }
+        ensures crash { IsFalse (state_of self.old).has_failed → IsTrue (D.tells (log_of self.old))
+            → WritesCommit (state_of self.old) (framed pages.now size) (D.file (log_of self.old)) (D.file (log_of self.new)) }
         ensures refused { IfErr result (λ fault. IsCommitRefusal (state_of self.old).has_failed (ArePages 0 size (state_of self.old).page_size pages.now × (0 < length pages.now)) (IsWithin (state_of self.old) (length pages.now) size) (log_of self.old) (log_of self.new) (D.failures (log_of self.old)) (D.failures (log_of self.new)) fault) }
         ensures same { KeepsDisks D.tells D.failures (db_of self.old) (db_of self.new) (log_of self.old) (log_of self.new) }
         ensures cause { HasCause true result self.old self.new }
@@ -146,11 +154,14 @@ impl<D: Disk> Log<D> {
     /// Cuts the log after its committed frames and syncs it, where it is longer. The first commit does it where nothing else has.
     /// (`Io`, after which each call answers `Failed`; `Failed`.)
     pub fn cut_tail(&mut self) -> R<()>
-        ensures done { IsTrue (D.tells (log_of self.old)) → OnOk result (IsCut (state_of self.old) (D.file (log_of self.old)) (D.file (log_of self.new))) }
+        ensures done { IsTrue (D.tells (log_of self.old))
+            → OnOk result (IsCut (state_of self.old) (D.file (log_of self.old)) (D.file (log_of self.new))) }
         ensures known { IsStateCut result (state_of self.old) (state_of self.new) }
-        ensures crash { IsFalse (state_of self.old).has_failed → IsTrue (D.tells (log_of self.old)) → Always (D.file (log_of self.old)) (D.file (log_of self.new))
+        ensures crash { IsFalse (state_of self.old).has_failed → IsTrue (D.tells (log_of self.old))
+            → Always (D.file (log_of self.old)) (D.file (log_of self.new))
             (LeavesCommits (state_of self.old).page_size (commits_of (state_of self.old) (D.file (log_of self.old)).content)) }
-        ensures left { IsFalse (state_of self.old).has_failed → IsTrue (D.tells (log_of self.old)) → IsContentLeft (D.file (log_of self.new)) }
+        ensures left { IsFalse (state_of self.old).has_failed → IsTrue (D.tells (log_of self.old))
+            → IsContentLeft (D.file (log_of self.new)) }
         ensures refused { MatchResult result (λ _. D.failures (log_of self.new) ≡ D.failures (log_of self.old)) (λ fault. IsCutRefusal (state_of self.old).has_failed (log_of self.old) (log_of self.new) (D.failures (log_of self.old)) (D.failures (log_of self.new)) fault) }
         ensures same { KeepsDisks D.tells D.failures (db_of self.old) (db_of self.new) (log_of self.old) (log_of self.new) }
     {

@@ -81,9 +81,11 @@ impl<D: Disk> Log<D> {
     /// (`Io`, `Failed` after it; `Damaged(Size)` where the number isn't one of 1 to the size, neither file has the page, or `out` has
     /// another length than a page.)
     pub fn page(&mut self, snapshot: Snapshot, number: u32, out: &mut [u8]) -> R<()>
-        ensures read { IsTrue (D.tells (db_of self.old)) → IsTrue (D.tells (log_of self.old)) → seen_by snapshot ≤ (state_of self.old).frames
+        ensures read { IsTrue (D.tells (db_of self.old)) → IsTrue (D.tells (log_of self.old))
+            → seen_by snapshot ≤ (state_of self.old).frames
             → OnOk result (IsPage (D.file (db_of self.old)).content (D.file (log_of self.old)).content (state_of self.old).page_size (header_of (state_of self.old)) (seen_by snapshot) number out.new) }
-        ensures kept { (state_of self.new ≡ state_of self.old) × KeepsFile D.tells D.file (db_of self.old) (db_of self.new) × KeepsFile D.tells D.file (log_of self.old) (log_of self.new) }
+        ensures kept { (state_of self.new ≡ state_of self.old) × KeepsFile D.tells D.file (db_of self.old) (db_of self.new)
+            × KeepsFile D.tells D.file (log_of self.old) (log_of self.new) }
         ensures refused { IfErr result (IsPageRefusal (state_of self.old).has_failed number
             (IsTrue (D.tells (db_of self.old)) × IsTrue (D.tells (log_of self.old)) × (seen_by snapshot ≤ (state_of self.old).frames)
             × IsThere (D.file (db_of self.old)).content (D.file (log_of self.old)).content (state_of self.old).page_size (header_of (state_of self.old)) (seen_by snapshot) (size_of snapshot) number (length out.old))) }

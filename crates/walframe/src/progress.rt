@@ -82,7 +82,8 @@ impl Progress {
     pub fn accept(&mut self, frame: FrameHeader, sum: Sum, size: u64) -> R<()>
         requires { self.old.at + size < 2 ^ 64 }
         ensures accepted { OnOk result (Accepts frame sum size self.old self.new) }
-        ensures refused { IfErr result (λ fault. (fault ≡ Memory) ⊎ (fault ≡ Unsupported Limit) × (1000000 ≤ length self.old.frames.items) × (frame.size ≡ 0 → ⊥)) }
+        ensures refused { IfErr result (λ fault. (fault ≡ Memory) ⊎ (fault ≡ Unsupported Limit)
+            × (1000000 ≤ length self.old.frames.items) × (frame.size ≡ 0 → ⊥)) }
     {
         self.frames.push(frame)?;
         self.sum = sum;

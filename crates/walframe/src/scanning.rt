@@ -19,7 +19,8 @@ fn read_header<D: Disk>(disk: &mut D, len: u64) -> R<Option<LogHeader>>
     ensures found { IsTrue (D.tells disk.old) → IfOk result (λ header. header_in (D.file disk.old).content ≡ Ok header) }
     ensures some { IfOk result (λ header. IsSome header → 32 ≤ len) }
     ensures kept { KeepsFile D.tells D.file disk.old disk.new }
-    ensures refused { IfErr result (λ fault. IsRefusal (IsTrue (D.tells disk.old) → header_in (D.file disk.old).content ≡ Err fault) ⊥ fault (D.failures disk.old) (D.failures disk.new)) }
+    ensures refused { IfErr result (λ fault. IsRefusal (IsTrue (D.tells disk.old)
+        → header_in (D.file disk.old).content ≡ Err fault) ⊥ fault (D.failures disk.old) (D.failures disk.new)) }
     ensures counts { D.failures disk.old ≤ D.failures disk.new }
     ensures none_failed { OnOk result (D.failures disk.new ≡ D.failures disk.old) }
 {
@@ -38,7 +39,8 @@ fn read_accepted<D: Disk>(alloc: Global, disk: &mut D, header: &LogHeader, len: 
     ensures found { IsTrue (D.tells disk.old) → IfOk result (λ progress. IsReadWhole header.now (D.file disk.old).content progress) }
     ensures measured { IfOk result (λ progress. IsMeasured header.now progress) }
     ensures kept { KeepsFile D.tells D.file disk.old disk.new }
-    ensures refused { IfErr result (λ fault. IsRefusal ⊥ (IsTrue (D.tells disk.old) → HasTooMany header.now (D.file disk.old).content) fault (D.failures disk.old) (D.failures disk.new)) }
+    ensures refused { IfErr result (λ fault. IsRefusal ⊥ (IsTrue (D.tells disk.old)
+        → HasTooMany header.now (D.file disk.old).content) fault (D.failures disk.old) (D.failures disk.new)) }
     ensures counts { D.failures disk.old ≤ D.failures disk.new }
     ensures none_failed { OnOk result (D.failures disk.new ≡ D.failures disk.old) }
 {
@@ -66,7 +68,8 @@ fn read_frames<D: Disk>(alloc: Global, disk: &mut D, header: &LogHeader, len: u6
     ensures found { IsTrue (D.tells disk.old) → IfOk result (λ scan. IsScanOf header.now (D.file disk.old).content scan) }
     ensures header { IfOk result (λ scan. (scan.header ≡ Some header.now) × (length scan.frames.items ≤ 1000000)) }
     ensures kept { KeepsFile D.tells D.file disk.old disk.new }
-    ensures refused { IfErr result (λ fault. IsRefusal ⊥ (IsTrue (D.tells disk.old) → HasTooMany header.now (D.file disk.old).content) fault (D.failures disk.old) (D.failures disk.new)) }
+    ensures refused { IfErr result (λ fault. IsRefusal ⊥ (IsTrue (D.tells disk.old)
+        → HasTooMany header.now (D.file disk.old).content) fault (D.failures disk.old) (D.failures disk.new)) }
     ensures counts { D.failures disk.old ≤ D.failures disk.new }
     ensures none_failed { OnOk result (D.failures disk.new ≡ D.failures disk.old) }
 {
@@ -80,7 +83,9 @@ pub fn scan<D: Disk>(alloc: Global, disk: &mut D) -> R<Scan>
     ensures found { IsTrue (D.tells disk.old) → IfOk result (λ scan. IsScan (D.file disk.old).content scan) }
     ensures few { IfOk result (λ scan. length scan.frames.items ≤ 1000000) }
     ensures kept { KeepsFile D.tells D.file disk.old disk.new }
-    ensures refused { IfErr result (λ fault. IsRefusal (IsTrue (D.tells disk.old) → header_in (D.file disk.old).content ≡ Err fault) (IsTrue (D.tells disk.old) → IsTooLong (D.file disk.old).content) fault (D.failures disk.old) (D.failures disk.new)) }
+    ensures refused { IfErr result (λ fault. IsRefusal (IsTrue (D.tells disk.old)
+        → header_in (D.file disk.old).content ≡ Err fault) (IsTrue (D.tells disk.old)
+        → IsTooLong (D.file disk.old).content) fault (D.failures disk.old) (D.failures disk.new)) }
     ensures counts { D.failures disk.old ≤ D.failures disk.new }
     ensures none_failed { OnOk result (D.failures disk.new ≡ D.failures disk.old) }
 {
