@@ -27,3 +27,9 @@ mod Planting
 mod Passing
 pub mod Orders
 pub mod KeptTrees
+pub mod StepsDown
+pub mod Stayed
+pub mod WaysDown
+pub mod Coming
+pub mod LeafRows
+pub mod FoundRows

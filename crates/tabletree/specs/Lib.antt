@@ -6,3 +6,4 @@ pub mod Rows
 pub mod SingleLeaf
 pub mod Stepping
 pub mod Tree
+pub mod Ways

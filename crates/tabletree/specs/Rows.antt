@@ -1,5 +1,5 @@
 -- Rows by rising rowid, as a map.
-use Rattle.std.specs.Prelude.{ℕ, ℤ, List, [], ◌∷◌, Option, Some, None, int_lt, if◌then◌else◌}
+use Rattle.std.specs.Prelude.{ℕ, ℤ, List, [], ◌∷◌, Option, Some, None, int_lt, filter, not, if◌then◌else◌}
 use Rattle.std.specs.Ordering.{int_eq}
 use Rattle.page.specs.Leaf.{Entry}
 
@@ -25,3 +25,8 @@ abbrev pub last_rowid : List Entry → Option ℤ
 last_rowid [] = None
 last_rowid (row ∷ []) = Some row.rowid
 last_rowid (row ∷ next ∷ rows) = last_rowid (next ∷ rows)
+
+-- the rows from a rowid on, or none
+abbrev pub rows_from : Option ℤ → List Entry → List Entry
+rows_from None rows = []
+rows_from (Some rowid) rows = filter (λ row. not (int_lt row.rowid rowid)) rows

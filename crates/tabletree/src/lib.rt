@@ -3,11 +3,15 @@
 #![tactic(auto)]
 
 mod descending;
+mod finding;
 mod growing;
 mod inserting;
 mod laws;
 mod leaf;
+mod reading;
+mod way;
 
+pub use finding::get;
 pub use inserting::insert;
 pub use laws::table_trees_stay;
 pub use leaf::{

@@ -1,0 +1,26 @@
+//! Finding a row of a table's tree.
+
+ghost use Rattle.std.specs.Prelude.{◌≡◌, IsTrue};
+ghost use Rattle.pages.specs.Calls.{Stays};
+ghost use Rattle.tabletree.specs.Calls.{FindsRow};
+
+use crate::reading::{is_row_at, read_row};
+use crate::way::find_leaf;
+use pages::Pages;
+use sqlval::{Fault, R};
+
+/// Puts the payload of the row of this rowid behind what `out` has, and answers whether there is one. (`Memory`, `Io`;
+/// `Damaged(Depth, root)` if a way has more than 20 pages; `Damaged` for pages that are none of a table's tree; what `load` and
+/// `read_payload` refuse.)
+pub fn get<P: Pages>(pages: &mut P, root: u32, rowid: i64, out: &mut Vec<u8>) -> R<bool>
+    ensures found { IsTrue (P.Pages.tells (P.Pages.below pages.old))
+        → FindsRow (P.Pages.map pages.old) (P.Pages.limits (P.Pages.below pages.old)).page root rowid out.old.items out.new.items result }
+    ensures stays { Stays P.Pages.below P.Pages.map P.Pages.count P.Pages.failures result pages.old pages.new }
+{
+    let end = find_leaf(pages, root, rowid)?;
+    if !is_row_at(pages, end.way.page, end.place, rowid)? {
+        return Ok(false);
+    }
+    read_row(pages, end.way.page, end.place, out)?;
+    Ok(true)
+}

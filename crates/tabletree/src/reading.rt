@@ -1,0 +1,76 @@
+//! Reading the rows of a leaf.
+
+ghost use Rattle.std.specs.Prelude.{◌≡◌, ◌<◌, ℤ, IsTrue, IfErr, IsOkAnd, List, length, map, slice_index_or};
+ghost use Rattle.sqlval.specs.Faults.{IsNotDiskFault};
+ghost use Rattle.pages.specs.Calls.{Stays};
+ghost use Rattle.pages.specs.Counting as counting;
+ghost use Rattle.treepage.specs.Node.{Local as LocalIs, Rows, IsNode};
+ghost use Rattle.treepage.specs.Reading.{Answers, row_of};
+ghost use Rattle.tabletree.specs.Ways.{IsRowAt, FindsRowid, ReadsRow};
+
+use crate::leaf::{at_page, start_of};
+use overflow::read_payload;
+use pages::Pages;
+use sqlval::R;
+use treepage::{Row, TreePage};
+
+/// The row at a place of a leaf of these bytes. (`Damaged` for one that is no page of a tree, or has no such row.)
+fn row_in(bytes: &[u8], leaf: u32, place: usize) -> R<Row<'_>>
+    ensures only { (rows : List (ℤ × LocalIs)) (d : ℤ × LocalIs) → IsNode bytes.now (counting.start_of leaf) (Rows rows)
+        → place < length rows
+        → Answers row_of result (slice_index_or rows place d) }
+    ensures not_disk { IfErr result IsNotDiskFault }
+{
+    TreePage::over(bytes, start_of(leaf))?.row(place)
+}
+
+/// Whether the row at a place of a leaf of these bytes has this rowid. (`Damaged` for one that is no page of a tree.)
+fn is_row_in(bytes: &[u8], leaf: u32, place: usize, rowid: i64) -> R<bool>
+    ensures only { (rows : List (ℤ × LocalIs)) → IsNode bytes.now (counting.start_of leaf) (Rows rows)
+        → IsOkAnd result (IsRowAt (map (λ row. row.0) rows) place rowid) }
+    ensures not_disk { IfErr result IsNotDiskFault }
+{
+    let page = TreePage::over(bytes, start_of(leaf))?;
+    if place >= page.len() {
+        return Ok(false);
+    }
+    Ok(page.row(place)?.rowid == rowid)
+}
+
+/// Whether the row at a place of a leaf has this rowid. (What `load` refuses; `Damaged` for one that is no page of a tree.)
+pub fn is_row_at<P: Pages>(pages: &mut P, leaf: u32, place: usize, rowid: i64) -> R<bool>
+    ensures found { IsTrue (P.Pages.tells (P.Pages.below pages.old))
+        → FindsRowid (P.Pages.map pages.old) (P.Pages.limits (P.Pages.below pages.old)).page leaf place rowid result }
+    ensures stays { Stays P.Pages.below P.Pages.map P.Pages.count P.Pages.failures result pages.old pages.new }
+{
+    pages.load(leaf)?;
+    match is_row_in(pages.loaded(), leaf, place, rowid) {
+        Ok(there) => Ok(there),
+        Err(fault) => Err(at_page(fault, leaf)),
+    }
+}
+
+/// Puts the payload of the row at a place of a leaf behind what `out` has, and answers the rowid. (What `load` and
+/// `read_payload` refuse; `Damaged` for a page that has no such row.)
+pub fn read_row<P: Pages>(pages: &mut P, leaf: u32, place: usize, out: &mut Vec<u8>) -> R<i64>
+    ensures read { IsTrue (P.Pages.tells (P.Pages.below pages.old))
+        → ReadsRow (P.Pages.map pages.old) (P.Pages.limits (P.Pages.below pages.old)).page leaf place out.old.items out.new.items result }
+    ensures stays { Stays P.Pages.below P.Pages.map P.Pages.count P.Pages.failures result pages.old pages.new }
+{
+    pages.load(leaf)?;
+    let most = pages.page_size().saturating_sub(35);
+    let row = match row_in(pages.loaded(), leaf, place) {
+        Ok(row) => row,
+        Err(fault) => return Err(at_page(fault, leaf)),
+    };
+    let rowid = row.rowid;
+    let size = row.payload.size;
+    if size <= most as u64 {
+        out.extend_from_slice(row.payload.bytes)?;
+        return Ok(rowid);
+    }
+    // The chain is read through the same pages, which lend these bytes.
+    let held = row.payload.bytes.to_vec(*out.allocator())?;
+    read_payload(pages, held.as_slice(), size, most, out)?;
+    Ok(rowid)
+}
