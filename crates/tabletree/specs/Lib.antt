@@ -3,6 +3,7 @@ pub mod Fanning
 pub mod Growing
 pub mod Laws
 pub mod Rows
+pub mod Scanning
 pub mod SingleLeaf
 pub mod Stepping
 pub mod Tree

@@ -9,6 +9,7 @@ mod inserting;
 mod laws;
 mod leaf;
 mod reading;
+mod scanning;
 mod way;
 
 pub use finding::get;
@@ -18,3 +19,4 @@ pub use leaf::{
     Leaf, a_tree_of_leaves_is_one_page, empty, front_of_page_holds_no_row, next_rowid,
     single_page_is_a_tree, with_rows,
 };
+pub use scanning::{Batch, BatchEntry, BatchRow, Cursor};
