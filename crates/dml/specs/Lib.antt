@@ -5,3 +5,4 @@ pub mod Constraints
 pub mod Inserting
 pub mod NewRows
 pub mod RowChanges
+pub mod Trees

@@ -4,6 +4,8 @@
 
 mod binding;
 mod inserting;
+mod putting;
 
 pub use binding::insertions_are_bound_as_meant;
 pub use inserting::{insert, insert_adds_its_rows, next_rowid_is_greater};
+pub use putting::put_rows;

@@ -2,3 +2,4 @@ pub mod Answers
 pub mod Held
 pub mod Meaning
 pub mod Rows
+pub mod Trees

@@ -4,6 +4,7 @@
 mod checking;
 mod plan;
 mod rows;
+mod tree;
 
 ghost use Rattle.rowprog.specs.Held.{OneRows, RowsInOrder};
 ghost use Rattle.rowprog.specs.Meaning.{AnswersQuery};
@@ -11,6 +12,7 @@ ghost use Rattle.rowprog.specs.Meaning.{AnswersQuery};
 pub use checking::check_rows;
 pub use plan::{Plan, Scan, plan_of};
 pub use rows::{Rows, single_row, table_rows};
+pub use tree::tree_rows;
 
 /// What a bound query's outputs give of the rows of its source is the query's answer.
 pub fn outputs_answer_the_query()
