@@ -1,0 +1,87 @@
+-- What a statement's change makes of the pages that hold a database (SQL As Understood By SQLite, "CREATE TABLE", "INSERT").
+use Rattle.std.specs.Prelude.{◌≡◌, ◌⊎◌, ◌≤◌, ◌+◌, ◌-◌, ◌^◌, ⊤, ℕ, pos, List, [], length, Some, Result, MatchResult}
+use Rattle.sqlval.specs.Refusals.{refusal_of}
+use Rattle.sqlval.specs.declared.fault.Fault.{Fault}
+use Rattle.sqlval.specs.declared.fault.Fault.TheVariants as fault
+use Rattle.sqlval.specs.declared.fault.Damage.TheVariants.{Depth}
+use Rattle.sqlval.specs.declared.fault.Feature.TheVariants.{RowSize}
+use Rattle.syntax.specs.declared.change.Change.{Change}
+use Rattle.syntax.specs.declared.change.Change.TheVariants as change
+use Rattle.syntax.specs.declared.change.InsertSource.{InsertSource}
+use Rattle.syntax.specs.declared.change.InsertSource.TheVariants as source
+use Rattle.syntax.specs.declared.statement.Statement.{Statement}
+use Rattle.syntax.specs.declared.statement.Statement.TheVariants as statement
+use Rattle.page.specs.Leaf.{Entry}
+use Rattle.pages.specs.Calls.{IsOutsideOrFull}
+use Rattle.pages.specs.Map.{PageMap}
+use Rattle.tabletree.specs.Rows.{last_rowid}
+use Rattle.tabletree.specs.Tree.{IsTableTree}
+use Rattle.catalog.specs.Database.{ATable, Database, Name, object}
+use Rattle.catalog.specs.Listed.{plain_table}
+use Rattle.catalog.specs.declared.tables.Table.{Table}
+use Rattle.rowprog.specs.Rows.{TableRow}
+use Rattle.dml.specs.Inserting.{AllStorable}
+use Rattle.storage.specs.Stored.{Stores}
+use Rattle.storage.specs.Works.{Reaches, RefusesWith, change_made}
+
+-- the pages hold a database that the statement makes of this one, with these tables
+pub record IsMade (s : Statement) (db : Database) (new : PageMap) (size : ℕ) (tables : List Table) : Type 0 where
+  pub made : Database
+  pub reaches : Reaches (change_made s db) made
+  pub stored : Stores new size tables made
+
+-- ---- what can't be stored
+
+-- a table of the database has a row that no record can hold
+pub record HasLongRow (db : Database) : Type 0 where
+  pub name : Name
+  pub table : Table
+  pub rows : List TableRow
+  pub is : object db name ≡ Some (ATable (plain_table table rows))
+  pub long : AllStorable rows → ⊥
+
+-- the schema table has a row of the greatest rowid
+pub record IsSchemaFull (map : PageMap) (size : ℕ) : Type 0 where
+  pub rows : List Entry
+  pub used : List ℕ
+  pub tree : IsTableTree map size 1 rows used
+  pub last : last_rowid rows ≡ Some (pos (2 ^ 63 - 1))
+
+-- the statement's database can't be stored: a row is too long for a record, or the schema table has no rowid left
+pub record IsTooMuch (s : Statement) (map : PageMap) (size : ℕ) (db : Database) (f : Fault) : Type 0 where
+  pub is : f ≡ fault.Unsupported RowSize
+  pub made : Database
+  pub reaches : Reaches (change_made s db) made
+  pub why : HasLongRow made ⊎ IsSchemaFull map size
+
+abbrev rows_given : InsertSource → ℕ
+rows_given (source.Rows rows) = length rows
+rows_given (source.Query q) = 0
+
+abbrev rows_by : Change → ℕ
+rows_by (change.Insert i) = rows_given i.source
+rows_by _ = 0
+
+-- how many rows a statement adds to a tree
+abbrev pub rows_more : Statement → ℕ
+rows_more (statement.Change c) = rows_by c
+rows_more _ = 1
+
+-- a tree that gets so many rows may come to need a way of more than 20 pages
+pub record MayGrowDeep (s : Statement) (map : PageMap) (size : ℕ) (f : Fault) : Type 0 where
+  pub root : ℕ
+  pub is : f ≡ fault.Damaged Depth root
+  pub rows : List Entry
+  pub used : List ℕ
+  pub tree : IsTableTree map size root rows used
+  pub deep : 19 ≤ tree.depth + rows_more s
+
+-- Why a statement makes nothing: out of memory or of pages, by a disk, as its work is refused, or because what it makes can't be stored.
+abbrev pub IsChangeRefusal : Statement → PageMap → ℕ → Database → Fault → Type 0
+IsChangeRefusal s map size db f =
+    IsOutsideOrFull f ⊎ (RefusesWith (change_made s db) (refusal_of f) ⊎ (IsTooMuch s map size db f ⊎ MayGrowDeep s map size f))
+
+-- what a statement's change comes to, where the pages hold a database of the tables
+abbrev pub MakesChange : Statement → PageMap → PageMap → ℕ → List Table → List Table → Result ⊤ Fault → Type 0
+MakesChange s old new size before after result = (db : Database) → Stores old size before db
+    → MatchResult result (λ done. IsMade s db new size after) (IsChangeRefusal s old size db)

@@ -1,0 +1,6 @@
+pub mod Changing
+pub mod Forms
+pub mod Reading
+pub mod Schema
+pub mod Stored
+pub mod Works

@@ -1,0 +1,37 @@
+//! INSERT.
+
+ghost use Rattle.std.specs.Prelude.{◌≡◌, true, IsTrue};
+ghost use Rattle.pages.specs.Calls.{Causes};
+ghost use Rattle.syntax.specs.declared.change.Change.TheVariants as change;
+ghost use Rattle.syntax.specs.declared.statement.Statement.TheVariants as statement;
+ghost use Rattle.catalog.specs.Listed.{tables_of};
+ghost use Rattle.storage.specs.Changing.{MakesChange};
+ghost use Rattle.storage.specs.Forms.{is_source_supported};
+
+use bind::bind_insert;
+use catalog::{Catalog, named_databases_are_one, other_rows_are_listed};
+use dml::put_rows;
+use filecheck::{table_trees_stand, trees_give_way};
+use pages::WritePages;
+use sqlval::R;
+use std::alloc::Global;
+use syntax::Insert;
+use trigger::only_tables_set_nothing_off;
+
+/// Makes the rows of an INSERT. (What `bind_insert` and `put_rows` refuse; then some pages may have changed.)
+pub fn insert<P: WritePages>(alloc: Global, pages: &mut P, catalog: &Catalog, insert: &Insert) -> R<()>
+    ensures made { IsTrue (P.Pages.tells (P.Pages.below pages.old)) → is_source_supported insert.now.source ≡ true
+        → MakesChange (statement.Change (change.Insert insert.now)) (P.Pages.map pages.old) (P.Pages.map pages.new)
+        (P.Pages.limits (P.Pages.below pages.old)).page (tables_of catalog.now) (tables_of catalog.now) result }
+    ensures kept { P.Pages.below pages.new ≡ P.Pages.below pages.old }
+    ensures causes { Causes result (P.Pages.failures pages.old) (P.Pages.failures pages.new)
+        (P.Pages.count pages.new ≡ (P.Pages.limits (P.Pages.below pages.new)).most) }
+{
+    other_rows_are_listed();
+    named_databases_are_one();
+    only_tables_set_nothing_off();
+    trees_give_way();
+    table_trees_stand();
+    let bound = bind_insert(alloc, insert, catalog)?;
+    put_rows(alloc, pages, bound)
+}
