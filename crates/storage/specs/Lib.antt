@@ -1,5 +1,6 @@
 pub mod Changing
 pub mod Forms
+pub mod Laws
 pub mod Reading
 pub mod Schema
 pub mod Stored

@@ -5,6 +5,23 @@ mod creating;
 mod inserting;
 mod reading;
 
+ghost use Rattle.storage.specs.Laws.{SupportedIsPlain, ReadsAsBound, RefusesAsRead};
+
 pub use creating::create_table;
 pub use inserting::insert;
 pub use reading::read;
+
+/// A supported query has the form that `bind_query` binds.
+pub fn supported_queries_are_plain()
+    ensures { SupportedIsPlain }
+{}
+
+/// A query whose outputs are bound comes to what they give of its source's rows.
+pub fn bound_queries_read_as_defined()
+    ensures { ReadsAsBound }
+{}
+
+/// A supported query is refused only as reading it is, or if out of memory.
+pub fn supported_queries_are_refused_as_read()
+    ensures { RefusesAsRead }
+{}
