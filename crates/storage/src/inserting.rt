@@ -19,7 +19,12 @@ use syntax::Insert;
 use trigger::only_tables_set_nothing_off;
 
 /// Makes the rows of an INSERT. (What `bind_insert` and `put_rows` refuse; then some pages may have changed.)
-pub fn insert<P: WritePages>(alloc: Global, pages: &mut P, catalog: &Catalog, insert: &Insert) -> R<()>
+pub fn insert<P: WritePages>(
+    alloc: Global,
+    pages: &mut P,
+    catalog: &Catalog,
+    insert: &Insert,
+) -> R<()>
     ensures made { IsTrue (P.Pages.tells (P.Pages.below pages.old)) → is_source_supported insert.now.source ≡ true
         → MakesChange (statement.Change (change.Insert insert.now)) (P.Pages.map pages.old) (P.Pages.map pages.new)
         (P.Pages.limits (P.Pages.below pages.old)).page (tables_of catalog.now) (tables_of catalog.now) result }

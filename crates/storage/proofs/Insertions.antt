@@ -1,0 +1,300 @@
+-- What an INSERT comes to on the database that pages hold.
+use Rattle.std.proofs.Common.{◌≡◌, ◌⊎◌, ◌≤◌, ◌+◌, inl, inr, refl, sym, ap, subst, ◌∙◌, ℕ, zero, suc, Bool, true, false, List, [], ◌∷◌, ◌++◌, length, map, slice_index_or, Option, Some, None, Result, Ok, Err, ◌==◌, cond, arith}
+use Rattle.std.specs.Prelude.{⊤, All, Contains, IsErrAnd, MatchResult, Vec, option_map}
+use Rattle.std.specs.List.{AllByRecursion, find, position_from, range_with_len}
+use Rattle.std.specs.Str.{bytes_eq}
+use Rattle.std.specs.declared.alloc.Global.{Global}
+use Rattle.std.proofs.lemmas.Bool.{cases_eq}
+use Rattle.std.proofs.lemmas.Bool.Decides.{nat_tests}
+use Rattle.std.proofs.lemmas.List.{append-nil, get_or-append-add, get_or-map, length-append, length-map}
+use Rattle.std.proofs.lemmas.List.FromFn.{length-range_with_len}
+use Rattle.sqlval.specs.Names.{folded, is_same_name}
+use Rattle.sqlval.specs.Refusals as refusal
+use Rattle.sqlval.specs.Refusals.{Answer, ◌then◌, NoSuch, Refusal, refusal_of}
+use Rattle.sqlval.specs.declared.fault.Fault.{Fault}
+use Rattle.sqlval.specs.declared.fault.Fault.TheVariants as fault
+use Rattle.sqlval.specs.declared.value.Value.{Value}
+use Rattle.sqlval.specs.declared.value.Value.TheVariants.{Null}
+use Rattle.syntax.specs.declared.change.Change.TheVariants as kind
+use Rattle.syntax.specs.declared.change.Insert.{Insert}
+use Rattle.syntax.specs.declared.change.InsertSource.{InsertSource}
+use Rattle.syntax.specs.declared.change.InsertSource.TheVariants as source
+use Rattle.syntax.specs.declared.statement.Statement.{Statement}
+use Rattle.syntax.specs.declared.statement.Statement.TheVariants as statement
+use Rattle.pages.specs.Map.{PageMap}
+use Rattle.tabletree.specs.Calls.{Stands}
+use Rattle.filecheck.specs.Layout.{ReplacesTrees, TreesStand}
+use Rattle.catalog.specs.Database as database
+use Rattle.catalog.specs.Database.{ATable, Database, Name, Object, with_object}
+use Rattle.catalog.specs.Laws.{KeepsOnlyTables, ListsOtherRows}
+use Rattle.catalog.specs.Listed.{Lists, has_only_tables, plain_table, table_named}
+use Rattle.catalog.specs.Named.{IsNamed, KeepsNamed}
+use Rattle.catalog.specs.Rows.{are_rows}
+use Rattle.catalog.specs.declared.tables.Column.{Column}
+use Rattle.catalog.specs.declared.tables.Table.{Table}
+use Rattle.bind.specs.Bound.{AreGiven, EachOf, count_wanted}
+use Rattle.bind.specs.Checked.{Checked, Meant, faults}
+use Rattle.bind.specs.Inserts.{AreColumns, IsInsertFault, is_of_literals, places_in}
+use Rattle.bind.proofs.ColumnNames.{folded_twice}
+use Rattle.bind.proofs.KnownTables.{known_listed}
+use Rattle.rowprog.specs.Rows.{TableRow}
+use Rattle.dml.specs.Agreement.{IsSetFor}
+use Rattle.dml.specs.Binding.{IsGivenAs, IsRealRefused, row_with}
+use Rattle.dml.specs.Changes.{Resolved, no_outer, resolve_change}
+use Rattle.dml.specs.Constraints.{table_of}
+use Rattle.dml.specs.Inserting.{AllStorable, IsRefusedAs, given_at, last_rowid, rows_added}
+use Rattle.record.specs.Writing.{AreStorable}
+use Rattle.dml.specs.Trees.{ArePutIn, IsPutRefusal, PutsRows}
+use Rattle.dml.proofs.GivenAsMeant.{gives, refuses}
+use Rattle.trigger.specs.Binding.{IsFault}
+use Rattle.trigger.specs.Effects.{change}
+use Rattle.trigger.specs.Laws.{BindsAlone, InsertAddsRows, InsertIsRefused, InsertOfNoneStays}
+use Rattle.storage.specs.Changing.{HasLongRow, IsChangeRefusal, IsMade, MakesChange, rows_more}
+use Rattle.storage.specs.Forms.{is_source_supported}
+use Rattle.storage.specs.Stored.{Stores}
+use Rattle.storage.specs.Works.{Reaches, RefusesWith, change_made, of_answer}
+use Rattle.storage.proofs.Owners.{HasOwner, owner_of}
+use Rattle.storage.proofs.PutRows.{named_as, rows_elsewhere, rows_here, rows_with, stands, stores_put}
+use Rattle.storage.proofs.Roots.{own_pages}
+
+-- what follows for every listed database, and for the trees of its file
+pub record Laws : Type 0 where
+  pub lists : ListsOtherRows
+  pub tables : KeepsOnlyTables
+  pub named : KeepsNamed
+  pub binds : BindsAlone
+  pub refused : InsertIsRefused
+  pub inserts : InsertAddsRows
+  pub none : InsertOfNoneStays
+  pub stand : TreesStand
+  pub give_way : ReplacesTrees
+
+abbrev inserting : Insert → Statement
+inserting i = statement.Change (kind.Insert i)
+
+abbrev table_in : Option Object → Answer database.Table
+table_in o = elim o [ Some (ATable t) ↦ Ok t | _ ↦ Err NoSuch ]
+
+named_folded : (tables : List Table) (name : Name) (t : Table) → table_named name tables ≡ Some t → table_named (folded name) tables ≡ Some t
+named_folded tables name t named = named_as tables (folded name) name (folded_twice name) ∙ named
+
+-- a listed table of the database
+pub listed_table : (rows_at : ℕ → List TableRow) (tables : List Table) (db : Database) (name : Name) (t : Table) → Lists rows_at tables db → table_named name tables ≡ Some t
+    → table_of db (folded name) ≡ Ok (plain_table t (rows_at t.root))
+listed_table rows_at tables db name t lists named =
+    ap table_in (lists (folded name) ∙ ap (option_map (λ t. ATable (plain_table t (rows_at t.root)))) (named_folded tables name t named))
+
+-- binding it isn't refused
+pub not_refused : Laws → (db : Database) (i : Insert) (what : Resolved) → has_only_tables db ≡ true → resolve_change db no_outer (kind.Insert i) ≡ Meant what [] → (r : Refusal) → IsFault db (kind.Insert i) r → ⊥
+not_refused laws db i what only stands r is = nothing (subst (λ (k : Checked Resolved). Contains (faults k) r) stands ((laws.binds db (kind.Insert i) r only).0 is))
+  where
+    nothing : Contains [] r → ⊥
+    nothing has = absurd (omega (arith, has.1))
+
+-- ---- why its names and values are refused
+
+abbrev work : Insert → Database → Refusal → Type 0
+work i db r = RefusesWith (change_made (inserting i) db) r
+
+literals : (s : InsertSource) → is_source_supported s ≡ true → is_of_literals s ≡ true
+literals (source.Rows rows) supported_forms = supported_forms
+literals (source.Query q) supported_forms = supported_forms
+
+-- the table that a refused real is for
+pub record NamesTable (tables : List Table) (i : Insert) : Type 0 where
+  pub table : Table
+  pub is : table_named i.table tables ≡ Some table
+
+real_for : (tables : List Table) (i : Insert) (f : Fault) → f ≡ fault.RealRefused → IsInsertFault tables i f → NamesTable tables i
+real_for tables i f e (inl memory) = absurd cc
+real_for tables i f e (inr (inl (inl (none, h)))) = (let h : refusal.RealRefused ≡ refusal.NoSuch = sym (ap refusal_of e) ∙ none in absurd cc)
+real_for tables i f e (inr (inl (inr (t, named, h)))) = record { table = t; is = named }
+real_for tables i f e (inr (inr (inl (unsupported, h)))) = absurd cc
+real_for tables i f e (inr (inr (inr (same, (t, named, l, c, past))))) = record { table = t; is = named }
+
+pub bind_refused : (laws : Laws) (pages : PageMap) (size : ℕ) (tables : List Table) (db : Database) (held : Stores pages size tables db) (i : Insert) (f : Fault) → is_source_supported i.source ≡ true → IsInsertFault tables i f
+    → IsChangeRefusal (inserting i) pages size db f
+bind_refused laws pages size tables db held i f supported_forms why = elim (refuses db tables (known_listed held.rows_at tables db held.lists) held.once i.table i.columns i.source f (literals i.source supported_forms) why) [
+  | inl memory ↦ inl (inl (inl memory))
+  | inr (inl has) ↦ inr (inl (inl ((laws.binds db (kind.Insert i) (refusal_of f) held.only).1 has)))
+  | inr (inr (e, real)) ↦ inr (inl (past e real (real_for tables i f e why)))
+]
+  where
+    past : f ≡ fault.RealRefused → IsRealRefused db i → NamesTable tables i → work i db (refusal_of f)
+    past e real named =
+        let is = laws.refused db i named.table (held.rows_at named.table.root) real.at real.terms refusal.RealRefused (listed_table held.rows_at tables db i.table named.table held.lists named.is) real.stands real.refused in
+        inr (not_refused laws db i _ held.only real.stands, subst (λ (a : Answer Database). RefusesWith (of_answer a) (refusal_of f)) (sym is) (0, omega arith, sym (ap refusal_of e)))
+
+-- ---- what it gives
+
+pub places_long : (columns : List Column) (names : Option (List Name)) → length (places_in columns names) ≡ length columns
+places_long columns None = length-map (range_with_len 0 (length columns)) (λ (n : ℕ). Some n) ∙ length-range_with_len 0 (length columns)
+places_long columns (Some names) = length-map columns (λ column. position_from (λ name. is_same_name name column.name) 0 names)
+
+pub given_as : (pages : PageMap) (size : ℕ) (tables : List Table) (db : Database) (held : Stores pages size tables db) (i : Insert) (t : Table) (places : List (Option ℕ)) (rows : List (Vec Value Global)) → table_named i.table tables ≡ Some t → AreColumns t.columns i.columns
+    → AreGiven (count_wanted i.columns t) rows i.source → places ≡ places_in t.columns i.columns → IsGivenAs db i t places (map (λ row. row.items) rows)
+given_as pages size tables db held i t places rows named columns given is =
+    subst (λ (ps : List (Option ℕ)). IsGivenAs db i t ps (map (λ row. row.items) rows)) (sym is) (gives db tables (known_listed held.rows_at tables db held.lists) held.once i.table i.columns i.source t rows named columns given)
+
+each_long : {A B : Type 0} (P : A → B → Type 0) (xs : List A) (ys : List B) → EachOf P xs ys → length xs ≡ length ys
+each_long P [] [] each = refl
+each_long P [] (y ∷ ys) each = absurd each
+each_long P (x ∷ xs) [] each = absurd each
+each_long P (x ∷ xs) (y ∷ ys) each = ap suc (each_long P xs ys each.1)
+
+-- as many rows as are written
+pub rows_written : (n : ℕ) (rows : List (Vec Value Global)) (i : Insert) → AreGiven n rows i.source → length (map (λ (row : Vec Value Global). row.items) rows) ≡ rows_more (inserting i)
+rows_written n rows i given = length-map rows (λ (row : Vec Value Global). row.items) ∙ by_source i.source given
+  where
+    by_source : (s : InsertSource) → AreGiven n rows s → length rows ≡ rows_more (inserting (record i { source = s }))
+    by_source (source.Rows written) given = each_long _ rows written given
+    by_source (source.Query q) given = absurd given
+
+all_of : {A : Type 0} (P : A → Type 0) (xs : List A) → AllByRecursion P xs → All P xs
+all_of P [] each i d lt = absurd (omega (arith, lt))
+all_of P (x ∷ xs) each zero d lt = each.0
+all_of P (x ∷ xs) each (suc i) d lt = all_of P xs each.1 i d (omega (arith, lt))
+
+each_for : {A : Type 0} (P Q : A → Type 0) (xs : List A) → ((x : A) → P x → Q x) → AllByRecursion P xs → AllByRecursion Q xs
+each_for P Q [] go each = tt
+each_for P Q (x ∷ xs) go each = (go x each.0, each_for P Q xs go each.1)
+
+all_behind : {A : Type 0} (P : A → Type 0) (xs ys : List A) → All P (xs ++ ys) → All P ys
+all_behind P xs ys all i d lt = subst P (get_or-append-add xs ys i d) (all (length xs + i) d (let sum = length-append xs ys in omega (arith, lt, sum)))
+
+some_or_none : {A : Type 0} (xs : List A) → (xs ≡ []) ⊎ (1 ≤ length xs)
+some_or_none [] = inl refl
+some_or_none (x ∷ xs) = inr (omega arith)
+
+-- the database that the rows make
+pub record IsMadeOf (rows_at : ℕ → List TableRow) (tables : List Table) (db : Database) (i : Insert) (t : Table) (added : List TableRow) : Type 0 where
+  pub made : Database
+  pub is : change db (kind.Insert i) ≡ Ok made
+  pub lists : Lists (rows_with rows_at t.root (rows_at t.root ++ added)) tables made
+  pub only : has_only_tables made ≡ true
+  pub in_order : IsNamed made
+
+abbrev rows_answer : List TableRow → Answer (List TableRow)
+rows_answer rows = Ok rows
+
+nothing_added : (added : List TableRow) → rows_answer [] ≡ rows_answer added → [] ≡ added
+nothing_added added e = cc
+
+not_none : (r : Refusal) → rows_answer [] ≡ Err r → ⊥
+not_none r e = absurd cc
+
+module _ (laws : Laws) (pages : PageMap) (size : ℕ) (tables : List Table) (db : Database) (held : Stores pages size tables db) (i : Insert) (t : Table) (places : List (Option ℕ)) (given : List (List Value)) (named : table_named i.table tables ≡ Some t)
+    (is : IsGivenAs db i t places given) (long : length places ≡ length t.columns) where
+  owned : HasOwner pages size held.rows_at tables held.owners t
+  owned = owner_of pages size tables db held i.table t named
+
+  set_for : All (IsSetFor t places is.at) given
+  set_for = all_of (IsSetFor t places is.at) given (each_for (λ vs. row_with t is.at vs ≡ map (given_at vs) places) (IsSetFor t places is.at) given one is.placed)
+    where
+      one : (vs : List Value) → row_with t is.at vs ≡ map (given_at vs) places → IsSetFor t places is.at vs
+      one vs e = record {
+        full = ap length e ∙ (length-map places (given_at vs) ∙ long);
+        each = λ k lt. ap (λ ws. slice_index_or ws k Null) e ∙ get_or-map (given_at vs) places k None Null (omega (arith, lt, long));
+      }
+
+  -- what the statement comes to on the database
+  abbrev changed : List (List Value) → Answer Database
+  changed rows = rows_added t.columns places (last_rowid (held.rows_at t.root)) rows then λ added. Ok (with_object db (folded i.table) (ATable (plain_table t (held.rows_at t.root ++ added))))
+
+  change_is : 1 ≤ length given → change db (kind.Insert i) ≡ changed given
+  change_is some =
+      laws.inserts db i t (held.rows_at t.root) is.at is.terms places given held.only (listed_table held.rows_at tables db i.table t held.lists named) owned.split.is.fit is.stands is.answered set_for some
+
+  pub made : (added : List TableRow) → rows_added t.columns places (last_rowid (held.rows_at t.root)) given ≡ Ok added → IsMadeOf held.rows_at tables db i t added
+  made added e = by (some_or_none given)
+    where
+      same : [] ≡ added → (root : ℕ) → held.rows_at root ≡ rows_with held.rows_at t.root (held.rows_at t.root ++ added) root
+      same nothing root = elim (cases_eq root t.root) [
+        | inl here ↦ ap held.rows_at here ∙ (sym (append-nil (held.rows_at t.root)) ∙ (ap (λ more. held.rows_at t.root ++ more) nothing ∙ sym (rows_here held.rows_at t.root root (held.rows_at t.root ++ added) here)))
+        | inr differ ↦ sym (rows_elsewhere held.rows_at t.root root (held.rows_at t.root ++ added) differ)
+      ]
+
+      by : (given ≡ []) ⊎ (1 ≤ length given) → IsMadeOf held.rows_at tables db i t added
+      by (inl none) =
+          let nothing = nothing_added added (subst (λ rows. rows_added t.columns places (last_rowid (held.rows_at t.root)) rows ≡ Ok added) none e) in
+          record {
+            made = db;
+            is = laws.none db i t (held.rows_at t.root) is.at is.terms (listed_table held.rows_at tables db i.table t held.lists named) is.stands (is.answered ∙ ap (λ (rows : List (List Value)). Ok rows) none);
+            lists = subst (λ (rows_at : ℕ → List TableRow). Lists rows_at tables db) (λ k root. same nothing root k) held.lists;
+            only = held.only;
+            in_order = held.named;
+          }
+      by (inr some) = record {
+        made = with_object db (folded i.table) (ATable (plain_table t (held.rows_at t.root ++ added)));
+        is = change_is some ∙ ap (λ (a : Answer (List TableRow)). a then λ added. Ok (with_object db (folded i.table) (ATable (plain_table t (held.rows_at t.root ++ added))))) e;
+        lists = laws.lists held.rows_at tables db (folded i.table) t (held.rows_at t.root ++ added) held.lists (named_folded tables i.table t named)
+            (λ other u found here. own_pages pages size tables db held other (folded i.table) u t found (named_folded tables i.table t named) here);
+        only = laws.tables db (folded i.table) (plain_table t (held.rows_at t.root ++ added)) held.only;
+        in_order = laws.named db (folded i.table) (ATable (plain_table t (held.rows_at t.root ++ added))) held.named;
+      }
+
+  pub reaches : (made : Database) → change db (kind.Insert i) ≡ Ok made → Reaches (change_made (inserting i) db) made
+  reaches made e = (not_refused laws db i _ held.only is.stands, subst (λ (a : Answer Database). Reaches (of_answer a) made) (sym e) refl)
+
+  pub refused : (f : Fault) → IsRefusedAs (rows_added t.columns places (last_rowid (held.rows_at t.root)) given) f → work i db (refusal_of f)
+  refused f (what, e) = inr (not_refused laws db i _ held.only is.stands, subst (λ (a : Answer Database). RefusesWith (of_answer a) (refusal_of f)) (sym (by (some_or_none given))) (as_answer what))
+    where
+      by : (given ≡ []) ⊎ (1 ≤ length given) → change db (kind.Insert i) ≡ Err (refusal_of f)
+      by (inl none) = absurd (not_none (refusal_of f) (subst (λ rows. rows_added t.columns places (last_rowid (held.rows_at t.root)) rows ≡ Err (refusal_of f)) none e))
+      by (inr some) = change_is some ∙ ap (λ (a : Answer (List TableRow)). a then λ added. Ok (with_object db (folded i.table) (ATable (plain_table t (held.rows_at t.root ++ added))))) e
+
+      as_answer : (f ≡ fault.RealRefused) ⊎ (f ≡ fault.RowidFull) → RefusesWith (of_answer (Err (refusal_of f))) (refusal_of f)
+      as_answer (inl e) = subst (λ (x : Fault). RefusesWith (of_answer (Err (refusal_of x))) (refusal_of x)) (sym e) (0, omega arith, refl)
+      as_answer (inr e) = subst (λ (x : Fault). RefusesWith (of_answer (Err (refusal_of x))) (refusal_of x)) (sym e) (0, omega arith, refl)
+
+  beside : Stands pages size t.root owned.split.is.entries owned.split.at.used held.free
+  beside = stands laws.stand pages size tables db held t owned
+
+  -- the database has the rows that are too long
+  long_row : (added : List TableRow) (m : IsMadeOf held.rows_at tables db i t added) → (AllStorable added → ⊥) → HasLongRow m.made
+  long_row added m too_long = record {
+    name = i.table;
+    table = t;
+    rows = held.rows_at t.root ++ added;
+    is = m.lists i.table ∙ (ap (option_map (λ (u : Table). ATable (plain_table u (rows_with held.rows_at t.root (held.rows_at t.root ++ added) u.root)))) named
+        ∙ ap (λ rows. Some (ATable (plain_table t rows))) (rows_here held.rows_at t.root t.root (held.rows_at t.root ++ added) refl));
+    long = λ all. too_long (all_behind (λ row. AreStorable row.1) (held.rows_at t.root) added all);
+  }
+
+  put_refused : length given ≡ rows_more (inserting i) → (f : Fault) → IsPutRefusal t.root beside.tree.depth t.columns places given (held.rows_at t.root) f → IsChangeRefusal (inserting i) pages size db f
+  put_refused many f (inl (inl outside)) = inl outside
+  put_refused many f (inl (inr (deep, grown))) = inr (inr (inr (record {
+    root = t.root;
+    is = deep;
+    rows = owned.split.is.entries;
+    used = owned.split.at.used;
+    tree = beside.tree;
+    deep = omega (arith, grown, many);
+  })))
+  put_refused many f (inr (inl as_rows)) = inr (inl (refused f as_rows))
+  put_refused many f (inr (inr too_long)) =
+      let m = made too_long.added too_long.answer in
+      inr (inr (inl (record {
+        is = too_long.is;
+        made = m.made;
+        reaches = reaches m.made m.is;
+        why = inl (long_row too_long.added m too_long.long);
+      })))
+
+  -- what the call that puts the rows comes to
+  pub put_makes : length given ≡ rows_more (inserting i) → (new : PageMap) (result : Result ⊤ Fault) → PutsRows pages new size t.root t.columns places given result
+      → MatchResult result (λ done. IsMade (inserting i) db new size tables) (IsChangeRefusal (inserting i) pages size db)
+  put_makes many new (Ok done) puts =
+      let put = puts (held.rows_at t.root) owned.split.is.entries owned.split.at.used held.free beside owned.split.is.each in
+      let m = made put.added put.answer in
+      record {
+        made = m.made;
+        reaches = reaches m.made m.is;
+        stored = stores_put laws.give_way pages new size tables db m.made i.table t t.columns places given held owned refl put m.lists m.only m.in_order;
+      }
+  put_makes many new (Err f) puts = put_refused many f (puts (held.rows_at t.root) owned.split.is.entries owned.split.at.used held.free beside owned.split.is.each)
+
+-- a call that passes a refusal on
+pub passed_on : (P : ⊤ → Type 0) (Q : Fault → Type 0) (r : Result ⊤ Fault) (f : Fault) → IsErrAnd r (λ e. e ≡ f) → Q f → MatchResult r P Q
+passed_on P Q (Ok x) f is why = absurd is
+passed_on P Q (Err e) f is why = subst Q (sym is) why

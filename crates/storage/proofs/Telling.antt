@@ -1,0 +1,36 @@
+-- Rows of page 1 that tell tables go on to tell them: with more pages, and with one row more.
+use Rattle.std.proofs.Common.{◌≤◌, sym, subst, ℕ, List, [], ◌∷◌, ◌++◌, arith}
+use Rattle.std.proofs.lemmas.List.{append-nil, append_assoc}
+use Rattle.page.specs.Leaf.{Entry}
+use Rattle.catalog.specs.declared.tables.Table.{Table}
+use Rattle.storage.specs.Schema.{AreRowsOf, IsRowOf}
+
+row_with_more : (n m : ℕ) → n ≤ m → (before : List Table) (t : Table) (row : Entry) → IsRowOf n before t row → IsRowOf m before t row
+row_with_more n m le before t row is = record {
+  sql = is.sql;
+  definition = is.definition;
+  creates = is.creates;
+  supported_forms = is.supported_forms;
+  made = is.made;
+  above = is.above;
+  within = omega (arith, is.within, le);
+  name = is.name;
+  name_is = is.name_is;
+  table_name = is.table_name;
+  table_name_is = is.table_name_is;
+  row_is = is.row_is;
+}
+
+pub more_pages : (n m : ℕ) → n ≤ m → (before tables : List Table) (rows : List Entry) → AreRowsOf n before tables rows → AreRowsOf m before tables rows
+more_pages n m le before [] [] tell = tt
+more_pages n m le before [] (row ∷ rows) tell = absurd tell
+more_pages n m le before (t ∷ tables) [] tell = absurd tell
+more_pages n m le before (t ∷ tables) (row ∷ rows) tell = (row_with_more n m le before t row tell.0, more_pages n m le (before ++ t ∷ []) tables rows tell.1)
+
+pub one_row_more : (n : ℕ) (before tables : List Table) (rows : List Entry) (t : Table) (row : Entry) → AreRowsOf n before tables rows → IsRowOf n (before ++ tables) t row
+    → AreRowsOf n before (tables ++ t ∷ []) (rows ++ row ∷ [])
+one_row_more n before [] [] t row tell is = (subst (λ (ts : List Table). IsRowOf n ts t row) (append-nil before) is, tt)
+one_row_more n before [] (r ∷ rows) t row tell is = absurd tell
+one_row_more n before (x ∷ tables) [] t row tell is = absurd tell
+one_row_more n before (x ∷ tables) (r ∷ rows) t row tell is =
+    (tell.0, one_row_more n (before ++ x ∷ []) tables rows t row tell.1 (subst (λ (ts : List Table). IsRowOf n ts t row) (sym (append_assoc before (x ∷ []) tables)) is))
