@@ -32,7 +32,7 @@ use Rattle.catalog.specs.declared.tables.Catalog.{Catalog}
 use Rattle.pager.specs.Views.{Tells, View, newest_view}
 use Rattle.session.specs.Holding.{StoreFiles, IsFound, IsSettled}
 use Rattle.session.specs.Machine.{fresh}
-use Rattle.session.specs.Schema.{AreSameTables}
+use Rattle.storage.specs.Schema.{AreSameTables}
 use Rattle.session.specs.Representation.{AreCommitted as AllCommitted, RepresentsRunning, ShowTheSame, Represents}
 use Rattle.session.specs.Stored.{Stores}
 use Rattle.session.specs.declared.transactions.Connections.{Connections}

@@ -25,7 +25,7 @@ use Rattle.pager.specs.Views.{Tells, newest_view}
 use Rattle.session.specs.Holding.{Hold, IsSettled}
 use Rattle.session.specs.ConnectionState.{files_of}
 use Rattle.session.specs.Machine.{fresh}
-use Rattle.session.specs.Schema.{AreSameTables}
+use Rattle.storage.specs.Schema.{AreSameTables}
 use Rattle.session.specs.Representation.{AreCommitted, Represents}
 use Rattle.session.specs.Stored.{Stores}
 use Rattle.engine.specs.Creating.{is_blank_content}

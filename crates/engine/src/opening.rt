@@ -21,7 +21,8 @@ ghost use Rattle.sqlval.specs.declared.fault.Fault.TheVariants.{Io};
 ghost use Rattle.disk.specs.Calls.{Rose};
 ghost use Rattle.syntax.specs.declared.statement.Statement.{Statement};
 ghost use Rattle.grammar.specs.Texts.{IsStatementText};
-ghost use Rattle.session.specs.Supported as forms;
+ghost use Rattle.session.specs.Supported.{is_connection_supported};
+ghost use Rattle.storage.specs.Forms as forms;
 ghost use Rattle.session.specs.Limits.{may_be_full};
 
 use crate::creating::is_blank;
@@ -170,7 +171,7 @@ impl<D: Disk + Drop> Engine<D> {
             → (result ≡ Err (Fault.Misuse Misuse.Connection)) × (self.new ≡ self.old) }
         // A statement that isn't supported yet, by its form or its connection, is refused and changes nothing.
         ensures unsupported { (statement : Statement) → first_refusal (has_failed_of self.old) connection ≡ Ok tt
-            → IsStatementText text.now statement → IsFalse (forms.is_supported statement && forms.is_connection_supported connection)
+            → IsStatementText text.now statement → IsFalse (forms.is_supported statement && is_connection_supported connection)
             → IfOk result (λ _. ⊥) × (self.new ≡ self.old) }
         // What the counts of the two disks' failed calls say of the answer, and of the mark of a failed engine.
         ensures counted { CountsFailures result self.old self.new }

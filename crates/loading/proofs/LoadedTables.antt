@@ -13,7 +13,7 @@ use Rattle.catalog.specs.declared.tables.Catalog.{Catalog}
 use Rattle.catalog.specs.declared.tables.Table.{Table}
 use Rattle.pager.specs.Views.{IsViewPage, View, ViewHas, newest_view, view_at}
 use Rattle.session.specs.Representation.{IsNewest}
-use Rattle.session.specs.Schema.{AreSameTables}
+use Rattle.storage.specs.Schema.{AreSameTables}
 use Rattle.session.specs.Stored.{Stores}
 use Rattle.session.proofs.SameTables.{stores_same}
 use Rattle.session.proofs.SeenPages.{at_newest}

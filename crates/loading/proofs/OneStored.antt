@@ -19,8 +19,7 @@ use Rattle.rowprog.specs.Rows.{Holds, TableRow}
 use Rattle.pager.specs.Views.{View}
 use Rattle.session.specs.Holding.{Hold}
 use Rattle.session.proofs.StoredFiles.{stored_if_held}
-use Rattle.session.specs.NewTables.{schema_row}
-use Rattle.session.specs.Schema.{AreRowsOf, AreSameTables, IsCreateOf, IsRowOf, IsSameTable}
+use Rattle.storage.specs.Schema.{schema_row, AreRowsOf, AreSameTables, IsCreateOf, IsRowOf, IsSameTable}
 use Rattle.session.specs.Stored.{IsStored, Stores}
 use Rattle.session.proofs.SameTables.{stores_same}
 use Rattle.session.proofs.SeenPages.{one_page}

@@ -31,8 +31,7 @@ use Rattle.catalog.specs.Listed.{committed_in, defined, described, has_doubled, 
 use Rattle.catalog.specs.declared.tables.Catalog.{Catalog}
 use Rattle.catalog.specs.declared.tables.Column.{Column}
 use Rattle.catalog.specs.declared.tables.Table.{Table}
-use Rattle.session.specs.NewTables.{IsMadeBeside, schema_row}
-use Rattle.session.specs.Schema.{AreRowsOf, AreSameTables, IsCreateOf, IsRowOf, IsSameTable}
+use Rattle.storage.specs.Schema.{IsMadeBeside, schema_row, AreRowsOf, AreSameTables, IsCreateOf, IsRowOf, IsSameTable}
 use Rattle.session.proofs.SameTables.{not_found, same_found, same_push}
 use Rattle.loading.specs.Loading.{AddsTables, AddsToldTable, AreRowValues, HasParts, IsOfRow, TellsTable, TellsTables}
 use Rattle.loading.specs.declared.schema.SchemaRow.{SchemaRow}

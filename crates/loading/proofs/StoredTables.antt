@@ -27,7 +27,7 @@ use Rattle.rowprog.specs.Rows.{Holds, TableRow}
 use Rattle.pager.specs.Views.{IsViewPage, View, ViewHas}
 use Rattle.session.specs.Holding.{IsFound}
 use Rattle.session.specs.Representation.{AreCommitted}
-use Rattle.session.specs.Schema.{AreRowsOf, AreSameTables}
+use Rattle.storage.specs.Schema.{AreRowsOf, AreSameTables}
 use Rattle.session.specs.Stored.{IsStored, Stores}
 use Rattle.session.proofs.SeenPages.{one_page}
 use Rattle.loading.specs.FirstPage.{FindsDatabase, IsFirstPage}

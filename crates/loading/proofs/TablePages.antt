@@ -14,7 +14,7 @@ use Rattle.pages.specs.Counting.{occurs}
 use Rattle.catalog.specs.Database.{Name}
 use Rattle.catalog.specs.Listed.{is_table, table_named}
 use Rattle.catalog.specs.declared.tables.Table.{Table}
-use Rattle.session.specs.Schema.{AreRowsOf}
+use Rattle.storage.specs.Schema.{AreRowsOf}
 use Rattle.session.specs.Stored.{HaveOwnPages, IsRoot}
 use Rattle.loading.specs.Roots.{AreWithin, HaveEachPage, roots_of}
 

@@ -10,7 +10,7 @@ use Rattle.catalog.specs.declared.tables.Catalog.{Catalog}
 use Rattle.catalog.specs.declared.tables.Table.{Table}
 use Rattle.pager.specs.Views.{View}
 use Rattle.session.specs.Representation.{AreCommitted}
-use Rattle.session.specs.Schema.{AreRowsOf}
+use Rattle.storage.specs.Schema.{AreRowsOf}
 use Rattle.session.specs.Stored.{HasNoFreePage, Stores}
 use Rattle.loading.specs.Roots.{HaveEachPage}
 

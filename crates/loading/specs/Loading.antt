@@ -12,9 +12,8 @@ use Rattle.tabletree.specs.SingleLeaf.{IsSingleLeaf}
 use Rattle.catalog.specs.Listed.{is_reserved, tables_of}
 use Rattle.catalog.specs.declared.tables.Catalog.{Catalog}
 use Rattle.catalog.specs.declared.tables.Table.{Table}
-use Rattle.session.specs.Supported.{is_table_supported}
-use Rattle.session.specs.NewTables.{IsMadeBeside, schema_row}
-use Rattle.session.specs.Schema.{AreRowsOf, AreSameTables, IsCreateOf, IsRowOf}
+use Rattle.storage.specs.Forms.{is_table_supported}
+use Rattle.storage.specs.Schema.{IsMadeBeside, schema_row, AreRowsOf, AreSameTables, IsCreateOf, IsRowOf}
 use Rattle.session.specs.Representation.{AreCommitted}
 use Rattle.loading.specs.declared.schema.SchemaRow.{SchemaRow}
 

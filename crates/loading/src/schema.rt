@@ -14,8 +14,7 @@ ghost use Rattle.sqlval.specs.Faults.{IsOrMemory};
 ghost use Rattle.catalog.specs.Listed as listed;
 ghost use Rattle.catalog.specs.Listed.{defined, described, has_doubled, tables_of};
 ghost use Rattle.tabletree.specs.SingleLeaf.{IsSingleLeaf};
-ghost use Rattle.session.specs.NewTables.{schema_row};
-ghost use Rattle.session.specs.Schema.{AreRowsOf, AreSameTables, IsCreateOf, IsRowOf, IsSameTable};
+ghost use Rattle.storage.specs.Schema.{schema_row, AreRowsOf, AreSameTables, IsCreateOf, IsRowOf, IsSameTable};
 ghost use Rattle.loading.specs.Loading.{AddsTables, AddsToldTable, AreRowValues, HasParts, IsOfRow, IsSchemaFault, ListsCommitted, TellsTable, TellsTables};
 
 use catalog::{Catalog, Column, Table, columns_of, is_reserved};

@@ -10,11 +10,13 @@ use Rattle.sqlval.specs.declared.fault.Fault.TheVariants as fault
 use Rattle.sqlval.specs.declared.fault.Feature.TheVariants.{RowSize}
 use Rattle.syntax.specs.declared.statement.Statement.{Statement}
 use Rattle.catalog.specs.Database.{Database}
-use Rattle.session.specs.Supported.{LeavesWith, StepSoFar, is_supported, working}
+use Rattle.session.specs.Supported.{LeavesWith, StepSoFar, working}
+use Rattle.storage.specs.Forms.{is_supported}
 use Rattle.session.specs.Machine.{Machine, Connection, Idle, InTransactionOf, NoSnapshot, Reads, Writes, Rows, Refused, connection, is_writing, last_place, newest, with_connection}
-use Rattle.session.specs.Outcomes.{Outcome, RefusedBy, Work, Makes, IsRefused, Undoes, Binds, outcome, unless_busy, worked, worked_alone, write_outcome}
+use Rattle.session.specs.Outcomes.{Outcome, RefusedBy, outcome, unless_busy, worked, worked_alone, write_outcome}
+use Rattle.storage.specs.Works.{Work, Makes, IsRefused, Undoes, Binds, Reaches, RefusesWith, change_made}
 use Rattle.session.specs.Steps.{Allowed, Instead}
-use Rattle.session.specs.Changing.{Reaches, RefusesWith, change_made, written}
+use Rattle.session.specs.Changing.{written}
 use Rattle.session.specs.declared.changes.Write.{Write}
 use Rattle.session.specs.declared.changes.Write.TheVariants as write
 use Rattle.session.proofs.Stepping.{by_outcome, first_is, first_set, instead, no_other}

@@ -22,7 +22,7 @@ use Rattle.session.specs.Supported.{StepSoFar}
 use Rattle.session.specs.ConnectionState.{files_of, has_failed_in}
 use Rattle.session.specs.Machine.{Machine, Connection, Idle, Rows, Refused, is_writing, last_place, newest, with_connection}
 use Rattle.session.specs.Outcomes.{Gives, outcome}
-use Rattle.session.specs.Schema.{AreRowsOf}
+use Rattle.storage.specs.Schema.{AreRowsOf}
 use Rattle.session.specs.Stored.{Stores}
 use Rattle.session.specs.Representation.{AreCommitted, FindsNoRoom, IsNewest, RepresentsRunning, IsTransaction, IsWriter, OnlyReads, ShowTheSame, StepsOn, done_reply, is_idle}
 use Rattle.session.specs.declared.transactions.Connections.{Connections}

@@ -14,7 +14,8 @@ use Rattle.catalog.specs.Database.{Database}
 use Rattle.bind.specs.Checked.{Checked, Meant}
 use Rattle.session.specs.Laws.{IsBeside, LeavesOthers}
 use Rattle.session.specs.Machine.{is_writing, another, newest, committed, last_place, Machine, Connection, Idle, InTransactionOf, Phase, NoSnapshot, Reads, Writes, SavepointState, Reply, Rows, Refused, connection, with_connection}
-use Rattle.session.specs.Outcomes.{Outcome, Gives, RefusedBy, Ends, Commits, Copies, Bound, Work, Makes, IsRefused, Undoes, Binds, outcome, Sort, Querying, Writing, Controlling, sort, sorted_outcome, begun, control, write_outcome, read_outcome, given, worked, worked_alone, unless_busy, commit_outcome, released, restored, saved, from_name}
+use Rattle.session.specs.Outcomes.{Outcome, Gives, RefusedBy, Ends, Commits, Copies, Bound, outcome, sorted_outcome, begun, control, write_outcome, read_outcome, given, worked, worked_alone, unless_busy, commit_outcome, released, restored, saved, from_name}
+use Rattle.storage.specs.Works.{Work, Makes, IsRefused, Undoes, Binds, Sort, Querying, Writing, Controlling, sort}
 use Rattle.session.specs.Steps.{Allowed, Instead, is_connection, after_commit, fails}
 
 -- the machine is left so that the others are as they were

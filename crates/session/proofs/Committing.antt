@@ -24,7 +24,7 @@ use Rattle.pager.specs.Writers.{IsHeaded, snapshot_of}
 use Rattle.pager.specs.declared.writer.Writer.{Writer}
 use Rattle.session.specs.ConnectionState.{files_of, has_failed_in, is_io}
 use Rattle.session.specs.Representation.{IsNewest, IsWriter, ShowTheSame}
-use Rattle.session.specs.Schema.{AreRowsOf}
+use Rattle.storage.specs.Schema.{AreRowsOf}
 use Rattle.session.specs.Stored.{HasNoFreePage, HasFirstPage, Stores}
 use Rattle.session.specs.Applying.{CommitsChanges, CommitsDatabase, HoldsEither, IsCommitCause, IsUncommitted, CanApply}
 use Rattle.session.specs.declared.transactions.Connections.{Connections}

@@ -51,16 +51,16 @@ use Rattle.pager.specs.Writers.{AreObjectPages, IsUnchanged, IsConsistent, Repla
 use Rattle.pager.specs.declared.writer.Writer.{Writer}
 use Rattle.dbheader.proofs.Fronts.{header_moves}
 use Rattle.pager.proofs.Seeing.{first_not_missing, whole_same}
-use Rattle.session.specs.Supported.{is_table_supported}
-use Rattle.session.specs.NewTables.{IsListedAfter, IsMadeBeside, IsNewTableFault, IsRowFault, schema_row}
-use Rattle.session.specs.Outcomes.{of_known}
-use Rattle.session.specs.Schema.{AreRowsOf, IsCreateOf, IsRowOf}
+use Rattle.storage.specs.Forms.{is_table_supported}
+use Rattle.session.specs.NewTables.{IsListedAfter, IsNewTableFault, IsRowFault}
+use Rattle.storage.specs.Schema.{IsMadeBeside, schema_row, AreRowsOf, IsCreateOf, IsRowOf}
+use Rattle.storage.specs.Works.{of_known, Reaches, RefusesWith, change_made}
 use Rattle.session.specs.Representation.{IsNewest, IsWriter}
 use Rattle.session.specs.Stored.{HaveOwnPages, IsRoot, IsStored, Stores}
-use Rattle.session.specs.Changing.{CanChange, MakesChange, IsChangeMade, IsChangeRefusal, IsChangeRefused, KeepsListed, Listing, Reaches, RefusesWith, change_made, listing}
+use Rattle.session.specs.Changing.{CanChange, MakesChange, IsChangeMade, IsChangeRefusal, IsChangeRefused, KeepsListed, Listing, listing}
 use Rattle.session.proofs.SeenPages.{one_page}
 use Rattle.session.proofs.Showing.{the_same}
-use Rattle.session.proofs.Telling.{more_pages, one_row_more}
+use Rattle.storage.proofs.Telling.{more_pages, one_row_more}
 
 -- ---- sizes
 

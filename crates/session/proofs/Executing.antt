@@ -12,7 +12,8 @@ use Rattle.syntax.specs.declared.query.Query.{Query}
 use Rattle.syntax.specs.declared.statement.Statement.{Statement}
 use Rattle.syntax.specs.declared.statement.Statement.TheVariants as statement
 use Rattle.catalog.specs.Database.{Database}
-use Rattle.session.specs.Supported.{StepSoFar, is_connection_supported, is_query, is_supported}
+use Rattle.session.specs.Supported.{StepSoFar, is_connection_supported}
+use Rattle.storage.specs.Forms.{is_query, is_supported}
 use Rattle.session.specs.ConnectionState.{first_refusal, has_failed_in}
 use Rattle.session.specs.Machine.{Machine, Reply, Refused}
 use Rattle.session.specs.Steps.{is_connection}

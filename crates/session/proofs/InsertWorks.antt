@@ -45,11 +45,11 @@ use Rattle.pager.specs.Views.{IsViewPage, View, after, changes_of, view_at, view
 use Rattle.pager.specs.Writers.{IsUnchanged, IsConsistent, ReplacesPages, seen, snapshot_of}
 use Rattle.pager.specs.declared.writer.Writer.{Writer}
 use Rattle.pager.proofs.Seeing.{AreAlike, whole_same}
-use Rattle.session.specs.Supported.{is_source_supported}
-use Rattle.session.specs.Outcomes.{of_answer}
+use Rattle.storage.specs.Forms.{is_source_supported}
+use Rattle.storage.specs.Works.{of_answer, Reaches, RefusesWith, change_made}
 use Rattle.session.specs.Representation.{IsNewest, IsWriter, ShowTheSame}
 use Rattle.session.specs.Stored.{LacksRoom, IsStored, Stores}
-use Rattle.session.specs.Changing.{CanChange, MakesChange, IsChangeMade, IsChangeRefusal, IsChangeRefused, KeepsListed, Listing, Reaches, RefusesWith, SeesRows, change_made}
+use Rattle.session.specs.Changing.{CanChange, MakesChange, IsChangeMade, IsChangeRefusal, IsChangeRefused, KeepsListed, Listing, SeesRows}
 use Rattle.session.proofs.Inserting.{Laws, IsMade, listed_table, made, not_refused, reaches, refused, rows_here, rows_with, stores_put}
 use Rattle.session.proofs.Settled.{still_settled}
 use Rattle.session.proofs.Showing.{still_writer}

@@ -45,11 +45,10 @@ use Rattle.pager.specs.Limits.{page_size_of, pages_of}
 use Rattle.pager.specs.Views.{ViewHas, IsViewPage, View, changes_of, view_at, view_of}
 use Rattle.pager.specs.Writers.{IsConsistent, ReplacesPages, seen, snapshot_of}
 use Rattle.pager.specs.declared.writer.Writer.{Writer}
-use Rattle.session.specs.Outcomes.{of_answer}
+use Rattle.storage.specs.Works.{of_answer, Reaches, RefusesWith, change_made}
 use Rattle.session.specs.Representation.{IsWriter}
-use Rattle.session.specs.Schema.{AreRowsOf}
+use Rattle.storage.specs.Schema.{AreRowsOf}
 use Rattle.session.specs.Stored.{IsStored, Stores}
-use Rattle.session.specs.Changing.{Reaches, RefusesWith, change_made}
 use Rattle.session.specs.declared.transactions.Transaction.TheVariants as transaction
 use Rattle.session.proofs.SeenPages.{at_newest, below_shown}
 
@@ -235,7 +234,7 @@ module _ (laws : Laws) (view : View) (tables : List Table) (db : Database) (held
 
   change_is : 1 ≤ length given → change db (kind.Insert i) ≡ changed given
   change_is some =
-      laws.inserts db i t (held.rows_at t.root) is.at is.terms places given page t.root held.only (listed_table held.rows_at tables db i.table t held.lists named) holds is.stands is.answered set_for some
+      laws.inserts db i t (held.rows_at t.root) is.at is.terms places given held.only (listed_table held.rows_at tables db i.table t held.lists named) (held.each i.table t named).fit is.stands is.answered set_for some
 
   pub made : (added : List TableRow) → rows_added t.columns places (last_rowid (held.rows_at t.root)) given ≡ Ok added → IsMade held.rows_at tables db i t added
   made added e = by (some_or_none given)

@@ -1,4 +1,3 @@
-pub mod BoundQueries
 mod ConnectionRows
 pub mod Refusals
 pub mod Replies
@@ -23,7 +22,6 @@ pub mod Inserting
 pub mod InsertWorks
 pub mod Executing
 pub mod Fresh
-pub mod Telling
 pub mod SameTables
 pub mod StatementCauses
 mod WellFormedRows

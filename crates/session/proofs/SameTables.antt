@@ -14,8 +14,7 @@ use Rattle.catalog.specs.declared.tables.Table.{Table}
 use Rattle.bind.specs.Bound.{is_twice_named}
 use Rattle.rowprog.specs.Rows.{Holds, TableRow}
 use Rattle.pager.specs.Views.{View, IsViewPage}
-use Rattle.session.specs.NewTables.{schema_row}
-use Rattle.session.specs.Schema.{AreRowsOf, AreSameTables, IsRowOf, IsSameTable}
+use Rattle.storage.specs.Schema.{schema_row, AreRowsOf, AreSameTables, IsRowOf, IsSameTable}
 use Rattle.session.specs.Stored.{IsStored, Stores}
 
 abbrev pub AreSameFound : Option Table → Option Table → Type 0

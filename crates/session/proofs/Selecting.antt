@@ -22,11 +22,13 @@ use Rattle.bind.specs.declared.queries.BoundSource.{BoundSource}
 use Rattle.rowprog.specs.Rows.{Holds, TableRow, scan_of}
 use Rattle.rowprog.specs.declared.plan.Scan.TheVariants as scan
 use Rattle.pager.specs.Views.{IsViewPage, View, newest_view}
-use Rattle.session.specs.Supported.{StepSoFar, is_query_supported}
+use Rattle.session.specs.Supported.{StepSoFar}
+use Rattle.storage.specs.Forms.{is_query_supported}
 use Rattle.session.specs.Holding.{HoldThroughout}
 use Rattle.session.specs.ConnectionState.{files_of}
 use Rattle.session.specs.Machine.{Machine, Idle, InTransactionOf, NoSnapshot, Reads, Writes, Rows, Refused, last_place, newest, with_connection}
-use Rattle.session.specs.Outcomes.{answered, given, outcome, read_on}
+use Rattle.session.specs.Outcomes.{answered, given, outcome}
+use Rattle.storage.specs.Works.{read_on}
 use Rattle.session.specs.Steps.{Allowed, Instead}
 use Rattle.session.specs.Crashes.{MayShow}
 use Rattle.session.specs.Stored.{Stores}

@@ -13,7 +13,7 @@ use Rattle.sqlval.specs.Names.{folded}
 use Rattle.catalog.specs.Database.{Name}
 use Rattle.catalog.specs.Listed.{is_table, table_named}
 use Rattle.catalog.specs.declared.tables.Table.{Table}
-use Rattle.session.specs.Schema.{AreRowsOf}
+use Rattle.storage.specs.Schema.{AreRowsOf}
 use Rattle.session.proofs.StandingNames.{HaveOwnNames}
 
 -- ---- names

@@ -11,7 +11,7 @@ use Rattle.pages.specs.Counting.{occurs}
 use Rattle.catalog.specs.Database.{Name}
 use Rattle.catalog.specs.Listed.{is_table, table_named}
 use Rattle.catalog.specs.declared.tables.Table.{Table}
-use Rattle.session.specs.Schema.{AreRowsOf}
+use Rattle.storage.specs.Schema.{AreRowsOf}
 use Rattle.session.specs.Stored.{HaveOwnPages, IsRoot}
 use Rattle.session.proofs.StandingLists.{AreFound, each_new, found_after, none_before, told_found}
 

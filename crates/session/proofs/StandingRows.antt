@@ -12,7 +12,7 @@ use Rattle.catalog.specs.Listed.{Lists, has_only_tables, plain_table, table_name
 use Rattle.catalog.specs.declared.tables.Table.{Table}
 use Rattle.filecheck.specs.Schema.{IsSchemaEntry, IsSchemaRowOf, IsTableRow, SchemaRow}
 use Rattle.session.specs.Language.{supported_language}
-use Rattle.session.specs.Schema.{AreRowsOf, IsRowOf}
+use Rattle.storage.specs.Schema.{AreRowsOf, IsRowOf}
 use Rattle.session.proofs.StandingLists.{AreFound}
 use Rattle.session.proofs.StandingNames.{folded_names}
 use Rattle.session.proofs.StandingTexts.{no_automatic, not_refused, plain_made}

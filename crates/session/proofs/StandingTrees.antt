@@ -21,7 +21,7 @@ use Rattle.pager.proofs.Mapping.{count_to, maps_shown}
 use Rattle.filecheck.specs.Contents.{HasTree, IsStoredRow, ListsRows}
 use Rattle.filecheck.specs.Stands.{IsHeaded}
 use Rattle.session.specs.Holding.{IsFound}
-use Rattle.session.specs.Schema.{AreRowsOf}
+use Rattle.storage.specs.Schema.{AreRowsOf}
 use Rattle.session.specs.Stored.{IsStored, Stores}
 use Rattle.session.proofs.SeenPages.{one_page}
 use Rattle.session.proofs.StandingLengths.{is_whole}

@@ -9,7 +9,8 @@ use Rattle.syntax.specs.declared.statement.BeginMode.TheVariants as begins
 use Rattle.syntax.specs.declared.statement.Statement.{Statement}
 use Rattle.syntax.specs.declared.statement.Statement.TheVariants as statement
 use Rattle.catalog.specs.Database.{Database}
-use Rattle.session.specs.Supported.{StepSoFar, is_connection_supported, is_supported}
+use Rattle.session.specs.Supported.{StepSoFar, is_connection_supported}
+use Rattle.storage.specs.Forms.{is_supported}
 use Rattle.session.specs.Machine.{Machine, Connection, Idle, InTransactionOf, NoSnapshot, Writes, Reply, another, connection, is_writing, last_place, newest, with_connection}
 use Rattle.session.specs.Outcomes.{Outcome, Gives, RefusedBy, outcome, read_outcome, control, begun}
 use Rattle.session.specs.Steps.{Allowed, Instead}

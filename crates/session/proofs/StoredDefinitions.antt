@@ -24,8 +24,8 @@ use Rattle.bind.specs.Tables.{table_made}
 use Rattle.bind.proofs.CreatedTables.{IsAccepted, accepted, listed_made}
 use Rattle.filecheck.specs.Schema.{SchemaRow, IsTableRow, automatic_indexes}
 use Rattle.session.specs.Language.{others, supported_language}
-use Rattle.session.specs.Schema.{IsCreateOf}
-use Rattle.session.specs.Supported.{is_table_supported}
+use Rattle.storage.specs.Schema.{IsCreateOf}
+use Rattle.storage.specs.Forms.{is_table_supported}
 use Rattle.session.proofs.StoredNames.{both_true, same_named, same_some, some_is_none}
 
 -- ---- the table of a definition

@@ -21,8 +21,7 @@ use Rattle.bind.proofs.CreatedTables.{keeps_once}
 use Rattle.filecheck.specs.Schema.{SchemaRow, IsSchemaEntry, sql_value}
 use Rattle.pager.specs.Views.{View, IsViewPage, ViewHas}
 use Rattle.rowprog.specs.Rows.{Holds, TableRow}
-use Rattle.session.specs.NewTables.{schema_row}
-use Rattle.session.specs.Schema.{AreRowsOf, IsRowOf}
+use Rattle.storage.specs.Schema.{schema_row, AreRowsOf, IsRowOf}
 use Rattle.session.specs.Stored.{HaveOwnPages, IsRoot, IsStored}
 use Rattle.session.proofs.StoredNames.{same_named, some_is_none}
 use Rattle.session.proofs.StoredListings.{IsListing, Listing}

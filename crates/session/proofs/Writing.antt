@@ -18,16 +18,19 @@ use Rattle.catalog.specs.declared.tables.Table.{Table}
 use Rattle.pager.specs.Views.{ViewHas, View, newest_view, view_at, view_of}
 use Rattle.pager.specs.Writers.{seen}
 use Rattle.pager.specs.declared.writer.Writer.{Writer}
-use Rattle.session.specs.Supported.{StepSoFar, is_supported}
+use Rattle.session.specs.Supported.{StepSoFar}
+use Rattle.storage.specs.Forms.{is_supported}
 use Rattle.session.specs.ConnectionState.{files_of, has_failed_in}
 use Rattle.session.specs.Machine.{Machine, Connection, Idle, InTransactionOf, NoSnapshot, Reads, Writes, Reply, Rows, Refused, last_place, newest}
-use Rattle.session.specs.NewTables.{HasRoomAfter, schema_row}
-use Rattle.session.specs.Outcomes.{Outcome, Work, Makes, IsRefused, Undoes, Binds, outcome}
+use Rattle.session.specs.NewTables.{HasRoomAfter}
+use Rattle.storage.specs.Schema.{schema_row}
+use Rattle.session.specs.Outcomes.{Outcome, outcome}
+use Rattle.storage.specs.Works.{Work, Makes, IsRefused, Undoes, Binds, Reaches, change_made}
 use Rattle.session.specs.Steps.{Allowed, after_commit}
 use Rattle.session.specs.Stored.{LacksRoom, Stores}
 use Rattle.session.specs.Representation.{AreCommitted, FindsNoRoom, RepresentsRunning, IsTransaction, OnlyReads, ShowTheSame, StepsOn, StepsTo, done_reply, is_idle, is_reading, seen_in, with_transaction}
 use Rattle.session.specs.Applying.{CommitsChanges, EndsAlone, IsApplied, IsCommitCause, IsDropped, IsNotApplied, KeepsCommitted, Applies, CanApply, listing_of}
-use Rattle.session.specs.Changing.{MakesChange, IsChangeRefusal, KeepsListed, Reaches, change_made, written}
+use Rattle.session.specs.Changing.{MakesChange, IsChangeRefusal, KeepsListed, written}
 use Rattle.session.specs.declared.transactions.Connections.{Connections}
 use Rattle.session.specs.declared.transactions.Transaction.{Transaction}
 use Rattle.session.specs.declared.transactions.Transaction.TheVariants as transaction

@@ -14,7 +14,8 @@ use Rattle.wal.specs.declared.log.Log.{Log}
 use Rattle.pager.specs.Limits.{pages_of}
 use Rattle.pager.specs.Views.{Tells, changes_of, newest_view}
 use Rattle.pager.specs.declared.writer.Writer.{Writer}
-use Rattle.session.specs.Changing.{Listing, CanChange, IsChangeRefusal, Reaches, change_made, listing}
+use Rattle.session.specs.Changing.{Listing, CanChange, IsChangeRefusal, listing}
+use Rattle.storage.specs.Works.{Reaches, change_made}
 use Rattle.session.specs.Holding.{HoldThroughout, IsSettled}
 use Rattle.session.specs.ConnectionState.{files_of, has_failed_in}
 use Rattle.session.specs.Representation.{AreCommitted, ShowTheSame}

@@ -1,6 +1,6 @@
 -- What a statement's change makes of the database whose pages a writer has (SQL As Understood By SQLite, "CREATE TABLE", "INSERT").
 use Rattle.std.specs.Prelude.{◌≡◌, ◌⊎◌, ◌≤◌, ⊤, ℕ, List, [], length, take, Result, Ok, Err, Contains}
-use Rattle.sqlval.specs.Refusals.{Refusal, refusal_of}
+use Rattle.sqlval.specs.Refusals.{refusal_of}
 use Rattle.sqlval.specs.declared.fault.Fault.{Fault}
 use Rattle.sqlval.specs.declared.fault.Fault.TheVariants as fault
 use Rattle.sqlval.specs.declared.fault.Feature.TheVariants.{RowSize}
@@ -17,40 +17,17 @@ use Rattle.rowprog.specs.Rows.{Holds, TableRow}
 use Rattle.wal.specs.declared.log.Log.{Log}
 use Rattle.pager.specs.Views.{IsViewPage, Tells, view_of}
 use Rattle.pager.specs.declared.writer.Writer.{Writer}
-use Rattle.trigger.specs.Binding.{IsFault}
 use Rattle.session.specs.Holding.{IsSettled}
-use Rattle.session.specs.Outcomes.{Sort, Writing, Work, Makes, IsRefused, Binds, sort}
+use Rattle.storage.specs.Works.{Reaches, RefusesWith, change_made}
 use Rattle.session.specs.Representation.{IsWriter, ShowTheSame}
 use Rattle.session.specs.Stored.{LacksRoom, Stores}
 use Rattle.session.specs.declared.changes.Write.{Write}
 use Rattle.session.specs.declared.changes.Write.TheVariants as write
 
--- ---- what a statement comes to on a database
-
-abbrev work_by : Sort → Database → Work
-work_by (Writing work) db = work db
-work_by _ db = IsRefused []
-
--- what a statement that may write comes to on a database
-abbrev pub change_made : Statement → Database → Work
-change_made s db = work_by (sort s) db
-
 -- the statement that a change is
 abbrev pub written : Write → Statement
 written (write.Insert i) = statement.Change (change.Insert i.now)
 written (write.CreateTable sql d) = statement.Create (record { sql = sql.now; object = new.Table d.now })
-
--- its change isn't refused when it is bound, and it makes this database
-abbrev pub Reaches : Work → Database → Type 0
-Reaches (Makes db) made = db ≡ made
-Reaches (Binds over change work) made = ((r : Refusal) → IsFault over change r → ⊥) × Reaches work made
-Reaches _ made = ⊥
-
--- it is refused so, when its change is bound or after that
-abbrev pub RefusesWith : Work → Refusal → Type 0
-RefusesWith (IsRefused rs) r = Contains rs r
-RefusesWith (Binds over change work) r = IsFault over change r ⊎ ((s : Refusal) → IsFault over change s → ⊥) × RefusesWith work r
-RefusesWith _ r = ⊥
 
 -- ---- a writer's pages
 

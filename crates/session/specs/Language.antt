@@ -7,8 +7,8 @@ use Rattle.catalog.specs.Database.{Name, Database}
 use Rattle.bind.specs.Checked.{faults}
 use Rattle.bind.specs.Schema.{create}
 use Rattle.filecheck.specs.Schema.{Language}
-use Rattle.session.specs.Schema.{IsCreateOf}
-use Rattle.session.specs.Supported.{is_object_supported}
+use Rattle.storage.specs.Schema.{IsCreateOf}
+use Rattle.storage.specs.Forms.{is_object_supported}
 
 abbrev name_of : NewObject → Name
 name_of (object.Table t) = t.name

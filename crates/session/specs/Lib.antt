@@ -10,7 +10,6 @@ pub mod ConnectionState
 pub mod Limits
 pub mod Representation
 pub mod Stored
-pub mod Schema
 pub mod Language
 pub mod Holding
 pub mod Changing

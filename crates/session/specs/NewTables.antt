@@ -1,13 +1,12 @@
--- A table that CREATE TABLE makes, its row in the schema table, and why it isn't made (Database File Format, "Storage Of The
+-- The row of a table that CREATE TABLE makes, and why it isn't made (Database File Format, "Storage Of The
 -- SQL Database Schema").
-use Rattle.std.specs.Prelude.{◌≡◌, ◌⊎◌, ◌≤◌, ◌-◌, ◌+ℤ◌, ℕ, ℤ, pos, List, [], ◌∷◌, ◌++◌, length, codes, slice_index_or, FitsSigned}
+use Rattle.std.specs.Prelude.{◌≡◌, ◌⊎◌, ◌≤◌, ◌-◌, ◌+ℤ◌, ℕ, ℤ, pos, List, [], ◌∷◌, ◌++◌, length, slice_index_or, FitsSigned}
 use Rattle.std.specs.Int.{w64}
 use Rattle.sqlval.specs.Refusals.{refusal_of}
 use Rattle.sqlval.specs.declared.fault.Fault.{Fault}
 use Rattle.sqlval.specs.declared.fault.Fault.TheVariants as fault
 use Rattle.sqlval.specs.declared.fault.Feature.TheVariants.{RowSize}
 use Rattle.sqlval.specs.declared.value.Value.{Value}
-use Rattle.sqlval.specs.declared.value.Value.TheVariants.{Int, Text}
 use Rattle.record.specs.Record.{IsRecord}
 use Rattle.record.specs.Writing.{AreStorable, record_of}
 use Rattle.page.specs.Leaf.{Entry}
@@ -15,20 +14,9 @@ use Rattle.page.specs.Writing.{Fits}
 use Rattle.pages.specs.Counting.{start_of}
 use Rattle.tabletree.specs.SingleLeaf.{IsSingleLeaf}
 use Rattle.syntax.specs.declared.create.TableDefinition.{TableDefinition}
-use Rattle.catalog.specs.Database.{Name}
 use Rattle.catalog.specs.declared.tables.Table.{Table}
-use Rattle.bind.specs.Creating.{HasColumnsOf, IsCreateRefusal, IsNewBeside}
-
--- the table of a definition, whose tree begins at this page; nothing was in the definition's way among the tables
-pub record IsMadeBeside (tables : List Table) (d : TableDefinition) (root : ℕ) (t : Table) : Type 0 where
-  pub fresh : IsNewBeside tables d
-  pub name_is : t.name ≡ d.name
-  pub root_is : t.root ≡ root
-  pub columns : HasColumnsOf d t
-
--- the values of a table's row in the schema table: its kind, its name as an object and as a table, the page where its tree begins, and its text
-abbrev pub schema_row : Name → Name → ℕ → List ℕ → List Value
-schema_row name table_name root sql = Text (codes "table") ∷ Text name ∷ Text table_name ∷ Int (pos root) ∷ Text sql ∷ []
+use Rattle.bind.specs.Creating.{IsCreateRefusal}
+use Rattle.storage.specs.Schema.{IsMadeBeside}
 
 -- page 1 holds these rows, and after them one of these values
 pub record IsListedAfter (page : List ℕ) (entries : List Entry) (values : List Value) : Type 0 where

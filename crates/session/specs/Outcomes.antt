@@ -1,11 +1,9 @@
 -- What each statement of a connection comes to where memory, disk and room suffice (SQL As Understood By SQLite, "BEGIN TRANSACTION", "SAVEPOINT"; Pragma statements, "wal_checkpoint").
 use Rattle.std.specs.Prelude.{ℕ, Bool, true, false, List, [], ◌∷◌, length, Option, Some, None, Ok, Err, if◌then◌else◌, nat_lt, ◌==◌}
 use Rattle.sqlval.specs.Names.{folded, is_same_name}
-use Rattle.sqlval.specs.Refusals.{Answer, Refusal, Busy, StaleSnapshot, NoTransaction, InTransaction, NoSavepoint, Unique, Raised, RaisedRollback, TooLong}
+use Rattle.sqlval.specs.Refusals.{Answer, Refusal, Busy, StaleSnapshot, NoTransaction, InTransaction, NoSavepoint, Raised, RaisedRollback, TooLong}
 use Rattle.sqlval.specs.declared.value.Value.{Value}
 use Rattle.syntax.specs.declared.change.Change.{Change}
-use Rattle.syntax.specs.declared.create.NewObject.{NewObject}
-use Rattle.syntax.specs.declared.create.NewObject.TheVariants as new
 use Rattle.syntax.specs.declared.query.Query.{Query}
 use Rattle.syntax.specs.declared.statement.BeginMode.{BeginMode}
 use Rattle.syntax.specs.declared.statement.BeginMode.TheVariants as begins
@@ -13,11 +11,8 @@ use Rattle.syntax.specs.declared.statement.CheckpointMode.{CheckpointMode}
 use Rattle.syntax.specs.declared.statement.Statement.{Statement}
 use Rattle.syntax.specs.declared.statement.Statement.TheVariants as statement
 use Rattle.catalog.specs.Database.{Name, Database}
-use Rattle.bind.specs.Checked.{Checked, Meant, known_map}
-use Rattle.bind.specs.Queries.{resolve_query}
-use Rattle.bind.specs.Schema.{create, create_index, drop_object, index_clashes}
-use Rattle.bind.specs.Views.{look_up, answer_of}
-use Rattle.trigger.specs.Effects.{change}
+use Rattle.bind.specs.Checked.{Checked, Meant}
+use Rattle.storage.specs.Works.{Work, Makes, IsRefused, Undoes, Binds, Sort, Querying, Writing, Controlling, sort, read_on}
 use Rattle.session.specs.Machine.{Machine, Connection, Idle, InTransactionOf, Phase, NoSnapshot, Reads, Writes, SavepointState, last_place, committed, newest, connection, with_connection, is_writing, another}
 
 -- what a statement comes to where memory, disk and room suffice
@@ -34,52 +29,7 @@ pub data Outcome : Type 0 where
   -- this, where binding the change and what it can set off on the database isn't refused
   Bound : Database → Change → Outcome → Outcome
 
--- what a statement that may write comes to on a database
-pub data Work : Type 0 where
-  Makes : Database → Work
-  IsRefused : List Refusal → Work
-  Undoes : Refusal → Work
-  -- this, where binding isn't refused
-  Binds : Database → Change → Work → Work
-
-abbrev pub of_answer : Answer Database → Work
-of_answer (Ok db) = Makes db
-of_answer (Err (RaisedRollback t)) = Undoes (Raised t)
-of_answer (Err r) = IsRefused (r ∷ [])
-
-abbrev pub of_known : Checked Database → Work
-of_known (Meant db []) = Makes db
-of_known (Meant db (r ∷ rs)) = IsRefused (r ∷ rs)
-
--- a UNIQUE index over rows with one key is refused once its names are known
-abbrev made_index : Name → Work → Work
-made_index n (Makes db) = if index_clashes db n then IsRefused (Unique ∷ []) else Makes db
-made_index n w = w
-
--- what CREATE comes to on a database
-abbrev pub created : NewObject → Database → Work
-created (new.Index d) db = made_index d.name (of_known (create_index db d))
-created o db = of_known (create db o)
-
--- what a statement does to a database
-pub data Sort : Type 0 where
-  Querying : Query → Sort
-  Writing : (Database → Work) → Sort
-  Controlling : Sort
-
--- what a statement is for a transaction
-abbrev pub sort : Statement → Sort
-sort (statement.Select q) = Querying q
-sort (statement.Create c) = Writing (created c.object)
-sort (statement.Drop k n) = Writing (λ db. of_known (drop_object db k n))
-sort (statement.Change c) = Writing (λ db. Binds db c (of_answer (change db c)))
-sort _ = Controlling
-
 -- ---- reading
-
--- a query's rows on a database
-abbrev pub read_on : Database → Query → Checked (Answer (List (List Value)))
-read_on db q = known_map (answer_of db []) (resolve_query (look_up db) [] q)
 
 -- a refusal as a connection answers it
 abbrev pub answered : Refusal → Refusal

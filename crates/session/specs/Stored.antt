@@ -21,8 +21,8 @@ use Rattle.bind.specs.Bound.{AreOnce}
 use Rattle.rowprog.specs.Rows.{Holds, TableRow}
 use Rattle.dml.specs.Inserting.{FindNoRoom}
 use Rattle.pager.specs.Views.{View, IsViewPage}
-use Rattle.session.specs.NewTables.{HasRoomAfter, schema_row}
-use Rattle.session.specs.Schema.{AreRowsOf}
+use Rattle.session.specs.NewTables.{HasRoomAfter}
+use Rattle.storage.specs.Schema.{schema_row, AreRowsOf}
 
 -- the table's page holds these rows, which are such as the table may hold
 pub record IsStored (view : View) (rows_at : ℕ → List TableRow) (table : Table) : Type 0 where

@@ -1,87 +1,12 @@
--- The forms of the grammar that are built so far, and a step while not all are. It only grows, and goes away when all are.
-use Rattle.std.specs.Prelude.{◌≡◌, Bool, true, false, not, ◌&&◌, ◌||◌, ◌⊎◌, ℕ, length, Option, Some, None, is_none, ◌==◌}
-use Rattle.std.specs.List.{list_all}
+-- A step while not all forms of the grammar are supported.
+use Rattle.std.specs.Prelude.{◌≡◌, Bool, true, false, ◌&&◌, ◌⊎◌, ℕ, Option, Some, None, ◌==◌}
 use Rattle.sqlval.specs.Refusals.{Memory, Misuse, Unsupported, Failed}
-use Rattle.syntax.specs.declared.change.Change.{Change}
-use Rattle.syntax.specs.declared.change.Change.TheVariants as change
-use Rattle.syntax.specs.declared.change.InsertSource.{InsertSource}
-use Rattle.syntax.specs.declared.change.InsertSource.TheVariants as source
-use Rattle.syntax.specs.declared.create.NewObject.{NewObject}
-use Rattle.syntax.specs.declared.create.NewObject.TheVariants as new
-use Rattle.syntax.specs.declared.create.TableDefinition.{TableDefinition}
-use Rattle.syntax.specs.declared.query.FromClause.{FromClause}
-use Rattle.syntax.specs.declared.query.Query.{Query}
-use Rattle.syntax.specs.declared.query.ResultItem.{ResultItem}
-use Rattle.syntax.specs.declared.query.ResultItem.TheVariants.{All, AllOf, Of}
 use Rattle.syntax.specs.declared.statement.Statement.{Statement}
-use Rattle.syntax.specs.declared.statement.Statement.TheVariants as statement
 use Rattle.catalog.specs.Database.{Database}
-use Rattle.bind.specs.Bound.{is_column, is_literal}
+use Rattle.storage.specs.Forms.{is_supported}
 use Rattle.session.specs.Machine.{Machine, Connection, InTransactionOf, Writes, Reply, Refused, connection}
 use Rattle.session.specs.Outcomes.{Outcome, Gives, Commits, Bound, outcome}
 use Rattle.session.specs.Steps.{Step, is_connection}
-
--- `*`, a column or a literal
-abbrev pub is_result_supported : ResultItem → Bool
-is_result_supported All = true
-is_result_supported (AllOf n) = true
-is_result_supported (Of e n) = is_column e || is_literal e
-
-abbrev pub has_one_source : Option FromClause → Bool
-has_one_source None = true
-has_one_source (Some f) = length f.joins == 0
-
--- results of one source or none, without more clauses
-abbrev pub is_query_supported : Query → Bool
-is_query_supported q =
-    not q.is_distinct && is_none q.condition && length q.groups == 0 && length q.order == 0 && is_none q.limit
-    && has_one_source q.from && list_all is_result_supported q.results
-
--- rows of literals
-abbrev pub is_source_supported : InsertSource → Bool
-is_source_supported (source.Rows rows) = list_all (list_all is_literal) rows
-is_source_supported (source.Query q) = false
-
--- columns of names and types alone
-abbrev pub is_table_supported : TableDefinition → Bool
-is_table_supported d = length d.rules == 0 && list_all (λ c. length c.rules == 0) d.columns
-
-abbrev pub is_object_supported : NewObject → Bool
-is_object_supported (new.Table d) = is_table_supported d
-is_object_supported _ = false
-
-abbrev is_change_supported : Change → Bool
-is_change_supported (change.Insert i) = is_source_supported i.source
-is_change_supported _ = false
-
--- tables, inserted rows, queries of one source, and transactions
-abbrev pub is_supported : Statement → Bool
-is_supported (statement.Create c) = is_object_supported c.object
-is_supported (statement.Change c) = is_change_supported c
-is_supported (statement.Select q) = is_query_supported q
-is_supported (statement.Begin mode) = true
-is_supported statement.Commit = true
-is_supported statement.Rollback = true
-is_supported _ = false
-
--- it asks for rows
-abbrev pub is_query : Statement → Bool
-is_query (statement.Select q) = true
-is_query _ = false
-
-abbrev is_table : NewObject → Bool
-is_table (new.Table d) = true
-is_table _ = false
-
-abbrev is_insert : Change → Bool
-is_insert (change.Insert i) = true
-is_insert _ = false
-
--- it makes a table or inserts rows
-abbrev pub is_write : Statement → Bool
-is_write (statement.Create c) = is_table c.object
-is_write (statement.Change c) = is_insert c
-is_write _ = false
 
 -- the connections that are supported so far
 abbrev pub is_connection_supported : ℕ → Bool

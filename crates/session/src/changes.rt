@@ -16,8 +16,8 @@ ghost use Rattle.wal.specs.ErrorCauses.{HasCause};
 ghost use Rattle.session.specs.Changing.{CanChange, MakesChange, SeesRows, listing, written};
 ghost use Rattle.session.specs.Limits.{may_be_full};
 ghost use Rattle.session.specs.Representation.{IsWriter, ShowTheSame};
-ghost use Rattle.session.specs.Schema.{IsCreateOf, WhereSupported};
-ghost use Rattle.session.specs.Supported as forms;
+ghost use Rattle.storage.specs.Schema.{IsCreateOf, WhereSupported};
+ghost use Rattle.storage.specs.Forms as forms;
 
 use crate::tables::{NewTable, new_table};
 use bind::{BoundInsert, bind_insert};

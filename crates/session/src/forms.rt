@@ -3,7 +3,7 @@
 ghost use Rattle.std.specs.Prelude.{◌≡◌, ◌==◌, length};
 ghost use Rattle.std.specs.List.{list_all};
 ghost use Rattle.bind.specs.Bound.{is_literal};
-ghost use Rattle.session.specs.Supported as supported_forms;
+ghost use Rattle.storage.specs.Forms as supported_forms;
 
 use sqlval::Many;
 use syntax::{

@@ -8,11 +8,11 @@ ghost use Rattle.pager.specs.Views.{IsViewPage, Tells, view_at, view_of};
 ghost use Rattle.rowprog.specs.Rows.{Holds, TableRow, answers_of};
 ghost use Rattle.wal.specs.ErrorCauses.{HasCause};
 ghost use Rattle.wal.specs.LogState.{state_of, seen_by};
-ghost use Rattle.session.specs.Outcomes.{read_on};
+ghost use Rattle.storage.specs.Works.{read_on};
 ghost use Rattle.session.specs.Reading.{IsSightOf, view_by};
 ghost use Rattle.session.specs.Representation.{AnswersOrFails, AnswersRead, IsWriter, ShowTheSame};
 ghost use Rattle.session.specs.Stored.{Stores};
-ghost use Rattle.session.specs.Supported.{is_query_supported};
+ghost use Rattle.storage.specs.Forms.{is_query_supported};
 
 use bind::{BoundSource, Output, bind_query};
 use catalog::Catalog;

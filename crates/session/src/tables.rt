@@ -11,7 +11,8 @@ ghost use Rattle.sqlval.specs.Faults.{IsNotDiskFault};
 ghost use Rattle.catalog.specs.Listed.{tables_of};
 ghost use Rattle.sqlval.specs.Refusals.{refusal_of};
 ghost use Rattle.bind.specs.Creating.{IsCreateRefusal};
-ghost use Rattle.session.specs.NewTables.{HasRoomAfter, IsListedAfter, IsListingFault, IsMadeBeside, IsNewTableFault, IsNextRowid, schema_row};
+ghost use Rattle.session.specs.NewTables.{HasRoomAfter, IsListedAfter, IsListingFault, IsNewTableFault, IsNextRowid};
+ghost use Rattle.storage.specs.Schema.{IsMadeBeside, schema_row};
 
 use catalog::{Catalog, Table, columns_of, is_reserved};
 use page::Cell;

@@ -5,13 +5,14 @@ ghost use Rattle.sqlval.specs.declared.fault.Fault.TheVariants.{Memory};
 ghost use Rattle.pager.specs.Marks.{marks_of, now_of};
 ghost use Rattle.pager.specs.Views.{Tells, newest_view};
 ghost use Rattle.session.specs.Representation.{AnswersRead};
-ghost use Rattle.session.specs.Schema.{KeepsItsText, WhereSupported};
+ghost use Rattle.storage.specs.Schema.{KeepsItsText, WhereSupported};
 ghost use Rattle.session.specs.Stored.{Stores};
-ghost use Rattle.session.specs.Supported.{is_query_supported};
-ghost use Rattle.session.specs.Outcomes.{read_on};
+ghost use Rattle.storage.specs.Forms.{is_query_supported};
+ghost use Rattle.storage.specs.Works.{read_on};
 ghost use Rattle.catalog.specs.Database.{Database};
 ghost use Rattle.catalog.specs.Listed.{tables_of};
-ghost use Rattle.session.specs.Supported as forms;
+ghost use Rattle.session.specs.Supported.{is_connection_supported};
+ghost use Rattle.storage.specs.Forms as forms;
 ghost use Rattle.wal.specs.LogState.{db_of, log_of};
 ghost use Rattle.session.specs.ConnectionState.{is_io};
 ghost use Rattle.session.specs.Limits.{may_be_full};
@@ -133,7 +134,7 @@ impl<D: Disk + Drop> Connections<D> {
         // `check` is the test.
         requires free { first_refusal (has_failed_in self.old) connection ≡ Ok tt }
         // What isn't supported yet, a form or a connection, is refused as such, and changes nothing.
-        ensures unsupported { IsFalse (forms.is_supported statement.now && forms.is_connection_supported connection)
+        ensures unsupported { IsFalse (forms.is_supported statement.now && is_connection_supported connection)
             → AnswersUnsupported result × (self.new ≡ self.old) }
         ensures cause { HasCauseIn (may_be_full statement.now) result self.old self.new }
         ensures marks { MarksFailure result self.old self.new }

@@ -9,6 +9,7 @@ mod Holes
 mod Staying
 mod Inserted
 mod Descents
+mod LastRows
 mod Exits
 mod Widening
 mod Fans

@@ -1,5 +1,5 @@
 use Rattle.std.proofs.Common.{sym, ap, subst, ◌∙◌, [], length}
-use Rattle.session.specs.Schema.{AreRowsOf, AreSameTables}
+use Rattle.storage.specs.Schema.{AreRowsOf, AreSameTables}
 use Rattle.loading.proofs.SchemaTables.{all_told, ok_is, passed_on, refused_alone}
 use Rattle.loading.specs.Loading.{ListsCommitted}
 use Rattle.loading.proofs.schema.load_tables.Goals as goal

@@ -2,7 +2,7 @@ use Rattle.std.proofs.Common.{refl}
 use Rattle.syntax.specs.declared.create.Create.{Create}
 use Rattle.syntax.specs.declared.create.NewObject.TheVariants as new
 use Rattle.syntax.specs.declared.statement.Statement.TheVariants as parsed
-use Rattle.session.specs.Schema.{IsSameTable}
+use Rattle.storage.specs.Schema.{IsSameTable}
 use Rattle.loading.proofs.SchemaTables.{passed_on}
 use Rattle.loading.proofs.schema.table_of.Goals as goal
 

@@ -1,7 +1,7 @@
 use Rattle.std.proofs.Common.{refl, ◌+◌, ◌<◌, length, drop, take, arith}
 use Rattle.page.specs.Leaf.{Entry, entry_of}
 use Rattle.catalog.specs.Listed.{tables_of}
-use Rattle.session.specs.Schema.{AreSameTables}
+use Rattle.storage.specs.Schema.{AreSameTables}
 use Rattle.loading.proofs.SchemaTables.{at_place, loading_begins, loading_ends, loading_goes_on, none_told, passed_on, past_all, row_comes, told_so_far, up_to, up_to_all}
 use Rattle.loading.proofs.schema.tables_in.Goals as goal
 

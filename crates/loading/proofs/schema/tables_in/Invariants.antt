@@ -2,7 +2,7 @@
 use Rattle.std.specs.Prelude.{List, [], drop, take}
 use Rattle.catalog.specs.Listed.{tables_of}
 use Rattle.catalog.specs.declared.tables.Table.{Table}
-use Rattle.session.specs.Schema.{AreRowsOf}
+use Rattle.storage.specs.Schema.{AreRowsOf}
 use Rattle.loading.proofs.SchemaTables.{IsLoading}
 use Rattle.loading.proofs.schema.tables_in.Given as goal
 

@@ -6,10 +6,10 @@ use Rattle.bind.specs.declared.queries.BoundSource.{BoundSource}
 use Rattle.bind.proofs.KnownTables.{known_listed}
 use Rattle.catalog.specs.Listed.{tables_of}
 use Rattle.rowprog.specs.Rows.{answers_of, single_answer}
-use Rattle.session.specs.Outcomes.{read_on}
+use Rattle.storage.specs.Works.{read_on}
 use Rattle.session.specs.Reading.{view_by}
 use Rattle.session.specs.Representation.{AnswersOrFails}
-use Rattle.session.proofs.BoundQueries.{supported_is_plain, reads_as_bound, refuses_as_read}
+use Rattle.storage.proofs.BoundQueries.{supported_is_plain, reads_as_bound, refuses_as_read}
 use Rattle.session.proofs.ErrorCauses.{passed_on}
 use Rattle.session.proofs.SeenPages.{answers}
 use Rattle.session.proofs.Selecting.{bound_read, scanned_once, scanned_table, source_read, unbound_read}

@@ -4,7 +4,8 @@ use Rattle.sqlval.specs.declared.fault.Fault.{Fault}
 use Rattle.page.specs.Leaf.{Entry}
 use Rattle.tabletree.specs.SingleLeaf.{IsSingleLeaf}
 use Rattle.catalog.specs.Listed.{tables_of}
-use Rattle.session.specs.NewTables.{IsListingFault, IsNewTableFault, schema_row}
+use Rattle.session.specs.NewTables.{IsListingFault, IsNewTableFault}
+use Rattle.storage.specs.Schema.{schema_row}
 use Rattle.session.proofs.tables.new_table.Goals as goal
 
 pub returns-in_err-table-clause-why : goal.returns-in_err-table-clause-why

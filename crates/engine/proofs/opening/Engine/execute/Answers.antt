@@ -1,6 +1,6 @@
 use Rattle.std.proofs.Common.{ap, subst, sym, IsFalse, ◌&&◌}
 use Rattle.syntax.specs.declared.statement.Statement.{Statement}
-use Rattle.session.specs.Supported as forms
+use Rattle.storage.specs.Forms as forms
 use Rattle.session.specs.Machine.{Reply}
 use Rattle.session.specs.Representation.{rows_reply}
 use Rattle.session.proofs.Executing.{refused_as}

@@ -1,8 +1,8 @@
 use Rattle.std.proofs.Common.{◌≡◌, subst, sym, true}
 use Rattle.syntax.specs.declared.statement.Statement.{Statement}
 use Rattle.session.specs.Representation.{StepsOn, done_reply}
-use Rattle.session.specs.Supported.{is_supported}
-use Rattle.session.specs.Schema.{KeepsItsText}
+use Rattle.storage.specs.Forms.{is_supported}
+use Rattle.storage.specs.Schema.{KeepsItsText}
 use Rattle.session.proofs.ErrorCauses.{whys_for}
 use Rattle.session.proofs.StatementCauses.{changes_refused}
 use Rattle.session.proofs.transactions.Connections.change.Goals as goal

@@ -3,7 +3,7 @@ use Rattle.syntax.specs.declared.statement.Statement.{Statement}
 use Rattle.smallvec.specs.SmallVec.{SmallVec}
 use Rattle.sqlval.specs.declared.value.Value.{Value}
 use Rattle.rowprog.specs.Rows.{values_of}
-use Rattle.session.specs.Supported.{is_supported}
+use Rattle.storage.specs.Forms.{is_supported}
 use Rattle.session.specs.Machine.{Reply, Rows}
 use Rattle.session.specs.Representation.{StepsOn, rows_reply}
 use Rattle.session.proofs.Executing.{no_query, refused_as}
