@@ -16,6 +16,7 @@ use Rattle.treepage.specs.Node.{Local, Node, Rows, IsNode}
 use Rattle.treepage.specs.Payload.{local_size, table_most}
 use Rattle.treepage.specs.Reading.{Answers, row_of}
 use Rattle.treepage.specs.declared.items.Row.{Row}
+use Rattle.tabletree.proofs.StepsDown.{ok_is}
 use Rattle.tabletree.specs.Tree.{Held, IsHeldAs, Leaf, IsLeaf}
 use Rattle.tabletree.specs.Ways.{IsRowAt, rowids}
 
@@ -72,6 +73,16 @@ said_there pages size (one ∷ said) [] place item d all lt = absurd all
 said_there pages size (one ∷ said) (row ∷ rows) zero item d all lt = (omega arith, all.0)
 said_there pages size (one ∷ said) (row ∷ rows) (suc place) item d all lt =
     (let rest = said_there pages size said rows place item d all.1 (omega (arith, lt)) in (omega (arith, rest.0), rest.1))
+
+said_counted : (pages : PageMap) (size : ℕ) (said : List (ℤ × Local)) (rows : List Held) → Pairwise (IsHeldAs pages size) said rows → length said ≡ length rows
+said_counted pages size [] [] all = refl
+said_counted pages size [] (row ∷ rows) all = absurd all
+said_counted pages size (one ∷ said) [] all = absurd all
+said_counted pages size (one ∷ said) (row ∷ rows) all = ap suc (said_counted pages size said rows all.1)
+
+-- a leaf has as many rows as it says
+pub counted_in : (pages : PageMap) (size : ℕ) (said : List (ℤ × Local)) (rows : List Held) (count : ℕ) → Pairwise (IsHeldAs pages size) said rows → ◌≡◌ {A = Result ℕ Fault} (Ok count) (Ok (length said)) → count ≡ length rows
+counted_in pages size said rows count all is = ok_is count (length said) is ∙ said_counted pages size said rows all
 
 -- what was read of that row
 pub row_is_held : (pages : PageMap) (size : ℕ) (leaf : Leaf) (place : ℕ) (row : Row) (d : Held) (is : IsLeaf pages size leaf) → place < length leaf.rows

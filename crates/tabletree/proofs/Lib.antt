@@ -33,3 +33,4 @@ pub mod WaysDown
 pub mod Coming
 pub mod LeafRows
 pub mod FoundRows
+mod Batches

@@ -119,43 +119,45 @@ module _ (old : PageMap) (size root : ℕ) (row : Entry) (rows : List Entry) (us
       let counts = moves.counts 1 in
       let old_page = not_fresh (length old) (length new) 1 (((one_there old size free is.free_are).has).last) in
       let behind = (is.free_are).behind in
-      let was = ap (occurs 1) is.tree.used_are in
-      (record {
-        now_used = pages_of deep t;
-        now_free = now_free;
-        stands = record {
-          tree = record {
-            depth = deep;
-            tree = t;
-            low = low;
-            high = high;
-            shallow = shallow;
-            root_is = at;
-            lies = lies;
-            sorted = sorted;
-            rows_are = holds;
-            used_are = refl;
-            once = record { once = λ n. (let both = apart n in omega (arith, both)) };
-          };
-          free_are = record {
-            has = has;
-            once = record { once = λ n. (let both = apart n in omega (arith, both)) };
-            behind = elim is.first [
-              | inl one ↦ (let both = apart 1 in let e = ap (occurs 1) (pages_split deep t) in let f = ap (λ (n : ℕ). occurs 1 (n ∷ below_of deep t)) (at ∙ one) in omega (arith, both, e, f))
-              | inr none ↦ omega (arith, counts, old_page, behind, was, none)
+      let was = ap (occurs 1) is.tree.used_are in (
+        record {
+          now_used = pages_of deep t;
+          now_free = now_free;
+          stands = record {
+            tree = record {
+              depth = deep;
+              tree = t;
+              low = low;
+              high = high;
+              shallow = shallow;
+              root_is = at;
+              lies = lies;
+              sorted = sorted;
+              rows_are = holds;
+              used_are = refl;
+              once = record { once = λ n. (let both = apart n in omega (arith, both)) };
+            };
+            free_are = record {
+              has = has;
+              once = record { once = λ n. (let both = apart n in omega (arith, both)) };
+              behind = elim is.first [
+                | inl one ↦ (let both = apart 1 in let e = ap (occurs 1) (pages_split deep t) in let f = ap (λ (n : ℕ). occurs 1 (n ∷ below_of deep t)) (at ∙ one) in omega (arith, both, e, f))
+                | inr none ↦ omega (arith, counts, old_page, behind, was, none)
+              ];
+              whole = moves.whole size (is.free_are).whole;
+            };
+            apart = apart;
+            first = elim is.first [
+              | inl one ↦ inl one
+              | inr none ↦ inr (omega (arith, counts, old_page, behind, was, none))
             ];
-            whole = moves.whole size (is.free_are).whole;
+            sized = is.sized;
           };
-          apart = apart;
-          first = elim is.first [
-            | inl one ↦ inl one
-            | inr none ↦ inr (omega (arith, counts, old_page, behind, was, none))
-          ];
-          sized = is.sized;
-        };
-        moves = subst (λ (pages : List ℕ). Moves old new pages free (pages_of deep t) now_free) is.tree.used_are moves;
-        header = header;
-      }, near)
+          moves = subst (λ (pages : List ℕ). Moves old new pages free (pages_of deep t) now_free) is.tree.used_are moves;
+          header = header;
+        },
+        near,
+      )
 
   pub put_becomes : (new : PageMap) (all : List Entry) → IsPut old new size root depth bounds.less bounds.more all (pages_of depth tree) free → BecomesAtMost old new size root depth all used free
   put_becomes new all p = becomes new depth p.tree bounds.less bounds.more all p.now_free is.tree.shallow (omega arith) p.top_is p.lies p.sorted p.rows_are p.has p.moves p.header

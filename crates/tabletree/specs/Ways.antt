@@ -99,6 +99,11 @@ FindsLeaf pages size root rowid result = (rows : List Entry) (used : List ℕ) �
 
 -- ---- the rows of a leaf
 
+-- the rows of a leaf were counted; or memory was short, or a disk's call failed
+abbrev pub CountsRows : PageMap → ℕ → ℕ → Result ℕ Fault → Type 0
+CountsRows pages size page result = (leaf : Leaf) → AreWhole size pages → IsLeaf pages size leaf → leaf.page ≡ page
+    → MatchResult result (λ count. count ≡ length leaf.rows) IsOutside
+
 -- where a leaf has a row at this place, its rowid was found, and its payload stands behind what stood there before
 abbrev pub ReadsRow : PageMap → ℕ → ℕ → ℕ → List ℕ → List ℕ → Result ℤ Fault → Type 0
 ReadsRow pages size page place before after result = (leaf : Leaf) (d : Held) → AreWhole size pages → IsLeaf pages size leaf → leaf.page ≡ page → place < length leaf.rows
