@@ -1,5 +1,5 @@
 -- The rows of a batch, whose payloads lie one after another.
-use Rattle.std.proofs.Common.{◌≡◌, refl, sym, ◌∙◌, ap, subst, ℕ, suc, ℤ, ◌<◌, ◌≤◌, ◌+◌, ◌-◌, Bool, List, [], ◌∷◌, ◌++◌, length, map, take, drop, append_assoc, slice_index_or, Ok, Err, IsTrue, arith}
+use Rattle.std.proofs.Common.{◌≡◌, refl, sym, ◌∙◌, ap, subst, ℕ, zero, suc, ℤ, ◌<◌, ◌≤◌, ◌+◌, ◌-◌, Bool, List, [], ◌∷◌, ◌++◌, length, take, drop, append_assoc, slice_index_or, Ok, IsTrue, arith}
 use Rattle.std.proofs.lemmas.List.{length-append, take_at, drop_at, take_more, take_all, length-drop, get_or-drop, map-append}
 use Rattle.std.proofs.lemmas.List.Concat.{flat_map-append}
 use Rattle.std.specs.List.{flat_map}
@@ -7,7 +7,7 @@ use Rattle.std.specs.Prelude.{⊤}
 use Rattle.page.specs.Leaf.{Entry}
 use Rattle.pages.specs.Calls.{Limits, Stays}
 use Rattle.pages.specs.Map.{PageMap, AreWhole}
-use Rattle.tabletree.specs.Scanning.{entries_from}
+use Rattle.tabletree.specs.Scanning.{entries_from, start_at}
 use Rattle.tabletree.specs.Tree.{Held, Leaf, IsLeaf}
 use Rattle.tabletree.specs.declared.scanning.BatchRow.{BatchRow}
 use Rattle.tabletree.proofs.WaysDown.{rows_in}
@@ -52,6 +52,35 @@ laid_are start (row ∷ rows) (entry ∷ entries) front laid long =
     let behind : entries_from row.end rows (front ++ (entry.payload ++ rest)) ≡ entries =
     ap (λ (l : List ℕ). entries_from row.end rows l) (sym (append_assoc front entry.payload rest)) ∙ laid_are row.end rows entries (front ++ entry.payload) laid.2 (omega (arith, both, long, laid.1)) in
     same_entry row.rowid entry.rowid _ entry.payload _ entries laid.0 here behind
+
+-- a batch has as many rows as stand in it
+pub entries_counted : (start : ℕ) (rows : List BatchRow) (bytes : List ℕ) → length (entries_from start rows bytes) ≡ length rows
+entries_counted start [] bytes = refl
+entries_counted start (row ∷ rows) bytes = ap suc (entries_counted row.end rows bytes)
+
+-- the row at a place
+pub nth_is : (start index : ℕ) (rows : List BatchRow) (bytes : List ℕ) (other : BatchRow) (d : Entry) → index < length rows
+    → slice_index_or (entries_from start rows bytes) index d
+    ≡ record { rowid = (slice_index_or rows index other).rowid; payload = take ((slice_index_or rows index other).end - start_at start rows index) (drop (start_at start rows index) bytes) }
+nth_is start index [] bytes other d lt = absurd (omega (arith, lt))
+nth_is start zero (one ∷ rows) bytes other d lt = refl
+nth_is start (suc index) (one ∷ rows) bytes other d lt = nth_is one.end index rows bytes other d (omega (arith, lt))
+
+-- it begins where the row before it ends
+pub start_is : (start index : ℕ) (rows : List BatchRow) (other : BatchRow) → (index ≡ 0 → ⊥) → index < length rows → (slice_index_or rows (index - 1) other).end ≡ start_at start rows index
+start_is start zero rows other some lt = absurd (some refl)
+start_is start (suc index) [] other some lt = absurd (omega (arith, lt))
+start_is start (suc zero) (one ∷ rows) other some lt = at_first rows
+  where
+    at_first : (rows : List BatchRow) → one.end ≡ start_at one.end rows 0
+    at_first [] = refl
+    at_first (row ∷ rows) = refl
+start_is start (suc (suc index)) (one ∷ rows) other some lt =
+    let less : suc (suc index) - 1 ≡ suc index = omega arith in
+    ap (λ (n : ℕ). (slice_index_or (one ∷ rows) n other).end) less ∙ ap (λ (n : ℕ). (slice_index_or rows n other).end) (back index) ∙ start_is one.end (suc index) rows other (λ e. omega (arith, e)) (omega (arith, lt))
+  where
+    back : (n : ℕ) → n ≡ suc n - 1
+    back n = omega arith
 
 -- ---- the rows of a leaf, up to a place
 

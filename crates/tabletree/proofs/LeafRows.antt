@@ -1,6 +1,6 @@
 -- The rows of a leaf, by their places.
-use Rattle.std.proofs.Common.{◌≡◌, refl, sym, ◌∙◌, ap, subst, ℕ, zero, suc, ◌<◌, ◌≤◌, ◌-◌, nat_eq, nat_le, Bool, true, false, ℤ, List, [], ◌∷◌, ◌++◌, length, map, take, drop, slice_index_or, if◌then◌else◌, IsTrue, Result, Ok, Err, SFits, w64, to_z, of_z, arith}
-use Rattle.std.specs.Prelude.{⊤, MatchResult, IsErrAnd, IsOkAnd, ◌↔◌}
+use Rattle.std.proofs.Common.{◌≡◌, refl, sym, ◌∙◌, ap, subst, ℕ, zero, suc, ◌<◌, ◌≤◌, ◌-◌, nat_eq, Bool, false, ℤ, List, [], ◌∷◌, ◌++◌, length, map, take, drop, slice_index_or, IsTrue, Result, Ok, Err, SFits, w64, to_z, of_z, arith}
+use Rattle.std.specs.Prelude.{⊤, MatchResult, IsErrAnd}
 use Rattle.std.proofs.lemmas.Bool.Decides.{nat_tests}
 use Rattle.std.proofs.lemmas.Int.{to_z-of_z}
 use Rattle.std.proofs.lemmas.List.{append-nil, take_all, drop_all}
@@ -12,13 +12,13 @@ use Rattle.pages.specs.Calls.{Limits}
 use Rattle.pages.specs.Map.{PageMap, page_at, AreWhole}
 use Rattle.pages.specs.Counting.{start_of}
 use Rattle.treepage.specs.Cells.{Pairwise}
-use Rattle.treepage.specs.Node.{Local, Node, Rows, IsNode}
+use Rattle.treepage.specs.Node.{Local, Rows, IsNode}
 use Rattle.treepage.specs.Payload.{local_size, table_most}
-use Rattle.treepage.specs.Reading.{Answers, row_of}
+use Rattle.treepage.specs.Reading.{row_of}
 use Rattle.treepage.specs.declared.items.Row.{Row}
 use Rattle.tabletree.proofs.StepsDown.{ok_is}
 use Rattle.tabletree.specs.Tree.{Held, IsHeldAs, Leaf, IsLeaf}
-use Rattle.tabletree.specs.Ways.{IsRowAt, rowids}
+use Rattle.tabletree.specs.Ways.{IsRowAt}
 
 -- a refusal is passed on
 pub refused : {X : Type 0} (P : X → Type 0) (result : Result X Fault) (fault : Fault) → IsErrAnd result (λ e. e ≡ fault) → IsOutside fault → MatchResult result P IsOutside

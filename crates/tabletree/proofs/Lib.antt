@@ -34,3 +34,5 @@ pub mod Coming
 pub mod LeafRows
 pub mod FoundRows
 mod Batches
+mod Scans
+mod Batching

@@ -1,12 +1,12 @@
 -- What a call leaves that reads, where its answer is another's.
 use Rattle.std.proofs.Common.{◌≡◌, ◌∙◌, sym, ℕ, zero}
 use Rattle.std.specs.Prelude.{Result, Ok, Err, IsErrAnd, IfErr}
-use Rattle.sqlval.specs.Faults.{IsNotDiskFault, IsOutside}
+use Rattle.sqlval.specs.Faults.{IsNotDiskFault}
 use Rattle.sqlval.specs.declared.fault.Fault.{Fault}
 use Rattle.sqlval.specs.declared.fault.Fault.TheVariants.{Io, Full, Damaged}
 use Rattle.sqlval.specs.declared.fault.Damage.{Damage}
 use Rattle.pages.specs.Map.{PageMap}
-use Rattle.pages.specs.Calls.{Stays, Causes}
+use Rattle.pages.specs.Calls.{Stays}
 use Rattle.tabletree.specs.SingleLeaf.{placed}
 
 module _ {P K S T : Type 0} (below : P → K) (map : P → PageMap) (count : P → ℕ) (failures : P → ℕ × ℕ) where

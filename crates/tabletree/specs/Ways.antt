@@ -1,11 +1,11 @@
 -- The way from a tree's root down to the leaf where a rowid belongs.
-use Rattle.std.specs.Prelude.{◌≡◌, ◌↔◌, Bool, IsTrue, ℕ, ℤ, ◌<ℤ◌, ◌≤ℤ◌, int_lt, List, [], ◌∷◌, ◌++◌, length, map, slice_index_or, ◌<◌, if◌then◌else◌, ⊤, Option, Some, None, MatchOption, Result, MatchResult}
+use Rattle.std.specs.Prelude.{◌≡◌, ◌↔◌, Bool, IsTrue, ℕ, ℤ, ◌<ℤ◌, ◌≤ℤ◌, int_lt, List, [], ◌∷◌, ◌++◌, length, map, slice_index_or, ◌<◌, if◌then◌else◌, ⊤, Option, Some, MatchOption, Result, MatchResult}
 use Rattle.std.specs.List.{AllByRecursion}
 use Rattle.sqlval.specs.Faults.{IsOutside}
 use Rattle.sqlval.specs.declared.fault.Fault.{Fault}
 use Rattle.page.specs.Leaf.{Entry}
 use Rattle.pages.specs.Map.{PageMap, AreWhole}
-use Rattle.treepage.specs.Node.{Local, Node, Rows, Keys, Entries, Between}
+use Rattle.treepage.specs.Node.{Node, Rows, Keys, Entries, Between}
 use Rattle.treepage.specs.Reading.{NeverFall, below, numbers_of}
 use Rattle.forest.specs.Saying.{Says}
 use Rattle.tabletree.specs.Tree.{Held, Leaf, Tree, top, rows_of, IsSorted, IsLeaf, Lies, IsTableTree}

@@ -3,7 +3,7 @@
 ghost use Rattle.std.specs.Prelude.{◌≡◌, ◌<◌, ◌-◌, [], length, slice_index_or, take, drop, Some, IsTrue, IfOk, OnOk};
 ghost use Rattle.page.specs.Leaf.{Entry};
 ghost use Rattle.pages.specs.Calls.{Stays};
-ghost use Rattle.tabletree.specs.Scanning.{BeginsAll, CopiesRows, GivesBatch, GivesLeaf, IsForward, IsNextOf, entries_from, entry_in};
+ghost use Rattle.tabletree.specs.Scanning.{BeginsAll, CopiesRows, GivesBatch, GivesLeaf, IsForward, IsNextOf, entries_from, entry_in, start_at};
 
 use crate::reading::{count_rows, read_row};
 use crate::way::find_leaf;
@@ -61,6 +61,22 @@ fn entry_at(row: BatchRow, bytes: &[u8], start: usize) -> BatchEntry<'_>
     }
 }
 
+/// Where the payload of the row at a place begins.
+fn start_in(rows: &[BatchRow], index: usize) -> usize
+    requires { index < length rows.now }
+    ensures { result ≡ start_at 0 rows.now index }
+{
+    if index == 0 { 0 } else { rows[index - 1].end }
+}
+
+/// The row at a place of these, whose payloads lie one after another.
+fn nth_entry<'a>(rows: &[BatchRow], bytes: &'a [u8], index: usize) -> BatchEntry<'a>
+    requires { index < length rows.now }
+    ensures { (d : Entry) → entry_in result ≡ slice_index_or (entries_from 0 rows.now bytes.now) index d }
+{
+    entry_at(rows[index], bytes, start_in(rows, index))
+}
+
 /// Reads the rows of a leaf from a place on, in place of these rows and bytes. (What `count_rows` and `read_row` refuse.)
 fn copy_rows<P: Pages>(
     pages: &mut P,
@@ -108,9 +124,7 @@ impl Batch {
         requires { index < length self.now }
         ensures { (d : Entry) → entry_in result ≡ slice_index_or self.now index d }
     {
-        let rows = self.rows.as_slice();
-        let start = if index == 0 { 0 } else { rows[index - 1].end };
-        entry_at(rows[index], self.bytes.as_slice(), start)
+        nth_entry(self.rows.as_slice(), self.bytes.as_slice(), index)
     }
 
     /// Lets go of all rows.

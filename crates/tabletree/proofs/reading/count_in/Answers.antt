@@ -1,4 +1,4 @@
-use Rattle.std.proofs.Common.{◌≡◌, ℕ, Ok, sym, ap, subst}
+use Rattle.std.proofs.Common.{ℕ, Ok, sym, ap, subst}
 use Rattle.treepage.specs.Node.{Rows, IsNode}
 use Rattle.tabletree.proofs.StepsDown.{on_page}
 use Rattle.tabletree.proofs.reading.count_in.Goals as goal

@@ -1,4 +1,4 @@
-use Rattle.std.proofs.Common.{◌≡◌, ◌∙◌}
+use Rattle.std.proofs.Common.{◌∙◌}
 use Rattle.tabletree.proofs.LeafRows.{says_rows, counted_in}
 use Rattle.tabletree.proofs.StepsDown.{not_refused}
 use Rattle.tabletree.proofs.reading.count_rows.Goals as goal

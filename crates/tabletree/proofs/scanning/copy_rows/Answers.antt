@@ -1,5 +1,5 @@
-use Rattle.std.proofs.Common.{rules, SFits, to_z, of_z, ◌≡◌, ◌∙◌, ◌<◌, ◌+◌, ◌++◌, ℕ, ℤ, pos, [], ◌∷◌, List, length, sym, ap, subst, Ok, Err, w64, arith}
-use Rattle.std.specs.Prelude.{⊤, IfErr}
+use Rattle.std.proofs.Common.{rules, SFits, to_z, of_z, ◌≡◌, ◌∙◌, ◌<◌, ◌+◌, ℕ, ℤ, pos, [], List, length, sym, subst, Ok, Err, w64, arith}
+use Rattle.std.specs.Prelude.{IfErr}
 use Rattle.std.proofs.lemmas.Int.{to_z-of_z}
 use Rattle.sqlval.specs.Faults.{IsNotDiskFault}
 use Rattle.pages.specs.Map.{PageMap}
