@@ -27,7 +27,7 @@ refused P (Err e) fault is outside = subst IsOutside (sym is) outside
 
 -- ---- rowids
 
-number_there : (rows : List (ℤ × Local)) (place : ℕ) (d : ℤ × Local) (z : ℤ) → place < length rows → slice_index_or (map (λ row. row.0) rows) place z ≡ (slice_index_or rows place d).0
+pub number_there : (rows : List (ℤ × Local)) (place : ℕ) (d : ℤ × Local) (z : ℤ) → place < length rows → slice_index_or (map (λ row. row.0) rows) place z ≡ (slice_index_or rows place d).0
 number_there [] place d z lt = absurd (omega (arith, lt))
 number_there (row ∷ rows) zero d z lt = refl
 number_there (row ∷ rows) (suc place) d z lt = number_there rows place d z (omega (arith, lt))

@@ -36,3 +36,4 @@ pub mod FoundRows
 mod Batches
 mod Scans
 mod Batching
+mod Lasts

@@ -1,5 +1,5 @@
 -- The way from a tree's root down to the leaf where a rowid belongs.
-use Rattle.std.specs.Prelude.{◌≡◌, ◌↔◌, Bool, IsTrue, ℕ, ℤ, ◌<ℤ◌, ◌≤ℤ◌, int_lt, List, [], ◌∷◌, ◌++◌, length, map, slice_index_or, ◌<◌, if◌then◌else◌, ⊤, Option, Some, MatchOption, Result, MatchResult}
+use Rattle.std.specs.Prelude.{◌≡◌, ◌↔◌, Bool, IsTrue, ℕ, ℤ, ◌<ℤ◌, ◌≤ℤ◌, int_lt, List, [], ◌∷◌, ◌++◌, length, map, slice_index_or, ◌<◌, if◌then◌else◌, ⊤, Option, Some, None, MatchOption, Result, MatchResult}
 use Rattle.std.specs.List.{AllByRecursion}
 use Rattle.sqlval.specs.Faults.{IsOutside}
 use Rattle.sqlval.specs.declared.fault.Fault.{Fault}
@@ -8,6 +8,7 @@ use Rattle.pages.specs.Map.{PageMap, AreWhole}
 use Rattle.treepage.specs.Node.{Node, Rows, Keys, Entries, Between}
 use Rattle.treepage.specs.Reading.{NeverFall, below, numbers_of}
 use Rattle.forest.specs.Saying.{Says}
+use Rattle.tabletree.specs.Rows.{last_rowid}
 use Rattle.tabletree.specs.Tree.{Held, Leaf, Tree, top, rows_of, IsSorted, IsLeaf, Lies, IsTableTree}
 use Rattle.tabletree.specs.declared.way.End.{End}
 use Rattle.tabletree.specs.declared.way.Way.{Way}
@@ -103,6 +104,17 @@ FindsLeaf pages size root rowid result = (rows : List Entry) (used : List ℕ) �
 abbrev pub CountsRows : PageMap → ℕ → ℕ → Result ℕ Fault → Type 0
 CountsRows pages size page result = (leaf : Leaf) → AreWhole size pages → IsLeaf pages size leaf → leaf.page ≡ page
     → MatchResult result (λ count. count ≡ length leaf.rows) IsOutside
+
+-- the last of these numbers
+abbrev pub last_number : List ℤ → Option ℤ
+last_number [] = None
+last_number (number ∷ []) = Some number
+last_number (number ∷ next ∷ numbers) = last_number (next ∷ numbers)
+
+-- the rowid of the last row of a leaf was found; or memory was short, or a disk's call failed
+abbrev pub FindsLastRow : PageMap → ℕ → ℕ → Result (Option ℤ) Fault → Type 0
+FindsLastRow pages size page result = (leaf : Leaf) → AreWhole size pages → IsLeaf pages size leaf → leaf.page ≡ page
+    → MatchResult result (λ rowid. rowid ≡ last_rowid (map (λ held. held.row) leaf.rows)) IsOutside
 
 -- where a leaf has a row at this place, its rowid was found, and its payload stands behind what stood there before
 abbrev pub ReadsRow : PageMap → ℕ → ℕ → ℕ → List ℕ → List ℕ → Result ℤ Fault → Type 0

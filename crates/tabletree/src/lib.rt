@@ -12,7 +12,7 @@ mod reading;
 mod scanning;
 mod way;
 
-pub use finding::get;
+pub use finding::{get, last};
 pub use inserting::insert;
 pub use laws::table_trees_stay;
 pub use leaf::{
