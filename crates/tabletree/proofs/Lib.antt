@@ -37,3 +37,4 @@ mod Batches
 mod Scans
 mod Batching
 mod Lasts
+mod Emptied

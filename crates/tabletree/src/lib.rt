@@ -4,6 +4,7 @@
 
 mod descending;
 mod finding;
+mod freeing;
 mod growing;
 mod inserting;
 mod laws;
@@ -13,6 +14,7 @@ mod scanning;
 mod way;
 
 pub use finding::{get, last};
+pub use freeing::new_tree;
 pub use inserting::insert;
 pub use laws::table_trees_stay;
 pub use leaf::{
