@@ -34,3 +34,8 @@ pub mod WaysDown
 pub mod Coming
 pub mod LeafRows
 pub mod FoundRows
+mod Batches
+mod Scans
+mod Batching
+mod Lasts
+mod Emptied

@@ -1,5 +1,6 @@
 pub mod Calls
 pub mod Fanning
+pub mod Freeing
 pub mod Growing
 pub mod Laws
 pub mod Rows

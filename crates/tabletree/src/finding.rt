@@ -4,7 +4,7 @@ ghost use Rattle.std.specs.Prelude.{◌≡◌, IsTrue};
 ghost use Rattle.pages.specs.Calls.{Stays};
 ghost use Rattle.tabletree.specs.Calls.{FindsLast, FindsRow};
 
-use crate::reading::{is_row_at, read_row};
+use crate::reading::{is_row_at, last_row, read_row};
 use crate::way::find_leaf;
 use pages::Pages;
 use sqlval::{Fault, R};
@@ -25,11 +25,24 @@ pub fn get<P: Pages>(pages: &mut P, root: u32, rowid: i64, out: &mut Vec<u8>) ->
     Ok(true)
 }
 
-/// The greatest rowid, if there is a row. (As `get`.)
+/// The greatest rowid of a tree, if it has rows. (What `get` refuses.)
 pub fn last<P: Pages>(pages: &mut P, root: u32) -> R<Option<i64>>
     ensures found { IsTrue (P.Pages.tells (P.Pages.below pages.old))
         → FindsLast (P.Pages.map pages.old) (P.Pages.limits (P.Pages.below pages.old)).page root result }
     ensures stays { Stays P.Pages.below P.Pages.map P.Pages.count P.Pages.failures result pages.old pages.new }
 {
-    Err(Fault::Memory)
+    // No row is greater.
+    let mut most = i64::MAX;
+    'leaves: loop {
+        let end = find_leaf(pages, root, most)?;
+        let last = last_row(pages, end.way.page)?;
+        if last.is_some() {
+            return Ok(last);
+        }
+        // This leaf has no rows, and those on its left are at most the key there.
+        let Some(key) = end.way.left else {
+            return Ok(None);
+        };
+        most = key;
+    }
 }
