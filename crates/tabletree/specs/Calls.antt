@@ -1,5 +1,5 @@
 -- What calls do with a table's tree: it is a map from rowids to payloads.
-use Rattle.std.specs.Prelude.{◌≡◌, ◌⊎◌, ◌≤◌, ◌+◌, ◌<◌, ℕ, suc, ℤ, Bool, true, false, List, [], ◌∷◌, ◌++◌, length, ⊤, Option, Some, None, Result, MatchResult}
+use Rattle.std.specs.Prelude.{◌≡◌, ◌⊎◌, ◌≤◌, ◌+◌, ℕ, suc, ℤ, Bool, true, false, List, ◌++◌, Option, Some, None, Result, MatchResult}
 use Rattle.sqlval.specs.Faults.{IsOutside}
 use Rattle.sqlval.specs.PageSizes.{IsPageSize}
 use Rattle.sqlval.specs.declared.fault.Fault.{Fault}
@@ -63,30 +63,3 @@ IsInserted old new size root row depth rows used free false = ((payload_at row.r
 abbrev pub InsertsRow : PageMap → PageMap → ℕ → ℕ → Entry → Result Bool Fault → Type 0
 InsertsRow old new size root row result = (rows : List Entry) (used free : List ℕ) (is : Stands old size root rows used free)
     → MatchResult result (IsInserted old new size root row is.tree.depth rows used free) (IsGrowthRefusal root is.tree.depth)
-
--- The pages of a tree are free now.
-pub record AreGivenBack (old new : PageMap) (size : ℕ) (used free : List ℕ) : Type 0 where
-  pub now_free : List ℕ
-  pub free_are : AreFree new size now_free
-  pub moves : Moves old new used free [] now_free
-  pub header : KeepsHeader old new
-  pub same : length new ≡ length old
-
--- Where a tree stands whose root isn't page 1, its pages are free then; or memory was short, or a disk's call failed.
-abbrev pub FreesTree : PageMap → PageMap → ℕ → ℕ → Result ⊤ Fault → Type 0
-FreesTree old new size root result = (rows : List Entry) (used free : List ℕ) → Stands old size root rows used free → 1 < root
-    → MatchResult result (λ done. AreGivenBack old new size used free) IsOutside
-
--- A page was taken that is the root of an empty tree. The file grew only if no page is free.
-pub record IsNewTree (old new : PageMap) (size : ℕ) (free : List ℕ) (root : ℕ) : Type 0 where
-  pub now_free : List ℕ
-  pub after : 1 < root
-  pub stands : Stands new size root [] (root ∷ []) now_free
-  pub moves : Moves old new [] free (root ∷ []) now_free
-  pub header : KeepsHeader old new
-  pub rule : (length new ≡ length old) ⊎ (now_free ≡ [])
-
--- Where these pages are free, a tree without rows is made; or memory was short, a disk's call failed, or there are as many pages as there
--- may be.
-abbrev pub MakesTree : PageMap → PageMap → ℕ → Result ℕ Fault → Type 0
-MakesTree old new size result = (free : List ℕ) → AreFree old size free → IsPageSize size → MatchResult result (IsNewTree old new size free) IsOutsideOrFull

@@ -2,7 +2,7 @@
 
 ghost use Rattle.std.specs.Prelude.{◌≡◌, IsTrue};
 ghost use Rattle.pages.specs.Calls.{Causes};
-ghost use Rattle.tabletree.specs.Calls.{InsertsRow, MakesTree};
+ghost use Rattle.tabletree.specs.Calls.{InsertsRow};
 
 use crate::growing::{Change, packed_below};
 use forest::store_root;
@@ -41,15 +41,4 @@ pub fn insert<P: WritePages>(
             Ok(true)
         }
     }
-}
-
-/// Makes a tree without rows, on a page that is taken. (`Full`)
-pub fn new_tree<P: WritePages>(alloc: Global, pages: &mut P) -> R<u32>
-    ensures made { IsTrue (P.Pages.tells (P.Pages.below pages.old))
-        → MakesTree (P.Pages.map pages.old) (P.Pages.map pages.new) (P.Pages.limits (P.Pages.below pages.old)).page result }
-    ensures kept { P.Pages.below pages.new ≡ P.Pages.below pages.old }
-    ensures causes { Causes result (P.Pages.failures pages.old) (P.Pages.failures pages.new)
-        (P.Pages.count pages.new ≡ (P.Pages.limits (P.Pages.below pages.new)).most) }
-{
-    Err(Fault::Memory)
 }

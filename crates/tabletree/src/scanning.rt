@@ -179,6 +179,7 @@ impl Cursor {
     /// The place before all rows of the tree under a root.
     pub fn new(root: u32) -> Cursor
         ensures root { result.root ≡ root }
+        ensures first { BeginsAll result.next }
     {
         Cursor {
             root,
