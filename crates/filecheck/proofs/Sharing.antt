@@ -37,7 +37,7 @@ fresh_once : (a b n : ℕ) → fresh a b n ≤ 1
 fresh_once a b n = grind (arith, common_steps)
 
 holds_stays : (old new : PageMap) (size root : ℕ) (used : List ℕ) (content : Content) → AreKept old new size used → HoldsUnder old size root used content → HoldsUnder new size root used content
-holds_stays old new size root used (OfRows rows) kept tree = tables.trees_stay old new size root rows used kept tree
+holds_stays old new size root used (OfRows rows) kept tree = (tables.trees_stay old new size root rows used kept tree).0
 holds_stays old new size root used (OfEntries columns entries) kept tree = indexes.trees_stay old new size root columns entries used kept tree
 
 trees_stay : (old new : PageMap) (size : ℕ) (owners : List Owner) → AreKept old new size (used_by owners) → AllByRecursion (IsTree old size) owners → AllByRecursion (IsTree new size) owners

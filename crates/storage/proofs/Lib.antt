@@ -1,6 +1,9 @@
+pub mod AddedRows
 pub mod Answering
 pub mod BoundQueries
+pub mod Creations
 pub mod Insertions
+pub mod NewTables
 pub mod Owners
 pub mod PutRows
 pub mod Roots

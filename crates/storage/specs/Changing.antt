@@ -9,8 +9,11 @@ use Rattle.syntax.specs.declared.change.Change.{Change}
 use Rattle.syntax.specs.declared.change.Change.TheVariants as change
 use Rattle.syntax.specs.declared.change.InsertSource.{InsertSource}
 use Rattle.syntax.specs.declared.change.InsertSource.TheVariants as source
+use Rattle.syntax.specs.declared.create.NewObject.{NewObject}
+use Rattle.syntax.specs.declared.create.NewObject.TheVariants as new
 use Rattle.syntax.specs.declared.statement.Statement.{Statement}
 use Rattle.syntax.specs.declared.statement.Statement.TheVariants as statement
+use Rattle.record.specs.Writing.{AreStorable}
 use Rattle.page.specs.Leaf.{Entry}
 use Rattle.pages.specs.Calls.{IsOutsideOrFull}
 use Rattle.pages.specs.Map.{PageMap}
@@ -21,6 +24,7 @@ use Rattle.catalog.specs.Listed.{plain_table}
 use Rattle.catalog.specs.declared.tables.Table.{Table}
 use Rattle.rowprog.specs.Rows.{TableRow}
 use Rattle.dml.specs.Inserting.{AllStorable}
+use Rattle.storage.specs.Schema.{schema_row}
 use Rattle.storage.specs.Stored.{Stores}
 use Rattle.storage.specs.Works.{Reaches, RefusesWith, change_made}
 
@@ -47,12 +51,21 @@ pub record IsSchemaFull (map : PageMap) (size : ℕ) : Type 0 where
   pub tree : IsTableTree map size 1 rows used
   pub last : last_rowid rows ≡ Some (pos (2 ^ 63 - 1))
 
+abbrev MakesLongText : List ℕ → NewObject → Type 0
+MakesLongText sql (new.Table d) = (root : ℕ) × (AreStorable (schema_row d.name d.name root sql) → ⊥)
+MakesLongText sql _ = ⊥
+
+-- no record can hold the row of the schema table for what the statement creates
+abbrev pub HasLongText : Statement → Type 0
+HasLongText (statement.Create c) = MakesLongText c.sql c.object
+HasLongText _ = ⊥
+
 -- the statement's database can't be stored: a row is too long for a record, or the schema table has no rowid left
 pub record IsTooMuch (s : Statement) (map : PageMap) (size : ℕ) (db : Database) (f : Fault) : Type 0 where
   pub is : f ≡ fault.Unsupported RowSize
   pub made : Database
   pub reaches : Reaches (change_made s db) made
-  pub why : HasLongRow made ⊎ IsSchemaFull map size
+  pub why : HasLongRow made ⊎ (HasLongText s ⊎ IsSchemaFull map size)
 
 abbrev rows_given : InsertSource → ℕ
 rows_given (source.Rows rows) = length rows

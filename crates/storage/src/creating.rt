@@ -1,25 +1,104 @@
 //! CREATE TABLE.
 
-ghost use Rattle.std.specs.Prelude.{◌≡◌, ◌⊎◌, ◌++◌, ◌∷◌, ℕ, [], true, IsTrue, IfOk, IfErr};
+ghost use Rattle.std.specs.Prelude.{◌≡◌, ◌⊎◌, true, IsTrue, IfOk, IfErr, MatchOption, OnErr, ◌+ℤ◌, pos, ◌^◌, ◌-◌, Some, ◌++◌, ◌∷◌, []};
 ghost use Rattle.sqlval.specs.Faults.{IsNotDiskFault};
 ghost use Rattle.sqlval.specs.Refusals.{refusal_of};
 ghost use Rattle.pages.specs.Calls.{Causes};
 ghost use Rattle.syntax.specs.declared.create.NewObject.TheVariants as object;
 ghost use Rattle.syntax.specs.declared.statement.Statement.TheVariants as statement;
-ghost use Rattle.catalog.specs.Listed.{tables_of};
+ghost use Rattle.catalog.specs.Listed.{committed_in, tables_of};
 ghost use Rattle.bind.specs.Creating.{IsCreateRefusal};
 ghost use Rattle.storage.specs.Changing.{MakesChange};
 ghost use Rattle.storage.specs.Forms.{is_table_supported};
+ghost use Rattle.storage.specs.Listing.{AddsRow};
 ghost use Rattle.storage.specs.Schema.{IsCreateOf, IsMadeBeside, schema_row};
 
-use catalog::{Catalog, Table, columns_of, is_reserved};
+use catalog::{
+    Catalog, Table, columns_of, is_reserved, named_databases_are_one, new_tables_are_listed,
+    other_rows_are_listed,
+};
+use filecheck::{table_trees_stand, trees_give_way};
 use pages::WritePages;
 use record::encode_row;
-use sqlval::{Fault, Misuse, Name, R, Text, Value};
+use sqlval::{Damage, Fault, Feature, Misuse, Name, R, Text, Value};
 use std::alloc::Global;
 use syntax::TableDefinition;
+use tabletree::{insert, last, new_tree, rows_come_last, table_trees_stay};
 
-/// Makes a table.
+/// The page of a tree that isn't made yet.
+const NO_PAGE: u32 = 0;
+
+/// The page where the tree of the schema table begins.
+const SCHEMA: u32 = 1;
+
+/// The values of a table's row in the schema table.
+fn schema_values(alloc: Global, name: &Name, root: u32, sql: &Text) -> R<Vec<Value>>
+    ensures values { IfOk result (λ values. values.items ≡ schema_row name.now name.now root sql.now) }
+    ensures memory { IfErr result (λ fault. fault ≡ Fault.Memory) }
+{
+    let mut values = Vec::new(alloc);
+    values.push(Value::Text(Text::from_str(alloc, "table")?))?;
+    values.push(Value::Text(Text::from_str(alloc, name.as_str())?))?;
+    values.push(Value::Text(Text::from_str(alloc, name.as_str())?))?;
+    values.push(Value::Int(i64::from(root)))?;
+    values.push(Value::Text(sql.copy(alloc)?))?;
+    Ok(values)
+}
+
+/// The table of a definition, without a tree as yet. (`Misuse(ReservedName)`, `Exists`, and what `columns_of` refuses.)
+fn table_of(alloc: Global, catalog: &Catalog, definition: &TableDefinition) -> R<Table>
+    ensures made { IfOk result (λ table. IsMadeBeside (tables_of catalog.now) definition.now NO_PAGE table) }
+    ensures why { IfErr result (λ fault. (fault ≡ Fault.Memory)
+        ⊎ IsCreateRefusal (tables_of catalog.now) definition.now (refusal_of fault)) }
+    ensures not_disk { IfErr result (λ fault. IsNotDiskFault fault) }
+{
+    let name = &definition.name;
+    if is_reserved(name.as_str()) {
+        return Err(Fault::Misuse(Misuse::ReservedName));
+    }
+    if catalog.table(name.as_str()).is_some() {
+        return Err(Fault::Exists(name.copy(alloc)?));
+    }
+    Ok(Table {
+        columns: columns_of(alloc, definition)?,
+        name: name.copy(alloc)?,
+        root: NO_PAGE,
+    })
+}
+
+/// The rowid after the last, or 1. (`Unsupported(RowSize)` after the greatest of all.)
+fn rowid_after(last: Option<i64>) -> R<i64>
+    ensures next { IfOk result (λ rowid. MatchOption last (rowid ≡ pos 1) (λ before. rowid ≡ before +ℤ pos 1)) }
+    ensures full { IfErr result (λ fault. (fault ≡ Fault.Unsupported Feature.RowSize) × (last ≡ Some (pos (2 ^ 63 - 1)))) }
+{
+    match last {
+        None => Ok(1),
+        Some(last) => last
+            .checked_add(1)
+            .ok_or(Fault::Unsupported(Feature::RowSize)),
+    }
+}
+
+/// Adds a row of these values to the schema table, after its rows. (`Unsupported(RowSize)` if no record can hold them or no rowid is
+/// left; what `last` and `insert` refuse.)
+fn add_row<P: WritePages>(alloc: Global, pages: &mut P, values: &[Value]) -> R<()>
+    ensures added { IsTrue (P.Pages.tells (P.Pages.below pages.old))
+        → AddsRow (P.Pages.map pages.old) (P.Pages.map pages.new) (P.Pages.limits (P.Pages.below pages.old)).page values.now result }
+    ensures kept { P.Pages.below pages.new ≡ P.Pages.below pages.old }
+    ensures causes { Causes result (P.Pages.failures pages.old) (P.Pages.failures pages.new)
+        (P.Pages.count pages.new ≡ (P.Pages.limits (P.Pages.below pages.new)).most) }
+{
+    rows_come_last();
+    let payload = encode_row(alloc, values)?;
+    let rowid = rowid_after(last(pages, SCHEMA)?)?;
+    if !insert(alloc, pages, SCHEMA, rowid, &payload)? {
+        return Err(Fault::Damaged(Damage::Order, SCHEMA));
+    }
+    Ok(())
+}
+
+/// Makes a table: its row in the schema table, and a tree without rows. (`Misuse(ReservedName)`, `Exists`, and what `columns_of` refuses;
+/// `Unsupported(RowSize)` if the schema table has no rowid left. Then the catalog is as it was, and some pages may have changed.)
 pub fn create_table<P: WritePages>(
     alloc: Global,
     pages: &mut P,
@@ -31,9 +110,21 @@ pub fn create_table<P: WritePages>(
         → IsCreateOf sql.now (object.Table definition.now)
         → MakesChange (statement.Create (record { sql = sql.now; object = object.Table definition.now })) (P.Pages.map pages.old)
         (P.Pages.map pages.new) (P.Pages.limits (P.Pages.below pages.old)).page (tables_of catalog.old) (tables_of catalog.new) result }
+    ensures unlisted { OnErr result (tables_of catalog.new ≡ tables_of catalog.old) }
+    ensures committed { committed_in catalog.new ≡ committed_in catalog.old }
     ensures kept { P.Pages.below pages.new ≡ P.Pages.below pages.old }
     ensures causes { Causes result (P.Pages.failures pages.old) (P.Pages.failures pages.new)
         (P.Pages.count pages.new ≡ (P.Pages.limits (P.Pages.below pages.new)).most) }
 {
-    Err(Fault::Memory)
+    new_tables_are_listed();
+    other_rows_are_listed();
+    named_databases_are_one();
+    trees_give_way();
+    table_trees_stand();
+    table_trees_stay();
+    let mut table = table_of(alloc, catalog, definition)?;
+    table.root = new_tree(alloc, pages)?;
+    let values = schema_values(alloc, &definition.name, table.root, sql)?;
+    add_row(alloc, pages, &values)?;
+    catalog.add(table)
 }

@@ -1,5 +1,5 @@
 -- A tree stays where what trees see of its pages stays.
-use Rattle.std.proofs.Common.{ℕ, zero, suc, ℤ, List, [], ◌∷◌, ◌++◌, subst, sym, arith}
+use Rattle.std.proofs.Common.{refl, ℕ, zero, suc, ℤ, List, [], ◌∷◌, ◌++◌, subst, sym, arith}
 use Rattle.std.specs.List.{flat_map}
 use Rattle.pages.specs.Map.{PageMap}
 use Rattle.treepage.specs.Cells.{Pairwise}
@@ -9,7 +9,8 @@ use Rattle.overflow.proofs.Staying.{payload_kept}
 use Rattle.forest.specs.Sides.{children, each_of, nothing}
 use Rattle.forest.specs.Staying.{AreKept}
 use Rattle.forest.proofs.Staying.{occurs_both, occurs_here, kept_of, says_kept, each_kept}
-use Rattle.tabletree.specs.Tree.{Held, IsHeldAs, Tree, top, pages_of, Lies}
+use Rattle.page.specs.Leaf.{Entry}
+use Rattle.tabletree.specs.Tree.{Held, IsHeldAs, IsTableTree, Tree, top, pages_of, Lies}
 use Rattle.tabletree.specs.Laws.{TreesStay}
 
 held_kept : (old new : PageMap) (size : ℕ) (said : List (ℤ × Local)) (rows : List Held) → AreKept old new size (flat_map (λ held. held.pages) rows)
@@ -45,8 +46,8 @@ lies_kept old new size (suc depth) t kept lies =
           (kept_of old new size (t.page ∷ below) below (λ n some. omega (arith, some)) kept) lies.1,
     )
 
-pub trees_stay : TreesStay
-trees_stay old new size root rows used kept tree = record {
+abbrev stay : (old new : PageMap) (size root : ℕ) (rows : List Entry) (used : List ℕ) → AreKept old new size used → IsTableTree old size root rows used → IsTableTree new size root rows used
+stay old new size root rows used kept tree = record {
   depth = tree.depth;
   tree = tree.tree;
   low = tree.low;
@@ -59,3 +60,6 @@ trees_stay old new size root rows used kept tree = record {
   used_are = tree.used_are;
   once = tree.once;
 }
+
+pub trees_stay : TreesStay
+trees_stay old new size root rows used kept tree = (stay old new size root rows used kept tree, refl)

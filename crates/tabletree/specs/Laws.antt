@@ -6,10 +6,10 @@ use Rattle.forest.specs.Staying.{AreKept}
 use Rattle.tabletree.specs.Rows.{last_rowid, payload_at, with_row}
 use Rattle.tabletree.specs.Tree.{IsTableTree}
 
--- a tree stays where what trees see of its pages stays
+-- a tree stays, as deep as it was, where what trees see of its pages stays
 abbrev pub TreesStay : Type 0
 TreesStay = (old new : PageMap) (size root : ℕ) (rows : List Entry) (used : List ℕ) → AreKept old new size used
-    → IsTableTree old size root rows used → IsTableTree new size root rows used
+    → (tree : IsTableTree old size root rows used) → (now : IsTableTree new size root rows used) × (now.depth ≡ tree.depth)
 
 -- a row after the last one of a tree isn't among its rows, and is put after them
 abbrev pub RowsComeLast : Type 0

@@ -1,0 +1,267 @@
+-- What a CREATE TABLE comes to on the database that pages hold.
+use Rattle.std.proofs.Common.{◌≡◌, ◌⊎◌, ◌≤◌, ◌<◌, ◌+◌, inl, inr, refl, sym, ap, subst, ◌∙◌, ℕ, zero, suc, Bool, true, false, cond, ◌==◌, List, [], ◌∷◌, ◌++◌, length, Option, Some, None, Result, Ok, Err, arith}
+use Rattle.std.specs.Prelude.{⊤, Contains, IfErr, IsErrAnd, MatchResult, OnOk}
+use Rattle.std.specs.List.{AllByRecursion, find}
+use Rattle.std.proofs.lemmas.Bool.Decides.{nat_tests}
+use Rattle.std.proofs.lemmas.List.{append-nil}
+use Rattle.sqlval.specs.PageSizes.{IsPageSize}
+use Rattle.sqlval.specs.Refusals.{Refusal, refusal_of}
+use Rattle.sqlval.specs.declared.fault.Fault.{Fault}
+use Rattle.sqlval.specs.declared.fault.Fault.TheVariants as fault
+use Rattle.sqlval.specs.declared.fault.Damage.TheVariants as damage
+use Rattle.sqlval.specs.declared.value.Value.{Value}
+use Rattle.syntax.specs.declared.create.NewObject.TheVariants as object
+use Rattle.syntax.specs.declared.create.TableDefinition.{TableDefinition}
+use Rattle.syntax.specs.declared.statement.Statement.{Statement}
+use Rattle.syntax.specs.declared.statement.Statement.TheVariants as statement
+use Rattle.dbheader.specs.declared.fields.Header.{Header}
+use Rattle.record.specs.Record.{IsRecord}
+use Rattle.page.specs.Leaf.{Entry}
+use Rattle.pages.specs.Calls.{IsOutsideOrFull}
+use Rattle.pages.specs.Counting.{occurs, fresh, Moves}
+use Rattle.pages.specs.Map.{PageMap, Has, page_at}
+use Rattle.pages.proofs.Moving.{occurs_append}
+use Rattle.treepage.specs.Cells.{Pairwise}
+use Rattle.freelist.specs.Calls.{AreFree}
+use Rattle.forest.specs.Staying.{AreKept}
+use Rattle.tabletree.specs.Calls.{Stands}
+use Rattle.tabletree.specs.Freeing.{IsNewTree}
+use Rattle.tabletree.specs.Laws.{TreesStay}
+use Rattle.tabletree.specs.Tree.{IsTableTree}
+use Rattle.tabletree.proofs.LeafTrees.{root_there}
+use Rattle.filecheck.specs.Layout.{AreShared, IsTree, OfRows, Owner, ReplacesTrees, TreesStand, used_by}
+use Rattle.catalog.specs.Database.{Database, Name, ATable, with_object}
+use Rattle.catalog.specs.Laws.{KeepsOnlyTables}
+use Rattle.catalog.specs.Listed.{Lists, has_only_tables, is_table, plain_table, table_named}
+use Rattle.catalog.specs.Named.{KeepsNamed}
+use Rattle.catalog.specs.NewTables.{IsNewRoot, ListsNewTable}
+use Rattle.catalog.specs.Rows.{are_rows}
+use Rattle.catalog.specs.declared.tables.Table.{Table}
+use Rattle.bind.specs.Checked.{Checked, Meant, faults}
+use Rattle.bind.specs.Creating.{HasColumnsOf, IsCreateRefusal, has_no_rules}
+use Rattle.bind.specs.Schema.{create}
+use Rattle.bind.proofs.CreatedTables.{keeps_once, makes_table, refuses_table}
+use Rattle.rowprog.specs.Rows.{IsRow, TableRow}
+use Rattle.dml.specs.Trees.{CannotGrow}
+use Rattle.storage.specs.Changing.{IsChangeRefusal, IsMade, MayGrowDeep}
+use Rattle.storage.specs.Forms.{is_table_supported}
+use Rattle.storage.specs.Listing.{FindsNoRowid, IsAddedAfter}
+use Rattle.storage.specs.Schema.{AreRowsOf, IsCreateOf, IsMadeBeside, IsRowOf, schema_row}
+use Rattle.storage.specs.Stored.{IsTreeOf, Stores, schema_tree}
+use Rattle.storage.specs.Works.{Reaches, RefusesWith, change_made, of_known}
+use Rattle.storage.proofs.Owners.{joins}
+use Rattle.storage.proofs.PutRows.{kept_trees, rows_here, rows_with, tree_at}
+use Rattle.storage.proofs.Roots.{found_root, roots_of, roots_used}
+use Rattle.storage.proofs.Telling.{more_pages, one_row_more}
+
+-- what follows for every listed database, and for the trees of its file
+pub record Laws : Type 0 where
+  pub lists : ListsNewTable
+  pub tables : KeepsOnlyTables
+  pub named : KeepsNamed
+  pub stand : TreesStand
+  pub give_way : ReplacesTrees
+  pub stay : TreesStay
+
+abbrev pub creating : List ℕ → TableDefinition → Statement
+creating sql d = statement.Create (record { sql = sql; object = object.Table d })
+
+-- ---- its work
+
+refused_work : (k : Checked Database) (r : Refusal) → Contains (faults k) r → RefusesWith (of_known k) r
+refused_work (Meant db []) r has = absurd (omega (arith, has.1))
+refused_work (Meant db (s ∷ rs)) r has = has
+
+pub reached : (sql : List ℕ) (db : Database) (rows_at : ℕ → List TableRow) (tables : List Table) (d : TableDefinition) (root : ℕ) (t : Table) → Lists rows_at tables db → has_no_rules d ≡ true → IsMadeBeside tables d root t
+    → Reaches (change_made (creating sql d) db) (with_object db d.name (ATable (plain_table t [])))
+reached sql db rows_at tables d root t lists plain made =
+    subst (λ (k : Checked Database). Reaches (of_known k) (with_object db d.name (ATable (plain_table t [])))) (sym (makes_table rows_at tables db d t lists plain made.fresh made.columns)) refl
+
+module _ (laws : Laws) (old : PageMap) (size : ℕ) (tables : List Table) (db : Database) (held : Stores old size tables db) (sql : List ℕ) (d : TableDefinition) where
+  -- its definition is refused
+  pub refused_definition : (f : Fault) → (f ≡ fault.Memory) ⊎ IsCreateRefusal tables d (refusal_of f) → IsChangeRefusal (creating sql d) old size db f
+  refused_definition f (inl memory) = inl (inl (inl memory))
+  refused_definition f (inr why) = inr (inl (refused_work (create db (object.Table d)) (refusal_of f) (refuses_table held.rows_at tables db d (refusal_of f) held.lists why)))
+
+  abbrev schema : Owner
+  schema = schema_tree held.schema held.schema_used
+
+  pub page_size : IsPageSize size
+  page_size = subst IsPageSize held.sized held.header_is.served
+
+  schema_stands : Stands old size 1 held.schema held.schema_used held.free
+  schema_stands = laws.stand old size schema held.owners [] held.owners 1 held.schema held.schema_used held.free held.shared refl refl page_size
+
+  pub are_free : AreFree old size held.free
+  are_free = schema_stands.free_are
+
+  -- ---- a tree that is new
+
+  module _ (mid : PageMap) (root : ℕ) (tree : IsNewTree old mid size held.free root) where
+    abbrev made : Owner
+    made = tree_at root [] (root ∷ [])
+
+    shared_with : AreShared mid size (schema ∷ (held.owners ++ made ∷ [])) tree.now_free
+    shared_with =
+        laws.give_way old mid size (schema ∷ held.owners) [] (made ∷ []) [] held.free tree.now_free
+        (subst (λ (os : List Owner). AreShared old size os held.free) (sym (append-nil (schema ∷ held.owners))) held.shared)
+        tree.moves (tree.stands.tree, tt) tree.stands.free_are.has
+
+    -- the schema table's tree is what it was
+    kept : AreKept old mid size held.schema_used
+    kept = record {
+      whole = held.shared.whole;
+      whole_now = shared_with.whole;
+      longer = tree.moves.longer;
+      same = λ n there some. tree.moves.keeps n there.first there.last (let sum = occurs_append n held.schema_used (used_by held.owners) in let once = held.shared.once n in let one = fresh_once 0 (length old) n in omega (arith, sum, once, one, some));
+    }
+      where
+        fresh_once : (a b n : ℕ) → fresh a b n ≤ 1
+        fresh_once a b n = grind (arith)
+
+    pub schema_then : Stands mid size 1 held.schema held.schema_used tree.now_free
+    schema_then =
+        let other = laws.stand mid size schema (held.owners ++ made ∷ []) [] (held.owners ++ made ∷ []) 1 held.schema held.schema_used tree.now_free shared_with refl refl page_size in
+        record { tree = (laws.stay old mid size 1 held.schema held.schema_used kept schema_stands.tree).0; free_are = other.free_are; apart = other.apart; first = other.first; sized = other.sized }
+
+    as_deep : schema_then.tree.depth ≡ schema_stands.tree.depth
+    unfolding kept schema_stands schema_then
+    as_deep = (laws.stay old mid size 1 held.schema held.schema_used kept schema_stands.tree).1
+
+    -- its row isn't added
+    pub refused_row : (t : Table) → has_no_rules d ≡ true → IsMadeBeside tables d root t → (f : Fault) → CannotGrow 1 schema_then.tree.depth 1 f ⊎ FindsNoRowid (schema_row d.name d.name root sql) held.schema f
+        → IsChangeRefusal (creating sql d) old size db f
+    refused_row t plain is f (inl (inl full)) = inl full
+    refused_row t plain is f (inl (inr (deep, least))) = inr (inr (inr (record { root = 1; is = deep; rows = held.schema; used = held.schema_used; tree = schema_stands.tree; deep = omega (arith, least, as_deep) })))
+    refused_row t plain is f (inr (what, inl long)) = inr (inr (inl (record {
+      is = what;
+      made = with_object db d.name (ATable (plain_table t []));
+      reaches = reached sql db held.rows_at tables d root t held.lists plain is;
+      why = inr (inl (root, long));
+    })))
+    refused_row t plain is f (inr (what, inr full)) = inr (inr (inl (record {
+      is = what;
+      made = with_object db d.name (ATable (plain_table t []));
+      reaches = reached sql db held.rows_at tables d root t held.lists plain is;
+      why = inr (inr (record { rows = held.schema; used = held.schema_used; tree = schema_stands.tree; last = full }));
+    })))
+
+    -- ---- the table is listed
+
+    used_both : (n : ℕ) (xs ys : List Owner) → occurs n (used_by (xs ++ ys)) ≡ occurs n (used_by xs) + occurs n (used_by ys)
+    used_both n [] ys = omega arith
+    used_both n (x ∷ xs) ys = let rest = used_both n xs ys in let a = occurs_append n x.used (used_by (xs ++ ys)) in let b = occurs_append n x.used (used_by xs) in omega (arith, rest, a, b)
+
+    here_once : (n : ℕ) (xs : List ℕ) → 1 ≤ occurs n (n ∷ xs)
+    here_once n xs = grind (arith)
+
+    at_most_one : (a b n : ℕ) → fresh a b n ≤ 1
+    at_most_one a b n = grind (arith)
+
+    none_there : occurs root (roots_of tables) ≡ 0
+    none_there =
+        let roots = roots_used old size held.rows_at root tables held.owners held.each held.shared.trees.1 in
+        let once = shared_with.once root in
+        let one = at_most_one 0 (length mid) root in
+        let sum = occurs_append root held.schema_used (used_by (held.owners ++ made ∷ [])) in
+        let both = used_both root held.owners (made ∷ []) in
+        let own : 1 ≤ occurs root (used_by (made ∷ [])) = here_once root [] in
+        omega (arith, roots, once, one, sum, both, own)
+
+    module _ (t : Table) (is : IsMadeBeside tables d root t) (plain : is_table_supported d ≡ true) (text : IsCreateOf sql (object.Table d)) (new : PageMap)
+        (added : IsAddedAfter mid new size (schema_row d.name d.name root sql) held.schema held.schema_used tree.now_free) where
+      own_root : IsNewRoot t.root tables
+      own_root name u found same =
+          let there = found_root (is_table name) tables u found in
+          let at : 1 ≤ occurs root (roots_of tables) = subst (λ n. 1 ≤ occurs n (roots_of tables)) (same ∙ is.root_is) there in
+          absurd (omega (arith, at, none_there))
+
+      unnamed : table_named t.name tables ≡ None
+      unnamed = subst (λ (n : Name). table_named n tables ≡ None) (sym is.name_is) is.fresh.new
+
+      lists_more : Lists (rows_with held.rows_at t.root []) (tables ++ t ∷ []) (with_object db d.name (ATable (plain_table t [])))
+      lists_more = subst (λ (n : Name). Lists (rows_with held.rows_at t.root []) (tables ++ t ∷ []) (with_object db n (ATable (plain_table t [])))) is.name_is
+          (laws.lists held.rows_at tables db t held.lists unnamed own_root)
+
+      no_rows : rows_with held.rows_at t.root [] t.root ≡ []
+      no_rows = rows_here held.rows_at t.root t.root [] refl
+
+      new_tree : IsTreeOf (rows_with held.rows_at t.root []) t made
+      new_tree = record {
+        root_is = sym is.root_is;
+        entries = [];
+        content_is = refl;
+        each = subst (λ (rows : List TableRow). Pairwise (IsRow (length t.columns)) [] rows) (sym no_rows) tt;
+        fit = subst (λ (rows : List TableRow). are_rows (plain_table t rows) ≡ true) (sym no_rows) refl;
+      }
+
+      longer : length old ≤ length new
+      longer = let a = tree.moves.longer in let b = added.becomes.moves.longer in omega (arith, a, b)
+
+      new_row : IsRowOf (length new) tables t added.entry
+      new_row = record {
+        sql = sql;
+        definition = d;
+        creates = text;
+        supported_forms = plain;
+        made = subst (λ (n : ℕ). IsMadeBeside tables d n t) (sym is.root_is) is;
+        above = omega (arith, is.root_is, tree.after);
+        within = let there = (root_there mid size root [] (root ∷ []) tree.stands.tree).last in let more = added.becomes.moves.longer in omega (arith, is.root_is, there, more);
+        name = d.name;
+        name_is = refl;
+        table_name = d.name;
+        table_name_is = refl;
+        row_is = subst (λ (n : ℕ). IsRecord added.entry.payload (schema_row d.name d.name n sql)) (sym is.root_is) added.is;
+      }
+
+      none_at : occurs t.root (roots_of tables) ≡ 0
+      none_at = subst (λ n. occurs n (roots_of tables) ≡ 0) (sym is.root_is) none_there
+
+      pub stores_more : Stores new size (tables ++ t ∷ []) (with_object db d.name (ATable (plain_table t [])))
+      stores_more =
+          let first = tree.header held.header held.header_is in
+          let then_is = added.becomes.header (record held.header { freelist_trunk = first.0; freelist_count = first.1 }) first.2 in
+          record {
+            rows_at = rows_with held.rows_at t.root [];
+            lists = lists_more;
+            only = laws.tables db d.name (plain_table t []) held.only;
+            named = laws.named db d.name (ATable (plain_table t [])) held.named;
+            once = keeps_once tables d t held.once is.fresh.once is.columns;
+            header = record held.header { freelist_trunk = then_is.0; freelist_count = then_is.1 };
+            header_is = then_is.2;
+            sized = held.sized;
+            schema = held.schema ++ added.entry ∷ [];
+            schema_used = added.becomes.now_used;
+            tell = one_row_more (length new) [] tables held.schema t added.entry (more_pages (length old) (length new) longer [] tables held.schema held.tell) new_row;
+            owners = held.owners ++ made ∷ [];
+            free = added.becomes.now_free;
+            each = joins (IsTreeOf (rows_with held.rows_at t.root [])) tables held.owners (t ∷ []) (made ∷ []) (kept_trees held.rows_at t.root [] tables held.owners held.each none_at) (new_tree, tt);
+            shared = laws.give_way mid new size [] (schema ∷ []) (schema_tree (held.schema ++ added.entry ∷ []) added.becomes.now_used ∷ []) (held.owners ++ made ∷ []) tree.now_free added.becomes.now_free
+                shared_with
+                (subst (λ (ps : List ℕ). Moves mid new ps tree.now_free (added.becomes.now_used ++ []) added.becomes.now_free) (sym (append-nil held.schema_used))
+                (subst (λ (ps : List ℕ). Moves mid new held.schema_used tree.now_free ps added.becomes.now_free) (sym (append-nil added.becomes.now_used)) added.becomes.moves))
+                (added.becomes.stands.tree, tt) added.becomes.stands.free_are.has;
+          }
+
+      pub creates : (after : List Table) → after ≡ tables ++ t ∷ [] → has_no_rules d ≡ true → IsMade (creating sql d) db new size after
+      creates after listed no_rules = record {
+        made = with_object db d.name (ATable (plain_table t []));
+        reaches = reached sql db held.rows_at tables d root t held.lists no_rules is;
+        stored = subst (λ ts. Stores new size ts (with_object db d.name (ATable (plain_table t [])))) (sym listed) stores_more;
+      }
+
+-- ---- calls that pass a refusal on
+
+-- the table of a definition, with the page where its tree begins
+pub rooted : (tables : List Table) (d : TableDefinition) (none root : ℕ) (t u : Table) → u.name ≡ t.name → u.columns ≡ t.columns → u.root ≡ root → IsMadeBeside tables d none t → IsMadeBeside tables d root u
+rooted tables d none root t u name columns at is =
+    record { fresh = is.fresh; name_is = name ∙ is.name_is; root_is = at; columns = subst (λ cs. HasColumnsOf d (record u { columns = cs })) (sym columns) (subst (λ cs. HasColumnsOf d (record t { columns = cs })) refl is.columns) }
+
+pub handed_on : (P : ⊤ → Type 0) (Q : Fault → Type 0) (r : Result ⊤ Fault) (f : Fault) → IsErrAnd r (λ e. e ≡ f) → Q f → MatchResult r P Q
+handed_on P Q (Ok x) f is why = absurd is
+handed_on P Q (Err e) f is why = subst Q (sym is) why
+
+-- the catalog takes the table, or memory is short
+pub taken : (Listed Made : Type 0) (Q : Fault → Type 0) (r : Result ⊤ Fault) → OnOk r Listed → IfErr r (λ f. f ≡ fault.Memory) → (Listed → Made) → Q fault.Memory → MatchResult r (λ done. Made) Q
+taken Listed Made Q (Ok done) listed memory make short = make listed
+taken Listed Made Q (Err f) listed memory make short = subst Q (sym memory) short
