@@ -97,7 +97,7 @@ no_link : (pages : PageMap) (usable : ℕ) (bytes chain : List ℕ) → IsChain 
 no_link pages usable bytes [] is none = refl
 no_link pages usable bytes (page ∷ chain) is none = absurd (omega (arith, (is.0).some, none))
 
-local_whole : (usable most size : ℕ) → size ≤ most → local_size usable most size ≡ size
+pub local_whole : (usable most size : ℕ) → size ≤ most → local_size usable most size ≡ size
 local_whole usable most size le = grind (arith, nat_tests)
 
 pub lies_whole : (pages : PageMap) (usable most : ℕ) (bytes payload chain : List ℕ) → IsPayload pages usable most bytes payload chain → length payload ≤ most → bytes ≡ payload

@@ -38,3 +38,5 @@ mod Scans
 mod Batching
 mod Lasts
 mod Emptied
+mod Pieces
+mod Givings

@@ -44,7 +44,7 @@ up_append most xs ys a b n some = elim (cases_lt 0 (occurs n xs)) [
 up_none : (most : ℕ) → AreUpTo most []
 up_none most n some = absurd (omega (arith, some))
 
-chain_up : (map' : PageMap) (usable : ℕ) (bytes chain : List ℕ) → IsChain map' usable bytes chain → AreUpTo (length map') chain
+pub chain_up : (map' : PageMap) (usable : ℕ) (bytes chain : List ℕ) → IsChain map' usable bytes chain → AreUpTo (length map') chain
 chain_up map' usable bytes [] h = up_none (length map')
 chain_up map' usable bytes (page ∷ chain) h = up_cons (length map') page chain h.0.has.last (chain_up map' usable (drop (usable - 4) bytes) chain h.1)
 

@@ -15,7 +15,7 @@ use sqlval::R;
 use treepage::{Row, TreePage};
 
 /// The row at a place of a leaf of these bytes. (`Damaged` for one that is no page of a tree, or has no such row.)
-fn row_in(bytes: &[u8], leaf: u32, place: usize) -> R<Row<'_>>
+pub(crate) fn row_in(bytes: &[u8], leaf: u32, place: usize) -> R<Row<'_>>
     ensures only { (rows : List (ℤ × LocalIs)) (d : ℤ × LocalIs) → IsNode bytes.now (counting.start_of leaf) (Rows rows)
         → place < length rows
         → Answers row_of result (slice_index_or rows place d) }
