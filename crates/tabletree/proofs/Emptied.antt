@@ -49,7 +49,7 @@ pub record IsEmptied (old new : PageMap) (size root : ℕ) (free : List ℕ) : T
   pub header : KeepsHeader old new
   pub same : length new ≡ length old
 
-other_or_none : (n root : ℕ) (free : List ℕ) → occurs root free ≡ 0 → occurs n free ≤ 1 → occurs n (root ∷ []) + occurs n free ≤ 1
+pub other_or_none : (n root : ℕ) (free : List ℕ) → occurs root free ≡ 0 → occurs n free ≤ 1 → occurs n (root ∷ []) + occurs n free ≤ 1
 other_or_none n root free none once = elim (cases_eq root n) [
   | inl same ↦ (let gone = subst (λ (k : ℕ). occurs k free ≡ 0) same none in let self = at_most n root in omega (arith, gone, self))
   | inr other ↦ (let gone = not_there n root other in omega (arith, gone, once))

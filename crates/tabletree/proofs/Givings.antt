@@ -78,7 +78,7 @@ given_then old mid new size used more free given then_given = record {
 }
 
 -- what is free then, where pages that are there were given back
-given_by : (old new : PageMap) (size : ℕ) (used free now_free : List ℕ) → AreFree old size free → AreUpTo (length old) used → ((n : ℕ) → occurs n used + occurs n free ≤ 1) → occurs 1 used ≡ 0
+pub given_by : (old new : PageMap) (size : ℕ) (used free now_free : List ℕ) → AreFree old size free → AreUpTo (length old) used → ((n : ℕ) → occurs n used + occurs n free ≤ 1) → occurs 1 used ≡ 0
     → HasFree new size now_free → Moves old new used free [] now_free → KeepsHeader old new → length new ≡ length old → AreGivenBack old new size used free
 given_by old new size used free now_free are up apart first has moves header same = record {
   now_free = now_free;

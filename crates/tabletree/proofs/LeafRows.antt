@@ -74,7 +74,7 @@ said_there pages size (one ∷ said) (row ∷ rows) zero item d all lt = (omega 
 said_there pages size (one ∷ said) (row ∷ rows) (suc place) item d all lt =
     (let rest = said_there pages size said rows place item d all.1 (omega (arith, lt)) in (omega (arith, rest.0), rest.1))
 
-said_counted : (pages : PageMap) (size : ℕ) (said : List (ℤ × Local)) (rows : List Held) → Pairwise (IsHeldAs pages size) said rows → length said ≡ length rows
+pub said_counted : (pages : PageMap) (size : ℕ) (said : List (ℤ × Local)) (rows : List Held) → Pairwise (IsHeldAs pages size) said rows → length said ≡ length rows
 said_counted pages size [] [] all = refl
 said_counted pages size [] (row ∷ rows) all = absurd all
 said_counted pages size (one ∷ said) [] all = absurd all

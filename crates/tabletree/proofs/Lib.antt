@@ -40,3 +40,4 @@ mod Lasts
 mod Emptied
 mod Pieces
 mod Givings
+mod Clearing

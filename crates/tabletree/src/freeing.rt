@@ -5,11 +5,11 @@ ghost use Rattle.sqlval.specs.Faults.{IsNotDiskFault};
 ghost use Rattle.pages.specs.Calls.{Causes, Stays};
 ghost use Rattle.pages.specs.Counting as counting;
 ghost use Rattle.treepage.specs.Node.{Node, Keys, IsNode};
-ghost use Rattle.tabletree.specs.Freeing.{MakesTree, FindsParts, FreesBelow, FreesRow, FreesRows, FreesTree, IsOfTable, ReadsChild, parts_for};
+ghost use Rattle.tabletree.specs.Freeing.{ClearsTree, MakesTree, FindsParts, FreesBelow, FreesRow, FreesRows, FreesTree, IsOfTable, ReadsChild, parts_for};
 ghost use Rattle.tabletree.specs.Stepping as stepping;
 
 use crate::descending::child_at;
-use crate::leaf::{at_page, empty, start_of};
+use crate::leaf::{at_page, emptied, empty, start_of};
 use crate::reading::row_in;
 use freelist::{give, take};
 use overflow::free_chain;
@@ -129,4 +129,56 @@ fn free_rows<P: WritePages>(alloc: Global, pages: &mut P, leaf: u32, len: usize)
         free_row(alloc, pages, leaf, place)?;
     }
     Ok(())
+}
+
+/// Gives the pages back that stand below a page, where as many more pages as `ways` may stand on a way below it. The page itself stays.
+/// (`Damaged(Depth, number)` if a way is longer; `Damaged` for pages that are none of a table's tree; what `give` refuses. Pages that were
+/// given back before stay so.)
+fn free_below<P: WritePages>(alloc: Global, pages: &mut P, number: u32, ways: u32) -> R<()>
+    ensures freed { IsTrue (P.Pages.tells (P.Pages.below pages.old))
+        → FreesBelow (P.Pages.map pages.old) (P.Pages.map pages.new) (P.Pages.limits (P.Pages.below pages.old)).page number ways result }
+    ensures kept { P.Pages.below pages.new ≡ P.Pages.below pages.old }
+    ensures causes { Causes result (P.Pages.failures pages.old) (P.Pages.failures pages.new) ⊥ }
+{
+    let len = match parts_of(pages, number)? {
+        Parts::Cells(len) => return free_rows(alloc, pages, number, len),
+        Parts::Children(len) => len,
+    };
+    if ways == 0 {
+        return Err(Fault::Damaged(Damage::Depth, number));
+    }
+    'children: for place in 0..len {
+        let child = child_of(pages, number, place)?;
+        free_below(alloc, pages, child, ways - 1)?;
+        give(alloc, pages, child)?;
+    }
+    Ok(())
+}
+
+/// Gives all pages of the tree under a root back. (`Damaged(Depth, ..)` if a way has more than 20 pages; what `free_below` and `give` refuse.
+/// Pages that were given back before stay so.)
+pub fn free_tree<P: WritePages>(alloc: Global, pages: &mut P, root: u32) -> R<()>
+    ensures freed { IsTrue (P.Pages.tells (P.Pages.below pages.old))
+        → FreesTree (P.Pages.map pages.old) (P.Pages.map pages.new) (P.Pages.limits (P.Pages.below pages.old)).page root result }
+    ensures kept { P.Pages.below pages.new ≡ P.Pages.below pages.old }
+    ensures causes { Causes result (P.Pages.failures pages.old) (P.Pages.failures pages.new)
+        (P.Pages.count pages.new ≡ (P.Pages.limits (P.Pages.below pages.new)).most) }
+{
+    free_below(alloc, pages, root, WAYS)?;
+    give(alloc, pages, root)
+}
+
+/// Takes all rows out of the tree under a root, which keeps its number and is its one page then. (What `free_below`, `load` and `put`
+/// refuse. Pages that were given back before stay so.)
+pub fn clear<P: WritePages>(alloc: Global, pages: &mut P, root: u32) -> R<()>
+    ensures cleared { IsTrue (P.Pages.tells (P.Pages.below pages.old))
+        → ClearsTree (P.Pages.map pages.old) (P.Pages.map pages.new) (P.Pages.limits (P.Pages.below pages.old)).page root result }
+    ensures kept { P.Pages.below pages.new ≡ P.Pages.below pages.old }
+    ensures causes { Causes result (P.Pages.failures pages.old) (P.Pages.failures pages.new)
+        (P.Pages.count pages.new ≡ (P.Pages.limits (P.Pages.below pages.new)).most) }
+{
+    free_below(alloc, pages, root, WAYS)?;
+    pages.load(root)?;
+    let page = emptied(alloc, pages.loaded(), root)?;
+    pages.put(root, page.as_slice())
 }
