@@ -4,35 +4,34 @@ use Rattle.std.proofs.lemmas.Bool.{cases_lt}
 use Rattle.std.proofs.lemmas.Grind.{common_steps}
 use Rattle.std.proofs.lemmas.List.{append-nil}
 use Rattle.std.specs.List.{flat_map}
-use Rattle.std.specs.Prelude.{⊤, Result, MatchResult}
+use Rattle.std.specs.Prelude.{⊤, Result, MatchResult, OnOk, IfErr}
 use Rattle.sqlval.specs.Faults.{IsOutside}
 use Rattle.sqlval.specs.declared.fault.Fault.{Fault}
 use Rattle.pages.specs.Calls.{Limits, Causes}
 use Rattle.page.specs.Leaf.{Entry, IsTableLeaf}
 use Rattle.pages.specs.Counting.{occurs, start_of, Moves}
-use Rattle.pages.specs.Map.{PageMap, Has, AreWhole, with_page}
+use Rattle.pages.specs.Map.{PageMap, Has, IsThere, with_page}
 use Rattle.pages.proofs.Moving.{in_sequence, occurs_append, not_fresh}
-use Rattle.freelist.specs.Calls.{AreFree, IsGiven, Gives}
+use Rattle.freelist.specs.Calls.{IsGiven, Gives}
 use Rattle.overflow.proofs.Laying.{keeps_then}
 use Rattle.treepage.specs.Node.{Node, Rows, Keys}
 use Rattle.forest.specs.Saying.{Says}
 use Rattle.forest.specs.Sides.{Each, children, each_of, nothing}
 use Rattle.forest.specs.Storing.{CanStand}
 use Rattle.tabletree.specs.Calls.{Stands}
-use Rattle.tabletree.specs.Freeing.{IsCleared, AreGivenBack, IsBeside, IsOfTable, FindsParts, FreesRows, FreesBelow, ReadsChild, parts_for}
+use Rattle.tabletree.specs.Freeing.{IsCleared, AreGivenBack, IsBeside, IsOfTable, FindsParts, FreesRows, FreesBelow, ReadsChild}
 use Rattle.tabletree.specs.Growing.{below_of, all_of}
 use Rattle.tabletree.specs.Stepping.{child_at}
 use Rattle.tabletree.specs.Tree.{Tree, top, pages_of, Lies}
 use Rattle.tabletree.specs.declared.freeing.Parts.{Parts}
 use Rattle.tabletree.specs.declared.freeing.Parts.TheVariants.{Cells, Children}
 use Rattle.tabletree.proofs.Emptied.{other_or_none, emptied}
-use Rattle.tabletree.proofs.Givings.{none_given, given_as, given_then, given_by, up_to, up_to_more, up_to_all, among, IsAfterPart, after_part}
-use Rattle.tabletree.proofs.Holes.{Kids}
+use Rattle.tabletree.proofs.Givings.{none_given, given_as, given_then, given_by, up_to, up_to_more, up_to_all, among, after_part}
 use Rattle.tabletree.proofs.LeafRows.{said_counted}
 use Rattle.tabletree.proofs.Passing.{beside_used, up_cons, up_none, top_there}
 use Rattle.tabletree.proofs.Planting.{pages_split}
 use Rattle.tabletree.proofs.Roots.{root_under}
-use Rattle.tabletree.proofs.Staying.{AreSeen, says_stays, lies_stays}
+use Rattle.tabletree.proofs.Staying.{says_stays, lies_stays}
 
 -- ---- what the page at the top says
 
@@ -343,6 +342,12 @@ standing old size root rows used free is =
     let under = root_under old size root any rows used free is in
     record { top_is = under.top_is; lies = under.lies; shallow = under.shallow; apart = under.apart; first = under.first; free_are = under.free_are }
 
+-- its root is there, also where its other pages were given back
+pub root_left : (old mid : PageMap) (size root : ℕ) (rows : List Entry) (used free : List ℕ) (is : Stands old size root rows used free) → AreGivenBack old mid size (below_of is.tree.depth is.tree.tree) free → IsThere mid size root
+root_left old mid size root rows used free is given =
+    let over = left_over old mid size root 19 is.tree.depth is.tree.tree free (standing old size root rows used free is) given in
+    record { has = over.has; whole = (given.free_are).whole root over.has }
+
 -- where all pages but the root's were given back, and that is a leaf without rows, the tree was cleared
 pub cleared : (old mid new : PageMap) (size root : ℕ) (rows : List Entry) (used free bytes : List ℕ) (is : Stands old size root rows used free) → AreGivenBack old mid size (below_of is.tree.depth is.tree.tree) free
     → CanStand mid size root bytes → IsTableLeaf bytes (start_of root) [] → new ≡ with_page mid root bytes → IsCleared old new size root used free
@@ -364,3 +369,9 @@ cleared old mid new size root rows used free bytes is given can leaf put =
       header = keeps_then old mid new given.header done.header;
       same = done.same ∙ given.same;
     }
+
+pub put_cleared : (old mid new : PageMap) (size root : ℕ) (rows : List Entry) (used free bytes : List ℕ) (result : Result ⊤ Fault) (is : Stands old size root rows used free)
+    → AreGivenBack old mid size (below_of is.tree.depth is.tree.tree) free → CanStand mid size root bytes → IsTableLeaf bytes (start_of root) [] → OnOk result (new ≡ with_page mid root bytes)
+    → (IsThere mid size root → length bytes ≡ size → IfErr result IsOutside) → MatchResult result (λ done. IsCleared old new size root used free) IsOutside
+put_cleared old mid new size root rows used free bytes (Ok done) is given can leaf put refusal = cleared old mid new size root rows used free bytes is given can leaf put
+put_cleared old mid new size root rows used free bytes (Err fault) is given can leaf put refusal = refusal (root_left old mid size root rows used free is given) can.sized

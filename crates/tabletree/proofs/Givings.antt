@@ -1,8 +1,7 @@
 -- Pages of a tree are given back, part by part.
-use Rattle.std.proofs.Common.{◌≡◌, refl, sym, ◌∙◌, ap, subst, ℕ, zero, suc, ◌<◌, ◌≤◌, ◌+◌, ◌-◌, ℤ, pos, Bool, IsTrue, Ok, Err, List, [], ◌∷◌, ◌++◌, length, take, drop, map, slice_index_or, arith}
-use Rattle.std.proofs.lemmas.Bool.{cases_lt, cases_eq}
+use Rattle.std.proofs.Common.{◌≡◌, refl, sym, ◌∙◌, ap, subst, ℕ, zero, suc, ◌<◌, ◌≤◌, ◌+◌, ℤ, pos, Bool, IsTrue, Ok, Err, List, [], ◌∷◌, ◌++◌, length, take, slice_index_or, arith}
 use Rattle.std.proofs.lemmas.Grind.{common_steps}
-use Rattle.std.proofs.lemmas.List.{append-nil, take_more, take_all, length-drop, drop_all}
+use Rattle.std.proofs.lemmas.List.{append-nil, take_more, take_all, length-drop}
 use Rattle.std.proofs.lemmas.List.Concat.{flat_map-append}
 use Rattle.std.specs.List.{flat_map}
 use Rattle.std.specs.Prelude.{⊤, Result, MatchResult}
@@ -10,25 +9,20 @@ use Rattle.sqlval.specs.Faults.{IsOutside}
 use Rattle.sqlval.specs.declared.fault.Fault.{Fault}
 use Rattle.pages.specs.Calls.{Limits, Causes}
 use Rattle.pages.specs.Counting.{occurs, fresh, IsOnce, Moves}
-use Rattle.pages.specs.Map.{PageMap, Has, AreWhole}
+use Rattle.pages.specs.Map.{PageMap, AreWhole}
 use Rattle.pages.proofs.Moving.{in_sequence, occurs_append}
-use Rattle.freelist.specs.Calls.{AreFree, HasFree, IsGiven, KeepsHeader}
+use Rattle.freelist.specs.Calls.{AreFree, HasFree, KeepsHeader}
 use Rattle.overflow.specs.Calls.{IsFreed}
-use Rattle.overflow.specs.Chains.{IsChain, IsPayload}
+use Rattle.overflow.specs.Chains.{IsPayload}
 use Rattle.overflow.proofs.Laying.{keeps_then, same_keeps}
-use Rattle.treepage.specs.Cells.{Pairwise}
-use Rattle.treepage.specs.Node.{Local, Rows, Keys}
+use Rattle.treepage.specs.Node.{Local, Rows}
 use Rattle.treepage.specs.Payload.{local_size, table_most}
 use Rattle.forest.specs.Saying.{Says}
-use Rattle.forest.specs.Sides.{Each, children, each_of, nothing}
 use Rattle.tabletree.specs.Freeing.{AreGivenBack, IsBeside, FreesRow}
-use Rattle.tabletree.specs.Growing.{below_of, all_of}
-use Rattle.tabletree.specs.Stepping.{child_at}
-use Rattle.tabletree.specs.Tree.{Held, IsHeldAs, Leaf, Tree, top, pages_of, Lies}
+use Rattle.tabletree.specs.Tree.{Held, IsHeldAs, Leaf}
 use Rattle.tabletree.proofs.LeafRows.{local_whole, said_there}
-use Rattle.tabletree.proofs.Passing.{AreUpTo, chain_up, after, tree_up, others_seen, beside_used}
-use Rattle.tabletree.proofs.Planting.{pages_split}
-use Rattle.tabletree.proofs.Staying.{AreSeen, payload_stays, says_stays, lies_stays}
+use Rattle.tabletree.proofs.Passing.{AreUpTo, chain_up, after, others_seen, beside_used}
+use Rattle.tabletree.proofs.Staying.{AreSeen, payload_stays, says_stays}
 
 fresh_none : (a n : ℕ) → fresh a a n ≡ 0
 fresh_none a n = grind (arith, common_steps)

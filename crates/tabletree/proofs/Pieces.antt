@@ -1,5 +1,5 @@
 -- What is read of a page on the way to the pages below it.
-use Rattle.std.proofs.Common.{◌≡◌, refl, sym, ◌∙◌, ap, subst, ℕ, suc, ◌<◌, ◌≤◌, ◌+◌, ◌-◌, ◌^◌, ℤ, List, [], ◌∷◌, length, Result, Ok, Err, ◌⊎◌, inl, inr, arith}
+use Rattle.std.proofs.Common.{◌≡◌, refl, sym, ap, subst, ℕ, suc, ◌+◌, ◌-◌, ◌^◌, List, [], ◌∷◌, length, Result, Ok, Err, ◌⊎◌, inl, inr, arith}
 use Rattle.std.specs.Prelude.{MatchResult, min}
 use Rattle.sqlval.specs.declared.fault.Fault.{Fault}
 use Rattle.pages.specs.Counting.{start_of}
@@ -11,7 +11,6 @@ use Rattle.treepage.specs.declared.items.Kind.{Kind}
 use Rattle.treepage.specs.declared.items.Kind.TheVariants.{IndexLeaf, IndexInterior}
 use Rattle.forest.specs.Saying.{Says}
 use Rattle.tabletree.specs.Freeing.{parts_for, IsOfTable}
-use Rattle.tabletree.specs.declared.freeing.Parts.{Parts}
 use Rattle.tabletree.specs.declared.freeing.Parts.TheVariants.{Cells, Children}
 
 -- what a page says, its bytes say

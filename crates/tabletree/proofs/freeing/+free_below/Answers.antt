@@ -1,12 +1,11 @@
-use Rattle.std.proofs.Common.{◌≡◌, ◌∙◌, ◌≤◌, ◌+◌, ℕ, suc, List, Ok, Err, subst, arith}
-use Rattle.std.specs.Prelude.{MatchResult}
+use Rattle.std.proofs.Common.{◌∙◌, ℕ, Ok, Err, arith}
 use Rattle.sqlval.specs.Faults.{IsOutside}
 use Rattle.pages.specs.Map.{PageMap}
 use Rattle.freelist.proofs.Causing.{causes_after}
 use Rattle.tabletree.specs.Freeing.{AreGivenBack, FreesRows}
 use Rattle.tabletree.specs.Growing.{below_of}
 use Rattle.tabletree.specs.Tree.{Tree}
-use Rattle.tabletree.proofs.Clearing.{parts_refused, leaf_given, way_long, by_kids, no_kid_given, turn_unread, turn_unfreed, turn, all_gone}
+use Rattle.tabletree.proofs.Clearing.{parts_refused, leaf_given, way_long, by_kids, turn_unread, turn_unfreed, turn, all_gone}
 use Rattle.tabletree.proofs.FoundRows.{since}
 use Rattle.tabletree.proofs.LeafRows.{refused}
 use Rattle.tabletree.proofs.freeing.+free_below.Goals as goal

@@ -1,4 +1,4 @@
-use Rattle.std.proofs.Common.{◌≡◌, ℕ, sym, subst}
+use Rattle.std.proofs.Common.{ℕ, sym, subst}
 use Rattle.treepage.specs.Node.{Keys, IsNode}
 use Rattle.tabletree.proofs.Pieces.{child_answers}
 use Rattle.tabletree.proofs.StepsDown.{on_page}

@@ -1,4 +1,4 @@
-use Rattle.std.proofs.Common.{◌≡◌, ◌∙◌}
+use Rattle.std.proofs.Common.{◌∙◌}
 use Rattle.treepage.specs.Node.{Keys}
 use Rattle.tabletree.proofs.Pieces.{says_it}
 use Rattle.tabletree.proofs.LeafRows.{refused}

@@ -1,7 +1,6 @@
-use Rattle.std.proofs.Common.{rules, ◌≡◌, ◌∙◌, ◌≤◌, ◌-◌, ℕ, ℤ, List, Ok, IsTrue, length, sym, ap, subst, slice_index_or, arith}
+use Rattle.std.proofs.Common.{rules, ◌≡◌, ◌∙◌, ◌≤◌, ◌-◌, ℕ, ℤ, List, IsTrue, length, sym, ap, subst, slice_index_or, arith}
 use Rattle.pages.specs.Map.{PageMap}
 use Rattle.overflow.specs.Calls.{Frees, IsFreed}
-use Rattle.overflow.specs.Chains.{IsPayload}
 use Rattle.overflow.proofs.ReadChains.{matched}
 use Rattle.treepage.specs.Node.{Local, Rows}
 use Rattle.treepage.specs.Payload.{table_most}

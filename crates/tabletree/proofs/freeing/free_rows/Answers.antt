@@ -1,4 +1,4 @@
-use Rattle.std.proofs.Common.{◌≡◌, ◌∙◌, ◌<◌, ℕ, List, Ok, Err, length, subst, arith}
+use Rattle.std.proofs.Common.{◌∙◌, ℕ, List, Ok, Err, subst, arith}
 use Rattle.freelist.proofs.Causing.{causes_after}
 use Rattle.tabletree.specs.Freeing.{AreGivenBack}
 use Rattle.tabletree.proofs.Givings.{chain_of, up_to_all, next_row}

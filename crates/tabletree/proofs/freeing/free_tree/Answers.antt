@@ -1,4 +1,4 @@
-use Rattle.std.proofs.Common.{◌≡◌, ◌∙◌, ℕ, List, Ok, Err, subst}
+use Rattle.std.proofs.Common.{ℕ, List, subst}
 use Rattle.std.specs.Prelude.{MatchResult}
 use Rattle.sqlval.specs.Faults.{IsOutside}
 use Rattle.freelist.specs.Calls.{Gives}

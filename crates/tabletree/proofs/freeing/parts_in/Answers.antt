@@ -1,4 +1,4 @@
-use Rattle.std.proofs.Common.{◌≡◌, ◌∙◌, ℕ, Ok, sym, ap, subst}
+use Rattle.std.proofs.Common.{ℕ, Ok, sym, ap, subst}
 use Rattle.treepage.specs.Node.{IsNode}
 use Rattle.tabletree.specs.declared.freeing.Parts.{Parts}
 use Rattle.tabletree.proofs.Pieces.{cells_for, children_for, not_of_index}

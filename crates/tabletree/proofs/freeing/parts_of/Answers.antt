@@ -1,5 +1,4 @@
-use Rattle.std.proofs.Common.{◌≡◌, ◌∙◌}
-use Rattle.treepage.specs.Node.{Keys}
+use Rattle.std.proofs.Common.{◌∙◌}
 use Rattle.tabletree.proofs.Pieces.{says_it}
 use Rattle.tabletree.proofs.LeafRows.{refused}
 use Rattle.tabletree.proofs.StepsDown.{ok_is, not_refused}
