@@ -19,7 +19,7 @@ use Rattle.forest.specs.Saying.{Says}
 use Rattle.forest.specs.Sides.{Each, children, each_of, nothing}
 use Rattle.forest.specs.Storing.{CanStand}
 use Rattle.tabletree.specs.Calls.{Stands}
-use Rattle.tabletree.specs.Freeing.{IsCleared, AreGivenBack, IsBeside, IsOfTable, FindsParts, FreesRows, FreesBelow, ReadsChild}
+use Rattle.tabletree.specs.Freeing.{IsCleared, AreGivenBack, StandsUnder, IsOfTable, FindsParts, FreesRows, FreesBelow, ReadsChild}
 use Rattle.tabletree.specs.Growing.{below_of, all_of}
 use Rattle.tabletree.specs.Stepping.{child_at}
 use Rattle.tabletree.specs.Tree.{Tree, top, pages_of, Lies}
@@ -31,7 +31,7 @@ use Rattle.tabletree.proofs.LeafRows.{said_counted}
 use Rattle.tabletree.proofs.Passing.{beside_used, up_cons, up_none, top_there}
 use Rattle.tabletree.proofs.Planting.{pages_split}
 use Rattle.tabletree.proofs.Roots.{root_under}
-use Rattle.tabletree.proofs.Staying.{says_stays, lies_stays}
+use Rattle.tabletree.proofs.Staying.{first_of, says_stays, lies_stays}
 
 -- ---- what the page at the top says
 
@@ -41,7 +41,7 @@ pub record IsTold (m : PageMap) (number : ℕ) : Type 0 where
   pub says : Says m number node
   pub ours : IsOfTable node
 
-abbrev pub told_of : (m : PageMap) (size number ways depth : ℕ) (t : Tree depth) (free : List ℕ) → IsBeside m size number ways depth t free → IsTold m number
+abbrev pub told_of : (m : PageMap) (size number ways depth : ℕ) (t : Tree depth) (free : List ℕ) → StandsUnder m size number ways depth t free → IsTold m number
 told_of m size number ways zero t free is = record { node = Rows (is.lies).said; says = subst (λ (n : ℕ). Says m n (Rows (is.lies).said)) is.top_is (is.lies).says; ours = tt }
 told_of m size number ways (suc depth) t free is = record {
   node = Keys (children (top depth) t.kids) (top depth t.last);
@@ -49,7 +49,7 @@ told_of m size number ways (suc depth) t free is = record {
   ours = tt;
 }
 
-pub parts_refused : (m : PageMap) (size number ways depth : ℕ) (t : Tree depth) (free : List ℕ) (fault : Fault) → IsBeside m size number ways depth t free → FindsParts m size number (Err fault) → IsOutside fault
+pub parts_refused : (m : PageMap) (size number ways depth : ℕ) (t : Tree depth) (free : List ℕ) (fault : Fault) → StandsUnder m size number ways depth t free → FindsParts m size number (Err fault) → IsOutside fault
 parts_refused m size number ways depth t free fault is finds = (let told = told_of m size number ways depth t free is in finds told.node (is.free_are).whole told.says told.ours)
 
 not_children : (a b : ℕ) → Cells a ≡ Children b → ⊥
@@ -63,7 +63,7 @@ same_children a b e = cc
 
 -- ---- a leaf
 
-pub leaf_given : (old new : PageMap) (size number ways count depth : ℕ) (t : Tree depth) (free : List ℕ) (parts : Parts) (result : Result ⊤ Fault) → IsBeside old size number ways depth t free
+pub leaf_given : (old new : PageMap) (size number ways count depth : ℕ) (t : Tree depth) (free : List ℕ) (parts : Parts) (result : Result ⊤ Fault) → StandsUnder old size number ways depth t free
     → FindsParts old size number (Ok parts) → parts ≡ Cells count → FreesRows old new size number count result → MatchResult result (λ done. AreGivenBack old new size (below_of depth t) free) IsOutside
 leaf_given old new size number ways count zero t free parts result is finds cells frees =
     let told = told_of old size number ways zero t free is in
@@ -78,16 +78,16 @@ children_counted page [] = refl
 children_counted page (kid ∷ kids) = ap suc (children_counted page kids)
 
 -- a page with children stands above a leaf
-pub way_long : (old : PageMap) (size number ways count depth : ℕ) (t : Tree depth) (free : List ℕ) (parts : Parts) → IsBeside old size number ways depth t free → FindsParts old size number (Ok parts) → parts ≡ Children count → ways ≡ 0 → ⊥
+pub way_long : (old : PageMap) (size number ways count depth : ℕ) (t : Tree depth) (free : List ℕ) (parts : Parts) → StandsUnder old size number ways depth t free → FindsParts old size number (Ok parts) → parts ≡ Children count → ways ≡ 0 → ⊥
 way_long old size number ways count zero t free parts is finds kids none =
     let told = told_of old size number ways zero t free is in
     not_children (length (is.lies).said) count (sym (sym kids ∙ finds told.node (is.free_are).whole told.says told.ours))
 way_long old size number ways count (suc depth) t free parts is finds kids none = (let few = is.shallow in omega (arith, few, none))
 
 -- a page with children is the top of a tree of several pages
-pub by_kids : (old : PageMap) (size number ways count depth : ℕ) (t : Tree depth) (free : List ℕ) (parts : Parts) (Goal : (depth : ℕ) → Tree depth → Type 0) → IsBeside old size number ways depth t free
+pub by_kids : (old : PageMap) (size number ways count depth : ℕ) (t : Tree depth) (free : List ℕ) (parts : Parts) (Goal : (depth : ℕ) → Tree depth → Type 0) → StandsUnder old size number ways depth t free
     → FindsParts old size number (Ok parts) → parts ≡ Children count
-    → ((less : ℕ) (u : Tree (suc less)) → IsBeside old size number ways (suc less) u free → count ≡ suc (length u.kids) → Goal (suc less) u) → Goal depth t
+    → ((less : ℕ) (u : Tree (suc less)) → StandsUnder old size number ways (suc less) u free → count ≡ suc (length u.kids) → Goal (suc less) u) → Goal depth t
 by_kids old size number ways count zero t free parts Goal is finds kids so =
     let told = told_of old size number ways zero t free is in
     absurd (not_children (length (is.lies).said) count (sym (sym kids ∙ finds told.node (is.free_are).whole told.says told.ours)))
@@ -119,19 +119,14 @@ each_flat : {T K : Type 0} (pages : T → List ℕ) (kids : List (T × K)) (last
 each_flat pages [] last = append-nil (pages last)
 each_flat pages (kid ∷ kids) last = ap (λ (l : List ℕ). pages kid.0 ++ l) (each_flat pages kids last)
 
-occurs_first : (n : ℕ) (pages : List ℕ) → 1 ≤ occurs n (n ∷ pages)
-occurs_first n pages = grind (arith, common_steps)
-
-fresh_after : (m : PageMap) (n : ℕ) (page : ℕ) (pages : List ℕ) → 1 ≤ page → occurs 1 (page ∷ pages) ≡ 0 → 1 < page
-fresh_after m n page pages from none = elim (cases_lt 1 page) [
+-- a page that is there, where page 1 isn't among these, is after page 1
+after_first : (m : PageMap) (page : ℕ) (pages : List ℕ) → Has m page → occurs 1 (page ∷ pages) ≡ 0 → 1 < page
+after_first m page pages has none = elim (cases_lt 1 page) [
   | inl lt ↦ lt
-  | inr ge ↦ (let same : page ≡ 1 = omega (arith, from, ge) in let some = subst (λ (k : ℕ). 1 ≤ occurs k (page ∷ pages)) same (occurs_first page pages) in absurd (omega (arith, some, none)))
+  | inr ge ↦ (let from = has.first in let same : page ≡ 1 = omega (arith, from, ge) in let some = subst (λ (k : ℕ). 1 ≤ occurs k (page ∷ pages)) same (first_of page pages) in absurd (omega (arith, some, none)))
 ]
 
 -- ---- a tree whose other pages were given back
-
-pub after_first : (m : PageMap) (page : ℕ) (pages : List ℕ) → Has m page → occurs 1 (page ∷ pages) ≡ 0 → 1 < page
-after_first m page pages has none = (let from = has.first in fresh_after m 1 page pages from none)
 
 -- Its top is there still, and isn't free.
 pub record IsLeftOver (mid : PageMap) (number : ℕ) (now_free : List ℕ) : Type 0 where
@@ -139,23 +134,23 @@ pub record IsLeftOver (mid : PageMap) (number : ℕ) (now_free : List ℕ) : Typ
   pub other : occurs number now_free ≡ 0
 
 -- the pages of a tree are its top and those below
-pub top_and_below : (m : PageMap) (size number ways depth : ℕ) (t : Tree depth) (free : List ℕ) → IsBeside m size number ways depth t free → pages_of depth t ≡ number ∷ below_of depth t
+pub top_and_below : (m : PageMap) (size number ways depth : ℕ) (t : Tree depth) (free : List ℕ) → StandsUnder m size number ways depth t free → pages_of depth t ≡ number ∷ below_of depth t
 top_and_below m size number ways depth t free is = pages_split depth t ∙ ap (λ (page : ℕ). page ∷ below_of depth t) is.top_is
 
-pub left_over : (old mid : PageMap) (size number ways depth : ℕ) (t : Tree depth) (free : List ℕ) → IsBeside old size number ways depth t free → (given : AreGivenBack old mid size (below_of depth t) free)
+pub left_over : (old mid : PageMap) (size number ways depth : ℕ) (t : Tree depth) (free : List ℕ) → StandsUnder old size number ways depth t free → (given : AreGivenBack old mid size (below_of depth t) free)
     → IsLeftOver mid number given.now_free
 left_over old mid size number ways depth t free is given =
     let has : Has old number = subst (λ (n : ℕ). Has old n) is.top_is (top_there old size depth t is.lies) in
     let most = is.apart number in
     let parts = ap (occurs number) (top_and_below old size number ways depth t free is) in
-    let self = occurs_first number (below_of depth t) in
-    let first = occurs_first number [] in
+    let self = first_of number (below_of depth t) in
+    let first = first_of number [] in
     let at = (given.moves).counts number in
     let none = not_fresh (length old) (length mid) number has.last in
     record { has = record { first = has.first; last = (let last = has.last in let same = given.same in omega (arith, last, same)) }; other = omega (arith, most, parts, self, first, at, none) }
 
 -- where its top is given back too, the whole tree is
-pub whole_given : (old mid new : PageMap) (size number ways depth : ℕ) (t : Tree depth) (free : List ℕ) (result : Result ⊤ Fault) → IsBeside old size number ways depth t free → 1 < number
+pub whole_given : (old mid new : PageMap) (size number ways depth : ℕ) (t : Tree depth) (free : List ℕ) (result : Result ⊤ Fault) → StandsUnder old size number ways depth t free → 1 < number
     → (given : AreGivenBack old mid size (below_of depth t) free) → Gives mid new size number result → MatchResult result (λ done. AreGivenBack old new size (pages_of depth t) free) IsOutside
 whole_given old mid new size number ways depth t free result is behind given gives = by_result result (gives given.now_free given.free_are behind there other)
   where
@@ -186,7 +181,7 @@ whole_given old mid new size number ways depth t free result is behind given giv
 
 -- ---- the child at a place
 
-module _ (old : PageMap) (size number ways depth : ℕ) (t : Tree (suc depth)) (free : List ℕ) (is : IsBeside old size number ways (suc depth) t free) where
+module _ (old : PageMap) (size number ways depth : ℕ) (t : Tree (suc depth)) (free : List ℕ) (is : StandsUnder old size number ways (suc depth) t free) where
   abbrev kid_at : ℕ → Tree depth
   kid_at place = slice_index_or (all_of t.kids t.last) place t.last
 
@@ -197,7 +192,7 @@ module _ (old : PageMap) (size number ways depth : ℕ) (t : Tree (suc depth)) (
   pub record IsNextKid (now : PageMap) (now_free : List ℕ) (place : ℕ) : Type 0 where
     pub says : Says now number (Keys (children (top depth) t.kids) (top depth t.last))
     pub child : child_at place (children (top depth) t.kids) (top depth t.last) ≡ top depth (kid_at place)
-    pub beside : IsBeside now size (top depth (kid_at place)) (ways - 1) depth (kid_at place) now_free
+    pub beside : StandsUnder now size (top depth (kid_at place)) (ways - 1) depth (kid_at place) now_free
     pub behind : 1 < top depth (kid_at place)
 
   kids_within : (place n : ℕ) → place < suc (length t.kids) → occurs n (kids_up_to place) + occurs n (pages_of depth (kid_at place)) ≤ occurs n (below_of (suc depth) t)
@@ -219,7 +214,7 @@ module _ (old : PageMap) (size number ways depth : ℕ) (t : Tree (suc depth)) (
       record {
         says = subst (λ (n : ℕ). Says now n (Keys (children (top depth) t.kids) (top depth t.last))) is.top_is
             (says_stays old now past.longer size past.whole past.whole_now t.page (Keys (children (top depth) t.kids) (top depth t.last))
-            ((past.seen).same t.page (says.has).first (says.has).last (occurs_first t.page (pages_of depth kid))) says);
+            ((past.seen).same t.page (says.has).first (says.has).last (first_of t.page (pages_of depth kid))) says);
         child = child_is (top depth) t.kids t.last t.last place lt;
         beside = record {
           top_is = refl;
@@ -278,7 +273,7 @@ module _ {P K : Type 0} (below : P → K) (tells : K → Bool) (limits : K → L
   pub record HasGivenKids (old now : P) (number ways count place : ℕ) : Type 0 where
     pub kept : below now ≡ below old
     pub causes : Causes {T = ⊤} (Ok tt) (failures old) (failures now) ⊥
-    pub given : IsTrue (tells (below old)) → (depth : ℕ) (t : Tree (suc depth)) (free : List ℕ) → IsBeside (map old) (limits (below old)).page number ways (suc depth) t free → count ≡ suc (length t.kids)
+    pub given : IsTrue (tells (below old)) → (depth : ℕ) (t : Tree (suc depth)) (free : List ℕ) → StandsUnder (map old) (limits (below old)).page number ways (suc depth) t free → count ≡ suc (length t.kids)
         → AreGivenBack (map old) (map now) (limits (below old)).page (up_to (pages_of depth) place (all_of t.kids t.last)) free
 
   pub no_kid_given : (old now : P) (number ways count : ℕ) → below now ≡ below old → map now ≡ map old → Causes {T = ⊤} (Ok tt) (failures old) (failures now) ⊥ → HasGivenKids old now number ways count 0
@@ -290,7 +285,7 @@ module _ {P K : Type 0} (below : P → K) (tells : K → Bool) (limits : K → L
   }
 
   module _ (old now : P) (number ways count place : ℕ) (has : HasGivenKids old now number ways count place) (lt : place < count) (told : IsTrue (tells (below old))) (depth : ℕ) (t : Tree (suc depth)) (free : List ℕ)
-      (is : IsBeside (map old) (limits (below old)).page number ways (suc depth) t free) (counted : count ≡ suc (length t.kids)) where
+      (is : StandsUnder (map old) (limits (below old)).page number ways (suc depth) t free) (counted : count ≡ suc (length t.kids)) where
     abbrev size : ℕ
     size = (limits (below old)).page
 
@@ -330,13 +325,13 @@ module _ {P K : Type 0} (below : P → K) (tells : K → Bool) (limits : K → L
 
   -- all children were given back
   pub all_gone : (old now : P) (number ways count place : ℕ) → HasGivenKids old now number ways count place → count ≤ place → IsTrue (tells (below old)) → (depth : ℕ) (t : Tree (suc depth)) (free : List ℕ)
-      → IsBeside (map old) (limits (below old)).page number ways (suc depth) t free → count ≡ suc (length t.kids) → AreGivenBack (map old) (map now) (limits (below old)).page (below_of (suc depth) t) free
+      → StandsUnder (map old) (limits (below old)).page number ways (suc depth) t free → count ≡ suc (length t.kids) → AreGivenBack (map old) (map now) (limits (below old)).page (below_of (suc depth) t) free
   all_gone old now number ways count place has le told depth t free is counted =
       all_given (map old) (limits (below old)).page number ways depth t free is (map now) place (omega (arith, le, counted)) (has.given told depth t free is counted)
 
 -- ---- a tree that stands
 
-pub standing : (old : PageMap) (size root : ℕ) (rows : List Entry) (used free : List ℕ) (is : Stands old size root rows used free) → IsBeside old size root 19 is.tree.depth is.tree.tree free
+pub standing : (old : PageMap) (size root : ℕ) (rows : List Entry) (used free : List ℕ) (is : Stands old size root rows used free) → StandsUnder old size root 19 is.tree.depth is.tree.tree free
 standing old size root rows used free is =
     let any : Entry = record { rowid = pos 0; payload = [] } in
     let under = root_under old size root any rows used free is in

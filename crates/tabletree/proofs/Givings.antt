@@ -1,6 +1,5 @@
 -- Pages of a tree are given back, part by part.
 use Rattle.std.proofs.Common.{◌≡◌, refl, sym, ◌∙◌, ap, subst, ℕ, zero, suc, ◌<◌, ◌≤◌, ◌+◌, ℤ, pos, Bool, IsTrue, Ok, Err, List, [], ◌∷◌, ◌++◌, length, take, slice_index_or, arith}
-use Rattle.std.proofs.lemmas.Grind.{common_steps}
 use Rattle.std.proofs.lemmas.List.{append-nil, take_more, take_all, length-drop}
 use Rattle.std.proofs.lemmas.List.Concat.{flat_map-append}
 use Rattle.std.specs.List.{flat_map}
@@ -8,7 +7,7 @@ use Rattle.std.specs.Prelude.{⊤, Result, MatchResult}
 use Rattle.sqlval.specs.Faults.{IsOutside}
 use Rattle.sqlval.specs.declared.fault.Fault.{Fault}
 use Rattle.pages.specs.Calls.{Limits, Causes}
-use Rattle.pages.specs.Counting.{occurs, fresh, IsOnce, Moves}
+use Rattle.pages.specs.Counting.{occurs, IsOnce, Moves}
 use Rattle.pages.specs.Map.{PageMap, AreWhole}
 use Rattle.pages.proofs.Moving.{in_sequence, occurs_append}
 use Rattle.freelist.specs.Calls.{AreFree, HasFree, KeepsHeader}
@@ -18,17 +17,12 @@ use Rattle.overflow.proofs.Laying.{keeps_then, same_keeps}
 use Rattle.treepage.specs.Node.{Local, Rows}
 use Rattle.treepage.specs.Payload.{local_size, table_most}
 use Rattle.forest.specs.Saying.{Says}
-use Rattle.tabletree.specs.Freeing.{AreGivenBack, IsBeside, FreesRow}
+use Rattle.forest.proofs.PutPages.{fresh_same}
+use Rattle.tabletree.specs.Freeing.{AreGivenBack, StandsUnder, FreesRow}
 use Rattle.tabletree.specs.Tree.{Held, IsHeldAs, Leaf}
 use Rattle.tabletree.proofs.LeafRows.{local_whole, said_there}
 use Rattle.tabletree.proofs.Passing.{AreUpTo, chain_up, after, others_seen, beside_used}
-use Rattle.tabletree.proofs.Staying.{AreSeen, payload_stays, says_stays}
-
-fresh_none : (a n : ℕ) → fresh a a n ≡ 0
-fresh_none a n = grind (arith, common_steps)
-
-fresh_same : (a b n : ℕ) → b ≡ a → fresh a b n ≡ 0
-fresh_same a b n same = subst (λ (k : ℕ). fresh a k n ≡ 0) (sym same) (fresh_none a n)
+use Rattle.tabletree.proofs.Staying.{first_of, AreSeen, payload_stays, says_stays}
 
 -- ---- one part after the other
 
@@ -38,7 +32,7 @@ none_given m size free are = record {
   free_are = are;
   moves = record {
     longer = omega arith;
-    counts = λ n. (let none = fresh_none (length m) n in omega (arith, none));
+    counts = λ n. (let none = fresh_same (length m) (length m) n refl in omega (arith, none));
     keeps = λ n from to none. refl;
     whole = λ size whole. whole;
   };
@@ -147,9 +141,6 @@ after_part old now size used here free are once given = record {
   apart = λ n. (let most = once n in let at = (given.moves).counts n in let none = fresh_same (length old) (length now) n given.same in omega (arith, most, at, none));
 }
 
-occurs_first : (n : ℕ) (pages : List ℕ) → 1 ≤ occurs n (n ∷ pages)
-occurs_first n pages = grind (arith, common_steps)
-
 -- ---- the rows of a leaf
 
 abbrev pub chain_of : Held → List ℕ
@@ -158,7 +149,7 @@ chain_of held = held.pages
 nothing_held : Held
 nothing_held = record { row = record { rowid = pos 0; payload = [] }; pages = [] }
 
-module _ (old : PageMap) (size number ways : ℕ) (t : Leaf) (free : List ℕ) (is : IsBeside old size number ways zero t free) where
+module _ (old : PageMap) (size number ways : ℕ) (t : Leaf) (free : List ℕ) (is : StandsUnder old size number ways zero t free) where
   once_row : (place n : ℕ) (d : Held) → place < length t.rows → occurs n (up_to chain_of place t.rows) + (occurs n (t.page ∷ []) + occurs n (chain_of (slice_index_or t.rows place d))) + occurs n free ≤ 1
   once_row place n d lt = (let part = among chain_of place t.rows d n lt in let most = is.apart n in omega (arith, part, most))
 
@@ -172,7 +163,7 @@ module _ (old : PageMap) (size number ways : ℕ) (t : Leaf) (free : List ℕ) (
       let says = (is.lies).says in
       let there = said_there old size (is.lies).said t.rows place item d (is.lies).rows lt in
       let says_now : Says now number (Rows (is.lies).said) = subst (λ (n : ℕ). Says now n (Rows (is.lies).said)) is.top_is
-      (says_stays old now past.longer size past.whole past.whole_now t.page (Rows (is.lies).said) ((past.seen).same t.page (says.has).first (says.has).last (occurs_first t.page (chain_of held))) says) in
+      (says_stays old now past.longer size past.whole past.whole_now t.page (Rows (is.lies).said) ((past.seen).same t.page (says.has).first (says.has).last (first_of t.page (chain_of held))) says) in
       let held_now : IsHeldAs now size (slice_index_or (is.lies).said place item) held = record {
         rowid = (there.1).rowid;
         size = (there.1).size;
@@ -193,7 +184,7 @@ module _ {P K : Type 0} (below : P → K) (tells : K → Bool) (limits : K → L
   pub record HasGivenRows (old now : P) (number count place : ℕ) : Type 0 where
     pub kept : below now ≡ below old
     pub causes : Causes {T = ⊤} (Ok tt) (failures old) (failures now) ⊥
-    pub given : IsTrue (tells (below old)) → (ways : ℕ) (t : Leaf) (free : List ℕ) → IsBeside (map old) (limits (below old)).page number ways zero t free → count ≡ length t.rows
+    pub given : IsTrue (tells (below old)) → (ways : ℕ) (t : Leaf) (free : List ℕ) → StandsUnder (map old) (limits (below old)).page number ways zero t free → count ≡ length t.rows
         → AreGivenBack (map old) (map now) (limits (below old)).page (up_to chain_of place t.rows) free
 
   pub no_row_given : (old : P) (number count : ℕ) → HasGivenRows old old number count 0
@@ -205,7 +196,7 @@ module _ {P K : Type 0} (below : P → K) (tells : K → Bool) (limits : K → L
 
   pub next_row : (old now new : P) (number count place : ℕ) (result : Result ⊤ Fault) → HasGivenRows old now number count place → place < count
       → (IsTrue (tells (below now)) → FreesRow (map now) (map new) (limits (below now)).page number place result) → IsTrue (tells (below old)) → (ways : ℕ) (t : Leaf) (free : List ℕ)
-      → IsBeside (map old) (limits (below old)).page number ways zero t free → count ≡ length t.rows
+      → StandsUnder (map old) (limits (below old)).page number ways zero t free → count ≡ length t.rows
       → MatchResult result (λ done. AreGivenBack (map old) (map new) (limits (below old)).page (up_to chain_of (place + 1) t.rows) free) IsOutside
   next_row old now new number count place result has lt frees told ways t free is counted =
       let told_now = subst (λ (k : K). IsTrue (tells k)) (sym has.kept) told in

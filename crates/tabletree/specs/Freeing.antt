@@ -96,7 +96,7 @@ FreesRow old new size page place result = (said : List (ℤ × Local)) (d : ℤ 
 -- ---- a tree under a page
 
 -- a tree under a page, and free pages beside it, none of them in it; page 1 is at most its top, and no way is longer
-pub record IsBeside (map : PageMap) (size number ways depth : ℕ) (t : Tree depth) (free : List ℕ) : Type 0 where
+pub record StandsUnder (map : PageMap) (size number ways depth : ℕ) (t : Tree depth) (free : List ℕ) : Type 0 where
   pub top_is : top depth t ≡ number
   pub lies : Lies map size depth t
   pub shallow : depth ≤ ways
@@ -106,10 +106,10 @@ pub record IsBeside (map : PageMap) (size number ways depth : ℕ) (t : Tree dep
 
 -- where a leaf with so many rows is a tree, the pages of its payloads are free then; or memory was short, or a disk's call failed
 abbrev pub FreesRows : PageMap → PageMap → ℕ → ℕ → ℕ → Result ⊤ Fault → Type 0
-FreesRows old new size number count result = (ways : ℕ) (t : Leaf) (free : List ℕ) → IsBeside old size number ways zero t free → count ≡ length t.rows
+FreesRows old new size number count result = (ways : ℕ) (t : Leaf) (free : List ℕ) → StandsUnder old size number ways zero t free → count ≡ length t.rows
     → MatchResult result (λ done. AreGivenBack old new size (below_of zero t) free) IsOutside
 
 -- where a tree is under a page, its other pages are free then; or memory was short, or a disk's call failed
 abbrev pub FreesBelow : PageMap → PageMap → ℕ → ℕ → ℕ → Result ⊤ Fault → Type 0
-FreesBelow old new size number ways result = (depth : ℕ) (t : Tree depth) (free : List ℕ) → IsBeside old size number ways depth t free
+FreesBelow old new size number ways result = (depth : ℕ) (t : Tree depth) (free : List ℕ) → StandsUnder old size number ways depth t free
     → MatchResult result (λ done. AreGivenBack old new size (below_of depth t) free) IsOutside

@@ -9,6 +9,7 @@ ghost use Rattle.tabletree.specs.Freeing.{ClearsTree, MakesTree, FindsParts, Fre
 ghost use Rattle.tabletree.specs.Stepping as stepping;
 
 use crate::descending::child_at;
+use crate::inserting::WAYS;
 use crate::leaf::{at_page, emptied, empty, start_of};
 use crate::reading::row_in;
 use freelist::{give, take};
@@ -17,9 +18,6 @@ use pages::{Pages, WritePages};
 use sqlval::{Damage, Fault, R};
 use std::alloc::Global;
 use treepage::{Kind, TreePage};
-
-/// How many pages may stand below a page on each way from a root.
-const WAYS: u32 = 19;
 
 /// What a page of a table's tree has.
 #[derive(Clone, Copy)]
