@@ -1,5 +1,5 @@
 -- A batch is read leaf by leaf, until one has rows.
-use Rattle.std.proofs.Common.{◌≡◌, refl, sym, ◌∙◌, ap, subst, ℕ, suc, ◌<◌, ◌+◌, ◌-◌, ◌^◌, Bool, ℤ, pos, negsuc, List, [], ◌++◌, Option, Some, None, ◌⊎◌, inl, inr, Ok, Err, IsTrue, arith}
+use Rattle.std.proofs.Common.{◌≡◌, refl, sym, ◌∙◌, ap, subst, ℕ, suc, ◌+◌, ◌-◌, ◌^◌, Bool, ℤ, pos, negsuc, List, [], ◌++◌, Option, Some, None, ◌⊎◌, inl, inr, Ok, Err, IsTrue, arith}
 use Rattle.std.proofs.lemmas.Int.{ints}
 use Rattle.std.specs.Prelude.{⊤, Result, MatchResult}
 use Rattle.sqlval.specs.Faults.{IsOutside}
@@ -17,18 +17,6 @@ abbrev pub left_from : Option ℤ → ℕ
 left_from None = 0
 left_from (Some (pos n)) = suc (2 ^ 63 - n)
 left_from (Some (negsuc n)) = suc (2 ^ 63 + suc n)
-
--- a place that goes forward has fewer
-pub fewer : (old new : Option ℤ) (z : ℤ) → old ≡ Some z → IsForward (Some z) new → left_from new < left_from old
-fewer old new z is forward = subst (λ (from : Option ℤ). left_from new < left_from from) (sym is) (from_there z new forward)
-  where
-    from_there : (z : ℤ) (new : Option ℤ) → IsForward (Some z) new → left_from new < left_from (Some z)
-    from_there (pos n) None forward = omega arith
-    from_there (negsuc n) None forward = omega arith
-    from_there (pos n) (Some (pos m)) forward = (let a = forward.0 in let b = forward.1 in omega (arith, ints, a, b))
-    from_there (pos n) (Some (negsuc m)) forward = (let a = forward.0 in absurd (omega (arith, ints, a)))
-    from_there (negsuc n) (Some (pos m)) forward = omega arith
-    from_there (negsuc n) (Some (negsuc m)) forward = (let a = forward.0 in omega (arith, ints, a))
 
 forward_on : (old mid new : Option ℤ) → IsForward old mid → IsForward mid new → IsForward old new
 forward_on old mid None first more = tt

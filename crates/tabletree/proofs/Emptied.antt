@@ -3,6 +3,7 @@ use Rattle.std.proofs.Common.{◌≡◌, refl, sym, ◌∙◌, ap, subst, ℕ, �
 use Rattle.std.proofs.lemmas.Bool.{cases_eq}
 use Rattle.std.proofs.lemmas.Grind.{common_steps}
 use Rattle.std.proofs.lemmas.List.{length-set}
+use Rattle.std.specs.Prelude.{Result, Ok, Err, IfErr}
 use Rattle.sqlval.specs.PageSizes.{IsPageSize}
 use Rattle.sqlval.specs.declared.fault.Fault.{Fault}
 use Rattle.sqlval.specs.declared.fault.Fault.TheVariants.{Memory, Unsupported}
@@ -40,6 +41,15 @@ pub refused_memory : (size page_size number : ℕ) (fault : Fault) → IsPageSiz
 refused_memory size page_size number fault is same (inl memory) = memory
 refused_memory size page_size number fault is same (inr room) = absurd (room.1 (subst (λ (n : ℕ). Fits n (start_of number) []) (sym same) (none_fit size (start_of number) is (start_le number))))
 
+pub no_start : (size number start : ℕ) → IsPageSize size → start ≡ start_of number → size < start → ⊥
+no_start size number start is same lt = (let large = large_size size is in let le = start_le number in omega (arith, large.0, le, same, lt))
+
+pub memory_alone : {T : Type 0} (result : Result T Fault) (size number start : ℕ) → start ≡ start_of number
+    → IfErr result (λ fault. (fault ≡ Memory) ⊎ ((fault ≡ Unsupported Feature.RowSize) × (Fits size start [] → ⊥))) → IfErr result (λ fault. IsPageSize size → fault ≡ Memory)
+memory_alone (Ok x) size number start same refused = tt
+memory_alone (Err fault) size number start same refused = λ sized.
+    refused_memory size size number fault sized refl (subst (λ (n : ℕ). (fault ≡ Memory) ⊎ ((fault ≡ Unsupported Feature.RowSize) × (Fits size n [] → ⊥))) same refused)
+
 -- ---- where it stands
 
 -- The page is a tree without rows, and what is used and free is so still.
@@ -49,7 +59,7 @@ pub record IsEmptied (old new : PageMap) (size root : ℕ) (free : List ℕ) : T
   pub header : KeepsHeader old new
   pub same : length new ≡ length old
 
-other_or_none : (n root : ℕ) (free : List ℕ) → occurs root free ≡ 0 → occurs n free ≤ 1 → occurs n (root ∷ []) + occurs n free ≤ 1
+pub other_or_none : (n root : ℕ) (free : List ℕ) → occurs root free ≡ 0 → occurs n free ≤ 1 → occurs n (root ∷ []) + occurs n free ≤ 1
 other_or_none n root free none once = elim (cases_eq root n) [
   | inl same ↦ (let gone = subst (λ (k : ℕ). occurs k free ≡ 0) same none in let self = at_most n root in omega (arith, gone, self))
   | inr other ↦ (let gone = not_there n root other in omega (arith, gone, once))

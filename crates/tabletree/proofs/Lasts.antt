@@ -1,5 +1,5 @@
 -- The greatest rowid of a tree is that of the last row of its last leaf that has rows.
-use Rattle.std.proofs.Common.{◌≡◌, refl, sym, ◌∙◌, ap, subst, ℕ, suc, ◌<◌, ◌≤◌, ◌-◌, ◌+◌, ◌^◌, Bool, true, false, ℤ, pos, negsuc, ◌<ℤ◌, ◌≤ℤ◌, List, [], ◌∷◌, ◌++◌, length, slice_index_or, map, Option, Some, None, Ok, Err, IsTrue, arith}
+use Rattle.std.proofs.Common.{◌≡◌, refl, sym, ◌∙◌, ap, subst, ℕ, suc, ◌-◌, ◌+◌, ◌^◌, Bool, true, false, ℤ, pos, negsuc, ◌<ℤ◌, ◌≤ℤ◌, List, [], ◌∷◌, ◌++◌, length, slice_index_or, map, Option, Some, None, Ok, IsTrue, arith}
 use Rattle.std.proofs.lemmas.Int.{ints}
 use Rattle.std.proofs.lemmas.List.{append-nil}
 use Rattle.std.specs.Prelude.{⊤, Result, is_some}
@@ -11,7 +11,7 @@ use Rattle.treepage.specs.Cells.{Pairwise}
 use Rattle.treepage.specs.Node.{Local}
 use Rattle.tabletree.specs.Rows.{last_rowid}
 use Rattle.tabletree.specs.Tree.{Held, IsHeldAs, IsTableTree}
-use Rattle.tabletree.specs.Ways.{IsLeft, IsRight, IsEnd, FindsLeaf, rowids, last_number}
+use Rattle.tabletree.specs.Ways.{IsLeft, IsRight, IsEnd, FindsLeaf, rowids, last_of_numbers}
 use Rattle.tabletree.specs.declared.way.End.{End}
 use Rattle.tabletree.proofs.FoundRows.{since}
 use Rattle.tabletree.proofs.Scans.{AreWords, words_of}
@@ -20,26 +20,26 @@ use Rattle.tabletree.proofs.WaysDown.{UpTo, Above, rows_in, said_rowids}
 
 -- ---- the last of a list
 
-pub last_there : (numbers : List ℤ) (d : ℤ) → (length numbers ≡ 0 → ⊥) → last_number numbers ≡ Some (slice_index_or numbers (length numbers - 1) d)
+pub last_there : (numbers : List ℤ) (d : ℤ) → (length numbers ≡ 0 → ⊥) → last_of_numbers numbers ≡ Some (slice_index_or numbers (length numbers - 1) d)
 last_there [] d some = absurd (some refl)
 last_there (number ∷ []) d some = (let none : 1 - 1 ≡ 0 = omega arith in sym (ap (λ (n : ℕ). Some (slice_index_or (number ∷ []) n d)) none))
 last_there (number ∷ next ∷ numbers) d some =
     let less : length (number ∷ next ∷ numbers) - 1 ≡ suc (length (next ∷ numbers) - 1) = omega arith in
     last_there (next ∷ numbers) d (λ e. omega (arith, e)) ∙ sym (ap (λ (n : ℕ). Some (slice_index_or (number ∷ next ∷ numbers) n d)) less)
 
-pub none_last : (numbers : List ℤ) → length numbers ≡ 0 → last_number numbers ≡ None
+pub none_last : (numbers : List ℤ) → length numbers ≡ 0 → last_of_numbers numbers ≡ None
 none_last [] none = refl
 none_last (number ∷ numbers) none = absurd (omega (arith, none))
 
-pub last_of_rows : (rows : List Held) → last_number (rowids rows) ≡ last_rowid (rows_in rows)
+pub last_of_rows : (rows : List Held) → last_of_numbers (rowids rows) ≡ last_rowid (rows_in rows)
 last_of_rows [] = refl
 last_of_rows (row ∷ []) = refl
 last_of_rows (row ∷ next ∷ rows) = last_of_rows (next ∷ rows)
 
 -- the last number that a leaf says is that of its last row
 pub last_read : (pages : PageMap) (size : ℕ) (said : List (ℤ × Local)) (rows : List Held) (last : Option ℤ) → Pairwise (IsHeldAs pages size) said rows
-    → ◌≡◌ {A = Result (Option ℤ) Fault} (Ok last) (Ok (last_number (map (λ row. row.0) said))) → last ≡ last_rowid (rows_in rows)
-last_read pages size said rows last all is = ok_is last _ is ∙ ap last_number (said_rowids pages size said rows all) ∙ last_of_rows rows
+    → ◌≡◌ {A = Result (Option ℤ) Fault} (Ok last) (Ok (last_of_numbers (map (λ row. row.0) said))) → last ≡ last_rowid (rows_in rows)
+last_read pages size said rows last all is = ok_is last _ is ∙ ap last_of_numbers (said_rowids pages size said rows all) ∙ last_of_rows rows
 
 last_behind : (front : List Entry) (row : Entry) (rows : List Entry) → last_rowid (front ++ row ∷ rows) ≡ last_rowid (row ∷ rows)
 last_behind [] row rows = refl
@@ -56,10 +56,6 @@ not_there (Some z) none = absurd (never none)
   where
     never : true ≡ false → ⊥
     never e = cc
-
-pub no_key : (key : Option ℤ) → ((z : ℤ) → key ≡ Some z → ⊥) → key ≡ None
-no_key None not_some = refl
-no_key (Some z) not_some = absurd (not_some z refl)
 
 -- ---- the last leaf that may have rows
 

@@ -74,7 +74,7 @@ said_there pages size (one ∷ said) (row ∷ rows) zero item d all lt = (omega 
 said_there pages size (one ∷ said) (row ∷ rows) (suc place) item d all lt =
     (let rest = said_there pages size said rows place item d all.1 (omega (arith, lt)) in (omega (arith, rest.0), rest.1))
 
-said_counted : (pages : PageMap) (size : ℕ) (said : List (ℤ × Local)) (rows : List Held) → Pairwise (IsHeldAs pages size) said rows → length said ≡ length rows
+pub said_counted : (pages : PageMap) (size : ℕ) (said : List (ℤ × Local)) (rows : List Held) → Pairwise (IsHeldAs pages size) said rows → length said ≡ length rows
 said_counted pages size [] [] all = refl
 said_counted pages size [] (row ∷ rows) all = absurd all
 said_counted pages size (one ∷ said) [] all = absurd all
@@ -97,7 +97,7 @@ no_link : (pages : PageMap) (usable : ℕ) (bytes chain : List ℕ) → IsChain 
 no_link pages usable bytes [] is none = refl
 no_link pages usable bytes (page ∷ chain) is none = absurd (omega (arith, (is.0).some, none))
 
-local_whole : (usable most size : ℕ) → size ≤ most → local_size usable most size ≡ size
+pub local_whole : (usable most size : ℕ) → size ≤ most → local_size usable most size ≡ size
 local_whole usable most size le = grind (arith, nat_tests)
 
 pub lies_whole : (pages : PageMap) (usable most : ℕ) (bytes payload chain : List ℕ) → IsPayload pages usable most bytes payload chain → length payload ≤ most → bytes ≡ payload

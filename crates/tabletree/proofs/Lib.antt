@@ -39,3 +39,6 @@ mod Scans
 mod Batching
 mod Lasts
 mod Emptied
+mod Pieces
+mod Givings
+mod Clearing

@@ -30,10 +30,10 @@ lt_cases a b false h = inr (h, grind (arith, ints))
 pub less_or_not : (a b : ℤ) → ((int_lt a b ≡ true) × (a <ℤ b)) ⊎ ((int_lt a b ≡ false) × (b ≤ℤ a))
 less_or_not a b = lt_cases a b (int_lt a b) refl
 
-is_less : (a b : ℤ) → a <ℤ b → int_lt a b ≡ true
+pub is_less : (a b : ℤ) → a <ℤ b → int_lt a b ≡ true
 is_less a b h = grind (arith, ints)
 
-not_less : (a b : ℤ) → b ≤ℤ a → int_lt a b ≡ false
+pub not_less : (a b : ℤ) → b ≤ℤ a → int_lt a b ≡ false
 not_less a b h = grind (arith, ints)
 
 less_not : (a b : ℤ) → a <ℤ b → int_eq a b ≡ false

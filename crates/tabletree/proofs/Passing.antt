@@ -29,7 +29,7 @@ here_or_later n x xs some other = grind (arith, common_steps)
 abbrev pub AreUpTo : ℕ → List ℕ → Type 0
 AreUpTo most pages = (n : ℕ) → 1 ≤ occurs n pages → n ≤ most
 
-up_cons : (most x : ℕ) (xs : List ℕ) → x ≤ most → AreUpTo most xs → AreUpTo most (x ∷ xs)
+pub up_cons : (most x : ℕ) (xs : List ℕ) → x ≤ most → AreUpTo most xs → AreUpTo most (x ∷ xs)
 up_cons most x xs le up n some = elim (cases_lt most n) [
   | inl lt ↦ up n (here_or_later n x xs some (λ same. omega (arith, lt, le, same)))
   | inr ge ↦ omega (arith, ge)
@@ -41,10 +41,10 @@ up_append most xs ys a b n some = elim (cases_lt 0 (occurs n xs)) [
   | inr ge ↦ b n (let e = occurs_append n xs ys in omega (arith, e, some, ge))
 ]
 
-up_none : (most : ℕ) → AreUpTo most []
+pub up_none : (most : ℕ) → AreUpTo most []
 up_none most n some = absurd (omega (arith, some))
 
-chain_up : (map' : PageMap) (usable : ℕ) (bytes chain : List ℕ) → IsChain map' usable bytes chain → AreUpTo (length map') chain
+pub chain_up : (map' : PageMap) (usable : ℕ) (bytes chain : List ℕ) → IsChain map' usable bytes chain → AreUpTo (length map') chain
 chain_up map' usable bytes [] h = up_none (length map')
 chain_up map' usable bytes (page ∷ chain) h = up_cons (length map') page chain h.0.has.last (chain_up map' usable (drop (usable - 4) bytes) chain h.1)
 

@@ -16,16 +16,10 @@ use Rattle.tabletree.specs.Scanning.{IsNextOf}
 use Rattle.tabletree.specs.Tree.{Held, IsHeldAs, Tree, rows_of, Rises, Lies, IsTableTree}
 use Rattle.tabletree.specs.Ways.{IsLeft, IsRight, IsEnd, rowids}
 use Rattle.tabletree.specs.declared.way.End.{End}
-use Rattle.tabletree.proofs.Orders.{rises_le}
+use Rattle.tabletree.proofs.Orders.{is_less, not_less, rises_le}
 use Rattle.tabletree.proofs.WaysDown.{UpTo, Above, all_joined, above, up_to, rows_in, rises_within, below_or_not}
 
 -- ---- rows from a rowid on
-
-is_less : (a b : ℤ) → a <ℤ b → int_lt a b ≡ true
-is_less a b h = grind (arith, ints)
-
-not_less : (a b : ℤ) → b ≤ℤ a → int_lt a b ≡ false
-not_less a b h = grind (arith, ints)
 
 skipped : (z : ℤ) (row : Entry) (rows : List Entry) → int_lt row.rowid z ≡ true → rows_from (Some z) (row ∷ rows) ≡ rows_from (Some z) rows
 skipped z row rows e = ap (λ (t : Bool). cond (not t) (row ∷ rows_from (Some z) rows) (rows_from (Some z) rows)) e

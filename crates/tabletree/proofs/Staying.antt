@@ -27,7 +27,7 @@ Among pages part = (n : ℕ) → occurs n part ≤ occurs n pages
 seen_among : (old new : PageMap) (pages part : List ℕ) → Among pages part → AreSeen old new pages → AreSeen old new part
 seen_among old new pages part among are = record { same = λ n from to some. are.same n from to (let m = among n in omega (arith, m, some)) }
 
-first_of : (page : ℕ) (pages : List ℕ) → 1 ≤ occurs page (page ∷ pages)
+pub first_of : (page : ℕ) (pages : List ℕ) → 1 ≤ occurs page (page ∷ pages)
 first_of page pages = grind (arith, common_steps)
 
 module _ (old new : PageMap) (longer : length old ≤ length new) where

@@ -106,10 +106,10 @@ CountsRows pages size page result = (leaf : Leaf) → AreWhole size pages → Is
     → MatchResult result (λ count. count ≡ length leaf.rows) IsOutside
 
 -- the last of these numbers
-abbrev pub last_number : List ℤ → Option ℤ
-last_number [] = None
-last_number (number ∷ []) = Some number
-last_number (number ∷ next ∷ numbers) = last_number (next ∷ numbers)
+abbrev pub last_of_numbers : List ℤ → Option ℤ
+last_of_numbers [] = None
+last_of_numbers (number ∷ []) = Some number
+last_of_numbers (number ∷ next ∷ numbers) = last_of_numbers (next ∷ numbers)
 
 -- the rowid of the last row of a leaf was found; or memory was short, or a disk's call failed
 abbrev pub FindsLastRow : PageMap → ℕ → ℕ → Result (Option ℤ) Fault → Type 0

@@ -23,7 +23,7 @@ pub(crate) enum Step {
 }
 
 /// The child at a place of an interior page. (`Damaged(Page, 0)` if there is none.)
-fn child_at(page: &TreePage<'_>, place: usize) -> R<u32>
+pub(crate) fn child_at(page: &TreePage<'_>, place: usize) -> R<u32>
     ensures found { FindsChild page.now place result }
     ensures not_disk { IfErr result IsNotDiskFault }
 {

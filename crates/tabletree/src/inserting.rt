@@ -12,7 +12,7 @@ use std::alloc::Global;
 use treepage::Kind;
 
 /// How many pages may stand below a page on each way from a root.
-const WAYS: u32 = 19;
+pub(crate) const WAYS: u32 = 19;
 
 /// Puts a row into the tree under this root, which keeps its number. Answers `false` if there is a row of this rowid: then nothing changes.
 /// (`Damaged(Depth, root)` if a way of 20 pages would have to grow.)

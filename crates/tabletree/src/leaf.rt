@@ -1,7 +1,9 @@
 //! The tree of a table, of a single leaf page for now.
 
 ghost use Rattle.std.specs.Prelude.{◌≡◌, ◌<◌, ◌+◌, ◌<ℤ◌, ◌+ℤ◌, pos, ℤ, Some, IsNone, IfSome, ◌≤◌, ◌-◌, ◌↔◌, ◌++◌, ◌⊎◌, length, List, map, take, IfOk, IfErr, IsTrue, MatchOption, [], Ok, slice_index_or};
+ghost use Rattle.sqlval.specs.Faults.{IsNotDiskFault};
 ghost use Rattle.sqlval.specs.Gives.{Gives};
+ghost use Rattle.sqlval.specs.PageSizes.{IsPageSize};
 ghost use Rattle.page.specs.Leaf.{Entry, entry_of, IsTableLeaf};
 ghost use Rattle.page.specs.Writing.{Fits};
 ghost use Rattle.pages.specs.Counting as counting;
@@ -170,6 +172,22 @@ pub fn empty(alloc: Global, page_size: usize) -> R<Vec<u8>>
         ⊎ ((fault ≡ Fault.Unsupported Feature.RowSize) × (Fits page_size 0 [] → ⊥))) }
 {
     build(alloc, &[], page_size, &[])
+}
+
+/// The bytes of a page without its rows; what stands before the tree's node stays. (`Memory`; `Damaged(Page, number)` for a page that is too
+/// short.)
+pub(crate) fn emptied(alloc: Global, page: &[u8], number: u32) -> R<Vec<u8>>
+    ensures leaf { IfOk result (λ new. IsTableLeaf new.items (counting.start_of number) []) }
+    ensures size { IfOk result (λ new. length new.items ≡ length page.now) }
+    ensures front { IfOk result (λ new. take (counting.start_of number) new.items ≡ take (counting.start_of number) page.now) }
+    ensures refused { IfErr result (λ fault. IsPageSize (length page.now) → fault ≡ Fault.Memory) }
+    ensures not_disk { IfErr result IsNotDiskFault }
+{
+    let start = start_of(number);
+    if page.len() < start {
+        return Err(Fault::Damaged(Damage::Page, number));
+    }
+    rebuilt(alloc, page, start, &[])
 }
 
 fn is_rising(node: &Node<'_>) -> bool

@@ -14,7 +14,7 @@ mod scanning;
 mod way;
 
 pub use finding::{get, last};
-pub use freeing::new_tree;
+pub use freeing::{clear, free_tree, new_tree};
 pub use inserting::insert;
 pub use laws::{rows_come_last, table_trees_stay};
 pub use leaf::{

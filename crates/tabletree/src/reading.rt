@@ -6,7 +6,7 @@ ghost use Rattle.pages.specs.Calls.{Stays};
 ghost use Rattle.pages.specs.Counting as counting;
 ghost use Rattle.treepage.specs.Node.{Local as LocalIs, Rows, IsNode};
 ghost use Rattle.treepage.specs.Reading.{Answers, row_of};
-ghost use Rattle.tabletree.specs.Ways.{IsRowAt, CountsRows, FindsLastRow, FindsRowid, ReadsRow, last_number};
+ghost use Rattle.tabletree.specs.Ways.{IsRowAt, CountsRows, FindsLastRow, FindsRowid, ReadsRow, last_of_numbers};
 
 use crate::leaf::{at_page, start_of};
 use overflow::read_payload;
@@ -15,7 +15,7 @@ use sqlval::R;
 use treepage::{Row, TreePage};
 
 /// The row at a place of a leaf of these bytes. (`Damaged` for one that is no page of a tree, or has no such row.)
-fn row_in(bytes: &[u8], leaf: u32, place: usize) -> R<Row<'_>>
+pub(crate) fn row_in(bytes: &[u8], leaf: u32, place: usize) -> R<Row<'_>>
     ensures only { (rows : List (ℤ × LocalIs)) (d : ℤ × LocalIs) → IsNode bytes.now (counting.start_of leaf) (Rows rows)
         → place < length rows
         → Answers row_of result (slice_index_or rows place d) }
@@ -35,7 +35,7 @@ fn count_in(bytes: &[u8], leaf: u32) -> R<usize>
 /// The rowid of the last row of the leaf of these bytes, if it has rows. (`Damaged` for one that is no page of a tree.)
 fn last_in(bytes: &[u8], leaf: u32) -> R<Option<i64>>
     ensures only { (rows : List (ℤ × LocalIs)) → IsNode bytes.now (counting.start_of leaf) (Rows rows)
-        → result ≡ Ok (last_number (map (λ row. row.0) rows)) }
+        → result ≡ Ok (last_of_numbers (map (λ row. row.0) rows)) }
     ensures not_disk { IfErr result IsNotDiskFault }
 {
     let page = TreePage::over(bytes, start_of(leaf))?;

@@ -1,4 +1,4 @@
-use Rattle.std.proofs.Common.{◌≡◌, ◌∙◌, ◌++◌, ℕ, ℤ, pos, Bool, Ok, Err, Option, refl, sym, ap, subst, w64, List, [], true, false}
+use Rattle.std.proofs.Common.{◌∙◌, ℕ, ℤ, pos, Ok, Err, Option, refl, sym, subst, w64, List, [], true, false}
 use Rattle.std.proofs.lemmas.Int.{to_z-of_z}
 use Rattle.pages.specs.Map.{PageMap}
 use Rattle.tabletree.specs.Calls.{IsFound}

@@ -1,10 +1,11 @@
-use Rattle.std.proofs.Common.{rules, SFits, ◌≡◌, ◌∙◌, ℕ, ℤ, Ok, Err, Option, Some, None, sym, ap, subst, w64, to_z, refl, true, false}
+use Rattle.std.proofs.Common.{rules, SFits, ◌∙◌, ℕ, ℤ, Ok, Err, sym, subst, w64, to_z, refl}
 use Rattle.std.proofs.lemmas.Int.{to_z-of_z}
 use Rattle.pages.specs.Map.{PageMap}
 use Rattle.overflow.proofs.ReadChains.{stays_after, stays_done}
 use Rattle.tabletree.specs.Ways.{FindsLastRow}
+use Rattle.tabletree.proofs.Batching.{no_place}
 use Rattle.tabletree.proofs.FoundRows.{since}
-use Rattle.tabletree.proofs.Lasts.{AreUpTo, all_words, leaf_since, some_found, none_left_of, upto_left, is_there, not_there, no_key}
+use Rattle.tabletree.proofs.Lasts.{AreUpTo, all_words, leaf_since, some_found, none_left_of, upto_left, is_there, not_there}
 use Rattle.tabletree.proofs.LeafRows.{refused}
 use Rattle.tabletree.proofs.WaysDown.{UpTo}
 use Rattle.tabletree.proofs.finding.last.Goals as goal
@@ -59,7 +60,7 @@ returns-in_default-clause-found g c = λ told rows used whole tree.
     let last = since gs.below gs.tells gs.limits gs.map (λ (m : PageMap) (n : ℕ). FindsLastRow m n c.in_ok-end.end.way.page (Ok c.in_ok-last.last)) c.args.pages.now c.find_leaf.new.pages
     (still.kept ∙ stays.kept) (still.same ∙ stays.same) c.in_ok-last.ensures.found told end.under.t whole end.under.lies end.under.at in
     sym (none_left_of _ _ most rows c.in_ok-end.end end (has.upto told rows used whole tree)
-    (sym last ∙ not_there c.in_ok-last.last (sym c.is_some.ensures ∙ c.if-is_some.false)) (no_key c.in_ok-end.end.way.left c.in_default.not-Some)))
+    (sym last ∙ not_there c.in_ok-last.last (sym c.is_some.ensures ∙ c.if-is_some.false)) (no_place c.in_ok-end.end.way.left c.in_default.not-Some)))
 
 pub leaves-preserved : goal.leaves-preserved
 leaves-preserved g c =

@@ -1,10 +1,7 @@
-use Rattle.std.proofs.Common.{rules, SFits, ◌≡◌, ◌∙◌, ◌<◌, ◌≤◌, ◌-◌, ◌++◌, ℕ, ℤ, pos, Bool, Ok, Err, Some, sym, ap, subst, length, map, w64, List, [], arith}
+use Rattle.std.proofs.Common.{◌∙◌, w64}
 use Rattle.std.proofs.lemmas.Int.{to_z-of_z}
-use Rattle.treepage.specs.Node.{Local, Rows, IsNode}
-use Rattle.tabletree.proofs.StepsDown.{on_page}
-use Rattle.tabletree.proofs.LeafRows.{refused, row_at_leaf, no_row_at, row_at_place, says_rows, row_is_held, lies_whole}
+use Rattle.tabletree.proofs.LeafRows.{row_at_leaf, says_rows}
 use Rattle.tabletree.proofs.WaysDown.{said_rowids}
-use Rattle.tabletree.specs.Ways.{IsRowAt}
 use Rattle.tabletree.proofs.reading.is_row_at.Goals as goal
 
 pub returns-in-Ok-clause-found : goal.returns-in-Ok-clause-found

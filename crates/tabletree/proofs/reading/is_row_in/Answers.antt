@@ -1,8 +1,7 @@
-use Rattle.std.proofs.Common.{rules, SFits, ◌≡◌, ◌∙◌, ◌<◌, ◌≤◌, ◌-◌, ◌++◌, ℕ, ℤ, pos, Bool, Ok, Err, Some, sym, ap, subst, length, map, w64, List, [], arith}
-use Rattle.std.proofs.lemmas.Int.{to_z-of_z}
+use Rattle.std.proofs.Common.{rules, SFits, ◌<◌, ℕ, pos, sym, subst, length, map, w64, [], arith}
 use Rattle.treepage.specs.Node.{Local, Rows, IsNode}
 use Rattle.tabletree.proofs.StepsDown.{on_page}
-use Rattle.tabletree.proofs.LeafRows.{refused, numbers_counted, no_row_at, row_at_place, says_rows, row_is_held, lies_whole}
+use Rattle.tabletree.proofs.LeafRows.{numbers_counted, no_row_at, row_at_place}
 use Rattle.tabletree.proofs.reading.is_row_in.Goals as goal
 
 nothing : Local

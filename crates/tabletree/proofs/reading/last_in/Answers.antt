@@ -1,4 +1,4 @@
-use Rattle.std.proofs.Common.{rules, SFits, ◌≡◌, ◌∙◌, ◌<◌, ◌-◌, ℕ, ℤ, List, [], pos, Option, Ok, Some, sym, ap, subst, length, map, slice_index_or, w64, arith}
+use Rattle.std.proofs.Common.{rules, SFits, ◌≡◌, ◌∙◌, ◌<◌, ◌-◌, ℕ, ℤ, [], pos, Option, Ok, Some, sym, ap, subst, length, map, slice_index_or, w64, arith}
 use Rattle.std.proofs.lemmas.Int.{to_z-of_z}
 use Rattle.treepage.specs.Node.{Local, Rows, IsNode}
 use Rattle.treepage.specs.Reading.{row_of}

@@ -1,4 +1,4 @@
-use Rattle.std.proofs.Common.{◌≡◌, ◌∙◌}
+use Rattle.std.proofs.Common.{◌∙◌}
 use Rattle.tabletree.proofs.Lasts.{last_read}
 use Rattle.tabletree.proofs.LeafRows.{says_rows}
 use Rattle.tabletree.proofs.StepsDown.{not_refused}
