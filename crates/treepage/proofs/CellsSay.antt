@@ -1,5 +1,5 @@
 -- What was read of a cell is what its bytes say.
-use Rattle.std.proofs.Common.{◌≡◌, ℕ, ℤ, zero, suc, ◌^◌, ◌<◌, ◌≤◌, nat_lt, List, [], ◌∷◌, ◌++◌, length, get_or, take, drop, Option, Some, None, refl, sym, ap, subst, ◌∙◌, append_assoc, arith}
+use Rattle.std.proofs.Common.{◌≡◌, ℕ, ℤ, zero, suc, ◌^◌, ◌<◌, ◌≤◌, nat_lt, List, [], ◌∷◌, ◌++◌, length, get_or, take, drop, Some, refl, sym, ap, subst, ◌∙◌, append_assoc, arith}
 use Rattle.std.specs.Int.{w16, w32, w64, to_be_bytes, from_be_bytes, cast_signed}
 use Rattle.std.proofs.lemmas.Bool.{ltb-false}
 use Rattle.std.proofs.lemmas.List.{take-append-drop, length-append, length-take-le}
@@ -12,7 +12,7 @@ use Rattle.treepage.specs.declared.items.Kind.{Kind}
 use Rattle.treepage.specs.declared.items.Kind.TheVariants.{TableLeaf, TableInterior, IndexLeaf, IndexInterior}
 use Rattle.treepage.specs.Payload.{table_most, index_most, held_size}
 use Rattle.treepage.specs.Node.{Local, IsRowCell, IsKeyCell, IsEntryCell, IsBetweenCell}
-use Rattle.treepage.specs.Bytes.{◌>>=◌, two_bytes, leading_pair, leading_child, leading_local, leading_row, leading_key, leading_entry, leading_between, after_cell}
+use Rattle.treepage.specs.Bytes.{two_bytes, leading_child, leading_local, leading_row, leading_key, leading_entry, leading_between, after_cell}
 use Rattle.treepage.proofs.CellLemmas.{bind_some, after_one}
 use Rattle.treepage.proofs.Claims.{unless_some}
 

@@ -1,23 +1,23 @@
 -- A page whose cells were claimed says something, and the cells of a page that says something are claimed.
-use Rattle.std.proofs.Common.{◌≡◌, ◌≤◌, ◌<◌, ◌+◌, ◌-◌, ◌*◌, ◌^◌, ℕ, ℤ, zero, suc, Bool, true, false, inl, inr, eqb, nat_lt, List, [], ◌∷◌, ◌++◌, length, take, drop, Option, Some, None, refl, sym, ap, subst, ◌∙◌, append_assoc, arith}
+use Rattle.std.proofs.Common.{◌≡◌, ◌≤◌, ◌<◌, ◌+◌, ◌-◌, ◌*◌, ◌^◌, ℕ, ℤ, zero, suc, Bool, inl, inr, eqb, nat_lt, List, [], ◌∷◌, ◌++◌, length, take, drop, Option, Some, None, refl, sym, ap, subst, ◌∙◌, append_assoc, arith}
 use Rattle.std.specs.Int.{w16, w32, to_be_bytes}
 use Rattle.std.specs.List.{AllByRecursion, flat_map}
-use Rattle.std.proofs.lemmas.Bool.{ltb-true, ltb-false, eqb-true}
-use Rattle.std.proofs.lemmas.List.{take-append-drop, drop-drop, drop_at, take_at, length-append, length-drop, length-take-le}
+use Rattle.std.proofs.lemmas.Bool.{ltb-false, eqb-true}
+use Rattle.std.proofs.lemmas.List.{take-append-drop, drop-drop, drop_at, length-append, length-drop, length-take-le}
 use Rattle.record.proofs.RecordLemmas.{AreBytes-front}
 use Rattle.record.proofs.VarintLemmas.{AreBytes, chosen, some_is}
 use Rattle.treepage.specs.declared.items.Kind.{Kind}
 use Rattle.treepage.specs.declared.items.Kind.TheVariants.{TableLeaf, TableInterior, IndexLeaf, IndexInterior}
-use Rattle.treepage.specs.Cells.{Span, pointer, AreApart, Pairwise, IsAt, page_header, front, IsTreePage}
+use Rattle.treepage.specs.Cells.{Span, pointer, AreApart, Pairwise, IsAt, page_header, IsTreePage}
 use Rattle.treepage.specs.Node.{Local, Node, Rows, Keys, Entries, Between, IsRowCell, IsKeyCell, IsEntryCell, IsBetweenCell, IsNode}
 use Rattle.treepage.specs.Reading.{type_of, count_of}
-use Rattle.treepage.specs.Bytes.{◌>>=◌, bytes_from, two_bytes, leading_pair, leading_child, kind_of_type, right_size, node_header, header_on, pointer_from, tail_on, rest_of, after_cell}
+use Rattle.treepage.specs.Bytes.{◌>>=◌, bytes_from, two_bytes, leading_pair, kind_of_type, right_size, node_header, header_on, pointer_from, tail_on, rest_of, after_cell}
 use Rattle.treepage.specs.Checking.{IsSaid, front_end, taken_up_to, claimed, ends_on, claimed_from, claimed_all}
 use Rattle.treepage.proofs.HeaderLemmas.{same_length, length-header, stands, Points, tail_at, placed}
 use Rattle.treepage.proofs.CellLemmas.{bind_some, row_again, key_again, entry_again, between_again}
 use Rattle.treepage.proofs.Claims.{unless_some, where_some, AreTaken, IsProper, with_claim, length-with_claim, taken_with, claim_is, claim_again, length-taken_up_to, taken_first}
-use Rattle.treepage.proofs.CellsSay.{bytes_after, bytes_from_drop, two_again, two_near, four_is, Says, AreSaid, rows_said, keys_said, entries_said, betweens_said}
-use Rattle.treepage.proofs.NodeLemmas.{kind_of, right_is}
+use Rattle.treepage.proofs.CellsSay.{bytes_after, bytes_from_drop, two_again, two_near, four_is, AreSaid, rows_said, keys_said, entries_said, betweens_said}
+use Rattle.treepage.proofs.NodeLemmas.{kind_of, right_is, node_front}
 
 -- ---- the pointer to a cell
 
@@ -433,3 +433,34 @@ said_again page start (Entries entries) is =
     let a = all_again Local (IsEntryCell (length page)) IndexLeaf page start [] is.cells entries (entries_end (length page)) is.page_is (right_is (Entries entries)) is.say in (a.marks, a.is)
 said_again page start (Between kids last) is =
     let a = all_again (ℕ × Local) (IsBetweenCell (length page)) IndexInterior page start (to_be_bytes w32 last) is.cells kids (betweens_end (length page)) is.page_is (right_is (Between kids last)) is.say.0 in (a.marks, a.is)
+
+-- ---- one cell after another
+
+-- once a cell is claimed, those after it are left
+pub claims_step : (page : List ℕ) (start : ℕ) (header : Kind × ℕ) (taken left : List Bool) (index total from to : ℕ) → index < total → ends_on page start header index ≡ Some (from, to) → claimed taken from to ≡ Some left
+    → claimed_from page start header left (index + 1) (total - (index + 1)) ≡ claimed_from page start header taken index (total - index)
+claims_step page start header taken left index total from to less ends claim =
+    let one : total - index ≡ suc (total - (index + 1)) = omega (arith, less) in
+    sym (ap (claimed_from page start header taken index) one ∙ rw (ends, claim) refl)
+
+-- ---- what the check answers
+
+not_both : {A : Type 0} (r : Option A) (x : A) → r ≡ Some x → r ≡ None → ⊥
+not_both (Some y) x e none = absurd cc
+not_both None x e none = absurd cc
+
+-- the header and the marks are those of a page that says something
+pub said_by : (page : List ℕ) (start : ℕ) (header : Kind × ℕ) (taken marks : List Bool) → AreBytes page → header_on page start ≡ Some header → taken ≡ taken_up_to (front_end start header) (length page)
+    → claimed_from page start header taken 0 header.1 ≡ Some marks → IsSaid (record { bytes = page; start = start })
+said_by page start header taken marks fits e set claims =
+    said page start header.0 header.1 marks fits e (ap (λ (left : List Bool). claimed_from page start header left 0 header.1) (sym set) ∙ claims)
+
+-- a page that says something is refused for no cell
+pub not_refused : (page : List ℕ) (start : ℕ) (header : Kind × ℕ) (taken : List Bool) (node : Node) → header_on page start ≡ Some header → taken ≡ taken_up_to (front_end start header) (length page) → IsNode page start node
+    → claimed_from page start header taken 0 header.1 ≡ None → ⊥
+not_refused page start header taken node e set is none =
+    let same : header ≡ (kind_of node, count_of node) = some_is (sym e ∙ node_front page start node is) in
+    let again = said_again page start node is in
+    let there : claimed_all page start header ≡ Some again.0 = subst (λ (h : Kind × ℕ). claimed_all page start h ≡ Some again.0) (sym same) again.1 in
+    let here : claimed_all page start header ≡ None = ap (λ (left : List Bool). claimed_from page start header left 0 header.1) (sym set) ∙ none in
+    not_both (claimed_all page start header) again.0 there here

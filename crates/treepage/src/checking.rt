@@ -54,6 +54,7 @@ pub fn check_cells(page: &[u8], start: usize, header: Header, taken: &mut Vec<bo
     ensures only { (node : Node) → IsNode page.now start node → IfErr result (λ fault. fault ≡ Fault.Memory) }
     ensures refused { IfErr result (λ fault. (fault ≡ Fault.Memory) ⊎ (fault ≡ Fault.Damaged Damage.Cell 0)) }
 {
-    take_front(taken, front_len(page, start, header), page.len())?;
+    let len = page.len();
+    take_front(taken, front_len(start, header), len)?;
     claim_cells(page, start, header, taken).ok_or(Fault::Damaged(Damage::Cell, 0))
 }

@@ -1,6 +1,6 @@
 //! The header of a page, and the pointers after it.
 
-ghost use Rattle.std.specs.Prelude.{◌≡◌, ◌≤◌, ℕ, Some, length, option_map};
+ghost use Rattle.std.specs.Prelude.{◌≡◌, ◌<◌, ◌≤◌, ◌^◌, ℕ, option_map};
 ghost use Rattle.treepage.specs.Bytes.{header_parts, bytes_from, leading_pair, leading_child, kind_of_type, right_size, node_header, header_on, last_on, tail_on};
 ghost use Rattle.treepage.specs.Checking.{front_end};
 
@@ -99,10 +99,9 @@ pub fn read_header(bytes: &[u8], start: usize) -> Option<Header>
 
 /// Where the pointers end that stand after the header that begins at an offset.
 #[tactic(auto, unfolding(crate::specs::Checking::front_end))]
-pub fn front_len(bytes: &[u8], start: usize, header: Header) -> usize
-    requires { header_on bytes.now start ≡ Some (header_parts header) }
-    ensures value { result ≡ front_end start (header_parts header) }
-    ensures within { result ≤ length bytes.now }
+pub fn front_len(start: usize, header: Header) -> usize
+    requires { front_end start (header_parts header) < 2 ^ 64 }
+    ensures { result ≡ front_end start (header_parts header) }
 {
     start + 8 + right_len(header.kind) + 2 * usize::from(header.len)
 }
