@@ -12,7 +12,7 @@ use Rattle.treepage.specs.Cells.{Span, pointer, AreApart, Pairwise, IsAt, page_h
 use Rattle.treepage.specs.Node.{Local, Node, Rows, Keys, Entries, Between, IsRowCell, IsKeyCell, IsEntryCell, IsBetweenCell, IsNode}
 use Rattle.treepage.specs.Reading.{type_of, count_of}
 use Rattle.treepage.specs.Bytes.{◌>>=◌, bytes_from, two_bytes, leading_pair, kind_of_type, right_size, node_header, header_on, pointer_from, tail_on, rest_of, after_cell}
-use Rattle.treepage.specs.Checking.{IsSaid, front_end, taken_up_to, claimed, ends_on, claimed_from, claimed_all}
+use Rattle.treepage.specs.Checking.{IsSaid, front_end, taken_up_to, claimed, ends_on, claimed_from}
 use Rattle.treepage.proofs.HeaderLemmas.{same_length, length-header, stands, Points, tail_at, placed}
 use Rattle.treepage.proofs.CellLemmas.{bind_some, row_again, key_again, entry_again, between_again}
 use Rattle.treepage.proofs.Claims.{unless_some, where_some, AreTaken, IsProper, with_claim, length-with_claim, taken_with, claim_is, claim_again, length-taken_up_to, taken_first}
@@ -84,7 +84,7 @@ tail_shortens page start header index tail e =
 -- ---- the cells
 
 -- A cell stands on the page, says something, and this pointer leads to it.
-record Stands (X : Type 0) (P : List ℕ → X → Type 0) (page bytes : List ℕ) (span : Span) : Type 0 where
+record IsThere (X : Type 0) (P : List ℕ → X → Type 0) (page bytes : List ℕ) (span : Span) : Type 0 where
   pub cell : List ℕ
   pub item : X
   pub more : List ℕ
@@ -95,7 +95,7 @@ record Stands (X : Type 0) (P : List ℕ → X → Type 0) (page bytes : List �
   pub within : span.to ≤ length page
 
 stands_there : (X : Type 0) (P : List ℕ → X → Type 0) (kind : Kind) (page : List ℕ) (start count index : ℕ) (span : Span) → AreSaid X P kind (length page) → AreBytes page → ends_on page start (kind, count) index ≡ Some (span.from, span.to)
-    → Stands X P page (from_pointer page start kind index) span
+    → IsThere X P page (from_pointer page start kind index) span
 stands_there X P kind page start count index span said fits e =
     let t = bind_some (tail_on page start (kind, count) index) _ (span.from, span.to) e in
     let a = bind_some (after_cell kind (length page) t.0) _ (span.from, span.to) t.2 in
@@ -278,6 +278,10 @@ tree_page X P page start kind count f within a =
     }
 
 -- ---- a page whose cells were claimed
+
+-- which bytes are taken once those of all its cells are too
+abbrev pub claimed_all : List ℕ → ℕ → Kind × ℕ → Option (List Bool)
+claimed_all page start header = claimed_from page start header (taken_up_to (front_end start header) (length page)) 0 header.1
 
 -- the header was read, and its pointers have room
 record HasFront (page : List ℕ) (start : ℕ) (kind : Kind) (count : ℕ) : Type 0 where

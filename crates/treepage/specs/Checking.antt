@@ -35,7 +35,3 @@ abbrev pub claimed_from : List ℕ → ℕ → Kind × ℕ → List Bool → ℕ
 claimed_from page start header taken index zero = Some taken
 claimed_from page start header taken index (suc count) =
     ends_on page start header index >>= λ ends. claimed taken ends.0 ends.1 >>= λ marks. claimed_from page start header marks (index + 1) count
-
--- which bytes are taken once those of all cells are too
-abbrev pub claimed_all : List ℕ → ℕ → Kind × ℕ → Option (List Bool)
-claimed_all page start header = claimed_from page start header (taken_up_to (front_end start header) (length page)) 0 header.1
