@@ -23,15 +23,20 @@ taken_up_to front size = replicate front true ++ replicate (size - front) false
 -- which bytes are taken once these are too, of which none was
 unfoldable pub claimed : List Bool → ℕ → ℕ → Option (List Bool)
 claimed taken from to =
-    if list_any (λ byte. byte) (slice_range taken from to) then None else Some (take from taken ++ (replicate (to - from) true ++ drop to taken))
+    if list_any (λ byte. byte) (slice_range taken from to) then None
+    else Some (take from taken ++ (replicate (to - from) true ++ drop to taken))
 
 -- the offsets where a cell begins and where it ends
 abbrev pub ends_on : List ℕ → ℕ → Kind × ℕ → ℕ → Option (ℕ × ℕ)
-ends_on page start header index =
-    tail_on page start header index >>= λ tail. after_cell header.0 (length page) tail >>= λ rest. Some (length page - length tail, length page - length rest)
+ends_on page start header index = do
+  tail ← tail_on page start header index
+  rest ← after_cell header.0 (length page) tail
+  Some (length page - length tail, length page - length rest)
 
 -- which bytes are taken once those of so many cells are too, from one index on
 abbrev pub claimed_from : List ℕ → ℕ → Kind × ℕ → List Bool → ℕ → ℕ → Option (List Bool)
 claimed_from page start header taken index zero = Some taken
-claimed_from page start header taken index (suc count) =
-    ends_on page start header index >>= λ ends. claimed taken ends.0 ends.1 >>= λ marks. claimed_from page start header marks (index + 1) count
+claimed_from page start header taken index (suc count) = do
+  ends ← ends_on page start header index
+  marks ← claimed taken ends.0 ends.1
+  claimed_from page start header marks (index + 1) count

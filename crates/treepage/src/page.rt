@@ -14,7 +14,7 @@ use crate::items::{Between, Key, Kind, Local, Row};
 use sqlval::{Damage, Fault, R};
 use std::marker::Model;
 
-/// A page of a tree. It is read in place: nothing is copied, and no call takes memory.
+/// A page of a tree. It is read in place: nothing is copied, and no call but `check` takes memory.
 #[derive(Drop)]
 pub struct TreePage<'a> {
     bytes: &'a [u8],
