@@ -76,12 +76,12 @@ between_again usable cell kid rest is =
 -- ---- the bytes after a cell are no more than those from its start on
 
 -- two steps that found something
-bind_some : {A B : Type 0} (r : Option A) (f : A → Option B) (y : B) → (r >>= f) ≡ Some y → (x : A) × (r ≡ Some x) × (f x ≡ Some y)
+pub bind_some : {A B : Type 0} (r : Option A) (f : A → Option B) (y : B) → (r >>= f) ≡ Some y → (x : A) × (r ≡ Some x) × (f x ≡ Some y)
 bind_some (Some x) f y e = (x, refl, e)
 bind_some None f y e = absurd cc
 
 -- what stands after an item stands after one
-after_one : {X : Type 0} (found : Option (X × List ℕ)) (rest : List ℕ) → rest_of found ≡ Some rest → (x : X) × (found ≡ Some (x, rest))
+pub after_one : {X : Type 0} (found : Option (X × List ℕ)) (rest : List ℕ) → rest_of found ≡ Some rest → (x : X) × (found ≡ Some (x, rest))
 after_one (Some x) rest e = (x.0, ap (λ (z : List ℕ). Some (x.0, z)) (some_is e))
 after_one None rest e = absurd cc
 

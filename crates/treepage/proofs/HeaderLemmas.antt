@@ -166,7 +166,7 @@ pub record Tail (page : List ℕ) (start : ℕ) (header : Kind × ℕ) (index : 
   pub is : tail_on page start header index ≡ Some (cell ++ after)
 
 -- the pointer stands at its place
-placed : (kind : ℕ) (page : List ℕ) (start : ℕ) (right : List ℕ) (cells : List (List ℕ)) (is : IsTreePage kind page start right cells) (width index : ℕ) → length right ≡ width
+pub placed : (kind : ℕ) (page : List ℕ) (start : ℕ) (right : List ℕ) (cells : List (List ℕ)) (is : IsTreePage kind page start right cells) (width index : ℕ) → length right ≡ width
     → drop (8 + width + 2 * index) (drop start page) ≡ drop (2 * index) (flat_map pointer is.spans ++ is.rest)
 placed kind page start right cells is width index wide =
     let s = stands kind page start right cells is in
@@ -175,18 +175,19 @@ placed kind page start right cells is width index wide =
     sym (drop-drop (2 * index) (8 + width) (drop start page))
     ∙ ap (drop (2 * index)) (ap (drop (8 + width)) grouped ∙ drop_at (s.header ++ right) rest (8 + width) (omega (arith, length-append s.header right, s.eight, wide)))
 
--- a pointer that was read leads to its cell
-tail_by : (page : List ℕ) (start : ℕ) (header : Kind × ℕ) (index : ℕ) (cell : List ℕ) → index < header.1 → start ≤ length page → 8 + right_size header.0 + 2 * index ≤ length (drop start page)
-    → Points page (drop (8 + right_size header.0 + 2 * index) (drop start page)) cell → Tail page start header index cell
+-- a pointer leads to its cell
+pub tail_at : (page : List ℕ) (start : ℕ) (header : Kind × ℕ) (index : ℕ) (cell : List ℕ) → index < header.1 → start ≤ length page → 8 + right_size header.0 + 2 * index ≤ length (drop start page)
+    → (p : Points page (drop (8 + right_size header.0 + 2 * index) (drop start page)) cell) → tail_on page start header index ≡ Some (cell ++ p.there.after)
 unfolding tail_on
-tail_by page start header index cell less within room p =
+tail_at page start header index cell less within room p =
     let there = p.there in
     let begins : drop p.span.from page ≡ cell ++ there.after = ap (drop p.span.from) there.parts ∙ drop_at there.before (cell ++ there.after) p.span.from (sym there.from_is) in
     let inside : p.span.from ≤ length page = omega (arith, ap length there.parts, length-append there.before (cell ++ there.after), there.from_is) in
-    record {
-      after = there.after;
-      is = rw (lt-ltb index header.1 less, skips start page within, skips (8 + right_size header.0 + 2 * index) (drop start page) room, p.parts, pair_again p.span.from p.more there.near, skips p.span.from page inside, begins) refl;
-    }
+    rw (lt-ltb index header.1 less, skips start page within, skips (8 + right_size header.0 + 2 * index) (drop start page) room, p.parts, pair_again p.span.from p.more there.near, skips p.span.from page inside, begins) refl
+
+tail_by : (page : List ℕ) (start : ℕ) (header : Kind × ℕ) (index : ℕ) (cell : List ℕ) → index < header.1 → start ≤ length page → 8 + right_size header.0 + 2 * index ≤ length (drop start page)
+    → Points page (drop (8 + right_size header.0 + 2 * index) (drop start page)) cell → Tail page start header index cell
+tail_by page start header index cell less within room p = record { after = p.there.after; is = tail_at page start header index cell less within room p }
 
 -- the page from each cell on is read
 pub tail_again : (kind : Kind) (page : List ℕ) (start : ℕ) (right : List ℕ) (cells : List (List ℕ)) (index : ℕ) → IsTreePage (type_of kind) page start right cells → length right ≡ right_size kind

@@ -5,3 +5,6 @@ pub mod OneThing
 pub mod AfterFront
 pub mod Places
 pub mod PayloadRows
+pub mod Claims
+pub mod CellsSay
+pub mod SaidPages

@@ -4,3 +4,4 @@ pub mod Node
 pub mod Reading
 pub mod Bytes
 pub mod Laws
+pub mod Checking

@@ -1,9 +1,10 @@
 //! Cells at the front of bytes.
 
-ghost use Rattle.std.specs.Prelude.{◌≡◌, ◌≤◌, ◌<◌, ◌^◌, option_map};
+ghost use Rattle.std.specs.Prelude.{◌≡◌, ◌≤◌, ◌<◌, ◌^◌, length, IfSome, option_map};
 ghost use Rattle.treepage.specs.Payload.{least as least_part, index_most, held_size};
 ghost use Rattle.treepage.specs.Bytes.{header_parts, leading_local, leading_row, leading_key, leading_entry, leading_between, after_cell, item_on, cell_on, number_on};
 ghost use Rattle.treepage.specs.Reading.{local_of, row_of, key_of, between_of};
+ghost use Rattle.treepage.specs.Checking.{ends_on};
 
 use crate::header::{Header, read_page, read_tail};
 use crate::items::{Between, Key, Kind, Local, Row};
@@ -173,4 +174,14 @@ pub fn find_cell(page: &[u8], start: usize, header: Header, index: usize) -> Opt
     let tail = read_tail(page, start, header, index)?;
     let rest = skip_cell(header.kind, page.len() as u64, tail)?;
     Some(&tail[..tail.len() - rest.len()])
+}
+
+/// The offsets where a cell begins and where it ends; None as for `find_row`.
+pub fn find_ends(page: &[u8], start: usize, header: Header, index: usize) -> Option<(usize, usize)>
+    ensures value { result ≡ ends_on page.now start (header_parts header) index }
+    ensures within { IfSome result (λ ends. (ends.0 ≤ ends.1) × (ends.1 ≤ length page.now)) }
+{
+    let tail = read_tail(page, start, header, index)?;
+    let rest = skip_cell(header.kind, page.len() as u64, tail)?;
+    Some((page.len() - tail.len(), page.len() - rest.len()))
 }

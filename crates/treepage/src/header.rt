@@ -1,7 +1,8 @@
 //! The header of a page, and the pointers after it.
 
-ghost use Rattle.std.specs.Prelude.{◌≡◌, ◌≤◌, ℕ, option_map};
+ghost use Rattle.std.specs.Prelude.{◌≡◌, ◌<◌, ◌≤◌, ◌^◌, ℕ, option_map};
 ghost use Rattle.treepage.specs.Bytes.{header_parts, bytes_from, leading_pair, leading_child, kind_of_type, right_size, node_header, header_on, last_on, tail_on};
+ghost use Rattle.treepage.specs.Checking.{front_end};
 
 use crate::items::Kind;
 
@@ -94,6 +95,15 @@ pub fn read_header(bytes: &[u8], start: usize) -> Option<Header>
     ensures { option_map header_parts result ≡ header_on bytes.now start }
 {
     read_node(skip(bytes, start)?)
+}
+
+/// Where the pointers end that stand after the header that begins at an offset.
+#[tactic(auto, unfolding(crate::specs::Checking::front_end))]
+pub fn front_len(start: usize, header: Header) -> usize
+    requires { front_end start (header_parts header) < 2 ^ 64 }
+    ensures { result ≡ front_end start (header_parts header) }
+{
+    start + 8 + right_len(header.kind) + 2 * usize::from(header.len)
 }
 
 /// The number of the last child; None on a leaf.

@@ -2,6 +2,7 @@
 #![tactic(auto)]
 
 mod cells;
+mod checking;
 mod header;
 mod items;
 mod page;

@@ -1,18 +1,20 @@
 //! A page of a tree, read in place.
 
-ghost use Rattle.std.specs.Prelude.{◌≡◌, ◌<◌, ℕ, ℤ, Ok, Some, IfOk, IfErr, [], List, length, slice_index_or};
+ghost use Rattle.std.specs.Prelude.{◌≡◌, ◌⊎◌, ◌<◌, ℕ, ℤ, Ok, Some, IfOk, IfErr, OnOk, [], List, length, slice_index_or};
 ghost use Rattle.treepage.specs.Bytes.{header_parts, header_on, IsNumberAt};
 ghost use Rattle.treepage.specs.Node.{Local as LocalIs, Node, Rows, Keys, Entries, Between as BetweenIs, IsNode, code_of};
 ghost use Rattle.treepage.specs.Reading.{Answers, count_of, last_of, numbers_of, NeverFall, below, type_of, local_of, row_of, key_of, between_of};
+ghost use Rattle.treepage.specs.Checking.{IsSaid};
 ghost use Rattle.treepage.specs.Laws.{SaysOne, StaysAfterFront};
 
 use crate::cells::{find_between, find_cell, find_entry, find_key, find_number, find_row};
+use crate::checking::check_cells;
 use crate::header::{Header, read_header, read_last};
 use crate::items::{Between, Key, Kind, Local, Row};
 use sqlval::{Damage, Fault, R};
 use std::marker::Model;
 
-/// A page of a tree. It is read in place: nothing is copied, and no call takes memory.
+/// A page of a tree. It is read in place: nothing is copied, and no call but `check` takes memory.
 #[derive(Drop)]
 pub struct TreePage<'a> {
     bytes: &'a [u8],
@@ -43,6 +45,17 @@ impl<'a> TreePage<'a> {
             start,
             header,
         })
+    }
+
+    /// Checks that the page says something: each cell lies on the page behind the pointers, shares no byte with another, and is
+    /// one of the page's kind. `taken` is only memory that is used again from page to page. (`Memory`; `Damaged(Cell, 0)` for a
+    /// page that says nothing.)
+    pub fn check(&self, taken: &mut Vec<bool>) -> R<()>
+        ensures found { OnOk result (IsSaid self.now) }
+        ensures only { (node : Node) → IsNode self.now.bytes self.now.start node → IfErr result (λ fault. fault ≡ Fault.Memory) }
+        ensures refused { IfErr result (λ fault. (fault ≡ Fault.Memory) ⊎ (fault ≡ Fault.Damaged Damage.Cell 0)) }
+    {
+        check_cells(self.bytes, self.start, self.header, taken)
     }
 
     /// The kind of the page.
