@@ -1,6 +1,9 @@
 pub mod Calm
+mod FitRows
 mod Folding
+mod IntoTrees
 mod OnPage
+mod PutRows
 mod Rising
 mod RowRows
 mod StoredRows

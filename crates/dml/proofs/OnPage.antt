@@ -55,7 +55,7 @@ ends_at page number width held last ends only rows holds = last_is width holds.e
 -- ---- the rows that are added
 
 -- the added rows rise after the others
-rise_on : (columns : List Column) (places : List (Option ℕ)) (given : List (List Value)) (rows added : List TableRow) (last : Option ℤ) → last_rowid rows ≡ last → Rises rows → rows_added columns places last given ≡ Ok added → Rises (rows ++ added)
+pub rise_on : (columns : List Column) (places : List (Option ℕ)) (given : List (List Value)) (rows added : List TableRow) (last : Option ℤ) → last_rowid rows ≡ last → Rises rows → rows_added columns places last given ≡ Ok added → Rises (rows ++ added)
 rise_on columns places [] rows added last is rises e = subst (λ more. Rises (rows ++ more)) (no_rows added e) (subst Rises (sym (append-nil rows)) rises)
 rise_on columns places (g ∷ given) rows added last is rises e =
     let parts = rows_parts columns places last g given added e in
@@ -64,7 +64,7 @@ rise_on columns places (g ∷ given) rows added last is rises e =
     subst (λ more. Rises (rows ++ more)) parts.are (subst Rises (append_assoc rows (parts.row ∷ []) parts.more) further)
 
 -- their entries are those of rows
-are_rows : (columns : List Column) (places : List (Option ℕ)) (given : List (List Value)) (last : Option ℤ) (added : List TableRow) (entries : List Entry) → rows_added columns places last given ≡ Ok added → Pairwise IsWritten added entries
+pub are_rows : (columns : List Column) (places : List (Option ℕ)) (given : List (List Value)) (last : Option ℤ) (added : List TableRow) (entries : List Entry) → rows_added columns places last given ≡ Ok added → Pairwise IsWritten added entries
     → Pairwise (IsRow (length columns)) entries added
 are_rows columns places [] last [] [] e all = tt
 are_rows columns places [] last [] (entry ∷ entries) e all = absurd all
@@ -94,7 +94,7 @@ are_entries [] (entry ∷ entries) all = absurd all
 are_entries (row ∷ added) [] all = absurd all
 are_entries (row ∷ added) (entry ∷ entries) all = let h = all.0.is in let k = are_entries added entries all.1 in cc
 
-pairwise_append : {A B : Type 0} (P : A → B → Type 0) (xs xs' : List A) (ys ys' : List B) → Pairwise P xs ys → Pairwise P xs' ys' → Pairwise P (xs ++ xs') (ys ++ ys')
+pub pairwise_append : {A B : Type 0} (P : A → B → Type 0) (xs xs' : List A) (ys ys' : List B) → Pairwise P xs ys → Pairwise P xs' ys' → Pairwise P (xs ++ xs') (ys ++ ys')
 pairwise_append P [] xs' [] ys' all more = more
 pairwise_append P [] xs' (y ∷ ys) ys' all more = absurd all
 pairwise_append P (x ∷ xs) xs' [] ys' all more = absurd all
@@ -191,7 +191,7 @@ over_refused page number columns places given fault only (inr leaf) = inr (inl (
 
 -- ---- lists that grow
 
-pairwise_push : {A B : Type 0} (P : A → B → Type 0) (xs : List A) (ys : List B) (x : A) (y : B) → Pairwise P xs ys → P x y → Pairwise P (xs ++ x ∷ []) (ys ++ y ∷ [])
+pub pairwise_push : {A B : Type 0} (P : A → B → Type 0) (xs : List A) (ys : List B) (x : A) (y : B) → Pairwise P xs ys → P x y → Pairwise P (xs ++ x ∷ []) (ys ++ y ∷ [])
 pairwise_push P [] [] x y all one = (one, tt)
 pairwise_push P [] (y' ∷ ys) x y all one = absurd all
 pairwise_push P (x' ∷ xs) [] x y all one = absurd all

@@ -47,7 +47,7 @@ climbs width entry (next ∷ entries) (row ∷ rows) rising each = (
   subst (λ n. Climbs n rows) each.0.rowid (climbs width next entries rows (rest_rising entry (next ∷ entries) rising) each.1),
 )
 
-rows_rise : (width : ℕ) (entries : List Entry) (rows : List TableRow) → AreRising entries → Pairwise (IsRow width) entries rows → Rises rows
+pub rows_rise : (width : ℕ) (entries : List Entry) (rows : List TableRow) → AreRising entries → Pairwise (IsRow width) entries rows → Rises rows
 rows_rise width [] [] rising each = tt
 rows_rise width [] (row ∷ rows) rising each = absurd each
 rows_rise width (entry ∷ entries) [] rising each = absurd each
@@ -57,7 +57,7 @@ rows_rise width (entry ∷ entries) (row ∷ rows) rising each = subst (λ n. Cl
 pub held_rows_rise : (page : List ℕ) (number width : ℕ) (rows : List TableRow) → Holds page number width rows → Rises rows
 held_rows_rise page number width rows holds = rows_rise width holds.entries rows holds.single_leaf.rising holds.each
 
-both : (a b : Bool) → (a && b) ≡ true → (a ≡ true) × (b ≡ true)
+pub both : (a b : Bool) → (a && b) ≡ true → (a ≡ true) × (b ≡ true)
 both true b h = (refl, h)
 both false b h = absurd (false≢true h)
 
@@ -140,7 +140,7 @@ given n = Ok n
 same_rowid : (a b : ℤ) → given a ≡ given b → b ≡ a
 same_rowid a b e = cc
 
-is_next : (b : Bool) (n rowid : ℤ) → cond b (Ok (n +ℤ pos 1)) (Err RowidFull) ≡ Ok rowid → rowid ≡ n +ℤ pos 1
+pub is_next : (b : Bool) (n rowid : ℤ) → cond b (Ok (n +ℤ pos 1)) (Err RowidFull) ≡ Ok rowid → rowid ≡ n +ℤ pos 1
 is_next true n rowid e = same_rowid (n +ℤ pos 1) rowid e
 is_next false n rowid e = absurd cc
 

@@ -134,7 +134,7 @@ given_values values = Ok values
 same_row : (a b : TableRow) → given_row a ≡ given_row b → a ≡ b
 same_row a b e = cc
 
-same_rows : (a b : List TableRow) → given_rows a ≡ given_rows b → a ≡ b
+pub same_rows : (a b : List TableRow) → given_rows a ≡ given_rows b → a ≡ b
 same_rows a b e = cc
 
 same_values : (a b : List Value) → given_values a ≡ given_values b → a ≡ b

@@ -4,5 +4,6 @@ pub mod Changes
 pub mod Constraints
 pub mod Inserting
 pub mod NewRows
+pub mod Putting
 pub mod RowChanges
 pub mod Trees

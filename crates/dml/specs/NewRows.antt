@@ -1,7 +1,9 @@
 -- The rows that an insertion makes, and their records.
-use Rattle.std.specs.Prelude.{◌≡◌}
+use Rattle.std.specs.Prelude.{◌≡◌, true}
+use Rattle.std.specs.List.{list_all}
 use Rattle.record.specs.Record.{IsRecord}
 use Rattle.page.specs.Leaf.{Entry}
+use Rattle.catalog.specs.Rows.{is_value}
 use Rattle.rowprog.specs.Rows.{TableRow}
 use Rattle.dml.specs.Inserting.{entry_for}
 use Rattle.dml.specs.declared.inserting.NewRow.{NewRow}
@@ -15,7 +17,8 @@ row_of new = (new.rowid, new.values.items)
 abbrev pub entry_in : RowRecord → Entry
 entry_in written = record { rowid = written.rowid; payload = written.payload.items }
 
--- the entry of the row, whose payload is a record of its values
+-- the entry of the row, whose payload is a record of its values, each of which can be stored
 pub record IsWritten (row : TableRow) (entry : Entry) : Type 0 where
   pub is : entry ≡ entry_for row
   pub values : IsRecord entry.payload row.1
+  pub fit : list_all is_value row.1 ≡ true

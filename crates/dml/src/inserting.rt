@@ -1,14 +1,16 @@
 //! Changes of a table's rows.
 
 ghost use Rattle.sqlval.specs.Faults.{IsNotDiskFault};
-ghost use Rattle.std.specs.Prelude.{◌≡◌, ◌⊎◌, List, length, map, take, slice_index_or, None, Some, Ok, Err, IfOk, IfErr};
+ghost use Rattle.std.specs.Prelude.{◌≡◌, ◌⊎◌, List, length, map, take, slice_index_or, None, Some, Ok, Err, true, IfOk, IfErr, OnOk};
+ghost use Rattle.std.specs.List.{list_all};
 ghost use Rattle.sqlval.specs.Conversion.{converted};
 ghost use Rattle.sqlval.specs.Refusals as refusal;
 ghost use Rattle.record.specs.Record.{IsRecord};
-ghost use Rattle.record.specs.Writing.{AreStorable, record_of};
+ghost use Rattle.record.specs.Writing.{AreStorable, IsBytes, record_of};
 ghost use Rattle.page.specs.Leaf.{entry_of};
 ghost use Rattle.pages.specs.Counting.{start_of};
 ghost use Rattle.treepage.specs.Cells.{Pairwise};
+ghost use Rattle.catalog.specs.Rows.{is_value};
 ghost use Rattle.rowprog.specs.Rows.{Holds, TableRow};
 ghost use Rattle.dml.specs.Agreement.{NextIsGreater, InsertsRows};
 ghost use Rattle.dml.specs.Inserting.{AllStorable, IsInserted, IsInsertRefusal, IsRefusedAs, given_at, row_added, row_stored, rows_added};
@@ -17,7 +19,7 @@ ghost use Rattle.dml.specs.NewRows.{IsWritten, entry_in, row_of};
 use bind::BoundInsert;
 use catalog::{Column, conversion_is_one, other_rows_are_listed};
 use page::Cell;
-use record::encode_row;
+use record::{encode, is_storable};
 use sqlval::{Fault, Feature, R, Value, apply};
 use std::alloc::Global;
 use tabletree::{Leaf, next_rowid, with_rows};
@@ -46,7 +48,7 @@ fn place_of(places: &[Option<usize>], index: usize) -> Option<usize>
 
 /// A new row.
 #[derive(Drop)]
-struct NewRow {
+pub(crate) struct NewRow {
     rowid: i64,
     values: Vec<Value>,
 }
@@ -105,7 +107,7 @@ fn last_after(row: &NewRow) -> Option<i64>
 }
 
 /// Builds the rows to insert, in order.
-fn new_rows(
+pub(crate) fn new_rows(
     alloc: Global,
     columns: &[Column],
     places: &[Option<usize>],
@@ -128,9 +130,32 @@ fn new_rows(
 
 /// The record of a new row.
 #[derive(Drop)]
-struct RowRecord {
-    rowid: i64,
-    payload: Vec<u8>,
+pub(crate) struct RowRecord {
+    pub(crate) rowid: i64,
+    pub(crate) payload: Vec<u8>,
+}
+
+/// The items of a slice of bytes are bytes.
+fn bytes_are_small(bytes: &[u8])
+    ensures { IsBytes bytes.now }
+{
+    let _len = bytes.len();
+}
+
+/// The record of these values, each of which can be stored then.
+fn payload_of(alloc: Global, values: &[Value]) -> R<Vec<u8>>
+    ensures is { IfOk result (λ payload. IsRecord payload.items values.now) }
+    ensures exact { IfOk result (λ payload. payload.items ≡ record_of values.now) }
+    ensures fit { OnOk result (list_all is_value values.now ≡ true) }
+    ensures refused { IfErr result (λ fault. (fault ≡ Fault.Memory)
+        ⊎ ((fault ≡ Fault.Unsupported Feature.RowSize) × (AreStorable values.now → ⊥))) }
+{
+    if !is_storable(values) {
+        return Err(Fault::Unsupported(Feature::RowSize));
+    }
+    let payload = encode(alloc, values)?;
+    bytes_are_small(&payload);
+    Ok(payload)
 }
 
 /// The record of a new row.
@@ -141,12 +166,12 @@ fn record_for(alloc: Global, row: &NewRow) -> R<RowRecord>
 {
     Ok(RowRecord {
         rowid: row.rowid,
-        payload: encode_row(alloc, &row.values)?,
+        payload: payload_of(alloc, &row.values)?,
     })
 }
 
 /// The records of the new rows.
-fn records_of(alloc: Global, rows: &[NewRow]) -> R<Vec<RowRecord>>
+pub(crate) fn records_of(alloc: Global, rows: &[NewRow]) -> R<Vec<RowRecord>>
     ensures written { IfOk result (λ records. Pairwise IsWritten (map row_of rows.now) (map entry_in records.items)) }
     ensures refused { IfErr result (λ fault. (fault ≡ Fault.Memory)
         ⊎ ((fault ≡ Fault.Unsupported Feature.RowSize) × (AllStorable (map row_of rows.now) → ⊥))) }

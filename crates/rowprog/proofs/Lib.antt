@@ -2,5 +2,7 @@ pub mod Calm
 pub mod HeldRows
 pub mod QueryAnswers
 pub mod RowLemmas
-mod RowOrder
+pub mod RowOrder
 pub mod Steps
+mod TreeAnswers
+pub mod TreeOrder

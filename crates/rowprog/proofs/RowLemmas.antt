@@ -206,14 +206,14 @@ row_refused width entry fault e = elim (and_err (answer (record_at entry.payload
   | inr (values, reads, wide) ↦ inr (inr (test_err (length values == width) (entry.rowid, values) (f.Unsupported feature.ColumnCount) fault wide))
 ]
 
-abbrev IsEntryRefusal : List Output → Fault → Type 0
+abbrev pub IsEntryRefusal : List Output → Fault → Type 0
 IsEntryRefusal outputs fault = IsRowRefusal fault ⊎ IsOverflow outputs fault
 
 of_tried : (outputs : List Output) (fault : Fault) → (fault ≡ f.Unsupported feature.ColumnCount) ⊎ IsOverflow outputs fault → IsEntryRefusal outputs fault
 of_tried outputs fault (inl e) = inl (inr (inr e))
 of_tried outputs fault (inr o) = inr o
 
-entry_refused : (width : ℕ) (outputs : List Output) (entry : Entry) (fault : Fault) → entry_given width outputs entry ≡ Err fault → IsEntryRefusal outputs fault
+pub entry_refused : (width : ℕ) (outputs : List Output) (entry : Entry) (fault : Fault) → entry_given width outputs entry ≡ Err fault → IsEntryRefusal outputs fault
 entry_refused width outputs entry fault e = elim (and_err (row_at width entry) (all_tried outputs) fault e) [
   | inl h ↦ inl (row_refused width entry fault h)
   | inr (row, reads, tries) ↦ of_tried outputs fault (all_tried_refused outputs row fault tries)

@@ -1,5 +1,5 @@
 -- The rows of a page of bytes are such as a table may hold.
-use Rattle.std.proofs.Common.{◌≡◌, inl, inr, ℕ, zero, suc, ◌+◌, ◌-◌, ◌*◌, ◌^◌, ◌<◌, ◌≤◌, ◌&&◌, ◌==◌, Bool, true, false, cond, nat_lt, nat_le, pos, negsuc, ◌-ℤ◌, ◌<ℤ◌, List, [], ◌∷◌, ◌++◌, length, map, slice_index, slice_index_or, refl, sym, ap, subst, ◌∙◌, arith}
+use Rattle.std.proofs.Common.{◌≡◌, inl, inr, ℕ, zero, suc, ◌+◌, ◌-◌, ◌*◌, ◌^◌, ◌<◌, ◌≤◌, ◌&&◌, ◌==◌, Bool, true, false, cond, nat_lt, nat_le, ℤ, pos, negsuc, ◌-ℤ◌, ◌<ℤ◌, List, [], ◌∷◌, ◌++◌, length, map, slice_index, slice_index_or, refl, sym, ap, subst, ◌∙◌, arith}
 use Rattle.std.proofs.Math.Nat.{pow-suc}
 use Rattle.std.proofs.lemmas.Int.{ints}
 use Rattle.std.proofs.lemmas.Bool.{eq-eqb, false≢true}
@@ -19,7 +19,7 @@ use Rattle.sqlval.specs.Lists.{is_rising}
 use Rattle.sqlval.specs.declared.value.Value.{Value}
 use Rattle.sqlval.specs.declared.value.Value.TheVariants.{Null, Int, Text, Blob}
 use Rattle.record.specs.Record.{AreColumns, IsBody, IsRecord, width}
-use Rattle.record.specs.Writing.{IsBytes}
+use Rattle.record.specs.Writing.{IsBytes, IsStorable}
 use Rattle.record.proofs.RecordLemmas.{AreBytes-front, AreBytes-rest}
 use Rattle.record.proofs.VarintLemmas.{AreBytes, AreBytes-from_index}
 use Rattle.page.specs.Leaf.{AreCells, Entry}
@@ -33,7 +33,7 @@ use Rattle.rowprog.specs.Held.{RowsInOrder}
 use Rattle.rowprog.specs.Rows.{IsRow, TableRow}
 use Rattle.rowprog.proofs.RowLemmas.{no_row, payloads_fit}
 
-both_true : (a b : Bool) → a ≡ true → b ≡ true → (a && b) ≡ true
+pub both_true : (a b : Bool) → a ≡ true → b ≡ true → (a && b) ≡ true
 both_true true b h k = k
 both_true false b h k = absurd (false≢true h)
 
@@ -96,18 +96,41 @@ all_below (x ∷ xs) fits = both_true (nat_lt x 256) (list_all (λ c. nat_lt c 2
 within : (n : ℕ) → n ≤ 1000000 → nat_le n 1000000 ≡ true
 within n h = grind (arith, nat_tests)
 
-body_value : (serial : ℕ) (body : List ℕ) (value : Value) → AreBytes body → length body ≤ 1000000 → IsBody serial body value → is_value value ≡ true
-body_value serial body Null fits short is = refl
-body_value serial body (Int n) fits short (inl is) = ap is_word is.2
-body_value serial body (Int n) fits short (inr (inl is)) = ap is_word is.2
-body_value serial body (Int n) fits short (inr (inr is)) =
+word_of : (serial : ℕ) (body : List ℕ) (n : ℤ) → AreBytes body → IsBody serial body (Int n) → is_word n ≡ true
+word_of serial body n fits (inl is) = ap is_word is.2
+word_of serial body n fits (inr (inl is)) = ap is_word is.2
+word_of serial body n fits (inr (inr is)) =
     ap is_word is.value ∙ wide_word serial (big_number (width serial) body) is.low is.high (big_below (width serial) 0 body (index_below body fits))
-body_value serial body (Text t) fits short is =
-    both_true (nat_le (length t) 1000000) (utf8_valid_len t == length t) (within (length t) (omega (arith, short, ap length is.1)))
-    (eq-eqb (utf8_valid_len t) (length t) (utf8_valid_len-IsUtf8 t is.2))
-body_value serial body (Blob b) fits short is =
-    both_true (nat_le (length b) 1000000) (list_all (λ c. nat_lt c 256) b) (within (length b) (omega (arith, short, ap length is.1)))
-    (all_below b (subst AreBytes is.1 fits))
+
+-- a value that a record can hold
+stored_value : (serial : ℕ) (body : List ℕ) (value : Value) → AreBytes body → IsStorable value → IsBody serial body value → is_value value ≡ true
+stored_value serial body Null fits can is = refl
+stored_value serial body (Int n) fits can is = word_of serial body n fits is
+stored_value serial body (Text t) fits can is =
+    both_true (nat_le (length t) 1000000) (utf8_valid_len t == length t) (within (length t) can) (eq-eqb (utf8_valid_len t) (length t) (utf8_valid_len-IsUtf8 t is.2))
+stored_value serial body (Blob b) fits can is =
+    both_true (nat_le (length b) 1000000) (list_all (λ c. nat_lt c 256) b) (within (length b) can) (all_below b (subst AreBytes is.1 fits))
+
+stored_values : (values : List Value) (types bodies : List ℕ) → AreBytes bodies → AllByRecursion IsStorable values → AreColumns types bodies values → list_all is_value values ≡ true
+stored_values [] types bodies fits can columns = refl
+stored_values (value ∷ values) types bodies fits can (types_left, bodies_left, column, columns) =
+    let inside = subst AreBytes column.bodies_are fits in
+    both_true (is_value value) (list_all is_value values)
+    (stored_value column.serial column.body value (AreBytes-front column.body bodies_left inside) can.0 column.body_is)
+    (stored_values values types_left bodies_left (AreBytes-rest column.body bodies_left inside) can.1 columns)
+
+-- the values of a record of bytes, each of which a record can hold
+pub record_holds : (bytes : List ℕ) (values : List Value) → AreBytes bytes → AllByRecursion IsStorable values → IsRecord bytes values → list_all is_value values ≡ true
+record_holds bytes values fits can is = stored_values values is.types is.bodies (AreBytes-rest is.types is.bodies (AreBytes-rest is.head (is.types ++ is.bodies) (subst AreBytes is.parts fits))) can is.columns
+
+short_value : (serial : ℕ) (body : List ℕ) (value : Value) → length body ≤ 1000000 → IsBody serial body value → IsStorable value
+short_value serial body Null short is = tt
+short_value serial body (Int n) short is = tt
+short_value serial body (Text t) short is = omega (arith, short, ap length is.1)
+short_value serial body (Blob b) short is = omega (arith, short, ap length is.1)
+
+body_value : (serial : ℕ) (body : List ℕ) (value : Value) → AreBytes body → length body ≤ 1000000 → IsBody serial body value → is_value value ≡ true
+body_value serial body value fits short is = stored_value serial body value fits (short_value serial body value short is) is
 
 all_values : (values : List Value) (types bodies : List ℕ) → AreBytes bodies → length bodies ≤ 1000000 → AreColumns types bodies values → list_all is_value values ≡ true
 all_values [] types bodies fits short columns = refl

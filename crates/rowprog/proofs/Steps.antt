@@ -4,7 +4,7 @@ use Rattle.std.proofs.lemmas.List.{at_drop_more, at_drop_all}
 use Rattle.sqlval.specs.Gives.{Refuses}
 use Rattle.sqlval.specs.declared.fault.Fault.{Fault}
 use Rattle.sqlval.specs.declared.fault.Fault.TheVariants as f
-use Rattle.rowprog.specs.Answers.{◌and◌, every}
+use Rattle.rowprog.specs.Answers.{◌and◌, every, left, with_front}
 
 -- a refusal stays what it is, whatever was to follow
 pub refuses_on : {A B : Type 0} (fault : Fault) (a : Result A Fault) (k : A → Result B Fault) → Refuses fault a → Refuses fault (a and k)
@@ -70,19 +70,11 @@ refused_so f.ViewReadOnly given e = inr e
 refused_so f.Failed given e = inr e
 refused_so f.Blank given e = inr e
 
--- what was given before, and what is still given
-abbrev pub with_front : {A : Type 0} → List A → Result (List A) Fault → Result (List A) Fault
-with_front front rest = rest and λ xs. Ok (front ++ xs)
-
--- what is left of a list decides
-abbrev pub left : {A X : Type 0} → (X → Result A Fault) → List X → List A → Result (List A) Fault
-left f xs front = with_front front (every (map f xs))
-
 regroup : {A : Type 0} (front : List A) (x : A) (rest : Result (List A) Fault) → with_front front (rest and λ xs. Ok (x ∷ xs)) ≡ with_front (front ++ x ∷ []) rest
 regroup {A} front x (Ok xs) = ap (λ (vs : List A). Ok vs) (simp append_assoc)
 regroup front x (Err fault) = refl
 
-one_on : {A X : Type 0} (f : X → Result A Fault) (x : X) (xs : List X) (front : List A) (y : A) → f x ≡ Ok y → left f (x ∷ xs) front ≡ left f xs (front ++ y ∷ [])
+pub one_on : {A X : Type 0} (f : X → Result A Fault) (x : X) (xs : List X) (front : List A) (y : A) → f x ≡ Ok y → left f (x ∷ xs) front ≡ left f xs (front ++ y ∷ [])
 one_on f x xs front y h = rw h (regroup front y (every (map f xs)))
 
 one_stops : {A X : Type 0} (f : X → Result A Fault) (x : X) (xs : List X) (front : List A) (fault : Fault) → Refuses fault (f x) → Refuses fault (left f (x ∷ xs) front)

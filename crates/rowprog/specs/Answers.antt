@@ -1,5 +1,5 @@
 -- What the entries of a page give, or why they are refused.
-use Rattle.std.specs.Prelude.{◌≡◌, ◌⊎◌, ℕ, ℤ, List, [], ◌∷◌, length, map, slice_index_or, Result, Ok, Err, nat_lt, ◌==◌, if◌then◌else◌}
+use Rattle.std.specs.Prelude.{◌≡◌, ◌⊎◌, ℕ, ℤ, List, [], ◌∷◌, ◌++◌, length, map, slice_index_or, Result, Ok, Err, nat_lt, ◌==◌, if◌then◌else◌}
 use Rattle.std.specs.List.{Contains}
 use Rattle.sqlval.specs.declared.value.Value.{Value}
 use Rattle.sqlval.specs.declared.value.Value.TheVariants.{Null, Int}
@@ -23,6 +23,14 @@ abbrev pub ◌and◌ : {A B : Type 0} → Result A Fault → (A → Result B Fau
 abbrev pub every : {A : Type 0} → List (Result A Fault) → Result (List A) Fault
 every [] = Ok []
 every (a ∷ rest) = a and λ x. every rest and λ xs. Ok (x ∷ xs)
+
+-- what was given before, and what is still given
+abbrev pub with_front : {A : Type 0} → List A → Result (List A) Fault → Result (List A) Fault
+with_front front rest = rest and λ xs. Ok (front ++ xs)
+
+-- what is given in all, where this was given before and these items are left
+abbrev pub left : {A X : Type 0} → (X → Result A Fault) → List X → List A → Result (List A) Fault
+left f xs front = with_front front (every (map f xs))
 
 -- what an output gives of a row, where the row has such a value
 abbrev pub tried : ℤ → List Value → Output → Result Value Fault

@@ -1,5 +1,5 @@
 -- The rows of a table's tree, and what a query gives of each.
-use Rattle.std.specs.Prelude.{◌≡◌, ◌⊎◌, ◌++◌, ℕ, List, [], length, All, Some, Result, Ok, Err}
+use Rattle.std.specs.Prelude.{◌≡◌, ◌⊎◌, ℕ, List, All, Some, Result, Ok, Err}
 use Rattle.sqlval.specs.Faults.{IsOutside}
 use Rattle.sqlval.specs.Refusals.{Answer, refusal_of}
 use Rattle.sqlval.specs.declared.fault.Fault.{Fault}

@@ -68,7 +68,7 @@ pub fn source_of<'a>(alloc: Global, cell: Cell<'a>, width: usize) -> R<Source<'a
 }
 
 /// What the outputs give of the row that lies in a cell.
-fn result_row(alloc: Global, cell: Cell<'_>, width: usize, outputs: &[Output]) -> R<Row>
+pub(crate) fn result_row(alloc: Global, cell: Cell<'_>, width: usize, outputs: &[Output]) -> R<Row>
     ensures { Gives values_of result (entry_given width outputs.now (entry_of cell.entry)) }
 {
     let source = source_of(alloc, cell, width)?;

@@ -1,8 +1,7 @@
 -- what is left of the entries decides
 use Rattle.std.proofs.Common.{◌≡◌, drop, map}
-use Rattle.rowprog.specs.Answers.{entry_given, every}
+use Rattle.rowprog.specs.Answers.{entry_given, every, left}
 use Rattle.rowprog.specs.Rows.{values_of}
-use Rattle.rowprog.proofs.Steps.{left}
 use Rattle.rowprog.proofs.rows.leaf_rows.Given as goal
 
 abbrev pub invariant-rows : goal.invariant-rows

@@ -1,8 +1,7 @@
 -- what is left of the outputs decides
 use Rattle.std.proofs.Common.{◌≡◌, drop}
-use Rattle.rowprog.specs.Answers.{all_tried, tried}
+use Rattle.rowprog.specs.Answers.{all_tried, left, tried}
 use Rattle.rowprog.specs.Rows.{values_of}
-use Rattle.rowprog.proofs.Steps.{left}
 use Rattle.rowprog.proofs.rows.row_of.Given as goal
 
 abbrev pub invariant-outputs : goal.invariant-outputs
