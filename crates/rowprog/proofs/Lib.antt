@@ -1,4 +1,5 @@
 pub mod Calm
+mod FitTrees
 pub mod HeldRows
 pub mod QueryAnswers
 pub mod RowLemmas

@@ -174,7 +174,7 @@ rest_rising entry entries rising (suc j) d le lt =
     before : (j : ℕ) → suc (suc j) - 1 ≡ suc (suc j - 1)
     before j = omega arith
 
-rowids_rise : (wide : ℕ) (entries : List Entry) (rows : List TableRow) → AreRising entries → Pairwise (IsRow wide) entries rows → is_rising int_cmp (map (λ r. r.0) rows) ≡ true
+pub rowids_rise : (wide : ℕ) (entries : List Entry) (rows : List TableRow) → AreRising entries → Pairwise (IsRow wide) entries rows → is_rising int_cmp (map (λ r. r.0) rows) ≡ true
 rowids_rise wide [] [] rising each = refl
 rowids_rise wide [] (row ∷ rows) rising each = absurd each
 rowids_rise wide (entry ∷ entries) [] rising each = absurd each

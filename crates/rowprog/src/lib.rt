@@ -12,7 +12,7 @@ ghost use Rattle.rowprog.specs.Meaning.{AnswersQuery};
 pub use checking::check_rows;
 pub use plan::{Plan, Scan, plan_of};
 pub use rows::{Rows, single_row, table_rows};
-pub use tree::tree_rows;
+pub use tree::{check_tree_rows, tree_rows};
 
 /// What a bound query's outputs give of the rows of its source is the query's answer.
 pub fn outputs_answer_the_query()
