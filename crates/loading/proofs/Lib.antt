@@ -7,3 +7,4 @@ pub mod OneView
 pub mod SchemaTables
 pub mod StoredTables
 pub mod TablePages
+pub mod TreeTables

@@ -33,7 +33,7 @@ use Rattle.catalog.specs.declared.tables.Column.{Column}
 use Rattle.catalog.specs.declared.tables.Table.{Table}
 use Rattle.storage.specs.Schema.{IsMadeBeside, schema_row, AreRowsOf, AreSameTables, IsCreateOf, IsRowOf, IsSameTable}
 use Rattle.session.proofs.SameTables.{not_found, same_found, same_push}
-use Rattle.loading.specs.Loading.{AddsTables, AddsToldTable, AreRowValues, HasParts, IsOfRow, TellsTable, TellsTables}
+use Rattle.loading.specs.Loading.{IsLoading, AddsTables, AddsToldTable, AreRowValues, HasParts, IsOfRow, TellsTable, TellsTables}
 use Rattle.loading.specs.declared.schema.SchemaRow.{SchemaRow}
 
 -- ---- refusals
@@ -127,14 +127,6 @@ added_none tables catalog (Ok y) f is why = absurd is
 added_none tables catalog (Err e) f is why = is ∙ why
 
 -- ---- the rows
-
--- the tables so far, and the rows that are left
-pub record IsLoading (pages : ℕ) (tables : List Table) (left : List Entry) (catalog : Catalog) : Type 0 where
-  pub before : List Table
-  pub rest : List Table
-  pub parts : before ++ rest ≡ tables
-  pub same : AreSameTables before (tables_of catalog)
-  pub rows : AreRowsOf pages before rest left
 
 pub loading_begins : (pages : ℕ) (tables : List Table) (rows : List Entry) (catalog : Catalog) → tables_of catalog ≡ [] → AreRowsOf pages [] tables rows → IsLoading pages tables rows catalog
 loading_begins pages tables rows catalog none tell = record {

@@ -1,14 +1,16 @@
 -- What is read of page 1, whose rows tell the tables (Database File Format, "Storage Of The SQL Database Schema").
-use Rattle.std.specs.Prelude.{◌≡◌, ◌<◌, ◌≤◌, ◌++◌, ◌∷◌, true, false, ℕ, List, [], Result, Ok, Err}
+use Rattle.std.specs.Prelude.{◌≡◌, ◌<◌, ◌≤◌, ◌++◌, ◌∷◌, true, false, ℕ, List, [], ⊤, Result, Ok, Err, IfOk, MatchResult}
 use Rattle.sqlval.specs.declared.fault.Fault.{Fault}
 use Rattle.sqlval.specs.declared.fault.Fault.TheVariants.{Memory, Blank}
 use Rattle.sqlval.specs.declared.value.Value.{Value}
-use Rattle.sqlval.specs.Faults.{IsNotDiskFault}
+use Rattle.sqlval.specs.Faults.{IsNotDiskFault, IsOrOutside}
 use Rattle.sqlval.specs.Names.{is_same_name}
 use Rattle.page.specs.Leaf.{Entry}
+use Rattle.pages.specs.Map.{PageMap, AreWhole}
 use Rattle.syntax.specs.declared.create.NewObject.TheVariants as new
 use Rattle.syntax.specs.declared.create.TableDefinition.{TableDefinition}
 use Rattle.tabletree.specs.SingleLeaf.{IsSingleLeaf}
+use Rattle.tabletree.specs.Tree.{IsTableTree}
 use Rattle.catalog.specs.Listed.{is_reserved, tables_of}
 use Rattle.catalog.specs.declared.tables.Catalog.{Catalog}
 use Rattle.catalog.specs.declared.tables.Table.{Table}
@@ -69,3 +71,33 @@ pub record TellsTable (before : List Table) (table : Table) (row : SchemaRow) : 
   pub creates : IsCreateOf row.sql.now (new.Table definition)
   pub names : IsOfRow row definition
   pub made : IsMadeBeside before definition row.root table
+
+-- ---- the rows of a tree
+
+-- The tables of the rows up to here are loaded, and the rows that are left tell the others.
+pub record IsLoading (pages : ℕ) (tables : List Table) (left : List Entry) (catalog : Catalog) : Type 0 where
+  pub before : List Table
+  pub rest : List Table
+  pub parts : before ++ rest ≡ tables
+  pub same : AreSameTables before (tables_of catalog)
+  pub rows : AreRowsOf pages before rest left
+
+-- where these rows come next, their tables were loaded, and those of the others are left; or memory was short
+abbrev pub LoadsNext : ℕ → List Entry → Catalog → Catalog → Result ⊤ Fault → Type 0
+LoadsNext pages rows old new result = (tables : List Table) (after : List Entry) → IsLoading pages tables (rows ++ after) old
+    → MatchResult result (λ done. IsLoading pages tables after new) (λ fault. fault ≡ Memory)
+
+-- with these rows after others, all tell the tables that are loaded
+abbrev pub TellsNext : ℕ → List Entry → Catalog → Catalog → Type 0
+TellsNext pages rows old new = (done : List Entry) → AreRowsOf pages [] (tables_of old) done → AreRowsOf pages [] (tables_of new) (done ++ rows)
+
+-- Where a tree under page 1 has rows that tell these tables, the catalog lists them, all committed; or memory was short, or a disk's
+-- call failed.
+abbrev pub LoadsTree : PageMap → ℕ → ℕ → Result Catalog Fault → Type 0
+LoadsTree map size pages result = (tables : List Table) (rows : List Entry) (used : List ℕ) → AreWhole size map → IsTableTree map size 1 rows used
+    → AreRowsOf pages [] tables rows → IsOrOutside (ListsCommitted tables) result
+
+-- where a tree has these rows, the catalog lists the tables that they tell, all committed
+abbrev pub TellsTree : PageMap → ℕ → ℕ → Result Catalog Fault → Type 0
+TellsTree map size pages result = (rows : List Entry) (used : List ℕ) → AreWhole size map → IsTableTree map size 1 rows used
+    → IfOk result (λ catalog. AreCommitted catalog × AreRowsOf pages [] (tables_of catalog) rows)

@@ -7,6 +7,8 @@ mod loading;
 mod roots;
 mod schema;
 mod tables;
+mod tree;
 
 pub use laws::files_hold_one_database;
 pub use loading::load;
+pub use tree::load_schema;

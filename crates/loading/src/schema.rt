@@ -246,7 +246,7 @@ fn is_new(catalog: &Catalog, table: &Table) -> R<()>
 }
 
 /// Adds the table that a row of the schema table describes.
-fn add_row(alloc: Global, catalog: &mut Catalog, payload: &[u8], size: u32) -> R<()>
+pub fn add_row(alloc: Global, catalog: &mut Catalog, payload: &[u8], size: u32) -> R<()>
     // The table of such a row is listed after the others, unless memory runs out.
     ensures tells { (before : List Table) (table : Table) (entry : Entry) → AreSameTables before (tables_of catalog.old)
         → entry.payload ≡ payload.now → IsRowOf size before table entry

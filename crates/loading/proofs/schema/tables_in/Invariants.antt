@@ -3,7 +3,7 @@ use Rattle.std.specs.Prelude.{List, [], drop, take}
 use Rattle.catalog.specs.Listed.{tables_of}
 use Rattle.catalog.specs.declared.tables.Table.{Table}
 use Rattle.storage.specs.Schema.{AreRowsOf}
-use Rattle.loading.proofs.SchemaTables.{IsLoading}
+use Rattle.loading.specs.Loading.{IsLoading}
 use Rattle.loading.proofs.schema.tables_in.Given as goal
 
 abbrev pub invariant-rows : goal.invariant-rows
