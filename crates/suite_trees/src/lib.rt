@@ -2,4 +2,12 @@
 #![tactic(auto)]
 
 #[cfg(test)]
+mod checks;
+#[cfg(test)]
+mod databases;
+#[cfg(test)]
+mod forests;
+#[cfg(test)]
+mod statements;
+#[cfg(test)]
 mod tables;
