@@ -25,7 +25,7 @@ use Rattle.dml.specs.Agreement.{IsStill, IsSetFor, InsertsRows}
 use Rattle.dml.specs.Constraints.{table_of, with_affinity, default_values, set_values, stored, next_rowid}
 use Rattle.dml.specs.Inserting.{given_at, values_given, row_stored, rowid_after, row_added, rows_added, last_rowid}
 use Rattle.dml.specs.RowChanges.{Fire, insert_row}
-use Rattle.dml.proofs.Rising.{Rises, AreBelow, held_rows_rise, greatest_is_last, next_for, next_is, rows_below, rises_on, last_of_more, not_found, put_behind}
+use Rattle.dml.proofs.Rising.{Rises, AreBelow, fit_rows_rise, greatest_is_last, next_for, next_is, rows_below, rises_on, last_of_more, not_found, put_behind}
 use Rattle.dml.proofs.StoredRows.{row_parts}
 
 -- ---- the values that are set
@@ -171,5 +171,5 @@ module _ (fire : Fire) (name : Name) (places : List ℕ) (table : Table) (by_col
       (λ k d lt. set (suc k) d (omega (arith, lt))) (put_again (folded name) (ATable (plain_table table (rows ++ row ∷ []))) (ATable (plain_table table (rows ++ row ∷ []))) db))
 
 pub inserts_rows : KeepsOnlyTables → InsertsRows
-inserts_rows keeps fire name places db table by_column rows given page number still only is holds set some =
-    some_rows fire name places table by_column still keeps given db rows only is (held_rows_rise page number (length table.columns) rows holds) set some
+inserts_rows keeps fire name places db table by_column rows given still only is fit set some =
+    some_rows fire name places table by_column still keeps given db rows only is (fit_rows_rise (plain_table table rows) fit) set some

@@ -1,15 +1,20 @@
 -- Rows by rising rowid: the last rowid is the greatest, and a row after it comes last.
-use Rattle.std.proofs.Common.{◌≡◌, ℕ, zero, suc, ℤ, pos, ◌+ℤ◌, ◌<ℤ◌, ◌-◌, ◌^◌, Bool, true, false, cond, List, [], ◌∷◌, ◌++◌, Option, Some, None, Ok, Err, map, slice_index_or, refl, sym, ap, subst, ◌∙◌, arith}
+use Rattle.std.proofs.Common.{◌≡◌, ℕ, zero, suc, ℤ, pos, ◌+ℤ◌, ◌<ℤ◌, ◌-◌, ◌^◌, ◌&&◌, Bool, true, false, cond, List, [], ◌∷◌, ◌++◌, Option, Some, None, Ok, Err, map, slice_index_or, refl, sym, ap, subst, ◌∙◌, arith}
 use Rattle.std.specs.Prelude.{unwrap_or, int_lt, if◌then◌else◌, ⊤}
 use Rattle.std.specs.Cmp.{int_cmp_is}
 use Rattle.std.specs.FinMap.Entries.{put, find, by_order}
-use Rattle.std.specs.Ordering.{int_cmp, is_eq}
-use Rattle.std.specs.declared.cmp.Ordering.TheVariants.{Greater}
+use Rattle.std.proofs.lemmas.Bool.{false≢true}
+use Rattle.std.specs.List.{list_all}
+use Rattle.std.specs.Ordering.{int_cmp, is_eq, is_lt}
+use Rattle.std.specs.declared.cmp.Ordering.TheVariants.{Equal, Greater, Less}
 use Rattle.sqlval.specs.Refusals.{Answer, RowidFull}
 use Rattle.sqlval.specs.declared.value.Value.{Value}
+use Rattle.sqlval.specs.Lists.{is_rising}
 use Rattle.page.specs.Leaf.{Entry}
 use Rattle.treepage.specs.Cells.{Pairwise}
 use Rattle.tabletree.specs.SingleLeaf.{AreRising}
+use Rattle.catalog.specs.Database.{Table}
+use Rattle.catalog.specs.Rows.{are_rows, is_row}
 use Rattle.rowprog.specs.Rows.{TableRow, IsRow, Holds}
 use Rattle.dml.specs.Agreement.{NextIsGreater}
 use Rattle.dml.specs.Constraints.{greatest}
@@ -52,6 +57,32 @@ rows_rise width (entry ∷ entries) (row ∷ rows) rising each = subst (λ n. Cl
 pub held_rows_rise : (page : List ℕ) (number width : ℕ) (rows : List TableRow) → Holds page number width rows → Rises rows
 held_rows_rise page number width rows holds = rows_rise width holds.entries rows holds.single_leaf.rising holds.each
 
+both : (a b : Bool) → (a && b) ≡ true → (a ≡ true) × (b ≡ true)
+both true b h = (refl, h)
+both false b h = absurd (false≢true h)
+
+comes_before : (a b : ℤ) → is_lt (int_cmp a b) ≡ true → a <ℤ b
+comes_before a b h = by_tests (int_lt a b) (int_lt b a) refl h
+  where
+    by_tests : (t u : Bool) → int_lt a b ≡ t → is_lt (cond t Less (cond u Greater Equal)) ≡ true → a <ℤ b
+    by_tests true u e h = grind (arith, e)
+    by_tests false true e h = absurd (false≢true h)
+    by_tests false false e h = absurd (false≢true h)
+
+rising_climb : (low : ℤ) (rows : List TableRow) → is_rising int_cmp (low ∷ map (λ row. row.0) rows) ≡ true → Climbs low rows
+rising_climb low [] rising = tt
+rising_climb low (row ∷ rows) rising =
+    let parts = both (is_lt (int_cmp low row.0)) (is_rising int_cmp (row.0 ∷ map (λ row. row.0) rows)) rising in
+    (comes_before low row.0 parts.0, rising_climb row.0 rows parts.1)
+
+-- the rows that a table may hold rise
+pub fit_rows_rise : (t : Table) → are_rows t ≡ true → Rises t.rows
+fit_rows_rise t fit = rising_rows t.rows (both (is_rising int_cmp (map (λ row. row.0) t.rows)) (list_all (is_row t) t.rows) fit).0
+  where
+    rising_rows : (rows : List TableRow) → is_rising int_cmp (map (λ row. row.0) rows) ≡ true → Rises rows
+    rising_rows [] rising = tt
+    rising_rows (row ∷ rows) rising = rising_climb row.0 rows rising
+
 less : (a b : ℤ) → a <ℤ b → int_lt a b ≡ true
 less a b lt = grind (arith)
 
@@ -80,7 +111,7 @@ next_is None = refl
 next_is (Some x) = refl
 
 pub next_is_greater : NextIsGreater
-next_is_greater page number width t holds = ap next_for (greatest_is_last t.rows (held_rows_rise page number width t.rows holds)) ∙ next_is (last_rowid t.rows)
+next_is_greater t fit = ap next_for (greatest_is_last t.rows (fit_rows_rise t fit)) ∙ next_is (last_rowid t.rows)
 
 -- ---- one row after them
 

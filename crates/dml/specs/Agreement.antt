@@ -1,4 +1,4 @@
--- What the page's rows and the definition of a table's rows agree in.
+-- What the rows of a tree and the definition of a table's rows agree in.
 use Rattle.std.specs.Prelude.{◌≡◌, ◌≤◌, ◌<◌, ℕ, true, List, [], ◌++◌, length, slice_index_or, Option, None, Ok, All, zip}
 use Rattle.sqlval.specs.Refusals.{◌then◌, fold_answer}
 use Rattle.sqlval.specs.declared.value.Value.{Value}
@@ -9,14 +9,15 @@ use Rattle.catalog.specs.Database.{Name, Database, ATable, with_object}
 use Rattle.catalog.specs.Listed.{plain_table, has_only_tables}
 use Rattle.catalog.specs.declared.tables.Column.{Column}
 use Rattle.catalog.specs.declared.tables.Table.{Table}
-use Rattle.rowprog.specs.Rows.{Holds, TableRow}
+use Rattle.catalog.specs.Rows.{are_rows}
+use Rattle.rowprog.specs.Rows.{TableRow}
 use Rattle.dml.specs.Constraints.{next_rowid, table_of, default_values, set_values}
 use Rattle.dml.specs.Inserting.{given_at, rowid_after, last_rowid, rows_added}
 use Rattle.dml.specs.RowChanges.{Fire, Firing, insert_row}
 
--- the rowid that a row without one gets in a table is the next after those of the table's page
+-- the rowid that a row without one gets in a table of rows by rising rowid is the next after the last
 abbrev pub NextIsGreater : Type 0
-NextIsGreater = (page : List ℕ) (number width : ℕ) (t : database.Table) → Holds page number width t.rows → next_rowid t ≡ rowid_after (last_rowid t.rows)
+NextIsGreater = (t : database.Table) → are_rows t ≡ true → next_rowid t ≡ rowid_after (last_rowid t.rows)
 
 -- where there are only tables, nothing is set off
 abbrev pub IsStill : Fire → Type 0
@@ -34,8 +35,8 @@ IsSetFor table by_column places given = AreGivenFor table.columns by_column give
 -- An INSERT of rows into a listed table, where nothing is set off, leaves it with those that the rows become after its own, or
 -- is refused as these are.
 abbrev pub InsertsRows : Type 0
-InsertsRows = (fire : Fire) (name : Name) (places : List ℕ) (db : Database) (table : Table) (by_column : List (Option ℕ)) (rows : List TableRow) (given : List (List Value)) (page : List ℕ) (number : ℕ)
-    → IsStill fire → has_only_tables db ≡ true → table_of db name ≡ Ok (plain_table table rows) → Holds page number (length table.columns) rows
+InsertsRows = (fire : Fire) (name : Name) (places : List ℕ) (db : Database) (table : Table) (by_column : List (Option ℕ)) (rows : List TableRow) (given : List (List Value))
+    → IsStill fire → has_only_tables db ≡ true → table_of db name ≡ Ok (plain_table table rows) → are_rows (plain_table table rows) ≡ true
     → All (IsSetFor table by_column places) given → 1 ≤ length given
     → fold_answer (insert_row fire name places) db given
     ≡ (rows_added table.columns by_column (last_rowid rows) given then λ added. Ok (with_object db name (ATable (plain_table table (rows ++ added)))))

@@ -235,7 +235,7 @@ module _ (laws : Laws) (view : View) (tables : List Table) (db : Database) (held
 
   change_is : 1 ≤ length given → change db (kind.Insert i) ≡ changed given
   change_is some =
-      laws.inserts db i t (held.rows_at t.root) is.at is.terms places given page t.root held.only (listed_table held.rows_at tables db i.table t held.lists named) holds is.stands is.answered set_for some
+      laws.inserts db i t (held.rows_at t.root) is.at is.terms places given held.only (listed_table held.rows_at tables db i.table t held.lists named) (held.each i.table t named).fit is.stands is.answered set_for some
 
   pub made : (added : List TableRow) → rows_added t.columns places (last_rowid (held.rows_at t.root)) given ≡ Ok added → IsMade held.rows_at tables db i t added
   made added e = by (some_or_none given)

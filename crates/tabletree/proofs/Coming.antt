@@ -1,5 +1,5 @@
 -- A way leads down, page by page.
-use Rattle.std.proofs.Common.{◌≡◌, refl, sym, ◌∙◌, ap, subst, ℕ, zero, suc, ◌<◌, ◌≤◌, ◌+◌, ℤ, Bool, List, None, Ok, Err, IsTrue, arith}
+use Rattle.std.proofs.Common.{◌≡◌, refl, sym, subst, ℕ, ◌<◌, ◌≤◌, ◌+◌, ℤ, Bool, List, None, Ok, Err, IsTrue, arith}
 use Rattle.std.specs.Prelude.{⊤, Result, MatchResult, IsErrAnd}
 use Rattle.sqlval.specs.Faults.{IsOutside}
 use Rattle.sqlval.specs.declared.fault.Fault.{Fault}
@@ -8,12 +8,12 @@ use Rattle.pages.specs.Calls.{Limits, Stays}
 use Rattle.pages.specs.Map.{PageMap, AreWhole}
 use Rattle.overflow.proofs.ReadChains.{stays_after, stays_done}
 use Rattle.tabletree.specs.Tree.{IsTableTree}
-use Rattle.tabletree.specs.Ways.{step_for, IsAbout, IsStepAbout, FindsStep, FindsLeaf, IsUnder, IsEnd}
+use Rattle.tabletree.specs.Ways.{IsAbout, IsStepAbout, FindsStep, FindsLeaf, IsUnder}
 use Rattle.tabletree.specs.declared.way.End.{End}
 use Rattle.tabletree.specs.declared.way.Way.{Way}
 use Rattle.tabletree.specs.declared.way.Step.{Step}
 use Rattle.tabletree.specs.declared.way.Step.TheVariants.{AtLeaf, Down}
-use Rattle.tabletree.proofs.WaysDown.{Leads, IsAsked, asked, begins}
+use Rattle.tabletree.proofs.WaysDown.{Leads, asked, begins}
 
 -- a way has come to a page of a tree, over so many pages
 pub record IsComeTo (pages : PageMap) (size : ℕ) (rowid : ℤ) (rows : List Entry) (done : ℕ) (way : Way) : Type 0 where

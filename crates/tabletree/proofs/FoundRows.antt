@@ -1,5 +1,5 @@
 -- What a tree has of a rowid is what the leaf has where the rowid belongs.
-use Rattle.std.proofs.Common.{◌≡◌, refl, sym, ◌∙◌, ap, subst, ℕ, zero, suc, ◌<◌, ◌≤◌, Bool, true, false, ℤ, ◌<ℤ◌, ◌≤ℤ◌, int_lt, List, [], ◌∷◌, ◌++◌, length, slice_index_or, if◌then◌else◌, Option, Some, None, ◌⊎◌, inl, inr, IsTrue, arith}
+use Rattle.std.proofs.Common.{◌≡◌, refl, sym, ◌∙◌, ap, subst, ℕ, zero, suc, ◌<◌, Bool, true, false, ℤ, ◌<ℤ◌, ◌≤ℤ◌, int_lt, List, [], ◌∷◌, ◌++◌, length, slice_index_or, if◌then◌else◌, Option, Some, None, ◌⊎◌, inl, inr, IsTrue, arith}
 use Rattle.std.proofs.lemmas.Int.{ints}
 use Rattle.std.specs.Ordering.{int_eq}
 use Rattle.std.specs.Prelude.{Result}
@@ -12,7 +12,7 @@ use Rattle.tabletree.specs.Rows.{payload_at}
 use Rattle.tabletree.specs.Tree.{Held, Rises}
 use Rattle.tabletree.specs.Ways.{IsLeft, IsRight, IsRowAt, FindsRowid, IsEnd, rowids}
 use Rattle.tabletree.specs.declared.way.End.{End}
-use Rattle.tabletree.proofs.WaysDown.{UpTo, Above, rows_in, rises_within, below_or_not, above}
+use Rattle.tabletree.proofs.WaysDown.{UpTo, Above, rows_in, below_or_not}
 
 -- what a call says of pages that a call before it left, it says of those before
 pub since : {P K : Type 0} (below : P → K) (tells : K → Bool) (limits : K → Limits) (map : P → PageMap) (F : PageMap → ℕ → Type 0) (old mid : P) → below mid ≡ below old → map mid ≡ map old

@@ -7,13 +7,13 @@ use Rattle.pages.specs.Map.{PageMap}
 use Rattle.treepage.specs.declared.items.Kind.TheVariants.{TableInterior}
 use Rattle.packing.specs.declared.spreading.Packed.{Packed}
 use Rattle.forest.specs.Storing.{Roots}
-use Rattle.tabletree.specs.Calls.{Stands, BecomesRows, IsInserted, IsGrowthRefusal}
+use Rattle.tabletree.specs.Calls.{Stands, IsInserted, IsGrowthRefusal}
 use Rattle.tabletree.specs.Growing.{IsChanged, Changes}
 use Rattle.tabletree.specs.Rows.{payload_at, with_row}
 use Rattle.tabletree.specs.Tree.{rows_of}
 use Rattle.tabletree.specs.declared.growing.Change.{Change}
 use Rattle.tabletree.specs.declared.growing.Change.TheVariants.{There, Same, Spread}
-use Rattle.tabletree.proofs.Roots.{bounds, root_under, put_becomes, root_free, root_there, root_unfree, can_root, rooted_becomes}
+use Rattle.tabletree.proofs.Roots.{BecomesAtMost, bounds, root_under, put_becomes, root_free, root_there, root_unfree, can_root, rooted_becomes}
 
 module _ (old : PageMap) (size root : ℕ) (row : Entry) (rows : List Entry) (used free : List ℕ) (is : Stands old size root rows used free) where
   rows_are : rows_of is.tree.depth is.tree.tree ≡ rows
@@ -31,14 +31,14 @@ module _ (old : PageMap) (size root : ℕ) (row : Entry) (rows : List Entry) (us
   absent : payload_at row.rowid (rows_of is.tree.depth is.tree.tree) ≡ None → payload_at row.rowid rows ≡ None
   absent none = ap (payload_at row.rowid) (sym rows_are) ∙ none
 
-  pub inserted_there : (new : PageMap) → Changes old new size root 19 row (Ok There) → IsInserted old new size root row rows used free false
+  pub inserted_there : (new : PageMap) → Changes old new size root 19 row (Ok There) → IsInserted old new size root row is.tree.depth rows used free false
   inserted_there new changes = (let c = changed new There changes in (λ none. c.0 (ap (payload_at row.rowid) rows_are ∙ none), c.1))
 
-  pub inserted_same : (new : PageMap) → Changes old new size root 19 row (Ok Same) → IsInserted old new size root row rows used free true
+  pub inserted_same : (new : PageMap) → Changes old new size root 19 row (Ok Same) → IsInserted old new size root row is.tree.depth rows used free true
   inserted_same new changes =
       let c = changed new Same changes in (
         absent c.0,
-        subst (λ (all : List Entry). BecomesRows old new size root (with_row row all) used free) rows_are
+        subst (λ (all : List Entry). BecomesAtMost old new size root is.tree.depth (with_row row all) used free) rows_are
             (put_becomes old size root row rows used free is new (with_row row (rows_of is.tree.depth is.tree.tree)) c.1),
       )
 
@@ -56,12 +56,12 @@ module _ (old : PageMap) (size root : ℕ) (row : Entry) (rows : List Entry) (us
         by true e = absurd (some (lone e))
         by false e = (spread.1).short e
 
-    pub inserted_spread : (new : PageMap) → (deep ≡ true → packed.pieces.items ≡ []) → Roots mid new size root TableInterior packed (Ok tt) → IsInserted old new size root row rows used free true
+    pub inserted_spread : (new : PageMap) → (deep ≡ true → packed.pieces.items ≡ []) → Roots mid new size root TableInterior packed (Ok tt) → IsInserted old new size root row is.tree.depth rows used free true
     inserted_spread new lone roots =
         let all = with_row row (rows_of is.tree.depth is.tree.tree) in
         let plan = spread.2 in (
           absent spread.0,
-          subst (λ (xs : List Entry). BecomesRows old new size root (with_row row xs) used free) rows_are
+          subst (λ (xs : List Entry). BecomesAtMost old new size root is.tree.depth (with_row row xs) used free) rows_are
               (rooted_becomes old size root row rows used free is mid all packed plan new (short lone)
               (roots plan.now_free (root_free old size root row rows used free is mid all packed plan) (root_there old size root row rows used free is mid all packed plan)
               (root_unfree old size root row rows used free is mid all packed plan) refl (can_root old size root row rows used free is mid all packed plan))),

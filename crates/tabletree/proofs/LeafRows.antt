@@ -1,6 +1,6 @@
 -- The rows of a leaf, by their places.
-use Rattle.std.proofs.Common.{◌≡◌, refl, sym, ◌∙◌, ap, subst, ℕ, zero, suc, ◌<◌, ◌≤◌, ◌-◌, nat_eq, nat_le, Bool, true, false, ℤ, List, [], ◌∷◌, ◌++◌, length, map, take, drop, slice_index_or, if◌then◌else◌, IsTrue, Result, Ok, Err, SFits, w64, to_z, of_z, arith}
-use Rattle.std.specs.Prelude.{⊤, MatchResult, IsErrAnd, IsOkAnd, ◌↔◌}
+use Rattle.std.proofs.Common.{◌≡◌, refl, sym, ◌∙◌, ap, subst, ℕ, zero, suc, ◌<◌, ◌≤◌, ◌-◌, nat_eq, Bool, false, ℤ, List, [], ◌∷◌, ◌++◌, length, map, take, drop, slice_index_or, IsTrue, Result, Ok, Err, SFits, w64, to_z, of_z, arith}
+use Rattle.std.specs.Prelude.{⊤, MatchResult, IsErrAnd}
 use Rattle.std.proofs.lemmas.Bool.Decides.{nat_tests}
 use Rattle.std.proofs.lemmas.Int.{to_z-of_z}
 use Rattle.std.proofs.lemmas.List.{append-nil, take_all, drop_all}
@@ -12,12 +12,13 @@ use Rattle.pages.specs.Calls.{Limits}
 use Rattle.pages.specs.Map.{PageMap, page_at, AreWhole}
 use Rattle.pages.specs.Counting.{start_of}
 use Rattle.treepage.specs.Cells.{Pairwise}
-use Rattle.treepage.specs.Node.{Local, Node, Rows, IsNode}
+use Rattle.treepage.specs.Node.{Local, Rows, IsNode}
 use Rattle.treepage.specs.Payload.{local_size, table_most}
-use Rattle.treepage.specs.Reading.{Answers, row_of}
+use Rattle.treepage.specs.Reading.{row_of}
 use Rattle.treepage.specs.declared.items.Row.{Row}
+use Rattle.tabletree.proofs.StepsDown.{ok_is}
 use Rattle.tabletree.specs.Tree.{Held, IsHeldAs, Leaf, IsLeaf}
-use Rattle.tabletree.specs.Ways.{IsRowAt, rowids}
+use Rattle.tabletree.specs.Ways.{IsRowAt}
 
 -- a refusal is passed on
 pub refused : {X : Type 0} (P : X → Type 0) (result : Result X Fault) (fault : Fault) → IsErrAnd result (λ e. e ≡ fault) → IsOutside fault → MatchResult result P IsOutside
@@ -26,7 +27,7 @@ refused P (Err e) fault is outside = subst IsOutside (sym is) outside
 
 -- ---- rowids
 
-number_there : (rows : List (ℤ × Local)) (place : ℕ) (d : ℤ × Local) (z : ℤ) → place < length rows → slice_index_or (map (λ row. row.0) rows) place z ≡ (slice_index_or rows place d).0
+pub number_there : (rows : List (ℤ × Local)) (place : ℕ) (d : ℤ × Local) (z : ℤ) → place < length rows → slice_index_or (map (λ row. row.0) rows) place z ≡ (slice_index_or rows place d).0
 number_there [] place d z lt = absurd (omega (arith, lt))
 number_there (row ∷ rows) zero d z lt = refl
 number_there (row ∷ rows) (suc place) d z lt = number_there rows place d z (omega (arith, lt))
@@ -72,6 +73,16 @@ said_there pages size (one ∷ said) [] place item d all lt = absurd all
 said_there pages size (one ∷ said) (row ∷ rows) zero item d all lt = (omega arith, all.0)
 said_there pages size (one ∷ said) (row ∷ rows) (suc place) item d all lt =
     (let rest = said_there pages size said rows place item d all.1 (omega (arith, lt)) in (omega (arith, rest.0), rest.1))
+
+said_counted : (pages : PageMap) (size : ℕ) (said : List (ℤ × Local)) (rows : List Held) → Pairwise (IsHeldAs pages size) said rows → length said ≡ length rows
+said_counted pages size [] [] all = refl
+said_counted pages size [] (row ∷ rows) all = absurd all
+said_counted pages size (one ∷ said) [] all = absurd all
+said_counted pages size (one ∷ said) (row ∷ rows) all = ap suc (said_counted pages size said rows all.1)
+
+-- a leaf has as many rows as it says
+pub counted_in : (pages : PageMap) (size : ℕ) (said : List (ℤ × Local)) (rows : List Held) (count : ℕ) → Pairwise (IsHeldAs pages size) said rows → ◌≡◌ {A = Result ℕ Fault} (Ok count) (Ok (length said)) → count ≡ length rows
+counted_in pages size said rows count all is = ok_is count (length said) is ∙ said_counted pages size said rows all
 
 -- what was read of that row
 pub row_is_held : (pages : PageMap) (size : ℕ) (leaf : Leaf) (place : ℕ) (row : Row) (d : Held) (is : IsLeaf pages size leaf) → place < length leaf.rows

@@ -9,6 +9,7 @@ mod Holes
 mod Staying
 mod Inserted
 mod Descents
+mod LastRows
 mod Exits
 mod Widening
 mod Fans
@@ -33,3 +34,8 @@ pub mod WaysDown
 pub mod Coming
 pub mod LeafRows
 pub mod FoundRows
+mod Batches
+mod Scans
+mod Batching
+mod Lasts
+mod Emptied

@@ -72,6 +72,10 @@ wider low high rowid = elim (less_or_not low rowid) [
   ])
 ]
 
+-- the tree has these rows now, and at most one page more on a way than this deep one
+abbrev pub BecomesAtMost : PageMap → PageMap → ℕ → ℕ → ℕ → List Entry → List ℕ → List ℕ → Type 0
+BecomesAtMost old new size root depth rows used free = (now : BecomesRows old new size root rows used free) × (now.stands.tree.depth ≤ suc depth)
+
 -- ---- the root of a tree that stands
 
 module _ (old : PageMap) (size root : ℕ) (row : Entry) (rows : List Entry) (used free : List ℕ) (is : Stands old size root rows used free) where
@@ -108,53 +112,55 @@ module _ (old : PageMap) (size root : ℕ) (row : Entry) (rows : List Entry) (us
   }
 
   -- a tree that took the place of the old one stands
-  becomes : (new : PageMap) (deep : ℕ) (t : Tree deep) (low high : ℤ) (all : List Entry) (now_free : List ℕ) → deep < 20 → top deep t ≡ root → Lies new size deep t → IsSorted deep low t high → rows_of deep t ≡ all
-      → HasFree new size now_free → Moves old new (pages_of depth tree) free (pages_of deep t) now_free → KeepsHeader old new → BecomesRows old new size root all used free
-  becomes new deep t low high all now_free shallow at lies sorted holds has moves header =
+  becomes : (new : PageMap) (deep : ℕ) (t : Tree deep) (low high : ℤ) (all : List Entry) (now_free : List ℕ) → deep < 20 → deep ≤ suc depth → top deep t ≡ root → Lies new size deep t → IsSorted deep low t high → rows_of deep t ≡ all
+      → HasFree new size now_free → Moves old new (pages_of depth tree) free (pages_of deep t) now_free → KeepsHeader old new → BecomesAtMost old new size root depth all used free
+  becomes new deep t low high all now_free shallow near at lies sorted holds has moves header =
       let apart = once_after old new size (pages_of depth tree) free (pages_of deep t) now_free is.free_are moves (tree_up old size depth tree is.tree.lies) root_under.apart in
       let counts = moves.counts 1 in
       let old_page = not_fresh (length old) (length new) 1 (((one_there old size free is.free_are).has).last) in
       let behind = (is.free_are).behind in
-      let was = ap (occurs 1) is.tree.used_are in
-      record {
-        now_used = pages_of deep t;
-        now_free = now_free;
-        stands = record {
-          tree = record {
-            depth = deep;
-            tree = t;
-            low = low;
-            high = high;
-            shallow = shallow;
-            root_is = at;
-            lies = lies;
-            sorted = sorted;
-            rows_are = holds;
-            used_are = refl;
-            once = record { once = λ n. (let both = apart n in omega (arith, both)) };
-          };
-          free_are = record {
-            has = has;
-            once = record { once = λ n. (let both = apart n in omega (arith, both)) };
-            behind = elim is.first [
-              | inl one ↦ (let both = apart 1 in let e = ap (occurs 1) (pages_split deep t) in let f = ap (λ (n : ℕ). occurs 1 (n ∷ below_of deep t)) (at ∙ one) in omega (arith, both, e, f))
-              | inr none ↦ omega (arith, counts, old_page, behind, was, none)
+      let was = ap (occurs 1) is.tree.used_are in (
+        record {
+          now_used = pages_of deep t;
+          now_free = now_free;
+          stands = record {
+            tree = record {
+              depth = deep;
+              tree = t;
+              low = low;
+              high = high;
+              shallow = shallow;
+              root_is = at;
+              lies = lies;
+              sorted = sorted;
+              rows_are = holds;
+              used_are = refl;
+              once = record { once = λ n. (let both = apart n in omega (arith, both)) };
+            };
+            free_are = record {
+              has = has;
+              once = record { once = λ n. (let both = apart n in omega (arith, both)) };
+              behind = elim is.first [
+                | inl one ↦ (let both = apart 1 in let e = ap (occurs 1) (pages_split deep t) in let f = ap (λ (n : ℕ). occurs 1 (n ∷ below_of deep t)) (at ∙ one) in omega (arith, both, e, f))
+                | inr none ↦ omega (arith, counts, old_page, behind, was, none)
+              ];
+              whole = moves.whole size (is.free_are).whole;
+            };
+            apart = apart;
+            first = elim is.first [
+              | inl one ↦ inl one
+              | inr none ↦ inr (omega (arith, counts, old_page, behind, was, none))
             ];
-            whole = moves.whole size (is.free_are).whole;
+            sized = is.sized;
           };
-          apart = apart;
-          first = elim is.first [
-            | inl one ↦ inl one
-            | inr none ↦ inr (omega (arith, counts, old_page, behind, was, none))
-          ];
-          sized = is.sized;
-        };
-        moves = subst (λ (pages : List ℕ). Moves old new pages free (pages_of deep t) now_free) is.tree.used_are moves;
-        header = header;
-      }
+          moves = subst (λ (pages : List ℕ). Moves old new pages free (pages_of deep t) now_free) is.tree.used_are moves;
+          header = header;
+        },
+        near,
+      )
 
-  pub put_becomes : (new : PageMap) (all : List Entry) → IsPut old new size root depth bounds.less bounds.more all (pages_of depth tree) free → BecomesRows old new size root all used free
-  put_becomes new all p = becomes new depth p.tree bounds.less bounds.more all p.now_free is.tree.shallow p.top_is p.lies p.sorted p.rows_are p.has p.moves p.header
+  pub put_becomes : (new : PageMap) (all : List Entry) → IsPut old new size root depth bounds.less bounds.more all (pages_of depth tree) free → BecomesAtMost old new size root depth all used free
+  put_becomes new all p = becomes new depth p.tree bounds.less bounds.more all p.now_free is.tree.shallow (omega arith) p.top_is p.lies p.sorted p.rows_are p.has p.moves p.header
 
   -- ---- packed pages in place of the root's
 
@@ -215,7 +221,7 @@ module _ (old : PageMap) (size root : ℕ) (row : Entry) (rows : List Entry) (us
         no_cons : {x : Piece} {xs : List Piece} → x ∷ xs ≡ [] → ⊥
         no_cons e = cc
 
-    pub rewritten_becomes : (new : PageMap) → packed.pieces.items ≡ [] → IsRewritten mid new size plan.now_free root packed.last.items → BecomesRows old new size root all used free
+    pub rewritten_becomes : (new : PageMap) → packed.pieces.items ≡ [] → IsRewritten mid new size plan.now_free root packed.last.items → BecomesAtMost old new size root depth all used free
     rewritten_becomes new none r =
         let alone = one_top new (start_in root packed.pieces.items) packed.pieces.items plan.kids none refl (tops_now new (root ∷ []) plan.now_free r.moves) in
         let t = moved_to depth root plan.last in
@@ -225,7 +231,7 @@ module _ (old : PageMap) (size root : ℕ) (row : Entry) (rows : List Entry) (us
           has = record { first = there.first; last = (let b = there.last in let longer = (r.moves).longer in omega (arith, b, longer)) };
           node_is = subst (λ (page : List ℕ). IsNode page (start_of root) (alone.1).node) (sym bytes) (alone.1).says;
         } in
-        becomes new depth t bounds.less bounds.more all plan.now_free is.tree.shallow (top_moved depth root plan.last) (lies_moved new size depth root plan.last (alone.1).node (alone.1).shows says)
+        becomes new depth t bounds.less bounds.more all plan.now_free is.tree.shallow (omega arith) (top_moved depth root plan.last) (lies_moved new size depth root plan.last (alone.1).node (alone.1).shows says)
         (sorted_moved depth root bounds.less plan.last bounds.more (subst (λ (ks : Kids depth). Parted (IsSorted depth) bounds.less ks plan.last bounds.more) alone.0 plan.sorted))
         (rows_moved depth root plan.last ∙ subst (λ (ks : Kids depth). each_of (rows_of depth) nothing ks plan.last ≡ all) alone.0 plan.rows_are)
         r.has
@@ -239,7 +245,7 @@ module _ (old : PageMap) (size root : ℕ) (row : Entry) (rows : List Entry) (us
     no_start (piece ∷ pieces) some = refl
 
     -- the root is a page above several
-    pub lifted_becomes : (new : PageMap) → (packed.pieces.items ≡ [] → ⊥) → depth < 19 → IsLifted mid new size root TableInterior plan.now_free packed → BecomesRows old new size root all used free
+    pub lifted_becomes : (new : PageMap) → (packed.pieces.items ≡ [] → ⊥) → depth < 19 → IsLifted mid new size root TableInterior plan.now_free packed → BecomesAtMost old new size root depth all used free
     lifted_becomes new some short l =
         let tops = subst (λ (start : ℕ). Pairwise (IsTop new size depth start) (images packed) (all_of plan.kids plan.last)) (no_start packed.pieces.items some)
         (tops_now new (root ∷ (l.fronts ++ l.last ∷ [])) l.now_free l.moves) in
@@ -250,12 +256,12 @@ module _ (old : PageMap) (size root : ℕ) (row : Entry) (rows : List Entry) (us
           node_is = subst (λ (n : ℕ). IsNode (page_at new root) (start_of root) (Keys (children (top depth) planted.kids) n)) (sym planted.last_is)
               (record { cells = cells_over l.fronts (divider_bytes packed); page_is = l.root_is; say = (planted.cells_are, planted.near) });
         } in
-        becomes new (suc depth) t bounds.less bounds.more all l.now_free (omega (arith, short)) refl (says, planted.lies) planted.sorted (planted.rows_are ∙ plan.rows_are) l.has
+        becomes new (suc depth) t bounds.less bounds.more all l.now_free (omega (arith, short)) (omega arith) refl (says, planted.lies) planted.sorted (planted.rows_are ∙ plan.rows_are) l.has
         (moves_now new (root ∷ (l.fronts ++ l.last ∷ [])) l.now_free (pages_of (suc depth) t) l.moves (λ n.
         (let pages = planted.pages_are n in let a = occurs_append n (root ∷ []) (pages_in depth planted.kids planted.last) in
         let b = occurs_append n (root ∷ []) (l.fronts ++ l.last ∷ []) in omega (arith, pages, a, b))))
         (keeps_then old mid new plan.header l.header)
 
-    pub rooted_becomes : (new : PageMap) → ((packed.pieces.items ≡ [] → ⊥) → depth < 19) → IsRooted mid new size root TableInterior plan.now_free packed → BecomesRows old new size root all used free
+    pub rooted_becomes : (new : PageMap) → ((packed.pieces.items ≡ [] → ⊥) → depth < 19) → IsRooted mid new size root TableInterior plan.now_free packed → BecomesAtMost old new size root depth all used free
     rooted_becomes new short (inl alone) = rewritten_becomes new alone.0 alone.1
     rooted_becomes new short (inr lifted) = lifted_becomes new lifted.0 (short lifted.0) lifted.1

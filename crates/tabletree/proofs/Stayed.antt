@@ -1,12 +1,12 @@
 -- What a call leaves that reads, where its answer is another's.
 use Rattle.std.proofs.Common.{◌≡◌, ◌∙◌, sym, ℕ, zero}
-use Rattle.std.specs.Prelude.{Result, Ok, Err, IsErrAnd}
-use Rattle.sqlval.specs.Faults.{IsNotDiskFault, IsOutside}
+use Rattle.std.specs.Prelude.{Result, Ok, Err, IsErrAnd, IfErr}
+use Rattle.sqlval.specs.Faults.{IsNotDiskFault}
 use Rattle.sqlval.specs.declared.fault.Fault.{Fault}
 use Rattle.sqlval.specs.declared.fault.Fault.TheVariants.{Io, Full, Damaged}
 use Rattle.sqlval.specs.declared.fault.Damage.{Damage}
 use Rattle.pages.specs.Map.{PageMap}
-use Rattle.pages.specs.Calls.{Stays, Causes}
+use Rattle.pages.specs.Calls.{Stays}
 use Rattle.tabletree.specs.SingleLeaf.{placed}
 
 module _ {P K S T : Type 0} (below : P → K) (map : P → PageMap) (count : P → ℕ) (failures : P → ℕ × ℕ) where
@@ -33,6 +33,10 @@ module _ {P K S T : Type 0} (below : P → K) (map : P → PageMap) (count : P �
     counted = stays.counted;
     causes = record { db = stays.causes.db; log = stays.causes.log; why = record { io = λ io. absurd (other.0 io); full = λ full. absurd (other.1 full) } };
   }
+
+  pub stays_since : (before : S) (result : Result T Fault) (a b : P) → Stays below map count failures {T = S} (Ok before) a b → IfErr result IsNotDiskFault → Stays below map count failures result a b
+  stays_since before (Ok x) a b stays other = stays_ok before x a b stays
+  stays_since before (Err fault) a b stays other = stays_but before fault a b stays other
 
 -- a fault that is no disk's is none with a page's number
 pub placed_other : (number : ℕ) (fault is : Fault) → is ≡ placed number fault → IsNotDiskFault fault → IsNotDiskFault is

@@ -1,5 +1,5 @@
 -- Which child of a page a way goes on to.
-use Rattle.std.proofs.Common.{◌≡◌, refl, sym, ◌∙◌, ap, subst, ℕ, zero, suc, ◌<◌, ◌≤◌, ◌-◌, Bool, true, false, ℤ, int_lt, List, [], ◌∷◌, length, map, slice_index_or, if◌then◌else◌, Option, Some, None, Result, Ok, Err, arith}
+use Rattle.std.proofs.Common.{◌≡◌, refl, sym, ◌∙◌, ap, subst, ℕ, zero, suc, ◌<◌, ◌≤◌, ◌-◌, Bool, true, false, ℤ, int_lt, List, [], ◌∷◌, length, map, slice_index_or, if◌then◌else◌, Option, Some, Result, Ok, Err, arith}
 use Rattle.sqlval.specs.declared.fault.Fault.{Fault}
 use Rattle.treepage.specs.Node.{Node, Rows, Keys, Entries, Between, IsNode, code_of}
 use Rattle.treepage.specs.Reading.{Place, NeverFall, below, key_of, numbers_of, Answers}

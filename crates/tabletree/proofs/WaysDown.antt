@@ -1,5 +1,5 @@
 -- A way leads down a tree to the leaf where a rowid belongs.
-use Rattle.std.proofs.Common.{◌≡◌, refl, sym, ◌∙◌, ap, subst, ℕ, zero, suc, ◌<◌, ◌≤◌, ◌-◌, Bool, true, false, ℤ, ◌<ℤ◌, ◌≤ℤ◌, int_lt, List, [], ◌∷◌, ◌++◌, length, map, append_assoc, if◌then◌else◌, Option, Some, None, ◌⊎◌, inl, inr, arith}
+use Rattle.std.proofs.Common.{◌≡◌, refl, sym, ◌∙◌, ap, subst, ℕ, zero, suc, Bool, true, false, ℤ, ◌<ℤ◌, ◌≤ℤ◌, int_lt, List, [], ◌∷◌, ◌++◌, map, append_assoc, Option, Some, None, ◌⊎◌, inl, inr, arith}
 use Rattle.std.proofs.lemmas.Int.{ints}
 use Rattle.std.proofs.lemmas.List.{append-nil}
 use Rattle.std.specs.Prelude.{⊤, MatchOption}
@@ -11,8 +11,8 @@ use Rattle.treepage.specs.Node.{Local, Node, Rows, Keys}
 use Rattle.treepage.specs.Reading.{NeverFall, below, numbers_of}
 use Rattle.forest.specs.Saying.{Says}
 use Rattle.forest.specs.Sides.{Each, Parted, children, each_of, nothing}
-use Rattle.tabletree.specs.Tree.{Held, IsHeldAs, Leaf, Tree, top, rows_of, Rises, IsSorted, IsLeaf, Lies, IsTableTree}
-use Rattle.tabletree.specs.Ways.{child_for, left_for, right_for, way_for, step_for, IsAbout, IsStepAbout, IsLeft, IsRight, IsUnder, IsEnd, rowids}
+use Rattle.tabletree.specs.Tree.{Held, IsHeldAs, Tree, top, rows_of, Rises, IsSorted, Lies, IsTableTree}
+use Rattle.tabletree.specs.Ways.{way_for, step_for, IsAbout, IsStepAbout, IsLeft, IsRight, IsUnder, IsEnd, rowids}
 use Rattle.tabletree.specs.declared.way.Way.{Way}
 use Rattle.tabletree.specs.declared.way.Step.{Step}
 use Rattle.tabletree.specs.declared.way.Step.TheVariants.{AtLeaf, Down}

@@ -1,5 +1,5 @@
 -- What calls do with a table's tree: it is a map from rowids to payloads.
-use Rattle.std.specs.Prelude.{◌≡◌, ◌⊎◌, ◌≤◌, ◌+◌, ℕ, ℤ, Bool, true, false, List, ◌++◌, Option, Some, None, Result, MatchResult}
+use Rattle.std.specs.Prelude.{◌≡◌, ◌⊎◌, ◌≤◌, ◌+◌, ℕ, suc, ℤ, Bool, true, false, List, ◌++◌, Option, Some, None, Result, MatchResult}
 use Rattle.sqlval.specs.Faults.{IsOutside}
 use Rattle.sqlval.specs.PageSizes.{IsPageSize}
 use Rattle.sqlval.specs.declared.fault.Fault.{Fault}
@@ -52,12 +52,14 @@ FindsLast map size root result = (rows : List Entry) (used : List ℕ) → AreWh
 
 -- ---- changes
 
--- the row was put in, or there is one of its rowid and nothing changed
-abbrev pub IsInserted : PageMap → PageMap → ℕ → ℕ → Entry → List Entry → List ℕ → List ℕ → Bool → Type 0
-IsInserted old new size root row rows used free true = (payload_at row.rowid rows ≡ None) × BecomesRows old new size root (with_row row rows) used free
-IsInserted old new size root row rows used free false = ((payload_at row.rowid rows ≡ None) → ⊥) × (new ≡ old)
+-- the row was put in, and the tree, which had so many interior pages above each leaf, has at most one more; or there is a row of its rowid and
+-- nothing changed
+abbrev pub IsInserted : PageMap → PageMap → ℕ → ℕ → Entry → ℕ → List Entry → List ℕ → List ℕ → Bool → Type 0
+IsInserted old new size root row depth rows used free true =
+    (payload_at row.rowid rows ≡ None) × ((now : BecomesRows old new size root (with_row row rows) used free) × (now.stands.tree.depth ≤ suc depth))
+IsInserted old new size root row depth rows used free false = ((payload_at row.rowid rows ≡ None) → ⊥) × (new ≡ old)
 
 -- Where a tree stands, a row is put into it; or the call is refused, as growth is.
 abbrev pub InsertsRow : PageMap → PageMap → ℕ → ℕ → Entry → Result Bool Fault → Type 0
 InsertsRow old new size root row result = (rows : List Entry) (used free : List ℕ) (is : Stands old size root rows used free)
-    → MatchResult result (IsInserted old new size root row rows used free) (IsGrowthRefusal root is.tree.depth)
+    → MatchResult result (IsInserted old new size root row is.tree.depth rows used free) (IsGrowthRefusal root is.tree.depth)

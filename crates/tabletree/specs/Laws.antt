@@ -1,11 +1,17 @@
 -- What follows for a table's tree.
-use Rattle.std.specs.Prelude.{ℕ, List}
+use Rattle.std.specs.Prelude.{◌≡◌, ⊤, ℕ, ◌<ℤ◌, List, [], ◌∷◌, ◌++◌, None, MatchOption}
 use Rattle.page.specs.Leaf.{Entry}
 use Rattle.pages.specs.Map.{PageMap}
 use Rattle.forest.specs.Staying.{AreKept}
+use Rattle.tabletree.specs.Rows.{last_rowid, payload_at, with_row}
 use Rattle.tabletree.specs.Tree.{IsTableTree}
 
 -- a tree stays where what trees see of its pages stays
 abbrev pub TreesStay : Type 0
 TreesStay = (old new : PageMap) (size root : ℕ) (rows : List Entry) (used : List ℕ) → AreKept old new size used
     → IsTableTree old size root rows used → IsTableTree new size root rows used
+
+-- a row after the last one of a tree isn't among its rows, and is put after them
+abbrev pub RowsComeLast : Type 0
+RowsComeLast = (pages : PageMap) (size root : ℕ) (rows : List Entry) (used : List ℕ) (row : Entry) → IsTableTree pages size root rows used
+    → MatchOption (last_rowid rows) ⊤ (λ last. last <ℤ row.rowid) → (payload_at row.rowid rows ≡ None) × (with_row row rows ≡ rows ++ row ∷ [])

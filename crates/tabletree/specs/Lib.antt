@@ -1,8 +1,10 @@
 pub mod Calls
 pub mod Fanning
+pub mod Freeing
 pub mod Growing
 pub mod Laws
 pub mod Rows
+pub mod Scanning
 pub mod SingleLeaf
 pub mod Stepping
 pub mod Tree

@@ -5,9 +5,10 @@ use Rattle.sqlval.specs.Faults.{IsOutside}
 use Rattle.sqlval.specs.declared.fault.Fault.{Fault}
 use Rattle.page.specs.Leaf.{Entry}
 use Rattle.pages.specs.Map.{PageMap, AreWhole}
-use Rattle.treepage.specs.Node.{Local, Node, Rows, Keys, Entries, Between}
+use Rattle.treepage.specs.Node.{Node, Rows, Keys, Entries, Between}
 use Rattle.treepage.specs.Reading.{NeverFall, below, numbers_of}
 use Rattle.forest.specs.Saying.{Says}
+use Rattle.tabletree.specs.Rows.{last_rowid}
 use Rattle.tabletree.specs.Tree.{Held, Leaf, Tree, top, rows_of, IsSorted, IsLeaf, Lies, IsTableTree}
 use Rattle.tabletree.specs.declared.way.End.{End}
 use Rattle.tabletree.specs.declared.way.Way.{Way}
@@ -98,6 +99,22 @@ FindsLeaf pages size root rowid result = (rows : List Entry) (used : List ℕ) �
     → MatchResult result (IsEnd pages size rowid rows) IsOutside
 
 -- ---- the rows of a leaf
+
+-- the rows of a leaf were counted; or memory was short, or a disk's call failed
+abbrev pub CountsRows : PageMap → ℕ → ℕ → Result ℕ Fault → Type 0
+CountsRows pages size page result = (leaf : Leaf) → AreWhole size pages → IsLeaf pages size leaf → leaf.page ≡ page
+    → MatchResult result (λ count. count ≡ length leaf.rows) IsOutside
+
+-- the last of these numbers
+abbrev pub last_number : List ℤ → Option ℤ
+last_number [] = None
+last_number (number ∷ []) = Some number
+last_number (number ∷ next ∷ numbers) = last_number (next ∷ numbers)
+
+-- the rowid of the last row of a leaf was found; or memory was short, or a disk's call failed
+abbrev pub FindsLastRow : PageMap → ℕ → ℕ → Result (Option ℤ) Fault → Type 0
+FindsLastRow pages size page result = (leaf : Leaf) → AreWhole size pages → IsLeaf pages size leaf → leaf.page ≡ page
+    → MatchResult result (λ rowid. rowid ≡ last_rowid (map (λ held. held.row) leaf.rows)) IsOutside
 
 -- where a leaf has a row at this place, its rowid was found, and its payload stands behind what stood there before
 abbrev pub ReadsRow : PageMap → ℕ → ℕ → ℕ → List ℕ → List ℕ → Result ℤ Fault → Type 0

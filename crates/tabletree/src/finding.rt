@@ -2,9 +2,9 @@
 
 ghost use Rattle.std.specs.Prelude.{◌≡◌, IsTrue};
 ghost use Rattle.pages.specs.Calls.{Stays};
-ghost use Rattle.tabletree.specs.Calls.{FindsRow};
+ghost use Rattle.tabletree.specs.Calls.{FindsLast, FindsRow};
 
-use crate::reading::{is_row_at, read_row};
+use crate::reading::{is_row_at, last_row, read_row};
 use crate::way::find_leaf;
 use pages::Pages;
 use sqlval::{Fault, R};
@@ -23,4 +23,26 @@ pub fn get<P: Pages>(pages: &mut P, root: u32, rowid: i64, out: &mut Vec<u8>) ->
     }
     read_row(pages, end.way.page, end.place, out)?;
     Ok(true)
+}
+
+/// The greatest rowid of a tree, if it has rows. (What `get` refuses.)
+pub fn last<P: Pages>(pages: &mut P, root: u32) -> R<Option<i64>>
+    ensures found { IsTrue (P.Pages.tells (P.Pages.below pages.old))
+        → FindsLast (P.Pages.map pages.old) (P.Pages.limits (P.Pages.below pages.old)).page root result }
+    ensures stays { Stays P.Pages.below P.Pages.map P.Pages.count P.Pages.failures result pages.old pages.new }
+{
+    // No row is greater.
+    let mut most = i64::MAX;
+    'leaves: loop {
+        let end = find_leaf(pages, root, most)?;
+        let last = last_row(pages, end.way.page)?;
+        if last.is_some() {
+            return Ok(last);
+        }
+        // This leaf has no rows, and those on its left are at most the key there.
+        let Some(key) = end.way.left else {
+            return Ok(None);
+        };
+        most = key;
+    }
 }

@@ -1,8 +1,13 @@
 //! What holds of every table's tree.
 
-ghost use Rattle.tabletree.specs.Laws.{TreesStay};
+ghost use Rattle.tabletree.specs.Laws.{RowsComeLast, TreesStay};
 
 /// A tree stays where what trees see of its pages stays.
 pub fn table_trees_stay()
     ensures { TreesStay }
+{}
+
+/// A row after the last one of a tree is put after all of them.
+pub fn rows_come_last()
+    ensures { RowsComeLast }
 {}

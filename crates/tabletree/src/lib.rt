@@ -4,17 +4,21 @@
 
 mod descending;
 mod finding;
+mod freeing;
 mod growing;
 mod inserting;
 mod laws;
 mod leaf;
 mod reading;
+mod scanning;
 mod way;
 
-pub use finding::get;
+pub use finding::{get, last};
+pub use freeing::new_tree;
 pub use inserting::insert;
-pub use laws::table_trees_stay;
+pub use laws::{rows_come_last, table_trees_stay};
 pub use leaf::{
     Leaf, a_tree_of_leaves_is_one_page, empty, front_of_page_holds_no_row, next_rowid,
     single_page_is_a_tree, with_rows,
 };
+pub use scanning::{Batch, BatchEntry, BatchRow, Cursor};

@@ -1,12 +1,12 @@
 //! Reading the rows of a leaf.
 
-ghost use Rattle.std.specs.Prelude.{◌≡◌, ◌<◌, ℤ, IsTrue, IfErr, IsOkAnd, List, length, map, slice_index_or};
+ghost use Rattle.std.specs.Prelude.{◌≡◌, ◌<◌, ℤ, Ok, IsTrue, IfErr, IsOkAnd, List, length, map, slice_index_or};
 ghost use Rattle.sqlval.specs.Faults.{IsNotDiskFault};
 ghost use Rattle.pages.specs.Calls.{Stays};
 ghost use Rattle.pages.specs.Counting as counting;
 ghost use Rattle.treepage.specs.Node.{Local as LocalIs, Rows, IsNode};
 ghost use Rattle.treepage.specs.Reading.{Answers, row_of};
-ghost use Rattle.tabletree.specs.Ways.{IsRowAt, FindsRowid, ReadsRow};
+ghost use Rattle.tabletree.specs.Ways.{IsRowAt, CountsRows, FindsLastRow, FindsRowid, ReadsRow, last_number};
 
 use crate::leaf::{at_page, start_of};
 use overflow::read_payload;
@@ -24,6 +24,28 @@ fn row_in(bytes: &[u8], leaf: u32, place: usize) -> R<Row<'_>>
     TreePage::over(bytes, start_of(leaf))?.row(place)
 }
 
+/// How many rows the leaf of these bytes has. (`Damaged` for one that is no page of a tree.)
+fn count_in(bytes: &[u8], leaf: u32) -> R<usize>
+    ensures only { (rows : List (ℤ × LocalIs)) → IsNode bytes.now (counting.start_of leaf) (Rows rows) → result ≡ Ok (length rows) }
+    ensures not_disk { IfErr result IsNotDiskFault }
+{
+    Ok(TreePage::over(bytes, start_of(leaf))?.len())
+}
+
+/// The rowid of the last row of the leaf of these bytes, if it has rows. (`Damaged` for one that is no page of a tree.)
+fn last_in(bytes: &[u8], leaf: u32) -> R<Option<i64>>
+    ensures only { (rows : List (ℤ × LocalIs)) → IsNode bytes.now (counting.start_of leaf) (Rows rows)
+        → result ≡ Ok (last_number (map (λ row. row.0) rows)) }
+    ensures not_disk { IfErr result IsNotDiskFault }
+{
+    let page = TreePage::over(bytes, start_of(leaf))?;
+    let len = page.len();
+    if len == 0 {
+        return Ok(None);
+    }
+    Ok(Some(page.row(len - 1)?.rowid))
+}
+
 /// Whether the row at a place of a leaf of these bytes has this rowid. (`Damaged` for one that is no page of a tree.)
 fn is_row_in(bytes: &[u8], leaf: u32, place: usize, rowid: i64) -> R<bool>
     ensures only { (rows : List (ℤ × LocalIs)) → IsNode bytes.now (counting.start_of leaf) (Rows rows)
@@ -35,6 +57,32 @@ fn is_row_in(bytes: &[u8], leaf: u32, place: usize, rowid: i64) -> R<bool>
         return Ok(false);
     }
     Ok(page.row(place)?.rowid == rowid)
+}
+
+/// How many rows a leaf has. (What `load` refuses; `Damaged` for one that is no page of a tree.)
+pub fn count_rows<P: Pages>(pages: &mut P, leaf: u32) -> R<usize>
+    ensures counted { IsTrue (P.Pages.tells (P.Pages.below pages.old))
+        → CountsRows (P.Pages.map pages.old) (P.Pages.limits (P.Pages.below pages.old)).page leaf result }
+    ensures stays { Stays P.Pages.below P.Pages.map P.Pages.count P.Pages.failures result pages.old pages.new }
+{
+    pages.load(leaf)?;
+    match count_in(pages.loaded(), leaf) {
+        Ok(count) => Ok(count),
+        Err(fault) => Err(at_page(fault, leaf)),
+    }
+}
+
+/// The rowid of the last row of a leaf, if it has rows. (What `load` refuses; `Damaged` for one that is no page of a tree.)
+pub fn last_row<P: Pages>(pages: &mut P, leaf: u32) -> R<Option<i64>>
+    ensures found { IsTrue (P.Pages.tells (P.Pages.below pages.old))
+        → FindsLastRow (P.Pages.map pages.old) (P.Pages.limits (P.Pages.below pages.old)).page leaf result }
+    ensures stays { Stays P.Pages.below P.Pages.map P.Pages.count P.Pages.failures result pages.old pages.new }
+{
+    pages.load(leaf)?;
+    match last_in(pages.loaded(), leaf) {
+        Ok(last) => Ok(last),
+        Err(fault) => Err(at_page(fault, leaf)),
+    }
 }
 
 /// Whether the row at a place of a leaf has this rowid. (What `load` refuses; `Damaged` for one that is no page of a tree.)

@@ -80,7 +80,7 @@ none_stays db i table rows places terms is bound e =
     ∙ ap (λ (a : Answer (List (List Value))). a then λ rows. fold_answer (insert_row (fired (programs 64) []) (folded i.table) places) db rows) e
 
 pub insert_adds : InsertsRows → InsertAddsRows
-insert_adds adds db i table rows places terms by_column given page number only is holds bound e set some =
+insert_adds adds db i table rows places terms by_column given only is fit bound e set some =
     row_by_row (programs 64) db i (plain_table table rows) places terms is bound
     ∙ (ap (λ (a : Answer (List (List Value))). a then λ rows. fold_answer (insert_row (fired (programs 64) []) (folded i.table) places) db rows) e
-    ∙ adds (fired (programs 64) []) (folded i.table) places db table by_column rows given page number (sets_nothing_off (programs 64) []) only is holds set some)
+    ∙ adds (fired (programs 64) []) (folded i.table) places db table by_column rows given (sets_nothing_off (programs 64) []) only is fit set some)

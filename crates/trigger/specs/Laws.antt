@@ -12,7 +12,8 @@ use Rattle.catalog.specs.declared.tables.Table.{Table}
 use Rattle.bind.specs.Checked.{Meant, faults}
 use Rattle.bind.specs.Readings.{env_of, values}
 use Rattle.bind.specs.Terms.{Term}
-use Rattle.rowprog.specs.Rows.{Holds, TableRow}
+use Rattle.catalog.specs.Rows.{are_rows}
+use Rattle.rowprog.specs.Rows.{TableRow}
 use Rattle.dml.specs.Agreement.{IsSetFor, IsStill}
 use Rattle.dml.specs.Changes.{Inserts, GivenRows, no_outer, resolve_change}
 use Rattle.dml.specs.Constraints.{table_of}
@@ -43,8 +44,8 @@ InsertOfNoneStays = (db : Database) (i : Insert) (table : Table) (rows : List Ta
 
 -- And where its values are these, the table has after its own rows those that they become, or the statement is refused as they are.
 abbrev pub InsertAddsRows : Type 0
-InsertAddsRows = (db : Database) (i : Insert) (table : Table) (rows : List TableRow) (places : List ℕ) (terms : List (List Term)) (by_column : List (Option ℕ)) (given : List (List Value)) (page : List ℕ) (number : ℕ)
-    → has_only_tables db ≡ true → table_of db (folded i.table) ≡ Ok (plain_table table rows) → Holds page number (length table.columns) rows
+InsertAddsRows = (db : Database) (i : Insert) (table : Table) (rows : List TableRow) (places : List ℕ) (terms : List (List Term)) (by_column : List (Option ℕ)) (given : List (List Value))
+    → has_only_tables db ≡ true → table_of db (folded i.table) ≡ Ok (plain_table table rows) → are_rows (plain_table table rows) ≡ true
     → resolve_change db no_outer (statement.Insert i) ≡ Meant (Inserts (folded i.table) places (GivenRows terms)) [] → all_answers (map (values (env_of [])) terms) ≡ Ok given
     → All (IsSetFor table by_column places) given → 1 ≤ length given
     → change db (statement.Insert i)

@@ -20,7 +20,7 @@ returns-in_err-packed_below-clause-inserted g c = λ told rows used free is.
     let plain = to_z-of_z w64 c.args.rowid c.ranges.rowid in
     let mid = pages.map c.packed_below.new.pages in
     let changes = subst (λ (z : ℤ). Changes old mid size c.args.root 19 (record { rowid = z; payload = c.args.payload.now }) (Err c.in_err-packed_below.field-0.0)) plain (c.in_err-packed_below.ensures.changes told) in
-    growth_err (IsInserted old mid size c.args.root row rows used free) c.from_residual.result c.in_err-packed_below.field-0.0 c.args.root is.tree.depth c.from_residual.ensures.1
+    growth_err (IsInserted old mid size c.args.root row is.tree.depth rows used free) c.from_residual.result c.in_err-packed_below.field-0.0 c.args.root is.tree.depth c.from_residual.ensures.1
     (change_refused old size c.args.root row rows used free is mid c.in_err-packed_below.field-0.0 changes))
 
 pub returns-in-There-clause-inserted : goal.returns-in-There-clause-inserted
@@ -72,7 +72,7 @@ returns-in_err-store_root-in-Spread-clause-inserted g c = λ told rows used free
     let new = pages.map c.store_root.new.pages in
     let told_mid = subst (λ k. IsTrue (pages.tells k)) (sym c.in_ok-packed_below.ensures.kept) told in
     let roots = subst (λ k. Roots mid new (pages.limits k).page c.args.root TableInterior c.in-Spread.packed (Err c.in_err-store_root-in-Spread.field-0.0)) c.in_ok-packed_below.ensures.kept (c.in_err-store_root-in-Spread.ensures.rooted told_mid) in
-    growth_err (IsInserted old new size c.args.root row rows used free) c.from_residual-in_err-store_root-in-Spread.result c.in_err-store_root-in-Spread.field-0.0 c.args.root is.tree.depth c.from_residual-in_err-store_root-in-Spread.ensures.1
+    growth_err (IsInserted old new size c.args.root row is.tree.depth rows used free) c.from_residual-in_err-store_root-in-Spread.result c.in_err-store_root-in-Spread.field-0.0 c.args.root is.tree.depth c.from_residual-in_err-store_root-in-Spread.ensures.1
     (spread_refused old size c.args.root row rows used free is mid c.in-Spread.packed c.in-Spread.deep now new c.in_err-store_root-in-Spread.field-0.0 roots))
 
 pub returns-in_ok-store_root-in-Spread-clause-inserted : goal.returns-in_ok-store_root-in-Spread-clause-inserted

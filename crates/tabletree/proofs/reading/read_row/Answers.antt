@@ -1,6 +1,6 @@
-use Rattle.std.proofs.Common.{rules, SFits, ◌≡◌, ◌∙◌, ◌<◌, ◌≤◌, ◌-◌, ◌++◌, ℕ, ℤ, pos, Bool, Ok, Err, Some, sym, ap, subst, length, map, w64, List, [], slice_index_or, arith}
+use Rattle.std.proofs.Common.{rules, SFits, ◌≡◌, ◌∙◌, ◌≤◌, ◌-◌, ◌++◌, ℕ, pos, Ok, Err, ap, length, w64, List, [], slice_index_or, arith}
 use Rattle.std.proofs.lemmas.Int.{to_z-of_z}
-use Rattle.treepage.specs.Node.{Local, Rows, IsNode}
+use Rattle.treepage.specs.Node.{Local}
 use Rattle.tabletree.proofs.LeafRows.{refused, says_rows, said_there, row_is_held, lies_whole, payload_read}
 use Rattle.tabletree.proofs.reading.read_row.Goals as goal
 

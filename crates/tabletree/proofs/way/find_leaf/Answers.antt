@@ -1,15 +1,13 @@
-use Rattle.std.proofs.Common.{◌≡◌, ◌+◌, ◌≤◌, ℕ, ℤ, Ok, Err, sym, subst, w64, arith}
+use Rattle.std.proofs.Common.{ℤ, Ok, Err, subst, w64, arith}
 use Rattle.std.proofs.lemmas.Int.{to_z-of_z}
-use Rattle.std.specs.Prelude.{⊤}
 use Rattle.overflow.proofs.ReadChains.{stays_after}
-use Rattle.tabletree.proofs.Coming.{HasCome, at_root, goes_down, ends_here, refused_here, too_deep}
+use Rattle.tabletree.proofs.Coming.{at_root, goes_down, ends_here, refused_here, too_deep}
 use Rattle.tabletree.proofs.Stayed.{stays_passed, stays_ok, stays_but, damage_other}
 use Rattle.tabletree.proofs.way.find_leaf.Goals as goal
 use Rattle.sqlval.specs.declared.fault.Fault.TheVariants.{Damaged}
 use Rattle.sqlval.specs.declared.fault.Damage.TheVariants as Damage
 use Rattle.tabletree.specs.Ways.{IsAbout, FindsLeaf}
 use Rattle.tabletree.specs.declared.way.Step.{Step}
-use Rattle.tabletree.specs.declared.way.Step.TheVariants.{AtLeaf, Down}
 
 pub levels-init : goal.levels-init
 levels-init g c = at_root g.P.Pages.below g.P.Pages.tells g.P.Pages.limits g.P.Pages.map g.P.Pages.count g.P.Pages.failures c.args.pages.now c.args.root _

@@ -1,6 +1,5 @@
-use Rattle.std.proofs.Common.{rules, SFits, ◌≡◌, ◌∙◌, ◌<◌, ◌≤◌, ◌-◌, ℕ, ℤ, pos, Ok, Some, sym, ap, map, w64, arith}
+use Rattle.std.proofs.Common.{rules, SFits, ◌≡◌, ◌∙◌, ◌<◌, ◌≤◌, ◌-◌, ℕ, ℤ, pos, Ok, Some, sym, ap, w64, arith}
 use Rattle.std.proofs.lemmas.Int.{to_z-of_z}
-use Rattle.treepage.specs.Reading.{below}
 use Rattle.tabletree.proofs.StepsDown.{left_first, key_left, place_within_at}
 use Rattle.tabletree.proofs.way.left_of.Goals as goal
 

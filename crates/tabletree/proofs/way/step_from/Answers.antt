@@ -1,8 +1,7 @@
-use Rattle.std.proofs.Common.{◌≡◌, ◌∙◌, ℕ, ℤ, Ok, Err, sym, ap, subst, w64, List}
+use Rattle.std.proofs.Common.{◌∙◌, Ok, Err, w64}
 use Rattle.std.proofs.lemmas.Int.{to_z-of_z}
 use Rattle.tabletree.proofs.StepsDown.{ok_is, not_refused, step_gives}
 use Rattle.tabletree.proofs.Stayed.{stays_but, placed_other}
-use Rattle.tabletree.proofs.WaysDown.{asked}
 use Rattle.tabletree.proofs.way.step_from.Goals as goal
 
 pub returns-in-Ok-clause-found : goal.returns-in-Ok-clause-found

@@ -1,8 +1,8 @@
-use Rattle.std.proofs.Common.{IsTrue, false, ◌≡◌, ◌∙◌, ℕ, ℤ, Ok, Err, sym, ap, subst, w64, arith, List}
+use Rattle.std.proofs.Common.{IsTrue, false, ◌≡◌, ◌∙◌, ℕ, ℤ, Ok, Err, sym, ap, subst, w64}
 use Rattle.std.proofs.lemmas.Int.{to_z-of_z}
 use Rattle.treepage.specs.Reading.{below}
 use Rattle.treepage.specs.Node.{IsNode}
-use Rattle.tabletree.specs.Ways.{step_for, IsAbout, IsStepAbout}
+use Rattle.tabletree.specs.Ways.{IsAbout, IsStepAbout}
 use Rattle.tabletree.specs.declared.way.Way.{Way}
 use Rattle.tabletree.specs.declared.way.Step.{Step}
 use Rattle.tabletree.specs.declared.way.Step.TheVariants.{Down}

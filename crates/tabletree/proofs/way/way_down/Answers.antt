@@ -1,4 +1,4 @@
-use Rattle.std.proofs.Common.{rules, SFits, ◌≡◌, ◌∙◌, ◌<◌, ◌≤◌, ℕ, ℤ, pos, Option, Ok, Some, sym, ap, length, w64, arith}
+use Rattle.std.proofs.Common.{rules, SFits, ◌≡◌, ◌∙◌, ◌<◌, ◌≤◌, ℕ, ℤ, pos, Option, Ok, Some, ap, w64, arith}
 use Rattle.std.proofs.lemmas.Int.{to_z-of_z}
 use Rattle.std.specs.Option.{ok_or}
 use Rattle.treepage.specs.Node.{Keys}

@@ -1,0 +1,15 @@
+pub mod Parting
+pub mod Running
+pub mod Links
+pub mod TailChains
+pub mod Rows
+pub mod LeftEdge
+pub mod Passed
+pub mod TailLemmas
+pub mod Payloads
+pub mod LeafChecks
+pub mod KidChecks
+pub mod Bounds
+pub mod TreeChecks
+pub mod Trunking
+pub mod AllMarked

@@ -1,0 +1,41 @@
+-- What the checks of a tree and of the freelist say.
+use Rattle.std.specs.Prelude.{◌≡◌, ◌≤◌, ◌+◌, ℕ, suc, Bool, List, length}
+use Rattle.sqlval.specs.PageSizes.{IsPageSize}
+use Rattle.page.specs.Leaf.{Entry}
+use Rattle.pages.specs.Map.{PageMap, AreWhole}
+use Rattle.pages.specs.Counting.{occurs}
+use Rattle.freelist.specs.Freelist.{Trunk, IsFreelist, pages_of}
+use Rattle.tabletree.specs.Tree.{IsTableTree}
+use Rattle.pagecheck.specs.Marks.{mark_of, Marks}
+
+-- The pages are whole, and there is a mark for each, and for page 0, which isn't one.
+pub record CanMark (map : PageMap) (size : ℕ) (marks : List Bool) : Type 0 where
+  pub whole : AreWhole size map
+  pub long : length marks ≡ suc (length map)
+  pub sized : IsPageSize size
+
+-- Under the root is a table's tree; none of its pages was marked before, and exactly these are marked then.
+pub record IsChecked (map : PageMap) (size root : ℕ) (old new : List Bool) : Type 0 where
+  pub rows : List Entry
+  pub used : List ℕ
+  pub tree : IsTableTree map size root rows used
+  pub marks : Marks old new used
+
+-- Under the root is a table's tree, none of whose pages is marked.
+pub record IsUnmarked (map : PageMap) (size root : ℕ) (marks : List Bool) : Type 0 where
+  pub rows : List Entry
+  pub used : List ℕ
+  pub tree : IsTableTree map size root rows used
+  pub apart : (n : ℕ) → mark_of n marks + occurs n used ≤ 1
+
+-- The trunk page begins a freelist of so many pages; none of them was marked before, and exactly these are marked then.
+pub record IsCheckedList (map : PageMap) (size first count : ℕ) (old new : List Bool) : Type 0 where
+  pub trunks : List Trunk
+  pub listed : IsFreelist map size first count trunks
+  pub marks : Marks old new (pages_of trunks)
+
+-- The trunk page begins a freelist of so many pages, none of which is marked.
+pub record IsUnmarkedList (map : PageMap) (size first count : ℕ) (marks : List Bool) : Type 0 where
+  pub trunks : List Trunk
+  pub listed : IsFreelist map size first count trunks
+  pub apart : (n : ℕ) → mark_of n marks + occurs n (pages_of trunks) ≤ 1

@@ -1,0 +1,6 @@
+pub mod Marks
+pub mod Checks
+pub mod Exact
+pub mod Tails
+pub mod Subtrees
+pub mod Trunks
