@@ -74,12 +74,12 @@ stored_behind db name table rows rowid values only below =
 -- ---- the database
 
 -- the object of a name is the one that was put there
-put_there : (db : Database) (name : Name) (t : database.Table) → table_of (with_object db name (ATable t)) name ≡ Ok t
+pub put_there : (db : Database) (name : Name) (t : database.Table) → table_of (with_object db name (ATable t)) name ≡ Ok t
 put_there db name t =
     ap (λ (o : Option Object). elim o [ Some (ATable t) ↦ Ok t | _ ↦ Err NoSuch ])
     (find-put name_order nat_list_cmp_total (folded name) (folded name) (ATable t) db ∙ ap (λ o. cond (is_eq o) (Some (ATable t)) (object db name)) (tied_itself nat_list_cmp_total (folded name)))
 
-put_again : {X : Type 0} (k : Name) (x y : X) (db : List (Name × X)) → put name_order k y (put name_order k x db) ≡ put name_order k y db
+pub put_again : {X : Type 0} (k : Name) (x y : X) (db : List (Name × X)) → put name_order k y (put name_order k x db) ≡ put name_order k y db
 put_again k x y [] = ap (λ o. by_order o ((k, y) ∷ (k, x) ∷ []) ((k, y) ∷ []) ((k, x) ∷ put name_order k y [])) (tied_itself nat_list_cmp_total k)
 put_again k x y (e ∷ es) = by_place (put_again k x y es) (name_order k e.0) refl
   where

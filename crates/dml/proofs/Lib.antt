@@ -1,4 +1,5 @@
 pub mod Calm
+mod Deletions
 mod FitRows
 mod Folding
 mod IntoTrees

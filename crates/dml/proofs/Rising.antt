@@ -86,7 +86,7 @@ fit_rows_rise t fit = rising_rows t.rows (both (is_rising int_cmp (map (λ row. 
 less : (a b : ℤ) → a <ℤ b → int_lt a b ≡ true
 less a b lt = grind (arith)
 
-further : (a b c : ℤ) → a <ℤ b → b <ℤ c → a <ℤ c
+pub further : (a b c : ℤ) → a <ℤ b → b <ℤ c → a <ℤ c
 further a b c lt lt' = grind (arith)
 
 -- the last is above where they begin

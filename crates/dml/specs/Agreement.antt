@@ -1,5 +1,5 @@
 -- What the rows of a tree and the definition of a table's rows agree in.
-use Rattle.std.specs.Prelude.{◌≡◌, ◌≤◌, ◌<◌, ℕ, true, List, [], ◌++◌, length, slice_index_or, Option, None, Ok, All, zip}
+use Rattle.std.specs.Prelude.{◌≡◌, ◌≤◌, ◌<◌, ℕ, true, List, [], ◌++◌, map, length, slice_index_or, Option, None, Ok, All, zip}
 use Rattle.sqlval.specs.Refusals.{◌then◌, fold_answer}
 use Rattle.sqlval.specs.declared.value.Value.{Value}
 use Rattle.sqlval.specs.declared.value.Value.TheVariants.{Null}
@@ -7,13 +7,14 @@ use Rattle.syntax.specs.declared.create.TriggerTime.{TriggerTime}
 use Rattle.catalog.specs.Database as database
 use Rattle.catalog.specs.Database.{Name, Database, ATable, with_object}
 use Rattle.catalog.specs.Listed.{plain_table, has_only_tables}
+use Rattle.catalog.specs.Named.{IsNamed}
 use Rattle.catalog.specs.declared.tables.Column.{Column}
 use Rattle.catalog.specs.declared.tables.Table.{Table}
 use Rattle.catalog.specs.Rows.{are_rows}
 use Rattle.rowprog.specs.Rows.{TableRow}
 use Rattle.dml.specs.Constraints.{next_rowid, table_of, default_values, set_values}
 use Rattle.dml.specs.Inserting.{given_at, rowid_after, last_rowid, rows_added}
-use Rattle.dml.specs.RowChanges.{Fire, Firing, insert_row}
+use Rattle.dml.specs.RowChanges.{Fire, Firing, delete_row, insert_row}
 
 -- the rowid that a row without one gets in a table of rows by rising rowid is the next after the last
 abbrev pub NextIsGreater : Type 0
@@ -40,3 +41,9 @@ InsertsRows = (fire : Fire) (name : Name) (places : List ℕ) (db : Database) (t
     → All (IsSetFor table by_column places) given → 1 ≤ length given
     → fold_answer (insert_row fire name places) db given
     ≡ (rows_added table.columns by_column (last_rowid rows) given then λ added. Ok (with_object db name (ATable (plain_table table (rows ++ added)))))
+
+-- A DELETE of all rows of a listed table, where nothing is set off, leaves it without rows.
+abbrev pub DeletesRows : Type 0
+DeletesRows = (fire : Fire) (name : Name) (db : Database) (table : Table) (rows : List TableRow)
+    → IsStill fire → has_only_tables db ≡ true → IsNamed db → table_of db name ≡ Ok (plain_table table rows) → are_rows (plain_table table rows) ≡ true
+    → fold_answer (delete_row fire name) db (map (λ row. row.0) rows) ≡ Ok (with_object db name (ATable (plain_table table [])))

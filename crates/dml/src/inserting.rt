@@ -206,7 +206,8 @@ pub fn insert(alloc: Global, page: &[u8], number: u32, insert: BoundInsert<'_>) 
         → IsInserted new.items number insert.entry.table.now.columns insert.entry.places.items (map (λ row. row.items) insert.entry.rows.items) rows) }
     ensures size { IfOk result (λ new. length new.items ≡ length page.now) }
     ensures front { IfOk result (λ new. take (start_of number) new.items ≡ take (start_of number) page.now) }
-    ensures refused { IfErr result (λ fault. IsInsertRefusal page.now number insert.entry.table.now.columns insert.entry.places.items (map (λ row. row.items) insert.entry.rows.items) fault) }
+    ensures refused { IfErr result (λ fault. IsInsertRefusal page.now number insert.entry.table.now.columns insert.entry.places.items
+        (map (λ row. row.items) insert.entry.rows.items) fault) }
     ensures not_disk { IfErr result (λ fault. IsNotDiskFault fault) }
 {
     let BoundInsert {

@@ -8,7 +8,7 @@ use Rattle.sqlval.specs.declared.fault.Fault.{Fault}
 use Rattle.sqlval.specs.declared.fault.Fault.TheVariants.{Io}
 use Rattle.sqlval.specs.Faults.{IsNotDiskFault}
 use Rattle.wal.specs.Refusals.{IsCutRefusal, IsOpenRefusal}
-use Rattle.wal.specs.ErrorCauses.{AreErrorCauses, IsErrorCause}
+use Rattle.pages.specs.Calls.{Causes, IsCause}
 use Rattle.engine.specs.Creating.{CountsIo, IsNewFileRefusal}
 use Rattle.engine.proofs.Refusing.{never_ok, on_err}
 
@@ -51,28 +51,19 @@ calm_refused result old new same calm = record {
 
 -- ---- both disks
 
-pub whys_passed : {X T : Type 0} (result : Result T Fault) (fault : Fault) (a b c d : ℕ) → IsErrAnd result (λ e. e ≡ fault) → AreErrorCauses {T = X} false (Err fault) a b c d → AreErrorCauses false result a b c d
-whys_passed result fault a b c d is whys = record { db_counts = whys.db_counts; log_counts = whys.log_counts; none_failed = never_ok _ result fault is; why = on_err (IsErrorCause false a b c d) result fault is whys.why }
-
-pub whys_calm : {T : Type 0} (result : Result T Fault) (a b c d : ℕ) → (b ≡ a) × (d ≡ c) → IfErr result (λ fault. IsNotDiskFault fault) → AreErrorCauses false result a b c d
-whys_calm result a b c d same calm = record {
-  db_counts = omega (arith, same.0);
-  log_counts = omega (arith, same.1);
-  none_failed = always_ok result same;
-  why = IfErr-weaker result (λ f. IsNotDiskFault f) (IsErrorCause false a b c d) (λ f quiet. record { io = λ is. absurd (quiet.0 is); full = λ is. absurd (quiet.1 is) }) calm;
-}
+pub causes_passed : {X T : Type 0} (F : Type 0) (result : Result T Fault) (fault : Fault) (old new : ℕ × ℕ) → IsErrAnd result (λ e. e ≡ fault) → Causes {T = X} (Err fault) old new F → Causes result old new F
+causes_passed F result fault old new is causes = record { db = causes.db; log = causes.log; why = on_err (IsCause old new F) result fault is causes.why }
 
 module _ {D : Type 0} (failures : D → ℕ) where
   -- the log's cut was refused
-  pub cut_whys : {T : Type 0} (result : Result T Fault) (fault : Fault) (has_failed : Bool) (old_db mid_db new_db old_log mid_log new_log : D) → failures old_db ≤ failures mid_db → failures old_log ≤ failures mid_log
+  pub cut_causes : {T : Type 0} (F : Type 0) (result : Result T Fault) (fault : Fault) (has_failed : Bool) (old_db mid_db new_db old_log mid_log new_log : D) → failures old_db ≤ failures mid_db → failures old_log ≤ failures mid_log
       → new_db ≡ mid_db → failures mid_log ≤ failures new_log → IsErrAnd result (λ e. e ≡ fault) → IsCutRefusal has_failed mid_log new_log (failures mid_log) (failures new_log) fault
-      → AreErrorCauses false result (failures old_db) (failures new_db) (failures old_log) (failures new_log)
-  cut_whys result fault has_failed old_db mid_db new_db old_log mid_log new_log db log same cut is refusal = record {
-    db_counts = omega (arith, db, ap failures same);
-    log_counts = omega (arith, log, cut);
-    none_failed = never_ok _ result fault is;
+      → Causes result (failures old_db, failures old_log) (failures new_db, failures new_log) F
+  cut_causes F result fault has_failed old_db mid_db new_db old_log mid_log new_log db log same cut is refusal = record {
+    db = omega (arith, db, ap failures same);
+    log = omega (arith, log, cut);
     why =
-        on_err (IsErrorCause false (failures old_db) (failures new_db) (failures old_log) (failures new_log)) result fault is
+        on_err (IsCause (failures old_db, failures old_log) (failures new_db, failures new_log) F) result fault is
         (record {
           io = λ io. inr (rose_after (failures old_log) (failures mid_log) (failures new_log) log (subst (λ (f : Fault). IsCutRefusal has_failed mid_log new_log (failures mid_log) (failures new_log) f) io refusal));
           full = λ full. absurd (subst (λ (f : Fault). IsCutRefusal has_failed mid_log new_log (failures mid_log) (failures new_log) f) full refusal);

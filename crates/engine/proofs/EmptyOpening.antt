@@ -1,6 +1,6 @@
 -- The files that creating a database leaves are read as the empty database.
 use Rattle.sqlval.specs.PageSizes.{IsPageSize}
-use Rattle.std.proofs.Common.{◌≡◌, ◌≤◌, ◌*◌, ◌-◌, inr, refl, sym, ap, subst, ◌∙◌, ℕ, List, [], ◌∷◌, ◌^◌, length, take, drop, Bool, true, false, arith}
+use Rattle.std.proofs.Common.{◌≡◌, ◌≤◌, ◌+◌, ◌*◌, ◌-◌, ◌==◌, inr, refl, sym, ap, subst, ◌∙◌, ℕ, List, [], ◌∷◌, ◌^◌, length, take, drop, Bool, true, false, arith}
 use Rattle.std.specs.Prelude.{Some, None, Result, Ok, Err, nat_lt, if◌then◌else◌}
 use Rattle.std.specs.List.{list_all}
 use Rattle.std.proofs.lemmas.List.{take_all, take_at}
@@ -18,7 +18,17 @@ use Rattle.pager.specs.Views.{IsViewPage, View}
 use Rattle.dbheader.proofs.Fronts.{header_moves}
 use Rattle.session.specs.Holding.{Hold}
 use Rattle.session.proofs.Standing.{held_if_stored}
-use Rattle.session.proofs.Fresh.{nothing_stored}
+use Rattle.session.specs.Stored.{ShowsDatabase}
+use Rattle.storage.specs.Stored.{schema_tree}
+use Rattle.filecheck.specs.Layout.{AreShared}
+use Rattle.tabletree.specs.Tree.{IsTableTree}
+use Rattle.tabletree.proofs.SinglePages.{own_tree}
+use Rattle.pages.specs.Counting.{fresh}
+use Rattle.pages.specs.Map.{Has, page_at}
+use Rattle.pager.specs.Maps.{pages_in}
+use Rattle.pager.proofs.Mapping.{count_to, maps_shown}
+use Rattle.catalog.specs.declared.tables.Table.{Table}
+use Rattle.std.proofs.lemmas.Grind.{common_steps}
 use Rattle.engine.specs.Creating.{IsEmptyDatabase, is_blank_content, is_zero_byte}
 use Rattle.engine.proofs.NewFiles.{fits_empty}
 
@@ -106,6 +116,63 @@ first_page page_size page served e = record {
   has = inr (λ k lt is. absurd (omega (arith, lt)), whole_page page_size page served e);
 }
 
+only_page : (page_size : ℕ) (page : List ℕ) → IsPageSize page_size → IsEmptyDatabase page_size page → page_at (pages_in (page_view page_size page)) 1 ≡ page
+only_page page_size page served e = maps_shown (page_view page_size page) 1 page (first_page page_size page served e)
+
+one_page : (page_size : ℕ) (page : List ℕ) → length (pages_in (page_view page_size page)) ≡ 1
+one_page page_size page = count_to (page_view page_size page) 1
+
+used_once : (n : ℕ) → ◌≡◌ {A = ℕ} ((if 1 == n then 1 else 0) + 0 + 0) (fresh 0 1 n)
+used_once n = grind (arith, common_steps)
+
+none_listed : {A : Type 0} (t : Table) → None ≡ Some t → A
+none_listed t h = absurd cc
+
+-- the schema table without rows, and no page besides
+nothing_shared : (page_size : ℕ) (page : List ℕ) → IsPageSize page_size → IsEmptyDatabase page_size page → AreShared (pages_in (page_view page_size page)) page_size (schema_tree [] (1 ∷ []) ∷ []) []
+nothing_shared page_size page served e =
+    let map = pages_in (page_view page_size page) in
+    let only = only_page page_size page served e in
+    let long : length (page_at map 1) ≡ page_size = ap length only ∙ page_is_long page_size page served e in
+    let has : Has map 1 = record { first = omega arith; last = omega (arith, one_page page_size page) } in
+    record {
+      trees = (
+        subst (λ (n : ℕ). IsTableTree map n 1 [] (1 ∷ [])) long (own_tree map 1 [] has (subst (λ (b : List ℕ). IsSingleLeaf b 1 []) (sym only) (page_is_single page_size page served e))),
+        tt,
+      );
+      has = record {
+        header = empty_of page_size;
+        header_is = subst (λ (b : List ℕ). IsHeader b (empty_of page_size)) (sym only) (page_header_is page_size page e);
+        trunks = [];
+        listed = record { first_is = refl; trunks_are = tt; count_is = refl };
+        free_is = λ n. refl;
+      };
+      whole = λ number there. (let one : 1 ≡ number = omega (arith, there.first, there.last, one_page page_size page) in subst (λ (n : ℕ). length (page_at map n) ≡ page_size) one long);
+      once = λ n. subst (λ (k : ℕ). ◌≡◌ {A = ℕ} ((if 1 == n then 1 else 0) + 0 + 0) (fresh 0 k n)) (sym (one_page page_size page)) (used_once n);
+    }
+
+nothing_shown : (page_size : ℕ) (page : List ℕ) → IsPageSize page_size → IsEmptyDatabase page_size page → ShowsDatabase (page_view page_size page) [] []
+nothing_shown page_size page served e = record {
+  stored = record {
+    rows_at = λ root. [];
+    lists = λ name. refl;
+    only = refl;
+    named = record { rising = refl; each_folded = tt };
+    once = λ name t listed. none_listed t listed;
+    header = empty_of page_size;
+    header_is = subst (λ (b : List ℕ). IsHeader b (empty_of page_size)) (sym (only_page page_size page served e)) (page_header_is page_size page e);
+    sized = refl;
+    schema = [];
+    schema_used = 1 ∷ [];
+    tell = tt;
+    owners = [];
+    free = [];
+    each = tt;
+    shared = nothing_shared page_size page served e;
+  };
+  served = small page_size 1 page_size served refl refl;
+}
+
 pub created_hold : (page_size : ℕ) (page : List ℕ) → IsPageSize page_size → IsEmptyDatabase page_size page → Hold page [] []
 created_hold page_size page served e = held_if_stored page [] [] (record {
   view = page_view page_size page;
@@ -124,15 +191,5 @@ created_hold page_size page served e = held_if_stored page [] [] (record {
     counted = refl;
   };
   tables = [];
-  stored = nothing_stored (page_view page_size page) (record {
-    page = page;
-    there = first_page page_size page served e;
-    header = empty_of page_size;
-    header_is = page_header_is page_size page e;
-    sized = refl;
-    none_free = record { first = refl; count = refl };
-    rows = [];
-    single_leaf = page_is_single page_size page served e;
-    tell = tt;
-  }) refl (small page_size 1 page_size served refl refl);
+  stored = nothing_shown page_size page served e;
 })

@@ -7,7 +7,8 @@ use Rattle.catalog.specs.Listed.{committed_in, tables_of}
 use Rattle.session.specs.Holding.{IsLeftBy}
 use Rattle.session.specs.ConnectionState.{files_of}
 use Rattle.session.specs.Machine.{Machine, Idle, last_place, with_connection}
-use Rattle.session.specs.Representation.{AreCommitted, IsGivenUp, RepresentsRunning, IsTransaction, ShowTheSame, Represents}
+use Rattle.session.specs.Representation.{IsGivenUp, RepresentsRunning, IsTransaction, ShowTheSame, Represents}
+use Rattle.storage.specs.Stored.{AreCommitted}
 use Rattle.session.specs.declared.transactions.Connections.{Connections}
 use Rattle.session.specs.declared.transactions.Transaction.{Transaction}
 use Rattle.session.proofs.Showing.{moved, take_twice, the_same}

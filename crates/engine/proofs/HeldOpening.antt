@@ -1,7 +1,7 @@
 -- Files that hold a database are opened as holding it.
 use Rattle.sqlval.specs.PageSizes.{IsPageSize}
 use Rattle.std.proofs.Common.{◌≤◌, ◌≡◌, ◌⊎◌, ◌<◌, ◌+◌, ◌-◌, ◌^◌, ◌++◌, inl, inr, refl, sym, ap, subst, ◌∙◌, ℕ, zero, suc, Bool, List, [], ◌∷◌, length, map, arith}
-use Rattle.std.specs.Prelude.{Option, Some, None, Result, Ok, Err, IsTrue, IsErrAnd}
+use Rattle.std.specs.Prelude.{⊤, Option, Some, None, Result, Ok, Err, IsTrue, IsErrAnd, MatchOption}
 use Rattle.disk.specs.declared.device.Disk.{Ghosts}
 use Rattle.disk.specs.File.{IsSynced}
 use Rattle.sqlval.specs.declared.fault.Fault.{Fault}
@@ -33,15 +33,21 @@ use Rattle.pager.specs.Views.{Tells, View, newest_view}
 use Rattle.session.specs.Holding.{StoreFiles, IsFound, IsSettled}
 use Rattle.session.specs.Machine.{fresh}
 use Rattle.storage.specs.Schema.{AreSameTables}
-use Rattle.session.specs.Representation.{AreCommitted as AllCommitted, RepresentsRunning, ShowTheSame, Represents}
-use Rattle.session.specs.Stored.{Stores}
+use Rattle.session.specs.Representation.{RepresentsRunning, ShowTheSame, Represents}
+use Rattle.storage.specs.Stored.{AreCommitted as AllCommitted}
+use Rattle.session.specs.Stored.{ShowsDatabase}
 use Rattle.session.specs.declared.transactions.Connections.{Connections}
-use Rattle.session.proofs.SameTables.{stores_same}
+use Rattle.engine.proofs.SameStored.{stores_same}
 use Rattle.session.proofs.Settled.{still_settled}
 use Rattle.engine.specs.Opening.{StartsWith}
 use Rattle.sqlval.specs.Faults.{IsOrOutside, IsOutside}
 use Rattle.engine.proofs.Refusing.{open_why}
-use Rattle.loading.specs.FirstPage.{FindsDatabase}
+use Rattle.loading.specs.Loading.{FindsDatabase}
+use Rattle.pages.specs.Map.{page_at}
+use Rattle.pager.specs.Maps.{pages_in}
+use Rattle.pager.proofs.Mapping.{count_to}
+use Rattle.wal.specs.Sizes.{IsSizeWithinLimits}
+use Rattle.session.proofs.FirstPages.{first_there}
 
 -- ---- a log's committed frames
 
@@ -180,7 +186,7 @@ module _ {D : Type 0} {g : Ghosts D} where
   }
 
   -- files that were read at most, and whose log was cut then, start with what was listed
-  pub starts : (tables : List Table) (database : Database) (old mid new : Log D g) (catalog : Catalog) → ShowTheSame old mid → IsSettled old → Stores (newest_view old) tables database
+  pub starts : (tables : List Table) (database : Database) (old mid new : Log D g) (catalog : Catalog) → ShowTheSame old mid → IsSettled old → ShowsDatabase (newest_view old) tables database
       → state_of new ≡ state_of mid → db_of new ≡ db_of mid → g.tells (log_of new) ≡ g.tells (log_of mid) → IsCut (state_of mid) (g.file (log_of mid)) (g.file (log_of new))
       → AreSameTables tables (tables_of catalog) × AllCommitted catalog → StartsWith tables database new catalog
   starts tables database old mid new catalog same settled stored known db tells cut lists = record {
@@ -188,7 +194,7 @@ module _ {D : Type 0} {g : Ghosts D} where
     committed = lists.1;
     told = record { db = subst (λ (d : D). IsTrue (g.tells d)) (sym db) same.told.db; log = tells ∙ same.told.log; whole = ap (λ (k : LogState). k.has_failed) known ∙ same.told.whole };
     settled = cut_settled mid new known db cut (still_settled old mid same settled);
-    stored = subst (λ (v : View). Stores v tables database) (sym (cut_same mid new known db cut ∙ same.newest)) stored;
+    stored = subst (λ (v : View). ShowsDatabase v tables database) (sym (cut_same mid new known db cut ∙ same.newest)) stored;
   }
 
   pub not_started : (tables : List Table) (database : Database) (files : Log D g) (result : Result Catalog Fault) (fault : Fault) → IsErrAnd result (λ e. e ≡ fault) → IsOutside fault → IsOrOutside (StartsWith tables database files) result
@@ -199,7 +205,7 @@ module _ {D : Type 0} {g : Ghosts D} where
   pub record IsHeld (tables : List Table) (database : Database) (files : Log D g) : Type 0 where
     pub told : Tells files
     pub settled : IsSettled files
-    pub stored : Stores (newest_view files) tables database
+    pub stored : ShowsDatabase (newest_view files) tables database
 
   -- so they were opened
   pub opened_held : (salts : Salts) (files : Log D g) (database : Database) (head : Header) (counted : Option ℕ) (held : StoreFiles (g.file (db_of files)).content (g.file (log_of files)).content database) → head ≡ held.found.head → counted ≡ counted_of head
@@ -211,13 +217,13 @@ module _ {D : Type 0} {g : Ghosts D} where
       record {
         told = record { db = told_db; log = told_log; whole = opened.whole };
         settled = opened_settled files counted held.view same held.found db_synced log_synced known;
-        stored = subst (λ (v : View). Stores v held.tables database) (sym same) held.stored;
+        stored = subst (λ (v : View). ShowsDatabase v held.tables database) (sym same) held.stored;
       }
 
   -- ---- what was found
 
   -- the view that was found is one that opening finds
-  pub found_view : (files : Log D g) (head : Header) (counted : Option ℕ) (catalog : Catalog) (found : FindsDatabase (newest_view files) catalog) → IsHeader (g.file (db_of files)).content head → counted ≡ counted_of head
+  pub found_view : (files : Log D g) (head : Header) (counted : Option ℕ) (catalog : Catalog) (found : FindsDatabase (pages_in (newest_view files)) (newest_view files).page_size catalog) → IsHeader (g.file (db_of files)).content head → counted ≡ counted_of head
       → (state_of files).page_size ≡ head.page_size → IsStateOf counted (g.file (db_of files)).content (g.file (log_of files)).content (state_of files) → IsFound (newest_view files)
   found_view files head counted catalog found is counts sized known = record {
     head = head;
@@ -227,30 +233,30 @@ module _ {D : Type 0} {g : Ghosts D} where
         (sym (heads_are (header_of (state_of files)) (g.file (log_of files)).content (state_of files).frames))
         (subst (λ (o : Option ℕ). IsViewSize (heads (g.file (log_of files)).content (header_of (state_of files)) (state_of files).frames) o (length (g.file (db_of files)).content) (state_of files).page_size (state_of files).size) counts known.size_is);
     few = (let few = few_frames (header_of (state_of files)) (g.file (log_of files)).content (state_of files).frames in omega (arith, few, known.few));
-    page = found.stored.first.page;
-    first = found.stored.first.there;
-    header = found.stored.first.header;
-    header_is = found.stored.first.header_is;
-    counted = found.counted;
+    page = page_at (pages_in (newest_view files)) 1;
+    first = first_there (newest_view files) (tables_of catalog) found.database found.stored;
+    header = found.counted.header;
+    header_is = found.counted.header_is;
+    counted = subst (λ (n : ℕ). MatchOption (counted_of found.counted.header) (⊤) (λ count. count ≡ n)) (count_to (newest_view files) (newest_view files).size) found.counted.counted;
   }
 
   -- so the contents hold the database
-  pub found_held : (files : Log D g) (counted : Option ℕ) (catalog : Catalog) (found : FindsDatabase (newest_view files) catalog) → IsFound (newest_view files)
+  pub found_held : (files : Log D g) (counted : Option ℕ) (catalog : Catalog) (found : FindsDatabase (pages_in (newest_view files)) (newest_view files).page_size catalog) → IsSizeWithinLimits (newest_view files).page_size (newest_view files).size → IsFound (newest_view files)
       → IsStateOf counted (g.file (db_of files)).content (g.file (log_of files)).content (state_of files) → StoreFiles (g.file (db_of files)).content (g.file (log_of files)).content found.database
-  found_held files counted catalog found view known = record {
+  found_held files counted catalog found served view known = record {
     view = newest_view files;
     db_is = refl;
     commits = commits_under (header_of (state_of files)) (g.file (log_of files)).content (state_of files).page_size (state_of files).frames known.header_is known.frames_are;
     found = view;
     tables = tables_of catalog;
-    stored = found.stored;
+    stored = record { stored = found.stored; served = served };
   }
 
   -- what was started shows the database
   pub starts_shown : (connections : Connections D g) (tables : List Table) (database : Database) (files : Log D g) (catalog : Catalog) → StartsWith tables database files catalog
-      → ((db : Database) → Tells files → IsSettled files → AllCommitted catalog → Stores (newest_view files) (tables_of catalog) db → RepresentsRunning connections (fresh db)) → Represents connections (fresh database)
+      → ((db : Database) → Tells files → IsSettled files → AllCommitted catalog → ShowsDatabase (newest_view files) (tables_of catalog) db → RepresentsRunning connections (fresh db)) → Represents connections (fresh database)
   starts_shown connections tables database files catalog start shown =
-      inr (shown database start.told start.settled start.committed (stores_same (newest_view files) tables (tables_of catalog) database start.listed start.stored))
+      inr (shown database start.told start.settled start.committed (record { stored = stores_same (pages_in (newest_view files)) (newest_view files).page_size tables (tables_of catalog) database start.listed start.stored.stored; served = start.stored.served }))
 
 -- contents that can be opened are refused when out of memory, or where a call fails
 pub not_opened : (has_called : Type 0) (page_size : ℕ) (counted : Option ℕ) (db log : List ℕ) (told_db told_log : Bool) (fault : Fault)

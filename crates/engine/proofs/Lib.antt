@@ -17,3 +17,6 @@ pub mod Running
 pub mod GivenUp
 pub mod Served
 pub mod Marked
+mod LoadedFiles
+mod SameStored
+mod OneView

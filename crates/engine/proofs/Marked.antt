@@ -9,10 +9,11 @@ use Rattle.disk.proofs.Moments.{rose_after}
 use Rattle.sqlval.specs.declared.fault.Fault.{Fault}
 use Rattle.sqlval.specs.declared.fault.Fault.TheVariants.{Io, Failed, Misuse}
 use Rattle.sqlval.specs.declared.fault.Misuse.TheVariants.{Connection}
-use Rattle.wal.specs.ErrorCauses.{AreErrorCauses, IsErrorCause}
+use Rattle.pages.specs.Calls.{Causes, IsCause}
+use Rattle.pager.specs.Sights.{failures_of}
 use Rattle.session.specs.ConnectionState.{first_refusal}
 use Rattle.session.proofs.Showing.{the_same}
-use Rattle.engine.proofs.Refusing.{never_ok, on_err}
+use Rattle.engine.proofs.Refusing.{on_err}
 use Rattle.wal.specs.LogState.{db_of, log_of}
 use Rattle.session.specs.Failing.{HasCallFailed}
 use Rattle.session.specs.declared.transactions.Connections.{Connections}
@@ -37,29 +38,27 @@ check_not_io false connection fault is io = by_number (connection == 0 || nat_lt
     by_number false is = absurd cc
 
 -- a statement that may be full
-pub for_any : {T : Type 0} (flag : Bool) (result : Result T Fault) (a b c d : ℕ) → AreErrorCauses flag result a b c d → AreErrorCauses true result a b c d
-for_any flag result a b c d is = record {
-  db_counts = is.db_counts;
-  log_counts = is.log_counts;
-  none_failed = is.none_failed;
-  why = IfErr-weaker result (IsErrorCause flag a b c d) (IsErrorCause true a b c d) (λ f why. record { io = why.io; full = λ full. refl }) is.why;
+pub for_any : {T : Type 0} (flag : Bool) (result : Result T Fault) (old new : ℕ × ℕ) → Causes result old new (IsTrue flag) → Causes result old new (IsTrue true)
+for_any flag result old new is = record {
+  db = is.db;
+  log = is.log;
+  why = IfErr-weaker result (IsCause old new (IsTrue flag)) (IsCause old new (IsTrue true)) (λ f why. record { io = why.io; full = λ full. refl }) is.why;
 }
 
 module _ {D : Type 0} {g : Ghosts D} where
   -- a refusal before any call of a disk
   pub nothing_called : {T : Type 0} (result : Result T Fault) (fault : Fault) (old : Engine D g) → IsErrAnd result (λ e. e ≡ fault) → (fault ≡ Io → ⊥) → CountsFailures result old old
   nothing_called result fault old is other =
-      let db = g.failures (db_disk old) in
-      let log = g.failures (log_disk old) in
+      let counts = failures_of (files_in old) in
       record {
-        cause = record { db_counts = omega arith; log_counts = omega arith; none_failed = never_ok _ result fault is; why = on_err (IsErrorCause true db db log log) result fault is (record { io = λ io. absurd (other io); full = λ full. refl }) };
+        cause = record { db = omega arith; log = omega arith; why = on_err (IsCause counts counts (IsTrue true)) result fault is (record { io = λ io. absurd (other io); full = λ full. refl }) };
         marks = record { marked = λ whole marked. absurd (false≢true (sym whole ∙ marked)); unmarked = λ io whole told. the_same (files_in old) told };
       }
 
   pub counted_marks : {T : Type 0} (result : Result T Fault) (old new : Engine D g) → CountsFailures result old new → MarksWhereCounted old new
   counted_marks result old new counts = record {
-    db_counts = counts.cause.db_counts;
-    log_counts = counts.cause.log_counts;
+    db_counts = counts.cause.db;
+    log_counts = counts.cause.log;
     marked = λ whole marked. (let is = counts.marks.marked whole marked in is.1);
   }
 

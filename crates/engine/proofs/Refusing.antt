@@ -8,7 +8,7 @@ use Rattle.sqlval.specs.declared.fault.Damage.TheVariants as damages
 use Rattle.sqlval.specs.declared.fault.Feature.TheVariants as features
 use Rattle.session.specs.ConnectionState.{AnswersUnsupported}
 use Rattle.wal.specs.Refusals.{IsCutRefusal, IsOpenRefusal}
-use Rattle.wal.specs.ErrorCauses.{AreErrorCauses, IsErrorCause}
+use Rattle.pages.specs.Calls.{Causes, IsCause}
 
 an_answer : {T : Type 0} (x : T) (f : Fault) → Ok x ≡ Err f → ⊥
 an_answer x f h = cc
@@ -19,8 +19,8 @@ never_answered (Ok x) (inl e) = an_answer x _ e
 never_answered (Ok x) (inr e) = an_answer x _ e
 never_answered (Err f) u = tt
 
-pub full_of : {T : Type 0} (flag : Bool) (result : Result T Fault) (a b c d : ℕ) → AreErrorCauses flag result a b c d → result ≡ Err Full → IsTrue flag
-full_of flag result a b c d whys is = (let why : IsErrorCause flag a b c d Full = subst (λ r. IfErr r (IsErrorCause flag a b c d)) is whys.why in why.full refl)
+pub full_of : {T : Type 0} (flag : Bool) (result : Result T Fault) (old new : ℕ × ℕ) → Causes result old new (IsTrue flag) → result ≡ Err Full → IsTrue flag
+full_of flag result old new causes is = (let why : IsCause old new (IsTrue flag) Full = subst (λ r. IfErr r (IsCause old new (IsTrue flag))) is causes.why in why.full refl)
 
 -- of a refused call nothing is to be shown where it answers Ok
 pub never_ok : {T : Type 0} (P : Type 0) (result : Result T Fault) (fault : Fault) → IsErrAnd result (λ e. e ≡ fault) → OnOk result P

@@ -1,5 +1,5 @@
 -- What a crash leaves of two files while they are opened, and what opening makes of them.
-use Rattle.std.specs.Prelude.{◌≡◌, ◌⊎◌, ℕ, Bool, true, IsFalse, IsTrue, List, take, Result, Ok, Err}
+use Rattle.std.specs.Prelude.{◌≡◌, ◌⊎◌, ◌≤◌, ℕ, Bool, true, IsFalse, IsTrue, List, take, Result, Ok, Err}
 use Rattle.disk.specs.Calls.{Rose}
 use Rattle.disk.specs.File.{File, Version, IsLeft, IsSynced}
 use Rattle.disk.specs.declared.device.Disk.{Ghosts}
@@ -12,6 +12,7 @@ use Rattle.catalog.specs.Database.{Database}
 use Rattle.catalog.specs.Listed.{tables_of}
 use Rattle.catalog.specs.declared.tables.Catalog.{Catalog}
 use Rattle.catalog.specs.declared.tables.Table.{Table}
+use Rattle.walframe.specs.Accepted.{KeepsFile}
 use Rattle.walframe.specs.Written.{Framed}
 use Rattle.walframe.specs.declared.log_header.Salts.{Salts}
 use Rattle.wal.specs.Committed.{HasCommits}
@@ -26,8 +27,9 @@ use Rattle.session.specs.Holding.{Hold, IsSettled}
 use Rattle.session.specs.ConnectionState.{files_of}
 use Rattle.session.specs.Machine.{fresh}
 use Rattle.storage.specs.Schema.{AreSameTables}
-use Rattle.session.specs.Representation.{AreCommitted, Represents}
-use Rattle.session.specs.Stored.{Stores}
+use Rattle.session.specs.Representation.{Represents}
+use Rattle.storage.specs.Stored.{AreCommitted}
+use Rattle.session.specs.Stored.{ShowsDatabase}
 use Rattle.engine.specs.Creating.{is_blank_content}
 use Rattle.engine.specs.EngineState.{connections_of, db_disk, has_failed_of, log_disk}
 use Rattle.engine.specs.declared.opening.Engine.{Engine}
@@ -81,6 +83,12 @@ pub record IsRefusedOpen {D : Type 0} (tells : D → Bool) (file : D → File) (
   pub blank : IsTrue (tells db) → TellsBlank (file db).content refused.fault
 
 module _ {D : Type 0} {g : Ghosts D} where
+  -- nothing is known anew of the log, and the files are as they were
+  pub record KeepsFiles (old new : Log D g) : Type 0 where
+    pub known : state_of new ≡ state_of old
+    pub db : KeepsFile g.tells g.file (db_of old) (db_of new)
+    pub log : KeepsFile g.tells g.file (log_of old) (log_of new)
+
   -- the disks of what was opened, or given back
   abbrev pub db_left : Result (Engine D g) (Refused D) → D
   db_left (Ok engine) = db_of (files_of engine.connections)
@@ -100,16 +108,16 @@ module _ {D : Type 0} {g : Ghosts D} where
     pub held : Hold db log database
     pub shown : Represents (connections_of engine) (fresh database)
 
-  -- What was opened is the database that the files hold. It hasn't failed, its database file wasn't blank, and no call failed. The log
-  -- has its committed frames and no more; one that has no header is to get one with these salts.
+  -- What was opened is the database that the files hold. It hasn't failed, and its database file wasn't blank. The counts of
+  -- failed calls didn't fall. The log has its committed frames and no more; one that has no header is to get one with these salts.
   pub record IsOpenedFrom (db log : D) (salts : Salts) (engine : Engine D g) : Type 0 where
     pub found : IsTrue (g.tells db) → IsTrue (g.tells log) → ShowsHeld (g.file db).content (g.file log).content engine
     pub whole : IsFalse (has_failed_of engine)
     pub not_blank : IsTrue (g.tells db) → is_blank_content (g.file db).content ≡ true → ⊥
     pub cut : IsTrue (g.tells log) → IsCutTo (state_of (files_of engine.connections)) (g.file log).content (g.file (log_disk engine)).content
     pub takes : TakesSalts salts engine
-    pub db_counts : g.failures (db_disk engine) ≡ g.failures db
-    pub log_counts : g.failures (log_disk engine) ≡ g.failures log
+    pub db_counts : g.failures db ≤ g.failures (db_disk engine)
+    pub log_counts : g.failures log ≤ g.failures (log_disk engine)
 
   -- The catalog lists these tables, all of them committed, and the files are settled and hold the database.
   pub record StartsWith (tables : List Table) (database : Database) (files : Log D g) (catalog : Catalog) : Type 0 where
@@ -117,7 +125,7 @@ module _ {D : Type 0} {g : Ghosts D} where
     pub committed : AreCommitted catalog
     pub told : Tells files
     pub settled : IsSettled files
-    pub stored : Stores (newest_view files) tables database
+    pub stored : ShowsDatabase (newest_view files) tables database
 
   -- What was opened shows the one database; or memory was short, or a disk's call failed.
   abbrev pub Opens : Database → Result (Engine D g) (Refused D) → Type 0

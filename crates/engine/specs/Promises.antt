@@ -15,6 +15,10 @@ use Rattle.engine.specs.Opening.{IsOpenOf, LeavesOpened, Opens}
 use Rattle.engine.specs.Representation.{EngineRepresents, StepsByTextTo}
 use Rattle.engine.specs.declared.opening.Engine.{Engine}
 
+-- The contents of two files hold one database at most.
+abbrev pub HeldOnce : Type 0
+HeldOnce = (db log : List ℕ) (a b : Database) → Hold db log a → Hold db log b → a ≡ b
+
 -- What is true of more versions of the two files is true of fewer.
 abbrev pub IsTrueEarlier : (List Version → List Version → Type 0) → Type 0
 IsTrueEarlier Good = (dbs more_dbs logs more_logs : List Version) → Good (dbs ++ more_dbs) (logs ++ more_logs) → Good dbs logs

@@ -1,14 +1,22 @@
 //! Laws of what a crash leaves.
 
-ghost use Rattle.engine.specs.Promises.{CrashKeepsCommits, HoldsEarlier, RepresentedFilesHold};
+ghost use Rattle.engine.specs.Promises.{CrashKeepsCommits, HeldOnce, HoldsEarlier, RepresentedFilesHold};
 
 use crate::opening::Engine;
 use disk::Disk;
+use loading::pages_store_one_database;
 
 /// What a crash may leave only grows until the next sync: what is said of it at the end of that time is true before.
 pub fn held_earlier()
     ensures { HoldsEarlier }
 {}
+
+/// The contents of two files hold one database at most.
+pub fn files_hold_one_database()
+    ensures { HeldOnce }
+{
+    pages_store_one_database();
+}
 
 /// The files of an engine that hasn't failed hold the newest committed database.
 pub fn represented_files_hold<D: Disk + Drop>(_engine: &Engine<D>)

@@ -11,7 +11,9 @@ mod refusals;
 mod serving;
 
 pub use creating::{create, created_files_hold_nothing};
-pub use laws::{crash_keeps_commits, held_earlier, represented_files_hold};
+pub use laws::{
+    crash_keeps_commits, files_hold_one_database, held_earlier, represented_files_hold,
+};
 pub use opening::Engine;
 pub use output::put_reply;
 pub use rowprog::Rows;

@@ -7,16 +7,16 @@ ghost use Rattle.dbheader.specs.declared.fields.Header.{Header as FileHeader};
 ghost use Rattle.catalog.specs.Database.{Database};
 ghost use Rattle.catalog.specs.declared.tables.Table.{Table};
 ghost use Rattle.pager.specs.Views.{Tells, newest_view};
-ghost use Rattle.session.specs.Holding.{IsSettled};
-ghost use Rattle.session.specs.Stored.{Stores};
-ghost use Rattle.loading.specs.FirstPage.{FindsDatabase};
-ghost use Rattle.wal.specs.Sizes.{IsSizeWithinLimits};
+ghost use Rattle.pager.specs.Maps.{pages_in};
+ghost use Rattle.session.specs.Holding.{IsFound, IsSettled};
+ghost use Rattle.session.specs.Stored.{ShowsDatabase};
+ghost use Rattle.loading.specs.Loading.{FindsDatabase, ListsCommitted};
 ghost use Rattle.disk.specs.File.{IsContentLeft, IsSynced, Throughout};
 ghost use Rattle.walframe.specs.Accepted.{KeepsFile};
 ghost use Rattle.wal.specs.LogState.{db_of, state_of, log_of};
-ghost use Rattle.wal.specs.ErrorCauses.{HasCause};
+ghost use Rattle.session.specs.ConnectionState.{HasCause};
 ghost use Rattle.engine.specs.Creating.{CountsIo, is_blank_content};
-ghost use Rattle.engine.specs.Opening.{HasPageSize, IsCutTo, KeepsFilesBut, LeavesOpened, ReadsHeader, StartsWith, TellsBlank};
+ghost use Rattle.engine.specs.Opening.{HasPageSize, IsCutTo, KeepsFiles, KeepsFilesBut, LeavesOpened, ReadsHeader, StartsWith, TellsBlank};
 ghost use Rattle.sqlval.specs.declared.fault.Fault.TheVariants.{Io};
 ghost use Rattle.disk.specs.Calls.{Rose};
 ghost use Rattle.syntax.specs.declared.statement.Statement.{Statement};
@@ -30,6 +30,7 @@ use catalog::Catalog;
 use dbheader::Header;
 use disk::Disk;
 use loading::load;
+use pager::Reading;
 use parser::{parse, release};
 use rowprog::Rows;
 use session::Connections;
@@ -66,6 +67,28 @@ fn file_header<D: Disk>(db: &mut D) -> R<Header>
     dbheader::read(&front)
 }
 
+/// Loads the tables of the newest snapshot. (What `load` refuses.)
+fn load_files<D: Disk + Drop>(alloc: Global, log: &mut Log<D>) -> R<Catalog>
+    ensures kept { KeepsFiles log.old log.new }
+    // The tables of files that hold a database are loaded, unless memory runs out or a disk's call fails.
+    ensures listed { (tables : List Table) (database : Database) → Tells log.old → ShowsDatabase (newest_view log.old) tables database
+        → IsFound (newest_view log.old) → IsOrOutside (ListsCommitted tables) result }
+    // Tables are loaded only of a database that the newest view holds.
+    ensures found { Tells log.old → IfOk result (FindsDatabase (pages_in (newest_view log.old)) (newest_view log.old).page_size) }
+    ensures cause { HasCause false result log.old log.new }
+    ensures not_blank { IfErr result (λ fault. fault ≡ Fault.Blank → ⊥) }
+{
+    let snapshot = log.begin();
+    let size = log.size(snapshot);
+    let mut buffer = Vec::new(alloc);
+    let mut pages = Reading {
+        log,
+        snapshot,
+        buffer: &mut buffer,
+    };
+    load(alloc, &mut pages, size)
+}
+
 /// Loads the tables of the newest snapshot, then truncates the log after its last committed frame.
 fn load_and_truncate<D: Disk + Drop>(alloc: Global, log: &mut Log<D>) -> R<Catalog>
     ensures crash { IsFalse (state_of log.old).has_failed → HasPageSize (D.file (db_of log.old)).content (state_of log.old).page_size
@@ -81,15 +104,14 @@ fn load_and_truncate<D: Disk + Drop>(alloc: Global, log: &mut Log<D>) -> R<Catal
     ensures kept { IsTrue (D.tells (db_of log.old)) → IsTrue (D.tells (log_of log.old))
         → IfErr result (KeepsFilesBut Io (D.file (db_of log.old)) (D.file (log_of log.old)) (D.file (db_of log.new)) (D.file (log_of log.new))) }
     // Tables are loaded only of a database that the newest view holds.
-    ensures found { Tells log.old → IsSizeWithinLimits (newest_view log.old).page_size (newest_view log.old).size
-        → IfOk result (FindsDatabase (newest_view log.old)) }
+    ensures found { Tells log.old → IfOk result (FindsDatabase (pages_in (newest_view log.old)) (newest_view log.old).page_size) }
     // Of settled files that hold a database the catalog lists the tables, and the files stay settled.
     ensures opens { (tables : List Table) (database : Database) → Tells log.old → IsSettled log.old
-        → Stores (newest_view log.old) tables database → IsOrOutside (StartsWith tables database log.new) result }
+        → ShowsDatabase (newest_view log.old) tables database → IsOrOutside (StartsWith tables database log.new) result }
     ensures cause { HasCause false result log.old log.new }
     ensures not_blank { IfErr result (λ fault. fault ≡ Fault.Blank → ⊥) }
 {
-    let catalog = load(alloc, log)?;
+    let catalog = load_files(alloc, log)?;
     log.cut_tail()?;
     Ok(catalog)
 }

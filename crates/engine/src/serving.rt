@@ -87,7 +87,8 @@ impl<D: Disk + Drop> Engine<D> {
     /// Executes lines until the input ends, and writes the reply to each. Then open transactions are dropped. `Memory`, or
     /// `Io` if the input or the output fails; what is written is then a beginning of the replies.
     pub fn run<I: BufRead, O: Write>(&mut self, input: &mut I, output: &mut O) -> R<()>
-        ensures served { OnOk result (HasRun self.old (I.remaining input.old) (I.remaining input.new) (O.contents output.old) (O.contents output.new) self.new) }
+        ensures served { OnOk result (HasRun self.old (I.remaining input.old) (I.remaining input.new) (O.contents output.old)
+            (O.contents output.new) self.new) }
         ensures refused { OnErr result (HasRunInPart self.old (I.remaining input.old) (O.contents output.old) (O.contents output.new) self.new) }
         ensures why { IfErr result IsInputRefusal }
         // The engine is marked as failed only where a call of a disk failed.
@@ -99,7 +100,8 @@ impl<D: Disk + Drop> Engine<D> {
     }
 
     fn serve<I: BufRead, O: Write>(&mut self, input: &mut I, output: &mut O) -> R<()>
-        ensures served { OnOk result (HasServed self.old (I.remaining input.old) (I.remaining input.new) (O.contents output.old) (O.contents output.new) self.new) }
+        ensures served { OnOk result (HasServed self.old (I.remaining input.old) (I.remaining input.new) (O.contents output.old)
+            (O.contents output.new) self.new) }
         ensures refused { OnErr result (HasServedInPart self.old (I.remaining input.old) (O.contents output.old) (O.contents output.new) self.new) }
         ensures why { IfErr result IsInputRefusal }
     {

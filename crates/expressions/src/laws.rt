@@ -41,7 +41,8 @@ pub fn one_meaning()
 pub fn exact_parts()
     ensures names { Exact spec.names_from grammar.IsNames unlimited (λ rest. ends_list rest ≡ true) }
     ensures maybe_name { Exact spec.maybe_name_from (grammar.Optional grammar.IsName) unlimited (λ rest. lacks_name rest ≡ true) }
-    ensures maybe_name_row { Exact spec.maybe_name_row_from (grammar.Optional (grammar.Enclosed grammar.IsNames)) unlimited (λ rest. lacks_paren rest ≡ true) }
+    ensures maybe_name_row { Exact spec.maybe_name_row_from (grammar.Optional (grammar.Enclosed grammar.IsNames)) unlimited
+        (λ rest. lacks_paren rest ≡ true) }
     ensures maybe_after { (keyword : Reserved)
         → Exact (spec.maybe_after_from keyword) (grammar.Optional (grammar.Preceded (word keyword) grammar.IsExpression)) (if_given is_shallow) (EndsAfter keyword) }
 {}

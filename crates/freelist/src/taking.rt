@@ -103,7 +103,8 @@ pub fn take<P: WritePages>(alloc: Global, pages: &mut P) -> R<u32>
     ensures taken { IsTrue (P.Pages.tells (P.Pages.below pages.old))
         → Takes (P.Pages.map pages.old) (P.Pages.map pages.new) (P.Pages.limits (P.Pages.below pages.old)).page result }
     ensures kept { P.Pages.below pages.new ≡ P.Pages.below pages.old }
-    ensures causes { Causes result (P.Pages.failures pages.old) (P.Pages.failures pages.new) (P.Pages.count pages.new ≡ (P.Pages.limits (P.Pages.below pages.new)).most) }
+    ensures causes { Causes result (P.Pages.failures pages.old) (P.Pages.failures pages.new)
+        (P.Pages.count pages.new ≡ (P.Pages.limits (P.Pages.below pages.new)).most) }
 {
     let mut first = page_of(alloc, pages, 1)?;
     let Some(header) = header_in(first.as_slice()) else {

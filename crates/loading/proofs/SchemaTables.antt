@@ -1,10 +1,10 @@
--- What the rows of page 1 tell is read of them, and nothing else.
+-- What the rows of the schema table tell is read of them, and nothing else.
 use Rattle.std.proofs.Common.{◌≡◌, ◌⊎◌, ◌≤◌, ◌<◌, ◌+◌, inl, inr, refl, sym, ap, subst, ◌∙◌, ◌||◌, ℕ, zero, suc, Bool, true, false, List, [], ◌∷◌, ◌++◌, length, map, drop, take, slice_index_or, arith}
-use Rattle.std.specs.Prelude.{Option, Some, None, Result, Ok, Err, IfOk, IfErr, IsErrAnd, OnOk, is_none}
+use Rattle.std.specs.Prelude.{Option, Some, None, Result, Ok, Err, IfErr, IsErrAnd, OnOk, is_none}
 use Rattle.std.specs.List.{list_any}
 use Rattle.std.proofs.lemmas.Slice.Eq.{bytes_eq-Decides}
 use Rattle.std.proofs.lemmas.Bool.{false≢true}
-use Rattle.std.proofs.lemmas.List.{take_all, take_more}
+use Rattle.std.proofs.lemmas.List.{take_more}
 use Rattle.sqlval.specs.Faults.{IsOrMemory}
 use Rattle.sqlval.specs.Gives.{Refuses}
 use Rattle.sqlval.specs.declared.affinity.Affinity.{Affinity}
@@ -25,15 +25,14 @@ use Rattle.syntax.specs.declared.statement.Statement.{Statement}
 use Rattle.syntax.specs.declared.statement.Statement.TheVariants as statement
 use Rattle.grammar.specs.Statements.{is_statement_within}
 use Rattle.grammar.specs.Texts.{IsStatementText}
-use Rattle.tabletree.specs.SingleLeaf.{IsSingleLeaf}
 use Rattle.catalog.specs.Database.{Name}
-use Rattle.catalog.specs.Listed.{committed_in, defined, described, has_doubled, is_real, table_named, tables_of}
+use Rattle.catalog.specs.Listed.{defined, described, has_doubled, is_real, table_named, tables_of}
 use Rattle.catalog.specs.declared.tables.Catalog.{Catalog}
 use Rattle.catalog.specs.declared.tables.Column.{Column}
 use Rattle.catalog.specs.declared.tables.Table.{Table}
 use Rattle.storage.specs.Schema.{IsMadeBeside, schema_row, AreRowsOf, AreSameTables, IsCreateOf, IsRowOf, IsSameTable}
-use Rattle.session.proofs.SameTables.{not_found, same_found, same_push}
-use Rattle.loading.specs.Loading.{IsLoading, AddsTables, AddsToldTable, AreRowValues, HasParts, IsOfRow, TellsTable, TellsTables}
+use Rattle.loading.proofs.AlikeTables.{not_found, same_found, same_push}
+use Rattle.loading.specs.Loading.{IsLoading, AddsTables, AddsToldTable, AreRowValues, HasParts, IsOfRow, TellsTable}
 use Rattle.loading.specs.declared.schema.SchemaRow.{SchemaRow}
 
 -- ---- refusals
@@ -201,18 +200,6 @@ none_told pages catalog none = subst (λ (ts : List Table). AreRowsOf pages [] t
 -- the rows up to a place
 pub up_to : (rows : List Entry) (index : ℕ) (row : Entry) → index < length rows → ((d : Entry) → row ≡ slice_index_or rows index d) → take (index + 1) rows ≡ take index rows ++ row ∷ []
 up_to rows index row lt is = take_more rows index row lt ∙ ap (λ (e : Entry). take index rows ++ e ∷ []) (sym (is row))
-
-pub up_to_all : (pages : ℕ) (rows : List Entry) (index : ℕ) (catalog : Catalog) → length rows ≤ index → AreRowsOf pages [] (tables_of catalog) (take index rows) → AreRowsOf pages [] (tables_of catalog) rows
-up_to_all pages rows index catalog le tell = subst (λ (es : List Entry). AreRowsOf pages [] (tables_of catalog) es) (take_all index rows le) tell
-
-pub all_told : (pages : ℕ) (page : List ℕ) (old new : Catalog) (rows : List Entry) → tables_of new ≡ tables_of old → committed_in new ≡ length (tables_of old)
-    → IsSingleLeaf page 1 rows → AreRowsOf pages [] (tables_of old) rows → TellsTables pages page new
-all_told pages page old new rows same committed leaf tell = record {
-  committed = committed ∙ ap length (sym same);
-  rows = rows;
-  single_leaf = leaf;
-  tell = subst (λ (ts : List Table). AreRowsOf pages [] ts rows) (sym same) tell;
-}
 
 -- the rows from a place on
 one_more : (index : ℕ) → suc (index + 1) ≡ suc index + 1

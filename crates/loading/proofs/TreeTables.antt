@@ -1,6 +1,6 @@
 -- The tables that the rows of a tree tell are loaded batch by batch.
 use Rattle.std.proofs.lemmas.Int.{ints}
-use Rattle.std.proofs.Common.{◌≡◌, refl, sym, ap, subst, ◌∙◌, ℕ, ℤ, pos, negsuc, ◌<ℤ◌, ◌<◌, ◌+◌, ◌-◌, ◌^◌, Bool, List, [], ◌∷◌, ◌++◌, length, append_assoc, Option, Some, None, Result, Ok, Err, IsTrue, arith}
+use Rattle.std.proofs.Common.{◌≡◌, refl, sym, ap, subst, ◌∙◌, ℕ, ℤ, pos, negsuc, ◌<ℤ◌, ◌<◌, ◌+◌, ◌-◌, ◌^◌, Bool, List, [], ◌++◌, length, append_assoc, Option, Some, None, Result, Ok, Err, IsTrue, arith}
 use Rattle.std.proofs.lemmas.List.{append-nil}
 use Rattle.std.specs.Prelude.{IfOk, IsErrAnd, MatchResult, ⊤}
 use Rattle.sqlval.specs.Faults.{IsOrOutside, IsOutside}
@@ -16,8 +16,8 @@ use Rattle.catalog.specs.Listed.{committed_in, tables_of}
 use Rattle.catalog.specs.declared.tables.Catalog.{Catalog}
 use Rattle.catalog.specs.declared.tables.Table.{Table}
 use Rattle.storage.specs.Schema.{AreRowsOf, AreSameTables}
-use Rattle.session.specs.Representation.{AreCommitted}
-use Rattle.loading.specs.Loading.{IsLoading, ListsCommitted, LoadsNext, LoadsTree, TellsNext, TellsTree}
+use Rattle.storage.specs.Stored.{AreCommitted}
+use Rattle.loading.specs.Loading.{IsLoading, ListsCommitted, LoadsNext, TellsNext}
 use Rattle.loading.proofs.SchemaTables.{loading_begins, loading_ends, none_told}
 
 pub memory_passed : {X : Type 0} (P : X → Type 0) (r : Result X Fault) (f : Fault) → IsErrAnd r (λ e. e ≡ f) → f ≡ Memory → MatchResult r P (λ fault. fault ≡ Memory)

@@ -1,6 +1,3 @@
-pub mod FirstPage
 pub mod Loading
-pub mod Marks
-pub mod Roots
-pub mod Tables
+pub mod Uses
 pub mod Unique

@@ -1,4 +1,4 @@
--- What is read of page 1, whose rows tell the tables (Database File Format, "Storage Of The SQL Database Schema").
+-- What the rows of the schema table tell (Database File Format, "Storage Of The SQL Database Schema").
 use Rattle.std.specs.Prelude.{◌≡◌, ◌<◌, ◌≤◌, ◌++◌, ◌∷◌, true, false, ℕ, List, [], ⊤, Result, Ok, Err, IfOk, MatchResult}
 use Rattle.sqlval.specs.declared.fault.Fault.{Fault}
 use Rattle.sqlval.specs.declared.fault.Fault.TheVariants.{Memory, Blank}
@@ -9,14 +9,14 @@ use Rattle.page.specs.Leaf.{Entry}
 use Rattle.pages.specs.Map.{PageMap, AreWhole}
 use Rattle.syntax.specs.declared.create.NewObject.TheVariants as new
 use Rattle.syntax.specs.declared.create.TableDefinition.{TableDefinition}
-use Rattle.tabletree.specs.SingleLeaf.{IsSingleLeaf}
 use Rattle.tabletree.specs.Tree.{IsTableTree}
+use Rattle.catalog.specs.Database.{Database}
 use Rattle.catalog.specs.Listed.{is_reserved, tables_of}
 use Rattle.catalog.specs.declared.tables.Catalog.{Catalog}
 use Rattle.catalog.specs.declared.tables.Table.{Table}
 use Rattle.storage.specs.Forms.{is_table_supported}
 use Rattle.storage.specs.Schema.{IsMadeBeside, schema_row, AreRowsOf, AreSameTables, IsCreateOf, IsRowOf}
-use Rattle.session.specs.Representation.{AreCommitted}
+use Rattle.storage.specs.Stored.{AreCommitted, IsCounted, Stores}
 use Rattle.loading.specs.declared.schema.SchemaRow.{SchemaRow}
 
 -- neither a disk's failure, nor that of a full database or a blank file
@@ -27,12 +27,12 @@ IsSchemaFault fault = IsNotDiskFault fault × (fault ≡ Blank → ⊥)
 abbrev pub ListsCommitted : List Table → Catalog → Type 0
 ListsCommitted tables catalog = AreSameTables tables (tables_of catalog) × AreCommitted catalog
 
--- The page is a leaf of rows that tell the tables of the catalog, all of them committed, in a database of so many pages.
-pub record TellsTables (pages : ℕ) (page : List ℕ) (catalog : Catalog) : Type 0 where
+-- The pages hold a database of the catalog's tables, all of them committed, and page 1 counts them.
+pub record FindsDatabase (map : PageMap) (size : ℕ) (catalog : Catalog) : Type 0 where
   pub committed : AreCommitted catalog
-  pub rows : List Entry
-  pub single_leaf : IsSingleLeaf page 1 rows
-  pub tell : AreRowsOf pages [] (tables_of catalog) rows
+  pub database : Database
+  pub stored : Stores map size (tables_of catalog) database
+  pub counted : IsCounted map
 
 -- The catalog lists these tables; or memory was short.
 abbrev pub AddsTables : {X : Type 0} → List Table → Result X Fault → Catalog → Type 0

@@ -1,8 +1,11 @@
--- Which databases two files may hold: one at most.
+-- Which databases two files may hold, and which pages may store: one at most.
 use Rattle.std.specs.Prelude.{◌≡◌, ℕ, List}
+use Rattle.pages.specs.Map.{PageMap}
 use Rattle.catalog.specs.Database.{Database}
-use Rattle.session.specs.Holding.{Hold}
+use Rattle.catalog.specs.declared.tables.Table.{Table}
+use Rattle.storage.specs.Stored.{Stores}
 
--- The contents of two files hold one database at most.
-abbrev pub HeldOnce : Type 0
-HeldOnce = (db log : List ℕ) (a b : Database) → Hold db log a → Hold db log b → a ≡ b
+-- pages store one database at most
+abbrev pub StoredOnce : Type 0
+StoredOnce = (map : PageMap) (size : ℕ) (tables others : List Table) (a b : Database)
+    → Stores map size tables a → Stores map size others b → a ≡ b

@@ -1,56 +1,55 @@
-//! Page 1: the header, and the tables that it lists.
+//! The header at the front of page 1.
 
-ghost use Rattle.std.specs.Prelude.{◌≡◌, ℕ, List, Ok, IfOk, IfErr, OnOk};
-ghost use Rattle.sqlval.specs.Faults.{IsOrMemory};
-ghost use Rattle.catalog.specs.declared.tables.Table.{Table};
-ghost use Rattle.session.specs.Stored.{HasNoFreePage};
-ghost use Rattle.loading.specs.FirstPage.{IsFirstHeader, IsFirstPage};
-ghost use Rattle.loading.specs.Loading.{IsSchemaFault, ListsCommitted, TellsTables};
+ghost use Rattle.std.specs.Prelude.{◌≡◌, ℕ, Ok, IfOk, IfErr, MatchResult};
+ghost use Rattle.sqlval.specs.Faults.{IsNotDiskFault, IsOutside};
+ghost use Rattle.dbheader.specs.Header.{IsHeader};
+ghost use Rattle.dbheader.specs.declared.fields.Header.{Header as Told};
+ghost use Rattle.pages.specs.Calls.{Stays};
+ghost use Rattle.pages.specs.Map.{PageMap, IsThere, page_at};
+ghost use Rattle.pagecheck.specs.Exact.{AreTold};
+ghost use Rattle.loading.specs.Uses.{IsFirstHeader};
 
-use crate::schema::load_tables;
-use catalog::Catalog;
-use dbheader::Header;
-use pager::header_of;
-use sqlval::{Damage, Fault, Feature, R};
-use std::alloc::Global;
+use dbheader::{Header, read};
+use pages::Pages;
+use sqlval::{Damage, Fault, R};
 
-/// Checks that a header tells of no free page; those aren't supported yet.
-fn check_free(header: &Header) -> R<()>
-    ensures found { OnOk result (HasNoFreePage header.now) }
-    ensures only { HasNoFreePage header.now → result ≡ Ok tt }
-    ensures not_disk { IfErr result (λ fault. IsSchemaFault fault) }
+/// The header at the front of a page 1. (As `read` of `dbheader`.)
+fn header_of(page: &[u8]) -> R<Header>
+    ensures found { IfOk result (λ header. IsHeader page.now header) }
+    ensures only { (header : Told) → IsHeader page.now header → result ≡ Ok header }
+    ensures not_disk { IfErr result IsNotDiskFault }
 {
-    if (header.freelist_trunk == 0) != (header.freelist_count == 0) {
-        return Err(Fault::Damaged(Damage::Freelist, 1));
-    }
-    if header.freelist_trunk != 0 {
-        return Err(Fault::Unsupported(Feature::PageKind));
-    }
-    Ok(())
+    read(page)
 }
 
-/// Checks the header at the front of page 1 of a database of `size` pages of `page_size` bytes.
-fn check_header(page: &[u8], page_size: u32, size: u32) -> R<()>
-    ensures found { OnOk result (IsFirstHeader page.now page_size size) }
-    ensures only { IsFirstHeader page.now page_size size → result ≡ Ok tt }
-    ensures not_disk { IfErr result (λ fault. IsSchemaFault fault) }
+/// The header at the front of page 1 of a database of `size` pages of `page_size` bytes. (As `header_of`; `Damaged(Header, 1)` for
+/// another page size, `Damaged(Size, 1)` for another number of pages.)
+fn header_in(page: &[u8], page_size: usize, size: u32) -> R<Header>
+    ensures found { IfOk result (IsFirstHeader page.now page_size size) }
+    ensures only { (header : Told) → IsFirstHeader page.now page_size size header → result ≡ Ok header }
+    ensures not_disk { IfErr result IsNotDiskFault }
 {
     let header = header_of(page)?;
-    if header.page_size != page_size {
+    if header.page_size as usize != page_size {
         return Err(Fault::Damaged(Damage::Header, 1));
     }
     match header.counted_size() {
         Some(counted) if counted != size => Err(Fault::Damaged(Damage::Size, 1)),
-        _ => check_free(&header),
+        _ => Ok(header),
     }
 }
 
-/// The tables that page 1 lists, of a database of `size` pages of `page_size` bytes.
-pub fn load_first(alloc: Global, page: &[u8], page_size: u32, size: u32) -> R<Catalog>
-    ensures listed { (tables : List Table) → IsFirstPage page_size size page.now tables → IsOrMemory (ListsCommitted tables) result }
-    ensures found { IfOk result (λ catalog. IsFirstHeader page.now page_size size × TellsTables size page.now catalog) }
-    ensures not_disk { IfErr result (λ fault. IsSchemaFault fault) }
+/// The header at the front of page 1 of a database of `size` pages. (As `header_in`; what `load` refuses.)
+pub(crate) fn read_header<P: Pages>(pages: &mut P, size: u32) -> R<Header>
+    ensures found { (map : PageMap) (page : ℕ)
+        → AreTold P.Pages.below P.Pages.tells P.Pages.limits P.Pages.map pages.old map page
+        → IfOk result (IsFirstHeader (page_at map 1) page size) }
+    ensures only { (map : PageMap) (page : ℕ) (header : Told)
+        → AreTold P.Pages.below P.Pages.tells P.Pages.limits P.Pages.map pages.old map page
+        → IsThere map page 1 → IsFirstHeader (page_at map 1) page size header
+        → MatchResult result (λ read. read ≡ header) IsOutside }
+    ensures stays { Stays P.Pages.below P.Pages.map P.Pages.count P.Pages.failures result pages.old pages.new }
 {
-    check_header(page, page_size, size)?;
-    load_tables(alloc, page, size)
+    pages.load(1)?;
+    header_in(pages.loaded(), pages.page_size(), size)
 }

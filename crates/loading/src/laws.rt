@@ -1,20 +1,18 @@
-//! What two files may hold.
+//! What pages may store.
 
-ghost use Rattle.loading.specs.Unique.{HeldOnce};
+ghost use Rattle.loading.specs.Unique.{StoredOnce};
 
 use catalog::named_databases_are_one;
-use page::one_list;
 use parser::one_tree;
 use record::bytes_determine_values;
-use rowprog::pages_hold_one_list;
+use tabletree::one_table_tree;
 
-/// The contents of two files hold one database at most.
-pub fn files_hold_one_database()
-    ensures { HeldOnce }
+/// Pages store one database at most.
+pub fn pages_store_one_database()
+    ensures { StoredOnce }
 {
-    one_list();
+    one_table_tree();
     one_tree();
     bytes_determine_values();
-    pages_hold_one_list();
     named_databases_are_one();
 }

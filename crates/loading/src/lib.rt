@@ -2,13 +2,14 @@
 #![tactic(auto)]
 
 mod first;
+mod forms;
 mod laws;
 mod loading;
-mod roots;
 mod schema;
 mod tables;
 mod tree;
+mod whole;
 
-pub use laws::files_hold_one_database;
+pub use laws::pages_store_one_database;
 pub use loading::load;
 pub use tree::load_schema;

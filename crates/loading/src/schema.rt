@@ -1,4 +1,4 @@
-//! The tables of the schema, as the rows of page 1 tell them.
+//! The tables of the schema, as its rows tell them.
 
 ghost use Rattle.std.specs.Prelude.{◌≡◌, ◌<◌, ◌≤◌, ◌++◌, ◌∷◌, ℕ, List, [], Ok, None, IfOk, IfErr, IsOkAnd, OnOk, true, false, pos, codes, length, map};
 ghost use Rattle.sqlval.specs.Fields.{value_of};
@@ -13,18 +13,16 @@ ghost use Rattle.syntax.specs.declared.create.Create.{Create as Made};
 ghost use Rattle.sqlval.specs.Faults.{IsOrMemory};
 ghost use Rattle.catalog.specs.Listed as listed;
 ghost use Rattle.catalog.specs.Listed.{defined, described, has_doubled, tables_of};
-ghost use Rattle.tabletree.specs.SingleLeaf.{IsSingleLeaf};
-ghost use Rattle.storage.specs.Schema.{schema_row, AreRowsOf, AreSameTables, IsCreateOf, IsRowOf, IsSameTable};
-ghost use Rattle.loading.specs.Loading.{AddsTables, AddsToldTable, AreRowValues, HasParts, IsOfRow, IsSchemaFault, ListsCommitted, TellsTable, TellsTables};
+ghost use Rattle.storage.specs.Schema.{schema_row, AreSameTables, IsRowOf, IsSameTable};
+ghost use Rattle.loading.specs.Loading.{AddsTables, AddsToldTable, AreRowValues, HasParts, IsOfRow, IsSchemaFault, TellsTable};
 
+use crate::forms::is_table_supported;
 use catalog::{Catalog, Column, Table, columns_of, is_reserved};
 use parser::{parse, release};
 use record::Record;
-use session::is_table_supported;
 use sqlval::{Damage, Fault, Feature, Field, Many, R};
 use std::alloc::Global;
 use syntax::{Create, NewObject, Statement, TableDefinition};
-use tabletree::Leaf;
 
 /// A row of the schema table.
 #[derive(Clone, Copy)]
@@ -260,33 +258,4 @@ pub fn add_row(alloc: Global, catalog: &mut Catalog, payload: &[u8], size: u32) 
     let table = table_of(alloc, &row)?;
     is_new(catalog, &table)?;
     catalog.add(table)
-}
-
-/// The tables that these rows of the schema table describe.
-fn tables_in(alloc: Global, leaf: &Leaf<'_>, size: u32) -> R<Catalog>
-    ensures tells { (tables : List Table) → AreRowsOf size [] tables leaf.now
-        → IsOrMemory (λ catalog. AreSameTables tables (tables_of catalog)) result }
-    ensures found { IfOk result (λ catalog. AreRowsOf size [] (tables_of catalog) leaf.now) }
-    ensures not_disk { IfErr result (λ fault. IsSchemaFault fault) }
-{
-    let mut catalog = Catalog::empty(alloc);
-    'rows: for index in 0..leaf.len() {
-        add_row(alloc, &mut catalog, leaf.cell(index).payload, size)?;
-    }
-    Ok(catalog)
-}
-
-/// The tables that the rows of page 1 tell, in a database of `size` pages.
-pub fn load_tables(alloc: Global, page: &[u8], size: u32) -> R<Catalog>
-    // Where page 1's rows describe tables, these are loaded, unless memory runs out.
-    ensures listed { (tables : List Table) (rows : List Entry) → IsSingleLeaf page.now 1 rows → AreRowsOf size [] tables rows
-        → IsOrMemory (ListsCommitted tables) result }
-    // What is loaded is what page 1's rows tell.
-    ensures found { IfOk result (λ catalog. TellsTables size page.now catalog) }
-    ensures not_disk { IfErr result (λ fault. IsSchemaFault fault) }
-{
-    let leaf = Leaf::over(alloc, page, 1)?;
-    let mut catalog = tables_in(alloc, &leaf, size)?;
-    catalog.commit();
-    Ok(catalog)
 }

@@ -1,24 +1,23 @@
-//! Each table's page holds its rows.
+//! The check of the tables' trees and of their rows.
 
-ghost use Rattle.std.specs.Prelude.{◌≡◌, ◌≤◌, length, false, OnOk, IfErr};
-ghost use Rattle.std.specs.List.{AllByRecursion};
-ghost use Rattle.sqlval.specs.Faults.{IsOutside};
-ghost use Rattle.pager.specs.Views.{Tells, newest_view};
-ghost use Rattle.wal.specs.ErrorCauses.{HasCause};
-ghost use Rattle.wal.specs.LogState.{state_of};
-ghost use Rattle.session.specs.Representation.{IsNewest};
-ghost use Rattle.loading.specs.Tables.{HoldsRows, KeepsFiles};
+ghost use Rattle.std.specs.Prelude.{◌≡◌, ℕ, length};
+ghost use Rattle.pages.specs.Calls.{Stays};
+ghost use Rattle.pages.specs.Map.{PageMap};
+ghost use Rattle.treepage.specs.Cells.{Pairwise};
+ghost use Rattle.filecheck.specs.Layout.{used_by};
+ghost use Rattle.pagecheck.specs.Checks.{CanMark};
+ghost use Rattle.pagecheck.specs.Exact.{AreTold, Checks};
+ghost use Rattle.loading.specs.Uses.{IsOwnerOf};
 
 use bind::BoundSource;
 use catalog::Table;
-use disk::Disk;
-use pager::read_page;
-use rowprog::check_rows;
-use sqlval::{Fault, R};
+use pagecheck::check_tree;
+use pages::Pages;
+use rowprog::check_tree_rows;
+use sqlval::R;
 use std::alloc::Global;
-use wal::{Log, Snapshot};
 
-/// The page of a table, as a source of rows.
+/// A table, as a source of rows.
 fn source_of(table: &Table) -> BoundSource
     ensures root { result.root ≡ table.now.root }
     ensures width { result.width ≡ length table.now.columns }
@@ -29,41 +28,40 @@ fn source_of(table: &Table) -> BoundSource
     }
 }
 
-/// Checks that a table's page is a leaf of rows such as the table may hold, of as many values as it has columns.
-fn check_table<D: Disk + Drop>(
+/// Checks a table's tree and its rows, and marks the tree's pages. (What `check_tree` and `check_tree_rows` refuse.)
+fn check_table<P: Pages>(
     alloc: Global,
-    log: &mut Log<D>,
-    snapshot: Snapshot,
+    pages: &mut P,
     table: &Table,
+    marks: &mut Vec<bool>,
 ) -> R<()>
-    ensures kept { KeepsFiles log.old log.new }
-    ensures found { Tells log.old → IsNewest log.old snapshot → (state_of log.old).page_size ≤ 65536
-        → OnOk result (HoldsRows (newest_view log.old) table.now) }
-    ensures only { Tells log.old → IsNewest log.old snapshot → HoldsRows (newest_view log.old) table.now → IfErr result IsOutside }
-    ensures cause { HasCause false result log.old log.new }
-    ensures not_blank { IfErr result (λ fault. fault ≡ Fault.Blank → ⊥) }
+    ensures checked { (map : PageMap) (size : ℕ)
+        → AreTold P.Pages.below P.Pages.tells P.Pages.limits P.Pages.map pages.old map size → CanMark map size marks.old.items
+        → Checks (IsOwnerOf map size table.now) (λ owner. owner.used) marks.old.items marks.new.items result }
+    ensures long { length marks.new.items ≡ length marks.old.items }
+    ensures stays { Stays P.Pages.below P.Pages.map P.Pages.count P.Pages.failures result pages.old pages.new }
 {
-    let page = read_page(alloc, log, snapshot, table.root)?;
-    check_rows(alloc, &page, source_of(table))
+    check_tree(alloc, pages, table.root, marks)?;
+    check_tree_rows(alloc, pages, source_of(table))
 }
 
-/// Checks each table's page on the newest snapshot.
-pub fn check_tables<D: Disk + Drop>(
+/// Checks the trees of tables and their rows, and marks the trees' pages. (What `check_table` refuses.)
+pub(crate) fn check_tables<P: Pages>(
     alloc: Global,
-    log: &mut Log<D>,
-    snapshot: Snapshot,
+    pages: &mut P,
     tables: &[Table],
+    marks: &mut Vec<bool>,
 ) -> R<()>
-    ensures kept { KeepsFiles log.old log.new }
-    ensures found { Tells log.old → IsNewest log.old snapshot → (state_of log.old).page_size ≤ 65536
-        → OnOk result (AllByRecursion (HoldsRows (newest_view log.old)) tables.now) }
-    ensures only { Tells log.old → IsNewest log.old snapshot → AllByRecursion (HoldsRows (newest_view log.old)) tables.now
-        → IfErr result IsOutside }
-    ensures cause { HasCause false result log.old log.new }
-    ensures not_blank { IfErr result (λ fault. fault ≡ Fault.Blank → ⊥) }
+    ensures checked { (map : PageMap) (size : ℕ)
+        → AreTold P.Pages.below P.Pages.tells P.Pages.limits P.Pages.map pages.old map size → CanMark map size marks.old.items
+        → Checks (Pairwise (IsOwnerOf map size) tables.now) used_by marks.old.items marks.new.items result }
+    ensures long { length marks.new.items ≡ length marks.old.items }
+    ensures stays { Stays P.Pages.below P.Pages.map P.Pages.count P.Pages.failures result pages.old pages.new }
 {
-    'tables: for table in tables {
-        check_table(alloc, log, snapshot, table)?;
+    let mut rest = tables;
+    'tables: while let [table, after @ ..] = rest {
+        check_table(alloc, pages, table, marks)?;
+        rest = after;
     }
     Ok(())
 }

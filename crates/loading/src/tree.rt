@@ -1,6 +1,6 @@
 //! The tables of the schema, as the rows of its tree tell them.
 
-ghost use Rattle.std.specs.Prelude.{◌≡◌, IsTrue, IfErr, OnOk};
+ghost use Rattle.std.specs.Prelude.{IsTrue, IfErr, OnOk};
 ghost use Rattle.pages.specs.Calls.{Stays};
 ghost use Rattle.loading.specs.Loading.{IsSchemaFault, LoadsNext, LoadsTree, TellsNext, TellsTree};
 
@@ -26,7 +26,7 @@ fn add_batch(alloc: Global, catalog: &mut Catalog, batch: &Batch, size: u32) -> 
     Ok(())
 }
 
-/// The tables that the rows of the schema table tell, in a database of `size` pages, whatever pages the rows lie on. (As `load_tables`,
+/// The tables that the rows of the schema table tell, in a database of `size` pages, whatever pages the rows lie on. (As `add_row`,
 /// except for pages that are no tree of a table: those are refused as a `Cursor` does.)
 pub fn load_schema<P: Pages>(alloc: Global, pages: &mut P, size: u32) -> R<Catalog>
     ensures loaded { IsTrue (P.Pages.tells (P.Pages.below pages.old))

@@ -135,7 +135,8 @@ fn write_piece(
     requires { Fits page_size 0 (right_room kind) (map (λ cell. cell.now) part.now) }
     ensures page { IfOk result (λ piece. piece.page.items ≡ page_of [] page_size kind
         (take (right_room kind) (first_cell (map (λ cell. cell.now) after.now))) (map (λ cell. cell.now) part.now)) }
-    ensures divider { IfOk result (λ piece. piece.divider.items ≡ divider_of kind (map (λ cell. cell.now) part.now) (map (λ cell. cell.now) after.now)) }
+    ensures divider { IfOk result (λ piece. piece.divider.items ≡ divider_of kind (map (λ cell. cell.now) part.now)
+        (map (λ cell. cell.now) after.now)) }
 {
     let page = write(alloc, &[], page_size, kind, child_before(kind, after), part)?;
     let divider = divider_of(kind, part, after).to_vec(alloc)?;

@@ -6,7 +6,7 @@ use Rattle.sqlval.specs.Faults.{IsOutside}
 use Rattle.pages.specs.Counting.{occurs}
 use Rattle.pages.specs.Map.{PageMap}
 use Rattle.tabletree.specs.Tree.{rows_of, pages_of}
-use Rattle.pagecheck.specs.Checks.{IsChecked, IsUnmarked}
+use Rattle.pagecheck.specs.Checks.{IsChecked, IsUnmarked, MarksTree}
 use Rattle.pagecheck.specs.Exact.{Checks}
 use Rattle.pagecheck.specs.Subtrees.{IsSubtree, FindsDepth}
 use Rattle.pagecheck.proofs.Bounds.{before_all, last_rowid, within_all}
@@ -55,3 +55,14 @@ tree_only map size root depth old new (Err fault) finds check is =
 pub depth_refused : (map : PageMap) (size root : ℕ) (old : List Bool) (fault : Fault) (result : Result ⊤ Fault) → FindsDepth map size root (Err fault) → IsUnmarked map size root old → IsErrAnd result (λ e. e ≡ fault) → IfErr result IsOutside
 depth_refused map size root old fault (Ok done) finds is refused = absurd refused
 depth_refused map size root old fault (Err e) finds is refused = (let t = is.tree in subst IsOutside (sym refused) (finds t.depth t.tree t.shallow t.root_is t.lies))
+
+-- of any tree under the root none of whose pages was marked these are the pages
+pub tree_same : (map : PageMap) (size root depth : ℕ) (old new : List Bool) (result : Result ⊤ Fault) → FindsDepth map size root (Ok depth)
+    → Checks (IsSubtree map size root depth before_all last_rowid) (pages_of depth) old new result → OnOk result (MarksTree map size root old new)
+tree_same map size root depth old new (Err fault) finds check = tt
+tree_same map size root depth old new (Ok done) finds check = λ rows used tree free.
+    (let same : depth ≡ tree.depth = finds tree.depth tree.tree tree.shallow tree.root_is tree.lies in
+    let there = subst (λ (d : ℕ). Checks (IsSubtree map size root d before_all last_rowid) (pages_of d) old new (Ok tt)) same check in
+    let marked = there.1 tree.tree (record { top_is = tree.root_is; lies = tree.lies; sorted = within_all map size tree.depth tree.low tree.high tree.tree tree.lies tree.sorted })
+    (λ n. let u = free n in let e = ap (occurs n) tree.used_are in omega (arith, u, e)) in
+    record { long = marked.long; marks = λ n. let v = marked.marks n in let e = ap (occurs n) tree.used_are in omega (arith, v, e) })

@@ -9,7 +9,7 @@ use Rattle.sqlval.specs.Faults.{IsOutside}
 use Rattle.pages.specs.Counting.{occurs}
 use Rattle.pages.specs.Map.{PageMap, Has, page_at}
 use Rattle.freelist.specs.Freelist.{Trunk, IsTrunk, IsFreelist, first_of, pages_of}
-use Rattle.pagecheck.specs.Checks.{IsCheckedList, IsUnmarkedList}
+use Rattle.pagecheck.specs.Checks.{IsCheckedList, IsUnmarkedList, MarksList}
 use Rattle.pagecheck.specs.Exact.{Checks, IsThisPage, alone}
 use Rattle.pagecheck.specs.Marks.{AreUnmarked}
 use Rattle.pagecheck.specs.Trunks.{AreListed, TellsList, IsTrunkOf, ChecksTrunk}
@@ -266,6 +266,10 @@ list_found map size first count old new (Err fault) check = tt
 pub list_only : (map : PageMap) (size first count : ℕ) (old new : List Bool) (result : Result ⊤ Fault) → Checks (IsFreelist map size first count) pages_of old new result → IsUnmarkedList map size first count old → IfErr result IsOutside
 list_only map size first count old new (Ok done) check is = tt
 list_only map size first count old new (Err fault) check is = check is.trunks is.listed is.apart
+
+pub list_same : (map : PageMap) (size first count : ℕ) (old new : List Bool) (result : Result ⊤ Fault) → Checks (IsFreelist map size first count) pages_of old new result → OnOk result (MarksList map size first count old new)
+list_same map size first count old new (Ok done) check = check.1
+list_same map size first count old new (Err fault) check = tt
 
 -- ---- places of listed pages
 

@@ -6,7 +6,7 @@ use Rattle.pages.specs.Map.{PageMap, AreWhole}
 use Rattle.pages.specs.Counting.{occurs}
 use Rattle.freelist.specs.Freelist.{Trunk, IsFreelist, pages_of}
 use Rattle.tabletree.specs.Tree.{IsTableTree}
-use Rattle.pagecheck.specs.Marks.{mark_of, Marks}
+use Rattle.pagecheck.specs.Marks.{mark_of, Marks, AreUnmarked}
 
 -- The pages are whole, and there is a mark for each, and for page 0, which isn't one.
 pub record CanMark (map : PageMap) (size : ℕ) (marks : List Bool) : Type 0 where
@@ -28,6 +28,11 @@ pub record IsUnmarked (map : PageMap) (size root : ℕ) (marks : List Bool) : Ty
   pub tree : IsTableTree map size root rows used
   pub apart : (n : ℕ) → mark_of n marks + occurs n used ≤ 1
 
+-- of any tree under the root none of whose pages was marked, exactly its pages were marked
+abbrev pub MarksTree : PageMap → ℕ → ℕ → List Bool → List Bool → Type 0
+MarksTree map size root old new =
+    (rows : List Entry) (used : List ℕ) → IsTableTree map size root rows used → AreUnmarked old used → Marks old new used
+
 -- The trunk page begins a freelist of so many pages; none of them was marked before, and exactly these are marked then.
 pub record IsCheckedList (map : PageMap) (size first count : ℕ) (old new : List Bool) : Type 0 where
   pub trunks : List Trunk
@@ -39,3 +44,8 @@ pub record IsUnmarkedList (map : PageMap) (size first count : ℕ) (marks : List
   pub trunks : List Trunk
   pub listed : IsFreelist map size first count trunks
   pub apart : (n : ℕ) → mark_of n marks + occurs n (pages_of trunks) ≤ 1
+
+-- of any freelist of so many pages that begins at the trunk page and none of whose pages was marked, exactly its pages were marked
+abbrev pub MarksList : PageMap → ℕ → ℕ → ℕ → List Bool → List Bool → Type 0
+MarksList map size first count old new =
+    (trunks : List Trunk) → IsFreelist map size first count trunks → AreUnmarked old (pages_of trunks) → Marks old new (pages_of trunks)

@@ -5,7 +5,7 @@ ghost use Rattle.sqlval.specs.Faults.{IsOutside};
 ghost use Rattle.pages.specs.Calls.{Stays};
 ghost use Rattle.pages.specs.Map.{PageMap};
 ghost use Rattle.tabletree.specs.Tree.{pages_of};
-ghost use Rattle.pagecheck.specs.Checks.{CanMark, IsChecked, IsUnmarked};
+ghost use Rattle.pagecheck.specs.Checks.{CanMark, IsChecked, IsUnmarked, MarksTree};
 ghost use Rattle.pagecheck.specs.Exact.{AreTold, Checks};
 ghost use Rattle.pagecheck.specs.Subtrees.{IsSubtree, AreSubtrees, keys_in, pages_beside};
 
@@ -132,6 +132,10 @@ pub fn check_tree<P: Pages>(alloc: Global, pages: &mut P, root: u32, marks: &mut
         → CanMark (P.Pages.map pages.old) (P.Pages.limits (P.Pages.below pages.old)).page marks.old.items
         → IsUnmarked (P.Pages.map pages.old) (P.Pages.limits (P.Pages.below pages.old)).page root marks.old.items
         → IfErr result IsOutside }
+    ensures same { IsTrue (P.Pages.tells (P.Pages.below pages.old))
+        → CanMark (P.Pages.map pages.old) (P.Pages.limits (P.Pages.below pages.old)).page marks.old.items
+        → OnOk result (MarksTree (P.Pages.map pages.old) (P.Pages.limits (P.Pages.below pages.old)).page root
+        marks.old.items marks.new.items) }
     ensures long { length marks.new.items ≡ length marks.old.items }
     ensures stays { Stays P.Pages.below P.Pages.map P.Pages.count P.Pages.failures result pages.old pages.new }
 {

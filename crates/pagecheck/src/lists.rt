@@ -7,7 +7,7 @@ ghost use Rattle.sqlval.specs.Faults.{IsOutside, IsNotDiskFault};
 ghost use Rattle.pages.specs.Calls.{Stays};
 ghost use Rattle.pages.specs.Map.{PageMap};
 ghost use Rattle.freelist.specs.Freelist.{IsFreelist, pages_of};
-ghost use Rattle.pagecheck.specs.Checks.{CanMark, IsCheckedList, IsUnmarkedList};
+ghost use Rattle.pagecheck.specs.Checks.{CanMark, IsCheckedList, IsUnmarkedList, MarksList};
 ghost use Rattle.pagecheck.specs.Exact.{AreTold, Checks};
 ghost use Rattle.pagecheck.specs.Marks.{mark_of};
 ghost use Rattle.pagecheck.specs.Trunks.{AreListed, TellsList, ChecksTrunk};
@@ -113,6 +113,10 @@ pub fn check_freelist<P: Pages>(
         → CanMark (P.Pages.map pages.old) (P.Pages.limits (P.Pages.below pages.old)).page marks.old.items
         → IsUnmarkedList (P.Pages.map pages.old) (P.Pages.limits (P.Pages.below pages.old)).page first count marks.old.items
         → IfErr result IsOutside }
+    ensures same { IsTrue (P.Pages.tells (P.Pages.below pages.old))
+        → CanMark (P.Pages.map pages.old) (P.Pages.limits (P.Pages.below pages.old)).page marks.old.items
+        → OnOk result (MarksList (P.Pages.map pages.old) (P.Pages.limits (P.Pages.below pages.old)).page first count
+        marks.old.items marks.new.items) }
     ensures long { length marks.new.items ≡ length marks.old.items }
     ensures stays { Stays P.Pages.below P.Pages.map P.Pages.count P.Pages.failures result pages.old pages.new }
 {

@@ -13,7 +13,7 @@ use Rattle.pager.specs.declared.writer.Writer.{Writer}
 use Rattle.pager.specs.Limits.{pages_of, page_size_of}
 use Rattle.pager.specs.Marks.{marks_of}
 use Rattle.pager.specs.Views.{View, ViewHas, after, changes_of}
-use Rattle.pager.specs.Writers.{AreObjectPages, BeginAtPageOne, IsAt, IsBegun, IsGapFor, IsConsistent, ReplacesPages, makes_objects, seen, snapshot_of}
+use Rattle.pager.specs.Writers.{BeginAtPageOne, IsAt, IsBegun, IsGapFor, IsConsistent, ReplacesPages, makes_objects, seen, snapshot_of}
 use Rattle.pager.proofs.WriterPages.{Put, among_and_not, at_most, insert_begins, insert_pages, insert_puts, larger, set_begins, set_pages, set_puts}
 
 -- a page that a writer sees is among its changes, or is the view's and none of them
@@ -116,11 +116,6 @@ inserted old new i page was gap low len changes size page_size snapshot marks =
     let put : Put page (changes_of old) (changes_of new) = subst (Put page (changes_of old)) (sym changes) (insert_puts (changes_of old) i page gap) in
     record { whole = whole; puts = puts page old new was whole put size page_size snapshot marks }
 
--- what holds anyway holds at a refusal
-pub at_any : {T : Type 0} (result : Result T Fault) (P : Type 0) → P → IfErr result (λ fault. P)
-at_any (Ok x) P holds = tt
-at_any (Err fault) P holds = holds
-
 -- ---- what differs in nothing that a writer sees
 
 pub record AreAlike (old new : Writer) : Type 0 where
@@ -138,61 +133,6 @@ whole_same old new same was = record {
 
 seen_is : (view : View) (old new : Writer) → AreAlike old new → (number : ℕ) (bytes : List ℕ) → ViewHas (seen view old) number bytes → ViewHas (seen view new) number bytes
 seen_is view old new same number bytes has = subst (λ (n : ℕ). ViewHas (after view (changes_of new) n) number bytes) (sym same.size) (subst (λ (ps : List PageImage). ViewHas (after view ps (pages_of old)) number bytes) (sym same.changes) has)
-
-back_same : (old new : Writer) → AreAlike old new → AreAlike new old
-back_same old new same = record { changes = sym same.changes; size = sym same.size; page_size = sym same.page_size; snapshot = sym same.snapshot }
-
-pub puts_same : (pages : List PageImage) (old new then : Writer) → AreAlike new then → marks_of then ≡ marks_of new → ReplacesPages pages old new → ReplacesPages pages old then
-puts_same pages old new then same marks puts = record {
-  sees = λ view number bytes. (
-    (λ has. (puts.sees view number bytes).0 (seen_is view then new (back_same new then same) number bytes has)),
-    (λ is. seen_is view new then same number bytes ((puts.sees view number bytes).1 is)),
-  );
-  size = same.size ∙ puts.size;
-  page_size = same.page_size ∙ puts.page_size;
-  snapshot = same.snapshot ∙ puts.snapshot;
-  marks = marks ∙ puts.marks;
-  rest = λ number none. puts.rest number (subst (λ (ps : List PageImage). IsNotAmong ps number) same.changes none);
-}
-
--- ---- two pages
-
-both_forth : (schema root : PageImage) (old mid : Writer) (view : View) (number : ℕ) (bytes : List ℕ) → ReplacesPages (root ∷ []) old mid
-    → IsAmong (schema ∷ []) number bytes ⊎ (IsNotAmong (schema ∷ []) number × ViewHas (seen view mid) number bytes)
-    → IsAmong (schema ∷ root ∷ []) number bytes ⊎ (IsNotAmong (schema ∷ root ∷ []) number × ViewHas (seen view old) number bytes)
-both_forth schema root old mid view number bytes puts (inl (inl here)) = inl (inl here)
-both_forth schema root old mid view number bytes puts (inl (inr none)) = absurd none
-both_forth schema root old mid view number bytes puts (inr rest) = elim ((puts.sees view number bytes).0 rest.1) [
-  | inl among ↦ inl (inr among)
-  | inr before ↦ inr ((rest.0.0, before.0), before.1)
-]
-
-both_back : (schema root : PageImage) (old mid : Writer) (view : View) (number : ℕ) (bytes : List ℕ) → (schema.number ≡ root.number → ⊥) → ReplacesPages (root ∷ []) old mid
-    → IsAmong (schema ∷ root ∷ []) number bytes ⊎ (IsNotAmong (schema ∷ root ∷ []) number × ViewHas (seen view old) number bytes)
-    → IsAmong (schema ∷ []) number bytes ⊎ (IsNotAmong (schema ∷ []) number × ViewHas (seen view mid) number bytes)
-both_back schema root old mid view number bytes other puts (inl (inl here)) = inl (inl here)
-both_back schema root old mid view number bytes other puts (inl (inr (inl here))) = inr (((λ is. other (is ∙ sym here.0)), tt), (puts.sees view number bytes).1 (inl (inl here)))
-both_back schema root old mid view number bytes other puts (inl (inr (inr none))) = absurd none
-both_back schema root old mid view number bytes other puts (inr rest) = inr ((rest.0.0, tt), (puts.sees view number bytes).1 (inr (rest.0.1, rest.1)))
-
-turned : (a b c : ℕ) → max (max a b) c ≡ max (max a c) b
-turned a b c = grind (arith, nat_tests)
-
-pub puts_both : (schema root : PageImage) (old mid new : Writer) → AreObjectPages (page_size_of old) schema root → ReplacesPages (root ∷ []) old mid → ReplacesPages (schema ∷ []) mid new → ReplacesPages (schema ∷ root ∷ []) old new
-puts_both schema root old mid new are first second = record {
-  sees = λ view number bytes. (
-    (λ has. both_forth schema root old mid view number bytes first ((second.sees view number bytes).0 has)),
-    (λ is. (second.sees view number bytes).1 (both_back schema root old mid view number bytes other first is)),
-  );
-  size = second.size ∙ ap (λ (n : ℕ). max n schema.number) first.size ∙ turned (pages_of old) root.number schema.number;
-  page_size = second.page_size ∙ first.page_size;
-  snapshot = second.snapshot ∙ first.snapshot;
-  marks = second.marks ∙ first.marks;
-  rest = λ number none. (let now = second.rest number none in let before = first.rest number now.1 in ((now.0.0, before.0), before.1));
-}
-  where
-    other : schema.number ≡ root.number → ⊥
-    other is = omega (arith, is, are.first, are.behind)
 
 -- page 1 is among pages that it begins
 pub first_not_missing : (ps : List PageImage) → BeginAtPageOne ps → IsNotAmong ps 1 → ⊥

@@ -60,15 +60,6 @@ abbrev pub size_with : List PageImage → ℕ → ℕ
 size_with [] size = size
 size_with (p ∷ ps) size = size_with ps (max size p.number)
 
--- nothing that a writer sees, would commit or would have committed at its marks differs
-pub record IsUnchanged (old new : Writer) : Type 0 where
-  pub changes : changes_of new ≡ changes_of old
-  pub size : pages_of new ≡ pages_of old
-  pub page_size : page_size_of new ≡ page_size_of old
-  pub snapshot : snapshot_of new ≡ snapshot_of old
-  pub objects : makes_objects new ≡ makes_objects old
-  pub marks : marks_of new ≡ marks_of old
-
 -- nothing differs but the pages that a writer has changed: what it had changed at its marks is as it was too
 pub record DiffersInPages (old new : Writer) : Type 0 where
   pub size : pages_of new ≡ pages_of old
@@ -116,13 +107,6 @@ abbrev pub EndsWithin : ℕ → List PageImage → Type 0
 EndsWithin size [] = ⊥
 EndsWithin size (p ∷ []) = p.number ≤ size
 EndsWithin size (p ∷ q ∷ ps) = EndsWithin size (q ∷ ps)
-
--- page 1 and the root page of a new object, each as long as a page is
-pub record AreObjectPages (page_size : ℕ) (schema root : PageImage) : Type 0 where
-  pub first : schema.number ≡ 1
-  pub behind : 1 < root.number
-  pub schema_is_long : length schema.bytes.items ≡ page_size
-  pub root_is_long : length root.bytes.items ≡ page_size
 
 -- the first of these pages has this header
 abbrev pub HasHeader : List PageImage → Header → Type 0

@@ -15,5 +15,5 @@ pub use laws::{
     writers_are_told,
 };
 pub use reading::{header_of, read_page};
-pub use sights::{Reading, Writing};
+pub use sights::{Reading, Viewing, Writing};
 pub use writer::Writer;

@@ -144,7 +144,8 @@ fn step(saved: &mut Vec<Saved>, to: usize, at: usize, limit: u64) -> usize
     ensures bounds { (to ≤ result) × (result ≤ at + 1) }
     ensures len { length saved.new.items ≡ length saved.old.items }
     ensures capacity { vec_capacity saved.new ≡ vec_capacity saved.old }
-    ensures same { take result saved.new.items ++ needed limit (drop (at + 1) saved.new.items) ≡ take to saved.old.items ++ needed limit (drop at saved.old.items) }
+    ensures same { take result saved.new.items ++ needed limit (drop (at + 1) saved.new.items) ≡ take to saved.old.items
+        ++ needed limit (drop at saved.old.items) }
 {
     if !stays(&saved[at], limit) {
         return to;

@@ -1,11 +1,12 @@
 //! The pages of a snapshot and of a transaction, as calls.
 
-ghost use Rattle.std.specs.Prelude.{◌≡◌, ◌≤◌, ℕ, List, length, false, IfErr, OnOk};
+ghost use Rattle.std.specs.Prelude.{◌≡◌, ◌≤◌, ℕ, List, false, IfErr, IfOk, IsTrue, OnOk};
+ghost use Rattle.pages.specs.Map.{IsThere, page_at};
 ghost use Rattle.sqlval.specs.Faults.{IsOutside};
 ghost use Rattle.walframe.specs.Accepted.{KeepsFile};
 ghost use Rattle.wal.specs.ErrorCauses.{HasCause};
 ghost use Rattle.wal.specs.LogState.{db_of, state_of, log_of, seen_by, size_of};
-ghost use Rattle.pager.specs.Limits.{pages_of};
+ghost use Rattle.pager.specs.Limits.{page_size_of, pages_of};
 ghost use Rattle.pager.specs.Maps.{pages_in};
 ghost use Rattle.pager.specs.Sights.{UnderReader, UnderWriter, failures_of, map_over, page_held, tells_reader, tells_writer, under_reader, under_writer, view_under};
 ghost use Rattle.pager.specs.Sound.{limits_of};
@@ -83,6 +84,91 @@ impl<'a, D: Disk + Drop> Pages for Reading<'a, D> {
     }
 }
 
+/// Finds a page that a writer sees: its place among the changed ones, or None where it is read into the buffer. (`Damaged` for a number
+/// outside 1 to the size; what `fill` refuses.)
+fn fetch<D: Disk + Drop>(
+    log: &mut Log<D>,
+    writer: &Writer,
+    number: u32,
+    buffer: &mut Vec<u8>,
+) -> R<Option<usize>>
+    ensures kept { (state_of log.new ≡ state_of log.old) × KeepsFile D.tells D.file (db_of log.old) (db_of log.new)
+        × KeepsFile D.tells D.file (log_of log.old) (log_of log.new) }
+    ensures cause { HasCause false result log.old log.new }
+    ensures bytes { (a w b : ℕ) → IsTrue (tells_writer (under_writer log.old writer.now a w b))
+        → IfOk result (λ place. page_held place (changes_of writer.now) buffer.new.items
+        ≡ page_at (map_over (under_reader log.old (snapshot_of writer.now) a b) writer.now) number) }
+    ensures there { (a w b : ℕ) → IsTrue (tells_writer (under_writer log.old writer.now a w b))
+        → IsThere (map_over (under_reader log.old (snapshot_of writer.now) a b) writer.now) (page_size_of writer.now) number
+        → IfErr result IsOutside }
+{
+    if number == 0 || number > writer.size() {
+        return Err(Fault::Damaged(Damage::Size, number));
+    }
+    match writer.place(number) {
+        Some(index) => Ok(Some(index)),
+        None => {
+            fill(log, writer.snapshot(), number, buffer)?;
+            Ok(None)
+        }
+    }
+}
+
+/// The bytes of a page that `fetch` found.
+fn lend<'a>(writer: &'a Writer, place: Option<usize>, buffer: &'a [u8]) -> &'a [u8]
+    ensures { result.now ≡ page_held place (changes_of writer.now) buffer.now }
+{
+    match place {
+        Some(index) => writer.bytes_at(index),
+        None => buffer,
+    }
+}
+
+/// The pages that a transaction sees, to be read alone.
+#[derive(Drop)]
+pub struct Viewing<'a, D: Disk + Drop> {
+    pub log: &'a mut Log<D>,
+    pub writer: &'a Writer,
+    pub buffer: &'a mut Vec<u8>,
+    /// The place of the loaded page among the changed ones; None where the buffer has it.
+    pub place: Option<usize>,
+}
+
+impl<'a, D: Disk + Drop> Pages for Viewing<'a, D> {
+    ghost Base = { UnderWriter };
+
+    ghost below = { λ s. under_writer s.log.now s.writer.now s.log.ghost_name 0 s.buffer.ghost_name };
+
+    ghost tells = { tells_writer };
+
+    ghost limits = { λ under. limits_of under.page_size };
+
+    ghost map = { λ s. map_over (under_reader s.log.now (snapshot_of s.writer.now) s.log.ghost_name s.buffer.ghost_name) s.writer.now };
+
+    ghost count = { λ s. pages_of s.writer.now };
+
+    ghost held = { λ s. page_held s.place (changes_of s.writer.now) s.buffer.now.items };
+
+    ghost failures = { λ s. failures_of s.log.now };
+
+    fn size(&self) -> u32 {
+        self.writer.size()
+    }
+
+    fn page_size(&self) -> usize {
+        self.writer.page_size()
+    }
+
+    fn load(&mut self, number: u32) -> R<()> {
+        self.place = fetch(self.log, self.writer, number, self.buffer)?;
+        Ok(())
+    }
+
+    fn loaded(&self) -> &[u8] {
+        lend(self.writer, self.place, self.buffer.as_slice())
+    }
+}
+
 /// The pages that a transaction sees.
 #[derive(Drop)]
 pub struct Writing<'a, D: Disk + Drop> {
@@ -120,21 +206,12 @@ impl<'a, D: Disk + Drop> Pages for Writing<'a, D> {
     }
 
     fn load(&mut self, number: u32) -> R<()> {
-        if number == 0 || number > self.writer.size() {
-            return Err(Fault::Damaged(Damage::Size, number));
-        }
-        self.place = self.writer.place(number);
-        match self.place {
-            Some(_) => Ok(()),
-            None => fill(self.log, self.writer.snapshot(), number, self.buffer),
-        }
+        self.place = fetch(self.log, self.writer, number, self.buffer)?;
+        Ok(())
     }
 
     fn loaded(&self) -> &[u8] {
-        match self.place {
-            Some(index) => self.writer.bytes_at(index),
-            None => self.buffer.as_slice(),
-        }
+        lend(self.writer, self.place, self.buffer.as_slice())
     }
 }
 

@@ -46,11 +46,11 @@ impl Writer {
     ghost use Rattle.pager.specs.Commits.{CommitsPages, IsRefusedCommit, LeavesCommit, MayCommit};
     ghost use Rattle.pager.specs.Limits as limits;
     ghost use Rattle.pager.specs.Limits.{one_more, pages_of, page_size_of};
-    ghost use Rattle.pager.specs.Marks.{marks_of};
+    ghost use Rattle.pager.specs.Marks.{IsOverTheSame, marks_of, now_of};
     ghost use Rattle.pager.specs.Sights.{bytes_of};
     ghost use Rattle.pager.specs.Sound.{GetsPage, IsSound, KeepsRest, most_of};
     ghost use Rattle.pager.specs.Views.{ViewHas, IsViewPage, Tells, View, changes_of, view_at};
-    ghost use Rattle.pager.specs.Writers.{AreObjectPages, DiffersInPages, EndsWithin, FirstIsBytes, HasHeader, IsAt, IsBegun, IsGapFor, IsHeaded, IsInPlace, IsNextHeader, IsUnchanged, IsConsistent, ReplacesPages, Reheads, SetsFirst, makes_objects, seen, snapshot_of};
+    ghost use Rattle.pager.specs.Writers.{DiffersInPages, EndsWithin, FirstIsBytes, HasHeader, IsAt, IsBegun, IsGapFor, IsHeaded, IsInPlace, IsNextHeader, IsConsistent, Reheads, SetsFirst, makes_objects, seen, snapshot_of};
 
     /// Starts a writer on a snapshot, with no change but a copy of page 1.
     pub fn begin<D: Disk + Drop>(alloc: Global, log: &mut Log<D>, snapshot: Snapshot) -> R<Writer>
@@ -99,13 +99,9 @@ impl Writer {
     }
 
     /// The content of a changed page; None if the page isn't changed.
-    pub fn find(&self, number: u32) -> Option<&[u8]>
+    fn find(&self, number: u32) -> Option<&[u8]>
         ensures found { IfSome result (λ page. IsAmong (changes_of self.now) number page.now) }
         ensures none { IsConsistent self.now → IfNone result (IsNotAmong (changes_of self.now) number) }
-        // So it is what the writer sees over any view; and where it is None, the writer sees what the view shows.
-        ensures shown { IsConsistent self.now → IfSome result (λ page. (view : View) → ViewHas (seen view self.now) number page.now) }
-        ensures below { IsConsistent self.now
-            → IfNone result ((view : View) (bytes : List ℕ) → ViewHas (seen view self.now) number bytes ↔ ViewHas view number bytes) }
     {
         match self.search(number) {
             Ok(index) => Some(self.pages[index].bytes.as_slice()),
@@ -132,44 +128,13 @@ impl Writer {
         self.page_size as usize
     }
 
-    /// Replaces a page, or adds one at the end.
-    pub fn put(&mut self, page: PageImage) -> R<()>
-        ensures refused { IfErr result (λ fault. IsNotDiskFault fault) }
-        ensures whole { IsConsistent self.old → 1 ≤ page.number → length page.bytes.items ≡ page_size_of self.old
-            → OnOk result (IsConsistent self.new) }
-        ensures puts { IsConsistent self.old → 1 ≤ page.number → length page.bytes.items ≡ page_size_of self.old
-            → OnOk result (ReplacesPages (page ∷ []) self.old self.new) }
-        ensures unchanged { IfErr result (λ fault. (fault ≡ Memory) × IsUnchanged self.old self.new) }
-        ensures kept { (makes_objects self.new ≡ makes_objects self.old) × (marks_of self.new ≡ marks_of self.old) }
-        // A page that is already changed is replaced without fail.
-        ensures replaced { IsConsistent self.old → IfErr result (λ fault. IsNotAmong (changes_of self.old) page.number) }
+    /// Notes that the schema changes: the commit counts the schema cookie up.
+    pub fn note_schema(&mut self)
+        ensures noted { now_of self.new ≡ record (now_of self.old) { makes_objects = true } }
+        ensures marks { marks_of self.new ≡ marks_of self.old }
+        ensures stands { IsOverTheSame self.old self.new }
     {
-        match self.search(page.number) {
-            Ok(index) => self.replace(index, page),
-            Err(index) => {
-                let number = page.number;
-                self.insert_page(index, page)?;
-                self.size = self.size.max(number);
-            }
-        }
-        Ok(())
-    }
-
-    /// Replaces page 1 and adds a new page at the end, both or neither.
-    pub fn put_object(&mut self, schema: PageImage, root: PageImage) -> R<()>
-        ensures refused { IfErr result (λ fault. IsNotDiskFault fault) }
-        ensures whole { IsConsistent self.old → AreObjectPages (page_size_of self.old) schema root → OnOk result (IsConsistent self.new) }
-        ensures objects { OnOk result (IsTrue (makes_objects self.new)) }
-        ensures puts { IsConsistent self.old → AreObjectPages (page_size_of self.old) schema root
-            → OnOk result (ReplacesPages (schema ∷ root ∷ []) self.old self.new) }
-        ensures unchanged { IsConsistent self.old → AreObjectPages (page_size_of self.old) schema root
-            → IfErr result (λ fault. (fault ≡ Memory) × IsUnchanged self.old self.new) }
-        ensures kept { marks_of self.new ≡ marks_of self.old }
-    {
-        self.put(root)?;
-        self.put(schema)?;
         self.has_new_objects = true;
-        Ok(())
     }
 
     /// Commits the pages: page 1 gets the next change counter and the size, and the next schema cookie where an object

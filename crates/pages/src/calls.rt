@@ -78,5 +78,6 @@ pub trait WritePages: Pages {
         ensures counted { IfOk result (λ n. (n ≡ Self.count self.old + 1) × (Self.count self.new ≡ n)
             × (n ≤ (Self.limits (Self.below self.old)).most)) }
         ensures refusal { IsTrue (Self.tells (Self.below self.old)) → IfErr result IsOutsideOrFull }
-        ensures causes { Causes result (Self.failures self.old) (Self.failures self.new) (Self.count self.new ≡ (Self.limits (Self.below self.new)).most) };
+        ensures causes { Causes result (Self.failures self.old) (Self.failures self.new)
+            (Self.count self.new ≡ (Self.limits (Self.below self.new)).most) };
 }

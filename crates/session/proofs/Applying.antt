@@ -1,16 +1,16 @@
 -- What a statement that writes comes to, by what it makes of the database before it.
 use Rattle.std.proofs.Common.{◌≡◌, ◌⊎◌, inl, inr, refl, sym, ap, subst, ◌∙◌, ℕ, ◌==◌, true, false, List, [], ◌∷◌, if◌then◌else◌, arith}
 use Rattle.std.proofs.lemmas.Bool.Decides.{nat_tests}
-use Rattle.std.specs.Prelude.{◌&&◌, Some}
+use Rattle.std.specs.Prelude.{◌&&◌}
+use Rattle.pages.specs.Calls.{IsOutsideOrFull}
 use Rattle.std.specs.List.{AllByRecursion}
 use Rattle.sqlval.specs.Refusals as refusal
 use Rattle.sqlval.specs.Refusals.{Refusal, Busy, refusal_of}
 use Rattle.sqlval.specs.declared.fault.Fault.{Fault}
 use Rattle.sqlval.specs.declared.fault.Fault.TheVariants as fault
-use Rattle.sqlval.specs.declared.fault.Feature.TheVariants.{RowSize}
 use Rattle.syntax.specs.declared.statement.Statement.{Statement}
 use Rattle.catalog.specs.Database.{Database}
-use Rattle.session.specs.Supported.{LeavesWith, StepSoFar, working}
+use Rattle.session.specs.Supported.{StepSoFar, database_of}
 use Rattle.storage.specs.Forms.{is_supported}
 use Rattle.session.specs.Machine.{Machine, Connection, Idle, InTransactionOf, NoSnapshot, Reads, Writes, Rows, Refused, connection, is_writing, last_place, newest, with_connection}
 use Rattle.session.specs.Outcomes.{Outcome, RefusedBy, outcome, unless_busy, worked, worked_alone, write_outcome}
@@ -42,7 +42,6 @@ worked_gives m made (Binds over ch w) is = inr (is.0, worked_gives m made w is.1
 pub record IsFinish (m : Machine) (finish : Work → Outcome) : Type 0 where
   pub refuses : (r : Refusal) (w : Work) → RefusesWith w r → Allowed m 1 (finish w) (Refused r) m
   pub io : (w : Work) → Instead m (finish w) (Refused refusal.Io) m
-  pub leaves : (made : Database) (w : Work) → Reaches w made → LeavesWith 1 (finish w) made
 
 module _ (m : Machine) (first : Connection) (others : List Connection) (are : m.connections ≡ first ∷ others) where
   in_refuses : (r : Refusal) (w : Work) → RefusesWith w r → Allowed m 1 (in_transaction m w) (Refused r) m
@@ -58,16 +57,8 @@ module _ (m : Machine) (first : Connection) (others : List Connection) (are : m.
   in_io (Undoes r) = (inr (refl, refl), refl)
   in_io (Binds over ch w) = in_io w
 
-  in_leaves : (made : Database) (w : Work) → Reaches w made → LeavesWith 1 (in_transaction m w) made
-  in_leaves made (Makes db) is =
-      let k = InTransactionOf false [] (Writes (last_place m) db) in
-      ap working (first_is (with_connection m 1 k) k others (first_set m first others are k)) ∙ ap Some is
-  in_leaves made (IsRefused rs) is = absurd is
-  in_leaves made (Undoes r) is = absurd is
-  in_leaves made (Binds over ch w) is = in_leaves made w is.1
-
   pub finish_in : IsFinish m (in_transaction m)
-  finish_in = record { refuses = in_refuses; io = in_io; leaves = in_leaves }
+  finish_in = record { refuses = in_refuses; io = in_io }
 
 abbrev pub alone : Machine → Work → Outcome
 alone m w = worked_alone w m
@@ -85,41 +76,33 @@ alone_io m (IsRefused rs) = (inr (refl, refl), refl)
 alone_io m (Undoes r) = (inr (refl, refl), refl)
 alone_io m (Binds over ch w) = alone_io m w
 
-alone_leaves : (m : Machine) (made : Database) (w : Work) → Reaches w made → LeavesWith 1 (alone m w) made
-alone_leaves m made (Makes db) is = is
-alone_leaves m made (IsRefused rs) is = absurd is
-alone_leaves m made (Undoes r) is = absurd is
-alone_leaves m made (Binds over ch w) is = alone_leaves m made w is.1
-
 pub finish_alone : (m : Machine) → IsFinish m (alone m)
-finish_alone m = record { refuses = alone_refuses m; io = alone_io m; leaves = alone_leaves m }
+finish_alone m = record { refuses = alone_refuses m; io = alone_io m }
 
 -- ---- a refused statement
 
--- why a statement's work isn't done, where `NoRoom` says which databases find no room
-abbrev pub IsErrorCause : (Database → Type 0) → Work → Fault → Type 0
-IsErrorCause NoRoom w f =
-    (f ≡ fault.Memory) ⊎ (f ≡ fault.Full) ⊎ (f ≡ fault.Io) ⊎ RefusesWith w (refusal_of f)
-    ⊎ (f ≡ fault.Unsupported RowSize) × (made : Database) × Reaches w made × NoRoom made
+-- why a statement's work isn't done, where this says for which refusal it can't be stored
+abbrev pub IsErrorCause : (Refusal → Type 0) → Work → Fault → Type 0
+IsErrorCause Unstored w f = IsOutsideOrFull f ⊎ (RefusesWith w (refusal_of f) ⊎ Unstored (refusal_of f))
 
-pub refused_step : (R : Database → Type 0) (m : Machine) (s : Statement) (supported_forms : is_supported s ≡ true) (running : m.failed ≡ false) (finish : Work → Outcome) → IsFinish m finish
-    → (w : Work) → outcome m 1 s ≡ finish w → (f : Fault) → IsErrorCause R w f → StepSoFar R m 1 s (Refused (refusal_of f)) m
-refused_step R m s supported_forms running finish ends w is f (inl memory) = subst (λ (e : Fault). StepSoFar R m 1 s (Refused (refusal_of e)) m) (sym memory)
-    (instead R m s supported_forms running (finish w) (Refused refusal.Memory) is (inl refl, refl))
-refused_step R m s supported_forms running finish ends w is f (inr (inl full)) = subst (λ (e : Fault). StepSoFar R m 1 s (Refused (refusal_of e)) m) (sym full)
-    (instead R m s supported_forms running (finish w) (Refused refusal.Full) is (inl refl, refl))
-refused_step R m s supported_forms running finish ends w is f (inr (inr (inl io))) = subst (λ (e : Fault). StepSoFar R m 1 s (Refused (refusal_of e)) m) (sym io)
-    (instead R m s supported_forms running (finish w) (Refused refusal.Io) is (ends.io w))
-refused_step R m s supported_forms running finish ends w is f (inr (inr (inr (inl why)))) =
-    by_outcome R m s supported_forms running (finish w) (Refused (refusal_of f)) m is (ends.refuses (refusal_of f) w why)
-refused_step R m s supported_forms running finish ends w is f (inr (inr (inr (inr no_room)))) =
-    inl (ap (λ b. b && true) supported_forms, inr (ap (λ (e : Fault). Refused (refusal_of e)) no_room.0, refl, running, no_room.1, subst (λ (o : Outcome). LeavesWith 1 o no_room.1) (sym is) (ends.leaves no_room.1 w no_room.2), no_room.3))
+module _ (R : Database → Refusal → Type 0) (m : Machine) (s : Statement) (supported_forms : is_supported s ≡ true) (running : m.failed ≡ false) (finish : Work → Outcome) (ends : IsFinish m finish) (w : Work) (is : outcome m 1 s ≡ finish w) where
+  step_for : (e f : Fault) → f ≡ e → StepSoFar R m 1 s (Refused (refusal_of e)) m → StepSoFar R m 1 s (Refused (refusal_of f)) m
+  step_for e f same step = subst (λ (x : Fault). StepSoFar R m 1 s (Refused (refusal_of x)) m) (sym same) step
+
+  pub refused_step : (db : Database) → database_of m (connection m 1) ≡ db → (f : Fault) → IsErrorCause (R db) w f → StepSoFar R m 1 s (Refused (refusal_of f)) m
+  refused_step db sees f (inl (inl (inl memory))) = step_for fault.Memory f memory (instead R m s supported_forms running (finish w) (Refused refusal.Memory) is (inl refl, refl))
+  refused_step db sees f (inl (inl (inr io))) = step_for fault.Io f io (instead R m s supported_forms running (finish w) (Refused refusal.Io) is (ends.io w))
+  refused_step db sees f (inl (inr full)) = step_for fault.Full f full (instead R m s supported_forms running (finish w) (Refused refusal.Full) is (inl refl, refl))
+  refused_step db sees f (inr (inl why)) = by_outcome R m s supported_forms running (finish w) (Refused (refusal_of f)) m is (ends.refuses (refusal_of f) w why)
+  refused_step db sees f (inr (inr unstored)) =
+      inl (ap (λ b. b && true) supported_forms, inr (refusal_of f, refl, refl, running, subst (λ (d : Database). R d (refusal_of f)) (sym sees) unstored))
 
 -- ---- outcomes by what the first connection is
 
 pub write_outcome_of : (w : Write) (m : Machine) (k : Connection) → connection m 1 ≡ k → outcome m 1 (written w) ≡ write_outcome m 1 (change_made (written w)) k
 unfolding outcome
 write_outcome_of (write.Insert i) m k is = ap (write_outcome m 1 (change_made (written (write.Insert i)))) is
+write_outcome_of (write.Delete d) m k is = ap (write_outcome m 1 (change_made (written (write.Delete d)))) is
 write_outcome_of (write.CreateTable sql d) m k is = ap (write_outcome m 1 (change_made (written (write.CreateTable sql d)))) is
 
 itself : (n : ℕ) → (n == n) ≡ true

@@ -8,7 +8,7 @@ use Rattle.sqlval.specs.declared.fault.Fault.{Fault}
 use Rattle.sqlval.specs.declared.fault.Fault.TheVariants as fault
 use Rattle.syntax.specs.declared.statement.BeginMode.TheVariants as begins
 use Rattle.syntax.specs.declared.statement.Statement.TheVariants as statement
-use Rattle.wal.specs.LogState.{LogState}
+use Rattle.wal.specs.LogState.{LogState, size_of}
 use Rattle.wal.specs.Sizes.{IsSizeWithinLimits}
 use Rattle.wal.specs.declared.log.Snapshot.{Snapshot}
 use Rattle.catalog.specs.Database.{Database}
@@ -22,9 +22,14 @@ use Rattle.session.specs.Supported.{StepSoFar}
 use Rattle.session.specs.ConnectionState.{files_of, has_failed_in}
 use Rattle.session.specs.Machine.{Machine, Connection, Idle, Rows, Refused, is_writing, last_place, newest, with_connection}
 use Rattle.session.specs.Outcomes.{Gives, outcome}
-use Rattle.storage.specs.Schema.{AreRowsOf}
-use Rattle.session.specs.Stored.{Stores}
-use Rattle.session.specs.Representation.{AreCommitted, FindsNoRoom, IsNewest, RepresentsRunning, IsTransaction, IsWriter, OnlyReads, ShowTheSame, StepsOn, done_reply, is_idle}
+use Rattle.storage.specs.Stored.{Stores}
+use Rattle.session.specs.Stored.{ShowsDatabase}
+use Rattle.pages.specs.Map.{PageMap}
+use Rattle.pager.specs.Maps.{pages_in}
+use Rattle.pager.proofs.Mapping.{maps_alike}
+use Rattle.pager.proofs.Sounding.{begun_is_sound}
+use Rattle.session.specs.Representation.{CannotStoreIn, IsNewest, RepresentsRunning, IsTransaction, IsWriter, OnlyReads, ShowTheSame, StepsOn, done_reply, is_idle}
+use Rattle.storage.specs.Stored.{AreCommitted}
 use Rattle.session.specs.declared.transactions.Connections.{Connections}
 use Rattle.session.specs.declared.transactions.Transaction.{Transaction}
 use Rattle.session.specs.declared.transactions.Transaction.TheVariants as transaction
@@ -35,37 +40,17 @@ use Rattle.session.proofs.Showing.{idle_first, moved, still_shown}
 use Rattle.session.proofs.Stepping.{begin_outcome, begun_as, by_outcome, first_is, free_begin, instead, no_other}
 
 -- views of the same pages hold the same
-pub same_stores : (v w : View) (tables : List Table) (db : Database) → w.page_size ≡ v.page_size → w.size ≡ v.size → ((number : ℕ) (bytes : List ℕ) → ViewHas w number bytes ↔ ViewHas v number bytes) → Stores v tables db → Stores w tables db
+pub same_stores : (v w : View) (tables : List Table) (db : Database) → w.page_size ≡ v.page_size → w.size ≡ v.size → ((number : ℕ) (bytes : List ℕ) → ViewHas w number bytes ↔ ViewHas v number bytes) → ShowsDatabase v tables db → ShowsDatabase w tables db
 same_stores v w tables db sized long same held = record {
-  rows_at = held.rows_at;
-  lists = held.lists;
-  only = held.only;
-  named = held.named;
-  once = held.once;
-  apart = held.apart;
-  each = λ name t listed. (let it = held.each name t listed in record { page = it.page; above = it.above; there = there t.root it.page it.there; holds = it.holds; fit = it.fit });
-  first = record {
-    page = held.first.page;
-    there = there 1 held.first.page held.first.there;
-    header = held.first.header;
-    header_is = held.first.header_is;
-    sized = held.first.sized ∙ sym sized;
-    none_free = held.first.none_free;
-    rows = held.first.rows;
-    single_leaf = held.first.single_leaf;
-    tell = subst (λ (n : ℕ). AreRowsOf n [] tables held.first.rows) (sym long) held.first.tell;
-  };
-  used = λ number above within. held.used number above (omega (arith, within, long));
+  stored = subst (λ (map : PageMap). Stores map w.page_size tables db) (sym (maps_alike w v long same))
+      (subst (λ (n : ℕ). Stores (pages_in v) n tables db) (sym sized) held.stored);
   served = subst (λ n. IsSizeWithinLimits n w.size) (sym sized) (subst (IsSizeWithinLimits v.page_size) (sym long) held.served);
 }
-  where
-    there : (number : ℕ) (bytes : List ℕ) → IsViewPage v number bytes → IsViewPage w number bytes
-    there number bytes page = record { first = page.first; last = omega (arith, page.last, long); has = (same number bytes).1 page.has }
 
 module _ {D : Type 0} {g : Ghosts D} where
   -- what the newest commit left has a first page
-  pub first_there : (c : Connections D g) (m : Machine) (shown : RepresentsRunning c m) (s : Snapshot) → IsNewest (files_of c) s → IsViewPage (view_at (files_of c) s) 1 shown.stored.first.page
-  first_there c m shown s newest = subst (λ (v : View). IsViewPage v 1 shown.stored.first.page) (sym (at_newest (files_of c) s newest)) shown.stored.first.there
+  pub first_there : (c : Connections D g) (m : Machine) (shown : RepresentsRunning c m) (s : Snapshot) → IsNewest (files_of c) s → IsViewPage (view_at (files_of c) s) 1 shown.settled.found.page
+  first_there c m shown s newest = subst (λ (v : View). IsViewPage v 1 shown.settled.found.page) (sym (at_newest (files_of c) s newest)) shown.settled.found.first
 
   -- what changes where a transaction that writes begins
   pub record StartsWriting (old new : Connections D g) (w : Writer) (s : Snapshot) : Type 0 where
@@ -89,22 +74,22 @@ module _ {D : Type 0} {g : Ghosts D} where
       ∙ free_begin begins.Immediate m (no_other m shown.first shown.others shown.connections is_writing refl shown.idle)
 
   -- the writer that begins may commit over the newest commit
-  pub writer_begins : (old new : Connections D g) (w : Writer) (s : Snapshot) → StartsWriting old new w s → IsWriter (files_of new) w
-  writer_begins old new w s start = record {
+  pub writer_begins : (old new : Connections D g) (w : Writer) (s : Snapshot) → StartsWriting old new w s → IsSizeWithinLimits (newest_view (files_of old)).page_size (newest_view (files_of old)).size → IsWriter (files_of new) w
+  writer_begins old new w s start served = record {
     newest = record {
       seen = ap (λ (x : Snapshot). x.mark) start.stands ∙ start.newest.seen ∙ ap (λ (k : LogState). k.frames) (sym start.files.known);
       sized = ap (λ (x : Snapshot). x.size) start.stands ∙ start.newest.sized ∙ ap (λ (k : LogState). k.size) (sym start.files.known);
     };
-    whole = start.begun.whole;
+    sound = begun_is_sound (view_at (files_of old) s) w start.begun (ap size_of (sym start.stands))
+        (subst (λ (v : View). IsSizeWithinLimits v.page_size v.size) (sym (at_newest (files_of old) s start.newest)) served);
     page_size = start.begun.page_size ∙ ap (λ (k : LogState). k.page_size) (sym start.files.known);
-    grown = λ n past last none. omega (arith, past, last, start.begun.size, start.newest.sized, ap (λ (k : LogState). k.size) start.files.known);
   }
 
-  pub writer_stores : (old new : Connections D g) (w : Writer) (s : Snapshot) (tables : List Table) (db : Database) → StartsWriting old new w s → Stores (newest_view (files_of old)) tables db → Stores (view_of (files_of new) w) tables db
+  pub writer_stores : (old new : Connections D g) (w : Writer) (s : Snapshot) (tables : List Table) (db : Database) → StartsWriting old new w s → ShowsDatabase (newest_view (files_of old)) tables db → ShowsDatabase (view_of (files_of new) w) tables db
   writer_stores old new w s tables db start held =
-      subst (λ (v : View). Stores (seen v w) tables db) (sym (ap (view_at (files_of new)) start.stands ∙ start.files.at s))
+      subst (λ (v : View). ShowsDatabase (seen v w) tables db) (sym (ap (view_at (files_of new)) start.stands ∙ start.files.at s))
       (same_stores (view_at (files_of old) s) (seen (view_at (files_of old) s) w) tables db refl start.begun.size start.begun.sees
-      (subst (λ (v : View). Stores v tables db) (sym (at_newest (files_of old) s start.newest)) held))
+      (subst (λ (v : View). ShowsDatabase v tables db) (sym (at_newest (files_of old) s start.newest)) held))
 
   pub begun_immediate : (old new : Connections D g) (w : Writer) (s : Snapshot) → is_idle old.transaction ≡ true → ((m : Machine) → RepresentsRunning old m → StartsWriting old new w s) → StepsOn old (statement.Begin begins.Immediate) (Rows []) new
   begun_immediate old new w s idle all m shown =
@@ -113,14 +98,14 @@ module _ {D : Type 0} {g : Ghosts D} where
       let all_committed = committed_where_idle old (last_place m) old.transaction shown.first shown.transaction idle in
       record {
         next = next;
-        step = by_outcome (FindsNoRoom old (statement.Begin begins.Immediate)) m (statement.Begin begins.Immediate) refl shown.running (Gives [] next) (Rows []) next (immediate_outcome old m shown idle) (refl, refl);
+        step = by_outcome (CannotStoreIn old (statement.Begin begins.Immediate)) m (statement.Begin begins.Immediate) refl shown.running (Gives [] next) (Rows []) next (immediate_outcome old m shown idle) (refl, refl);
         shown = inr (moved old new m (begun_as begins.Immediate m) shown start.files start.failed (ap (λ (c : Catalog). take (committed_in c) (tables_of c)) start.catalog)
             (subst (λ (c : Catalog). committed_in c ≤ length (tables_of c)) (sym start.catalog) shown.listed)
             (subst (λ (t : Transaction). IsTransaction (files_of new) new.catalog (last_place m) t (begun_as begins.Immediate m)) (sym start.now) (
               newest m,
               refl,
-              writer_begins old new w s start,
-              subst (λ (c : Catalog). Stores (view_of (files_of new) w) (tables_of c) (newest m)) (sym start.catalog) (writer_stores old new w s (tables_of old.catalog) (newest m) start (all_listed old m shown all_committed)),
+              writer_begins old new w s start shown.stored.served,
+              subst (λ (c : Catalog). ShowsDatabase (view_of (files_of new) w) (tables_of c) (newest m)) (sym start.catalog) (writer_stores old new w s (tables_of old.catalog) (newest m) start (all_listed old m shown all_committed)),
             )));
         crash = crash_keeps old new m next shown start.files;
       }
@@ -137,11 +122,11 @@ module _ {D : Type 0} {g : Ghosts D} where
       outcome_is : outcome m 1 (statement.Begin begins.Immediate) ≡ Gives [] (with_connection m 1 (begun_as begins.Immediate m))
       outcome_is = immediate_outcome old m shown idle
 
-      by_why : (f ≡ fault.Memory) ⊎ (f ≡ fault.Io) → StepSoFar (FindsNoRoom old (statement.Begin begins.Immediate)) m 1 (statement.Begin begins.Immediate) (Refused (refusal_of f)) m
-      by_why (inl memory) = subst (λ (e : Fault). StepSoFar (FindsNoRoom old (statement.Begin begins.Immediate)) m 1 (statement.Begin begins.Immediate) (Refused (refusal_of e)) m) (sym memory)
-          (instead (FindsNoRoom old (statement.Begin begins.Immediate)) m (statement.Begin begins.Immediate) refl shown.running _ (Refused refusal.Memory) outcome_is (inl refl, refl))
-      by_why (inr io) = subst (λ (e : Fault). StepSoFar (FindsNoRoom old (statement.Begin begins.Immediate)) m 1 (statement.Begin begins.Immediate) (Refused (refusal_of e)) m) (sym io)
-          (instead (FindsNoRoom old (statement.Begin begins.Immediate)) m (statement.Begin begins.Immediate) refl shown.running _ (Refused refusal.Io) outcome_is (inr (refl, refl), refl))
+      by_why : (f ≡ fault.Memory) ⊎ (f ≡ fault.Io) → StepSoFar (CannotStoreIn old (statement.Begin begins.Immediate)) m 1 (statement.Begin begins.Immediate) (Refused (refusal_of f)) m
+      by_why (inl memory) = subst (λ (e : Fault). StepSoFar (CannotStoreIn old (statement.Begin begins.Immediate)) m 1 (statement.Begin begins.Immediate) (Refused (refusal_of e)) m) (sym memory)
+          (instead (CannotStoreIn old (statement.Begin begins.Immediate)) m (statement.Begin begins.Immediate) refl shown.running _ (Refused refusal.Memory) outcome_is (inl refl, refl))
+      by_why (inr io) = subst (λ (e : Fault). StepSoFar (CannotStoreIn old (statement.Begin begins.Immediate)) m 1 (statement.Begin begins.Immediate) (Refused (refusal_of e)) m) (sym io)
+          (instead (CannotStoreIn old (statement.Begin begins.Immediate)) m (statement.Begin begins.Immediate) refl shown.running _ (Refused refusal.Io) outcome_is (inr (refl, refl), refl))
 
 pub done_refused : (result : Result ⊤ Fault) (f : Fault) → IsErrAnd result (λ e. e ≡ f) → done_reply result ≡ Refused (refusal_of f)
 done_refused (Ok x) f is = absurd is

@@ -16,7 +16,7 @@ use Rattle.session.specs.Machine.{Machine, newest}
 use Rattle.session.specs.Representation.{RepresentsRunning, ShowTheSame}
 use Rattle.session.specs.Steps.{after_commit, fails}
 use Rattle.session.specs.Crashes.{MayShow}
-use Rattle.session.specs.Stored.{Stores}
+use Rattle.session.specs.Stored.{ShowsDatabase}
 use Rattle.session.specs.Applying.{HoldsEither, IsInDoubt}
 use Rattle.session.specs.declared.transactions.Connections.{Connections}
 use Rattle.session.proofs.Settled.{held_end, held_from, held_weaker, weaker}
@@ -53,8 +53,8 @@ module _ {D : Type 0} {g : Ghosts D} where
     Either d = (d ≡ newest m) ⊎ (d ≡ made)
 
     either : HoldThroughout Either (files_of mid) (files_of new)
-    either = held (newest m) (subst (λ (v : View). Stores v (take (committed_in mid.catalog) (tables_of mid.catalog)) (newest m)) (sym same.newest)
-        (subst (λ (ts : List Table). Stores (newest_view (files_of old)) ts (newest m)) (sym tables) shown.stored))
+    either = held (newest m) (subst (λ (v : View). ShowsDatabase v (take (committed_in mid.catalog) (tables_of mid.catalog)) (newest m)) (sym same.newest)
+        (subst (λ (ts : List Table). ShowsDatabase (newest_view (files_of old)) ts (newest m)) (sym tables) shown.stored))
 
     pub commit_crashes : HoldThroughout (MayShow m (after_commit m 1 made)) (files_of old) (files_of new)
     commit_crashes = held_from (MayShow m (after_commit m 1 made)) (files_of old) (files_of mid) (files_of new) same

@@ -22,9 +22,10 @@ use Rattle.session.specs.Holding.{IsSettled}
 use Rattle.session.specs.ConnectionState.{files_of, has_failed_in}
 use Rattle.session.specs.Machine.{Machine, Idle, InTransactionOf, NoSnapshot, Phase, Reads, Reply, Rows, Refused, Writes, last_place, newest, with_connection}
 use Rattle.session.specs.Outcomes.{Commits, Gives, RefusedBy, commit_outcome, outcome}
-use Rattle.session.specs.Representation.{AreCommitted, FindsNoRoom, RepresentsRunning, IsTransaction, IsWriter, ShowTheSame, StepsOn, StepsTo, done_reply, is_idle}
+use Rattle.session.specs.Representation.{CannotStoreIn, RepresentsRunning, IsTransaction, IsWriter, ShowTheSame, StepsOn, StepsTo, done_reply, is_idle}
+use Rattle.storage.specs.Stored.{AreCommitted}
 use Rattle.session.specs.Steps.{Allowed, after_commit, is_free}
-use Rattle.session.specs.Stored.{Stores}
+use Rattle.session.specs.Stored.{ShowsDatabase}
 use Rattle.session.specs.Applying.{CommitsChanges, CommitsDatabase, HoldsEither, IsCommitCause, IsInDoubt, IsUncommitted, CanApply}
 use Rattle.session.specs.declared.transactions.Connections.{Connections}
 use Rattle.session.specs.declared.transactions.Transaction.{Transaction}
@@ -43,7 +44,7 @@ module _ {D : Type 0} {g : Ghosts D} where
       let is = commit_outcome_of m Idle (first_is m shown.first shown.others shown.connections ∙ k) in
       record {
         next = m;
-        step = by_outcome (FindsNoRoom old statement.Commit) m statement.Commit refl shown.running (RefusedBy (refusal.NoTransaction ∷ [])) (Refused refusal.NoTransaction) m is (refusal.NoTransaction, (0, omega arith, refl), refl, refl);
+        step = by_outcome (CannotStoreIn old statement.Commit) m statement.Commit refl shown.running (RefusedBy (refusal.NoTransaction ∷ [])) (Refused refusal.NoTransaction) m is (refusal.NoTransaction, (0, omega arith, refl), refl, refl);
         shown = inr (still_shown old new m shown (subst (ShowTheSame (files_of old)) (sym same.files) (the_same (files_of old) shown.told)) same.failed same.catalog same.now);
         crash = crash_keeps old new m m shown (subst (ShowTheSame (files_of old)) (sym same.files) (the_same (files_of old) shown.told));
       }
@@ -52,7 +53,7 @@ module _ {D : Type 0} {g : Ghosts D} where
       → Begins old new transaction.Idle → StepsTo old m 1 statement.Commit (Rows []) new
   ended old new m shown phase first gives all ends = record {
     next = with_connection m 1 Idle;
-    step = by_outcome (FindsNoRoom old statement.Commit) m statement.Commit refl shown.running (Gives [] (with_connection m 1 Idle)) (Rows []) (with_connection m 1 Idle) is (refl, refl);
+    step = by_outcome (CannotStoreIn old statement.Commit) m statement.Commit refl shown.running (Gives [] (with_connection m 1 Idle)) (Rows []) (with_connection m 1 Idle) is (refl, refl);
     shown = inr (moved old new m Idle shown (subst (ShowTheSame (files_of old)) (sym ends.files) (the_same (files_of old) shown.told)) ends.failed (ap (λ (c : Catalog). take (committed_in c) (tables_of c)) ends.catalog)
         (subst (λ (c : Catalog). committed_in c ≤ length (tables_of c)) (sym ends.catalog) shown.listed)
         (subst (λ (t : Transaction). IsTransaction (files_of new) new.catalog (last_place m) t Idle) (sym ends.now) (refl, subst AreCommitted (sym ends.catalog) all)));
@@ -84,8 +85,8 @@ module _ {D : Type 0} {g : Ghosts D} where
     settled = has.settled;
     some = omega (arith, length-append m.history (made ∷ []));
     listed = omega (arith, has.all);
-    stored = subst (λ (ts : List Table). Stores (newest_view (files_of new)) ts (newest (after_commit m 1 made))) (sym (take_all (committed_in new.catalog) (tables_of new.catalog) (omega (arith, has.all))))
-        (subst (Stores (newest_view (files_of new)) (tables_of new.catalog)) (sym (last_is m.history made)) has.stored);
+    stored = subst (λ (ts : List Table). ShowsDatabase (newest_view (files_of new)) ts (newest (after_commit m 1 made))) (sym (take_all (committed_in new.catalog) (tables_of new.catalog) (omega (arith, has.all))))
+        (subst (ShowsDatabase (newest_view (files_of new)) (tables_of new.catalog)) (sym (last_is m.history made)) has.stored);
     first = Idle;
     others = shown.others;
     connections = first_set m shown.first shown.others shown.connections Idle;
@@ -119,7 +120,7 @@ module _ {D : Type 0} {g : Ghosts D} where
           told = subst Tells (sym files) shown.told;
           settled = subst IsSettled (sym files) shown.settled;
           writer = subst (λ (l : Log D g). IsWriter l w) (sym files) first.2;
-          stored = subst (λ (l : Log D g). Stores (view_of l w) (tables_of mid.catalog) first.0) (sym files) (subst (λ (c : Catalog). Stores (view_of (files_of old) w) (tables_of c) first.0) (sym catalog) first.3);
+          stored = subst (λ (l : Log D g). ShowsDatabase (view_of l w) (tables_of mid.catalog) first.0) (sym files) (subst (λ (c : Catalog). ShowsDatabase (view_of (files_of old) w) (tables_of c) first.0) (sym catalog) first.3);
           listed = subst (λ (c : Catalog). committed_in c ≤ length (tables_of c)) (sym catalog) shown.listed;
         };
         same = subst (ShowTheSame (files_of old)) (sym files) (the_same (files_of old) shown.told);
@@ -130,8 +131,8 @@ module _ {D : Type 0} {g : Ghosts D} where
     commits_it : outcome m 1 statement.Commit ≡ Commits false in_writing.db
     commits_it = commit_outcome_of m (InTransactionOf false [] (Writes (last_place m) in_writing.db)) (first_is m in_writing.shown.first in_writing.shown.others in_writing.shown.connections ∙ in_writing.first)
 
-    step_to : (reply : Reply) (next : Machine) → Allowed m 1 (Commits false in_writing.db) reply next → StepSoFar (FindsNoRoom old statement.Commit) m 1 statement.Commit reply next
-    step_to reply next allowed = by_outcome (FindsNoRoom old statement.Commit) m statement.Commit refl in_writing.shown.running (Commits false in_writing.db) reply next commits_it allowed
+    step_to : (reply : Reply) (next : Machine) → Allowed m 1 (Commits false in_writing.db) reply next → StepSoFar (CannotStoreIn old statement.Commit) m 1 statement.Commit reply next
+    step_to reply next allowed = by_outcome (CannotStoreIn old statement.Commit) m statement.Commit refl in_writing.shown.running (Commits false in_writing.db) reply next commits_it allowed
 
     pub committed_step : has_failed_in mid ≡ has_failed_in old → mid.transaction ≡ transaction.Idle → CommitsDatabase mid in_writing.db new × HoldsEither mid in_writing.db new → StepsTo old m 1 statement.Commit (Rows []) new
     committed_step failed idle has =
@@ -165,8 +166,8 @@ module _ {D : Type 0} {g : Ghosts D} where
           settled = is.applies.settled;
           some = shown.some;
           listed = is.applies.listed;
-          stored = subst (λ (v : View). Stores v (take (committed_in new.catalog) (tables_of new.catalog)) (newest m)) (sym (is.kept.files.newest ∙ ap newest_view files))
-              (subst (λ (ts : List Table). Stores (newest_view (files_of old)) ts (newest m)) (sym tables) shown.stored);
+          stored = subst (λ (v : View). ShowsDatabase v (take (committed_in new.catalog) (tables_of new.catalog)) (newest m)) (sym (is.kept.files.newest ∙ ap newest_view files))
+              (subst (λ (ts : List Table). ShowsDatabase (newest_view (files_of old)) ts (newest m)) (sym tables) shown.stored);
           first = shown.first;
           others = shown.others;
           connections = shown.connections;
@@ -180,7 +181,7 @@ module _ {D : Type 0} {g : Ghosts D} where
     instead_step : (left : Writer) (r : Refusal) → is_free r ≡ true → ShowTheSame (files_of old) (files_of new) → RepresentsRunning (writing_on new left) m → StepsTo old m 1 statement.Commit (Refused r) (writing_on new left)
     instead_step left r free same shown = record {
       next = m;
-      step = instead (FindsNoRoom old statement.Commit) m statement.Commit refl in_writing.shown.running (Commits false in_writing.db) (Refused r) commits_it (inl free, refl);
+      step = instead (CannotStoreIn old statement.Commit) m statement.Commit refl in_writing.shown.running (Commits false in_writing.db) (Refused r) commits_it (inl free, refl);
       shown = inr shown;
       crash = crash_keeps old new m m in_writing.shown same;
     }

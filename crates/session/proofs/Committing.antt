@@ -1,16 +1,13 @@
 -- What a commit of a writer's pages leaves of the database that they hold.
-use Rattle.std.proofs.Common.{◌≡◌, ◌⊎◌, ◌≤◌, ◌<◌, inl, inr, refl, sym, ap, subst, ◌∙◌, ℕ, List, [], length, take, false, arith}
-use Rattle.std.specs.Prelude.{◌↔◌, Err}
+use Rattle.std.proofs.Common.{◌≡◌, ◌⊎◌, ◌≤◌, inl, inr, refl, sym, ap, subst, ◌∙◌, ℕ, List, [], length, take, false, arith}
+use Rattle.std.specs.Prelude.{Err}
 use Rattle.std.proofs.lemmas.Bool.{false≢true}
 use Rattle.disk.specs.File.{IsSynced}
 use Rattle.disk.specs.declared.device.Disk.{Ghosts}
 use Rattle.sqlval.specs.declared.fault.Fault.{Fault}
 use Rattle.sqlval.specs.declared.fault.Fault.TheVariants as fault
-use Rattle.dbheader.specs.declared.fields.Header.{Header}
-use Rattle.tabletree.proofs.AfterFront.{kept_behind}
 use Rattle.wal.specs.Committed.{frames_under}
 use Rattle.wal.specs.LogState.{LogState, db_of, header_of, state_of, log_of, seen_by, size_of}
-use Rattle.wal.specs.Sizes.{IsSizeWithinLimits}
 use Rattle.wal.specs.Refusals.{IsWithin}
 use Rattle.wal.specs.declared.log.Log.{Log}
 use Rattle.catalog.specs.Database.{Database}
@@ -19,73 +16,41 @@ use Rattle.catalog.specs.declared.tables.Catalog.{Catalog}
 use Rattle.catalog.specs.declared.tables.Table.{Table}
 use Rattle.pager.specs.Commits.{CommitsPages, IsCommittedOver, IsRefusedCommit, LeavesCommit, MayCommit}
 use Rattle.pager.specs.Limits.{pages_of}
-use Rattle.pager.specs.Views.{ViewHas, IsViewPage, Tells, View, after, changes_of, newest_view, view_of}
-use Rattle.pager.specs.Writers.{IsHeaded, snapshot_of}
+use Rattle.pager.specs.Views.{Tells, View, after, changes_of, newest_view, view_of}
+use Rattle.pager.specs.Writers.{snapshot_of}
+use Rattle.pager.proofs.Backing.{back_sound}
 use Rattle.pager.specs.declared.writer.Writer.{Writer}
 use Rattle.session.specs.ConnectionState.{files_of, has_failed_in, is_io}
 use Rattle.session.specs.Representation.{IsNewest, IsWriter, ShowTheSame}
-use Rattle.storage.specs.Schema.{AreRowsOf}
-use Rattle.session.specs.Stored.{HasNoFreePage, HasFirstPage, Stores}
+use Rattle.session.specs.Stored.{ShowsDatabase}
 use Rattle.session.specs.Applying.{CommitsChanges, CommitsDatabase, HoldsEither, IsCommitCause, IsUncommitted, CanApply}
 use Rattle.session.specs.declared.transactions.Connections.{Connections}
+use Rattle.session.proofs.FirstPages.{first_of, first_shown, shows_headed}
 use Rattle.session.proofs.Settled.{db_left, either_throughout, found_over, log_left, still_settled}
 use Rattle.session.proofs.Showing.{still_writer}
 
--- ---- views that differ on page 1 alone
-
--- the first page with another header, of the same page size
-first_headed : (v w : View) (tables : List Table) (was : HasFirstPage v tables) (page : List ℕ) (next : Header) → w.page_size ≡ v.page_size → w.size ≡ v.size → ViewHas w 1 page → IsHeaded was.page page next → next.page_size ≡ was.header.page_size → HasNoFreePage next → HasFirstPage w tables
-first_headed v w tables was page next sized long has headed same none_free = record {
-  page = page;
-  there = record { first = was.there.first; last = omega (arith, was.there.last, long); has = has };
-  header = next;
-  header_is = headed.header_is;
-  sized = same ∙ was.sized ∙ sym sized;
-  none_free = none_free;
-  rows = was.rows;
-  single_leaf = kept_behind was.page page 1 was.rows headed.behind headed.long was.single_leaf;
-  tell = subst (λ (n : ℕ). AreRowsOf n [] tables was.rows) (sym long) was.tell;
-}
-
--- views of the same pages but the first hold the same
-other_first : (v w : View) (tables : List Table) (db : Database) → w.page_size ≡ v.page_size → w.size ≡ v.size → ((number : ℕ) (bytes : List ℕ) → (number ≡ 1 → ⊥) → ViewHas w number bytes ↔ ViewHas v number bytes)
-    → HasFirstPage w tables → Stores v tables db → Stores w tables db
-other_first v w tables db sized long same first held = record {
-  rows_at = held.rows_at;
-  lists = held.lists;
-  only = held.only;
-  named = held.named;
-  once = held.once;
-  apart = held.apart;
-  each = λ name t listed. (let it = held.each name t listed in record { page = it.page; above = it.above; there = there t.root it.page it.above it.there; holds = it.holds; fit = it.fit });
-  first = first;
-  used = λ number above within. held.used number above (omega (arith, within, long));
-  served = subst (λ n. IsSizeWithinLimits n w.size) (sym sized) (subst (IsSizeWithinLimits v.page_size) (sym long) held.served);
-}
-  where
-    there : (number : ℕ) (bytes : List ℕ) → 1 < number → IsViewPage v number bytes → IsViewPage w number bytes
-    there number bytes above page = record { first = page.first; last = omega (arith, page.last, long); has = (same number bytes (λ one. omega (arith, one, above))).1 page.has }
-
 module _ {D : Type 0} {g : Ghosts D} where
   -- a writer that works on a database may commit it
-  pub may_commit : (c : Connections D g) (w : Writer) (db : Database) (applies : CanApply c w db) → MayCommit (files_of c) w applies.stored.first.page applies.stored.first.header
+  pub may_commit : (c : Connections D g) (w : Writer) (db : Database) (applies : CanApply c w db) → MayCommit (files_of c) w (first_of (view_of (files_of c) w)) applies.stored.stored.header
   may_commit c w db applies = record {
     tells = applies.told;
-    whole = applies.writer.whole;
+    whole = applies.writer.sound.consistent;
     newest = applies.writer.newest.seen;
     page_size = applies.writer.page_size;
-    first = applies.stored.first.there.has;
-    header_is = applies.stored.first.header_is;
+    first = (first_shown (view_of (files_of c) w) (tables_of c.catalog) db applies.stored).has;
+    header_is = applies.stored.stored.header_is;
   }
 
   -- a view that the commit leaves holds the database
-  stores_over : (old : Log D g) (w : Writer) (tables : List Table) (db : Database) (held : Stores (view_of old w) tables db) (view : View) → view.page_size ≡ (newest_view old).page_size
-      → IsCommittedOver old w held.first.page held.first.header view → Stores view tables db
+  stores_over : (old : Log D g) (w : Writer) (tables : List Table) (db : Database) (held : ShowsDatabase (view_of old w) tables db) (view : View) → view.page_size ≡ (newest_view old).page_size
+      → IsCommittedOver old w (first_of (view_of old w)) held.stored.header view → ShowsDatabase view tables db
   stores_over old w tables db held view sized is =
-      other_first (view_of old w) view tables db sized is.size is.others
-      (first_headed (view_of old w) view tables held.first is.first is.next sized is.size is.has_first is.headed is.next_is.page_size (record { first = is.next_is.freelist_trunk ∙ held.first.none_free.first; count = is.next_is.freelist_count ∙ held.first.none_free.count })) held
+      shows_headed (view_of old w) view sized is.size is.others is.first is.next is.has_first is.headed tables db held is.next_is.page_size is.next_is.freelist_trunk is.next_is.freelist_count
 
-  pub has_committed : (old new : Connections D g) (w : Writer) (db : Database) (applies : CanApply old w db) → CommitsPages (files_of old) w applies.stored.first.page applies.stored.first.header (files_of new)
+  some_pages : (old : Log D g) (w : Writer) (tables : List Table) (db : Database) → ShowsDatabase (view_of old w) tables db → 1 ≤ pages_of w
+  some_pages old w tables db held = (first_shown (view_of old w) tables db held).last
+
+  pub has_committed : (old new : Connections D g) (w : Writer) (db : Database) (applies : CanApply old w db) → CommitsPages (files_of old) w (first_of (view_of (files_of old) w)) applies.stored.stored.header (files_of new)
       → db_of (files_of new) ≡ db_of (files_of old) → has_failed_in new ≡ has_failed_in old → new.transaction ≡ old.transaction → tables_of new.catalog ≡ tables_of old.catalog
       → committed_in new.catalog ≡ length (tables_of old.catalog) → CommitsDatabase old db new
   has_committed old new w db applies is db_same failed transaction tables all = record {
@@ -94,20 +59,20 @@ module _ {D : Type 0} {g : Ghosts D} where
       db_synced = subst (λ (d : D). IsSynced (g.file d)) (sym db_same) applies.settled.db_synced;
       log_synced = is.synced;
       commits = is.settled;
-      found = found_over (files_of old) w applies.stored.first.page applies.stored.first.header (newest_view (files_of new)) applies.settled.found is.db_is is.page_size_is is.left is.sized is.few (omega (arith, applies.stored.first.there.last));
+      found = found_over (files_of old) w (first_of (view_of (files_of old) w)) applies.stored.stored.header (newest_view (files_of new)) applies.settled.found is.db_is is.page_size_is is.left is.sized is.few (some_pages (files_of old) w (tables_of old.catalog) db applies.stored);
     };
     failed = failed;
     transaction = transaction;
     tables = tables;
     all = all ∙ ap length (sym tables);
-    stored = subst (λ (ts : List Table). Stores (newest_view (files_of new)) ts db) (sym tables) (stores_over (files_of old) w (tables_of old.catalog) db applies.stored (newest_view (files_of new)) is.page_size_is is.left);
+    stored = subst (λ (ts : List Table). ShowsDatabase (newest_view (files_of new)) ts db) (sym tables) (stores_over (files_of old) w (tables_of old.catalog) db applies.stored (newest_view (files_of new)) is.page_size_is is.left);
   }
 
   -- what a crash leaves of it
   pub commit_holds : (old new : Connections D g) (w : Writer) (db : Database) (applies : CanApply old w db) → db_of (files_of new) ≡ db_of (files_of old)
-      → (log_of (files_of new) ≡ log_of (files_of old)) ⊎ LeavesCommit (files_of old) w applies.stored.first.page applies.stored.first.header (files_of new) → HoldsEither old db new
+      → (log_of (files_of new) ≡ log_of (files_of old)) ⊎ LeavesCommit (files_of old) w (first_of (view_of (files_of old) w)) applies.stored.stored.header (files_of new) → HoldsEither old db new
   commit_holds old new w db applies db_same crash was stored =
-      either_throughout (files_of old) (files_of new) w applies.stored.first.page applies.stored.first.header applies.settled db_same (omega (arith, applies.stored.first.there.last))
+      either_throughout (files_of old) (files_of new) w (first_of (view_of (files_of old) w)) applies.stored.stored.header applies.settled db_same (some_pages (files_of old) w (tables_of old.catalog) db applies.stored)
       (take (committed_in old.catalog) (tables_of old.catalog)) (tables_of old.catalog) was db stored (stores_over (files_of old) w (tables_of old.catalog) db applies.stored) crash
 
   -- ---- a refused commit
@@ -123,29 +88,27 @@ module _ {D : Type 0} {g : Ghosts D} where
     log_file = ap g.file log;
   }
 
-  module _ (old new : Connections D g) (w left : Writer) (db : Database) (f : Fault) (applies : CanApply old w db) (is : IsRefusedCommit (files_of old) w applies.stored.first.page applies.stored.first.header (files_of new) left f) where
+  module _ (old new : Connections D g) (w left : Writer) (db : Database) (f : Fault) (applies : CanApply old w db) (is : IsRefusedCommit (files_of old) w (first_of (view_of (files_of old) w)) applies.stored.stored.header (files_of new) left f) where
     -- its writer may commit later
     writer_left : IsWriter (files_of old) left
     writer_left = record {
       newest = subst (IsNewest (files_of old)) (sym is.snapshot) applies.writer.newest;
-      whole = is.whole;
+      sound = back_sound w left is.now (record { page_size = is.page_size; snapshot = is.snapshot }) applies.writer.sound;
       page_size = is.page_size ∙ applies.writer.page_size;
-      grown = λ n past last none. applies.writer.grown n past (subst (λ (size : ℕ). n ≤ size) is.size last) (is.numbers n none);
     }
 
     -- and sees the same database
-    stores_left : Stores (view_of (files_of old) left) (tables_of old.catalog) db
+    stores_left : ShowsDatabase (view_of (files_of old) left) (tables_of old.catalog) db
     stores_left =
-        other_first (view_of (files_of old) w) (view_of (files_of old) left) (tables_of old.catalog) db refl is.size is.others
-        (first_headed (view_of (files_of old) w) (view_of (files_of old) left) (tables_of old.catalog) applies.stored.first is.first applies.stored.first.header refl is.size is.has_first is.headed refl applies.stored.first.none_free) applies.stored
+        shows_headed (view_of (files_of old) w) (view_of (files_of old) left) refl is.size is.others is.first applies.stored.stored.header is.has_first is.headed (tables_of old.catalog) db applies.stored refl refl refl
 
     works_left : ShowTheSame (files_of old) (files_of new) → new.catalog ≡ old.catalog → CanApply new left db
     works_left same catalog = record {
       told = same.told;
       settled = still_settled (files_of old) (files_of new) same applies.settled;
       writer = still_writer (files_of old) (files_of new) left same writer_left;
-      stored = subst (λ (c : Catalog). Stores (view_of (files_of new) left) (tables_of c) db) (sym catalog)
-          (subst (λ (v : View). Stores (after v (changes_of left) (pages_of left)) (tables_of old.catalog) db) (sym (same.at (snapshot_of left))) stores_left);
+      stored = subst (λ (c : Catalog). ShowsDatabase (view_of (files_of new) left) (tables_of c) db) (sym catalog)
+          (subst (λ (v : View). ShowsDatabase (after v (changes_of left) (pages_of left)) (tables_of old.catalog) db) (sym (same.at (snapshot_of left))) stores_left);
       listed = subst (λ (c : Catalog). committed_in c ≤ length (tables_of c)) (sym catalog) applies.listed;
     }
 
@@ -161,7 +124,7 @@ module _ {D : Type 0} {g : Ghosts D} where
         }
 
     pub commit_refused : db_of (files_of new) ≡ db_of (files_of old)
-        → (log_of (files_of new) ≡ log_of (files_of old)) ⊎ LeavesCommit (files_of old) w applies.stored.first.page applies.stored.first.header (files_of new) → has_failed_in old ≡ false → has_failed_in new ≡ is_io f → new.catalog ≡ old.catalog → new.transaction ≡ old.transaction → CommitsChanges old w db (Err f) new left
+        → (log_of (files_of new) ≡ log_of (files_of old)) ⊎ LeavesCommit (files_of old) w (first_of (view_of (files_of old) w)) applies.stored.stored.header (files_of new) → has_failed_in old ≡ false → has_failed_in new ≡ is_io f → new.catalog ≡ old.catalog → new.transaction ≡ old.transaction → CommitsChanges old w db (Err f) new left
     commit_refused db_same crash whole failed catalog transaction = by_why is.why
       where
         by_why : (f ≡ fault.Memory) ⊎ ((f ≡ fault.Io) ⊎ ((f ≡ fault.Full) × (IsWithin (state_of (files_of old)) (length (changes_of w)) (pages_of w) → ⊥))) → CommitsChanges old w db (Err f) new left
@@ -171,6 +134,6 @@ module _ {D : Type 0} {g : Ghosts D} where
           failed = failed ∙ ap is_io io;
           held = commit_holds old new w db applies db_same crash;
           db_left = db_left (files_of old) (files_of new) applies.settled db_same;
-          log_left = log_left (files_of old) (files_of new) w applies.stored.first.page applies.stored.first.header applies.settled crash;
+          log_left = log_left (files_of old) (files_of new) w (first_of (view_of (files_of old) w)) applies.stored.stored.header applies.settled crash;
         })
         by_why (inr (inr full)) = inr (uncommitted (inr full) (λ io. false≢true (ap is_io (sym full.0 ∙ io))) (failed ∙ ap is_io full.0 ∙ sym whole) catalog transaction)

@@ -133,15 +133,15 @@ unfolding outcome
 inserted = inr (inr (refl, refl, inl (inr (no_faults_behind one (insert t (number 1 ∷ [])) refl refl, (refl, inl refl)))))
 
 -- so it is while not all is built; a form that isn't is refused
-pub inserted_so_far : StepSoFar (λ db. ⊥) (fresh one) 1 (add 1) (Rows []) (after_commit (fresh one) 1 (with_object one t (table (col a ∷ []) ((pos 1, i 1) ∷ []))))
+pub inserted_so_far : StepSoFar (λ db r. ⊥) (fresh one) 1 (add 1) (Rows []) (after_commit (fresh one) 1 (with_object one t (table (col a ∷ []) ((pos 1, i 1) ∷ []))))
 inserted_so_far = inl (refl, inl inserted)
 
--- where the table has no more room, the row is refused and nothing changes
-pub no_room_so_far : StepSoFar (λ db. ⊤) (fresh one) 1 (add 1) (Refused Unsupported) (fresh one)
+-- where what it makes can't be stored, the statement is refused and nothing changes
+pub not_stored_so_far : StepSoFar (λ db r. ⊤) (fresh one) 1 (add 1) (Refused Unsupported) (fresh one)
 unfolding outcome
-no_room_so_far = inl (refl, inr (refl, refl, refl, with_object one t (table (col a ∷ []) ((pos 1, i 1) ∷ [])), refl, tt))
+not_stored_so_far = inl (refl, inr (Unsupported, refl, refl, refl, tt))
 
-pub unsupported_form : StepSoFar (λ db. ⊥) (fresh one) 1 (statement.Change (delete t None)) (Refused Unsupported) (fresh one)
+pub unsupported_form : StepSoFar (λ db r. ⊥) (fresh one) 1 (statement.Change (delete t (Some (number 1)))) (Refused Unsupported) (fresh one)
 unsupported_form = inr (refl, refl, inr (inr (refl, refl, inl refl)))
 
 -- g AFTER DELETE ON t WHEN OLD.a = 99: DELETE FROM nosuch. DELETE FROM t, where t has no row

@@ -4,7 +4,7 @@ use Rattle.std.specs.Prelude.{◌&&◌, ◌||◌, nat_lt, IsErrAnd, Result, ⊤,
 use Rattle.std.proofs.lemmas.Bool.Decides.{nat_tests}
 use Rattle.disk.specs.declared.device.Disk.{Ghosts}
 use Rattle.sqlval.specs.Refusals as refusal
-use Rattle.sqlval.specs.Refusals.{refusal_of}
+use Rattle.sqlval.specs.Refusals.{Refusal, refusal_of}
 use Rattle.sqlval.specs.declared.fault.Fault.{Fault}
 use Rattle.sqlval.specs.declared.fault.Fault.TheVariants as fault
 use Rattle.sqlval.specs.declared.fault.Misuse.TheVariants as misuse
@@ -17,9 +17,9 @@ use Rattle.storage.specs.Forms.{is_query, is_supported}
 use Rattle.session.specs.ConnectionState.{first_refusal, has_failed_in}
 use Rattle.session.specs.Machine.{Machine, Reply, Refused}
 use Rattle.session.specs.Steps.{is_connection}
-use Rattle.session.specs.Representation.{FindsNoRoom, RepresentsRunning, Represents, Steps, StepsTo, done_reply, rows_reply}
+use Rattle.session.specs.Representation.{CannotStoreIn, RepresentsRunning, Represents, Steps, StepsTo, done_reply, rows_reply}
 use Rattle.session.specs.declared.transactions.Connections.{Connections}
-use Rattle.session.proofs.SeenPages.{Rowed}
+use Rattle.session.proofs.Selecting.{Rowed}
 use Rattle.session.proofs.Settled.{as_shown}
 
 -- ---- the first refusals
@@ -34,7 +34,7 @@ pub either : {P : Type 0} (b : Bool) → (b ≡ true → P) → (b ≡ false →
 either true go other = go refl
 either false go other = other refl
 
-module _ (R : Database → Type 0) (m : Machine) (n : ℕ) (s : Statement) where
+module _ (R : Database → Refusal → Type 0) (m : Machine) (n : ℕ) (s : Statement) where
   failed_step : m.failed ≡ true → StepSoFar R m n s (Refused refusal.Failed) m
   failed_step failed = either (is_supported s && is_connection_supported n) (λ is. inl (is, inl (inl (failed, refl, refl)))) (λ is. inr (is, refl, inl (failed, refl)))
 
@@ -93,7 +93,7 @@ module _ {D : Type 0} {g : Ghosts D} where
   pub done_supported : (c : Connections D g) (n : ℕ) → n ≡ 1 → first_refusal (has_failed_in c) n ≡ done → first_refusal (has_failed_in c) 1 ≡ done
   done_supported c n one is = subst (λ (k : ℕ). first_refusal (has_failed_in c) k ≡ done) one is
 
-  stays_with : (c : Connections D g) (m : Machine) (n : ℕ) (s : Statement) (reply : Reply) → Represents c m → StepSoFar (FindsNoRoom c s) m n s reply m → StepsTo c m n s reply c
+  stays_with : (c : Connections D g) (m : Machine) (n : ℕ) (s : Statement) (reply : Reply) → Represents c m → StepSoFar (CannotStoreIn c s) m n s reply m → StepsTo c m n s reply c
   stays_with c m n s reply shows step = record { next = m; step = step; shown = shows; crash = as_shown c m shows }
 
   -- refused before the statement is looked at
@@ -101,7 +101,7 @@ module _ {D : Type 0} {g : Ghosts D} where
   refused_first c n s f is m (inl failed) =
       let why : first_refusal true n ≡ Err f = ap (λ b. first_refusal b n) (sym failed.0) ∙ is in
       subst (λ (e : Fault). StepsTo c m n s (Refused (refusal_of e)) c) (one_fault fault.Failed f why)
-      (stays_with c m n s (Refused refusal.Failed) (inl failed) (failed_step (FindsNoRoom c s) m n s failed.1))
+      (stays_with c m n s (Refused refusal.Failed) (inl failed) (failed_step (CannotStoreIn c s) m n s failed.1))
   refused_first c n s f is m (inr shown) = either (n == 0 || nat_lt 16 n) none some
     where
       whole : first_refusal false n ≡ Err f
@@ -109,7 +109,7 @@ module _ {D : Type 0} {g : Ghosts D} where
 
       none : (n == 0 || nat_lt 16 n) ≡ true → StepsTo c m n s (Refused (refusal_of f)) c
       none bad = subst (λ (e : Fault). StepsTo c m n s (Refused (refusal_of e)) c) (one_fault (fault.Misuse misuse.Connection) f (sym (first_by n bad) ∙ whole))
-          (stays_with c m n s (Refused refusal.Misuse) (inr shown) (numbered_step (FindsNoRoom c s) m n s shown.running (no_connection n bad)))
+          (stays_with c m n s (Refused refusal.Misuse) (inr shown) (numbered_step (CannotStoreIn c s) m n s shown.running (no_connection n bad)))
 
       some : (n == 0 || nat_lt 16 n) ≡ false → StepsTo c m n s (Refused (refusal_of f)) c
       some good = absurd (not_both f (sym (passes_by n good) ∙ whole))

@@ -1,47 +1,28 @@
 -- Connections that were made of files show the machine of the database that these hold.
 use Rattle.std.proofs.Common.{◌≡◌, refl, sym, subst, ℕ, zero, suc, List, [], false, arith}
-use Rattle.std.specs.Prelude.{None, Some}
 use Rattle.std.specs.List.{AllByRecursion}
 use Rattle.std.proofs.lemmas.List.{take_all}
 use Rattle.disk.specs.declared.device.Disk.{Ghosts}
-use Rattle.wal.specs.Sizes.{IsSizeWithinLimits}
 use Rattle.catalog.specs.Database.{Database}
 use Rattle.catalog.specs.Listed.{committed_in, tables_of}
 use Rattle.catalog.specs.declared.tables.Table.{Table}
-use Rattle.pager.specs.Views.{Tells, View, newest_view}
+use Rattle.pager.specs.Views.{Tells, newest_view}
 use Rattle.session.specs.Holding.{IsSettled}
 use Rattle.session.specs.ConnectionState.{files_of, has_failed_in}
 use Rattle.session.specs.Machine.{Idle, fresh, idle}
-use Rattle.session.specs.Representation.{AreCommitted, RepresentsRunning, IsTransaction}
-use Rattle.session.specs.Stored.{HasFirstPage, Stores}
+use Rattle.session.specs.Representation.{RepresentsRunning, IsTransaction}
+use Rattle.storage.specs.Stored.{AreCommitted}
+use Rattle.session.specs.Stored.{ShowsDatabase}
 use Rattle.session.specs.declared.transactions.Connections.{Connections}
 use Rattle.session.specs.declared.transactions.Transaction.{Transaction}
 use Rattle.session.specs.declared.transactions.Transaction.TheVariants as transaction
-
-none_listed : {A : Type 0} (t : Table) → None ≡ Some t → A
-none_listed t h = absurd cc
 
 all_idle : (n : ℕ) → AllByRecursion (λ k. k ≡ Idle) (idle n)
 all_idle zero = tt
 all_idle (suc n) = (refl, all_idle n)
 
--- one page holds no tables
-pub nothing_stored : (view : View) → HasFirstPage view [] → view.size ≡ 1 → IsSizeWithinLimits view.page_size view.size → Stores view [] []
-nothing_stored view first alone served = record {
-  rows_at = λ root. [];
-  lists = λ name. refl;
-  only = refl;
-  named = record { rising = refl; each_folded = tt };
-  once = λ name t listed. none_listed t listed;
-  apart = λ a b s t one other same. none_listed s one;
-  each = λ name t listed. none_listed t listed;
-  first = first;
-  used = λ number above within. absurd (omega (arith, alone, above, within));
-  served = served;
-}
-
 module _ {D : Type 0} {g : Ghosts D} where
-  pub fresh_shown : (c : Connections D g) (db : Database) → has_failed_in c ≡ false → c.transaction ≡ transaction.Idle → Tells (files_of c) → IsSettled (files_of c) → AreCommitted c.catalog → Stores (newest_view (files_of c)) (tables_of c.catalog) db
+  pub fresh_shown : (c : Connections D g) (db : Database) → has_failed_in c ≡ false → c.transaction ≡ transaction.Idle → Tells (files_of c) → IsSettled (files_of c) → AreCommitted c.catalog → ShowsDatabase (newest_view (files_of c)) (tables_of c.catalog) db
       → RepresentsRunning c (fresh db)
   fresh_shown c db whole is told settled all stored = record {
     running = refl;
@@ -51,7 +32,7 @@ module _ {D : Type 0} {g : Ghosts D} where
     settled = settled;
     some = omega arith;
     listed = omega (arith, all);
-    stored = subst (λ (ts : List Table). Stores (newest_view (files_of c)) ts db) (sym (take_all (committed_in c.catalog) (tables_of c.catalog) (omega (arith, all)))) stored;
+    stored = subst (λ (ts : List Table). ShowsDatabase (newest_view (files_of c)) ts db) (sym (take_all (committed_in c.catalog) (tables_of c.catalog) (omega (arith, all)))) stored;
     first = Idle;
     others = idle 15;
     connections = refl;

@@ -1,6 +1,6 @@
 -- SELECT is a step of the machine.
 use Rattle.std.proofs.Common.{◌≡◌, ◌≤◌, inl, inr, refl, sym, ap, subst, ◌∙◌, ℕ, List, [], ◌∷◌, length, take, true, false, Ok, Err, arith}
-use Rattle.std.specs.Prelude.{Contains, IsErrAnd, Option, Some, None}
+use Rattle.std.specs.Prelude.{Contains, IsErrAnd, Result, Vec, map}
 use Rattle.std.proofs.lemmas.List.{take_all}
 use Rattle.disk.specs.declared.device.Disk.{Ghosts}
 use Rattle.sqlval.specs.Refusals as refusal
@@ -14,14 +14,12 @@ use Rattle.catalog.specs.Database.{Database}
 use Rattle.catalog.specs.Listed.{committed_in, tables_of}
 use Rattle.catalog.specs.declared.tables.Catalog.{Catalog}
 use Rattle.catalog.specs.declared.tables.Table.{Table}
-use Rattle.bind.specs.Bound.{IsFaultOf}
 use Rattle.bind.specs.Checked.{Checked, Meant, faults}
-use Rattle.syntax.specs.declared.query.FromClause.{FromClause}
-use Rattle.bind.specs.Bound.{IsSource}
-use Rattle.bind.specs.declared.queries.BoundSource.{BoundSource}
-use Rattle.rowprog.specs.Rows.{Holds, TableRow, scan_of}
-use Rattle.rowprog.specs.declared.plan.Scan.TheVariants as scan
-use Rattle.pager.specs.Views.{IsViewPage, View, newest_view}
+use Rattle.rowprog.specs.Rows.{values_of}
+use Rattle.smallvec.specs.SmallVec.{SmallVec}
+use Rattle.std.specs.declared.alloc.Global.{Global}
+use Rattle.storage.specs.Reading.{AnswersRead}
+use Rattle.pager.specs.Views.{View, newest_view}
 use Rattle.session.specs.Supported.{StepSoFar}
 use Rattle.storage.specs.Forms.{is_query_supported}
 use Rattle.session.specs.Holding.{HoldThroughout}
@@ -31,17 +29,20 @@ use Rattle.session.specs.Outcomes.{answered, given, outcome}
 use Rattle.storage.specs.Works.{read_on}
 use Rattle.session.specs.Steps.{Allowed, Instead}
 use Rattle.session.specs.Crashes.{MayShow}
-use Rattle.session.specs.Stored.{Stores}
-use Rattle.session.specs.Representation.{AnswersOrFails, AnswersRead, AreCommitted, FindsNoRoom, RepresentsRunning, IsTransaction, OnlyReads, ShowTheSame, StartsReading, StepsOn, StepsTo, is_begun, rows_reply, seen_in}
+use Rattle.session.specs.Stored.{ShowsDatabase}
+use Rattle.session.specs.Representation.{CannotStoreIn, RepresentsRunning, IsTransaction, OnlyReads, ShowTheSame, StartsReading, StepsOn, StepsTo, is_begun, rows_reply, seen_in}
+use Rattle.storage.specs.Stored.{AreCommitted}
 use Rattle.session.specs.declared.transactions.Connections.{Connections}
 use Rattle.session.specs.declared.transactions.Transaction.{Transaction}
 use Rattle.session.specs.declared.transactions.Transaction.TheVariants as transaction
-use Rattle.session.proofs.SeenPages.{Rowed}
 use Rattle.session.proofs.Settled.{crash_keeps}
 use Rattle.session.proofs.Showing.{moved, still_newest, still_shown, the_same}
 use Rattle.session.proofs.Stepping.{by_outcome, first_is, instead, select_outcome}
 
 -- ---- what a query comes to
+
+abbrev pub Rowed : Type 0
+Rowed = Result (Vec (SmallVec Value) Global) Fault
 
 abbrev Reading : Type 0
 Reading = Checked (Answer (List (List Value)))
@@ -100,39 +101,43 @@ given_io m next (Meant a (r ∷ rs)) = (inr (refl, refl), refl)
 given_io m next (Meant (Err r) []) = (inr (refl, refl), refl)
 given_io m next (Meant (Ok rows) []) = (inr (refl, refl), refl)
 
+-- what a call answered of a query
+abbrev pub Answered : Reading → Rowed → Type 0
+Answered = AnswersRead (λ rows. map values_of rows.items)
+
 module _ {D : Type 0} {g : Ghosts D} where
   -- the database that the first connection reads, and where a query leaves the machine
   pub record Sees (c : Connections D g) (m : Machine) : Type 0 where
     pub db : Database
-    pub stored : Stores (seen_in c.transaction (files_of c)) (tables_of c.catalog) db
+    pub stored : ShowsDatabase (seen_in c.transaction (files_of c)) (tables_of c.catalog) db
     pub next : Machine
     pub is : (q : Query) → outcome m 1 (statement.Select q) ≡ given next (read_on db q)
 
-  pub all_listed : (c : Connections D g) (m : Machine) → RepresentsRunning c m → committed_in c.catalog ≡ length (tables_of c.catalog) → Stores (newest_view (files_of c)) (tables_of c.catalog) (newest m)
-  all_listed c m shown all = subst (λ (ts : List Table). Stores (newest_view (files_of c)) ts (newest m)) (take_all (committed_in c.catalog) (tables_of c.catalog) (omega (arith, all))) shown.stored
+  pub all_listed : (c : Connections D g) (m : Machine) → RepresentsRunning c m → committed_in c.catalog ≡ length (tables_of c.catalog) → ShowsDatabase (newest_view (files_of c)) (tables_of c.catalog) (newest m)
+  all_listed c m shown all = subst (λ (ts : List Table). ShowsDatabase (newest_view (files_of c)) ts (newest m)) (take_all (committed_in c.catalog) (tables_of c.catalog) (omega (arith, all))) shown.stored
 
   pub sees_by : (c : Connections D g) (m : Machine) (shown : RepresentsRunning c m) (t : Transaction) → c.transaction ≡ t → IsTransaction (files_of c) c.catalog (last_place m) t shown.first → Sees c m
   sees_by c m shown transaction.Idle is first = record {
     db = newest m;
-    stored = subst (λ (t : Transaction). Stores (seen_in t (files_of c)) (tables_of c.catalog) (newest m)) (sym is) (all_listed c m shown first.1);
+    stored = subst (λ (t : Transaction). ShowsDatabase (seen_in t (files_of c)) (tables_of c.catalog) (newest m)) (sym is) (all_listed c m shown first.1);
     next = m;
     is = λ q. select_outcome q m Idle (first_is m shown.first shown.others shown.connections ∙ first.0);
   }
   sees_by c m shown transaction.Begun is first = record {
     db = newest m;
-    stored = subst (λ (t : Transaction). Stores (seen_in t (files_of c)) (tables_of c.catalog) (newest m)) (sym is) (all_listed c m shown first.1);
+    stored = subst (λ (t : Transaction). ShowsDatabase (seen_in t (files_of c)) (tables_of c.catalog) (newest m)) (sym is) (all_listed c m shown first.1);
     next = with_connection m 1 (InTransactionOf false [] (Reads (last_place m)));
     is = λ q. select_outcome q m (InTransactionOf false [] NoSnapshot) (first_is m shown.first shown.others shown.connections ∙ first.0);
   }
   sees_by c m shown (transaction.Reading s) is first = record {
     db = newest m;
-    stored = subst (λ (t : Transaction). Stores (seen_in t (files_of c)) (tables_of c.catalog) (newest m)) (sym is) (all_listed c m shown first.1);
+    stored = subst (λ (t : Transaction). ShowsDatabase (seen_in t (files_of c)) (tables_of c.catalog) (newest m)) (sym is) (all_listed c m shown first.1);
     next = m;
     is = λ q. select_outcome q m (InTransactionOf false [] (Reads (last_place m))) (first_is m shown.first shown.others shown.connections ∙ first.0);
   }
   sees_by c m shown (transaction.Writing w) is first = record {
     db = first.0;
-    stored = subst (λ (t : Transaction). Stores (seen_in t (files_of c)) (tables_of c.catalog) first.0) (sym is) first.3;
+    stored = subst (λ (t : Transaction). ShowsDatabase (seen_in t (files_of c)) (tables_of c.catalog) first.0) (sym is) first.3;
     next = m;
     is = λ q. select_outcome q m (InTransactionOf false [] (Writes (last_place m) first.0)) (first_is m shown.first shown.others shown.connections ∙ first.1);
   }
@@ -142,19 +147,19 @@ module _ {D : Type 0} {g : Ghosts D} where
 
   -- ---- a call that answered
 
-  select_step : (c : Connections D g) (m : Machine) (shown : RepresentsRunning c m) (q : Query) (f : Fault) → is_query_supported q ≡ true → (s : Sees c m) → AnswersRead (read_on s.db q) (Err f) → StepSoFar (FindsNoRoom c (statement.Select q)) m 1 (statement.Select q) (Refused (refusal_of f)) m
-  select_step c m shown q f supported_forms s (inl memory) = subst (λ (e : Fault). StepSoFar (FindsNoRoom c (statement.Select q)) m 1 (statement.Select q) (Refused (refusal_of e)) m) (sym memory)
-      (instead (FindsNoRoom c (statement.Select q)) m (statement.Select q) supported_forms shown.running _ (Refused refusal.Memory) (s.is q) (given_memory m s.next (read_on s.db q)))
-  select_step c m shown q f supported_forms s (inr (inl io)) = subst (λ (e : Fault). StepSoFar (FindsNoRoom c (statement.Select q)) m 1 (statement.Select q) (Refused (refusal_of e)) m) (sym io)
-      (instead (FindsNoRoom c (statement.Select q)) m (statement.Select q) supported_forms shown.running _ (Refused refusal.Io) (s.is q) (given_io m s.next (read_on s.db q)))
-  select_step c m shown q f supported_forms s (inr (inr (inl has))) =
-      by_outcome (FindsNoRoom c (statement.Select q)) m (statement.Select q) supported_forms shown.running _ (Refused (refusal_of f)) m (s.is q) (given_fault m s.next (refusal_of f) (read_on s.db q) has)
-  select_step c m shown q f supported_forms s (inr (inr (inr refused))) =
-      by_outcome (FindsNoRoom c (statement.Select q)) m (statement.Select q) supported_forms shown.running _ (Refused (refusal_of f)) m (s.is q) (given_refusal m s.next f (read_on s.db q) refused)
+  select_step : (c : Connections D g) (m : Machine) (shown : RepresentsRunning c m) (q : Query) (f : Fault) → is_query_supported q ≡ true → (s : Sees c m) → Answered (read_on s.db q) (Err f) → StepSoFar (CannotStoreIn c (statement.Select q)) m 1 (statement.Select q) (Refused (refusal_of f)) m
+  select_step c m shown q f supported_forms s (inl (inl memory)) = subst (λ (e : Fault). StepSoFar (CannotStoreIn c (statement.Select q)) m 1 (statement.Select q) (Refused (refusal_of e)) m) (sym memory)
+      (instead (CannotStoreIn c (statement.Select q)) m (statement.Select q) supported_forms shown.running _ (Refused refusal.Memory) (s.is q) (given_memory m s.next (read_on s.db q)))
+  select_step c m shown q f supported_forms s (inl (inr io)) = subst (λ (e : Fault). StepSoFar (CannotStoreIn c (statement.Select q)) m 1 (statement.Select q) (Refused (refusal_of e)) m) (sym io)
+      (instead (CannotStoreIn c (statement.Select q)) m (statement.Select q) supported_forms shown.running _ (Refused refusal.Io) (s.is q) (given_io m s.next (read_on s.db q)))
+  select_step c m shown q f supported_forms s (inr (inl has)) =
+      by_outcome (CannotStoreIn c (statement.Select q)) m (statement.Select q) supported_forms shown.running _ (Refused (refusal_of f)) m (s.is q) (given_fault m s.next (refusal_of f) (read_on s.db q) has)
+  select_step c m shown q f supported_forms s (inr (inr refused)) =
+      by_outcome (CannotStoreIn c (statement.Select q)) m (statement.Select q) supported_forms shown.running _ (Refused (refusal_of f)) m (s.is q) (given_refusal m s.next f (read_on s.db q) refused)
 
   -- a refused SELECT
   pub select_refused : (old new : Connections D g) (q : Query) (f : Fault) → is_query_supported q ≡ true → OnlyReads old new
-      → ((m : Machine) (db : Database) → RepresentsRunning old m → Stores (seen_in old.transaction (files_of old)) (tables_of old.catalog) db → AnswersRead (read_on db q) (Err f)) → StepsOn old (statement.Select q) (Refused (refusal_of f)) new
+      → ((m : Machine) (db : Database) → RepresentsRunning old m → ShowsDatabase (seen_in old.transaction (files_of old)) (tables_of old.catalog) db → Answered (read_on db q) (Err f)) → StepsOn old (statement.Select q) (Refused (refusal_of f)) new
   select_refused old new q f supported_forms reads answered m shown =
       let s = sees old m shown in
       record {
@@ -166,7 +171,7 @@ module _ {D : Type 0} {g : Ghosts D} where
 
   -- a SELECT that gives rows
   pub select_gives : (old mid new : Connections D g) (q : Query) (rows : List (List Value)) → is_query_supported q ≡ true → OnlyReads old mid → StartsReading mid new
-      → ((m : Machine) (db : Database) → RepresentsRunning old m → Stores (seen_in old.transaction (files_of old)) (tables_of old.catalog) db → read_on db q ≡ Meant (Ok rows) []) → StepsOn old (statement.Select q) (Rows rows) new
+      → ((m : Machine) (db : Database) → RepresentsRunning old m → ShowsDatabase (seen_in old.transaction (files_of old)) (tables_of old.catalog) db → read_on db q ≡ Meant (Ok rows) []) → StepsOn old (statement.Select q) (Rows rows) new
   unfolding sees_by
   select_gives old mid new q rows supported_forms reads starts answered m shown = by_case old.transaction refl shown.transaction
     where
@@ -179,8 +184,8 @@ module _ {D : Type 0} {g : Ghosts D} where
       crash_of : (next : Machine) → HoldThroughout (MayShow m next) (files_of old) (files_of new)
       crash_of next = crash_keeps old new m next shown (subst (ShowTheSame (files_of old)) (sym starts.files) (reads.files shown.told))
 
-      step_of : (s : Sees old m) → StepSoFar (FindsNoRoom old (statement.Select q)) m 1 (statement.Select q) (Rows rows) s.next
-      step_of s = by_outcome (FindsNoRoom old (statement.Select q)) m (statement.Select q) supported_forms shown.running _ (Rows rows) s.next (s.is q) (given_rows m s.next rows (read_on s.db q) (answered m s.db shown s.stored))
+      step_of : (s : Sees old m) → StepSoFar (CannotStoreIn old (statement.Select q)) m 1 (statement.Select q) (Rows rows) s.next
+      step_of s = by_outcome (CannotStoreIn old (statement.Select q)) m (statement.Select q) supported_forms shown.running _ (Rows rows) s.next (s.is q) (given_rows m s.next rows (read_on s.db q) (answered m s.db shown s.stored))
 
       other_shown : (t : Transaction) → old.transaction ≡ t → is_begun t ≡ false → RepresentsRunning new m
       other_shown t is begun = still_shown mid new m mid_shown same_files starts.failed starts.catalog (starts.other (ap is_begun (reads.transaction ∙ is) ∙ begun))
@@ -199,44 +204,6 @@ module _ {D : Type 0} {g : Ghosts D} where
       by_case (transaction.Reading t) is first = (let s = sees_by old m shown (transaction.Reading t) is first in record { next = s.next; step = step_of s; shown = inr (other_shown (transaction.Reading t) is refl); crash = crash_of s.next })
       by_case (transaction.Writing w) is first = (let s = sees_by old m shown (transaction.Writing w) is first in record { next = s.next; step = step_of s; shown = inr (other_shown (transaction.Writing w) is refl); crash = crash_of s.next })
 
--- ---- what a bound query reads
-
-pub bound_read : (answer : Answer (List (List Value))) (read : Reading) (result : Rowed) → read ≡ Meant answer [] → AnswersOrFails answer result → AnswersRead read result
-bound_read answer read (Ok rows) is answered = is ∙ ap (λ a. Meant a []) answered
-bound_read answer read (Err e) is (inl memory) = inl memory
-bound_read answer read (Err e) is (inr (inl io)) = inr (inl io)
-bound_read answer read (Err e) is (inr (inr refused)) = inr (inr (inr (is ∙ ap (λ a. Meant a []) refused)))
-
-pub unbound_read : (read : Reading) (result : Rowed) (f : Fault) → IsErrAnd result (λ e. e ≡ f) → IsFaultOf (faults read) f → AnswersRead read result
-unbound_read read (Ok rows) f is why = absurd is
-unbound_read read (Err e) f is (inl memory) = inl (is ∙ memory)
-unbound_read read (Err e) f is (inr has) = inr (inr (inl (subst (λ (x : Fault). Contains (faults read) (refusal_of x)) (sym is) has)))
-
 pub refused_reply : (result : Rowed) (f : Fault) → IsErrAnd result (λ e. e ≡ f) → rows_reply result ≡ Refused (refusal_of f)
 refused_reply (Ok rows) f is = absurd is
 refused_reply (Err e) f is = ap (λ (x : Fault). Refused (refusal_of x)) is
-
-pub scanned_once : (source : Option BoundSource) → scan_of source ≡ scan.Once → source ≡ None
-scanned_once None is = refl
-scanned_once (Some s) is = (let bad : scan.Table s ≡ scan.Once = is in cc)
-
-pub scanned_table : (source : Option BoundSource) (s : BoundSource) → scan_of source ≡ scan.Table s → source ≡ Some s
-scanned_table None s is = (let bad : scan.Once ≡ scan.Table s = is in cc)
-scanned_table (Some t) s is = ap Some (let same : scan.Table t ≡ scan.Table s = is in cc)
-
--- a listed source's page is there, and holds the rows that its table has
-pub record IsReadAt (view : View) (rows_at : ℕ → List TableRow) (s : BoundSource) : Type 0 where
-  pub page : List ℕ
-  pub there : IsViewPage view s.root page
-  pub holds : Holds page s.root s.width (rows_at s.root)
-
-pub source_read : (view : View) (tables : List Table) (db : Database) (stored : Stores view tables db) (from : Option FromClause) (s : BoundSource) → IsSource tables from (Some s) → IsReadAt view stored.rows_at s
-source_read view tables db stored None s is = (let bad : Some s ≡ None = is in cc)
-source_read view tables db stored (Some f) s is =
-    let t = is.0 in
-    let same : s ≡ record { root = t.root; width = length t.columns } = some_one s _ is.2 in
-    let there = stored.each f.first.name t is.1 in
-    subst (IsReadAt view stored.rows_at) (sym same) (record { page = there.page; there = there.there; holds = there.holds })
-  where
-    some_one : (a b : BoundSource) → Some a ≡ Some b → a ≡ b
-    some_one a b e = cc

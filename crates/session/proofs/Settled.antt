@@ -26,7 +26,7 @@ use Rattle.session.specs.ConnectionState.{files_of}
 use Rattle.session.specs.Machine.{Machine, newest}
 use Rattle.session.specs.Representation.{RepresentsRunning, ShowTheSame, Represents}
 use Rattle.session.specs.Crashes.{MayShow}
-use Rattle.session.specs.Stored.{Stores}
+use Rattle.session.specs.Stored.{ShowsDatabase}
 use Rattle.session.specs.declared.transactions.Connections.{Connections}
 
 -- of a synced file a crash leaves the content
@@ -52,7 +52,7 @@ module _ {D : Type 0} {g : Ghosts D} where
   -- ---- settled files
 
   -- a crash leaves the newest database
-  pub settled_leaves : (May : Database → Type 0) (files : Log D g) (tables : List Table) (db : Database) → May db → IsSettled files → Stores (newest_view files) tables db
+  pub settled_leaves : (May : Database → Type 0) (files : Log D g) (tables : List Table) (db : Database) → May db → IsSettled files → ShowsDatabase (newest_view files) tables db
       → LeaveHeld May (versions (g.file (db_of files))) (versions (g.file (log_of files)))
   settled_leaves May files tables db may settled stored d l left_db left_log chance = (
     db,
@@ -125,7 +125,7 @@ module _ {D : Type 0} {g : Ghosts D} where
   }
 
   module _ (old new : Log D g) (w : Writer) (page : List ℕ) (header : Header) (settled : IsSettled old) (db_same : db_of new ≡ db_of old) (some : 1 ≤ pages_of w) (before behind : List Table) (was db : Database)
-      (stored : Stores (newest_view old) before was) (stores : (view : View) → view.page_size ≡ (newest_view old).page_size → IsCommittedOver old w page header view → Stores view behind db) where
+      (stored : ShowsDatabase (newest_view old) before was) (stores : (view : View) → view.page_size ≡ (newest_view old).page_size → IsCommittedOver old w page header view → ShowsDatabase view behind db) where
     abbrev Either : Database → Type 0
     Either d = (d ≡ was) ⊎ (d ≡ db)
 

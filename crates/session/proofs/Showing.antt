@@ -24,8 +24,9 @@ use Rattle.pager.specs.declared.writer.Writer.{Writer}
 use Rattle.session.specs.ConnectionState.{files_of, has_failed_in}
 use Rattle.session.specs.Machine.{Machine, Connection, Idle, InTransactionOf, Phase, NoSnapshot, Reads, Writes, Rows, Refused, last_place, newest, with_connection}
 use Rattle.session.specs.Outcomes.{Gives, RefusedBy, begun}
-use Rattle.session.specs.Stored.{Stores}
-use Rattle.session.specs.Representation.{AreCommitted, FindsNoRoom, IsGivenUp, IsNewest, RepresentsRunning, IsTransaction, IsWriter, ShowTheSame, StepsOn, is_idle}
+use Rattle.session.specs.Stored.{ShowsDatabase}
+use Rattle.session.specs.Representation.{CannotStoreIn, IsGivenUp, IsNewest, RepresentsRunning, IsTransaction, IsWriter, ShowTheSame, StepsOn, is_idle}
+use Rattle.storage.specs.Stored.{AreCommitted}
 use Rattle.session.specs.declared.transactions.Connections.{Connections}
 use Rattle.session.specs.declared.transactions.Transaction.{Transaction}
 use Rattle.session.specs.declared.transactions.Transaction.TheVariants as transaction
@@ -83,14 +84,14 @@ module _ {D : Type 0} {g : Ghosts D} where
   still_newest old new s same is = record { seen = is.seen ∙ ap (λ (k : LogState). k.frames) (sym same.known); sized = is.sized ∙ ap (λ (k : LogState). k.size) (sym same.known) }
 
   pub still_writer : (old new : Log D g) (w : Writer) → ShowTheSame old new → IsWriter old w → IsWriter new w
-  still_writer old new w same is = record { newest = still_newest old new (snapshot_of w) same is.newest; whole = is.whole; page_size = is.page_size ∙ ap (λ (k : LogState). k.page_size) (sym same.known); grown = λ n past last none. is.grown n (subst (λ (k : LogState). k.size < n) same.known past) last none }
+  still_writer old new w same is = record { newest = still_newest old new (snapshot_of w) same is.newest; sound = is.sound; page_size = is.page_size ∙ ap (λ (k : LogState). k.page_size) (sym same.known) }
 
   pub still_transaction : (old new : Log D g) (catalog : Catalog) (last : ℕ) (t : Transaction) (k : Connection) → ShowTheSame old new → IsTransaction old catalog last t k → IsTransaction new catalog last t k
   still_transaction old new catalog last transaction.Idle k same is = is
   still_transaction old new catalog last transaction.Begun k same is = is
   still_transaction old new catalog last (transaction.Reading s) k same is = (is.0, is.1, still_newest old new s same is.2)
   still_transaction old new catalog last (transaction.Writing w) k same is =
-      (is.0, is.1, still_writer old new w same is.2, subst (λ (v : View). Stores (after v (changes_of w) (pages_of w)) (tables_of catalog) is.0) (sym (same.at (snapshot_of w))) is.3)
+      (is.0, is.1, still_writer old new w same is.2, subst (λ (v : View). ShowsDatabase (after v (changes_of w) (pages_of w)) (tables_of catalog) is.0) (sym (same.at (snapshot_of w))) is.3)
 
   -- ---- the machine after a statement that commits nothing
 
@@ -105,8 +106,8 @@ module _ {D : Type 0} {g : Ghosts D} where
     settled = still_settled (files_of old) (files_of new) same shown.settled;
     some = shown.some;
     listed = listed;
-    stored = subst (λ (v : View). Stores v (take (committed_in new.catalog) (tables_of new.catalog)) (newest m)) (sym same.newest)
-        (subst (λ (ts : List Table). Stores (newest_view (files_of old)) ts (newest m)) (sym tables) shown.stored);
+    stored = subst (λ (v : View). ShowsDatabase v (take (committed_in new.catalog) (tables_of new.catalog)) (newest m)) (sym same.newest)
+        (subst (λ (ts : List Table). ShowsDatabase (newest_view (files_of old)) ts (newest m)) (sym tables) shown.stored);
     first = k;
     others = shown.others;
     connections = first_set m shown.first shown.others shown.connections k;
@@ -124,8 +125,8 @@ module _ {D : Type 0} {g : Ghosts D} where
     settled = still_settled (files_of old) (files_of new) same shown.settled;
     some = shown.some;
     listed = subst (λ (c : Catalog). committed_in c ≤ length (tables_of c)) (sym catalog) shown.listed;
-    stored = subst (λ (v : View). Stores v (take (committed_in new.catalog) (tables_of new.catalog)) (newest m)) (sym same.newest)
-        (subst (λ (c : Catalog). Stores (newest_view (files_of old)) (take (committed_in c) (tables_of c)) (newest m)) (sym catalog) shown.stored);
+    stored = subst (λ (v : View). ShowsDatabase v (take (committed_in new.catalog) (tables_of new.catalog)) (newest m)) (sym same.newest)
+        (subst (λ (c : Catalog). ShowsDatabase (newest_view (files_of old)) (take (committed_in c) (tables_of c)) (newest m)) (sym catalog) shown.stored);
     first = shown.first;
     others = shown.others;
     connections = shown.connections;
@@ -143,7 +144,7 @@ module _ {D : Type 0} {g : Ghosts D} where
       let is = rollback_outcome m Idle (first_is m shown.first shown.others shown.connections ∙ k) in
       record {
         next = m;
-        step = by_outcome (FindsNoRoom c statement.Rollback) m statement.Rollback refl shown.running (RefusedBy (NoTransaction ∷ [])) (Refused NoTransaction) m is (NoTransaction, (0, omega arith, refl), refl, refl);
+        step = by_outcome (CannotStoreIn c statement.Rollback) m statement.Rollback refl shown.running (RefusedBy (NoTransaction ∷ [])) (Refused NoTransaction) m is (NoTransaction, (0, omega arith, refl), refl, refl);
         shown = inr shown;
         crash = as_shown c m (inr shown);
       }
@@ -154,7 +155,7 @@ module _ {D : Type 0} {g : Ghosts D} where
       let is = rollback_outcome m (InTransactionOf false [] k.phase) (first_is m shown.first shown.others shown.connections ∙ k.is) in
       record {
         next = with_connection m 1 Idle;
-        step = by_outcome (FindsNoRoom old statement.Rollback) m statement.Rollback refl shown.running (Gives [] (with_connection m 1 Idle)) (Rows []) (with_connection m 1 Idle) is (refl, refl);
+        step = by_outcome (CannotStoreIn old statement.Rollback) m statement.Rollback refl shown.running (Gives [] (with_connection m 1 Idle)) (Rows []) (with_connection m 1 Idle) is (refl, refl);
         shown = inr (moved old new m Idle shown (subst (ShowTheSame (files_of old)) (sym gone.files) (the_same (files_of old) shown.told)) gone.failed (tables_same old new gone) (omega (arith, all_now gone)) (idle_now gone));
         crash = crash_keeps old new m (with_connection m 1 Idle) shown (subst (ShowTheSame (files_of old)) (sym gone.files) (the_same (files_of old) shown.told));
       }
@@ -176,7 +177,7 @@ module _ {D : Type 0} {g : Ghosts D} where
       let is = begin_outcome mode m (InTransactionOf false [] k.phase) (first_is m shown.first shown.others shown.connections ∙ k.is) in
       record {
         next = m;
-        step = by_outcome (FindsNoRoom c (statement.Begin mode)) m (statement.Begin mode) refl shown.running (RefusedBy (InTransaction ∷ [])) (Refused InTransaction) m is (InTransaction, (0, omega arith, refl), refl, refl);
+        step = by_outcome (CannotStoreIn c (statement.Begin mode)) m (statement.Begin mode) refl shown.running (RefusedBy (InTransaction ∷ [])) (Refused InTransaction) m is (InTransaction, (0, omega arith, refl), refl, refl);
         shown = inr shown;
         crash = as_shown c m (inr shown);
       }
@@ -195,7 +196,7 @@ module _ {D : Type 0} {g : Ghosts D} where
       let next = with_connection m 1 (InTransactionOf false [] NoSnapshot) in
       record {
         next = next;
-        step = by_outcome (FindsNoRoom old (statement.Begin begins.Deferred)) m (statement.Begin begins.Deferred) refl shown.running (Gives [] next) (Rows []) next is (refl, refl);
+        step = by_outcome (CannotStoreIn old (statement.Begin begins.Deferred)) m (statement.Begin begins.Deferred) refl shown.running (Gives [] next) (Rows []) next is (refl, refl);
         shown = inr (moved old new m (InTransactionOf false [] NoSnapshot) shown (subst (ShowTheSame (files_of old)) (sym begun.files) (the_same (files_of old) shown.told)) begun.failed (ap (λ (c : Catalog). take (committed_in c) (tables_of c)) begun.catalog)
             (subst (λ (c : Catalog). committed_in c ≤ length (tables_of c)) (sym begun.catalog) shown.listed)
             (subst (λ (t : Transaction). IsTransaction (files_of new) new.catalog (last_place m) t (InTransactionOf false [] NoSnapshot)) (sym begun.now)

@@ -2,7 +2,7 @@
 use Rattle.std.proofs.Common.{◌≡◌, inl, inr, refl, sym, ap, subst, ◌∙◌, List, [], ◌∷◌, Bool, true, false}
 use Rattle.std.specs.Prelude.{slice_get, slice_set, unwrap_or, ◌&&◌, ◌||◌, if◌then◌else◌}
 use Rattle.std.specs.List.{AllByRecursion, list_any}
-use Rattle.sqlval.specs.Refusals.{Busy}
+use Rattle.sqlval.specs.Refusals.{Refusal, Busy}
 use Rattle.syntax.specs.declared.query.Query.{Query}
 use Rattle.syntax.specs.declared.statement.BeginMode.{BeginMode}
 use Rattle.syntax.specs.declared.statement.BeginMode.TheVariants as begins
@@ -17,7 +17,7 @@ use Rattle.session.specs.Steps.{Allowed, Instead}
 
 -- ---- what a step may be
 
-module _ (R : Database → Type 0) (m : Machine) (s : Statement) (supported_forms : is_supported s ≡ true) (running : m.failed ≡ false) where
+module _ (R : Database → Refusal → Type 0) (m : Machine) (s : Statement) (supported_forms : is_supported s ≡ true) (running : m.failed ≡ false) where
   served : (is_supported s && is_connection_supported 1) ≡ true
   served = ap (λ b. b && true) supported_forms
 

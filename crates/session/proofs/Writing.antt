@@ -2,7 +2,7 @@
 use Rattle.std.proofs.Common.{◌≡◌, ◌⊎◌, ◌≤◌, ◌+◌, inl, inr, refl, sym, ap, subst, ◌∙◌, ℕ, List, [], length, take, true, false, arith}
 use Rattle.std.proofs.lemmas.List.{take_all}
 use Rattle.std.proofs.lemmas.Bool.{false≢true}
-use Rattle.std.specs.Prelude.{◌↔◌, ⊤, Result, Ok, Err}
+use Rattle.std.specs.Prelude.{⊤, Result, Ok, Err, IfErr}
 use Rattle.disk.specs.declared.device.Disk.{Ghosts}
 use Rattle.sqlval.specs.Refusals as refusal
 use Rattle.sqlval.specs.Refusals.{refusal_of}
@@ -15,27 +15,30 @@ use Rattle.catalog.specs.Database.{Database}
 use Rattle.catalog.specs.Listed.{committed_in, tables_of}
 use Rattle.catalog.specs.declared.tables.Catalog.{Catalog}
 use Rattle.catalog.specs.declared.tables.Table.{Table}
-use Rattle.pager.specs.Views.{ViewHas, View, newest_view, view_at, view_of}
+use Rattle.pages.specs.Map.{PageMap}
+use Rattle.pager.specs.Maps.{pages_in}
+use Rattle.pager.proofs.Mapping.{maps_alike}
+use Rattle.wal.specs.LogState.{LogState}
+use Rattle.pager.specs.Views.{View, newest_view, view_at, view_of}
 use Rattle.pager.specs.Writers.{seen}
 use Rattle.pager.specs.declared.writer.Writer.{Writer}
-use Rattle.session.specs.Supported.{StepSoFar}
+use Rattle.session.specs.Supported.{StepSoFar, database_of}
 use Rattle.storage.specs.Forms.{is_supported}
 use Rattle.session.specs.ConnectionState.{files_of, has_failed_in}
-use Rattle.session.specs.Machine.{Machine, Connection, Idle, InTransactionOf, NoSnapshot, Reads, Writes, Reply, Rows, Refused, last_place, newest}
-use Rattle.session.specs.NewTables.{HasRoomAfter}
-use Rattle.storage.specs.Schema.{schema_row}
+use Rattle.session.specs.Machine.{Machine, Connection, Idle, InTransactionOf, NoSnapshot, Reads, Writes, Reply, Rows, Refused, connection, last_place, newest}
 use Rattle.session.specs.Outcomes.{Outcome, outcome}
 use Rattle.storage.specs.Works.{Work, Makes, IsRefused, Undoes, Binds, Reaches, change_made}
 use Rattle.session.specs.Steps.{Allowed, after_commit}
-use Rattle.session.specs.Stored.{LacksRoom, Stores}
-use Rattle.session.specs.Representation.{AreCommitted, FindsNoRoom, RepresentsRunning, IsTransaction, OnlyReads, ShowTheSame, StepsOn, StepsTo, done_reply, is_idle, is_reading, seen_in, with_transaction}
+use Rattle.session.specs.Stored.{CannotStore, ShowsDatabase}
+use Rattle.session.specs.Representation.{CannotStoreIn, RepresentsRunning, IsTransaction, OnlyReads, ShowTheSame, StepsOn, StepsTo, done_reply, is_idle, is_reading, seen_in, with_transaction}
+use Rattle.storage.specs.Stored.{AreCommitted}
 use Rattle.session.specs.Applying.{CommitsChanges, EndsAlone, IsApplied, IsCommitCause, IsDropped, IsNotApplied, KeepsCommitted, Applies, CanApply, listing_of}
-use Rattle.session.specs.Changing.{MakesChange, IsChangeRefusal, KeepsListed, written}
+use Rattle.storage.specs.Changing.{IsChangeRefusal, IsUnstored}
+use Rattle.session.specs.Changing.{ChangesPages, KeepsListed, written}
 use Rattle.session.specs.declared.transactions.Connections.{Connections}
 use Rattle.session.specs.declared.transactions.Transaction.{Transaction}
 use Rattle.session.specs.declared.transactions.Transaction.TheVariants as transaction
 use Rattle.session.specs.declared.changes.Write.{Write}
-use Rattle.session.specs.declared.changes.Write.TheVariants as write
 use Rattle.session.proofs.Beginning.{StartsWriting, writer_begins, writer_stores}
 use Rattle.session.proofs.CommitSteps.{committed_shown}
 use Rattle.session.proofs.CommitCrashes.{commit_crashes, doubt_left, doubt_crashes, doubted}
@@ -44,34 +47,9 @@ use Rattle.session.proofs.SeenPages.{at_newest}
 use Rattle.session.proofs.Selecting.{all_listed}
 use Rattle.session.proofs.Showing.{moved, still_shown, still_transaction}
 use Rattle.session.proofs.Stepping.{by_outcome, first_is}
+use Rattle.session.proofs.Marked.{went_back}
+use Rattle.pager.specs.Marks.{IsOverTheSame, now_of}
 use Rattle.session.proofs.Applying.{IsFinish, IsErrorCause, alone, finish_alone, finish_in, in_transaction, refused_step, worked_gives, working_on, write_outcome_of, writes_alone, writes_begun, writes_behind_reads}
-
--- ---- room
-
--- what finds no room in pages finds none in others that hold the same
-pub same_room : (v u : View) (tables : List Table) (w : Write) (db : Database) → u.size ≡ v.size → ((number : ℕ) (bytes : List ℕ) → ViewHas u number bytes ↔ ViewHas v number bytes)
-    → LacksRoom u tables (written w) db → LacksRoom v tables (written w) db
-same_room v u tables w db long same (inl fills) = inl (record {
-  name = fills.name;
-  table = fills.table;
-  listed = fills.listed;
-  rows = fills.rows;
-  added = fills.added;
-  is = fills.is;
-  page = fills.page;
-  there = record { first = fills.there.first; last = omega (arith, fills.there.last, long); has = (same fills.table.root fills.page).0 fills.there.has };
-  holds = fills.holds;
-  fault = fills.fault;
-  full = fills.full;
-})
-same_room v u tables (write.Insert i) db long same (inr fills) = absurd fills
-same_room v u tables (write.CreateTable sql d) db long same (inr fills) = inr (record {
-  page = fills.page;
-  there = record { first = fills.there.first; last = omega (arith, fills.there.last, long); has = (same 1 fills.page).0 fills.there.has };
-  entries = fills.entries;
-  single_leaf = fills.single_leaf;
-  full = subst (λ n. HasRoomAfter (length fills.page) fills.entries (schema_row d.now.name d.now.name (n + 1) sql.now) → ⊥) long fills.full;
-})
 
 -- ---- commits
 
@@ -94,6 +72,15 @@ idle_now transaction.Begun is = absurd (false≢true is)
 idle_now (transaction.Reading r) is = absurd (false≢true is)
 idle_now (transaction.Writing v) is = absurd (false≢true is)
 
+-- what can't be stored in the pages that a writer sees, can't in others that are the same
+cannot_store : (v u : View) (s : Statement) (db : Database) (f : Fault) → pages_in u ≡ pages_in v → u.page_size ≡ v.page_size → IsUnstored s (pages_in u) u.page_size db f → CannotStore v s db (refusal_of f)
+cannot_store v u s db f same size is = (f, refl, subst (λ (map : PageMap). IsUnstored s map v.page_size db f) same (subst (λ (n : ℕ). IsUnstored s (pages_in u) n db f) size is))
+
+why_of : (s : Statement) (v u : View) (db : Database) (f : Fault) → pages_in u ≡ pages_in v → u.page_size ≡ v.page_size → IsChangeRefusal s (pages_in u) u.page_size db f → IsErrorCause (CannotStore v s db) (change_made s db) f
+why_of s v u db f same size (inl out) = inl out
+why_of s v u db f same size (inr (inl why)) = inr (inl why)
+why_of s v u db f same size (inr (inr is)) = inr (inr (cannot_store v u s db f same size is))
+
 module _ {D : Type 0} {g : Ghosts D} where
   -- ---- what stays
 
@@ -104,7 +91,7 @@ module _ {D : Type 0} {g : Ghosts D} where
   other_catalog files a b last transaction.Idle k same tables is = (is.0, same ∙ is.1 ∙ ap length (sym tables))
   other_catalog files a b last transaction.Begun k same tables is = (is.0, same ∙ is.1 ∙ ap length (sym tables))
   other_catalog files a b last (transaction.Reading s) k same tables is = (is.0, same ∙ is.1 ∙ ap length (sym tables), is.2)
-  other_catalog files a b last (transaction.Writing w) k same tables is = (is.0, is.1, is.2, subst (λ (ts : List Table). Stores (view_of files w) ts is.0) (sym tables) is.3)
+  other_catalog files a b last (transaction.Writing w) k same tables is = (is.0, is.1, is.2, subst (λ (ts : List Table). ShowsDatabase (view_of files w) ts is.0) (sym tables) is.3)
 
   -- the machine is shown still where its committed tables and the files are the same
   pub stays : (old new : Connections D g) (m : Machine) (shown : RepresentsRunning old m) → ShowTheSame (files_of old) (files_of new) → has_failed_in new ≡ has_failed_in old → committed_in new.catalog ≡ committed_in old.catalog
@@ -118,8 +105,8 @@ module _ {D : Type 0} {g : Ghosts D} where
     settled = still_settled (files_of old) (files_of new) same shown.settled;
     some = shown.some;
     listed = listed;
-    stored = subst (λ (v : View). Stores v (take (committed_in new.catalog) (tables_of new.catalog)) (newest m)) (sym same.newest)
-        (subst (λ (ts : List Table). Stores (newest_view (files_of old)) ts (newest m)) (sym (ap (λ n. take n (tables_of new.catalog)) committed ∙ tables)) shown.stored);
+    stored = subst (λ (v : View). ShowsDatabase v (take (committed_in new.catalog) (tables_of new.catalog)) (newest m)) (sym same.newest)
+        (subst (λ (ts : List Table). ShowsDatabase (newest_view (files_of old)) ts (newest m)) (sym (ap (λ n. take n (tables_of new.catalog)) committed ∙ tables)) shown.stored);
     first = shown.first;
     others = shown.others;
     connections = shown.connections;
@@ -134,25 +121,17 @@ module _ {D : Type 0} {g : Ghosts D} where
 
   -- what a change of the files and the catalog comes to for the connections that have them
   pub applied : (s : Statement) (old : Connections D g) (w : Writer) (db : Database) (r : Result ⊤ Fault) (new : Connections D g) (left : Writer) → has_failed_in new ≡ has_failed_in old → new.transaction ≡ old.transaction
-      → MakesChange s (listing_of old) w db r (listing_of new) left → Applies s old w db r new left
+      → ChangesPages s (listing_of old) w db r (listing_of new) left → Applies s old w db r new left
   applied s old w db (Ok done) new left failed same has = record { kept = keeps old new failed same has.kept; made = has.made; reaches = has.reaches; applies = has.applies }
-  applied s old w db (Err f) new left failed same has = record { kept = keeps old new failed same has.kept; tables = has.tables; applies = has.applies; why = has.why }
+  applied s old w db (Err f) new left failed same has = record { kept = keeps old new failed same has.kept; tables = has.tables; why = has.why }
 
   -- ---- refusals
 
-  pub why_of : (R : Database → Type 0) (s : Statement) (c : Connections D g) (w : Writer) (db : Database) (f : Fault) → ((made : Database) → LacksRoom (view_of (files_of c) w) (tables_of c.catalog) s made → R made)
-      → IsChangeRefusal s (listing_of c) w db f → IsErrorCause R (change_made s db) f
-  why_of R s c w db f room (inl memory) = inl memory
-  why_of R s c w db f room (inr (inl full)) = inr (inl full)
-  why_of R s c w db f room (inr (inr (inl io))) = inr (inr (inl io))
-  why_of R s c w db f room (inr (inr (inr (inl why)))) = inr (inr (inr (inl why)))
-  why_of R s c w db f room (inr (inr (inr (inr none)))) = inr (inr (inr (inr (none.0, none.1, none.2, room none.1 none.3))))
-
   refused : (old new : Connections D g) (m : Machine) (w : Write) (finish : Work → Outcome) → RepresentsRunning old m → ShowTheSame (files_of old) (files_of new) → RepresentsRunning new m → is_supported (written w) ≡ true → (ends : IsFinish m finish) (db : Database)
-      → outcome m 1 (written w) ≡ finish (change_made (written w) db) → (f : Fault) → IsErrorCause (FindsNoRoom old (written w)) (change_made (written w) db) f → StepsTo old m 1 (written w) (Refused (refusal_of f)) new
-  refused old new m w finish before same behind supported_forms ends db is f why = record {
+      → database_of m (connection m 1) ≡ db → outcome m 1 (written w) ≡ finish (change_made (written w) db) → (f : Fault) → IsErrorCause (CannotStoreIn old (written w) db) (change_made (written w) db) f → StepsTo old m 1 (written w) (Refused (refusal_of f)) new
+  refused old new m w finish before same behind supported_forms ends db sees is f why = record {
     next = m;
-    step = refused_step (FindsNoRoom old (written w)) m (written w) supported_forms before.running finish ends (change_made (written w) db) is f why;
+    step = refused_step (CannotStoreIn old (written w)) m (written w) supported_forms before.running finish ends (change_made (written w) db) is db sees f why;
     shown = inr behind;
     crash = crash_keeps old new m m before same;
   }
@@ -165,6 +144,7 @@ module _ {D : Type 0} {g : Ghosts D} where
     pub comes : outcome m 1 (written x) ≡ finish (change_made (written x) (newest m))
     pub all : AreCommitted old.catalog
     pub sees : seen_in old.transaction (files_of old) ≡ newest_view (files_of old)
+    pub database : database_of m (connection m 1) ≡ newest m
 
   pub opens_alone : (old : Connections D g) (m : Machine) (shown : RepresentsRunning old m) (x : Write) (t : Transaction) → old.transaction ≡ t → is_idle t ≡ true → IsTransaction (files_of old) old.catalog (last_place m) t shown.first → Opening old m x (alone m)
   opens_alone old m shown x transaction.Idle is idle first = record {
@@ -172,6 +152,7 @@ module _ {D : Type 0} {g : Ghosts D} where
     comes = write_outcome_of x m Idle (first_is m shown.first shown.others shown.connections ∙ first.0) ∙ writes_alone m shown.first shown.others shown.connections shown.idle (change_made (written x));
     all = first.1;
     sees = ap (λ (t : Transaction). seen_in t (files_of old)) is;
+    database = ap (database_of m) (first_is m shown.first shown.others shown.connections ∙ first.0);
   }
   opens_alone old m shown x transaction.Begun is idle first = absurd (false≢true idle)
   opens_alone old m shown x (transaction.Reading s) is idle first = absurd (false≢true idle)
@@ -184,12 +165,14 @@ module _ {D : Type 0} {g : Ghosts D} where
     comes = write_outcome_of x m (InTransactionOf false [] NoSnapshot) (first_is m shown.first shown.others shown.connections ∙ first.0) ∙ writes_begun m shown.first shown.others shown.connections shown.idle (change_made (written x));
     all = first.1;
     sees = ap (λ (t : Transaction). seen_in t (files_of old)) is;
+    database = ap (database_of m) (first_is m shown.first shown.others shown.connections ∙ first.0);
   }
   opens_reading old m shown x (transaction.Reading s) is reads first = record {
     ends = finish_in m shown.first shown.others shown.connections;
     comes = write_outcome_of x m (InTransactionOf false [] (Reads (last_place m))) (first_is m shown.first shown.others shown.connections ∙ first.0) ∙ writes_behind_reads m shown.first shown.others shown.connections shown.idle (change_made (written x));
     all = first.1;
     sees = ap (λ (t : Transaction). seen_in t (files_of old)) is;
+    database = ap (database_of m) (first_is m shown.first shown.others shown.connections ∙ first.0);
   }
   opens_reading old m shown x (transaction.Writing w) is reads first = absurd (false≢true reads)
 
@@ -198,11 +181,10 @@ module _ {D : Type 0} {g : Ghosts D} where
       → (finish : Machine → Work → Outcome) → ((m : Machine) → RepresentsRunning old m → Opening old m x (finish m)) → StepsOn old (written x) (Refused (refusal_of f)) new
   not_begun old new x f supported_forms reads why finish opens m shown =
       let opened = opens m shown in
-      refused old new m x (finish m) shown (reads.files shown.told) (still_shown old new m shown (reads.files shown.told) reads.failed reads.catalog reads.transaction) supported_forms opened.ends (newest m) opened.comes f (short (why m shown))
+      refused old new m x (finish m) shown (reads.files shown.told) (still_shown old new m shown (reads.files shown.told) reads.failed reads.catalog reads.transaction) supported_forms opened.ends (newest m) opened.database opened.comes f (short (why m shown))
     where
-      short : (f ≡ fault.Memory) ⊎ (f ≡ fault.Io) → IsErrorCause (FindsNoRoom old (written x)) (change_made (written x) (newest m)) f
-      short (inl memory) = inl memory
-      short (inr io) = inr (inr (inl io))
+      short : (f ≡ fault.Memory) ⊎ (f ≡ fault.Io) → IsErrorCause (CannotStoreIn old (written x) (newest m)) (change_made (written x) (newest m)) f
+      short out = inl (inl out)
 
   abbrev pub Started : Connections D g → Connections D g → Writer → Snapshot → Type 0
   Started old mid w s = StartsWriting old (with_transaction mid (transaction.Writing w)) w s
@@ -211,28 +193,30 @@ module _ {D : Type 0} {g : Ghosts D} where
   begun_works old mid m shown w s start all = record {
     told = start.files.told;
     settled = still_settled (files_of old) (files_of mid) start.files shown.settled;
-    writer = writer_begins old (with_transaction mid (transaction.Writing w)) w s start;
-    stored = subst (λ (c : Catalog). Stores (view_of (files_of mid) w) (tables_of c) (newest m)) (sym start.catalog)
+    writer = writer_begins old (with_transaction mid (transaction.Writing w)) w s start shown.stored.served;
+    stored = subst (λ (c : Catalog). ShowsDatabase (view_of (files_of mid) w) (tables_of c) (newest m)) (sym start.catalog)
         (writer_stores old (with_transaction mid (transaction.Writing w)) w s (tables_of old.catalog) (newest m) start (all_listed old m shown all));
     listed = subst (λ (c : Catalog). committed_in c ≤ length (tables_of c)) (sym start.catalog) shown.listed;
   }
 
-  begun_room : (old mid : Connections D g) (w : Writer) (s : Snapshot) (x : Write) → Started old mid w s → seen_in old.transaction (files_of old) ≡ newest_view (files_of old)
-      → (made : Database) → LacksRoom (view_of (files_of mid) w) (tables_of mid.catalog) (written x) made → FindsNoRoom old (written x) made
-  begun_room old mid w s x start sees made none =
-      let here = subst (λ (c : Catalog). LacksRoom (view_of (files_of mid) w) (tables_of c) (written x) made) start.catalog none in
-      let over : LacksRoom (seen (view_at (files_of old) s) w) (tables_of old.catalog) (written x) made =
-      subst (λ (v : View). LacksRoom (seen v w) (tables_of old.catalog) (written x) made) (ap (view_at (files_of mid)) start.stands ∙ start.files.at s) here in
-      subst (λ (v : View). LacksRoom v (tables_of old.catalog) (written x) made) (at_newest (files_of old) s start.newest ∙ sym sees)
-      (same_room (view_at (files_of old) s) (seen (view_at (files_of old) s) w) (tables_of old.catalog) x made start.begun.size start.begun.sees over)
+  -- a writer that has begun sees the pages of the newest commit
+  begun_pages : (old mid : Connections D g) (w : Writer) (s : Snapshot) → Started old mid w s → pages_in (view_of (files_of mid) w) ≡ pages_in (newest_view (files_of old))
+  begun_pages old mid w s start =
+      ap (λ (v : View). pages_in (seen v w)) (ap (view_at (files_of mid)) start.stands ∙ start.files.at s)
+      ∙ maps_alike (seen (view_at (files_of old) s) w) (view_at (files_of old) s) start.begun.size start.begun.sees
+      ∙ ap pages_in (at_newest (files_of old) s start.newest)
+
+  begun_size : (old mid : Connections D g) (w : Writer) (s : Snapshot) → Started old mid w s → (view_of (files_of mid) w).page_size ≡ (newest_view (files_of old)).page_size
+  begun_size old mid w s start = ap (λ (k : LogState). k.page_size) start.files.known
 
   -- where the write after it is refused
-  pub begun_refused : (old mid after : Connections D g) (w left : Writer) (s : Snapshot) (x : Write) (f : Fault) → is_supported (written x) ≡ true → mid.transaction ≡ old.transaction
-      → ((m : Machine) → RepresentsRunning old m → Started old mid w s) → ((db : Database) → CanApply mid w db → IsNotApplied (written x) mid w db after left f)
+  pub begun_refused : (old mid after : Connections D g) (w : Writer) (s : Snapshot) (x : Write) (f : Fault) → is_supported (written x) ≡ true → mid.transaction ≡ old.transaction
+      → ((m : Machine) → RepresentsRunning old m → Started old mid w s) → ((db : Database) → CanApply mid w db → IsNotApplied (written x) mid w db after f)
       → (finish : Machine → Work → Outcome) → ((m : Machine) → RepresentsRunning old m → Opening old m x (finish m)) → StepsOn old (written x) (Refused (refusal_of f)) after
-  begun_refused old mid after w left s x f supported_forms beside starts applies finish opens m shown =
-      refused old after m x (finish m) shown same still supported_forms opened.ends (newest m) opened.comes f
-      (why_of (FindsNoRoom old (written x)) (written x) mid w (newest m) f (begun_room old mid w s x start opened.sees) has.why)
+  begun_refused old mid after w s x f supported_forms beside starts applies finish opens m shown =
+      refused old after m x (finish m) shown same still supported_forms opened.ends (newest m) opened.database opened.comes f
+      (why_of (written x) (seen_in old.transaction (files_of old)) (view_of (files_of mid) w) (newest m) f
+      (begun_pages old mid w s start ∙ ap pages_in (sym opened.sees)) (begun_size old mid w s start ∙ ap (λ (v : View). v.page_size) (sym opened.sees)) has.why)
     where
       opened : Opening old m x (finish m)
       opened = opens m shown
@@ -240,7 +224,7 @@ module _ {D : Type 0} {g : Ghosts D} where
       start : Started old mid w s
       start = starts m shown
 
-      has : IsNotApplied (written x) mid w (newest m) after left f
+      has : IsNotApplied (written x) mid w (newest m) after f
       has = applies (newest m) (begun_works old mid m shown w s start opened.all)
 
       same : ShowTheSame (files_of old) (files_of after)
@@ -249,11 +233,15 @@ module _ {D : Type 0} {g : Ghosts D} where
       committed : committed_in after.catalog ≡ committed_in old.catalog
       committed = has.kept.committed ∙ ap committed_in start.catalog
 
+      tables : tables_of after.catalog ≡ tables_of old.catalog
+      tables = has.tables ∙ ap tables_of start.catalog
+
       still : RepresentsRunning after m
       still = stays old after m shown same (has.kept.failed ∙ start.failed) committed
-          (subst (λ (c : Catalog). take (committed_in c) (tables_of after.catalog) ≡ take (committed_in c) (tables_of c)) start.catalog has.kept.tables) has.applies.listed
+          (subst (λ (c : Catalog). take (committed_in c) (tables_of after.catalog) ≡ take (committed_in c) (tables_of c)) start.catalog has.kept.tables)
+          (subst (λ (ts : List Table). committed_in after.catalog ≤ length ts) (sym tables) (subst (λ (n : ℕ). n ≤ length (tables_of old.catalog)) (sym committed) shown.listed))
           (subst (λ (t : Transaction). IsTransaction (files_of after) after.catalog (last_place m) t shown.first) (sym (has.kept.transaction ∙ beside))
-          (other_catalog (files_of after) old.catalog after.catalog (last_place m) old.transaction shown.first committed (has.tables ∙ ap tables_of start.catalog)
+          (other_catalog (files_of after) old.catalog after.catalog (last_place m) old.transaction shown.first committed tables
           (still_transaction (files_of old) (files_of after) old.catalog (last_place m) old.transaction shown.first same shown.transaction)))
 
   -- the first write of a transaction
@@ -262,7 +250,7 @@ module _ {D : Type 0} {g : Ghosts D} where
       → StepsOn old (written x) (Rows []) (with_transaction after (transaction.Writing left))
   begun_writes old mid after w left s x supported_forms reads starts applies m shown = record {
     next = working_on m has.made;
-    step = by_outcome (FindsNoRoom old (written x)) m (written x) supported_forms shown.running (in_transaction m (change_made (written x) (newest m))) (Rows []) (working_on m has.made) opened.comes (worked_gives m has.made (change_made (written x) (newest m)) has.reaches);
+    step = by_outcome (CannotStoreIn old (written x)) m (written x) supported_forms shown.running (in_transaction m (change_made (written x) (newest m))) (Rows []) (working_on m has.made) opened.comes (worked_gives m has.made (change_made (written x) (newest m)) has.reaches);
     shown = inr (moved old (with_transaction after (transaction.Writing left)) m (InTransactionOf false [] (Writes (last_place m) has.made)) shown
         (show_on (files_of old) (files_of mid) (files_of after) start.files has.kept.files) (has.kept.failed ∙ start.failed)
         (ap (λ n. take n (tables_of after.catalog)) has.kept.committed ∙ subst (λ (c : Catalog). take (committed_in mid.catalog) (tables_of after.catalog) ≡ take (committed_in c) (tables_of c)) start.catalog has.kept.tables)
@@ -339,32 +327,32 @@ module _ {D : Type 0} {g : Ghosts D} where
           (other_catalog (files_of new) old.catalog new.catalog (last_place m) old.transaction shown.first committed whole
           (still_transaction (files_of old) (files_of new) old.catalog (last_place m) old.transaction shown.first same shown.transaction)))
 
-      short : (f : Fault) → IsCommitCause (files_of after) left f → IsErrorCause (FindsNoRoom old (written x)) (change_made (written x) (newest m)) f
-      short f (inl memory) = inl memory
-      short f (inr full) = inr (inl full.0)
+      short : (f : Fault) → IsCommitCause (files_of after) left f → IsErrorCause (CannotStoreIn old (written x) (newest m)) (change_made (written x) (newest m)) f
+      short f (inl memory) = inl (inl (inl memory))
+      short f (inr full) = inl (inr full.0)
 
       by_result : (r : Result ⊤ Fault) → EndsAlone after left has.made r new → StepsTo old m 1 (written x) (done_reply r) new
       by_result (Ok done) ended = record {
         next = after_commit m 1 has.made;
-        step = by_outcome (FindsNoRoom old (written x)) m (written x) supported_forms shown.running (alone m (change_made (written x) (newest m))) (Rows []) (after_commit m 1 has.made) opened.comes (alone_commits m has.made (change_made (written x) (newest m)) has.reaches);
+        step = by_outcome (CannotStoreIn old (written x)) m (written x) supported_forms shown.running (alone m (change_made (written x) (newest m))) (Rows []) (after_commit m 1 has.made) opened.comes (alone_commits m has.made (change_made (written x) (newest m)) has.reaches);
         shown = inr (committed_shown old after new m shown has.made failed ended.0 (ended.0.transaction ∙ is_alone));
         crash = commit_crashes old after new m has.made shown worked committed_same ended.1;
       }
       by_result (Err f) (inl io) = record {
         next = doubted m has.made;
-        step = subst (λ (e : Fault). StepSoFar (FindsNoRoom old (written x)) m 1 (written x) (Refused (refusal_of e)) (doubted m has.made)) (sym io.io)
-            (by_outcome (FindsNoRoom old (written x)) m (written x) supported_forms shown.running (alone m (change_made (written x) (newest m))) (Refused refusal.Io) (doubted m has.made) opened.comes (alone_doubts m has.made (change_made (written x) (newest m)) has.reaches));
+        step = subst (λ (e : Fault). StepSoFar (CannotStoreIn old (written x)) m 1 (written x) (Refused (refusal_of e)) (doubted m has.made)) (sym io.io)
+            (by_outcome (CannotStoreIn old (written x)) m (written x) supported_forms shown.running (alone m (change_made (written x) (newest m))) (Refused refusal.Io) (doubted m has.made) opened.comes (alone_doubts m has.made (change_made (written x) (newest m)) has.reaches));
         shown = inl (io.failed, refl, doubt_left old after new m has.made shown worked committed_same io.held f io);
         crash = doubt_crashes old after new m has.made shown worked committed_same io.held;
       }
-      by_result (Err f) (inr gone) = refused old new m x (alone m) shown (same_gone f gone) (dropped_shown f gone) supported_forms opened.ends (newest m) opened.comes f (short f gone.why)
+      by_result (Err f) (inr gone) = refused old new m x (alone m) shown (same_gone f gone) (dropped_shown f gone) supported_forms opened.ends (newest m) opened.database opened.comes f (short f gone.why)
 
   -- ---- a write of a transaction that writes
 
   pub wrote_on : (mid after : Connections D g) (writer left : Writer) (w : Write) (result : Result ⊤ Fault) → is_supported (written w) ≡ true
-      → ((db : Database) → CanApply mid writer db → Applies (written w) mid writer db result after left)
+      → ((db : Database) → CanApply mid writer db → Applies (written w) mid writer db result after left) → IfErr result (λ f. now_of left ≡ now_of writer) → IsOverTheSame writer left
       → StepsOn (with_transaction mid (transaction.Writing writer)) (written w) (done_reply result) (with_transaction after (transaction.Writing left))
-  wrote_on mid after writer left w result supported_forms applies m shown = by_result result (applies t.0 here)
+  wrote_on mid after writer left w result supported_forms applies back over m shown = by_result result (applies t.0 here) back
     where
       old : Connections D g
       old = with_transaction mid (transaction.Writing writer)
@@ -378,19 +366,20 @@ module _ {D : Type 0} {g : Ghosts D} where
       comes : outcome m 1 (written w) ≡ in_transaction m (change_made (written w) t.0)
       comes = write_outcome_of w m (InTransactionOf false [] (Writes (last_place m) t.0)) (first_is m shown.first shown.others shown.connections ∙ t.1)
 
-      by_result : (r : Result ⊤ Fault) → Applies (written w) mid writer t.0 r after left → StepsTo old m 1 (written w) (done_reply r) (with_transaction after (transaction.Writing left))
-      by_result (Ok done) has = record {
+      by_result : (r : Result ⊤ Fault) → Applies (written w) mid writer t.0 r after left → IfErr r (λ f. now_of left ≡ now_of writer) → StepsTo old m 1 (written w) (done_reply r) (with_transaction after (transaction.Writing left))
+      by_result (Ok done) has now = record {
         next = working_on m has.made;
-        step = by_outcome (FindsNoRoom old (written w)) m (written w) supported_forms shown.running (in_transaction m (change_made (written w) t.0)) (Rows []) (working_on m has.made) comes (worked_gives m has.made (change_made (written w) t.0) has.reaches);
+        step = by_outcome (CannotStoreIn old (written w)) m (written w) supported_forms shown.running (in_transaction m (change_made (written w) t.0)) (Rows []) (working_on m has.made) comes (worked_gives m has.made (change_made (written w) t.0) has.reaches);
         shown = inr (moved old (with_transaction after (transaction.Writing left)) m (InTransactionOf false [] (Writes (last_place m) has.made)) shown has.kept.files has.kept.failed
             (ap (λ n. take n (tables_of after.catalog)) has.kept.committed ∙ has.kept.tables) has.applies.listed (has.made, refl, has.applies.writer, has.applies.stored));
         crash = crash_keeps old (with_transaction after (transaction.Writing left)) m (working_on m has.made) shown has.kept.files;
       }
-      by_result (Err f) has =
+      by_result (Err f) has now =
+          let still = went_back (written w) mid after t.0 writer left f now over here has in
           refused old (with_transaction after (transaction.Writing left)) m w (in_transaction m) shown has.kept.files
-          (stays old (with_transaction after (transaction.Writing left)) m shown has.kept.files has.kept.failed has.kept.committed has.kept.tables has.applies.listed (t.0, t.1, has.applies.writer, has.applies.stored))
-          supported_forms (finish_in m shown.first shown.others shown.connections) t.0 comes f
-          (why_of (FindsNoRoom old (written w)) (written w) mid writer t.0 f (λ made none. none) has.why)
+          (stays old (with_transaction after (transaction.Writing left)) m shown has.kept.files has.kept.failed has.kept.committed has.kept.tables still.listed (t.0, t.1, still.writer, still.stored))
+          supported_forms (finish_in m shown.first shown.others shown.connections) t.0 (ap (database_of m) (first_is m shown.first shown.others shown.connections ∙ t.1)) comes f
+          (why_of (written w) (view_of (files_of mid) writer) (view_of (files_of mid) writer) t.0 f refl refl has.why)
 
   -- a step of the connections with the transaction that they have
   pub with_own : (c new : Connections D g) (t : Transaction) (s : Statement) (reply : Reply) → c.transaction ≡ t → StepsOn (with_transaction c t) s reply new → StepsOn c s reply new

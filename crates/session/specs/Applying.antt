@@ -14,12 +14,13 @@ use Rattle.wal.specs.declared.log.Log.{Log}
 use Rattle.pager.specs.Limits.{pages_of}
 use Rattle.pager.specs.Views.{Tells, changes_of, newest_view}
 use Rattle.pager.specs.declared.writer.Writer.{Writer}
-use Rattle.session.specs.Changing.{Listing, CanChange, IsChangeRefusal, listing}
+use Rattle.session.specs.Changing.{Listing, CanChange, RefusesChange, listing}
 use Rattle.storage.specs.Works.{Reaches, change_made}
 use Rattle.session.specs.Holding.{HoldThroughout, IsSettled}
 use Rattle.session.specs.ConnectionState.{files_of, has_failed_in}
-use Rattle.session.specs.Representation.{AreCommitted, ShowTheSame}
-use Rattle.session.specs.Stored.{Stores}
+use Rattle.session.specs.Representation.{ShowTheSame}
+use Rattle.storage.specs.Stored.{AreCommitted}
+use Rattle.session.specs.Stored.{ShowsDatabase}
 use Rattle.session.specs.declared.transactions.Connections.{Connections}
 
 module _ {D : Type 0} {g : Ghosts D} where
@@ -48,17 +49,16 @@ module _ {D : Type 0} {g : Ghosts D} where
     pub reaches : Reaches (change_made s db) made
     pub applies : CanApply new left made
 
-  -- the statement was refused, and the connections and its writer have what they had
-  pub record IsNotApplied (s : Statement) (old : Connections D g) (writer : Writer) (db : Database) (new : Connections D g) (left : Writer) (f : Fault) : Type 0 where
+  -- the statement was refused, and the connections have what they had
+  pub record IsNotApplied (s : Statement) (old : Connections D g) (writer : Writer) (db : Database) (new : Connections D g) (f : Fault) : Type 0 where
     pub kept : KeepsCommitted old new
     pub tables : tables_of new.catalog ≡ tables_of old.catalog
-    pub applies : CanApply new left db
-    pub why : IsChangeRefusal s (listing_of old) writer db f
+    pub why : RefusesChange s (listing_of old) writer db f
 
-  -- what a statement's write has come to
+  -- what a statement's write has come to; after a refusal the writer's pages may be any
   abbrev pub Applies : Statement → Connections D g → Writer → Database → Result ⊤ Fault → Connections D g → Writer → Type 0
   Applies s old writer db (Ok done) new left = IsApplied s old db new left
-  Applies s old writer db (Err f) new left = IsNotApplied s old writer db new left f
+  Applies s old writer db (Err f) new left = IsNotApplied s old writer db new f
 
   -- ---- a commit
 
@@ -70,12 +70,12 @@ module _ {D : Type 0} {g : Ghosts D} where
     pub transaction : new.transaction ≡ old.transaction
     pub tables : tables_of new.catalog ≡ tables_of old.catalog
     pub all : AreCommitted new.catalog
-    pub stored : Stores (newest_view (files_of new)) (tables_of new.catalog) db
+    pub stored : ShowsDatabase (newest_view (files_of new)) (tables_of new.catalog) db
 
   -- At each moment of a commit a crash leaves the database that was the newest before it, or this one.
   abbrev pub HoldsEither : Connections D g → Database → Connections D g → Type 0
   HoldsEither old db new =
-      (was : Database) → Stores (newest_view (files_of old)) (take (committed_in old.catalog) (tables_of old.catalog)) was → HoldThroughout (λ d. (d ≡ was) ⊎ (d ≡ db)) (files_of old) (files_of new)
+      (was : Database) → ShowsDatabase (newest_view (files_of old)) (take (committed_in old.catalog) (tables_of old.catalog)) was → HoldThroughout (λ d. (d ≡ was) ⊎ (d ≡ db)) (files_of old) (files_of new)
 
   -- a call of a disk has failed, so that it is open which of the two the files hold
   pub record IsInDoubt (old : Connections D g) (db : Database) (new : Connections D g) (f : Fault) : Type 0 where

@@ -1,12 +1,13 @@
 -- What connections answer before they look at a statement, and what they hold.
-use Rattle.std.specs.Prelude.{◌≡◌, ◌⊎◌, ◌<◌, ℕ, Bool, true, false, Result, Ok, Err, ◌==◌, ◌||◌, nat_lt, ⊤, if◌then◌else◌}
+use Rattle.std.specs.Prelude.{◌≡◌, ◌⊎◌, ◌<◌, ℕ, Bool, true, false, Result, Ok, Err, ◌==◌, ◌||◌, nat_lt, ⊤, IsTrue, if◌then◌else◌}
 use Rattle.disk.specs.declared.device.Disk.{Ghosts}
 use Rattle.sqlval.specs.declared.fault.Fault.{Fault}
 use Rattle.sqlval.specs.declared.fault.Fault.TheVariants.{Failed, Io, Misuse, Unsupported}
 use Rattle.sqlval.specs.declared.fault.Feature.TheVariants as feature
 use Rattle.sqlval.specs.declared.fault.Misuse.TheVariants.{Connection}
 use Rattle.session.specs.declared.transactions.Connections.{Connections}
-use Rattle.wal.specs.ErrorCauses.{HasCause}
+use Rattle.pages.specs.Calls.{Causes}
+use Rattle.pager.specs.Sights.{failures_of}
 use Rattle.wal.specs.declared.log.Log.{Log}
 
 -- no connection has this number
@@ -27,6 +28,11 @@ abbrev pub AnswersUnsupported : {A : Type 0} → Result A Fault → Type 0
 AnswersUnsupported result = (result ≡ Err (Unsupported feature.StatementForm)) ⊎ (result ≡ Err (Unsupported feature.Connection))
 
 module _ {D : Type 0} {g : Ghosts D} where
+  -- The counts of the two files' failed calls haven't fallen. A refusal has its cause: `Io` comes only where one of them rose, `Full` only
+  -- where it may.
+  abbrev pub HasCause : {T : Type 0} → Bool → Result T Fault → Log D g → Log D g → Type 0
+  HasCause may_be_full result old new = Causes result (failures_of old) (failures_of new) (IsTrue may_be_full)
+
   -- a commit has failed, so that the files are to be opened anew
   abbrev pub has_failed_in : Connections D g → Bool
   has_failed_in connections = connections.has_failed
@@ -35,6 +41,6 @@ module _ {D : Type 0} {g : Ghosts D} where
   abbrev pub files_of : Connections D g → Log D g
   files_of connections = connections.log
 
-  -- a refusal has its cause, by the counts of the two files' failed calls
+  -- the same of connections
   abbrev pub HasCauseIn : {T : Type 0} → Bool → Result T Fault → Connections D g → Connections D g → Type 0
   HasCauseIn may_be_full result old new = HasCause may_be_full result (files_of old) (files_of new)

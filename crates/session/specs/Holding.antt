@@ -4,23 +4,19 @@ use Rattle.disk.specs.File.{Version, IsLeft, IsSynced, IsContentLeft, Throughout
 use Rattle.disk.specs.declared.device.Disk.{Ghosts}
 use Rattle.dbheader.specs.Header.{IsHeader, counted_of}
 use Rattle.dbheader.specs.declared.fields.Header.{Header}
-use Rattle.page.specs.Leaf.{Entry}
-use Rattle.pages.specs.Map.{PageMap, page_at, Has}
-use Rattle.tabletree.specs.SingleLeaf.{IsSingleLeaf}
 use Rattle.wal.specs.Committed.{HasCommits}
 use Rattle.wal.specs.LogState.{db_of, state_of, log_of}
 use Rattle.wal.specs.Sizes.{IsViewSize}
-use Rattle.wal.specs.View.{IsFilesView}
 use Rattle.wal.specs.Crashes.{HasNoChance}
 use Rattle.wal.specs.declared.log.Log.{Log}
 use Rattle.catalog.specs.Database.{Database}
 use Rattle.catalog.specs.declared.tables.Table.{Table}
 use Rattle.pager.specs.Views.{View, IsViewPage, newest_view}
 use Rattle.filecheck.specs.Files.{FilesStandFor}
-use Rattle.session.specs.Language.{supported_language}
+use Rattle.storage.specs.Language.{supported_language}
 use Rattle.session.specs.Machine.{Machine}
 use Rattle.session.specs.Crashes.{MayShow}
-use Rattle.session.specs.Stored.{HasNoFreePage, Stores}
+use Rattle.session.specs.Stored.{ShowsDatabase}
 
 -- Opening finds the view: the database file begins with a header of the view's page size, the view is as large as its last commit
 -- says, or that header where there is none, and page 1 counts so many pages, where its count holds.
@@ -36,21 +32,9 @@ pub record IsFound (view : View) : Type 0 where
   pub header_is : IsHeader page header
   pub counted : MatchOption (counted_of header) (⊤) (λ count. count ≡ view.size)
 
--- Each page is a leaf of whole rows, and none is free: so each tree is one page. What is supported so far has no other files.
-pub record IsThin (pages : PageMap) : Type 0 where
-  pub leaves : (number : ℕ) → Has pages number → (rows : List Entry) × IsSingleLeaf (page_at pages number) number rows
-  pub header : Header
-  pub header_is : IsHeader (page_at pages 1) header
-  pub none_free : HasNoFreePage header
-
--- so are the pages that two files make
-abbrev pub AreThin : List ℕ → List ℕ → Type 0
-AreThin db log = (header : Header) (pages : PageMap) → IsHeader db header → IsFilesView header.page_size (counted_of header) db log pages → IsThin pages
-
--- The contents of a database file and its log hold this database: it is what they stand for, and what is supported so far has it so.
-pub record Hold (db log : List ℕ) (database : Database) : Type 0 where
-  pub stand : FilesStandFor supported_language db log database
-  pub thin : AreThin db log
+-- The contents of a database file and its log hold this database: it is what they stand for, as far as it is supported so far.
+abbrev pub Hold : List ℕ → List ℕ → Database → Type 0
+Hold db log database = FilesStandFor supported_language db log database
 
 -- The same by a view: the log's committed frames over the file's pages make one that opening finds, and it stores the database.
 pub record StoreFiles (db log : List ℕ) (database : Database) : Type 0 where
@@ -59,7 +43,7 @@ pub record StoreFiles (db log : List ℕ) (database : Database) : Type 0 where
   pub commits : HasCommits view.page_size log view.frames
   pub found : IsFound view
   pub tables : List Table
-  pub stored : Stores view tables database
+  pub stored : ShowsDatabase view tables database
 
 -- Each pair of files that a crash may leave of these versions, where no frame of the log is accepted by chance, holds a database that
 -- may be shown.

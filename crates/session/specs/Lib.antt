@@ -1,7 +1,6 @@
 pub mod Supported
 pub mod Laws
 pub mod Machine
-pub mod NewTables
 pub mod Outcomes
 pub mod Steps
 pub mod Crashes
@@ -10,7 +9,6 @@ pub mod ConnectionState
 pub mod Limits
 pub mod Representation
 pub mod Stored
-pub mod Language
 pub mod Holding
 pub mod Changing
 pub mod Reading

@@ -8,5 +8,6 @@ use Rattle.syntax.specs.declared.statement.Statement.TheVariants as statement
 abbrev pub may_be_full : Statement → Bool
 may_be_full (statement.Create c) = true
 may_be_full (statement.Change (change.Insert i)) = true
+may_be_full (statement.Change (change.Delete d)) = true
 may_be_full statement.Commit = true
 may_be_full _ = false

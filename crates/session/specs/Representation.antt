@@ -2,9 +2,8 @@
 use Rattle.std.specs.Prelude.{◌≡◌, ◌⊎◌, ◌<◌, ◌≤◌, ⊤, ℕ, Bool, true, false, List, [], ◌∷◌, length, map, take, None, Result, Ok, Err, Vec, Contains}
 use Rattle.std.specs.declared.alloc.Global.{Global}
 use Rattle.smallvec.specs.SmallVec.{SmallVec}
-use Rattle.sqlval.specs.Refusals.{Answer, refusal_of}
+use Rattle.sqlval.specs.Refusals.{Refusal, refusal_of}
 use Rattle.sqlval.specs.declared.fault.Fault.{Fault}
-use Rattle.sqlval.specs.declared.fault.Fault.TheVariants as fault
 use Rattle.sqlval.specs.declared.value.Value.{Value}
 use Rattle.std.specs.List.{AllByRecursion}
 use Rattle.disk.specs.declared.device.Disk.{Ghosts}
@@ -15,19 +14,19 @@ use Rattle.wal.specs.LogState.{db_of, state_of, log_of, seen_by, size_of}
 use Rattle.catalog.specs.Listed.{committed_in, tables_of}
 use Rattle.catalog.specs.declared.tables.Catalog.{Catalog}
 use Rattle.catalog.specs.Database.{Database}
-use Rattle.bind.specs.Checked.{Checked, Meant, faults}
 use Rattle.rowprog.specs.Rows.{values_of}
-use Rattle.wal.specs.Laws.{IsNotAmong}
-use Rattle.pager.specs.Limits.{page_size_of, pages_of}
-use Rattle.pager.specs.Views.{View, Tells, changes_of, newest_view, view_at, view_of}
-use Rattle.pager.specs.Writers.{IsConsistent, snapshot_of}
+use Rattle.pager.specs.Limits.{page_size_of}
+use Rattle.pager.specs.Views.{View, Tells, newest_view, view_at, view_of}
+use Rattle.pager.specs.Sound.{IsSound}
+use Rattle.pager.specs.Writers.{snapshot_of}
 use Rattle.pager.specs.declared.writer.Writer.{Writer}
 use Rattle.session.specs.Supported.{StepSoFar}
 use Rattle.session.specs.Holding.{HoldThroughout, IsLeftBy, IsSettled}
 use Rattle.session.specs.ConnectionState.{files_of, has_failed_in}
 use Rattle.session.specs.Machine.{Machine, Connection, Idle, InTransactionOf, NoSnapshot, Reads, Writes, Reply, Rows, Refused, last_place, newest}
 use Rattle.session.specs.Crashes.{MayShow}
-use Rattle.session.specs.Stored.{LacksRoom, Stores}
+use Rattle.storage.specs.Stored.{AreCommitted}
+use Rattle.session.specs.Stored.{CannotStore, ShowsDatabase}
 use Rattle.session.specs.declared.transactions.Connections.{Connections}
 use Rattle.session.specs.declared.transactions.Transaction.{Transaction}
 use Rattle.session.specs.declared.transactions.Transaction.TheVariants as transaction
@@ -40,16 +39,6 @@ rows_reply (Err fault) = Refused (refusal_of fault)
 abbrev pub done_reply : Result ⊤ Fault → Reply
 done_reply (Ok done) = Rows []
 done_reply (Err fault) = Refused (refusal_of fault)
-
--- What a call answered is the answer, or its refusal; or memory was short, or a disk's call failed.
-abbrev pub AnswersOrFails : Answer (List (List Value)) → Result (Vec (SmallVec Value) Global) Fault → Type 0
-AnswersOrFails answer (Ok rows) = answer ≡ Ok (map values_of rows.items)
-AnswersOrFails answer (Err f) = (f ≡ fault.Memory) ⊎ (f ≡ fault.Io) ⊎ answer ≡ Err (refusal_of f)
-
--- What a call answered of a query is what reading it comes to, or one of its refusals; or memory was short, or a disk's call failed.
-abbrev pub AnswersRead : Checked (Answer (List (List Value))) → Result (Vec (SmallVec Value) Global) Fault → Type 0
-AnswersRead read (Ok rows) = read ≡ Meant (Ok (map values_of rows.items)) []
-AnswersRead read (Err f) = (f ≡ fault.Memory) ⊎ (f ≡ fault.Io) ⊎ Contains (faults read) (refusal_of f) ⊎ read ≡ Meant (Err (refusal_of f)) []
 
 -- there is no transaction
 abbrev pub is_idle : Transaction → Bool
@@ -67,10 +56,6 @@ is_reading transaction.Begun = true
 is_reading (transaction.Reading snapshot) = true
 is_reading _ = false
 
--- no table waits to be committed
-abbrev pub AreCommitted : Catalog → Type 0
-AreCommitted catalog = committed_in catalog ≡ length (tables_of catalog)
-
 module _ {D : Type 0} {g : Ghosts D} where
   -- the snapshot is of the newest commit
   pub record IsNewest (files : Log D g) (snapshot : Snapshot) : Type 0 where
@@ -80,10 +65,8 @@ module _ {D : Type 0} {g : Ghosts D} where
   -- the writer's changes can be committed over the newest commit
   pub record IsWriter (files : Log D g) (writer : Writer) : Type 0 where
     pub newest : IsNewest files (snapshot_of writer)
-    pub whole : IsConsistent writer
+    pub sound : IsSound writer
     pub page_size : page_size_of writer ≡ (state_of files).page_size
-    -- each page past the snapshot's size is one of its changes
-    pub grown : (number : ℕ) → (state_of files).size < number → number ≤ pages_of writer → IsNotAmong (changes_of writer) number → ⊥
 
   -- How far the transaction of the first connection has come, where this is the place of the newest commit. It alone is supported so
   -- far, so that commit is what it reads.
@@ -92,7 +75,7 @@ module _ {D : Type 0} {g : Ghosts D} where
   IsTransaction files catalog last transaction.Begun k = (k ≡ InTransactionOf false [] NoSnapshot) × AreCommitted catalog
   IsTransaction files catalog last (transaction.Reading snapshot) k = (k ≡ InTransactionOf false [] (Reads last)) × AreCommitted catalog × IsNewest files snapshot
   IsTransaction files catalog last (transaction.Writing writer) k =
-      (db : Database) × (k ≡ InTransactionOf false [] (Writes last db)) × IsWriter files writer × Stores (view_of files writer) (tables_of catalog) db
+      (db : Database) × (k ≡ InTransactionOf false [] (Writes last db)) × IsWriter files writer × ShowsDatabase (view_of files writer) (tables_of catalog) db
 
   -- The files hold the newest of the committed databases, the catalog lists its tables, and the first connection is where its
   -- transaction is.
@@ -104,7 +87,7 @@ module _ {D : Type 0} {g : Ghosts D} where
     pub settled : IsSettled (files_of c)
     pub some : 1 ≤ length m.history
     pub listed : committed_in c.catalog ≤ length (tables_of c.catalog)
-    pub stored : Stores (newest_view (files_of c)) (take (committed_in c.catalog) (tables_of c.catalog)) (newest m)
+    pub stored : ShowsDatabase (newest_view (files_of c)) (take (committed_in c.catalog) (tables_of c.catalog)) (newest m)
     pub first : Connection
     pub others : List Connection
     pub connections : m.connections ≡ first ∷ others
@@ -124,14 +107,14 @@ module _ {D : Type 0} {g : Ghosts D} where
   seen_in (transaction.Writing writer) files = view_of files writer
   seen_in _ files = newest_view files
 
-  -- the databases that a statement would leave and that find no room, where the first connection sees these pages
-  abbrev pub FindsNoRoom : Connections D g → Statement → Database → Type 0
-  FindsNoRoom c = LacksRoom (seen_in c.transaction (files_of c)) (tables_of c.catalog)
+  -- the same of the pages that the first connection sees
+  abbrev pub CannotStoreIn : Connections D g → Statement → Database → Refusal → Type 0
+  CannotStoreIn c = CannotStore (seen_in c.transaction (files_of c))
 
   -- This is a step from a machine to one that is shown after it, and at each moment of it a crash leaves a database that they may show.
   pub record StepsTo (old : Connections D g) (m : Machine) (connection : ℕ) (statement : Statement) (reply : Reply) (new : Connections D g) : Type 0 where
     pub next : Machine
-    pub step : StepSoFar (FindsNoRoom old statement) m connection statement reply next
+    pub step : StepSoFar (CannotStoreIn old statement) m connection statement reply next
     pub shown : Represents new next
     pub crash : HoldThroughout (MayShow m next) (files_of old) (files_of new)
 

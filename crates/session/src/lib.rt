@@ -6,7 +6,6 @@ mod changes;
 mod forms;
 mod laws;
 mod reads;
-mod tables;
 mod transactions;
 
 ghost use Rattle.session.specs.Laws.{LeavesOthers, RefusalsAddNothing};

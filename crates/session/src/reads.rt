@@ -1,24 +1,23 @@
 //! The reading of queries: on a snapshot, or with the changes of a writer.
 
-ghost use Rattle.std.specs.Prelude.{◌≡◌, ◌≤◌, ℕ, List, All, Some, true, false};
-ghost use Rattle.bind.specs.Bound.{IsOf};
+ghost use Rattle.std.specs.Prelude.{◌≡◌, ◌≤◌, map, true, false};
 ghost use Rattle.catalog.specs.Database.{Database};
 ghost use Rattle.catalog.specs.Listed.{tables_of};
-ghost use Rattle.pager.specs.Views.{IsViewPage, Tells, view_at, view_of};
-ghost use Rattle.rowprog.specs.Rows.{Holds, TableRow, answers_of};
-ghost use Rattle.wal.specs.ErrorCauses.{HasCause};
+ghost use Rattle.pager.specs.Views.{Tells, view_at, view_of};
+ghost use Rattle.rowprog.specs.Rows.{values_of};
 ghost use Rattle.wal.specs.LogState.{state_of, seen_by};
-ghost use Rattle.storage.specs.Works.{read_on};
-ghost use Rattle.session.specs.Reading.{IsSightOf, view_by};
-ghost use Rattle.session.specs.Representation.{AnswersOrFails, AnswersRead, IsWriter, ShowTheSame};
-ghost use Rattle.session.specs.Stored.{Stores};
 ghost use Rattle.storage.specs.Forms.{is_query_supported};
+ghost use Rattle.storage.specs.Reading.{AnswersRead};
+ghost use Rattle.storage.specs.Works.{read_on};
+ghost use Rattle.session.specs.ConnectionState.{HasCause};
+ghost use Rattle.session.specs.Reading.{IsSightOf, view_by};
+ghost use Rattle.session.specs.Representation.{IsWriter, ShowTheSame};
+ghost use Rattle.session.specs.Stored.{ShowsDatabase};
 
-use bind::{BoundSource, Output, bind_query};
 use catalog::Catalog;
 use disk::Disk;
-use pager::{Writer, read_page};
-use rowprog::{Rows, Scan, plan_of, single_row, table_rows};
+use pager::{Reading, Viewing, Writer};
+use rowprog::Rows;
 use sqlval::R;
 use std::alloc::Global;
 use syntax::Query;
@@ -32,68 +31,58 @@ pub enum Sight<'a> {
     Writer(&'a Writer),
 }
 
-/// The rows of a table on a snapshot.
-fn rows_on<D: Disk + Drop>(
+/// The rows of a query on a snapshot.
+fn read_snapshot<D: Disk + Drop>(
     alloc: Global,
     log: &mut Log<D>,
+    buffer: &mut Vec<u8>,
+    catalog: &Catalog,
     snapshot: Snapshot,
-    source: BoundSource,
-    outputs: &[Output],
+    query: &Query,
 ) -> R<Rows>
     ensures cause { HasCause false result log.old log.new }
     ensures same { Tells log.old → ShowTheSame log.old log.new }
-    ensures answered { (page : List ℕ) (rows : List TableRow) → Tells log.old → seen_by snapshot ≤ (state_of log.old).frames
-        → IsViewPage (view_at log.old snapshot) source.root page → Holds page source.root source.width rows
-        → All (IsOf (Some source.width)) outputs.now → AnswersOrFails (answers_of outputs.now rows) result }
+    ensures answered { (db : Database) → Tells log.old → seen_by snapshot ≤ (state_of log.old).frames
+        → ShowsDatabase (view_at log.old snapshot) (tables_of catalog.now) db
+        → is_query_supported query.now ≡ true → AnswersRead (λ rows. map values_of rows.items) (read_on db query.now) result }
 {
-    let page = read_page(alloc, log, snapshot, source.root)?;
-    table_rows(alloc, &page, source, outputs)
+    let mut pages = Reading {
+        log,
+        snapshot,
+        buffer,
+    };
+    storage::read(alloc, &mut pages, catalog, query)
 }
 
-/// The rows of a table as a writer sees them.
-fn rows_with<D: Disk + Drop>(
+/// The rows of a query as a writer sees them.
+fn read_changes<D: Disk + Drop>(
     alloc: Global,
     log: &mut Log<D>,
+    buffer: &mut Vec<u8>,
+    catalog: &Catalog,
     writer: &Writer,
-    source: BoundSource,
-    outputs: &[Output],
+    query: &Query,
 ) -> R<Rows>
     ensures cause { HasCause false result log.old log.new }
     ensures same { Tells log.old → ShowTheSame log.old log.new }
-    ensures answered { (page : List ℕ) (rows : List TableRow) → Tells log.old → IsWriter log.old writer.now
-        → IsViewPage (view_of log.old writer.now) source.root page → Holds page source.root source.width rows
-        → All (IsOf (Some source.width)) outputs.now → AnswersOrFails (answers_of outputs.now rows) result }
+    ensures answered { (db : Database) → Tells log.old → IsWriter log.old writer.now
+        → ShowsDatabase (view_of log.old writer.now) (tables_of catalog.now) db
+        → is_query_supported query.now ≡ true → AnswersRead (λ rows. map values_of rows.items) (read_on db query.now) result }
 {
-    if let Some(page) = writer.find(source.root) {
-        return table_rows(alloc, page, source, outputs);
-    }
-    rows_on(alloc, log, writer.snapshot(), source, outputs)
-}
-
-/// The rows of a table.
-fn rows_of<D: Disk + Drop>(
-    alloc: Global,
-    log: &mut Log<D>,
-    sight: Sight<'_>,
-    source: BoundSource,
-    outputs: &[Output],
-) -> R<Rows>
-    ensures cause { HasCause false result log.old log.new }
-    ensures same { Tells log.old → ShowTheSame log.old log.new }
-    ensures answered { (page : List ℕ) (rows : List TableRow) → Tells log.old → IsSightOf log.old sight.entry
-        → IsViewPage (view_by log.old sight.entry) source.root page → Holds page source.root source.width rows
-        → All (IsOf (Some source.width)) outputs.now → AnswersOrFails (answers_of outputs.now rows) result }
-{
-    match sight {
-        Sight::Snapshot(snapshot) => rows_on(alloc, log, snapshot, source, outputs),
-        Sight::Writer(writer) => rows_with(alloc, log, writer, source, outputs),
-    }
+    let mut pages = Viewing {
+        log,
+        writer,
+        buffer,
+        place: None,
+    };
+    storage::read(alloc, &mut pages, catalog, query)
 }
 
 /// The rows of a query.
 pub fn read<D: Disk + Drop>(
     alloc: Global,
     log: &mut Log<D>,
+    buffer: &mut Vec<u8>,
     catalog: &Catalog,
     sight: Sight<'_>,
     query: &Query,
@@ -101,12 +90,11 @@ pub fn read<D: Disk + Drop>(
     ensures cause { HasCause false result log.old log.new }
     ensures same { Tells log.old → ShowTheSame log.old log.new }
     ensures answered { (db : Database) → Tells log.old → IsSightOf log.old sight.entry
-        → Stores (view_by log.old sight.entry) (tables_of catalog.now) db
-        → is_query_supported query.now ≡ true → AnswersRead (read_on db query.now) result }
+        → ShowsDatabase (view_by log.old sight.entry) (tables_of catalog.now) db
+        → is_query_supported query.now ≡ true → AnswersRead (λ rows. map values_of rows.items) (read_on db query.now) result }
 {
-    let plan = plan_of(bind_query(alloc, query, catalog)?);
-    match plan.scan {
-        Scan::Once => single_row(alloc, &plan.outputs),
-        Scan::Table(source) => rows_of(alloc, log, sight, source, &plan.outputs),
+    match sight {
+        Sight::Snapshot(snapshot) => read_snapshot(alloc, log, buffer, catalog, snapshot, query),
+        Sight::Writer(writer) => read_changes(alloc, log, buffer, catalog, writer, query),
     }
 }

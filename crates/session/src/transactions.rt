@@ -1,12 +1,13 @@
 //! The connections: whose transaction reads what, and what is committed.
 
-ghost use Rattle.std.specs.Prelude.{◌≡◌, ◌&&◌, Ok, Err, IfErr, true, false, IsTrue, IsFalse};
+ghost use Rattle.std.specs.Prelude.{◌≡◌, ◌&&◌, map, Ok, Err, IfErr, true, false, IsTrue, IsFalse};
 ghost use Rattle.sqlval.specs.declared.fault.Fault.TheVariants.{Memory};
-ghost use Rattle.pager.specs.Marks.{marks_of, now_of};
+ghost use Rattle.pager.specs.Marks.{IsOverTheSame, marks_of, now_of};
 ghost use Rattle.pager.specs.Views.{Tells, newest_view};
-ghost use Rattle.session.specs.Representation.{AnswersRead};
+ghost use Rattle.storage.specs.Reading.{AnswersRead};
+ghost use Rattle.rowprog.specs.Rows.{values_of};
 ghost use Rattle.storage.specs.Schema.{KeepsItsText, WhereSupported};
-ghost use Rattle.session.specs.Stored.{Stores};
+ghost use Rattle.session.specs.Stored.{ShowsDatabase};
 ghost use Rattle.storage.specs.Forms.{is_query_supported};
 ghost use Rattle.storage.specs.Works.{read_on};
 ghost use Rattle.catalog.specs.Database.{Database};
@@ -52,6 +53,8 @@ pub struct Connections<D: Disk + Drop> {
     catalog: Catalog,
     transaction: Transaction,
     has_failed: bool,
+    /// Where pages of the files are read.
+    buffer: Vec<u8>,
 }
 
 fn unsupported_form<T>() -> R<T>
@@ -68,7 +71,8 @@ fn is_io(fault: &Fault) -> bool
 }
 
 impl<D: Disk + Drop> Connections<D> {
-    ghost use Rattle.session.specs.Representation.{AreCommitted, IsGivenUp, IsNewest, RepresentsRunning, OnlyReads, StartsReading, Steps, StepsOn, done_reply, is_begun, is_idle, is_reading, rows_reply, seen_in, with_transaction};
+    ghost use Rattle.session.specs.Representation.{IsGivenUp, IsNewest, RepresentsRunning, OnlyReads, StartsReading, Steps, StepsOn, done_reply, is_begun, is_idle, is_reading, rows_reply, seen_in, with_transaction};
+    ghost use Rattle.storage.specs.Stored.{AreCommitted};
     ghost use Rattle.session.specs.declared.transactions.Transaction.TheVariants as transaction;
     ghost use Rattle.session.specs.Holding.{IsSettled};
     ghost use Rattle.session.specs.Machine.{Machine, fresh};
@@ -82,7 +86,7 @@ impl<D: Disk + Drop> Connections<D> {
         ensures whole { IsFalse (has_failed_in result) }
         // Where the files hold a database and the catalog lists its tables, the connections represent its machine.
         ensures shown { (db : Database) → Tells log → IsSettled log → AreCommitted catalog
-            → Stores (newest_view log) (tables_of catalog) db → RepresentsRunning result (fresh db) }
+            → ShowsDatabase (newest_view log) (tables_of catalog) db → RepresentsRunning result (fresh db) }
     {
         Connections {
             alloc,
@@ -90,6 +94,7 @@ impl<D: Disk + Drop> Connections<D> {
             catalog,
             transaction: Transaction::Idle,
             has_failed: false,
+            buffer: Vec::new(alloc),
         }
     }
 
@@ -104,6 +109,7 @@ impl<D: Disk + Drop> Connections<D> {
             catalog: _,
             transaction: _,
             has_failed: _,
+            buffer: _,
         } = self;
         log.into_disks()
     }
@@ -304,13 +310,14 @@ impl<D: Disk + Drop> Connections<D> {
         ensures cause { HasCauseIn false result self.old self.new }
         ensures reads { OnlyReads self.old self.new }
         ensures answered { (m : Machine) (db : Database) → RepresentsRunning self.old m
-            → Stores (seen_in self.old.transaction (files_of self.old)) (tables_of self.old.catalog) db
-            → is_query_supported query.now ≡ true → AnswersRead (read_on db query.now) result }
+            → ShowsDatabase (seen_in self.old.transaction (files_of self.old)) (tables_of self.old.catalog) db
+            → is_query_supported query.now ≡ true → AnswersRead (λ rows. map values_of rows.items) (read_on db query.now) result }
     {
         match &self.transaction {
             Transaction::Writing(writer) => read(
                 self.alloc,
                 &mut self.log,
+                &mut self.buffer,
                 &self.catalog,
                 Sight::Writer(writer),
                 query,
@@ -320,6 +327,7 @@ impl<D: Disk + Drop> Connections<D> {
                 read(
                     self.alloc,
                     &mut self.log,
+                    &mut self.buffer,
                     &self.catalog,
                     Sight::Snapshot(snapshot),
                     query,
@@ -371,7 +379,8 @@ impl<D: Disk + Drop> Connections<D> {
     fn continue_writing(&mut self, writer: Writer, write: Write<'_>) -> R<()>
         ensures cause { HasCauseIn true result self.old self.new }
         ensures reads { ReadsFiles self.old self.new }
-        ensures step { WhereSupported (written write.entry) (StepsOn (with_transaction self.old (transaction.Writing writer)) (written write.entry) (done_reply result) self.new) }
+        ensures step { WhereSupported (written write.entry)
+            (StepsOn (with_transaction self.old (transaction.Writing writer)) (written write.entry) (done_reply result) self.new) }
     {
         let mut writer = writer;
         let result = self.apply_marked(&mut writer, write);
@@ -441,6 +450,7 @@ impl<D: Disk + Drop> Connections<D> {
             → WhereSupported (written write.entry) (CanApply self.old writer.old db
             → Applies (written write.entry) self.old writer.old db result self.new writer.new) }
         ensures marks { marks_of writer.new ≡ marks_of writer.old }
+        ensures stands { IsOverTheSame writer.old writer.new }
         ensures back { IfErr result (λ fault. now_of writer.new ≡ now_of writer.old) }
     {
         let place = writer.mark()?;
@@ -457,7 +467,7 @@ impl<D: Disk + Drop> Connections<D> {
         }
     }
 
-    /// Makes a statement's change in the writer's pages.
+    /// Makes a statement's change in the writer's pages. (After a refusal some of them may have changed.)
     fn apply(&mut self, writer: &mut Writer, write: Write<'_>) -> R<()>
         ensures cause { HasCauseIn true result self.old self.new }
         ensures reads { ReadsFiles self.old self.new }
@@ -465,7 +475,15 @@ impl<D: Disk + Drop> Connections<D> {
             → WhereSupported (written write.entry) (CanApply self.old writer.old db
             → Applies (written write.entry) self.old writer.old db result self.new writer.new) }
         ensures marks { marks_of writer.new ≡ marks_of writer.old }
+        ensures stands { IsOverTheSame writer.old writer.new }
     {
-        apply(self.alloc, &mut self.log, &mut self.catalog, writer, write)
+        apply(
+            self.alloc,
+            &mut self.log,
+            &mut self.buffer,
+            &mut self.catalog,
+            writer,
+            write,
+        )
     }
 }

@@ -123,7 +123,8 @@ fn page_size_of(digits: Option<&str>) -> u32
 
 /// The salts that digits spell, or the default without digits.
 fn salts_or_first<'a>(digits: Option<&'a str>) -> Result<Salts, ArgsError<'a>>
-    ensures given { IfOk result (λ salts. MatchOption (option_map (λ text. text.now) digits.entry) (salts ≡ record { first = 1; second = 2 }) (λ text. SpellsSalts text salts)) }
+    ensures given { IfOk result (λ salts. MatchOption (option_map (λ text. text.now) digits.entry)
+        (salts ≡ record { first = 1; second = 2 }) (λ text. SpellsSalts text salts)) }
     ensures refused { IfErr result (λ refused. IsRefusalOf (option_map (λ text. text.now) digits.entry) refused) }
 {
     match digits {
@@ -154,7 +155,8 @@ pub fn settings<'a>(
     arguments: &'a [String],
 ) -> Result<StartOptions<'a>, ArgsError<'a>>
     // The options are those that the arguments match.
-    ensures given { IfOk result (λ options. AreSettings (value_in (map string_bytes arguments.entry.now)) options.page_size options.salts options.name.now) }
+    ensures given { IfOk result (λ options. AreSettings
+        (value_in (map string_bytes arguments.entry.now)) options.page_size options.salts options.name.now) }
     // Of arguments that match the usage, only a `--salt` other than 16 hexadecimal digits is refused, or memory runs out.
     ensures refused { takes walsql (map string_bytes arguments.entry.now) ≡ true
         → IfErr result (λ refused. IsRefusalOf (value_in (map string_bytes arguments.entry.now) (codes "salt")) refused) }

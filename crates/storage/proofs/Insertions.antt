@@ -1,11 +1,9 @@
 -- What an INSERT comes to on the database that pages hold.
-use Rattle.std.proofs.Common.{◌≡◌, ◌⊎◌, ◌≤◌, ◌+◌, inl, inr, refl, sym, ap, subst, ◌∙◌, ℕ, zero, suc, Bool, true, false, List, [], ◌∷◌, ◌++◌, length, map, slice_index_or, Option, Some, None, Result, Ok, Err, ◌==◌, cond, arith}
+use Rattle.std.proofs.Common.{◌≡◌, ◌⊎◌, ◌≤◌, ◌+◌, inl, inr, refl, sym, ap, subst, ◌∙◌, ℕ, zero, suc, true, List, [], ◌∷◌, ◌++◌, length, map, slice_index_or, Option, Some, None, Result, Ok, Err, arith}
 use Rattle.std.specs.Prelude.{⊤, All, Contains, IsErrAnd, MatchResult, Vec, option_map}
-use Rattle.std.specs.List.{AllByRecursion, find, position_from, range_with_len}
-use Rattle.std.specs.Str.{bytes_eq}
+use Rattle.std.specs.List.{AllByRecursion, position_from, range_with_len}
 use Rattle.std.specs.declared.alloc.Global.{Global}
 use Rattle.std.proofs.lemmas.Bool.{cases_eq}
-use Rattle.std.proofs.lemmas.Bool.Decides.{nat_tests}
 use Rattle.std.proofs.lemmas.List.{append-nil, get_or-append-add, get_or-map, length-append, length-map}
 use Rattle.std.proofs.lemmas.List.FromFn.{length-range_with_len}
 use Rattle.sqlval.specs.Names.{folded, is_same_name}
@@ -29,7 +27,6 @@ use Rattle.catalog.specs.Database.{ATable, Database, Name, Object, with_object}
 use Rattle.catalog.specs.Laws.{KeepsOnlyTables, ListsOtherRows}
 use Rattle.catalog.specs.Listed.{Lists, has_only_tables, plain_table, table_named}
 use Rattle.catalog.specs.Named.{IsNamed, KeepsNamed}
-use Rattle.catalog.specs.Rows.{are_rows}
 use Rattle.catalog.specs.declared.tables.Column.{Column}
 use Rattle.catalog.specs.declared.tables.Table.{Table}
 use Rattle.bind.specs.Bound.{AreGiven, EachOf, count_wanted}
@@ -44,12 +41,12 @@ use Rattle.dml.specs.Changes.{Resolved, no_outer, resolve_change}
 use Rattle.dml.specs.Constraints.{table_of}
 use Rattle.dml.specs.Inserting.{AllStorable, IsRefusedAs, given_at, last_rowid, rows_added}
 use Rattle.record.specs.Writing.{AreStorable}
-use Rattle.dml.specs.Trees.{ArePutIn, IsPutRefusal, PutsRows}
+use Rattle.dml.specs.Trees.{IsPutRefusal, PutsRows}
 use Rattle.dml.proofs.GivenAsMeant.{gives, refuses}
 use Rattle.trigger.specs.Binding.{IsFault}
 use Rattle.trigger.specs.Effects.{change}
 use Rattle.trigger.specs.Laws.{BindsAlone, InsertAddsRows, InsertIsRefused, InsertOfNoneStays}
-use Rattle.storage.specs.Changing.{HasLongRow, IsChangeRefusal, IsMade, MakesChange, rows_more}
+use Rattle.storage.specs.Changing.{HasLongRow, IsChangeRefusal, IsMade, rows_more}
 use Rattle.storage.specs.Forms.{is_source_supported}
 use Rattle.storage.specs.Stored.{Stores}
 use Rattle.storage.specs.Works.{Reaches, RefusesWith, change_made, of_answer}
@@ -75,7 +72,7 @@ inserting i = statement.Change (kind.Insert i)
 abbrev table_in : Option Object → Answer database.Table
 table_in o = elim o [ Some (ATable t) ↦ Ok t | _ ↦ Err NoSuch ]
 
-named_folded : (tables : List Table) (name : Name) (t : Table) → table_named name tables ≡ Some t → table_named (folded name) tables ≡ Some t
+pub named_folded : (tables : List Table) (name : Name) (t : Table) → table_named name tables ≡ Some t → table_named (folded name) tables ≡ Some t
 named_folded tables name t named = named_as tables (folded name) name (folded_twice name) ∙ named
 
 -- a listed table of the database
@@ -290,7 +287,7 @@ module _ (laws : Laws) (pages : PageMap) (size : ℕ) (tables : List Table) (db 
       record {
         made = m.made;
         reaches = reaches m.made m.is;
-        stored = stores_put laws.give_way pages new size tables db m.made i.table t t.columns places given held owned refl put m.lists m.only m.in_order;
+        stored = stores_put laws.give_way pages new size tables db m.made t t.columns places given held owned refl put m.lists m.only m.in_order;
       }
   put_makes many new (Err f) puts = put_refused many f (puts (held.rows_at t.root) owned.split.is.entries owned.split.at.used held.free beside owned.split.is.each)
 

@@ -68,7 +68,7 @@ pub record HasOwner (map : PageMap) (size : ℕ) (rows_at : ℕ → List TableRo
   pub split : Splits (IsTreeOf rows_at) front t back owners
   pub tree : IsTableTree map size t.root split.is.entries split.at.used
 
-tree_of : (map : PageMap) (size : ℕ) (rows_at : ℕ → List TableRow) (t : Table) (o : Owner) (is : IsTreeOf rows_at t o) → IsTree map size o → IsTableTree map size t.root is.entries o.used
+pub tree_of : (map : PageMap) (size : ℕ) (rows_at : ℕ → List TableRow) (t : Table) (o : Owner) (is : IsTreeOf rows_at t o) → IsTree map size o → IsTableTree map size t.root is.entries o.used
 tree_of map size rows_at t o is tree =
     subst (λ root. IsTableTree map size root is.entries o.used) is.root_is (subst (HoldsUnder map size o.root o.used) is.content_is tree)
 

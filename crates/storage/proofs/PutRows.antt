@@ -1,64 +1,29 @@
 -- An INSERT into the tree of its table.
-use Rattle.std.proofs.Common.{◌≡◌, ◌⊎◌, ◌≤◌, ◌+◌, inl, inr, refl, sym, ap, subst, ◌∙◌, ℕ, zero, suc, Bool, true, false, List, [], ◌∷◌, ◌++◌, length, map, slice_index_or, Option, Some, None, Result, Ok, Err, ◌==◌, cond, arith}
-use Rattle.std.specs.Prelude.{⊤, All, Contains, MatchResult, Vec, option_map}
-use Rattle.std.specs.List.{AllByRecursion, find, position_from, range_with_len}
+use Rattle.std.proofs.Common.{◌≡◌, ◌≤◌, ◌+◌, refl, sym, ap, subst, ◌∙◌, ℕ, Bool, true, false, List, [], ◌∷◌, ◌++◌, length, Option, ◌==◌, cond, arith}
+use Rattle.std.specs.List.{find}
 use Rattle.std.specs.Str.{bytes_eq}
-use Rattle.std.specs.declared.alloc.Global.{Global}
-use Rattle.std.proofs.lemmas.Bool.{cases_eq}
 use Rattle.std.proofs.lemmas.Bool.Decides.{nat_tests}
-use Rattle.std.proofs.lemmas.List.{append-nil, get_or-append-add, get_or-map, length-append, length-map}
-use Rattle.std.proofs.lemmas.List.FromFn.{length-range_with_len}
-use Rattle.sqlval.specs.Names.{folded, is_same_name}
+use Rattle.std.proofs.lemmas.List.{append-nil}
+use Rattle.sqlval.specs.Names.{folded}
 use Rattle.sqlval.specs.PageSizes.{IsPageSize}
-use Rattle.sqlval.specs.Refusals as refusal
-use Rattle.sqlval.specs.Refusals.{Answer, ◌then◌, NoSuch, Refusal, refusal_of}
-use Rattle.sqlval.specs.declared.fault.Fault.{Fault}
-use Rattle.sqlval.specs.declared.fault.Fault.TheVariants as fault
 use Rattle.sqlval.specs.declared.value.Value.{Value}
-use Rattle.sqlval.specs.declared.value.Value.TheVariants.{Null}
-use Rattle.syntax.specs.declared.change.Change.TheVariants as kind
-use Rattle.syntax.specs.declared.change.Insert.{Insert}
-use Rattle.syntax.specs.declared.change.InsertSource.{InsertSource}
-use Rattle.syntax.specs.declared.change.InsertSource.TheVariants as source
-use Rattle.syntax.specs.declared.statement.Statement.TheVariants as statement
-use Rattle.dbheader.specs.Header.{IsHeader}
 use Rattle.page.specs.Leaf.{Entry}
 use Rattle.pages.specs.Counting.{occurs, Moves}
-use Rattle.pages.specs.Map.{PageMap, page_at}
-use Rattle.pages.proofs.Moving.{occurs_append}
+use Rattle.pages.specs.Map.{PageMap}
 use Rattle.treepage.specs.Cells.{Pairwise}
-use Rattle.tabletree.specs.Calls.{Stands}
-use Rattle.filecheck.specs.Layout.{AreShared, IsTree, OfRows, Owner, ReplacesTrees, TreesStand, used_by}
-use Rattle.catalog.specs.Database as database
-use Rattle.catalog.specs.Database.{ATable, Database, Name, Object, with_object}
-use Rattle.catalog.specs.Laws.{KeepsOnlyTables, ListsOtherRows}
+use Rattle.tabletree.specs.Calls.{BecomesRows, Stands}
+use Rattle.filecheck.specs.Layout.{AreShared, OfRows, Owner, ReplacesTrees, TreesStand, used_by}
+use Rattle.catalog.specs.Database.{Database, Name}
 use Rattle.catalog.specs.Listed.{Lists, has_only_tables, plain_table, table_named}
-use Rattle.catalog.specs.Named.{IsNamed, KeepsNamed}
+use Rattle.catalog.specs.Named.{IsNamed}
 use Rattle.catalog.specs.Rows.{are_rows}
 use Rattle.catalog.specs.declared.tables.Column.{Column}
 use Rattle.catalog.specs.declared.tables.Table.{Table}
-use Rattle.bind.specs.Bound.{AreGiven, EachOf, count_wanted}
-use Rattle.bind.specs.Checked.{Checked, Meant, faults}
-use Rattle.bind.specs.Inserts.{AreColumns, IsInsertFault, is_of_literals, places_in}
-use Rattle.bind.proofs.ColumnNames.{folded_twice}
-use Rattle.bind.proofs.KnownTables.{known_listed}
 use Rattle.rowprog.specs.Rows.{IsRow, TableRow}
-use Rattle.dml.specs.Agreement.{IsSetFor}
-use Rattle.dml.specs.Binding.{IsGivenAs, IsRealRefused, row_with}
-use Rattle.dml.specs.Changes.{Resolved, no_outer, resolve_change}
-use Rattle.dml.specs.Constraints.{table_of}
-use Rattle.dml.specs.Inserting.{AllStorable, IsRefusedAs, given_at, last_rowid, rows_added}
-use Rattle.dml.specs.Trees.{ArePutIn, IsPutRefusal, PutsRows}
-use Rattle.dml.proofs.GivenAsMeant.{gives, refuses}
-use Rattle.trigger.specs.Binding.{IsFault}
-use Rattle.trigger.specs.Effects.{change}
-use Rattle.trigger.specs.Laws.{BindsAlone, InsertAddsRows, InsertIsRefused, InsertOfNoneStays}
-use Rattle.storage.specs.Changing.{HasLongRow, IsChangeRefusal, IsMade, MakesChange, rows_more}
-use Rattle.storage.specs.Forms.{is_source_supported}
+use Rattle.dml.specs.Trees.{ArePutIn}
 use Rattle.storage.specs.Stored.{IsTreeOf, Stores, schema_tree}
-use Rattle.storage.specs.Works.{Reaches, RefusesWith, change_made, of_answer}
-use Rattle.storage.proofs.Owners.{HasOwner, joins, owner_of}
-use Rattle.storage.proofs.Roots.{own_pages, roots_of, roots_once}
+use Rattle.storage.proofs.Owners.{HasOwner, joins}
+use Rattle.storage.proofs.Roots.{roots_of, roots_once}
 use Rattle.storage.proofs.Telling.{more_pages}
 
 itself : (n : ℕ) → (n == n) ≡ true
@@ -130,14 +95,14 @@ abbrev pub tree_at : ℕ → List Entry → List ℕ → Owner
 tree_at root entries used = record { root = root; content = OfRows entries; used = used }
 
 -- The pages hold the database whose table has other rows, where these are in its tree.
-pub stores_put : ReplacesTrees → (old new : PageMap) (size : ℕ) (tables : List Table) (db made : Database) (name : Name) (t : Table) (columns : List Column) (places : List (Option ℕ)) (given : List (List Value))
-    (held : Stores old size tables db) (o : HasOwner old size held.rows_at tables held.owners t) → columns ≡ t.columns
-    → (put : ArePutIn old new size t.root columns places given (held.rows_at t.root) o.split.at.used held.free)
-    → Lists (rows_with held.rows_at t.root (held.rows_at t.root ++ put.added)) tables made → has_only_tables made ≡ true → IsNamed made → Stores new size tables made
-stores_put law old new size tables db made name t columns places given held o columns_are put lists only named =
-    let header = put.becomes.header held.header held.header_is in
+pub stores_rows : ReplacesTrees → (old new : PageMap) (size : ℕ) (tables : List Table) (db made : Database) (t : Table) (rows : List TableRow) (entries : List Entry)
+    (held : Stores old size tables db) (o : HasOwner old size held.rows_at tables held.owners t) (now : BecomesRows old new size t.root entries o.split.at.used held.free)
+    → Pairwise (IsRow (length t.columns)) entries rows → are_rows (plain_table t rows) ≡ true
+    → Lists (rows_with held.rows_at t.root rows) tables made → has_only_tables made ≡ true → IsNamed made → Stores new size tables made
+stores_rows law old new size tables db made t rows entries held o now each fit lists only named =
+    let header = now.header held.header held.header_is in
     record {
-      rows_at = rows_with held.rows_at t.root (held.rows_at t.root ++ put.added);
+      rows_at = rows_with held.rows_at t.root rows;
       lists = lists;
       only = only;
       named = named;
@@ -147,30 +112,30 @@ stores_put law old new size tables db made name t columns places given held o co
       sized = held.sized;
       schema = held.schema;
       schema_used = held.schema_used;
-      tell = more_pages (length old) (length new) put.becomes.moves.longer [] tables held.schema held.tell;
-      owners = o.split.before ++ (tree_at t.root put.entries put.becomes.now_used) ∷ o.split.after;
-      free = put.becomes.now_free;
-      each = subst (λ (ts : List Table). Pairwise (IsTreeOf (rows_with held.rows_at t.root (held.rows_at t.root ++ put.added))) ts (o.split.before ++ (tree_at t.root put.entries put.becomes.now_used) ∷ o.split.after)) (sym o.tables_are)
-          (joins (IsTreeOf (rows_with held.rows_at t.root (held.rows_at t.root ++ put.added))) o.front o.split.before (t ∷ o.back) ((tree_at t.root put.entries put.becomes.now_used) ∷ o.split.after)
-          (kept_trees held.rows_at t.root (held.rows_at t.root ++ put.added) o.front o.split.before o.split.fronts none_before)
-          (is, kept_trees held.rows_at t.root (held.rows_at t.root ++ put.added) o.back o.split.after o.split.backs none_after));
-      shared = law old new size (schema_tree held.schema held.schema_used ∷ o.split.before) (o.split.at ∷ []) ((tree_at t.root put.entries put.becomes.now_used) ∷ []) o.split.after held.free put.becomes.now_free
+      tell = more_pages (length old) (length new) now.moves.longer [] tables held.schema held.tell;
+      owners = o.split.before ++ (tree_at t.root entries now.now_used) ∷ o.split.after;
+      free = now.now_free;
+      each = subst (λ (ts : List Table). Pairwise (IsTreeOf (rows_with held.rows_at t.root rows)) ts (o.split.before ++ (tree_at t.root entries now.now_used) ∷ o.split.after)) (sym o.tables_are)
+          (joins (IsTreeOf (rows_with held.rows_at t.root rows)) o.front o.split.before (t ∷ o.back) ((tree_at t.root entries now.now_used) ∷ o.split.after)
+          (kept_trees held.rows_at t.root rows o.front o.split.before o.split.fronts none_before)
+          (is, kept_trees held.rows_at t.root rows o.back o.split.after o.split.backs none_after));
+      shared = law old new size (schema_tree held.schema held.schema_used ∷ o.split.before) (o.split.at ∷ []) ((tree_at t.root entries now.now_used) ∷ []) o.split.after held.free now.now_free
           (subst (λ (os : List Owner). AreShared old size (schema_tree held.schema held.schema_used ∷ os) held.free) o.split.parts held.shared)
-          (subst (λ (ps : List ℕ). Moves old new ps held.free (used_by ((tree_at t.root put.entries put.becomes.now_used) ∷ [])) put.becomes.now_free) (sym (append-nil o.split.at.used))
-          (subst (λ (ps : List ℕ). Moves old new o.split.at.used held.free ps put.becomes.now_free) (sym (append-nil put.becomes.now_used)) put.becomes.moves))
-          (put.becomes.stands.tree, tt) put.becomes.stands.free_are.has;
+          (subst (λ (ps : List ℕ). Moves old new ps held.free (used_by ((tree_at t.root entries now.now_used) ∷ [])) now.now_free) (sym (append-nil o.split.at.used))
+          (subst (λ (ps : List ℕ). Moves old new o.split.at.used held.free ps now.now_free) (sym (append-nil now.now_used)) now.moves))
+          (now.stands.tree, tt) now.stands.free_are.has;
     }
   where
-    here : rows_with held.rows_at t.root (held.rows_at t.root ++ put.added) t.root ≡ held.rows_at t.root ++ put.added
-    here = rows_here held.rows_at t.root t.root (held.rows_at t.root ++ put.added) refl
+    here : rows_with held.rows_at t.root rows t.root ≡ rows
+    here = rows_here held.rows_at t.root t.root rows refl
 
-    is : IsTreeOf (rows_with held.rows_at t.root (held.rows_at t.root ++ put.added)) t (tree_at t.root put.entries put.becomes.now_used)
+    is : IsTreeOf (rows_with held.rows_at t.root rows) t (tree_at t.root entries now.now_used)
     is = record {
       root_is = refl;
-      entries = put.entries;
+      entries = entries;
       content_is = refl;
-      each = subst (λ (rs : List TableRow). Pairwise (IsRow (length t.columns)) put.entries rs) (sym here) (subst (λ (cs : List Column). Pairwise (IsRow (length cs)) put.entries (held.rows_at t.root ++ put.added)) columns_are put.each);
-      fit = subst (λ (rs : List TableRow). are_rows (plain_table t rs) ≡ true) (sym here) (put.fit t (sym columns_are) o.split.is.fit);
+      each = subst (λ (rs : List TableRow). Pairwise (IsRow (length t.columns)) entries rs) (sym here) each;
+      fit = subst (λ (rs : List TableRow). are_rows (plain_table t rs) ≡ true) (sym here) fit;
     }
 
     once : occurs t.root (roots_of (o.front ++ t ∷ o.back)) ≤ 1
@@ -184,3 +149,13 @@ stores_put law old new size tables db made name t columns places given held o co
       where
         counted : (n : ℕ) (xs : List ℕ) → occurs n (n ∷ xs) ≡ 1 + occurs n xs
         counted n xs = grind (arith, nat_tests)
+
+-- The same where rows were put after the others.
+pub stores_put : ReplacesTrees → (old new : PageMap) (size : ℕ) (tables : List Table) (db made : Database) (t : Table) (columns : List Column) (places : List (Option ℕ)) (given : List (List Value))
+    (held : Stores old size tables db) (o : HasOwner old size held.rows_at tables held.owners t) → columns ≡ t.columns
+    → (put : ArePutIn old new size t.root columns places given (held.rows_at t.root) o.split.at.used held.free)
+    → Lists (rows_with held.rows_at t.root (held.rows_at t.root ++ put.added)) tables made → has_only_tables made ≡ true → IsNamed made → Stores new size tables made
+stores_put law old new size tables db made t columns places given held o columns_are put lists only named =
+    stores_rows law old new size tables db made t (held.rows_at t.root ++ put.added) put.entries held o put.becomes
+    (subst (λ (cs : List Column). Pairwise (IsRow (length cs)) put.entries (held.rows_at t.root ++ put.added)) columns_are put.each)
+    (put.fit t (sym columns_are) o.split.is.fit) lists only named

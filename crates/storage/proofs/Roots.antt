@@ -42,7 +42,7 @@ owner_root pages size rows_at t o is tree =
     uses_root pages size t.root is.entries o.used
     (subst (λ root. IsTableTree pages size root is.entries o.used) is.root_is (subst (HoldsUnder pages size o.root o.used) is.content_is tree))
 
-one_at : (n m : ℕ) → (if_same : Bool) → (m == n) ≡ if_same → (c : ℕ) → (n ≡ m → 1 ≤ c) → cond if_same 1 0 ≤ c
+pub one_at : (n m : ℕ) → (if_same : Bool) → (m == n) ≡ if_same → (c : ℕ) → (n ≡ m → 1 ≤ c) → cond if_same 1 0 ≤ c
 one_at n m true e c has = has (grind (arith, nat_tests))
 one_at n m false e c has = omega arith
 

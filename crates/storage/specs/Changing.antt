@@ -1,5 +1,5 @@
 -- What a statement's change makes of the pages that hold a database (SQL As Understood By SQLite, "CREATE TABLE", "INSERT").
-use Rattle.std.specs.Prelude.{◌≡◌, ◌⊎◌, ◌≤◌, ◌+◌, ◌-◌, ◌^◌, ⊤, ℕ, pos, List, [], length, Some, Result, MatchResult}
+use Rattle.std.specs.Prelude.{◌≡◌, ◌⊎◌, ◌≤◌, ◌+◌, ◌-◌, ◌^◌, ⊤, ℕ, pos, List, [], ◌∷◌, ◌++◌, length, Some, Result, MatchResult}
 use Rattle.sqlval.specs.Refusals.{refusal_of}
 use Rattle.sqlval.specs.declared.fault.Fault.{Fault}
 use Rattle.sqlval.specs.declared.fault.Fault.TheVariants as fault
@@ -89,10 +89,17 @@ pub record MayGrowDeep (s : Statement) (map : PageMap) (size : ℕ) (f : Fault) 
   pub tree : IsTableTree map size root rows used
   pub deep : 19 ≤ tree.depth + rows_more s
 
+-- what a statement makes of the database can't be stored in the pages
+abbrev pub IsUnstored : Statement → PageMap → ℕ → Database → Fault → Type 0
+IsUnstored s map size db f = IsTooMuch s map size db f ⊎ MayGrowDeep s map size f
+
 -- Why a statement makes nothing: out of memory or of pages, by a disk, as its work is refused, or because what it makes can't be stored.
 abbrev pub IsChangeRefusal : Statement → PageMap → ℕ → Database → Fault → Type 0
-IsChangeRefusal s map size db f =
-    IsOutsideOrFull f ⊎ (RefusesWith (change_made s db) (refusal_of f) ⊎ (IsTooMuch s map size db f ⊎ MayGrowDeep s map size f))
+IsChangeRefusal s map size db f = IsOutsideOrFull f ⊎ (RefusesWith (change_made s db) (refusal_of f) ⊎ IsUnstored s map size db f)
+
+-- these tables, and one after them
+abbrev pub IsOneMore : List Table → List Table → Type 0
+IsOneMore old new = (table : Table) × (new ≡ old ++ table ∷ [])
 
 -- what a statement's change comes to, where the pages hold a database of the tables
 abbrev pub MakesChange : Statement → PageMap → PageMap → ℕ → List Table → List Table → Result ⊤ Fault → Type 0

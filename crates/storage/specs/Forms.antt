@@ -3,6 +3,7 @@ use Rattle.std.specs.Prelude.{Bool, true, false, not, ◌&&◌, ◌||◌, length
 use Rattle.std.specs.List.{list_all}
 use Rattle.syntax.specs.declared.change.Change.{Change}
 use Rattle.syntax.specs.declared.change.Change.TheVariants as change
+use Rattle.syntax.specs.declared.change.Delete.{Delete}
 use Rattle.syntax.specs.declared.change.InsertSource.{InsertSource}
 use Rattle.syntax.specs.declared.change.InsertSource.TheVariants as source
 use Rattle.syntax.specs.declared.create.NewObject.{NewObject}
@@ -37,6 +38,10 @@ abbrev pub is_source_supported : InsertSource → Bool
 is_source_supported (source.Rows rows) = list_all (list_all is_literal) rows
 is_source_supported (source.Query q) = false
 
+-- all rows of a table
+abbrev pub is_delete_supported : Delete → Bool
+is_delete_supported d = is_none d.condition
+
 -- columns of names and types alone
 abbrev pub is_table_supported : TableDefinition → Bool
 is_table_supported d = length d.rules == 0 && list_all (λ c. length c.rules == 0) d.columns
@@ -47,9 +52,10 @@ is_object_supported _ = false
 
 abbrev is_change_supported : Change → Bool
 is_change_supported (change.Insert i) = is_source_supported i.source
+is_change_supported (change.Delete d) = is_delete_supported d
 is_change_supported _ = false
 
--- tables, inserted rows, queries of one source, and transactions
+-- tables, inserted rows, deletes of all rows, queries of one source, and transactions
 abbrev pub is_supported : Statement → Bool
 is_supported (statement.Create c) = is_object_supported c.object
 is_supported (statement.Change c) = is_change_supported c
@@ -68,12 +74,13 @@ abbrev is_table : NewObject → Bool
 is_table (new.Table d) = true
 is_table _ = false
 
-abbrev is_insert : Change → Bool
-is_insert (change.Insert i) = true
-is_insert _ = false
+abbrev changes_rows : Change → Bool
+changes_rows (change.Insert i) = true
+changes_rows (change.Delete d) = true
+changes_rows _ = false
 
--- it makes a table or inserts rows
+-- it makes a table, or inserts or deletes rows
 abbrev pub is_write : Statement → Bool
 is_write (statement.Create c) = is_table c.object
-is_write (statement.Change c) = is_insert c
+is_write (statement.Change c) = changes_rows c
 is_write _ = false

@@ -1,15 +1,16 @@
 -- Which database the pages of a file hold whose tables are listed (Database File Format, "The Database File").
-use Rattle.std.specs.Prelude.{◌≡◌, ℕ, true, List, [], ◌∷◌, length}
-use Rattle.dbheader.specs.Header.{IsHeader}
+use Rattle.std.specs.Prelude.{◌≡◌, ⊤, ℕ, true, List, [], ◌∷◌, length, MatchOption}
+use Rattle.dbheader.specs.Header.{IsHeader, counted_of}
 use Rattle.dbheader.specs.declared.fields.Header.{Header}
 use Rattle.page.specs.Leaf.{Entry}
 use Rattle.pages.specs.Map.{PageMap, page_at}
 use Rattle.treepage.specs.Cells.{Pairwise}
 use Rattle.filecheck.specs.Layout.{AreShared, OfRows, Owner}
 use Rattle.catalog.specs.Database.{Database}
-use Rattle.catalog.specs.Listed.{Lists, has_only_tables, plain_table}
+use Rattle.catalog.specs.Listed.{Lists, committed_in, has_only_tables, plain_table, tables_of}
 use Rattle.catalog.specs.Named.{IsNamed}
 use Rattle.catalog.specs.Rows.{are_rows}
+use Rattle.catalog.specs.declared.tables.Catalog.{Catalog}
 use Rattle.catalog.specs.declared.tables.Table.{Table}
 use Rattle.bind.specs.Bound.{AreOnce}
 use Rattle.rowprog.specs.Rows.{IsRow, TableRow}
@@ -18,6 +19,10 @@ use Rattle.storage.specs.Schema.{AreRowsOf}
 -- the tree of the schema table, which begins at page 1
 abbrev pub schema_tree : List Entry → List ℕ → Owner
 schema_tree rows used = record { root = 1; content = OfRows rows; used = used }
+
+-- no table waits to be committed
+abbrev pub AreCommitted : Catalog → Type 0
+AreCommitted catalog = committed_in catalog ≡ length (tables_of catalog)
 
 -- The tree begins at the table's root and holds its rows, which are such as the table may hold.
 pub record IsTreeOf (rows_at : ℕ → List TableRow) (table : Table) (owner : Owner) : Type 0 where
@@ -45,3 +50,9 @@ pub record Stores (map : PageMap) (size : ℕ) (tables : List Table) (db : Datab
   pub free : List ℕ
   pub each : Pairwise (IsTreeOf rows_at) tables owners
   pub shared : AreShared map size (schema_tree schema schema_used ∷ owners) free
+
+-- The header on page 1 counts the pages, where its count holds (Database File Format, "In-header database size").
+pub record IsCounted (map : PageMap) : Type 0 where
+  pub header : Header
+  pub header_is : IsHeader (page_at map 1) header
+  pub counted : MatchOption (counted_of header) (⊤) (λ count. count ≡ length map)

@@ -1,6 +1,6 @@
 //! CREATE TABLE.
 
-ghost use Rattle.std.specs.Prelude.{◌≡◌, ◌⊎◌, true, IsTrue, IfOk, IfErr, MatchOption, OnErr, ◌+ℤ◌, pos, ◌^◌, ◌-◌, Some, ◌++◌, ◌∷◌, []};
+ghost use Rattle.std.specs.Prelude.{◌≡◌, ◌⊎◌, true, IsTrue, IfOk, IfErr, MatchOption, MatchResult, ◌+ℤ◌, pos, ◌^◌, ◌-◌, Some, ◌++◌, ◌∷◌, []};
 ghost use Rattle.sqlval.specs.Faults.{IsNotDiskFault};
 ghost use Rattle.sqlval.specs.Refusals.{refusal_of};
 ghost use Rattle.pages.specs.Calls.{Causes};
@@ -8,7 +8,7 @@ ghost use Rattle.syntax.specs.declared.create.NewObject.TheVariants as object;
 ghost use Rattle.syntax.specs.declared.statement.Statement.TheVariants as statement;
 ghost use Rattle.catalog.specs.Listed.{committed_in, tables_of};
 ghost use Rattle.bind.specs.Creating.{IsCreateRefusal};
-ghost use Rattle.storage.specs.Changing.{MakesChange};
+ghost use Rattle.storage.specs.Changing.{IsOneMore, MakesChange};
 ghost use Rattle.storage.specs.Forms.{is_table_supported};
 ghost use Rattle.storage.specs.Listing.{AddsRow};
 ghost use Rattle.storage.specs.Schema.{IsCreateOf, IsMadeBeside, schema_row};
@@ -110,7 +110,8 @@ pub fn create_table<P: WritePages>(
         → IsCreateOf sql.now (object.Table definition.now)
         → MakesChange (statement.Create (record { sql = sql.now; object = object.Table definition.now })) (P.Pages.map pages.old)
         (P.Pages.map pages.new) (P.Pages.limits (P.Pages.below pages.old)).page (tables_of catalog.old) (tables_of catalog.new) result }
-    ensures unlisted { OnErr result (tables_of catalog.new ≡ tables_of catalog.old) }
+    ensures listed { MatchResult result (λ done. IsOneMore (tables_of catalog.old) (tables_of catalog.new))
+        (λ fault. tables_of catalog.new ≡ tables_of catalog.old) }
     ensures committed { committed_in catalog.new ≡ committed_in catalog.old }
     ensures kept { P.Pages.below pages.new ≡ P.Pages.below pages.old }
     ensures causes { Causes result (P.Pages.failures pages.old) (P.Pages.failures pages.new)

@@ -2,13 +2,17 @@
 #![tactic(auto)]
 
 mod creating;
+mod deleting;
 mod inserting;
+mod laws;
 mod reading;
 
 ghost use Rattle.storage.specs.Laws.{SupportedIsPlain, ReadsAsBound, RefusesAsRead};
 
 pub use creating::create_table;
+pub use deleting::delete_rows;
 pub use inserting::insert;
+pub use laws::stored_pages_stand;
 pub use reading::read;
 
 /// A supported query has the form that `bind_query` binds.

@@ -60,7 +60,9 @@ fn column_row<'a>(
     spelled: SourceTokens<'_>,
     tokens: Rest<'a>,
 ) -> Read<'a, Many<IndexColumn>>
-    ensures { ReadsBy spelled.now tokens.now result (readers.after_mark kinds.LeftParen (readers.before_mark kinds.RightParen (readers.limited few (readers.listed spec.index_column_from)))) }
+    ensures { ReadsBy spelled.now tokens.now result
+        (readers.after_mark kinds.LeftParen (readers.before_mark kinds.RightParen
+        (readers.limited few (readers.listed spec.index_column_from)))) }
 {
     let (columns, rest) = few_columns(alloc, spelled, mark(Kind::LeftParen, tokens)?)?;
     beside(columns, mark(Kind::RightParen, rest))

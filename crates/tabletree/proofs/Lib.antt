@@ -42,3 +42,4 @@ mod Emptied
 mod Pieces
 mod Givings
 mod Clearing
+mod OneTrees

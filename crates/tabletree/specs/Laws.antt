@@ -15,3 +15,8 @@ TreesStay = (old new : PageMap) (size root : ℕ) (rows : List Entry) (used : Li
 abbrev pub RowsComeLast : Type 0
 RowsComeLast = (pages : PageMap) (size root : ℕ) (rows : List Entry) (used : List ℕ) (row : Entry) → IsTableTree pages size root rows used
     → MatchOption (last_rowid rows) ⊤ (λ last. last <ℤ row.rowid) → (payload_at row.rowid rows ≡ None) × (with_row row rows ≡ rows ++ row ∷ [])
+
+-- under one root there is one tree: one list of rows, on the same pages
+abbrev pub OneTree : Type 0
+OneTree = (map : PageMap) (size root : ℕ) (rows others : List Entry) (used other_used : List ℕ)
+    → IsTableTree map size root rows used → IsTableTree map size root others other_used → (rows ≡ others) × (used ≡ other_used)

@@ -1,6 +1,6 @@
 //! What holds of every table's tree.
 
-ghost use Rattle.tabletree.specs.Laws.{RowsComeLast, TreesStay};
+ghost use Rattle.tabletree.specs.Laws.{OneTree, RowsComeLast, TreesStay};
 
 /// A tree stays where what trees see of its pages stays.
 pub fn table_trees_stay()
@@ -10,4 +10,9 @@ pub fn table_trees_stay()
 /// A row after the last one of a tree is put after all of them.
 pub fn rows_come_last()
     ensures { RowsComeLast }
+{}
+
+/// Under one root there is one tree.
+pub fn one_table_tree()
+    ensures { OneTree }
 {}

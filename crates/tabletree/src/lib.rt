@@ -16,7 +16,7 @@ mod way;
 pub use finding::{get, last};
 pub use freeing::{clear, free_tree, new_tree};
 pub use inserting::insert;
-pub use laws::{rows_come_last, table_trees_stay};
+pub use laws::{one_table_tree, rows_come_last, table_trees_stay};
 pub use leaf::{
     Leaf, a_tree_of_leaves_is_one_page, empty, front_of_page_holds_no_row, next_rowid,
     single_page_is_a_tree, with_rows,

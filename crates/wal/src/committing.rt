@@ -123,7 +123,10 @@ impl<D: Disk> Log<D> {
         // A crash leaves what was committed, or that and these frames.
         ensures crash { IsFalse (state_of self.old).has_failed → IsTrue (D.tells (log_of self.old))
             → WritesCommit (state_of self.old) (framed pages.now size) (D.file (log_of self.old)) (D.file (log_of self.new)) }
-        ensures refused { IfErr result (λ fault. IsCommitRefusal (state_of self.old).has_failed (ArePages 0 size (state_of self.old).page_size pages.now × (0 < length pages.now)) (IsWithin (state_of self.old) (length pages.now) size) (log_of self.old) (log_of self.new) (D.failures (log_of self.old)) (D.failures (log_of self.new)) fault) }
+        ensures refused { IfErr result (λ fault. IsCommitRefusal (state_of self.old).has_failed
+            (ArePages 0 size (state_of self.old).page_size pages.now × (0 < length pages.now))
+            (IsWithin (state_of self.old) (length pages.now) size) (log_of self.old) (log_of self.new) (D.failures (log_of self.old))
+            (D.failures (log_of self.new)) fault) }
         ensures same { KeepsDisks D.tells D.failures (db_of self.old) (db_of self.new) (log_of self.old) (log_of self.new) }
         ensures cause { HasCause true result self.old self.new }
     {
@@ -162,7 +165,9 @@ impl<D: Disk> Log<D> {
             (LeavesCommits (state_of self.old).page_size (commits_of (state_of self.old) (D.file (log_of self.old)).content)) }
         ensures left { IsFalse (state_of self.old).has_failed → IsTrue (D.tells (log_of self.old))
             → IsContentLeft (D.file (log_of self.new)) }
-        ensures refused { MatchResult result (λ _. D.failures (log_of self.new) ≡ D.failures (log_of self.old)) (λ fault. IsCutRefusal (state_of self.old).has_failed (log_of self.old) (log_of self.new) (D.failures (log_of self.old)) (D.failures (log_of self.new)) fault) }
+        ensures refused { MatchResult result (λ _. D.failures (log_of self.new) ≡ D.failures (log_of self.old))
+            (λ fault. IsCutRefusal (state_of self.old).has_failed (log_of self.old) (log_of self.new) (D.failures (log_of self.old))
+            (D.failures (log_of self.new)) fault) }
         ensures same { KeepsDisks D.tells D.failures (db_of self.old) (db_of self.new) (log_of self.old) (log_of self.new) }
     {
         if self.state.is_failed {

@@ -1,4 +1,4 @@
-use Rattle.trigger.proofs.OnlyTables.{binds_alone, insert_adds, insert_refused, none_stays, sets_nothing_off}
+use Rattle.trigger.proofs.OnlyTables.{binds_alone, delete_takes, insert_adds, insert_refused, none_stays, sets_nothing_off}
 use Rattle.trigger.proofs.only_tables_set_nothing_off.Goals as goal
 
 pub returns-clause-still : goal.returns-clause-still
@@ -15,3 +15,6 @@ returns-clause-inserts c = insert_adds c.insert_adds_its_rows.ensures
 
 pub returns-clause-none : goal.returns-clause-none
 returns-clause-none c = none_stays
+
+pub returns-clause-deletes : goal.returns-clause-deletes
+returns-clause-deletes c = delete_takes c.delete_takes_its_rows.ensures

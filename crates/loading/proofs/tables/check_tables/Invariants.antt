@@ -1,6 +1,17 @@
--- the files were only read, no call has failed, and the tables up to here have their rows
-use Rattle.loading.proofs.CheckedTables.{AreChecked}
+-- what the tables that are left decide
+use Rattle.std.proofs.Common.{length}
+use Rattle.treepage.specs.Cells.{Pairwise}
+use Rattle.filecheck.specs.Layout.{used_by}
+use Rattle.pagecheck.specs.Exact.{Checks}
+use Rattle.pagecheck.proofs.Running.{HasChecked}
+use Rattle.loading.specs.Uses.{IsOwnerOf}
 use Rattle.loading.proofs.tables.check_tables.Given as goal
 
 abbrev pub invariant-tables : goal.invariant-tables
-invariant-tables g l = AreChecked l.fn.log l.log l.snapshot l.tables l.table-index
+invariant-tables g l =
+    HasChecked g.P.Pages.below g.P.Pages.tells g.P.Pages.limits g.P.Pages.map g.P.Pages.count g.P.Pages.failures l.fn.pages l.pages l.fn.marks.items l.marks.items
+    (λ map size old new result. Checks (Pairwise (IsOwnerOf map size) l.tables) used_by old new result)
+    (λ map size old new result. Checks (Pairwise (IsOwnerOf map size) l.rest) used_by old new result)
+
+abbrev pub decreases-tables : goal.decreases-tables
+decreases-tables g l = length l.rest

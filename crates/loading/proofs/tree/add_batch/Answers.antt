@@ -1,4 +1,4 @@
-use Rattle.std.proofs.Common.{◌≡◌, ◌∙◌, refl, sym, ap, subst, ◌+◌, ◌<◌, [], ◌∷◌, ◌++◌, List, length, drop, take, append_assoc, arith}
+use Rattle.std.proofs.Common.{◌∙◌, refl, sym, ap, subst, ◌+◌, ◌<◌, [], ◌∷◌, ◌++◌, length, drop, take, append_assoc, arith}
 use Rattle.std.proofs.lemmas.List.{append-nil, take_all}
 use Rattle.page.specs.Leaf.{Entry}
 use Rattle.tabletree.specs.Scanning.{entry_in}

@@ -1,4 +1,4 @@
-use Rattle.std.proofs.Common.{rules, ◌≡◌, ◌∙◌, sym, ap, subst, length, Ok, None, inl}
+use Rattle.std.proofs.Common.{rules, ◌≡◌, Ok, None, inl}
 use Rattle.std.specs.Prelude.{⊤}
 use Rattle.sqlval.specs.Faults.{IsNotDiskFault}
 use Rattle.pages.specs.Calls.{Stays}

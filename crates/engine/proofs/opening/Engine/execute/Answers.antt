@@ -26,10 +26,10 @@ returns-in_err-statement-clause-counted g c =
     (λ io. absurd (subst (λ (f : Fault). IsTextRefusal c.args.text.now f) io c.in_err-statement.ensures.refused))
 
 pub returns-clause-counted : goal.returns-clause-counted
-returns-clause-counted g c = record { cause = for_any _ c.execute-rows.result _ _ _ _ c.execute-rows.ensures.cause; marks = c.execute-rows.ensures.marks }
+returns-clause-counted g c = record { cause = for_any _ c.execute-rows.result _ _ c.execute-rows.ensures.cause; marks = c.execute-rows.ensures.marks }
 
 pub returns-clause-full : goal.returns-clause-full
-returns-clause-full g c is = (c.in_ok-statement.statement, c.in_ok-statement.ensures.found.0, full_of _ c.execute-rows.result _ _ _ _ c.execute-rows.ensures.cause is)
+returns-clause-full g c is = (c.in_ok-statement.statement, c.in_ok-statement.ensures.found.0, full_of _ c.execute-rows.result _ _ c.execute-rows.ensures.cause is)
 
 pub returns-clause-unsupported : goal.returns-clause-unsupported
 returns-clause-unsupported g c = λ statement first is unsupported.

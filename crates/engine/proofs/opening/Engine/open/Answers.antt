@@ -141,15 +141,15 @@ returns-in-Ok-load_and_truncate g c =
             let known = c.in_ok-log.ensures.view (header.db_kept.tells_same ∙ told_db) (header.log_kept.tells_same ∙ told_log) in
             let tells : Tells {g = g.D.Disk} opened = record { db = were.db_kept.tells_same ∙ told_db; log = were.log_kept.tells_same ∙ told_log; whole = c.in_ok-log.ensures.known.whole } in
             let served = subst (λ n. IsSizeWithinLimits n (state_of opened).size) (sym c.in_ok-log.ensures.known.page_size_is) c.in_ok-log.ensures.known.served in
-            let found = c.in-Ok-load_and_truncate.ensures.found tells served in
+            let found = c.in-Ok-load_and_truncate.ensures.found tells in
             let head_is = subst (λ (bytes : List ℕ). IsHeader bytes c.in-Ok.header) (synced.db_kept.same told_db ∙ sym (were.db_kept.same told_db)) (c.in-Ok.ensures.found (told told_db)) in
             let view = found_view opened _ _ c.in-Ok-load_and_truncate.catalog found head_is c.counted_size.ensures c.in_ok-log.ensures.known.page_size_is known in
             let settled = opened_settled opened _ (newest_view opened) refl view (db_synced told_db) (log_synced told_log) known in
             record {
               database = found.database;
               held = held_if_stored _ _ found.database
-                  (held_as _ _ (file c.args.db).content (file c.args.log).content found.database (sym (were.db_kept.same told_db)) (sym (were.log_kept.same told_log)) (found_held opened _ c.in-Ok-load_and_truncate.catalog found view known));
-              shown = starts_shown _ (tables_of c.in-Ok-load_and_truncate.catalog) found.database c.load_and_truncate.new.log _ (c.in-Ok-load_and_truncate.ensures.opens (tables_of c.in-Ok-load_and_truncate.catalog) found.database tells settled found.stored) c.new.ensures.shown;
+                  (held_as _ _ (file c.args.db).content (file c.args.log).content found.database (sym (were.db_kept.same told_db)) (sym (were.log_kept.same told_log)) (found_held opened _ c.in-Ok-load_and_truncate.catalog found served view known));
+              shown = starts_shown _ (tables_of c.in-Ok-load_and_truncate.catalog) found.database c.load_and_truncate.new.log _ (c.in-Ok-load_and_truncate.ensures.opens (tables_of c.in-Ok-load_and_truncate.catalog) found.database tells settled (record { stored = found.stored; served = served })) c.new.ensures.shown;
             };
         whole = c.new.ensures.whole;
         not_blank = λ told_db blank. c.in-Ok.ensures.blank (told told_db) (ap is_blank_content (synced.db_kept.same told_db) ∙ blank);
@@ -158,12 +158,21 @@ returns-in-Ok-load_and_truncate g c =
             (cut_as _ _ _ _ _ (sym c.in-Ok-load_and_truncate.ensures.cut.0) (were.log_kept.same told_log) (c.in-Ok-load_and_truncate.ensures.cut.1 (were.log_kept.tells_same ∙ told_log)));
         takes = λ none. (let same = ap state_of c.new.ensures.files ∙ c.in-Ok-load_and_truncate.ensures.cut.0 in
             ap (λ (k : LogState). k.header.salts) same ∙ ap (λ (h : LogHeader). h.salts) (c.in_ok-log.ensures.known.fresh (subst (λ (k : LogState). IsFalse k.has_header) same none)));
-        db_counts =
-            ap (λ f. g.D.Disk.failures (db_of f)) c.new.ensures.files ∙ c.in-Ok-load_and_truncate.ensures.cause.none_failed.0
-            ∙ c.in_ok-log.ensures.refused.0 ∙ c.in-Ok.ensures.counted.none_failed ∙ c.in_ok-files.ensures.refused.0;
-        log_counts =
-            ap (λ f. g.D.Disk.failures (log_of f)) c.new.ensures.files ∙ c.in-Ok-load_and_truncate.ensures.cause.none_failed.1
-            ∙ c.in_ok-log.ensures.refused.1 ∙ c.in_ok-files.ensures.refused.1;
+        db_counts = omega (
+          arith,
+          ap (λ f. g.D.Disk.failures (db_of f)) c.new.ensures.files,
+          c.in-Ok-load_and_truncate.ensures.cause.db,
+          c.in_ok-log.ensures.refused.0,
+          c.in-Ok.ensures.counted.none_failed,
+          c.in_ok-files.ensures.refused.0,
+        );
+        log_counts = omega (
+          arith,
+          ap (λ f. g.D.Disk.failures (log_of f)) c.new.ensures.files,
+          c.in-Ok-load_and_truncate.ensures.cause.log,
+          c.in_ok-log.ensures.refused.1,
+          c.in_ok-files.ensures.refused.1,
+        );
       };
       refused = tt;
     } in

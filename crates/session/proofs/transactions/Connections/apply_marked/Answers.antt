@@ -1,13 +1,12 @@
 use Rattle.std.proofs.Common.{◌∙◌}
 use Rattle.pager.specs.Marks.{marks_of, now_of}
 use Rattle.session.specs.Changing.{written}
-use Rattle.session.proofs.Marked.{at_last_mark, moved_on, released, unmarked, went_back}
+use Rattle.session.proofs.Marked.{at_last_mark, moved_on, released, under_mark, unmarked}
 use Rattle.session.proofs.transactions.Connections.apply_marked.Goals as goal
 
 pub returns-in_err-place-clause-applies : goal.returns-in_err-place-clause-applies
 returns-in_err-place-clause-applies g c db supported_forms text on =
-    let why = c.in_err-place.ensures.refused in
-    unmarked (written c.args.write) c.args.self.now c.args.writer.now c.mark.new.self db c.from_residual.result c.in_err-place.field-0.0 c.from_residual.ensures.1 why.0 c.in_err-place.ensures.same why.1 c.in_err-place.ensures.stands on
+    unmarked (written c.args.write) c.args.self.now c.args.writer.now c.mark.new.self db c.from_residual.result c.in_err-place.field-0.0 c.from_residual.ensures.1 c.in_err-place.ensures.refused.0 on
 
 pub returns-in-Ok-clause-applies : goal.returns-in-Ok-clause-applies
 returns-in-Ok-clause-applies g c db supported_forms text on =
@@ -25,8 +24,4 @@ returns-in-Err-clause-applies g c db supported_forms text on =
     let old = c.args.self.now in
     let set = c.in_ok-place.ensures in
     let here = moved_on old c.args.writer.now c.mark.new.self db set.same set.stands on in
-    let now =
-    c.release-in-Err.ensures.same ∙ at_last_mark (marks_of c.args.writer.now) (marks_of c.apply.new.writer) (now_of c.args.writer.now) (now_of c.back_to.new.self) c.in_ok-place.place set.marked.0 (c.in-Err.ensures.marks ∙ set.marked.1) c.back_to.ensures.back in
-    went_back (written c.args.write) old c.apply.new.self db c.args.writer.now c.mark.new.self c.apply.new.writer c.release-in-Err.new.self c.in-Err.fault set.same set.stands now
-    (record { page_size = c.release-in-Err.ensures.stands.page_size ∙ c.back_to.ensures.stands.page_size; snapshot = c.release-in-Err.ensures.stands.snapshot ∙ c.back_to.ensures.stands.snapshot })
-    on (c.in-Err.ensures.applies db supported_forms text here)
+    under_mark (written c.args.write) old c.apply.new.self db c.args.writer.now c.mark.new.self c.in-Err.fault set.same set.stands (c.in-Err.ensures.applies db supported_forms text here)

@@ -16,7 +16,7 @@ returns-in_err-writer-clause-step g c idle m shown =
     let new = record c.args.self.now { log = c.begin.new.log } in
     subst (λ (r : Reply). StepsTo old m 1 (statement.Begin begins.Immediate) r new) (sym (done_refused c.from_residual.result c.in_err-writer.field-0.0 c.from_residual.ensures.1))
     (begin_fails old new c.in_err-writer.field-0.0 idle (record { files = λ told. read_files _ _ told kept.0 kept.1 kept.2; failed = refl; catalog = refl; transaction = refl })
-    (λ m shown. c.in_err-writer.ensures.there shown.stored.first.page shown.told (omega (arith, newest.seen)) (first_there old m shown c.begin-newest.result newest)) m shown)
+    (λ m shown. c.in_err-writer.ensures.there shown.settled.found.page shown.told (omega (arith, newest.seen)) (first_there old m shown c.begin-newest.result newest)) m shown)
 
 pub returns-clause-step : goal.returns-clause-step
 returns-clause-step g c idle =

@@ -3,13 +3,13 @@ use Rattle.syntax.specs.declared.statement.Statement.{Statement}
 use Rattle.session.specs.Representation.{StepsOn, done_reply}
 use Rattle.storage.specs.Forms.{is_supported}
 use Rattle.storage.specs.Schema.{KeepsItsText}
-use Rattle.session.proofs.ErrorCauses.{whys_for}
+use Rattle.session.proofs.ErrorCauses.{causes_for}
 use Rattle.session.proofs.StatementCauses.{changes_refused}
 use Rattle.session.proofs.transactions.Connections.change.Goals as goal
 
 pub returns-in-Some : goal.returns-in-Some
 returns-in-Some g c = record {
-  cause = whys_for _ _ _ _ _ _ c.in-Some.ensures.full c.write.ensures.cause;
+  cause = causes_for _ _ _ _ c.in-Some.ensures.full c.write.ensures.cause;
   marks = c.write.ensures.marks;
   refused = changes_refused c.args.self.now c.in-Some.write c.args.statement.now c.write.result c.in-Some.ensures.same;
   step = λ supported_forms keeps query. subst (λ (s : Statement). StepsOn c.args.self.now s (done_reply c.write.result) c.write.new.self) c.in-Some.ensures.same

@@ -15,7 +15,7 @@ returns-in_err-writer-clause-step g c supported_forms keeps reads m shown =
     let kept = c.in_err-writer.ensures.kept in
     subst (λ (r : Reply). StepsTo old m 1 (written c.args.write) r new) (sym (done_refused c.from_residual.result c.in_err-writer.field-0.0 c.from_residual.ensures.1))
     (not_begun old new c.args.write c.in_err-writer.field-0.0 supported_forms (record { files = λ told. read_files _ _ told kept.0 kept.1 kept.2; failed = refl; catalog = refl; transaction = refl })
-    (λ m shown. (let newest = c.snapshot-snapshot.ensures.newest m shown in c.in_err-writer.ensures.there shown.stored.first.page shown.told (omega (arith, newest.seen)) (first_there old m shown c.snapshot-snapshot.result newest)))
+    (λ m shown. (let newest = c.snapshot-snapshot.ensures.newest m shown in c.in_err-writer.ensures.there shown.settled.found.page shown.told (omega (arith, newest.seen)) (first_there old m shown c.snapshot-snapshot.result newest)))
     in_transaction (λ m shown. opens_reading old m shown c.args.write old.transaction refl reads shown.transaction) m shown)
 
 pub returns-in_err-apply-clause-step : goal.returns-in_err-apply-clause-step
@@ -24,7 +24,7 @@ returns-in_err-apply-clause-step g c supported_forms keeps reads m shown =
     let mid = record c.args.self.now { log = c.begin.new.log } in
     let kept = c.in_ok-writer.ensures.kept in
     subst (λ (r : Reply). StepsTo old m 1 (written c.args.write) r c.apply.new.self) (sym (done_refused c.from_residual-in_err-apply.result c.in_err-apply.field-0.0 c.from_residual-in_err-apply.ensures.1))
-    (begun_refused old mid c.apply.new.self c.in_ok-writer.writer c.apply.new.writer c.snapshot-snapshot.result c.args.write c.in_err-apply.field-0.0 supported_forms refl
+    (begun_refused old mid c.apply.new.self c.in_ok-writer.writer c.snapshot-snapshot.result c.args.write c.in_err-apply.field-0.0 supported_forms refl
     (λ m shown. (let newest = c.snapshot-snapshot.ensures.newest m shown in record {
       files = read_files _ _ shown.told kept.0 kept.1 kept.2;
       failed = refl;

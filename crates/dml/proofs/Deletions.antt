@@ -1,0 +1,120 @@
+-- A DELETE of all rows of a listed table, row by row.
+use Rattle.std.proofs.Common.{◌≡◌, refl, sym, ap, ◌∙◌, ℤ, ◌<ℤ◌, Bool, true, false, not, ◌&&◌, cond, List, [], ◌∷◌, map, Option, Some, None, Ok, Err}
+use Rattle.std.specs.Cmp.{int_cmp_is, tied_itself}
+use Rattle.std.specs.Cmp.Lexicographic.{pointwise}
+use Rattle.std.specs.FinMap.Entries.{find, find-put, where_key}
+use Rattle.std.specs.Ordering.{eq_by_cmp, int_cmp, is_eq}
+use Rattle.std.specs.declared.cmp.Ordering.TheVariants.{Less}
+use Rattle.std.proofs.lemmas.Cmp.{int_cmp_total, int_eq_equiv, nat_list_cmp_total, nat_list_eq_equiv}
+use Rattle.std.proofs.lemmas.Map.Lookups.{exact_bytes}
+use Rattle.std.proofs.lemmas.Map.Views.{tells_apart}
+use Rattle.sqlval.specs.Names.{folded}
+use Rattle.sqlval.specs.Refusals.{Answer, ◌then◌, NoSuch, fold_answer}
+use Rattle.sqlval.specs.Sameness.{is_same_value}
+use Rattle.sqlval.specs.declared.value.Value.{Value}
+use Rattle.sqlval.specs.declared.value.Value.TheVariants.{Null, Int, Text, Blob}
+use Rattle.catalog.specs.Database as database
+use Rattle.catalog.specs.Database.{Name, Database, Object, ATable, AnIndex, AView, ATrigger, name_order, object, row, with_object, without_row}
+use Rattle.catalog.specs.Laws.{KeepsOnlyTables}
+use Rattle.catalog.specs.Listed.{has_only_tables, plain_table}
+use Rattle.catalog.specs.Named.{IsNamed, KeepsNamed, OneDatabase}
+use Rattle.catalog.specs.declared.tables.Table.{Table}
+use Rattle.rowprog.specs.Rows.{TableRow}
+use Rattle.dml.specs.Agreement.{DeletesRows, IsStill}
+use Rattle.dml.specs.Constraints.{table_of}
+use Rattle.dml.specs.RowChanges.{Fire, delete_row}
+use Rattle.dml.proofs.Folding.{put_again, put_there}
+use Rattle.dml.proofs.Rising.{Climbs, Rises, fit_rows_rise, further}
+
+-- ---- one row
+
+same_value : (v : Value) → is_same_value v v ≡ true
+same_value Null = refl
+same_value (Int n) = int_eq_equiv.refl n
+same_value (Text t) = nat_list_eq_equiv.refl t
+same_value (Blob b) = nat_list_eq_equiv.refl b
+
+same_values : (vs : List Value) → pointwise is_same_value vs vs ≡ true
+same_values [] = refl
+same_values (v ∷ vs) = ap (λ b. b && pointwise is_same_value vs vs) (same_value v) ∙ same_values vs
+
+-- the first row has its rowid
+found_first : (r : TableRow) (rows : List TableRow) → find int_cmp r.0 (r ∷ rows) ≡ Some r.1
+found_first r rows = ap (λ o. cond (is_eq o) (Some r.1) (find int_cmp r.0 rows)) (tied_itself int_cmp_total r.0)
+
+-- rows above a rowid don't have it
+others_stay : (id : ℤ) (rows : List TableRow) → Climbs id rows → where_key int_cmp (λ k. not (eq_by_cmp int_cmp id k)) rows ≡ rows
+others_stay id [] climb = refl
+others_stay id (r ∷ rows) climb =
+    ap (λ o. cond (not (is_eq o)) (r ∷ where_key int_cmp (λ k. not (eq_by_cmp int_cmp id k)) rows) (where_key int_cmp (λ k. not (eq_by_cmp int_cmp id k)) rows)) (sym (int_cmp_is id r.0 Less climb.0))
+    ∙ ap (λ (rest : List TableRow). r ∷ rest) (others_stay id rows (lower id r.0 rows climb.0 climb.1))
+  where
+    lower : (a b : ℤ) (rows : List TableRow) → a <ℤ b → Climbs b rows → Climbs a rows
+    lower a b [] lt climb = tt
+    lower a b (r ∷ rows) lt climb = (further a b r.0 lt climb.0, climb.1)
+
+first_gone : (r : TableRow) (rows : List TableRow) → Rises (r ∷ rows) → where_key int_cmp (λ k. not (eq_by_cmp int_cmp r.0 k)) (r ∷ rows) ≡ rows
+first_gone r rows rises =
+    ap (λ o. cond (not (is_eq o)) (r ∷ where_key int_cmp (λ k. not (eq_by_cmp int_cmp r.0 k)) rows) (where_key int_cmp (λ k. not (eq_by_cmp int_cmp r.0 k)) rows)) (tied_itself int_cmp_total r.0)
+    ∙ others_stay r.0 rows rises
+
+rest_rises : (r : TableRow) (rows : List TableRow) → Rises (r ∷ rows) → Rises rows
+rest_rises r [] rises = tt
+rest_rises r (next ∷ rows) rises = rises.1
+
+-- ---- all rows
+
+abbrev table_in : Option Object → Answer database.Table
+table_in o = elim o [ Some (ATable t) ↦ Ok t | _ ↦ Err NoSuch ]
+
+abbrev given : database.Table → Answer database.Table
+given t = Ok t
+
+same_table : (a b : database.Table) → given a ≡ given b → a ≡ b
+same_table a b e = cc
+
+is_there : (o : Option Object) (t : database.Table) → table_in o ≡ Ok t → o ≡ Some (ATable t)
+is_there (Some (ATable u)) t e = ap (λ x. Some (ATable x)) (same_table u t e)
+is_there (Some (AnIndex i)) t e = absurd cc
+is_there (Some (AView v)) t e = absurd cc
+is_there (Some (ATrigger g)) t e = absurd cc
+is_there None t e = absurd cc
+
+-- a table that is put where it stands changes nothing
+put_itself : OneDatabase → KeepsNamed → (db : Database) (name : Name) (t : database.Table) → IsNamed db → table_of db name ≡ Ok t → with_object db name (ATable t) ≡ db
+put_itself one keeps db name t named is = one (with_object db name (ATable t)) db (keeps db name (ATable t) named) named same
+  where
+    by_test : (other : Name) (b : Bool) → eq_by_cmp name_order (folded other) (folded name) ≡ b → cond b (Some (ATable t)) (object db other) ≡ object db other
+    by_test other true e = sym (ap (λ n. find name_order n db) (tells_apart exact_bytes (folded other) (folded name) e) ∙ is_there (object db name) t is)
+    by_test other false e = refl
+
+    same : (other : Name) → object (with_object db name (ATable t)) other ≡ object db other
+    same other = find-put name_order nat_list_cmp_total (folded other) (folded name) (ATable t) db ∙ by_test other (eq_by_cmp name_order (folded other) (folded name)) refl
+
+module _ (fire : Fire) (name : Name) (table : Table) (still : IsStill fire) (keeps : KeepsOnlyTables) where
+  -- the table with these rows
+  abbrev with_rows : Database → List TableRow → Database
+  with_rows db rows = with_object db name (ATable (plain_table table rows))
+
+  row_goes : (db : Database) (r : TableRow) (rows : List TableRow) → has_only_tables db ≡ true → table_of db name ≡ Ok (plain_table table (r ∷ rows)) → Rises (r ∷ rows)
+      → delete_row fire name db r.0 ≡ Ok (with_rows db rows)
+  row_goes db r rows only is rises =
+      let found : row (plain_table table (r ∷ rows)) r.0 ≡ Some r.1 = found_first r rows in
+      let gone : without_row r.0 (plain_table table (r ∷ rows)) ≡ plain_table table rows = ap (plain_table table) (first_gone r rows rises) in
+      let later : has_only_tables (with_rows db rows) ≡ true = keeps db name (plain_table table rows) only in
+      rw (is, found, still, is, found, same_values r.1, gone, still, ◌then◌) refl
+
+  folds : (rows : List TableRow) (db : Database) → has_only_tables db ≡ true → table_of db name ≡ Ok (plain_table table rows) → Rises rows → with_rows db rows ≡ db
+      → fold_answer (delete_row fire name) db (map (λ row. row.0) rows) ≡ Ok (with_rows db [])
+  folds [] db only is rises there = ap (λ (d : Database). Ok d) (sym there)
+  folds (r ∷ rows) db only is rises there =
+      ap (λ (a : Answer Database). a then λ b. fold_answer (delete_row fire name) b (map (λ row. row.0) rows)) (row_goes db r rows only is rises)
+      ∙ (folds rows (with_rows db rows) (keeps db name (plain_table table rows) only) (put_there db name (plain_table table rows)) (rest_rises r rows rises) (again rows)
+      ∙ ap (λ (d : Database). Ok d) (again []))
+    where
+      again : (more : List TableRow) → with_rows (with_rows db rows) more ≡ with_rows db more
+      again more = put_again (folded name) (ATable (plain_table table rows)) (ATable (plain_table table more)) db
+
+pub deletes_rows : KeepsOnlyTables → OneDatabase → KeepsNamed → DeletesRows
+deletes_rows keeps one named fire name db table rows still only in_order is fit =
+    folds fire name table still keeps rows db only is (fit_rows_rise (plain_table table rows) fit) (put_itself one named db name (plain_table table rows) in_order is)

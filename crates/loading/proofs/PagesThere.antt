@@ -1,0 +1,76 @@
+-- Page 0 is none of a tree and none of the freelist.
+use Rattle.std.proofs.Common.{◌≡◌, ◌≤◌, ◌-◌, ◌++◌, ℕ, zero, suc, ℤ, List, [], ◌∷◌, refl, subst, arith, drop}
+use Rattle.std.proofs.lemmas.Grind.{common_steps}
+use Rattle.std.specs.List.{AllByRecursion, flat_map}
+use Rattle.page.specs.Leaf.{Entry}
+use Rattle.pages.specs.Counting.{occurs}
+use Rattle.pages.specs.Map.{PageMap, Has}
+use Rattle.freelist.specs.Freelist as freelist
+use Rattle.freelist.specs.Freelist.{Trunk, AreTrunks, IsFreelist, first_of}
+use Rattle.treepage.specs.Cells.{Pairwise}
+use Rattle.treepage.specs.Node.{Local}
+use Rattle.overflow.specs.Chains.{IsChain}
+use Rattle.forest.specs.Sides.{Each, each_of, nothing}
+use Rattle.tabletree.specs.Tree.{Held, IsHeldAs, IsTableTree, Lies, Tree, pages_of}
+use Rattle.filecheck.specs.Layout.{Owner, used_by}
+use Rattle.catalog.specs.declared.tables.Table.{Table}
+use Rattle.pagecheck.proofs.Parting.{occurs_append}
+use Rattle.loading.specs.Uses.{AreUses, IsOwnerOf, Uses, pages_used}
+use Rattle.dbheader.specs.declared.fields.Header.{Header}
+
+none_first : (x : ℕ) (xs : List ℕ) → 1 ≤ x → occurs 0 xs ≡ 0 → occurs 0 (x ∷ xs) ≡ 0
+none_first x xs some rest = grind (arith, common_steps)
+
+none_both : (xs ys : List ℕ) → occurs 0 xs ≡ 0 → occurs 0 ys ≡ 0 → occurs 0 (xs ++ ys) ≡ 0
+none_both xs ys a b = (let h = occurs_append 0 xs ys in omega (arith, h, a, b))
+
+-- ---- a tree
+
+none_of_chain : (map : PageMap) (usable : ℕ) (bytes pages : List ℕ) → IsChain map usable bytes pages → occurs 0 pages ≡ 0
+none_of_chain map usable bytes [] chain = refl
+none_of_chain map usable bytes (page ∷ pages) chain = none_first page pages chain.0.has.first (none_of_chain map usable (drop (usable - 4) bytes) pages chain.1)
+
+none_of_rows : (map : PageMap) (size : ℕ) (said : List (ℤ × Local)) (rows : List Held) → Pairwise (IsHeldAs map size) said rows → occurs 0 (flat_map (λ held. held.pages) rows) ≡ 0
+none_of_rows map size [] [] all = refl
+none_of_rows map size [] (row ∷ rows) all = absurd all
+none_of_rows map size (item ∷ said) [] all = absurd all
+none_of_rows map size (item ∷ said) (row ∷ rows) all =
+    none_both row.pages (flat_map (λ (held : Held). held.pages) rows) (none_of_chain map size _ row.pages all.0.payload.chain) (none_of_rows map size said rows all.1)
+
+none_of_each : {T K : Type 0} (P : T → Type 0) (pages : T → List ℕ) → ((t : T) → P t → occurs 0 (pages t) ≡ 0) → (kids : List (T × K)) (last : T) → Each P kids last → occurs 0 (each_of pages nothing kids last) ≡ 0
+none_of_each P pages none [] last all = none last all
+none_of_each P pages none (kid ∷ kids) last all = none_both (pages kid.0) (each_of pages nothing kids last) (none kid.0 all.0) (none_of_each P pages none kids last all.1)
+
+none_of_tree : (map : PageMap) (size depth : ℕ) (t : Tree depth) → Lies map size depth t → occurs 0 (pages_of depth t) ≡ 0
+none_of_tree map size zero t lies = none_first t.page (flat_map (λ (held : Held). held.pages) t.rows) lies.says.has.first (none_of_rows map size lies.said t.rows lies.rows)
+none_of_tree map size (suc depth) t lies =
+    none_first t.page (each_of (pages_of depth) nothing t.kids t.last) lies.0.has.first (none_of_each (Lies map size depth) (pages_of depth) (none_of_tree map size depth) t.kids t.last lies.1)
+
+none_of_table : (map : PageMap) (size root : ℕ) (rows : List Entry) (used : List ℕ) → IsTableTree map size root rows used → occurs 0 used ≡ 0
+none_of_table map size root rows used tree = subst (λ (pages : List ℕ). occurs 0 pages ≡ 0) tree.used_are (none_of_tree map size tree.depth tree.tree tree.lies)
+
+-- ---- the freelist
+
+none_of_leaves : (map : PageMap) (leaves : List ℕ) → AllByRecursion (Has map) leaves → occurs 0 leaves ≡ 0
+none_of_leaves map [] all = refl
+none_of_leaves map (leaf ∷ leaves) all = none_first leaf leaves all.0.first (none_of_leaves map leaves all.1)
+
+none_of_trunks : (map : PageMap) (size : ℕ) (trunks : List Trunk) → AreTrunks map size trunks → occurs 0 (freelist.pages_of trunks) ≡ 0
+none_of_trunks map size [] all = refl
+none_of_trunks map size (trunk ∷ trunks) all =
+    none_first trunk.page (trunk.leaves ++ freelist.pages_of trunks) all.0.has.first
+    (none_both trunk.leaves (freelist.pages_of trunks) (none_of_leaves map trunk.leaves all.0.leaves) (none_of_trunks map size trunks all.1))
+
+-- ---- all of them
+
+none_of_owners : (map : PageMap) (size : ℕ) (tables : List Table) (owners : List Owner) → Pairwise (IsOwnerOf map size) tables owners → occurs 0 (used_by owners) ≡ 0
+none_of_owners map size [] [] all = refl
+none_of_owners map size [] (owner ∷ owners) all = absurd all
+none_of_owners map size (t ∷ tables) [] all = absurd all
+none_of_owners map size (t ∷ tables) (owner ∷ owners) all =
+    none_both owner.used (used_by owners) (none_of_table map size t.root all.0.entries owner.used all.0.tree) (none_of_owners map size tables owners all.1)
+
+pub none_of_uses : (map : PageMap) (size : ℕ) (header : Header) (tables : List Table) (uses : Uses) → AreUses map size header tables uses → occurs 0 (pages_used uses) ≡ 0
+none_of_uses map size header tables uses are =
+    none_both uses.schema_used (used_by uses.owners ++ freelist.pages_of uses.trunks) (none_of_table map size 1 uses.schema uses.schema_used are.tree)
+    (none_both (used_by uses.owners) (freelist.pages_of uses.trunks) (none_of_owners map size tables uses.owners are.each) (none_of_trunks map size uses.trunks are.listed.trunks_are))

@@ -1,0 +1,172 @@
+-- What a statement's change of a writer's pages comes to for the two files.
+use Rattle.std.proofs.Common.{◌≡◌, ◌∙◌, ◌≤◌, ◌*◌, ◌/◌, refl, sym, ap, subst, arith, ℕ, List, [], ◌∷◌, length, take, true}
+use Rattle.std.proofs.lemmas.List.{length-append, take-append-le}
+use Rattle.std.specs.Prelude.{⊤, Result, Ok, Err, IsTrue, MatchResult, OnErr, max, min}
+use Rattle.std.proofs.Math.Nat.{div-mul-le_self, mul-le-mul_left, mul-le-mul_right}
+use Rattle.sqlval.specs.declared.fault.Fault.{Fault}
+use Rattle.disk.specs.declared.device.Disk.{Ghosts}
+use Rattle.syntax.specs.declared.statement.Statement.{Statement}
+use Rattle.catalog.specs.Database.{Database}
+use Rattle.catalog.specs.Listed.{committed_in, tables_of}
+use Rattle.catalog.specs.declared.tables.Catalog.{Catalog}
+use Rattle.catalog.specs.declared.tables.Table.{Table}
+use Rattle.wal.specs.LogState.{LogState, state_of}
+use Rattle.wal.specs.Sizes.{IsSizeWithinLimits}
+use Rattle.wal.specs.declared.log.Log.{Log}
+use Rattle.wal.specs.declared.log.Snapshot.{Snapshot}
+use Rattle.pages.specs.Map.{PageMap}
+use Rattle.pager.specs.Limits.{page_size_of, pages_of}
+use Rattle.pager.specs.Maps.{pages_in}
+use Rattle.pager.specs.Sights.{UnderReader, UnderWriter, map_over, tells_writer, under_reader, under_writer}
+use Rattle.pager.specs.Sound.{IsSound, is_sound, most_of}
+use Rattle.pager.specs.Views.{Tells, View, after, changes_of, view_at, view_of}
+use Rattle.pager.specs.Writers.{snapshot_of}
+use Rattle.pager.specs.declared.writer.Writer.{Writer}
+use Rattle.pager.specs.Marks.{Changes, IsOverTheSame, now_of}
+use Rattle.pager.proofs.Sounding.{sound_alike, sound_from, sound_to}
+use Rattle.pager.proofs.WriterSights.{map_told}
+use Rattle.storage.specs.Changing as pages
+use Rattle.storage.specs.Stored.{Stores}
+use Rattle.session.specs.Changing.{CanChange, ChangesPages, KeepsListed, Listing, listing}
+use Rattle.session.specs.Representation.{IsNewest, IsWriter, ShowTheSame}
+use Rattle.session.specs.Stored.{ShowsDatabase}
+use Rattle.session.proofs.KeptFiles.{changes_stored, changes_told, files_kept}
+use Rattle.session.proofs.Settled.{still_settled}
+use Rattle.session.proofs.Showing.{still_newest}
+
+-- no more pages than there may be are within the limits
+pub few_pages : (pages page_size : ℕ) → pages ≤ most_of page_size → IsSizeWithinLimits page_size pages
+few_pages pages page_size le =
+    let most = div-mul-le_self 1073741824 (max 1 page_size) in
+    let wide = mul-le-mul_left pages (let le : page_size ≤ max 1 page_size = omega arith in le) in
+    let all = mul-le-mul_right (max 1 page_size) (let few : pages ≤ 1073741824 / max 1 page_size = omega (arith, le) in few) in
+    record { few = omega (arith, le); small = omega (arith, wide, all, most) }
+
+pub on_any_err : {T : Type 0} (r : Result T Fault) (P : Type 0) → P → OnErr r P
+on_any_err (Ok x) P is = tt
+on_any_err (Err f) P is = is
+
+-- the tables of a catalog that gets one table at most, after those that it has
+pub record KeepsTables (catalog next : Catalog) : Type 0 where
+  pub kept : take (committed_in catalog) (tables_of next) ≡ take (committed_in catalog) (tables_of catalog)
+  pub listed : committed_in next ≤ length (tables_of next)
+
+pub keeps_tables : (catalog next : Catalog) (r : Result ⊤ Fault) → committed_in next ≡ committed_in catalog → committed_in catalog ≤ length (tables_of catalog)
+    → MatchResult r (λ done. pages.IsOneMore (tables_of catalog) (tables_of next)) (λ f. tables_of next ≡ tables_of catalog) → KeepsTables catalog next
+keeps_tables catalog next (Ok done) committed listed more = record {
+  kept = ap (take (committed_in catalog)) more.1 ∙ take-append-le (committed_in catalog) (tables_of catalog) (more.0 ∷ []) listed;
+  listed = (let long = ap length more.1 ∙ length-append (tables_of catalog) (more.0 ∷ []) in omega (arith, committed, listed, long));
+}
+keeps_tables catalog next (Err f) committed listed same = record {
+  kept = ap (take (committed_in catalog)) same;
+  listed = (let long = ap length same in omega (arith, committed, listed, long));
+}
+
+pub kept_at_err : (r : Result ⊤ Fault) (before after : List Table) → MatchResult r (λ done. pages.IsOneMore before after) (λ f. after ≡ before) → OnErr r (after ≡ before)
+kept_at_err (Ok done) before after is = tt
+kept_at_err (Err f) before after is = is
+
+module _ {D : Type 0} {g : Ghosts D} where
+  -- a writer whose schema change is noted sees what it saw
+  noted_view : (files : Log D g) (w v : Writer) → now_of v ≡ record (now_of w) { makes_objects = true } → IsOverTheSame w v → view_of files v ≡ view_of files w
+  noted_view files w v now over = λ k. after (view_at files (over.snapshot k)) ((now k).pages) ((now k).size)
+
+  noted_writer : (files : Log D g) (w v : Writer) → now_of v ≡ record (now_of w) { makes_objects = true } → IsOverTheSame w v → IsWriter files w → IsWriter files v
+  noted_writer files w v now over is = record {
+    newest = subst (IsNewest files) (sym over.snapshot) is.newest;
+    sound = sound_alike w v (record { size = ap (λ (c : Changes). c.size) now; page_size = over.page_size; snapshot = over.snapshot }) (ap (λ (c : Changes). c.pages) now) is.sound;
+    page_size = over.page_size ∙ is.page_size;
+  }
+
+  pub noted : (s : Statement) (old next : Listing D g) (w v end : Writer) (db : Database) → now_of end ≡ record (now_of v) { makes_objects = true } → IsOverTheSame v end
+      → ChangesPages s old w db (Ok tt) next v → ChangesPages s old w db (Ok tt) next end
+  noted s old next w v end db now over has = record {
+    kept = has.kept;
+    made = has.made;
+    reaches = has.reaches;
+    applies = record {
+      told = has.applies.told;
+      settled = has.applies.settled;
+      writer = noted_writer next.files v end now over has.applies.writer;
+      stored = subst (λ (x : View). ShowsDatabase x (tables_of next.catalog) has.made) (sym (noted_view next.files v end now over)) has.applies.stored;
+      listed = has.applies.listed;
+    };
+  }
+
+  -- a writer that changes the database of a catalog's tables has pages that tell their bytes
+  pub tells_changes : (files : Log D g) (catalog : Catalog) (w : Writer) (db : Database) (a n b : ℕ) → CanChange (listing files catalog) w db → IsTrue (tells_writer (under_writer files w a n b))
+  tells_changes files catalog w db a n b on = changes_told files w a n b on.told on.writer
+
+  -- and they are those that it sees
+  stored_over : (files : Log D g) (catalog : Catalog) (w : Writer) (db : Database) (a b : ℕ) → (on : CanChange (listing files catalog) w db)
+      → Stores (map_over (under_reader files (snapshot_of w) a b) w) (page_size_of w) (tables_of catalog) db
+  stored_over files catalog w db a b on = changes_stored files w (tables_of catalog) db a b on.told on.writer on.stored
+
+  module _ (old new : Log D g) (w v : Writer) (a n b c m d : ℕ) (kept : under_writer new v c m d ≡ under_writer old w a n b) where
+    reader_kept : under_reader new (snapshot_of v) c d ≡ under_reader old (snapshot_of w) a b
+    reader_kept = ap (λ (under : UnderWriter). under.reader) kept
+
+    pub shows_same : Tells old → ShowTheSame old new
+    shows_same = files_kept old new (snapshot_of w) (snapshot_of v) a b c d reader_kept
+
+    snapshot_same : snapshot_of v ≡ snapshot_of w
+    snapshot_same = ap (λ (under : UnderReader). under.snapshot) reader_kept
+
+    page_size_same : page_size_of v ≡ page_size_of w
+    page_size_same = ap (λ (under : UnderWriter). under.page_size) kept
+
+    sound_still : IsSound w → IsSound v
+    sound_still is = sound_from v (ap (λ (under : UnderWriter). under.is_sound) kept ∙ sound_to w is)
+
+    writer_still : ShowTheSame old new → IsWriter old w → IsWriter new v
+    writer_still same is = record {
+      newest = subst (IsNewest new) (sym snapshot_same) (still_newest old new (snapshot_of w) same is.newest);
+      sound = sound_still is.sound;
+      page_size = page_size_same ∙ is.page_size ∙ ap (λ (k : LogState). k.page_size) (sym same.known);
+    }
+
+    map_now : Tells new → map_over (under_reader new (snapshot_of v) c d) v ≡ pages_in (view_of new v)
+    map_now told = map_told new v c d told
+
+    served_now : ShowTheSame old new → IsWriter old w → IsSizeWithinLimits (view_of new v).page_size (view_of new v).size
+    served_now same is =
+        subst (λ (p : ℕ). IsSizeWithinLimits p (pages_of v)) (page_size_same ∙ is.page_size ∙ ap (λ (k : LogState). k.page_size) (sym same.known))
+        (few_pages (pages_of v) (page_size_of v) (sound_still is.sound).within)
+
+    -- what the pages hold then is what the writer sees
+    stored_now : (tables : List Table) (made : Database) → ShowTheSame old new → IsWriter old w → Stores (map_over (under_reader new (snapshot_of v) c d) v) (page_size_of w) tables made → ShowsDatabase (view_of new v) tables made
+    stored_now tables made same is stored = record {
+      stored = subst (λ (map : PageMap). Stores map (view_of new v).page_size tables made) (map_now same.told)
+          (subst (λ (p : ℕ). Stores (map_over (under_reader new (snapshot_of v) c d) v) p tables made) (is.page_size ∙ ap (λ (k : LogState). k.page_size) (sym same.known)) stored);
+      served = served_now same is;
+    }
+
+    refused_over : (s : Statement) (catalog : Catalog) (db : Database) (f : Fault) → (on : CanChange (listing old catalog) w db)
+        → pages.IsChangeRefusal s (map_over (under_reader old (snapshot_of w) a b) w) (page_size_of w) db f → pages.IsChangeRefusal s (pages_in (view_of old w)) (view_of old w).page_size db f
+    refused_over s catalog db f on why =
+        subst (λ (map : PageMap). pages.IsChangeRefusal s map (view_of old w).page_size db f) (map_told old w a b on.told)
+        (subst (λ (p : ℕ). pages.IsChangeRefusal s (map_over (under_reader old (snapshot_of w) a b) w) p db f) on.writer.page_size why)
+
+    -- what a change of the pages comes to
+    pub changed : (s : Statement) (catalog next : Catalog) (db : Database) (r : Result ⊤ Fault) → CanChange (listing old catalog) w db
+        → (ShowTheSame old new → KeepsListed (listing old catalog) (listing new next)) → committed_in next ≤ length (tables_of next)
+        → pages.MakesChange s (map_over (under_reader old (snapshot_of w) a b) w) (map_over (under_reader new (snapshot_of v) c d) v) (page_size_of w) (tables_of catalog) (tables_of next) r
+        → OnErr r (tables_of next ≡ tables_of catalog)
+        → ChangesPages s (listing old catalog) w db r (listing new next) v
+    changed s catalog next db (Ok done) on keeps listed makes refused =
+        let same = shows_same on.told in
+        let made = makes db (stored_over old catalog w db a b on) in
+        record {
+          kept = keeps same;
+          made = made.made;
+          reaches = made.reaches;
+          applies = record {
+            told = same.told;
+            settled = still_settled old new same on.settled;
+            writer = writer_still same on.writer;
+            stored = stored_now (tables_of next) made.made same on.writer made.stored;
+            listed = listed;
+          };
+        }
+    changed s catalog next db (Err f) on keeps listed makes refused =
+        record { kept = keeps (shows_same on.told); tables = refused; why = refused_over s catalog db f on (makes db (stored_over old catalog w db a b on)) }

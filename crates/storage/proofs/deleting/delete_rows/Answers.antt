@@ -1,0 +1,31 @@
+use Rattle.catalog.specs.Listed.{tables_of}
+use Rattle.storage.proofs.Deletions.{Laws, clear_makes, name_refused}
+use Rattle.storage.proofs.Insertions.{passed_on}
+use Rattle.storage.proofs.deleting.delete_rows.Goals as goal
+
+pub returns-in_err-table-clause-made : goal.returns-in_err-table-clause-made
+returns-in_err-table-clause-made g c told supported_forms db held =
+    let laws : Laws = record {
+      lists = c.other_rows_are_listed.ensures.lists;
+      tables = c.other_rows_are_listed.ensures.tables;
+      named = c.named_databases_are_one.ensures.named;
+      binds = c.only_tables_set_nothing_off.ensures.binds;
+      deletes = c.only_tables_set_nothing_off.ensures.deletes;
+      stand = c.table_trees_stand.ensures;
+      give_way = c.trees_give_way.ensures;
+    } in
+    passed_on _ _ c.from_residual.result c.in_err-table.field-0.0 c.from_residual.ensures.1
+    (name_refused laws _ _ (tables_of c.args.catalog.now) db held c.args.delete.now supported_forms c.in_err-table.field-0.0 c.in_err-table.ensures.refused)
+
+pub returns-clause-made : goal.returns-clause-made
+returns-clause-made g c told supported_forms db held =
+    let laws : Laws = record {
+      lists = c.other_rows_are_listed.ensures.lists;
+      tables = c.other_rows_are_listed.ensures.tables;
+      named = c.named_databases_are_one.ensures.named;
+      binds = c.only_tables_set_nothing_off.ensures.binds;
+      deletes = c.only_tables_set_nothing_off.ensures.deletes;
+      stand = c.table_trees_stand.ensures;
+      give_way = c.trees_give_way.ensures;
+    } in
+    clear_makes laws _ _ (tables_of c.args.catalog.now) db held c.args.delete.now supported_forms c.in_ok-table.table.now c.in_ok-table.ensures.found _ c.clear.result (c.clear.ensures.cleared told)
