@@ -8,7 +8,7 @@ use std::alloc::Global;
 use std::test::*;
 
 /// How many commits the script has.
-const COMMITS: usize = 10;
+const COMMITS: usize = 8;
 
 /// More calls of a file than the script makes.
 const MOST_CALLS: u64 = 64;
