@@ -19,8 +19,8 @@ use Rattle.catalog.specs.Database.{Name, Database, AView, with_object}
 use Rattle.bind.specs.Checked.{faults}
 use Rattle.bind.specs.Queries.{resolve_query}
 use Rattle.bind.specs.Schema.{create_index, create_table, create_trigger}
-use Rattle.bind.specs.Terms.{CountAll}
-use Rattle.bind.specs.Values.{aggregated}
+use Rattle.terms.specs.declared.tree.Aggregate.TheVariants.{CountAll}
+use Rattle.terms.specs.Values.{aggregated}
 use Rattle.bind.specs.Views.{answer, look_up}
 use Rattle.bind.proofs.Written.{number, named, named_of, from, from_as, joined, select, result, rising, col, table, int, column_with, table_with}
 

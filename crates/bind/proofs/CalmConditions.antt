@@ -12,8 +12,12 @@ use Rattle.sqlval.specs.declared.collation.Collation.{Collation}
 use Rattle.sqlval.specs.declared.value.Value.{Value}
 use Rattle.sqlval.specs.declared.value.Value.TheVariants.{Null, Int, Text, Blob}
 use Rattle.bind.specs.Calm.{is_side, converts_literal, converts, is_calm_pair, are_calm_sides, is_calm_among, is_calm}
-use Rattle.bind.specs.Terms.{Term, Terms, Const, Digits, Cell, One, Two, In, Between, End, More, Comparison, Equal, GreaterOrEqual, LessOrEqual, Not, Compare, Is, IsNot, And, Or, affinity, collation, collation_of_two}
-use Rattle.bind.specs.Values.{conversion, Environment, value, truth, of_bool, of_truth, compared, compare, same_as, is_met, both_converted, negated, turned, between, and_also, or_else, and_after, or_after, both_hold, one_holds, value_among}
+use Rattle.terms.specs.Terms.{Term, Terms, Const, Digits, Cell, One, Two, In, Between, End, More, affinity, collation, collation_of_two}
+use Rattle.terms.specs.declared.tree.Comparison.{Comparison}
+use Rattle.terms.specs.declared.tree.Comparison.TheVariants.{Equal, GreaterOrEqual, LessOrEqual}
+use Rattle.terms.specs.declared.tree.OneSided.TheVariants.{Not}
+use Rattle.terms.specs.declared.tree.TwoSided.TheVariants.{Compare, Is, IsNot, And, Or}
+use Rattle.terms.specs.Values.{conversion, Environment, value, truth, of_bool, of_truth, compared, compare, same_as, is_met, both_converted, negated, turned, between, and_also, or_else, and_after, or_after, both_hold, one_holds, value_among}
 
 left : (x y : Bool) → (x && y) ≡ true → x ≡ true
 left true y h = refl

@@ -19,8 +19,10 @@ use Rattle.catalog.specs.declared.tables.Column.{Column}
 use Rattle.catalog.specs.declared.tables.Table.{Table}
 use Rattle.bind.specs.Bound.{IsTheOne, Means, IsFaultOf, is_twice_named, source_seen}
 use Rattle.bind.specs.Checked.{Checked, faults, the_one}
-use Rattle.bind.specs.Scopes.{ScopeColumn, named_from, named_in, fits, resolve_column, table_scope}
-use Rattle.bind.specs.Terms.{Term, Const, Cell, At, RowId}
+use Rattle.bind.specs.Scopes.{named_from, named_in, fits, resolve_column, table_scope}
+use Rattle.bind.specs.declared.scope.ScopeColumn.{ScopeColumn}
+use Rattle.terms.specs.Terms.{Term, Const, Cell}
+use Rattle.terms.specs.declared.tree.Place.TheVariants.{At, RowId}
 use Rattle.bind.specs.declared.queries.Output.{Output}
 use Rattle.bind.specs.declared.queries.Output.TheVariants as out
 

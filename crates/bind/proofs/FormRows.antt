@@ -7,7 +7,11 @@ use Rattle.sqlval.specs.declared.collation.Collation.TheVariants.{Binary}
 use Rattle.sqlval.specs.declared.value.Value.TheVariants.{Text}
 use Rattle.catalog.specs.Database.{Name}
 use Rattle.bind.specs.Calm.{is_calm, is_search}
-use Rattle.bind.specs.Terms.{Term, Const, Digits, Cell, At, RowId, One, Two, Compare, Less, Greater, Equal, And, Negated}
+use Rattle.terms.specs.Terms.{Term, Const, Digits, Cell, One, Two}
+use Rattle.terms.specs.declared.tree.Comparison.TheVariants.{Less, Greater, Equal}
+use Rattle.terms.specs.declared.tree.OneSided.TheVariants.{Negated}
+use Rattle.terms.specs.declared.tree.TwoSided.TheVariants.{Compare, And}
+use Rattle.terms.specs.declared.tree.Place.TheVariants.{At, RowId}
 
 abbrev a : Name
 a = codes "a"

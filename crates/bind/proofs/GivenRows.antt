@@ -25,8 +25,8 @@ use Rattle.bind.specs.Expressions.{resolve}
 use Rattle.bind.specs.Inserts.{AreColumns, IsInsertFault, IsListRefusal, IsRowsFault, has_unknown, places_in, written_values}
 use Rattle.bind.specs.Checked.{meant}
 use Rattle.bind.specs.Readings.{env_of}
-use Rattle.bind.specs.Scopes.{ScopeSource}
-use Rattle.bind.specs.Values.{Environment, value}
+use Rattle.bind.specs.declared.scope.ScopeSource.{ScopeSource}
+use Rattle.terms.specs.Values.{Environment, value}
 
 -- ---- the first item that passes
 

@@ -1,4 +1,5 @@
 mod BindingRows
+pub mod BoundLists
 pub mod CalmConditions
 pub mod ColumnNames
 pub mod CreatedTables
@@ -6,6 +7,7 @@ pub mod EachRow
 mod FormRows
 pub mod GivenRows
 pub mod KnownTables
+pub mod PartRefusals
 pub mod PlainAnswers
 pub mod PlainFlows
 pub mod PlainReading
@@ -13,6 +15,7 @@ mod QueryRows
 pub mod ResultItems
 mod ResultRows
 pub mod SupportedRefusals
+pub mod Trees
 mod ViewRows
 pub mod Written
 mod Plain

@@ -7,10 +7,13 @@ use Rattle.sqlval.specs.Lists.{sorted, placed}
 use Rattle.sqlval.specs.Refusals.{Answer, ◌then◌}
 use Rattle.sqlval.specs.declared.value.Value.{Value}
 use Rattle.sqlval.specs.declared.value.Value.TheVariants.{Null}
-use Rattle.bind.specs.Readings.{Reading, Condition, Always, Where, OrNulls, crossed, joined, combined, filtered, env_of, holds, values, rows_over}
+use Rattle.bind.specs.Readings.{crossed, joined, combined, filtered, env_of, holds, values, rows_over}
+use Rattle.bind.specs.declared.reading.Reading.{Reading}
+use Rattle.bind.specs.declared.reading.Condition.{Condition}
+use Rattle.bind.specs.declared.reading.Condition.TheVariants.{Always, Where, OrNulls}
 use Rattle.bind.specs.Comprehension.{is_true, given_row, or_null_row, rows_beside, nested, passes, IsTold, IsToldJoin, IsToldFilter, IsPlain, IsComprehension}
-use Rattle.bind.specs.Terms.{Term}
-use Rattle.bind.specs.Values.{Row, Environment}
+use Rattle.terms.specs.Terms.{Term}
+use Rattle.terms.specs.Values.{Row, Environment}
 use Rattle.bind.proofs.PlainFlows.{collected_plain, for_each_plain}
 
 told_passed : {A : Type 0} (x : A) (xs : List A) (a : Answer (Option Bool)) → ((b : Option Bool) × (a ≡ Ok b))

@@ -5,9 +5,11 @@ use Rattle.sqlval.specs.Flow.{Flow, Finished, Next, flow_of, followed_by, for_ea
 use Rattle.sqlval.specs.Lists.{sorted, placed}
 use Rattle.sqlval.specs.Refusals.{Answer, ◌then◌, all_answers}
 use Rattle.sqlval.specs.declared.value.Value.{Value}
-use Rattle.bind.specs.Readings.{Reading, Always, combined, env_of, values, rows_over}
-use Rattle.bind.specs.Terms.{Term}
-use Rattle.bind.specs.Values.{Row, Environment}
+use Rattle.bind.specs.Readings.{combined, env_of, values, rows_over}
+use Rattle.bind.specs.declared.reading.Reading.{Reading}
+use Rattle.bind.specs.declared.reading.Condition.TheVariants.{Always}
+use Rattle.terms.specs.Terms.{Term}
+use Rattle.terms.specs.Values.{Row, Environment}
 
 -- ---- flows
 

@@ -16,9 +16,11 @@ use Rattle.bind.specs.Bound.{AreOnce, AreShown, GivesEach, HasOneSource, IsBound
 use Rattle.bind.specs.Grouping.{has, has_total, is_own_cell, keyed}
 use Rattle.bind.specs.Checked.{Checked, Meant, good, meant, faults, also, ◌and_then◌, unless}
 use Rattle.bind.specs.Queries.{Lookup, as_reading, is_open_item, resolve_items}
-use Rattle.bind.specs.Readings.{Reading, Condition, Always}
-use Rattle.bind.specs.Scopes.{ScopeColumn}
-use Rattle.bind.specs.Terms.{Term}
+use Rattle.bind.specs.declared.reading.Reading.{Reading}
+use Rattle.bind.specs.declared.reading.Condition.{Condition}
+use Rattle.bind.specs.declared.reading.Condition.TheVariants.{Always}
+use Rattle.bind.specs.declared.scope.ScopeColumn.{ScopeColumn}
+use Rattle.terms.specs.Terms.{Term}
 use Rattle.bind.specs.declared.names.Scope.{Scope}
 use Rattle.bind.specs.declared.queries.Output.{Output}
 

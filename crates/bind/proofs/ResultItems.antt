@@ -19,8 +19,10 @@ use Rattle.syntax.specs.declared.query.ResultItem.TheVariants.{AllOf}
 use Rattle.bind.specs.Bound.{IsFaultOf, IsOf, IsValueFault, Means, is_column, is_literal, ShowsAll, AreShown, IsShownAfter, columns_from, source_seen}
 use Rattle.bind.specs.Checked.{Checked, Meant, good, known_map, both, unless, faults}
 use Rattle.bind.specs.Queries.{cells_from, resolve_item, resolve_items, result_column}
-use Rattle.bind.specs.Scopes.{ScopeColumn, ScopeSource, table_scope}
-use Rattle.bind.specs.Terms.{Term}
+use Rattle.bind.specs.Scopes.{table_scope}
+use Rattle.bind.specs.declared.scope.ScopeColumn.{ScopeColumn}
+use Rattle.bind.specs.declared.scope.ScopeSource.{ScopeSource}
+use Rattle.terms.specs.Terms.{Term}
 use Rattle.bind.proofs.ColumnNames.{same_folded, folded_twice}
 use Rattle.bind.specs.declared.queries.Output.{Output}
 use Rattle.bind.specs.declared.queries.Output.TheVariants as out

@@ -20,10 +20,13 @@ use Rattle.bind.specs.Expressions.{resolve}
 use Rattle.bind.specs.Grouping.{has, has_total, is_own_cell, keyed}
 use Rattle.bind.specs.Checked.{Checked, Meant, good, bad, meant, faults, also, both, known_map, ◌and_then◌, unless}
 use Rattle.bind.specs.Queries.{Lookup, as_reading, is_open_item, resolve_item, resolve_items, resolve_query, result_column}
-use Rattle.bind.specs.Readings.{Reading, Condition, Always}
-use Rattle.bind.specs.Scopes.{ScopeColumn, ScopeSource}
+use Rattle.bind.specs.declared.reading.Reading.{Reading}
+use Rattle.bind.specs.declared.reading.Condition.{Condition}
+use Rattle.bind.specs.declared.reading.Condition.TheVariants.{Always}
+use Rattle.bind.specs.declared.scope.ScopeColumn.{ScopeColumn}
+use Rattle.bind.specs.declared.scope.ScopeSource.{ScopeSource}
 use Rattle.bind.specs.Supported.{IsSupportedResult, RefusesAsDefined}
-use Rattle.bind.specs.Terms.{Term}
+use Rattle.terms.specs.Terms.{Term}
 use Rattle.bind.specs.declared.names.Scope.{Scope}
 
 -- ---- refusals of what is made of several texts

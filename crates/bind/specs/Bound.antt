@@ -1,5 +1,5 @@
 -- What is looked up among listed tables, beside what its text stands for.
-use Rattle.std.specs.Prelude.{◌≡◌, ◌⊎◌, ⊤, ℕ, suc, ◌<◌, Bool, true, false, ◌||◌, List, [], ◌∷◌, ◌++◌, length, map, Option, Some, None, unwrap_or, IsSomeAnd, Vec, Result, Ok, Err}
+use Rattle.std.specs.Prelude.{◌≡◌, ◌⊎◌, ⊤, ℕ, suc, ◌<◌, Bool, true, false, ◌||◌, List, [], ◌∷◌, ◌++◌, length, map, Option, Some, None, unwrap_or, IsSomeAnd, Vec, Ok, Err}
 use Rattle.std.specs.List.{Any, Contains}
 use Rattle.sqlval.specs.Lists.{any_twice}
 use Rattle.sqlval.specs.Names.{folded, is_same_name}
@@ -26,10 +26,15 @@ use Rattle.bind.specs.Expressions.{resolve}
 use Rattle.bind.specs.Grouping.{has_total}
 use Rattle.bind.specs.Checked.{Checked, good, bad, meant, faults}
 use Rattle.bind.specs.Queries.{Lookup, resolve_item, resolve_items, resolve_query}
-use Rattle.bind.specs.Readings.{Reading, Condition, Always}
-use Rattle.bind.specs.Scopes.{ScopeColumn, ScopeSource, source_of, table_scope}
-use Rattle.bind.specs.Terms.{Term, RowId, At}
-use Rattle.bind.specs.Values.{Environment, value, cell}
+use Rattle.bind.specs.declared.reading.Reading.{Reading}
+use Rattle.bind.specs.declared.reading.Condition.{Condition}
+use Rattle.bind.specs.declared.reading.Condition.TheVariants.{Always}
+use Rattle.bind.specs.Scopes.{source_of, table_scope}
+use Rattle.bind.specs.declared.scope.ScopeColumn.{ScopeColumn}
+use Rattle.bind.specs.declared.scope.ScopeSource.{ScopeSource}
+use Rattle.terms.specs.Terms.{Term}
+use Rattle.terms.specs.declared.tree.Place.TheVariants.{RowId, At}
+use Rattle.terms.specs.Values.{Environment, value, cell}
 use Rattle.bind.specs.declared.names.Scope.{Scope}
 use Rattle.bind.specs.declared.queries.BoundSource.{BoundSource}
 use Rattle.bind.specs.declared.queries.Output.{Output}
@@ -135,11 +140,6 @@ width_of (Some s) = Some s.width
 -- one of these refusals, or the lack of memory
 abbrev pub IsFaultOf : List Refusal → Fault → Type 0
 IsFaultOf rs f = (f ≡ Memory) ⊎ Contains rs (refusal_of f)
-
--- the answer, or its refusal or the lack of memory
-abbrev pub Answers : {A : Type 0} → Answer A → Result A Fault → Type 0
-Answers answer (Ok x) = answer ≡ Ok x
-Answers answer (Err f) = (f ≡ Memory) ⊎ answer ≡ Err (refusal_of f)
 
 -- ---- values
 

@@ -5,9 +5,15 @@ use Rattle.sqlval.specs.Conversion.{is_word, converted}
 use Rattle.sqlval.specs.declared.affinity.Affinity.{Affinity}
 use Rattle.sqlval.specs.declared.affinity.Affinity.TheVariants as kind
 use Rattle.sqlval.specs.declared.value.Value.TheVariants.{Int}
-use Rattle.bind.specs.Readings.{Reading, Condition, Always, Where, OrNulls}
-use Rattle.bind.specs.Terms.{Term, Terms, Const, Digits, Cell, RowId, At, One, Two, In, Between, End, More, Compare, Equal, Is, IsNot, And, Or, Not, affinity}
-use Rattle.bind.specs.Values.{conversion}
+use Rattle.bind.specs.declared.reading.Reading.{Reading}
+use Rattle.bind.specs.declared.reading.Condition.{Condition}
+use Rattle.bind.specs.declared.reading.Condition.TheVariants.{Always, Where, OrNulls}
+use Rattle.terms.specs.Terms.{Term, Terms, Const, Digits, Cell, One, Two, In, Between, End, More, affinity}
+use Rattle.terms.specs.declared.tree.Comparison.TheVariants.{Equal}
+use Rattle.terms.specs.declared.tree.OneSided.TheVariants.{Not}
+use Rattle.terms.specs.declared.tree.TwoSided.TheVariants.{Compare, Is, IsNot, And, Or}
+use Rattle.terms.specs.declared.tree.Place.TheVariants.{RowId, At}
+use Rattle.terms.specs.Values.{conversion}
 
 -- a column or a literal
 abbrev pub is_side : Term → Bool

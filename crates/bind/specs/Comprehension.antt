@@ -4,9 +4,12 @@ use Rattle.std.specs.List.{AllByRecursion}
 use Rattle.sqlval.specs.Refusals.{Answer}
 use Rattle.sqlval.specs.declared.value.Value.{Value}
 use Rattle.sqlval.specs.declared.value.Value.TheVariants.{Null}
-use Rattle.bind.specs.Readings.{Reading, Condition, Always, Where, OrNulls, env_of, holds, values, rows_over}
-use Rattle.bind.specs.Terms.{Term}
-use Rattle.bind.specs.Values.{Row}
+use Rattle.bind.specs.Readings.{env_of, holds, values, rows_over}
+use Rattle.bind.specs.declared.reading.Reading.{Reading}
+use Rattle.bind.specs.declared.reading.Condition.{Condition}
+use Rattle.bind.specs.declared.reading.Condition.TheVariants.{Always, Where, OrNulls}
+use Rattle.terms.specs.Terms.{Term}
+use Rattle.terms.specs.Values.{Row}
 
 -- it has an answer and is true, not false or NULL
 abbrev pub is_true : Answer (Option Bool) → Bool

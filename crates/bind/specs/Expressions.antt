@@ -12,8 +12,18 @@ use Rattle.syntax.specs.declared.expr.Operator.{Operator}
 use Rattle.syntax.specs.declared.expr.Operator.TheVariants as op
 use Rattle.catalog.specs.Database.{Name}
 use Rattle.bind.specs.Checked.{Checked, good, bad, both, all_three, known_map, unless}
-use Rattle.bind.specs.Scopes.{ScopeSource, resolve_column}
-use Rattle.bind.specs.Terms.{Term, Terms, Const, Digits, Apply, Total, One, Two, Collate, In, Between, Raise, End, More, Function, Abs, Coalesce, Length, Lower, Upper, TypeOf, Aggregate, CountAll, Count, Sum, Min, Max, Equal, NotEqual, Less, LessOrEqual, Greater, GreaterOrEqual, Add, Subtract, Multiply, Divide, Remainder, Negated, Not, TwoSided, Compare, Calculate, Is, IsNot, And, Or, Concatenate}
+use Rattle.bind.specs.declared.functions.Called.{Called}
+use Rattle.bind.specs.declared.functions.Called.TheVariants.{OfFunction, OfAggregate}
+use Rattle.bind.specs.Scopes.{resolve_column}
+use Rattle.bind.specs.declared.scope.ScopeSource.{ScopeSource}
+use Rattle.terms.specs.Terms.{Term, Terms, Const, Digits, Apply, Total, One, Two, Collate, In, Between, Raise, End, More}
+use Rattle.terms.specs.declared.tree.Comparison.TheVariants.{Equal, NotEqual, Less, LessOrEqual, Greater, GreaterOrEqual}
+use Rattle.terms.specs.declared.tree.Arithmetic.TheVariants.{Add, Subtract, Multiply, Divide, Remainder}
+use Rattle.terms.specs.declared.tree.OneSided.TheVariants.{Negated, Not}
+use Rattle.terms.specs.declared.tree.TwoSided.{TwoSided}
+use Rattle.terms.specs.declared.tree.TwoSided.TheVariants.{Compare, Calculate, Is, IsNot, And, Or, Concatenate}
+use Rattle.terms.specs.declared.tree.Function.TheVariants.{Abs, Coalesce, Length, Lower, Upper, TypeOf}
+use Rattle.terms.specs.declared.tree.Aggregate.TheVariants.{CountAll, Count, Sum, Min, Max}
 
 -- ---- collations and functions
 
@@ -24,12 +34,6 @@ resolve_collation n =
     else if is_same_name n (codes "nocase") then good NoCase
     else if is_same_name n (codes "rtrim") then good RTrim
     else bad Binary NoSuch
-
--- what a call may be
-pub data Called : Type 0 where
-  -- so many arguments, or more
-  OfFunction : Function → ℕ → Bool → Called
-  OfAggregate : Aggregate → Called
 
 -- the functions that are supported
 abbrev pub function_named : Name → Option Called
@@ -46,26 +50,26 @@ function_named n =
     else if is_same_name n (codes "max") then Some (OfAggregate Max)
     else None
 
-abbrev is_aggregate : Option Called → Bool
+abbrev pub is_aggregate : Option Called → Bool
 is_aggregate (Some (OfAggregate g)) = true
 is_aggregate _ = false
 
-abbrev count_of : Trees → ℕ
+abbrev pub count_of : Trees → ℕ
 count_of tree.End = 0
 count_of (tree.More e es) = suc (count_of es)
 
-abbrev first_of : Terms → Term
+abbrev pub first_of : Terms → Term
 first_of End = Const Null
 first_of (More e es) = e
 
 -- a call with so many arguments, where aggregates may stand or not
-abbrev called : Bool → Option Called → ℕ → Checked (Terms → Term)
+abbrev pub called : Bool → Option Called → ℕ → Checked (Terms → Term)
 called totals None n = bad (λ es. Const Null) NoSuch
 called totals (Some (OfAggregate g)) n = unless (not totals) Misuse (unless (not (n == 1)) Misuse (good (λ es. Total g (first_of es))))
 called totals (Some (OfFunction f m more)) n = unless (not (n == m || (more && nat_lt m n))) Misuse (good (Apply f))
 
 -- `*` stands in count alone, whether or not there is a function of the name
-abbrev called_star : Bool → Option Called → Checked Term
+abbrev pub called_star : Bool → Option Called → Checked Term
 called_star totals None = unless true Misuse (bad (Const Null) NoSuch)
 called_star totals (Some (OfAggregate Count)) = unless (not totals) Misuse (good (Total CountAll (Const Null)))
 called_star totals _ = bad (Const Null) Misuse
@@ -73,7 +77,7 @@ called_star totals _ = bad (Const Null) Misuse
 -- ---- operators
 
 -- what an operator of the grammar is
-abbrev two_sided : Operator → TwoSided
+abbrev pub two_sided : Operator → TwoSided
 two_sided op.Or = Or
 two_sided op.And = And
 two_sided op.Equal = Compare Equal

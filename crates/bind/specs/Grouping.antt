@@ -1,6 +1,6 @@
 -- What an expression has in it: aggregates, columns, and the expressions of GROUP BY (SQL As Understood By SQLite, "SELECT", "Generation of the set of result rows").
 use Rattle.std.specs.Prelude.{ℕ, suc, Bool, true, false, not, ◌&&◌, ◌||◌, List, [], ◌∷◌, Option, Some, None, unwrap_or, if◌then◌else◌, nat_lt}
-use Rattle.bind.specs.Terms.{Term, Terms, Cell, Key, Apply, Total, One, Two, Collate, In, Between, End, More, same_term}
+use Rattle.terms.specs.Terms.{Term, Terms, Cell, Key, Apply, Total, One, Two, Collate, In, Between, End, More, same_term}
 
 -- some part of it, itself among them, passes the test; the arguments of aggregates only where inside is true
 abbrev mutual

@@ -8,12 +8,11 @@ pub mod Inserts
 pub mod Keys
 pub mod Checked
 pub mod Laws
+pub mod Named
 pub mod Queries
 pub mod Readings
 pub mod Schema
 pub mod Scopes
 pub mod Supported
 pub mod Tables
-pub mod Terms
-pub mod Values
 pub mod Views

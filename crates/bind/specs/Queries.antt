@@ -19,9 +19,14 @@ use Rattle.catalog.specs.Database.{Name}
 use Rattle.bind.specs.Expressions.{resolve}
 use Rattle.bind.specs.Grouping.{has, has_total, is_own_cell, keyed}
 use Rattle.bind.specs.Checked.{Checked, good, bad, meant, faults, is_good, noted, also, both, known_map, known_all, ◌and_then◌, unless}
-use Rattle.bind.specs.Readings.{Reading, Condition, Always, Where, OrNulls}
-use Rattle.bind.specs.Scopes.{ScopeColumn, ScopeSource, source_of, beside}
-use Rattle.bind.specs.Terms.{Term, Const, Cell, At, affinity, collation, same_term}
+use Rattle.bind.specs.declared.reading.Reading.{Reading}
+use Rattle.bind.specs.declared.reading.Condition.{Condition}
+use Rattle.bind.specs.declared.reading.Condition.TheVariants.{Always, Where, OrNulls}
+use Rattle.bind.specs.Scopes.{source_of, beside}
+use Rattle.bind.specs.declared.scope.ScopeColumn.{ScopeColumn}
+use Rattle.bind.specs.declared.scope.ScopeSource.{ScopeSource}
+use Rattle.terms.specs.Terms.{Term, Const, Cell, affinity, collation, same_term}
+use Rattle.terms.specs.declared.tree.Place.TheVariants.{At}
 
 -- what a table's or view's name stands for: its columns, and whether it has a rowid
 abbrev pub Lookup : Type 0

@@ -4,32 +4,15 @@ use Rattle.std.specs.List.{list_any}
 use Rattle.sqlval.specs.Lists.{any_twice}
 use Rattle.sqlval.specs.Names.{folded, is_same_name}
 use Rattle.sqlval.specs.Refusals.{Misuse}
-use Rattle.sqlval.specs.declared.affinity.Affinity.{Affinity}
 use Rattle.sqlval.specs.declared.affinity.Affinity.TheVariants as kind
-use Rattle.sqlval.specs.declared.collation.Collation.{Collation}
 use Rattle.sqlval.specs.declared.collation.Collation.TheVariants.{Binary}
 use Rattle.sqlval.specs.declared.value.Value.TheVariants.{Null}
 use Rattle.catalog.specs.Database.{Name, Table}
+use Rattle.bind.specs.declared.scope.ScopeColumn.{ScopeColumn}
+use Rattle.bind.specs.declared.scope.ScopeSource.{ScopeSource}
 use Rattle.bind.specs.Checked.{Checked, good, meant, is_good, known_all, unless, the_one}
-use Rattle.bind.specs.Terms.{Term, Const, Cell, At, RowId}
-
--- a column that a name may mean
-pub record ScopeColumn : Type 0 where
-  -- folded; a view's column may have none
-  pub name : Option Name
-  pub affinity : Option Affinity
-  pub collation : Collation
-
--- a source that an expression sees
-pub record ScopeSource : Type 0 where
-  -- folded
-  pub name : Name
-  pub columns : List ScopeColumn
-  pub has_rowid : Bool
-  -- NEW and OLD are found by their names alone
-  pub needs_name : Bool
-  -- false where its table or view is refused: what hangs on it has no refusal of its own
-  pub is_known : Bool
+use Rattle.terms.specs.Terms.{Term, Const, Cell}
+use Rattle.terms.specs.declared.tree.Place.TheVariants.{At, RowId}
 
 -- a source as its table or view gives it: its columns, and whether it has a rowid
 abbrev pub source_of : Name → Checked (List ScopeColumn × Bool) → ScopeSource
@@ -42,7 +25,7 @@ beside outer names = map shown outer
     shown : ScopeSource → ScopeSource
     shown s = if list_any (is_same_name s.name) names then record s { columns = []; has_rowid = false; is_known = true } else s
 
-abbrev is_named : Name → Option Name → Bool
+abbrev pub is_named : Name → Option Name → Bool
 is_named n None = false
 is_named n (Some m) = is_same_name n m
 

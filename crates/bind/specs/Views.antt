@@ -9,9 +9,12 @@ use Rattle.syntax.specs.declared.query.Query.{Query}
 use Rattle.catalog.specs.Database.{Name, Database, object, Object, ATable, AView, Table, View}
 use Rattle.bind.specs.Checked.{Checked, good, bad, unless, ◌and_then◌, known_then}
 use Rattle.bind.specs.Queries.{Lookup, resolve_query}
-use Rattle.bind.specs.Readings.{Reading, Condition, rows_over}
-use Rattle.bind.specs.Scopes.{ScopeColumn, table_scope}
-use Rattle.bind.specs.Values.{Row}
+use Rattle.bind.specs.Readings.{rows_over}
+use Rattle.bind.specs.declared.reading.Reading.{Reading}
+use Rattle.bind.specs.declared.reading.Condition.{Condition}
+use Rattle.bind.specs.Scopes.{table_scope}
+use Rattle.bind.specs.declared.scope.ScopeColumn.{ScopeColumn}
+use Rattle.terms.specs.Values.{Row}
 
 -- a view's list of names, or its query's
 abbrev pub renamed : List Name → List ScopeColumn → List ScopeColumn

@@ -2,18 +2,27 @@
 //! of the statements that are supported, looked up.
 #![tactic(auto)]
 
+mod columns;
+mod expressions;
+mod forms;
+mod functions;
 mod inserting;
 mod literals;
 mod names;
 mod queries;
+mod reading;
+mod scope;
 
 ghost use Rattle.bind.specs.Comprehension.{IsComprehension};
 ghost use Rattle.bind.specs.Creating.{KeepsNamesOnce, MakesListedTable, RefusesTableAsDefined};
 ghost use Rattle.bind.specs.Laws.{CalmIsNotRefused, KnowsListed};
 ghost use Rattle.bind.specs.Supported.{RefusesAsDefined};
 
+pub use expressions::bind_term;
 pub use inserting::{BoundInsert, bind_insert};
 pub use queries::{BoundQuery, BoundSource, Output, bind_query};
+pub use reading::{Condition, Reading};
+pub use scope::{ScopeColumn, ScopeSource};
 
 /// A calm condition isn't refused, so a plan may leave rows unread.
 pub fn calm_is_not_refused()

@@ -4,11 +4,12 @@ ghost use Rattle.sqlval.specs.Faults.{IsNotDiskFault};
 ghost use Rattle.std.specs.Prelude.{◌≡◌, ◌⊎◌, [], pos, neg_ℤ, true, false, Bool, List, IfOk, IfErr, Ok, Err};
 ghost use Rattle.sqlval.specs.Conversion.{word};
 ghost use Rattle.sqlval.specs.Refusals as refusal;
-ghost use Rattle.bind.specs.Bound.{Answers, Means, is_literal};
+ghost use Rattle.terms.specs.Outcome.{Answers};
+ghost use Rattle.bind.specs.Bound.{Means, is_literal};
 ghost use Rattle.bind.specs.Expressions.{resolve};
 ghost use Rattle.bind.specs.Checked.{meant};
-ghost use Rattle.bind.specs.Scopes.{ScopeSource};
-ghost use Rattle.bind.specs.Values.{Environment, value as value_of};
+ghost use Rattle.bind.specs.declared.scope.ScopeSource.{ScopeSource};
+ghost use Rattle.terms.specs.Values.{Environment, value as value_of};
 ghost use Rattle.bind.specs.declared.queries.Output.TheVariants as out;
 
 use sqlval::{Fault, Feature, R, Value};

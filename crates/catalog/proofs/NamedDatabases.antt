@@ -58,11 +58,11 @@ rising_rest : (names : List Name) (x : Name) → is_rising name_order (x ∷ nam
 rising_rest [] x h = refl
 rising_rest (y ∷ names) x h = rest_true _ (is_rising name_order (y ∷ names)) h
 
-in_order : (db : Database) → is_rising name_order (map (λ o. o.0) db) ≡ true → is_sorted name_order db ≡ true
+pub in_order : (db : Database) → is_rising name_order (map (λ o. o.0) db) ≡ true → is_sorted name_order db ≡ true
 in_order [] h = refl
 in_order (e ∷ es) h = both_true (below_all name_order e.0 es) (is_sorted name_order es) (first_below es e.0 h) (in_order es (rising_rest (map (λ o. o.0) es) e.0 h))
 
-rising : (db : Database) → is_sorted name_order db ≡ true → is_rising name_order (map (λ o. o.0) db) ≡ true
+pub rising : (db : Database) → is_sorted name_order db ≡ true → is_rising name_order (map (λ o. o.0) db) ≡ true
 rising [] h = refl
 rising (e ∷ []) h = refl
 rising (e ∷ f ∷ fs) h =
@@ -76,7 +76,7 @@ folded_twice : (a : Name) → folded (folded a) ≡ folded a
 folded_twice [] = refl
 folded_twice (c ∷ cs) = ap (λ x. x ∷ folded (folded cs)) (lowercase-lowercase c) ∙ ap (λ xs. to_ascii_lowercase c ∷ xs) (folded_twice cs)
 
-abbrev AreFolded : Database → Type 0
+abbrev pub AreFolded : Database → Type 0
 AreFolded db = AllByRecursion (λ o. folded o.0 ≡ o.0) db
 
 -- what isn't folded is no name
@@ -119,7 +119,7 @@ keeps_named db name o named = record {
 
 -- ---- listed tables
 
-same_test : (a b : Name) → eq_by_cmp name_order a b ≡ bytes_eq b a
+pub same_test : (a b : Name) → eq_by_cmp name_order a b ≡ bytes_eq b a
 same_test a b = (eq_by_cmp_equiv nat_list_cmp_total).symm a b ∙ is_eq-slice_cmp b a
 
 pub listed_database : ListedDatabase

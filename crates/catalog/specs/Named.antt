@@ -1,11 +1,11 @@
 -- Databases whose names are in order and folded, and those that tables are listed of.
-use Rattle.std.specs.Prelude.{◌≡◌, ◌↔◌, ℕ, ℤ, true, List, map, Some}
+use Rattle.std.specs.Prelude.{◌≡◌, ◌↔◌, ℕ, ℤ, true, not, filter, List, map, Some}
 use Rattle.std.specs.List.{AllByRecursion, Contains}
 use Rattle.sqlval.specs.Lists.{is_rising}
-use Rattle.sqlval.specs.Names.{folded}
+use Rattle.sqlval.specs.Names.{folded, is_same_name}
 use Rattle.sqlval.specs.declared.value.Value.{Value}
 use Rattle.catalog.specs.Database.{Name, Database, Object, name_order, object, with_object}
-use Rattle.catalog.specs.Listed.{Lists, has_only_tables, plain_table, table_named}
+use Rattle.catalog.specs.Listed.{Lists, has_only_tables, plain_table, table_named, without_table}
 use Rattle.catalog.specs.Rows.{are_rows, is_in_order}
 use Rattle.catalog.specs.declared.tables.Table.{Table}
 
@@ -35,3 +35,18 @@ IsInOrder = (rows_at : ℕ → List (ℤ × List Value)) (tables : List Table) (
 abbrev pub ListedNames : Type 0
 ListedNames = (rows_at : ℕ → List (ℤ × List Value)) (tables : List Table) (db : Database) → IsNamed db → Lists rows_at tables db
     → (name : Name) → Contains (map (λ o. o.0) db) name ↔ ((folded name ≡ name) × ((t : Table) × (table_named name tables ≡ Some t)))
+
+-- the database without the objects of a name
+abbrev pub without_object : Name → Database → Database
+without_object name db = filter (λ o. not (is_same_name name o.0)) db
+
+-- the database is one of these tables and no other objects, with its names in order
+pub record IsOfTables (rows_at : ℕ → List (ℤ × List Value)) (tables : List Table) (db : Database) : Type 0 where
+  pub lists : Lists rows_at tables db
+  pub only : has_only_tables db ≡ true
+  pub named : IsNamed db
+
+-- a database of tables without those of a name is that of the other tables, with the rows that they had
+abbrev pub ListsOthers : Type 0
+ListsOthers = (rows_at : ℕ → List (ℤ × List Value)) (tables : List Table) (db : Database) (name : Name) → IsOfTables rows_at tables db
+    → IsOfTables rows_at (without_table name tables) (without_object name db)

@@ -26,8 +26,10 @@ use Rattle.bind.specs.Expressions.{resolve}
 use Rattle.bind.specs.Inserts.{AreColumns, IsInsertFault, IsListRefusal, IsNameRefusal, is_of_literals, places_in, written_values}
 use Rattle.bind.specs.Checked.{Checked, Meant, good, bad, meant, faults, noted, also, both, known_map, known_all, ◌and_then◌, unless}
 use Rattle.bind.specs.Readings.{env_of, values}
-use Rattle.bind.specs.Scopes.{ScopeColumn, ScopeSource, source_of, resolve_places, table_scope}
-use Rattle.bind.specs.Terms.{Term}
+use Rattle.bind.specs.Scopes.{source_of, resolve_places, table_scope}
+use Rattle.bind.specs.declared.scope.ScopeColumn.{ScopeColumn}
+use Rattle.bind.specs.declared.scope.ScopeSource.{ScopeSource}
+use Rattle.terms.specs.Terms.{Term}
 use Rattle.bind.specs.Views.{look_up}
 use Rattle.dml.specs.Binding.{IsGivenAs, IsRealRefused, IsInsertOf, row_values, row_with}
 use Rattle.dml.specs.Changes.{Given, GivenRows, Inserts, Resolved, no_outer, resolve_change}

@@ -22,7 +22,8 @@ use Rattle.catalog.specs.declared.tables.Table.{Table}
 use Rattle.bind.specs.Bound.{is_twice_named, source_seen}
 use Rattle.bind.specs.Inserts.{has_unknown, places_in}
 use Rattle.bind.specs.Checked.{Checked, Meant, good, faults, both, known_all, the_one, unless}
-use Rattle.bind.specs.Scopes.{ScopeColumn, table_scope, place_of, resolve_places, is_doubled}
+use Rattle.bind.specs.Scopes.{table_scope, place_of, resolve_places, is_doubled}
+use Rattle.bind.specs.declared.scope.ScopeColumn.{ScopeColumn}
 use Rattle.dml.specs.Binding.{row_with}
 use Rattle.dml.specs.Constraints.{set_values}
 use Rattle.dml.specs.Inserting.{given_at}

@@ -12,7 +12,7 @@ use Rattle.syntax.specs.declared.change.InsertSource.TheVariants as source
 use Rattle.syntax.specs.declared.expr.Operator.TheVariants as op
 use Rattle.catalog.specs.Database.{Name, Database, ATable, AnIndex, with_object}
 use Rattle.bind.specs.Checked.{faults}
-use Rattle.bind.specs.Terms.{Digits}
+use Rattle.terms.specs.Terms.{Digits}
 use Rattle.bind.proofs.Written.{number, named, insert, col, table, int}
 use Rattle.dml.specs.Changes.{no_outer, resolve_change}
 use Rattle.dml.specs.Constraints.{greatest}

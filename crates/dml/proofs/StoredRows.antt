@@ -11,9 +11,9 @@ use Rattle.sqlval.specs.declared.fault.Fault.{Fault}
 use Rattle.sqlval.specs.declared.fault.Fault.TheVariants as f
 use Rattle.sqlval.specs.declared.value.Value.{Value}
 use Rattle.sqlval.specs.declared.value.Value.TheVariants.{Null}
-use Rattle.catalog.specs.Laws.{ConvertsAsRelated, RefusesReals}
 use Rattle.catalog.specs.declared.tables.Column.{Column}
 use Rattle.rowprog.specs.Rows.{TableRow}
+use Rattle.terms.specs.Laws.{ConvertsAsRelated, RefusesReals}
 use Rattle.dml.specs.Inserting.{given_at, row_stored, rowid_after, row_added, rows_added}
 
 -- ---- one value

@@ -16,7 +16,7 @@ use Rattle.bind.specs.Bound.{AreGiven, AreOnce, count_wanted}
 use Rattle.bind.specs.Inserts.{AreColumns, IsInsertFault, is_of_literals, places_in}
 use Rattle.bind.specs.Checked.{Meant, faults}
 use Rattle.bind.specs.Readings.{env_of, values}
-use Rattle.bind.specs.Terms.{Term}
+use Rattle.terms.specs.Terms.{Term}
 use Rattle.dml.specs.Changes.{no_outer, GivenRows, Inserts, resolve_change}
 use Rattle.dml.specs.Constraints.{default_values, set_values}
 use Rattle.dml.specs.Inserting.{given_at}

@@ -12,10 +12,12 @@ use Rattle.catalog.specs.Database.{Name, Database}
 use Rattle.bind.specs.Expressions.{resolve}
 use Rattle.bind.specs.Checked.{Checked, good, noted, both, known_map, known_all, ◌and_then◌, unless}
 use Rattle.bind.specs.Queries.{resolve_query, resolve_filter}
-use Rattle.bind.specs.Readings.{Reading}
-use Rattle.bind.specs.Scopes.{ScopeColumn, ScopeSource, source_of, beside, resolve_places}
-use Rattle.bind.specs.Terms.{Term}
-use Rattle.bind.specs.Values.{Row}
+use Rattle.bind.specs.declared.reading.Reading.{Reading}
+use Rattle.bind.specs.Scopes.{source_of, beside, resolve_places}
+use Rattle.bind.specs.declared.scope.ScopeColumn.{ScopeColumn}
+use Rattle.bind.specs.declared.scope.ScopeSource.{ScopeSource}
+use Rattle.terms.specs.Terms.{Term}
+use Rattle.terms.specs.Values.{Row}
 use Rattle.bind.specs.Views.{look_up}
 
 -- what a statement in a trigger's program sees: NEW and OLD by name, and their rows

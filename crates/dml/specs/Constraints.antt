@@ -12,7 +12,7 @@ use Rattle.bind.specs.Keys.{is_null, clash}
 use Rattle.bind.specs.Checked.{known_then}
 use Rattle.bind.specs.Readings.{holds}
 use Rattle.bind.specs.Scopes.{table_source}
-use Rattle.bind.specs.Values.{Row}
+use Rattle.terms.specs.Values.{Row}
 
 -- the table of a name
 abbrev pub table_of : Database → Name → Answer Table

@@ -8,9 +8,10 @@ use Rattle.syntax.specs.declared.create.TriggerTime.{TriggerTime}
 use Rattle.syntax.specs.declared.create.TriggerTime.TheVariants.{Before, After}
 use Rattle.catalog.specs.Database.{Name, Database, with_object, ATable, Table, row, without_row}
 use Rattle.bind.specs.Readings.{env_of, values}
-use Rattle.bind.specs.Scopes.{ScopeColumn, table_scope}
-use Rattle.bind.specs.Terms.{Term}
-use Rattle.bind.specs.Values.{Row}
+use Rattle.bind.specs.Scopes.{table_scope}
+use Rattle.bind.specs.declared.scope.ScopeColumn.{ScopeColumn}
+use Rattle.terms.specs.Terms.{Term}
+use Rattle.terms.specs.Values.{Row}
 use Rattle.dml.specs.Changes.{Outer}
 use Rattle.dml.specs.Constraints.{table_of, with_affinity, given_rowid, shown_rowid, new_rowid, updated_rowid, with_rowid, row_of, stored, default_values, set_values, demand}
 

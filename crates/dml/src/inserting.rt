@@ -17,12 +17,13 @@ ghost use Rattle.dml.specs.Inserting.{AllStorable, IsInserted, IsInsertRefusal, 
 ghost use Rattle.dml.specs.NewRows.{IsWritten, entry_in, row_of};
 
 use bind::BoundInsert;
-use catalog::{Column, conversion_is_one, other_rows_are_listed};
+use catalog::{Column, other_rows_are_listed};
 use page::Cell;
 use record::{encode, is_storable};
 use sqlval::{Fault, Feature, R, Value, apply};
 use std::alloc::Global;
 use tabletree::{Leaf, next_rowid, with_rows};
+use terms::conversion_is_one;
 
 /// The value given for a column, at its place: NULL where it has none.
 fn value_given(alloc: Global, given: &[Value], place: Option<usize>) -> R<Value>

@@ -1,27 +1,22 @@
 -- Where the transaction is given up, the machine has its first connection idle.
-use Rattle.std.proofs.Common.{◌≡◌, ◌∙◌, inl, inr, refl, sym, ap, subst, length, take, arith}
-use Rattle.std.proofs.lemmas.List.{length-take-le}
+use Rattle.std.proofs.Common.{◌≡◌, ◌∙◌, inl, inr, refl, sym, ap, subst}
 use Rattle.disk.specs.declared.device.Disk.{Ghosts}
 use Rattle.wal.specs.declared.log.Log.{Log}
-use Rattle.catalog.specs.Listed.{committed_in, tables_of}
+use Rattle.catalog.specs.Listed.{IsUnchanged}
 use Rattle.session.specs.Holding.{IsLeftBy}
 use Rattle.session.specs.ConnectionState.{files_of}
 use Rattle.session.specs.Machine.{Machine, Idle, last_place, with_connection}
 use Rattle.session.specs.Representation.{IsGivenUp, RepresentsRunning, IsTransaction, ShowTheSame, Represents}
-use Rattle.storage.specs.Stored.{AreCommitted}
 use Rattle.session.specs.declared.transactions.Connections.{Connections}
 use Rattle.session.specs.declared.transactions.Transaction.{Transaction}
-use Rattle.session.proofs.Showing.{moved, take_twice, the_same}
+use Rattle.session.proofs.Showing.{moved, the_same}
 
 module _ {D : Type 0} {g : Ghosts D} (old new : Connections D g) (gone : IsGivenUp old new) (m : Machine) where
   shown_idle : RepresentsRunning old m → RepresentsRunning new (with_connection m 1 Idle)
-  shown_idle shown = moved old new m Idle shown (subst (ShowTheSame (files_of old)) (sym gone.files) (the_same (files_of old) shown.told)) gone.failed tables_same (omega (arith, all_now)) idle_now
+  shown_idle shown = moved old new m Idle shown (subst (ShowTheSame (files_of old)) (sym gone.files) (the_same (files_of old) shown.told)) gone.failed gone.committed idle_now
     where
-      tables_same : take (committed_in new.catalog) (tables_of new.catalog) ≡ take (committed_in old.catalog) (tables_of old.catalog)
-      tables_same = ap (λ n. take n (tables_of new.catalog)) gone.committed ∙ ap (take (committed_in old.catalog)) gone.tables ∙ take_twice (committed_in old.catalog) (tables_of old.catalog)
-
-      all_now : AreCommitted new.catalog
-      all_now = gone.committed ∙ sym (length-take-le (committed_in old.catalog) (tables_of old.catalog) shown.listed) ∙ ap length (sym gone.tables)
+      all_now : IsUnchanged new.catalog
+      all_now = gone.tables ∙ sym gone.committed
 
       idle_now : IsTransaction (files_of new) new.catalog (last_place m) new.transaction Idle
       idle_now = subst (λ (t : Transaction). IsTransaction (files_of new) new.catalog (last_place m) t Idle) (sym gone.idle) (refl, all_now)

@@ -34,7 +34,6 @@ use Rattle.session.specs.Holding.{StoreFiles, IsFound, IsSettled}
 use Rattle.session.specs.Machine.{fresh}
 use Rattle.storage.specs.Schema.{AreSameTables}
 use Rattle.session.specs.Representation.{RepresentsRunning, ShowTheSame, Represents}
-use Rattle.storage.specs.Stored.{AreCommitted as AllCommitted}
 use Rattle.session.specs.Stored.{ShowsDatabase}
 use Rattle.session.specs.declared.transactions.Connections.{Connections}
 use Rattle.engine.proofs.SameStored.{stores_same}
@@ -188,10 +187,9 @@ module _ {D : Type 0} {g : Ghosts D} where
   -- files that were read at most, and whose log was cut then, start with what was listed
   pub starts : (tables : List Table) (database : Database) (old mid new : Log D g) (catalog : Catalog) → ShowTheSame old mid → IsSettled old → ShowsDatabase (newest_view old) tables database
       → state_of new ≡ state_of mid → db_of new ≡ db_of mid → g.tells (log_of new) ≡ g.tells (log_of mid) → IsCut (state_of mid) (g.file (log_of mid)) (g.file (log_of new))
-      → AreSameTables tables (tables_of catalog) × AllCommitted catalog → StartsWith tables database new catalog
+      → AreSameTables tables (tables_of catalog) → StartsWith tables database new catalog
   starts tables database old mid new catalog same settled stored known db tells cut lists = record {
-    listed = lists.0;
-    committed = lists.1;
+    listed = lists;
     told = record { db = subst (λ (d : D). IsTrue (g.tells d)) (sym db) same.told.db; log = tells ∙ same.told.log; whole = ap (λ (k : LogState). k.has_failed) known ∙ same.told.whole };
     settled = cut_settled mid new known db cut (still_settled old mid same settled);
     stored = subst (λ (v : View). ShowsDatabase v tables database) (sym (cut_same mid new known db cut ∙ same.newest)) stored;
@@ -254,9 +252,9 @@ module _ {D : Type 0} {g : Ghosts D} where
 
   -- what was started shows the database
   pub starts_shown : (connections : Connections D g) (tables : List Table) (database : Database) (files : Log D g) (catalog : Catalog) → StartsWith tables database files catalog
-      → ((db : Database) → Tells files → IsSettled files → AllCommitted catalog → ShowsDatabase (newest_view files) (tables_of catalog) db → RepresentsRunning connections (fresh db)) → Represents connections (fresh database)
+      → ((db : Database) → Tells files → IsSettled files → ShowsDatabase (newest_view files) (tables_of catalog) db → RepresentsRunning connections (fresh db)) → Represents connections (fresh database)
   starts_shown connections tables database files catalog start shown =
-      inr (shown database start.told start.settled start.committed (record { stored = stores_same (pages_in (newest_view files)) (newest_view files).page_size tables (tables_of catalog) database start.listed start.stored.stored; served = start.stored.served }))
+      inr (shown database start.told start.settled (record { stored = stores_same (pages_in (newest_view files)) (newest_view files).page_size tables (tables_of catalog) database start.listed start.stored.stored; served = start.stored.served }))
 
 -- contents that can be opened are refused when out of memory, or where a call fails
 pub not_opened : (has_called : Type 0) (page_size : ℕ) (counted : Option ℕ) (db log : List ℕ) (told_db told_log : Bool) (fault : Fault)

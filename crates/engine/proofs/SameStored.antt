@@ -56,6 +56,7 @@ same_row pages before others t u row same is tells = record {
     root_is = refl;
     columns = ap (λ (cs : List Column). map described cs) is.columns_are ∙ tells.made.columns;
   };
+  rowid_is = tells.rowid_is ∙ sym is.rowid_is;
   above = omega (arith, is.root_is, tells.above);
   within = omega (arith, is.root_is, tells.within);
   name = tells.name;

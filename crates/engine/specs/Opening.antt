@@ -28,7 +28,6 @@ use Rattle.session.specs.ConnectionState.{files_of}
 use Rattle.session.specs.Machine.{fresh}
 use Rattle.storage.specs.Schema.{AreSameTables}
 use Rattle.session.specs.Representation.{Represents}
-use Rattle.storage.specs.Stored.{AreCommitted}
 use Rattle.session.specs.Stored.{ShowsDatabase}
 use Rattle.engine.specs.Creating.{is_blank_content}
 use Rattle.engine.specs.EngineState.{connections_of, db_disk, has_failed_of, log_disk}
@@ -119,10 +118,9 @@ module _ {D : Type 0} {g : Ghosts D} where
     pub db_counts : g.failures db ≤ g.failures (db_disk engine)
     pub log_counts : g.failures log ≤ g.failures (log_disk engine)
 
-  -- The catalog lists these tables, all of them committed, and the files are settled and hold the database.
+  -- The catalog lists these tables, and the files are settled and hold the database.
   pub record StartsWith (tables : List Table) (database : Database) (files : Log D g) (catalog : Catalog) : Type 0 where
     pub listed : AreSameTables tables (tables_of catalog)
-    pub committed : AreCommitted catalog
     pub told : Tells files
     pub settled : IsSettled files
     pub stored : ShowsDatabase (newest_view files) tables database

@@ -10,7 +10,7 @@ ghost use Rattle.pager.specs.Views.{Tells, newest_view};
 ghost use Rattle.pager.specs.Maps.{pages_in};
 ghost use Rattle.session.specs.Holding.{IsFound, IsSettled};
 ghost use Rattle.session.specs.Stored.{ShowsDatabase};
-ghost use Rattle.loading.specs.Loading.{FindsDatabase, ListsCommitted};
+ghost use Rattle.loading.specs.Loading.{FindsDatabase, ListsTables};
 ghost use Rattle.disk.specs.File.{IsContentLeft, IsSynced, Throughout};
 ghost use Rattle.walframe.specs.Accepted.{KeepsFile};
 ghost use Rattle.wal.specs.LogState.{db_of, state_of, log_of};
@@ -72,7 +72,7 @@ fn load_files<D: Disk + Drop>(alloc: Global, log: &mut Log<D>) -> R<Catalog>
     ensures kept { KeepsFiles log.old log.new }
     // The tables of files that hold a database are loaded, unless memory runs out or a disk's call fails.
     ensures listed { (tables : List Table) (database : Database) → Tells log.old → ShowsDatabase (newest_view log.old) tables database
-        → IsFound (newest_view log.old) → IsOrOutside (ListsCommitted tables) result }
+        → IsFound (newest_view log.old) → IsOrOutside (ListsTables tables) result }
     // Tables are loaded only of a database that the newest view holds.
     ensures found { Tells log.old → IfOk result (FindsDatabase (pages_in (newest_view log.old)) (newest_view log.old).page_size) }
     ensures cause { HasCause false result log.old log.new }

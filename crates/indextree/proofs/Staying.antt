@@ -12,14 +12,14 @@ use Rattle.forest.proofs.Staying.{occurs_both, occurs_here, kept_of, says_kept, 
 use Rattle.indextree.specs.Tree.{Held, IsHeldAs, IsKidAs, Tree, top, pages_of, Lies}
 use Rattle.indextree.specs.Laws.{TreesStay}
 
-entry_kept : (old new : PageMap) (size : ℕ) (said : Local) (held : Held) → AreKept old new size held.pages → IsHeldAs old size said held → IsHeldAs new size said held
+pub entry_kept : (old new : PageMap) (size : ℕ) (said : Local) (held : Held) → AreKept old new size held.pages → IsHeldAs old size said held → IsHeldAs new size said held
 entry_kept old new size said held kept is = record {
   size = is.size;
   payload = payload_kept old new size (index_most size) said.bytes held.payload held.pages kept.longer kept.same is.payload;
   record_is = is.record_is;
 }
 
-entries_kept : (old new : PageMap) (size : ℕ) (said : List Local) (entries : List Held) → AreKept old new size (flat_map (λ held. held.pages) entries)
+pub entries_kept : (old new : PageMap) (size : ℕ) (said : List Local) (entries : List Held) → AreKept old new size (flat_map (λ held. held.pages) entries)
     → Pairwise (IsHeldAs old size) said entries → Pairwise (IsHeldAs new size) said entries
 entries_kept old new size [] [] kept all = tt
 entries_kept old new size [] (held ∷ entries) kept all = absurd all
@@ -32,7 +32,7 @@ entries_kept old new size (item ∷ said) (held ∷ entries) kept all =
     )
 
 -- the entries between children, whose pages are among those of the children and the entries together
-between_kept : {T : Type 0} (old new : PageMap) (size : ℕ) (top_of : T → ℕ) (pages : T → List ℕ) (said : List (ℕ × Local)) (kids : List (T × Held)) (last : T)
+pub between_kept : {T : Type 0} (old new : PageMap) (size : ℕ) (top_of : T → ℕ) (pages : T → List ℕ) (said : List (ℕ × Local)) (kids : List (T × Held)) (last : T)
     → AreKept old new size (each_of pages (λ held. held.pages) kids last)
     → Pairwise (IsKidAs old size) said (children top_of kids) → Pairwise (IsKidAs new size) said (children top_of kids)
 between_kept old new size top_of pages [] [] last kept all = tt
@@ -52,7 +52,7 @@ between_kept old new size top_of pages (item ∷ said) (kid ∷ kids) last kept 
           (kept_of old new size (pages kid.0 ++ (kid.1.pages ++ rest)) rest (λ n some. (let b = both n in let m = more n in omega (arith, b, m, some))) kept) all.1,
     )
 
-lies_kept : (old new : PageMap) (size : ℕ) (depth : ℕ) (t : Tree depth) → AreKept old new size (pages_of depth t) → Lies old size depth t → Lies new size depth t
+pub lies_kept : (old new : PageMap) (size : ℕ) (depth : ℕ) (t : Tree depth) → AreKept old new size (pages_of depth t) → Lies old size depth t → Lies new size depth t
 lies_kept old new size zero t kept lies =
     let chains = flat_map (λ (held : Held). held.pages) t.entries in
     record {

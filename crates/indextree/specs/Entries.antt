@@ -1,8 +1,9 @@
 -- The entries of an index and their order (Database File Format, "Representation Of SQL Indices").
-use Rattle.std.specs.Prelude.{◌≡◌, ◌+◌, true, false, List, [], ◌∷◌, ◌++◌, map, length}
+use Rattle.std.specs.Prelude.{◌≡◌, ◌+◌, Bool, true, false, not, List, [], ◌∷◌, ◌++◌, map, length, filter, if◌then◌else◌}
 use Rattle.std.specs.declared.cmp.Ordering.{Ordering}
-use Rattle.std.specs.List.{AllByRecursion}
-use Rattle.sqlval.specs.Lists.{SortKey, keys_cmp, is_rising}
+use Rattle.std.specs.Ordering.{is_gt, is_lt, is_eq}
+use Rattle.std.specs.List.{AllByRecursion, list_any}
+use Rattle.sqlval.specs.Lists.{SortKey, keys_cmp, is_rising, placed}
 use Rattle.sqlval.specs.declared.collation.Collation.{Collation}
 use Rattle.sqlval.specs.declared.collation.Collation.TheVariants.{Binary}
 use Rattle.sqlval.specs.declared.value.Value.{Value}
@@ -14,11 +15,32 @@ Entry = List Value
 abbrev pub rising_key : Collation → SortKey
 rising_key c = record { collation = c; descending = false }
 
--- Value by value, under the columns' collations, the rowid last (Database File Format, "Record Sort Order").
+-- the columns' collations, and that of the rowid
+abbrev pub keys_of : List Collation → List SortKey
+keys_of columns = map rising_key columns ++ rising_key Binary ∷ []
+
+-- Value by value, under the columns' collations, the rowid last (Database File Format, "Record Sort Order"). The first values of an
+-- entry equal each entry that begins with them.
 abbrev pub entry_cmp : List Collation → Entry → Entry → Ordering
-entry_cmp columns = keys_cmp (map rising_key columns ++ rising_key Binary ∷ [])
+entry_cmp columns = keys_cmp (keys_of columns)
 
 -- entries of so many columns and a rowid, each once, in rising order
 pub record AreEntries (columns : List Collation) (entries : List Entry) : Type 0 where
   pub whole : AllByRecursion (λ entry. length entry ≡ length columns + 1) entries
   pub rising : is_rising (entry_cmp columns) entries ≡ true
+
+-- whether one that the order can't tell from this entry is among these
+abbrev pub has_entry : List Collation → Entry → List Entry → Bool
+has_entry columns entry entries = list_any (λ other. is_eq (entry_cmp columns entry other)) entries
+
+-- the entries with this one, before the first that isn't less
+abbrev pub with_entry : List Collation → Entry → List Entry → List Entry
+with_entry columns entry entries = placed (entry_cmp columns) entry entries
+
+-- an entry, which compares so with a key, is passed: it is less, or it is equal where the key itself is passed
+abbrev pub is_passed : Bool → Ordering → Bool
+is_passed after order = if after then not (is_lt order) else is_gt order
+
+-- the entries from a key on, which may be the first values of an entry, or those after it
+abbrev pub entries_from : Bool → List Collation → List Value → List Entry → List Entry
+entries_from after columns key entries = filter (λ entry. not (is_passed after (entry_cmp columns key entry))) entries

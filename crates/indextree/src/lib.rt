@@ -1,6 +1,18 @@
-//! What an index's tree is, as definitions: pages that hold entries in rising order, on leaves and between them.
+//! The tree of an index: pages that hold entries in rising order, on leaves and between them, and long entries on chains of pages. It is a
+//! set of entries.
 #![tactic(auto)]
 
+mod cells;
+mod comparing;
+mod freeing;
+mod growing;
+mod inserting;
 mod laws;
+mod placing;
+mod scanning;
 
+pub use comparing::{Key, order};
+pub use freeing::{clear, free_tree, new_tree};
+pub use inserting::insert;
 pub use laws::index_trees_stay;
+pub use scanning::Cursor;

@@ -16,7 +16,7 @@ use Rattle.pagecheck.specs.Checks.{IsChecked, IsUnmarked, IsCheckedList, IsUnmar
 use Rattle.pagecheck.specs.Exact.{Checks}
 use Rattle.pagecheck.specs.Marks.{Marks, AreUnmarked}
 use Rattle.pagecheck.proofs.Parting.{both_appended, marks_both, unmarked_first, unmarked_then}
-use Rattle.loading.specs.Loading.{ListsCommitted, LoadsTree, TellsTree}
+use Rattle.loading.specs.Loading.{ListsTables, LoadsTree, TellsTree}
 use Rattle.loading.specs.Uses.{AreUses, IsLoaded, IsOwnerOf, LoadsUses, Uses, pages_used}
 use Rattle.loading.proofs.AlikeTables.{same_owners}
 
@@ -47,11 +47,11 @@ module _ (map : PageMap) (size pages : ℕ) (header : Header) (whole : AreWhole 
       (λ tables uses are free. loads tables uses.schema uses.schema_used whole are.tree (rows_in map pages tables uses sized are.tell))
 
   module _ (catalog : Catalog) (same_tree : MarksTree map size 1 old mid) (loads : LoadsTree map size pages (Ok catalog)) where
-    lists : (tables : List Table) (uses : Uses) → AreUses map size header tables uses → ListsCommitted tables catalog
+    lists : (tables : List Table) (uses : Uses) → AreUses map size header tables uses → ListsTables tables catalog
     lists tables uses are = loads tables uses.schema uses.schema_used whole are.tree (rows_in map pages tables uses sized are.tell)
 
     owned : (tables : List Table) (uses : Uses) → AreUses map size header tables uses → Pairwise (IsOwnerOf map size) (tables_of catalog) uses.owners
-    owned tables uses are = same_owners map size tables (tables_of catalog) uses.owners (lists tables uses are).0 are.each
+    owned tables uses are = same_owners map size tables (tables_of catalog) uses.owners (lists tables uses are) are.each
 
     tree_marked : (tables : List Table) (uses : Uses) → AreUses map size header tables uses → AreUnmarked old (pages_used uses) → Marks old mid uses.schema_used
     tree_marked tables uses are free =
@@ -96,10 +96,9 @@ module _ (map : PageMap) (size pages : ℕ) (header : Header) (whole : AreWhole 
           (marks_both mid late new (others_in uses) (used_by uses.owners) (pages_of uses.trunks) (both_appended (used_by uses.owners) (pages_of uses.trunks)) b c) in
           let uses : Uses = record { schema = tree.rows; schema_used = tree.used; owners = check.0.it; trunks = list.trunks } in
           record {
-            committed = told.0;
             marked = record {
               it = uses;
-              is = record { tree = tree.tree; tell = subst (λ (n : ℕ). AreRowsOf n [] (tables_of catalog) tree.rows) sized told.1; each = check.0.is; listed = list.listed };
+              is = record { tree = tree.tree; tell = subst (λ (n : ℕ). AreRowsOf n [] (tables_of catalog) tree.rows) sized told; each = check.0.is; listed = list.listed };
               marks = marked tree.used uses tree.marks check.0.marks list.marks;
             };
             same = λ tables others are free. (

@@ -79,7 +79,6 @@ module _ (map : PageMap) (size : ℕ) (header : Header) (old new : List Bool) (n
   all_loaded catalog loaded all =
       let it = loaded.marked.it in
       record {
-        committed = loaded.committed;
         uses = it;
         are = loaded.marked.is;
         once = once_marked map old new none long (pages_used it) all loaded.marked.marks (none_of_uses map size header (tables_of catalog) it loaded.marked.is);

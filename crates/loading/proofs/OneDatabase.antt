@@ -60,6 +60,7 @@ one_table texts values pages before others t u row one other = record {
   name_is = other.made.name_is ∙ ap (λ (d : TableDefinition). d.name) (sym same) ∙ sym one.made.name_is;
   columns_are = columns_are u.columns t.columns (other.made.columns ∙ ap (λ (d : TableDefinition). map defined d.columns) (sym same) ∙ sym one.made.columns);
   root_is = sym (root_is one.name other.name one.table_name other.table_name t.root u.root one.sql other.sql row_is);
+  rowid_is = sym other.rowid_is ∙ one.rowid_is;
 }
   where
     row_is : schema_row one.name one.table_name t.root one.sql ≡ schema_row other.name other.table_name u.root other.sql

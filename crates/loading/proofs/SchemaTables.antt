@@ -1,5 +1,5 @@
 -- What the rows of the schema table tell is read of them, and nothing else.
-use Rattle.std.proofs.Common.{◌≡◌, ◌⊎◌, ◌≤◌, ◌<◌, ◌+◌, inl, inr, refl, sym, ap, subst, ◌∙◌, ◌||◌, ℕ, zero, suc, Bool, true, false, List, [], ◌∷◌, ◌++◌, length, map, drop, take, slice_index_or, arith}
+use Rattle.std.proofs.Common.{◌≡◌, ◌⊎◌, ◌≤◌, ◌<◌, ◌+◌, inl, inr, refl, sym, ap, subst, ◌∙◌, ◌||◌, ℕ, ℤ, zero, suc, Bool, true, false, List, [], ◌∷◌, ◌++◌, length, map, drop, take, slice_index_or, arith}
 use Rattle.std.specs.Prelude.{Option, Some, None, Result, Ok, Err, IfErr, IsErrAnd, OnOk, is_none}
 use Rattle.std.specs.List.{list_any}
 use Rattle.std.proofs.lemmas.Slice.Eq.{bytes_eq-Decides}
@@ -233,7 +233,10 @@ module _ (size : ℕ) (before : List Table) (table : Table) (entry : Entry) (tel
   pub record_is : (payload : List ℕ) → entry.payload ≡ payload → IsRecord payload values_of
   record_is payload is = subst (λ (b : List ℕ). IsRecord b values_of) is tells.row_is
 
-  pub row_tells : (row : SchemaRow) → HasParts tells.name tells.table_name table.root tells.sql row → TellsTable before table row
+  pub parts_at : (rowid : ℤ) (row : SchemaRow) → entry.rowid ≡ rowid → HasParts rowid tells.name tells.table_name table.root tells.sql row → HasParts entry.rowid tells.name tells.table_name table.root tells.sql row
+  parts_at rowid row at parts = subst (λ (id : ℤ). HasParts id tells.name tells.table_name table.root tells.sql row) (sym at) parts
+
+  pub row_tells : (row : SchemaRow) → HasParts entry.rowid tells.name tells.table_name table.root tells.sql row → TellsTable before table row
   row_tells row parts = record {
     definition = tells.definition;
     creates = subst (λ (t : List ℕ). IsCreateOf t (new.Table tells.definition)) (sym parts.sql_is) tells.creates;
@@ -244,6 +247,7 @@ module _ (size : ℕ) (before : List Table) (table : Table) (entry : Entry) (tel
       free = tells.made.fresh.free;
     };
     made = subst (λ (n : ℕ). IsMadeBeside before tells.definition n table) (sym parts.root_is) tells.made;
+    rowid_is = sym tells.rowid_is ∙ sym parts.rowid_is;
   }
 
   pub is_free : (found : Table) (others : List Table) → IsSameTable table found → AreSameTables before others → table_named found.name others ≡ None
@@ -253,13 +257,14 @@ module _ (size : ℕ) (before : List Table) (table : Table) (entry : Entry) (tel
 
 -- what the parts of a row tell, the row does
 pub row_told : (size : ℕ) (before : List Table) (table : Table) (entry : Entry) (payload : List ℕ) (row : SchemaRow) (values : List Value)
-    → entry.payload ≡ payload → IsRecord payload values → AreRowValues size row values → TellsTable before table row → IsRowOf size before table entry
-row_told size before table entry payload row values is bytes parts tells = record {
+    → entry.rowid ≡ row.rowid → entry.payload ≡ payload → IsRecord payload values → AreRowValues size row values → TellsTable before table row → IsRowOf size before table entry
+row_told size before table entry payload row values at is bytes parts tells = record {
   sql = row.sql.now;
   definition = tells.definition;
   creates = tells.creates;
   supported_forms = tells.names.supported_forms;
   made = subst (λ (n : ℕ). IsMadeBeside before tells.definition n table) (sym tells.made.root_is) tells.made;
+  rowid_is = at ∙ sym tells.rowid_is;
   above = omega (arith, tells.made.root_is, parts.above);
   within = omega (arith, tells.made.root_is, parts.within);
   name = row.name.now;
@@ -284,11 +289,12 @@ module _ (before : List Table) (table : Table) (row : SchemaRow) (tells : TellsT
   pub names_of : (d : TableDefinition) → d ≡ tells.definition → IsOfRow row d
   names_of d same = subst (IsOfRow row) (sym same) tells.names
 
-  pub table_is : (d : TableDefinition) (found : Table) → d ≡ tells.definition → found.name ≡ d.name → found.columns ≡ table.columns → found.root ≡ row.root → IsSameTable table found
-  table_is d found same name columns root = record {
+  pub table_is : (d : TableDefinition) (found : Table) → d ≡ tells.definition → found.name ≡ d.name → found.columns ≡ table.columns → found.root ≡ row.root → found.rowid ≡ row.rowid → IsSameTable table found
+  table_is d found same name columns root rowid = record {
     name_is = name ∙ ap (λ (x : TableDefinition). x.name) same ∙ sym tells.made.name_is;
     columns_are = columns;
     root_is = root ∙ sym tells.made.root_is;
+    rowid_is = rowid ∙ sym tells.rowid_is;
   }
 
   pub columns_premise : (d : TableDefinition) → d ≡ tells.definition → (has_doubled d.columns ≡ false) × (map described table.columns ≡ map defined d.columns)

@@ -23,7 +23,7 @@ use Rattle.tabletree.specs.Tree as tree
 use Rattle.tabletree.specs.Tree.{IsTableTree, Tree, top}
 use Rattle.filecheck.specs.Layout.{HoldsUnder, IsTree, Owner, used_by}
 use Rattle.bind.specs.Bound.{AreOnce}
-use Rattle.bind.proofs.CreatedTables.{keeps_once}
+use Rattle.storage.proofs.Telling.{none_once, told_once}
 use Rattle.catalog.specs.Database.{Database}
 use Rattle.catalog.specs.Listed.{Lists, has_only_tables, plain_column, plain_table, tables_of}
 use Rattle.catalog.specs.Named.{IsNamed, ListedDatabase}
@@ -34,7 +34,7 @@ use Rattle.rowprog.specs.Rows.{IsRow, TableRow}
 use Rattle.rowprog.specs.Trees.{AreFitRows}
 use Rattle.storage.specs.Schema.{AreRowsOf}
 use Rattle.storage.specs.Stored.{IsCounted, IsTreeOf, Stores}
-use Rattle.loading.specs.Loading.{FindsDatabase, ListsCommitted}
+use Rattle.loading.specs.Loading.{FindsDatabase, ListsTables}
 use Rattle.loading.specs.Uses.{AreUses, HasAll, IsEachOnce, IsFirstHeader, IsOwnerOf, LoadsAll, Uses, pages_used}
 
 -- ---- the header
@@ -205,22 +205,11 @@ trees_are m size (t ∷ tables) (owner ∷ owners) each = (
 
 -- ---- the database
 
-told_once : (pages : ℕ) (before tables : List Table) (rows : List Entry) → AreRowsOf pages before tables rows → AreOnce before → AreOnce (before ++ tables)
-told_once pages before [] rows tell are = subst AreOnce (sym (append-nil before)) are
-told_once pages before (t ∷ tables) [] tell are = absurd tell
-told_once pages before (t ∷ tables) (row ∷ rows) tell are =
-    subst AreOnce (append_assoc before (t ∷ []) tables)
-    (told_once pages (before ++ t ∷ []) tables rows tell.1 (keeps_once before tell.0.definition t are tell.0.made.fresh.once tell.0.made.columns))
-
-none_once : AreOnce []
-none_once name t is = absurd cc
-
 fresh_few : (size n : ℕ) → fresh 0 size n ≤ 1
 fresh_few size n = grind (arith, nat_tests)
 
 pub found_database : ListedDatabase → (m : PageMap) (size : ℕ) (header : Header) (catalog : Catalog) → AreWhole size m → IsFirstHeader (page_at m 1) size (length m) header → HasAll m size header catalog → FindsDatabase m size catalog
 found_database listed m size header catalog whole first all = record {
-  committed = all.committed;
   database = db.0;
   stored = record {
     rows_at = rows_at;
@@ -268,7 +257,7 @@ found_database listed m size header catalog whole first all = record {
 
 module _ (m : PageMap) (size : ℕ) (tables : List Table) (db : Database) (held : Stores m size tables db) where
   -- of pages that hold a database its tables are loaded
-  pub listed_by : (header : Header) (result : Result Catalog Fault) → header ≡ held.header → LoadsAll m size header result → IsOrOutside (ListsCommitted tables) result
+  pub listed_by : (header : Header) (result : Result Catalog Fault) → header ≡ held.header → LoadsAll m size header result → IsOrOutside (ListsTables tables) result
   listed_by header (Ok catalog) same all =
       all.same tables (uses_in m size tables db held) (subst (λ (h : Header). AreUses m size h tables (uses_in m size tables db held)) (sym same) (are_uses m size tables db held)) (uses_once m size tables db held)
   listed_by header (Err fault) same why =

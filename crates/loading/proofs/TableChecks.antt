@@ -1,5 +1,7 @@
 -- The check of a table's tree and of its rows, and of one table after the other.
-use Rattle.std.proofs.Common.{◌≡◌, ◌-◌, ◌≤◌, ◌<◌, ℕ, Bool, List, [], ◌∷◌, length, take, drop, slice_index_or, refl, subst, arith, Ok, Err}
+use Rattle.std.specs.declared.rc.Rc.{Rc}
+use Rattle.catalog.specs.Listed.{shared}
+use Rattle.std.proofs.Common.{Global, ◌≡◌, ◌∙◌, ap, ◌-◌, ◌≤◌, ◌<◌, ℕ, Bool, List, [], ◌∷◌, length, take, drop, slice_index_or, refl, subst, arith, Ok, Err}
 use Rattle.std.specs.Prelude.{⊤, Result, IsErrAnd, IsTrue}
 use Rattle.sqlval.specs.declared.fault.Fault.{Fault}
 use Rattle.sqlval.specs.Faults.{IsOutside}
@@ -60,28 +62,34 @@ module _ (map : PageMap) (size : ℕ) (t : Table) (tables : List Table) where
   together owner owners first rest = record { it = owner ∷ owners; is = (first, rest); both = both_appended owner.used (used_by owners) }
 
 -- what the tables after the first decide
-pub table_then : (map : PageMap) (size : ℕ) (rest : List Table) (t : Table) (old mid : List Bool) → 1 ≤ length rest → t ≡ slice_index_or rest 0 t
+pub table_then : (map : PageMap) (size : ℕ) (rest : List (Rc Table Global)) (handle : Rc Table Global) (t : Table) (old mid : List Bool) → 1 ≤ length rest
+    → handle ≡ slice_index_or rest 0 handle → t ≡ handle.value
     → Checks (IsOwnerOf map size t) its_pages old mid (Ok tt) → (new : List Bool) (result : Result ⊤ Fault)
-    → Checks (Pairwise (IsOwnerOf map size) (take (length rest - 1) (drop 1 rest))) used_by mid new result → Checks (Pairwise (IsOwnerOf map size) rest) used_by old new result
-table_then map size [] t old mid some is first new result then = absurd (omega (arith, some))
-table_then map size (u ∷ tables) t old mid some is first new result then =
-    then_checks (IsOwnerOf map size u) (Pairwise (IsOwnerOf map size) tables) (Pairwise (IsOwnerOf map size) (u ∷ tables)) its_pages used_by used_by
-    (apart map size u tables) (together map size u tables) old mid new result (subst (λ (x : Table). Checks (IsOwnerOf map size x) its_pages old mid (Ok tt)) is first)
-    (subst (λ (them : List Table). Checks (Pairwise (IsOwnerOf map size) them) used_by mid new result) (all_taken tables) then)
+    → Checks (Pairwise (IsOwnerOf map size) (shared (take (length rest - 1) (drop 1 rest)))) used_by mid new result
+    → Checks (Pairwise (IsOwnerOf map size) (shared rest)) used_by old new result
+table_then map size [] handle t old mid some at is first new result then = absurd (omega (arith, some))
+table_then map size (u ∷ tables) handle t old mid some at is first new result then =
+    then_checks (IsOwnerOf map size u.value) (Pairwise (IsOwnerOf map size) (shared tables)) (Pairwise (IsOwnerOf map size) (shared (u ∷ tables))) its_pages used_by used_by
+    (apart map size u.value (shared tables)) (together map size u.value (shared tables)) old mid new result
+    (subst (λ (x : Table). Checks (IsOwnerOf map size x) its_pages old mid (Ok tt)) (is ∙ ap (λ (x : Rc Table Global). x.value) at) first)
+    (subst (λ (them : List (Rc Table Global)). Checks (Pairwise (IsOwnerOf map size) (shared them)) used_by mid new result) (all_taken tables) then)
 
 -- the first is refused
-pub table_stops : (map : PageMap) (size : ℕ) (rest : List Table) (t : Table) (old mid new : List Bool) (fault : Fault) (result : Result ⊤ Fault) → 1 ≤ length rest → t ≡ slice_index_or rest 0 t
-    → Checks (IsOwnerOf map size t) its_pages old mid (Err fault) → IsErrAnd result (λ e. e ≡ fault) → Checks (Pairwise (IsOwnerOf map size) rest) used_by old new result
-table_stops map size [] t old mid new fault result some is first refused = absurd (omega (arith, some))
-table_stops map size (u ∷ tables) t old mid new fault result some is first refused =
-    first_refused (IsOwnerOf map size u) (Pairwise (IsOwnerOf map size) tables) (Pairwise (IsOwnerOf map size) (u ∷ tables)) its_pages used_by used_by
-    (apart map size u tables) old mid new fault result (subst (λ (x : Table). Checks (IsOwnerOf map size x) its_pages old mid (Err fault)) is first) refused
+pub table_stops : (map : PageMap) (size : ℕ) (rest : List (Rc Table Global)) (handle : Rc Table Global) (t : Table) (old mid new : List Bool) (fault : Fault) (result : Result ⊤ Fault)
+    → 1 ≤ length rest → handle ≡ slice_index_or rest 0 handle → t ≡ handle.value
+    → Checks (IsOwnerOf map size t) its_pages old mid (Err fault) → IsErrAnd result (λ e. e ≡ fault) → Checks (Pairwise (IsOwnerOf map size) (shared rest)) used_by old new result
+table_stops map size [] handle t old mid new fault result some at is first refused = absurd (omega (arith, some))
+table_stops map size (u ∷ tables) handle t old mid new fault result some at is first refused =
+    first_refused (IsOwnerOf map size u.value) (Pairwise (IsOwnerOf map size) (shared tables)) (Pairwise (IsOwnerOf map size) (shared (u ∷ tables))) its_pages used_by used_by
+    (apart map size u.value (shared tables)) old mid new fault result
+    (subst (λ (x : Table). Checks (IsOwnerOf map size x) its_pages old mid (Err fault)) (is ∙ ap (λ (x : Rc Table Global). x.value) at) first) refused
 
 no_owners : (map : PageMap) (size : ℕ) (owners : List Owner) → Pairwise (IsOwnerOf map size) [] owners → (n : ℕ) → occurs n (used_by owners) ≡ 0
 no_owners map size [] all n = refl
 no_owners map size (owner ∷ owners) all n = absurd all
 
 -- no table is left
-pub tables_end : (map : PageMap) (size : ℕ) (rest : List Table) (marks : List Bool) → length rest < 1 → Checks (Pairwise (IsOwnerOf map size) rest) used_by marks marks (Ok tt)
+pub tables_end : (map : PageMap) (size : ℕ) (rest : List (Rc Table Global)) (marks : List Bool) → length rest < 1
+    → Checks (Pairwise (IsOwnerOf map size) (shared rest)) used_by marks marks (Ok tt)
 tables_end map size [] marks none = nothing_left (Pairwise (IsOwnerOf map size) []) used_by marks [] tt (no_owners map size)
 tables_end map size (t ∷ tables) marks none = absurd (omega (arith, none))

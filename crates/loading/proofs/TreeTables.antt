@@ -12,12 +12,11 @@ use Rattle.pages.specs.Map.{PageMap, AreWhole}
 use Rattle.tabletree.specs.Rows.{rows_from}
 use Rattle.tabletree.specs.Scanning.{BeginsAll, GivesBatch, IsForward}
 use Rattle.tabletree.specs.Tree.{IsTableTree}
-use Rattle.catalog.specs.Listed.{committed_in, tables_of}
+use Rattle.catalog.specs.Listed.{tables_of}
 use Rattle.catalog.specs.declared.tables.Catalog.{Catalog}
 use Rattle.catalog.specs.declared.tables.Table.{Table}
 use Rattle.storage.specs.Schema.{AreRowsOf, AreSameTables}
-use Rattle.storage.specs.Stored.{AreCommitted}
-use Rattle.loading.specs.Loading.{IsLoading, ListsCommitted, LoadsNext, TellsNext}
+use Rattle.loading.specs.Loading.{IsLoading, ListsTables, LoadsNext, TellsNext}
 use Rattle.loading.proofs.SchemaTables.{loading_begins, loading_ends, none_told}
 
 pub memory_passed : {X : Type 0} (P : X → Type 0) (r : Result X Fault) (f : Fault) → IsErrAnd r (λ e. e ≡ f) → f ≡ Memory → MatchResult r P (λ fault. fault ≡ Memory)
@@ -95,23 +94,19 @@ module _ {P K : Type 0} (below : P → K) (tells : K → Bool) (limits : K → L
     batch_refused f gives told rows used whole tree = batch_since (Err f) gives told rows used whole tree
 
     -- at the end all were loaded
-    pub all_loaded : next ≡ None → (after : Catalog) → tables_of after ≡ tables_of catalog → committed_in after ≡ length (tables_of catalog)
+    pub all_loaded : next ≡ None
         → IsTrue (tells (below old)) → (tables : List Table) (rows : List Entry) (used : List ℕ) → AreWhole (limits (below old)).page (map old) → IsTableTree (map old) (limits (below old)).page 1 rows used
-        → AreRowsOf pages [] tables rows → ListsCommitted tables after
-    all_loaded none after same committed told tables rows used whole tree tell = (
-      subst (AreSameTables tables) (sym same) (loading_ends pages tables (rows_from next rows) catalog (ap (λ at. rows_from at rows) none) (has.loads told tables rows used whole tree tell)),
-      committed ∙ ap length (sym same),
-    )
+        → AreRowsOf pages [] tables rows → ListsTables tables catalog
+    all_loaded none told tables rows used whole tree tell =
+        loading_ends pages tables (rows_from next rows) catalog (ap (λ at. rows_from at rows) none) (has.loads told tables rows used whole tree tell)
 
-    pub all_told : next ≡ None → (after : Catalog) → tables_of after ≡ tables_of catalog → committed_in after ≡ length (tables_of catalog)
+    pub all_told : next ≡ None
         → IsTrue (tells (below old)) → (rows : List Entry) (used : List ℕ) → AreWhole (limits (below old)).page (map old) → IsTableTree (map old) (limits (below old)).page 1 rows used
-        → AreCommitted after × AreRowsOf pages [] (tables_of after) rows
-    all_told none after same committed told rows used whole tree =
+        → AreRowsOf pages [] (tables_of catalog) rows
+    all_told none told rows used whole tree =
         let so_far = has.told told rows used whole tree in
-        let all : rows ≡ so_far.front = so_far.parts ∙ (ap (λ at. so_far.front ++ rows_from at rows) none ∙ append-nil so_far.front) in (
-          committed ∙ ap length (sym same),
-          subst (λ ts. AreRowsOf pages [] ts rows) (sym same) (subst (λ es. AreRowsOf pages [] (tables_of catalog) es) (sym all) so_far.tell),
-        )
+        let all : rows ≡ so_far.front = so_far.parts ∙ (ap (λ at. so_far.front ++ rows_from at rows) none ∙ append-nil so_far.front) in
+        subst (λ es. AreRowsOf pages [] (tables_of catalog) es) (sym all) so_far.tell
 
 -- ---- how many places a cursor may still come to
 

@@ -1,5 +1,5 @@
 -- What the rows of the schema table tell (Database File Format, "Storage Of The SQL Database Schema").
-use Rattle.std.specs.Prelude.{◌≡◌, ◌<◌, ◌≤◌, ◌++◌, ◌∷◌, true, false, ℕ, List, [], ⊤, Result, Ok, Err, IfOk, MatchResult}
+use Rattle.std.specs.Prelude.{◌≡◌, ◌<◌, ◌≤◌, ◌++◌, ◌∷◌, true, false, ℕ, ℤ, List, [], ⊤, Result, Ok, Err, IfOk, MatchResult}
 use Rattle.sqlval.specs.declared.fault.Fault.{Fault}
 use Rattle.sqlval.specs.declared.fault.Fault.TheVariants.{Memory, Blank}
 use Rattle.sqlval.specs.declared.value.Value.{Value}
@@ -16,20 +16,19 @@ use Rattle.catalog.specs.declared.tables.Catalog.{Catalog}
 use Rattle.catalog.specs.declared.tables.Table.{Table}
 use Rattle.storage.specs.Forms.{is_table_supported}
 use Rattle.storage.specs.Schema.{IsMadeBeside, schema_row, AreRowsOf, AreSameTables, IsCreateOf, IsRowOf}
-use Rattle.storage.specs.Stored.{AreCommitted, IsCounted, Stores}
+use Rattle.storage.specs.Stored.{IsCounted, Stores}
 use Rattle.loading.specs.declared.schema.SchemaRow.{SchemaRow}
 
 -- neither a disk's failure, nor that of a full database or a blank file
 abbrev pub IsSchemaFault : Fault → Type 0
 IsSchemaFault fault = IsNotDiskFault fault × (fault ≡ Blank → ⊥)
 
--- the catalog lists these tables, all of them committed
-abbrev pub ListsCommitted : List Table → Catalog → Type 0
-ListsCommitted tables catalog = AreSameTables tables (tables_of catalog) × AreCommitted catalog
+-- the catalog lists these tables
+abbrev pub ListsTables : List Table → Catalog → Type 0
+ListsTables tables catalog = AreSameTables tables (tables_of catalog)
 
--- The pages hold a database of the catalog's tables, all of them committed, and page 1 counts them.
+-- The pages hold a database of the catalog's tables, and page 1 counts them.
 pub record FindsDatabase (map : PageMap) (size : ℕ) (catalog : Catalog) : Type 0 where
-  pub committed : AreCommitted catalog
   pub database : Database
   pub stored : Stores map size (tables_of catalog) database
   pub counted : IsCounted map
@@ -46,7 +45,8 @@ pub record AddsToldTable (pages : ℕ) (row : Entry) (old new : Catalog) : Type 
   pub tells : IsRowOf pages (tables_of old) table row
 
 -- the parts of a table's row
-pub record HasParts (called table_called : List ℕ) (page : ℕ) (text : List ℕ) (row : SchemaRow) : Type 0 where
+pub record HasParts (id : ℤ) (called table_called : List ℕ) (page : ℕ) (text : List ℕ) (row : SchemaRow) : Type 0 where
+  pub rowid_is : row.rowid ≡ id
   pub name_is : row.name.now ≡ called
   pub table_name_is : row.table_name.now ≡ table_called
   pub root_is : row.root ≡ page
@@ -71,6 +71,7 @@ pub record TellsTable (before : List Table) (table : Table) (row : SchemaRow) : 
   pub creates : IsCreateOf row.sql.now (new.Table definition)
   pub names : IsOfRow row definition
   pub made : IsMadeBeside before definition row.root table
+  pub rowid_is : table.rowid ≡ row.rowid
 
 -- ---- the rows of a tree
 
@@ -91,13 +92,12 @@ LoadsNext pages rows old new result = (tables : List Table) (after : List Entry)
 abbrev pub TellsNext : ℕ → List Entry → Catalog → Catalog → Type 0
 TellsNext pages rows old new = (done : List Entry) → AreRowsOf pages [] (tables_of old) done → AreRowsOf pages [] (tables_of new) (done ++ rows)
 
--- Where a tree under page 1 has rows that tell these tables, the catalog lists them, all committed; or memory was short, or a disk's
--- call failed.
+-- Where a tree under page 1 has rows that tell these tables, the catalog lists them; or memory was short, or a disk's call failed.
 abbrev pub LoadsTree : PageMap → ℕ → ℕ → Result Catalog Fault → Type 0
 LoadsTree map size pages result = (tables : List Table) (rows : List Entry) (used : List ℕ) → AreWhole size map → IsTableTree map size 1 rows used
-    → AreRowsOf pages [] tables rows → IsOrOutside (ListsCommitted tables) result
+    → AreRowsOf pages [] tables rows → IsOrOutside (ListsTables tables) result
 
--- where a tree has these rows, the catalog lists the tables that they tell, all committed
+-- where a tree has these rows, the catalog lists the tables that they tell
 abbrev pub TellsTree : PageMap → ℕ → ℕ → Result Catalog Fault → Type 0
 TellsTree map size pages result = (rows : List Entry) (used : List ℕ) → AreWhole size map → IsTableTree map size 1 rows used
-    → IfOk result (λ catalog. AreCommitted catalog × AreRowsOf pages [] (tables_of catalog) rows)
+    → IfOk result (λ catalog. AreRowsOf pages [] (tables_of catalog) rows)

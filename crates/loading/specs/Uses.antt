@@ -18,8 +18,7 @@ use Rattle.rowprog.specs.Trees.{HoldsFit}
 use Rattle.pagecheck.specs.Exact.{HasMarked}
 use Rattle.pagecheck.specs.Marks.{mark_of, Marks, AreUnmarked}
 use Rattle.storage.specs.Schema.{AreRowsOf}
-use Rattle.storage.specs.Stored.{AreCommitted}
-use Rattle.loading.specs.Loading.{ListsCommitted}
+use Rattle.loading.specs.Loading.{ListsTables}
 
 -- Page 1 begins with this header, which tells this page size, and counts so many pages, where its count holds.
 pub record IsFirstHeader (page : List ℕ) (page_size size : ℕ) (header : Header) : Type 0 where
@@ -55,10 +54,9 @@ pub record AreUses (map : PageMap) (size : ℕ) (header : Header) (tables : List
 
 -- The catalog's tables are those that these uses tell, and the pages are marked that are used so.
 pub record IsLoaded (map : PageMap) (size : ℕ) (header : Header) (old new : List Bool) (catalog : Catalog) : Type 0 where
-  pub committed : AreCommitted catalog
   pub marked : HasMarked (AreUses map size header (tables_of catalog)) pages_used old new
   pub same : (tables : List Table) (uses : Uses) → AreUses map size header tables uses → AreUnmarked old (pages_used uses)
-      → ListsCommitted tables catalog × Marks old new (pages_used uses)
+      → ListsTables tables catalog × Marks old new (pages_used uses)
 
 -- where the call answered, tables were loaded and pages marked; where pages that aren't marked are used so, memory was short, or a disk's
 -- call failed
@@ -77,12 +75,11 @@ IsEachOnce map pages = (n : ℕ) → occurs n pages ≡ fresh 0 (length map) n
 
 -- The catalog's tables are those that the uses of the pages tell, each page once.
 pub record HasAll (map : PageMap) (size : ℕ) (header : Header) (catalog : Catalog) : Type 0 where
-  pub committed : AreCommitted catalog
   pub uses : Uses
   pub are : AreUses map size header (tables_of catalog) uses
   pub once : IsEachOnce map (pages_used uses)
   pub same : (tables : List Table) (others : Uses) → AreUses map size header tables others → IsEachOnce map (pages_used others)
-      → ListsCommitted tables catalog
+      → ListsTables tables catalog
 
 -- where the call answered, tables were loaded and each page is used once; where it is, memory was short, or a disk's call failed
 abbrev pub LoadsAll : PageMap → ℕ → Header → Result Catalog Fault → Type 0

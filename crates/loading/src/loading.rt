@@ -10,7 +10,7 @@ ghost use Rattle.catalog.specs.declared.tables.Table.{Table};
 ghost use Rattle.pagecheck.specs.Checks.{CanMark};
 ghost use Rattle.pagecheck.specs.Exact.{AreTold};
 ghost use Rattle.storage.specs.Stored.{IsCounted, Stores};
-ghost use Rattle.loading.specs.Loading.{FindsDatabase, ListsCommitted};
+ghost use Rattle.loading.specs.Loading.{FindsDatabase, ListsTables};
 ghost use Rattle.loading.specs.Uses.{AreAllMarked, LoadsAll, LoadsUses};
 
 use crate::first::read_header;
@@ -89,7 +89,7 @@ fn load_checked<P: Pages>(alloc: Global, pages: &mut P, size: u32) -> R<Catalog>
     ensures listed { (tables : List Table) (database : Database) → IsTrue (P.Pages.tells (P.Pages.below pages.old))
         → size ≡ length (P.Pages.map pages.old)
         → Stores (P.Pages.map pages.old) (P.Pages.limits (P.Pages.below pages.old)).page tables database
-        → IsCounted (P.Pages.map pages.old) → IsOrOutside (ListsCommitted tables) result }
+        → IsCounted (P.Pages.map pages.old) → IsOrOutside (ListsTables tables) result }
     ensures found { IsTrue (P.Pages.tells (P.Pages.below pages.old)) → size ≡ length (P.Pages.map pages.old)
         → IfOk result (FindsDatabase (P.Pages.map pages.old) (P.Pages.limits (P.Pages.below pages.old)).page) }
     ensures stays { Stays P.Pages.below P.Pages.map P.Pages.count P.Pages.failures result pages.old pages.new }
@@ -119,7 +119,7 @@ pub fn load<P: Pages>(alloc: Global, pages: &mut P, size: u32) -> R<Catalog>
     ensures listed { (tables : List Table) (database : Database) → IsTrue (P.Pages.tells (P.Pages.below pages.old))
         → size ≡ length (P.Pages.map pages.old)
         → Stores (P.Pages.map pages.old) (P.Pages.limits (P.Pages.below pages.old)).page tables database
-        → IsCounted (P.Pages.map pages.old) → IsOrOutside (ListsCommitted tables) result }
+        → IsCounted (P.Pages.map pages.old) → IsOrOutside (ListsTables tables) result }
     // Tables are loaded only of a database that the pages hold.
     ensures found { IsTrue (P.Pages.tells (P.Pages.below pages.old)) → size ≡ length (P.Pages.map pages.old)
         → IfOk result (FindsDatabase (P.Pages.map pages.old) (P.Pages.limits (P.Pages.below pages.old)).page) }

@@ -27,6 +27,7 @@ use syntax::{Create, NewObject, Statement, TableDefinition};
 /// A row of the schema table.
 #[derive(Clone, Copy)]
 struct SchemaRow<'a> {
+    rowid: i64,
     name: &'a str,
     table_name: &'a str,
     root: u32,
@@ -93,12 +94,12 @@ fn root_of(field: Field<'_>, size: u32) -> R<u32>
     }
 }
 
-/// The parts of a table's row, in a database of `size` pages.
-fn row_of<'a>(row: &Record<'a>, size: u32) -> R<SchemaRow<'a>>
+/// The parts of a table's row of this rowid, in a database of `size` pages.
+fn row_of<'a>(rowid: i64, row: &Record<'a>, size: u32) -> R<SchemaRow<'a>>
     ensures tells { (name table_name : List ℕ) (root : ℕ) (sql : List ℕ) → row.now ≡ schema_row name table_name root sql → 1 < root
         → root ≤ size
-        → IsOkAnd result (HasParts name table_name root sql) }
-    ensures found { IfOk result (λ parts. AreRowValues size parts row.now) }
+        → IsOkAnd result (HasParts rowid name table_name root sql) }
+    ensures found { IfOk result (λ parts. AreRowValues size parts row.now × (parts.rowid ≡ rowid)) }
     ensures not_disk { IfErr result (λ fault. IsSchemaFault fault) }
 {
     if row.len() != 5 {
@@ -106,6 +107,7 @@ fn row_of<'a>(row: &Record<'a>, size: u32) -> R<SchemaRow<'a>>
     }
     is_of_table(row.column(0))?;
     Ok(SchemaRow {
+        rowid,
         name: text_of(row.column(1))?,
         table_name: text_of(row.column(2))?,
         root: root_of(row.column(3), size)?,
@@ -215,6 +217,7 @@ fn table_made(alloc: Global, row: &SchemaRow<'_>, statement: &Statement) -> R<Ta
         name,
         columns,
         root: row.root,
+        rowid: row.rowid,
     })
 }
 
@@ -244,18 +247,19 @@ fn is_new(catalog: &Catalog, table: &Table) -> R<()>
 }
 
 /// Adds the table that a row of the schema table describes.
-pub fn add_row(alloc: Global, catalog: &mut Catalog, payload: &[u8], size: u32) -> R<()>
+pub fn add_row(alloc: Global, catalog: &mut Catalog, rowid: i64, payload: &[u8], size: u32) -> R<()>
     // The table of such a row is listed after the others, unless memory runs out.
     ensures tells { (before : List Table) (table : Table) (entry : Entry) → AreSameTables before (tables_of catalog.old)
-        → entry.payload ≡ payload.now → IsRowOf size before table entry
+        → entry.rowid ≡ rowid → entry.payload ≡ payload.now → IsRowOf size before table entry
         → AddsTables (before ++ table ∷ []) result catalog.new }
     // What is listed after the others is the table that the row tells.
-    ensures found { (entry : Entry) → entry.payload ≡ payload.now → OnOk result (AddsToldTable size entry catalog.old catalog.new) }
+    ensures found { (entry : Entry) → entry.rowid ≡ rowid → entry.payload ≡ payload.now
+        → OnOk result (AddsToldTable size entry catalog.old catalog.new) }
     ensures not_disk { IfErr result (λ fault. IsSchemaFault fault) }
 {
     let found = Record::over(alloc, payload)?;
-    let row = row_of(&found, size)?;
+    let row = row_of(rowid, &found, size)?;
     let table = table_of(alloc, &row)?;
     is_new(catalog, &table)?;
-    catalog.add(table)
+    catalog.add(alloc, table)
 }

@@ -5,6 +5,7 @@ ghost use Rattle.pages.specs.Calls.{Stays};
 ghost use Rattle.pages.specs.Map.{PageMap};
 ghost use Rattle.treepage.specs.Cells.{Pairwise};
 ghost use Rattle.filecheck.specs.Layout.{used_by};
+ghost use Rattle.catalog.specs.Listed.{shared};
 ghost use Rattle.pagecheck.specs.Checks.{CanMark};
 ghost use Rattle.pagecheck.specs.Exact.{AreTold, Checks};
 ghost use Rattle.loading.specs.Uses.{IsOwnerOf};
@@ -16,6 +17,7 @@ use pages::Pages;
 use rowprog::check_tree_rows;
 use sqlval::R;
 use std::alloc::Global;
+use std::rc::Rc;
 
 /// A table, as a source of rows.
 fn source_of(table: &Table) -> BoundSource
@@ -49,12 +51,12 @@ fn check_table<P: Pages>(
 pub(crate) fn check_tables<P: Pages>(
     alloc: Global,
     pages: &mut P,
-    tables: &[Table],
+    tables: &[Rc<Table>],
     marks: &mut Vec<bool>,
 ) -> R<()>
     ensures checked { (map : PageMap) (size : ℕ)
         → AreTold P.Pages.below P.Pages.tells P.Pages.limits P.Pages.map pages.old map size → CanMark map size marks.old.items
-        → Checks (Pairwise (IsOwnerOf map size) tables.now) used_by marks.old.items marks.new.items result }
+        → Checks (Pairwise (IsOwnerOf map size) (shared tables.now)) used_by marks.old.items marks.new.items result }
     ensures long { length marks.new.items ≡ length marks.old.items }
     ensures stays { Stays P.Pages.below P.Pages.map P.Pages.count P.Pages.failures result pages.old pages.new }
 {

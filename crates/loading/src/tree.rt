@@ -21,7 +21,8 @@ fn add_batch(alloc: Global, catalog: &mut Catalog, batch: &Batch, size: u32) -> 
     ensures not_disk { IfErr result (λ fault. IsSchemaFault fault) }
 {
     'rows: for index in 0..batch.len() {
-        add_row(alloc, catalog, batch.row(index).payload, size)?;
+        let row = batch.row(index);
+        add_row(alloc, catalog, row.rowid, row.payload, size)?;
     }
     Ok(())
 }
@@ -42,6 +43,5 @@ pub fn load_schema<P: Pages>(alloc: Global, pages: &mut P, size: u32) -> R<Catal
         cursor.next_batch(pages, &mut batch)?;
         add_batch(alloc, &mut catalog, &batch, size)?;
     }
-    catalog.commit();
     Ok(catalog)
 }

@@ -1,5 +1,5 @@
 -- The rows of a tree that is checked batch by batch are such as a table may hold.
-use Rattle.std.proofs.Common.{◌≡◌, refl, sym, ap, subst, ◌∙◌, inl, inr, ◌<◌, ◌≤◌, ◌+◌, ◌&&◌, ◌==◌, ℕ, zero, suc, ℤ, Bool, true, false, List, [], ◌∷◌, ◌++◌, length, map, take, slice_index_or, Option, None, Ok, Err, IsTrue, SFits, w64, append_assoc, arith}
+use Rattle.std.proofs.Common.{◌≡◌, refl, sym, ap, subst, ◌∙◌, inl, inr, ◌<◌, ◌≤◌, ◌+◌, ◌&&◌, ◌==◌, ℕ, pos, zero, suc, ℤ, Bool, true, false, List, [], ◌∷◌, ◌++◌, length, map, take, slice_index_or, Option, None, Ok, Err, IsTrue, SFits, w64, append_assoc, arith}
 use Rattle.std.proofs.lemmas.Bool.{eq-eqb, false≢true}
 use Rattle.std.proofs.lemmas.Bool.Decides.{nat_tests}
 use Rattle.std.proofs.lemmas.Int.{ints}
@@ -157,7 +157,7 @@ column = record { name = []; affinity = to.Blob }
 
 -- a table of so many columns
 abbrev some_table : ℕ → Table
-some_table width = record { name = []; columns = replicate width column; root = 0 }
+some_table width = record { name = []; columns = replicate width column; root = 0; rowid = pos 0 }
 
 word_first : (a b c : Bool) → (a && b && c && true) ≡ true → a ≡ true
 word_first true b c e = refl

@@ -14,9 +14,12 @@ use Rattle.catalog.specs.declared.tables.Table.{Table as ListedTable}
 use Rattle.bind.specs.Bound.{GivesEach, IsSource, ShowsAll, output_answer, sources_read}
 use Rattle.bind.specs.Checked.{known_then, meant}
 use Rattle.bind.specs.Queries.{resolve_query}
-use Rattle.bind.specs.Readings.{Reading, Condition, Always, env_of, values, rows_over}
-use Rattle.bind.specs.Terms.{Term}
-use Rattle.bind.specs.Values.{Row, Environment}
+use Rattle.bind.specs.Readings.{env_of, values, rows_over}
+use Rattle.bind.specs.declared.reading.Reading.{Reading}
+use Rattle.bind.specs.declared.reading.Condition.{Condition}
+use Rattle.bind.specs.declared.reading.Condition.TheVariants.{Always}
+use Rattle.terms.specs.Terms.{Term}
+use Rattle.terms.specs.Values.{Row, Environment}
 use Rattle.bind.specs.Views.{all_rows, answer_of, loaded, look_up, plain_rows, rows_of, rows_of_object, table_rows}
 use Rattle.bind.specs.declared.queries.BoundSource.{BoundSource}
 use Rattle.bind.specs.declared.queries.Output.{Output}

@@ -24,7 +24,8 @@ use Rattle.treepage.specs.Cells.{Pairwise}
 use Rattle.tabletree.specs.SingleLeaf.{IsSingleLeaf, IsLeafRefusal}
 use Rattle.bind.specs.declared.queries.Output.{Output}
 use Rattle.bind.specs.declared.queries.Output.TheVariants.{Column, Rowid, Literal, Overflow}
-use Rattle.rowprog.specs.Rows.{AnswersBy, TableRow, IsRow, answers_of, given, given_alone, single_answer, result_of, values_of}
+use Rattle.terms.specs.Outcome.{AnswersBy}
+use Rattle.rowprog.specs.Rows.{TableRow, IsRow, answers_of, given, given_alone, single_answer, result_of, values_of}
 use Rattle.bind.specs.Bound.{IsOf}
 use Rattle.rowprog.specs.Answers.{◌and◌, every, tried, as_wide, row_at, all_tried, entry_given, tried_alone, IsOverflow, IsRowRefusal, IsAnswer}
 use Rattle.rowprog.proofs.Steps.{refused_so}

@@ -1,9 +1,7 @@
 -- The rows of a table, and what a query gives of each.
-use Rattle.std.specs.Prelude.{◌≡◌, ◌⊎◌, ℕ, ℤ, List, [], ◌∷◌, length, map, slice_index_or, Option, Some, None, Result, Ok, Err}
+use Rattle.std.specs.Prelude.{◌≡◌, ℕ, ℤ, List, [], ◌∷◌, length, map, slice_index_or, Option, Some, None, Ok, Err}
 use Rattle.smallvec.specs.SmallVec.{SmallVec}
-use Rattle.sqlval.specs.Refusals.{Answer, RealRefused, all_answers, refusal_of}
-use Rattle.sqlval.specs.declared.fault.Fault.{Fault}
-use Rattle.sqlval.specs.declared.fault.Fault.TheVariants.{Memory}
+use Rattle.sqlval.specs.Refusals.{Answer, RealRefused, all_answers}
 use Rattle.sqlval.specs.declared.value.Value.{Value}
 use Rattle.sqlval.specs.declared.value.Value.TheVariants.{Null, Int}
 use Rattle.record.specs.Record.{IsRecord}
@@ -65,11 +63,6 @@ single_answer outputs = all_answers (all_answers (map given_alone outputs) ∷ [
 abbrev pub answer_over : (ℕ → List TableRow) → Option BoundSource → List Output → Answer (List (List Value))
 answer_over rows_at None outputs = single_answer outputs
 answer_over rows_at (Some source) outputs = answers_of outputs (rows_at source.root)
-
--- What a call answered, seen by `view`, is the answer, or its refusal, or the lack of memory.
-abbrev pub AnswersBy : {X A : Type 0} → (X → A) → Answer A → Result X Fault → Type 0
-AnswersBy view answer (Ok x) = answer ≡ Ok (view x)
-AnswersBy view answer (Err fault) = (fault ≡ Memory) ⊎ (answer ≡ Err (refusal_of fault))
 
 -- what is scanned for a source
 abbrev pub scan_of : Option BoundSource → Scan

@@ -6,7 +6,8 @@ ghost use Rattle.sqlval.specs.Gives.{Gives};
 ghost use Rattle.page.specs.Leaf.{entry_of};
 ghost use Rattle.tabletree.specs.SingleLeaf.{IsLeafRefusal};
 ghost use Rattle.rowprog.specs.Answers.{IsAnswer, IsOverflow, IsRowRefusal, all_tried, entry_given, every, row_at, tried, tried_alone};
-ghost use Rattle.rowprog.specs.Rows.{AnswersBy, Holds, TableRow, answers_of, single_answer, values_of};
+ghost use Rattle.terms.specs.Outcome.{AnswersBy};
+ghost use Rattle.rowprog.specs.Rows.{Holds, TableRow, answers_of, single_answer, values_of};
 ghost use Rattle.bind.specs.Bound.{IsOf};
 
 use bind::{BoundSource, Output};

@@ -12,8 +12,8 @@ use Rattle.wal.specs.LogState.{LogState, size_of}
 use Rattle.wal.specs.Sizes.{IsSizeWithinLimits}
 use Rattle.wal.specs.declared.log.Snapshot.{Snapshot}
 use Rattle.catalog.specs.Database.{Database}
-use Rattle.catalog.specs.Listed.{committed_in, tables_of}
-use Rattle.catalog.specs.declared.tables.Catalog.{Catalog}
+use Rattle.catalog.specs.Listed.{IsUnchanged, committed_tables, current_tables}
+use Rattle.catalog.specs.declared.tables.Catalogs.{Catalogs}
 use Rattle.catalog.specs.declared.tables.Table.{Table}
 use Rattle.pager.specs.Views.{ViewHas, IsViewPage, View, newest_view, view_at, view_of}
 use Rattle.pager.specs.Writers.{IsBegun, seen, snapshot_of}
@@ -29,7 +29,6 @@ use Rattle.pager.specs.Maps.{pages_in}
 use Rattle.pager.proofs.Mapping.{maps_alike}
 use Rattle.pager.proofs.Sounding.{begun_is_sound}
 use Rattle.session.specs.Representation.{CannotStoreIn, IsNewest, RepresentsRunning, IsTransaction, IsWriter, OnlyReads, ShowTheSame, StepsOn, done_reply, is_idle}
-use Rattle.storage.specs.Stored.{AreCommitted}
 use Rattle.session.specs.declared.transactions.Connections.{Connections}
 use Rattle.session.specs.declared.transactions.Transaction.{Transaction}
 use Rattle.session.specs.declared.transactions.Transaction.TheVariants as transaction
@@ -62,7 +61,7 @@ module _ {D : Type 0} {g : Ghosts D} where
     pub newest : IsNewest (files_of old) s
     pub begun : IsBegun (view_at (files_of old) s) w
 
-  pub committed_where_idle : (c : Connections D g) (last : ℕ) (t : Transaction) (k : Connection) → IsTransaction (files_of c) c.catalog last t k → is_idle t ≡ true → AreCommitted c.catalog
+  pub committed_where_idle : (c : Connections D g) (last : ℕ) (t : Transaction) (k : Connection) → IsTransaction (files_of c) c.catalog last t k → is_idle t ≡ true → IsUnchanged c.catalog
   committed_where_idle c last transaction.Idle k is idle = is.1
   committed_where_idle c last transaction.Begun k is idle = is.1
   committed_where_idle c last (transaction.Reading s) k is idle = is.1
@@ -99,13 +98,12 @@ module _ {D : Type 0} {g : Ghosts D} where
       record {
         next = next;
         step = by_outcome (CannotStoreIn old (statement.Begin begins.Immediate)) m (statement.Begin begins.Immediate) refl shown.running (Gives [] next) (Rows []) next (immediate_outcome old m shown idle) (refl, refl);
-        shown = inr (moved old new m (begun_as begins.Immediate m) shown start.files start.failed (ap (λ (c : Catalog). take (committed_in c) (tables_of c)) start.catalog)
-            (subst (λ (c : Catalog). committed_in c ≤ length (tables_of c)) (sym start.catalog) shown.listed)
+        shown = inr (moved old new m (begun_as begins.Immediate m) shown start.files start.failed (ap committed_tables start.catalog)
             (subst (λ (t : Transaction). IsTransaction (files_of new) new.catalog (last_place m) t (begun_as begins.Immediate m)) (sym start.now) (
               newest m,
               refl,
               writer_begins old new w s start shown.stored.served,
-              subst (λ (c : Catalog). ShowsDatabase (view_of (files_of new) w) (tables_of c) (newest m)) (sym start.catalog) (writer_stores old new w s (tables_of old.catalog) (newest m) start (all_listed old m shown all_committed)),
+              subst (λ (c : Catalogs). ShowsDatabase (view_of (files_of new) w) (current_tables c) (newest m)) (sym start.catalog) (writer_stores old new w s (current_tables old.catalog) (newest m) start (all_listed old m shown all_committed)),
             )));
         crash = crash_keeps old new m next shown start.files;
       }

@@ -7,8 +7,9 @@ use Rattle.sqlval.specs.declared.fault.Fault.{Fault}
 use Rattle.disk.specs.declared.device.Disk.{Ghosts}
 use Rattle.syntax.specs.declared.statement.Statement.{Statement}
 use Rattle.catalog.specs.Database.{Database}
-use Rattle.catalog.specs.Listed.{committed_in, tables_of}
+use Rattle.catalog.specs.Listed.{committed_tables, current_tables, tables_of}
 use Rattle.catalog.specs.declared.tables.Catalog.{Catalog}
+use Rattle.catalog.specs.declared.tables.Catalogs.{Catalogs}
 use Rattle.catalog.specs.declared.tables.Table.{Table}
 use Rattle.wal.specs.LogState.{LogState, state_of}
 use Rattle.wal.specs.Sizes.{IsSizeWithinLimits}
@@ -27,7 +28,7 @@ use Rattle.pager.proofs.Sounding.{sound_alike, sound_from, sound_to}
 use Rattle.pager.proofs.WriterSights.{map_told}
 use Rattle.storage.specs.Changing as pages
 use Rattle.storage.specs.Stored.{Stores}
-use Rattle.session.specs.Changing.{CanChange, ChangesPages, KeepsListed, Listing, listing}
+use Rattle.session.specs.Changing.{CanChange, ChangesPages, KeepsListed, Listing, MakesCatalog, listing}
 use Rattle.session.specs.Representation.{IsNewest, IsWriter, ShowTheSame}
 use Rattle.session.specs.Stored.{ShowsDatabase}
 use Rattle.session.proofs.KeptFiles.{changes_stored, changes_told, files_kept}
@@ -45,26 +46,6 @@ few_pages pages page_size le =
 pub on_any_err : {T : Type 0} (r : Result T Fault) (P : Type 0) → P → OnErr r P
 on_any_err (Ok x) P is = tt
 on_any_err (Err f) P is = is
-
--- the tables of a catalog that gets one table at most, after those that it has
-pub record KeepsTables (catalog next : Catalog) : Type 0 where
-  pub kept : take (committed_in catalog) (tables_of next) ≡ take (committed_in catalog) (tables_of catalog)
-  pub listed : committed_in next ≤ length (tables_of next)
-
-pub keeps_tables : (catalog next : Catalog) (r : Result ⊤ Fault) → committed_in next ≡ committed_in catalog → committed_in catalog ≤ length (tables_of catalog)
-    → MatchResult r (λ done. pages.IsOneMore (tables_of catalog) (tables_of next)) (λ f. tables_of next ≡ tables_of catalog) → KeepsTables catalog next
-keeps_tables catalog next (Ok done) committed listed more = record {
-  kept = ap (take (committed_in catalog)) more.1 ∙ take-append-le (committed_in catalog) (tables_of catalog) (more.0 ∷ []) listed;
-  listed = (let long = ap length more.1 ∙ length-append (tables_of catalog) (more.0 ∷ []) in omega (arith, committed, listed, long));
-}
-keeps_tables catalog next (Err f) committed listed same = record {
-  kept = ap (take (committed_in catalog)) same;
-  listed = (let long = ap length same in omega (arith, committed, listed, long));
-}
-
-pub kept_at_err : (r : Result ⊤ Fault) (before after : List Table) → MatchResult r (λ done. pages.IsOneMore before after) (λ f. after ≡ before) → OnErr r (after ≡ before)
-kept_at_err (Ok done) before after is = tt
-kept_at_err (Err f) before after is = is
 
 module _ {D : Type 0} {g : Ghosts D} where
   -- a writer whose schema change is noted sees what it saw
@@ -88,19 +69,18 @@ module _ {D : Type 0} {g : Ghosts D} where
       told = has.applies.told;
       settled = has.applies.settled;
       writer = noted_writer next.files v end now over has.applies.writer;
-      stored = subst (λ (x : View). ShowsDatabase x (tables_of next.catalog) has.made) (sym (noted_view next.files v end now over)) has.applies.stored;
-      listed = has.applies.listed;
+      stored = subst (λ (x : View). ShowsDatabase x (current_tables next.catalog) has.made) (sym (noted_view next.files v end now over)) has.applies.stored;
     };
   }
 
   -- a writer that changes the database of a catalog's tables has pages that tell their bytes
-  pub tells_changes : (files : Log D g) (catalog : Catalog) (w : Writer) (db : Database) (a n b : ℕ) → CanChange (listing files catalog) w db → IsTrue (tells_writer (under_writer files w a n b))
+  pub tells_changes : (files : Log D g) (catalog : Catalogs) (w : Writer) (db : Database) (a n b : ℕ) → CanChange (listing files catalog) w db → IsTrue (tells_writer (under_writer files w a n b))
   tells_changes files catalog w db a n b on = changes_told files w a n b on.told on.writer
 
   -- and they are those that it sees
-  stored_over : (files : Log D g) (catalog : Catalog) (w : Writer) (db : Database) (a b : ℕ) → (on : CanChange (listing files catalog) w db)
-      → Stores (map_over (under_reader files (snapshot_of w) a b) w) (page_size_of w) (tables_of catalog) db
-  stored_over files catalog w db a b on = changes_stored files w (tables_of catalog) db a b on.told on.writer on.stored
+  stored_over : (files : Log D g) (catalog : Catalogs) (w : Writer) (db : Database) (a b : ℕ) → (on : CanChange (listing files catalog) w db)
+      → Stores (map_over (under_reader files (snapshot_of w) a b) w) (page_size_of w) (current_tables catalog) db
+  stored_over files catalog w db a b on = changes_stored files w (current_tables catalog) db a b on.told on.writer on.stored
 
   module _ (old new : Log D g) (w v : Writer) (a n b c m d : ℕ) (kept : under_writer new v c m d ≡ under_writer old w a n b) where
     reader_kept : under_reader new (snapshot_of v) c d ≡ under_reader old (snapshot_of w) a b
@@ -141,32 +121,52 @@ module _ {D : Type 0} {g : Ghosts D} where
       served = served_now same is;
     }
 
-    refused_over : (s : Statement) (catalog : Catalog) (db : Database) (f : Fault) → (on : CanChange (listing old catalog) w db)
+    refused_over : (s : Statement) (catalog : Catalogs) (db : Database) (f : Fault) → (on : CanChange (listing old catalog) w db)
         → pages.IsChangeRefusal s (map_over (under_reader old (snapshot_of w) a b) w) (page_size_of w) db f → pages.IsChangeRefusal s (pages_in (view_of old w)) (view_of old w).page_size db f
     refused_over s catalog db f on why =
         subst (λ (map : PageMap). pages.IsChangeRefusal s map (view_of old w).page_size db f) (map_told old w a b on.told)
         (subst (λ (p : ℕ). pages.IsChangeRefusal s (map_over (under_reader old (snapshot_of w) a b) w) p db f) on.writer.page_size why)
 
     -- what a change of the pages comes to
-    pub changed : (s : Statement) (catalog next : Catalog) (db : Database) (r : Result ⊤ Fault) → CanChange (listing old catalog) w db
-        → (ShowTheSame old new → KeepsListed (listing old catalog) (listing new next)) → committed_in next ≤ length (tables_of next)
-        → pages.MakesChange s (map_over (under_reader old (snapshot_of w) a b) w) (map_over (under_reader new (snapshot_of v) c d) v) (page_size_of w) (tables_of catalog) (tables_of next) r
-        → OnErr r (tables_of next ≡ tables_of catalog)
+    pub changed : (s : Statement) (catalog next : Catalogs) (db : Database) (r : Result ⊤ Fault) → CanChange (listing old catalog) w db
+        → committed_tables next ≡ committed_tables catalog
+        → pages.MakesChange (λ done. current_tables next) s (map_over (under_reader old (snapshot_of w) a b) w) (map_over (under_reader new (snapshot_of v) c d) v) (page_size_of w) (current_tables catalog) r
+        → OnErr r (current_tables next ≡ current_tables catalog)
         → ChangesPages s (listing old catalog) w db r (listing new next) v
-    changed s catalog next db (Ok done) on keeps listed makes refused =
+    changed s catalog next db (Ok done) on keeps makes refused =
         let same = shows_same on.told in
         let made = makes db (stored_over old catalog w db a b on) in
         record {
-          kept = keeps same;
+          kept = record { files = same; tables = keeps };
           made = made.made;
           reaches = made.reaches;
           applies = record {
             told = same.told;
             settled = still_settled old new same on.settled;
             writer = writer_still same on.writer;
-            stored = stored_now (tables_of next) made.made same on.writer made.stored;
-            listed = listed;
+            stored = stored_now (current_tables next) made.made same on.writer made.stored;
           };
         }
-    changed s catalog next db (Err f) on keeps listed makes refused =
-        record { kept = keeps (shows_same on.told); tables = refused; why = refused_over s catalog db f on (makes db (stored_over old catalog w db a b on)) }
+    changed s catalog next db (Err f) on keeps makes refused =
+        record { kept = record { files = shows_same on.told; tables = keeps }; tables = refused; why = refused_over s catalog db f on (makes db (stored_over old catalog w db a b on)) }
+
+    -- the same where the change answers a catalog
+    pub changed_to : (s : Statement) (catalog : Catalogs) (db : Database) (tables : List Table) (r : Result Catalog Fault) → CanChange (listing old catalog) w db → tables ≡ current_tables catalog
+        → pages.MakesChange tables_of s (map_over (under_reader old (snapshot_of w) a b) w) (map_over (under_reader new (snapshot_of v) c d) v) (page_size_of w) tables r
+        → MakesCatalog s (listing old catalog) w db r new v
+    changed_to s catalog db tables (Ok made) on same makes = λ next now kept.
+        changed s catalog next db (Ok tt) on kept
+        (λ base held. subst (λ (ts : List Table). pages.IsMade s base (map_over (under_reader new (snapshot_of v) c d) v) (page_size_of w) ts) (sym now)
+        (makes base (subst (λ (ts : List Table). Stores (map_over (under_reader old (snapshot_of w) a b) w) (page_size_of w) ts base) (sym same) held))) tt
+    changed_to s catalog db tables (Err f) on same makes =
+        changed s catalog catalog db (Err f) on refl
+        (λ base held. makes base (subst (λ (ts : List Table). Stores (map_over (under_reader old (snapshot_of w) a b) w) (page_size_of w) ts base) (sym same) held)) refl
+
+    -- the same of a call on the current catalog
+    pub changed_on : (s : Statement) (catalog : Catalogs) (db : Database) (tables : List Table) (r : Result ⊤ Fault) → CanChange (listing old catalog) w db → tables ≡ current_tables catalog
+        → pages.MakesChange (λ done. tables) s (map_over (under_reader old (snapshot_of w) a b) w) (map_over (under_reader new (snapshot_of v) c d) v) (page_size_of w) tables r
+        → ChangesPages s (listing old catalog) w db r (listing new catalog) v
+    changed_on s catalog db tables r on same makes =
+        changed s catalog catalog db r on refl
+        (subst (λ (ts : List Table). pages.MakesChange (λ done. ts) s (map_over (under_reader old (snapshot_of w) a b) w) (map_over (under_reader new (snapshot_of v) c d) v) (page_size_of w) ts r) same makes)
+        (on_any_err r _ refl)

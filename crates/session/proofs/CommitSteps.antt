@@ -10,8 +10,8 @@ use Rattle.sqlval.specs.Refusals.{Refusal, refusal_of}
 use Rattle.sqlval.specs.declared.fault.Fault.{Fault}
 use Rattle.syntax.specs.declared.statement.Statement.TheVariants as statement
 use Rattle.catalog.specs.Database.{Database}
-use Rattle.catalog.specs.Listed.{committed_in, tables_of}
-use Rattle.catalog.specs.declared.tables.Catalog.{Catalog}
+use Rattle.catalog.specs.Listed.{IsUnchanged, committed_tables, current_tables}
+use Rattle.catalog.specs.declared.tables.Catalogs.{Catalogs}
 use Rattle.catalog.specs.declared.tables.Table.{Table}
 use Rattle.wal.specs.declared.log.Log.{Log}
 use Rattle.wal.specs.declared.log.Snapshot.{Snapshot}
@@ -23,7 +23,6 @@ use Rattle.session.specs.ConnectionState.{files_of, has_failed_in}
 use Rattle.session.specs.Machine.{Machine, Idle, InTransactionOf, NoSnapshot, Phase, Reads, Reply, Rows, Refused, Writes, last_place, newest, with_connection}
 use Rattle.session.specs.Outcomes.{Commits, Gives, RefusedBy, commit_outcome, outcome}
 use Rattle.session.specs.Representation.{CannotStoreIn, RepresentsRunning, IsTransaction, IsWriter, ShowTheSame, StepsOn, StepsTo, done_reply, is_idle}
-use Rattle.storage.specs.Stored.{AreCommitted}
 use Rattle.session.specs.Steps.{Allowed, after_commit, is_free}
 use Rattle.session.specs.Stored.{ShowsDatabase}
 use Rattle.session.specs.Applying.{CommitsChanges, CommitsDatabase, HoldsEither, IsCommitCause, IsInDoubt, IsUncommitted, CanApply}
@@ -49,14 +48,13 @@ module _ {D : Type 0} {g : Ghosts D} where
         crash = crash_keeps old new m m shown (subst (ShowTheSame (files_of old)) (sym same.files) (the_same (files_of old) shown.told));
       }
 
-  ended : (old new : Connections D g) (m : Machine) (shown : RepresentsRunning old m) (phase : Phase) → shown.first ≡ InTransactionOf false [] phase → commit_outcome m 1 phase ≡ Gives [] (with_connection m 1 Idle) → AreCommitted old.catalog
+  ended : (old new : Connections D g) (m : Machine) (shown : RepresentsRunning old m) (phase : Phase) → shown.first ≡ InTransactionOf false [] phase → commit_outcome m 1 phase ≡ Gives [] (with_connection m 1 Idle) → IsUnchanged old.catalog
       → Begins old new transaction.Idle → StepsTo old m 1 statement.Commit (Rows []) new
   ended old new m shown phase first gives all ends = record {
     next = with_connection m 1 Idle;
     step = by_outcome (CannotStoreIn old statement.Commit) m statement.Commit refl shown.running (Gives [] (with_connection m 1 Idle)) (Rows []) (with_connection m 1 Idle) is (refl, refl);
-    shown = inr (moved old new m Idle shown (subst (ShowTheSame (files_of old)) (sym ends.files) (the_same (files_of old) shown.told)) ends.failed (ap (λ (c : Catalog). take (committed_in c) (tables_of c)) ends.catalog)
-        (subst (λ (c : Catalog). committed_in c ≤ length (tables_of c)) (sym ends.catalog) shown.listed)
-        (subst (λ (t : Transaction). IsTransaction (files_of new) new.catalog (last_place m) t Idle) (sym ends.now) (refl, subst AreCommitted (sym ends.catalog) all)));
+    shown = inr (moved old new m Idle shown (subst (ShowTheSame (files_of old)) (sym ends.files) (the_same (files_of old) shown.told)) ends.failed (ap committed_tables ends.catalog)
+        (subst (λ (t : Transaction). IsTransaction (files_of new) new.catalog (last_place m) t Idle) (sym ends.now) (refl, subst IsUnchanged (sym ends.catalog) all)));
     crash = crash_keeps old new m (with_connection m 1 Idle) shown (subst (ShowTheSame (files_of old)) (sym ends.files) (the_same (files_of old) shown.told));
   }
     where
@@ -84,9 +82,8 @@ module _ {D : Type 0} {g : Ghosts D} where
     told = has.told;
     settled = has.settled;
     some = omega (arith, length-append m.history (made ∷ []));
-    listed = omega (arith, has.all);
-    stored = subst (λ (ts : List Table). ShowsDatabase (newest_view (files_of new)) ts (newest (after_commit m 1 made))) (sym (take_all (committed_in new.catalog) (tables_of new.catalog) (omega (arith, has.all))))
-        (subst (ShowsDatabase (newest_view (files_of new)) (tables_of new.catalog)) (sym (last_is m.history made)) has.stored);
+    stored = subst (λ (ts : List Table). ShowsDatabase (newest_view (files_of new)) ts (newest (after_commit m 1 made))) has.all
+        (subst (ShowsDatabase (newest_view (files_of new)) (current_tables new.catalog)) (sym (last_is m.history made)) has.stored);
     first = Idle;
     others = shown.others;
     connections = first_set m shown.first shown.others shown.connections Idle;
@@ -107,7 +104,7 @@ module _ {D : Type 0} {g : Ghosts D} where
     pub first : shown.first ≡ InTransactionOf false [] (Writes (last_place m) db)
     pub applies : CanApply mid w db
     pub same : ShowTheSame (files_of old) (files_of mid)
-    pub tables : take (committed_in mid.catalog) (tables_of mid.catalog) ≡ take (committed_in old.catalog) (tables_of old.catalog)
+    pub tables : committed_tables mid.catalog ≡ committed_tables old.catalog
 
   pub writes_in : (old mid : Connections D g) (m : Machine) (w : Writer) → RepresentsRunning old m → old.transaction ≡ transaction.Writing w → files_of mid ≡ files_of old → mid.catalog ≡ old.catalog → WritesIn old mid m w
   writes_in old mid m w shown was files catalog =
@@ -120,11 +117,10 @@ module _ {D : Type 0} {g : Ghosts D} where
           told = subst Tells (sym files) shown.told;
           settled = subst IsSettled (sym files) shown.settled;
           writer = subst (λ (l : Log D g). IsWriter l w) (sym files) first.2;
-          stored = subst (λ (l : Log D g). ShowsDatabase (view_of l w) (tables_of mid.catalog) first.0) (sym files) (subst (λ (c : Catalog). ShowsDatabase (view_of (files_of old) w) (tables_of c) first.0) (sym catalog) first.3);
-          listed = subst (λ (c : Catalog). committed_in c ≤ length (tables_of c)) (sym catalog) shown.listed;
+          stored = subst (λ (l : Log D g). ShowsDatabase (view_of l w) (current_tables mid.catalog) first.0) (sym files) (subst (λ (c : Catalogs). ShowsDatabase (view_of (files_of old) w) (current_tables c) first.0) (sym catalog) first.3);
         };
         same = subst (ShowTheSame (files_of old)) (sym files) (the_same (files_of old) shown.told);
-        tables = ap (λ (c : Catalog). take (committed_in c) (tables_of c)) catalog;
+        tables = ap committed_tables catalog;
       }
 
   module _ (old mid new : Connections D g) (m : Machine) (w : Writer) (in_writing : WritesIn old mid m w) where
@@ -165,8 +161,7 @@ module _ {D : Type 0} {g : Ghosts D} where
           told = is.applies.told;
           settled = is.applies.settled;
           some = shown.some;
-          listed = is.applies.listed;
-          stored = subst (λ (v : View). ShowsDatabase v (take (committed_in new.catalog) (tables_of new.catalog)) (newest m)) (sym (is.kept.files.newest ∙ ap newest_view files))
+          stored = subst (λ (v : View). ShowsDatabase v (committed_tables new.catalog) (newest m)) (sym (is.kept.files.newest ∙ ap newest_view files))
               (subst (λ (ts : List Table). ShowsDatabase (newest_view (files_of old)) ts (newest m)) (sym tables) shown.stored);
           first = shown.first;
           others = shown.others;
@@ -175,8 +170,8 @@ module _ {D : Type 0} {g : Ghosts D} where
           transaction = (in_writing.db, in_writing.first, is.applies.writer, is.applies.stored);
         }
       where
-        tables : take (committed_in new.catalog) (tables_of new.catalog) ≡ take (committed_in old.catalog) (tables_of old.catalog)
-        tables = ap (λ n. take n (tables_of new.catalog)) is.kept.committed ∙ is.kept.tables ∙ ap (λ (c : Catalog). take (committed_in c) (tables_of c)) catalog
+        tables : committed_tables new.catalog ≡ committed_tables old.catalog
+        tables = is.kept.tables ∙ ap committed_tables catalog
 
     instead_step : (left : Writer) (r : Refusal) → is_free r ≡ true → ShowTheSame (files_of old) (files_of new) → RepresentsRunning (writing_on new left) m → StepsTo old m 1 statement.Commit (Refused r) (writing_on new left)
     instead_step left r free same shown = record {

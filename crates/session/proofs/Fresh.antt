@@ -4,14 +4,13 @@ use Rattle.std.specs.List.{AllByRecursion}
 use Rattle.std.proofs.lemmas.List.{take_all}
 use Rattle.disk.specs.declared.device.Disk.{Ghosts}
 use Rattle.catalog.specs.Database.{Database}
-use Rattle.catalog.specs.Listed.{committed_in, tables_of}
+use Rattle.catalog.specs.Listed.{IsUnchanged, committed_tables, current_tables}
 use Rattle.catalog.specs.declared.tables.Table.{Table}
 use Rattle.pager.specs.Views.{Tells, newest_view}
 use Rattle.session.specs.Holding.{IsSettled}
 use Rattle.session.specs.ConnectionState.{files_of, has_failed_in}
 use Rattle.session.specs.Machine.{Idle, fresh, idle}
 use Rattle.session.specs.Representation.{RepresentsRunning, IsTransaction}
-use Rattle.storage.specs.Stored.{AreCommitted}
 use Rattle.session.specs.Stored.{ShowsDatabase}
 use Rattle.session.specs.declared.transactions.Connections.{Connections}
 use Rattle.session.specs.declared.transactions.Transaction.{Transaction}
@@ -22,7 +21,7 @@ all_idle zero = tt
 all_idle (suc n) = (refl, all_idle n)
 
 module _ {D : Type 0} {g : Ghosts D} where
-  pub fresh_shown : (c : Connections D g) (db : Database) → has_failed_in c ≡ false → c.transaction ≡ transaction.Idle → Tells (files_of c) → IsSettled (files_of c) → AreCommitted c.catalog → ShowsDatabase (newest_view (files_of c)) (tables_of c.catalog) db
+  pub fresh_shown : (c : Connections D g) (db : Database) → has_failed_in c ≡ false → c.transaction ≡ transaction.Idle → Tells (files_of c) → IsSettled (files_of c) → IsUnchanged c.catalog → ShowsDatabase (newest_view (files_of c)) (current_tables c.catalog) db
       → RepresentsRunning c (fresh db)
   fresh_shown c db whole is told settled all stored = record {
     running = refl;
@@ -31,8 +30,7 @@ module _ {D : Type 0} {g : Ghosts D} where
     told = told;
     settled = settled;
     some = omega arith;
-    listed = omega (arith, all);
-    stored = subst (λ (ts : List Table). ShowsDatabase (newest_view (files_of c)) ts db) (sym (take_all (committed_in c.catalog) (tables_of c.catalog) (omega (arith, all)))) stored;
+    stored = subst (λ (ts : List Table). ShowsDatabase (newest_view (files_of c)) ts db) all stored;
     first = Idle;
     others = idle 15;
     connections = refl;

@@ -8,7 +8,7 @@ use Rattle.sqlval.specs.declared.fault.Fault.TheVariants as fault
 use Rattle.syntax.specs.declared.statement.Statement.{Statement}
 use Rattle.wal.specs.declared.log.Log.{Log}
 use Rattle.catalog.specs.Database.{Database}
-use Rattle.catalog.specs.Listed.{committed_in, tables_of}
+use Rattle.catalog.specs.Listed.{committed_tables, current_tables}
 use Rattle.catalog.specs.declared.tables.Table.{Table}
 use Rattle.pager.specs.Limits.{pages_of}
 use Rattle.pager.specs.Marks.{Changes, IsOverTheSame, now_of}
@@ -50,15 +50,14 @@ module _ {D : Type 0} {g : Ghosts D} where
     told = on.told;
     settled = on.settled;
     writer = moved_writer (files_of c) w v now over on.writer;
-    stored = subst (λ (x : View). ShowsDatabase x (tables_of c.catalog) db) (sym (moved_view (files_of c) w v now over)) on.stored;
-    listed = on.listed;
+    stored = subst (λ (x : View). ShowsDatabase x (current_tables c.catalog) db) (sym (moved_view (files_of c) w v now over)) on.stored;
   }
 
   -- a mark that is refused
   pub unmarked : (s : Statement) (c : Connections D g) (w v : Writer) (db : Database) (r : Result ⊤ Fault) (f : Fault) → IsErrAnd r (λ e. e ≡ f) → f ≡ fault.Memory → CanApply c w db → Applies s c w db r c v
   unmarked s c w v db (Ok done) f is memory on = absurd is
   unmarked s c w v db (Err e) f is memory on = record {
-    kept = record { files = the_same (files_of c) on.told; failed = refl; transaction = refl; committed = refl; tables = refl };
+    kept = record { files = the_same (files_of c) on.told; failed = refl; transaction = refl; tables = refl };
     tables = refl;
     why = inl (inl (inl (is ∙ memory)));
   }
@@ -83,6 +82,5 @@ module _ {D : Type 0} {g : Ghosts D} where
         settled = still_settled (files_of old) (files_of new) has.kept.files on.settled;
         writer = still_writer (files_of old) (files_of new) w has.kept.files on.writer;
         stored = subst (λ (ts : List Table). ShowsDatabase (view_of (files_of new) w) ts db) (sym has.tables)
-            (subst (λ (v : View). ShowsDatabase (after v (changes_of w) (pages_of w)) (tables_of old.catalog) db) (sym (has.kept.files.at (snapshot_of w))) on.stored);
-        listed = subst (λ (ts : List Table). committed_in new.catalog ≤ length ts) (sym has.tables) (subst (λ (n : ℕ). n ≤ length (tables_of old.catalog)) (sym has.kept.committed) on.listed);
+            (subst (λ (v : View). ShowsDatabase (after v (changes_of w) (pages_of w)) (current_tables old.catalog) db) (sym (has.kept.files.at (snapshot_of w))) on.stored);
       })

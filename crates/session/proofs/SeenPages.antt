@@ -6,7 +6,7 @@ use Rattle.wal.specs.LogState.{db_of, log_of, state_of, header_of}
 use Rattle.wal.specs.declared.log.Log.{Log}
 use Rattle.wal.specs.declared.log.Snapshot.{Snapshot}
 use Rattle.wal.proofs.Changes.{page_one}
-use Rattle.catalog.specs.declared.tables.Catalog.{Catalog}
+use Rattle.catalog.specs.declared.tables.Catalogs.{Catalogs}
 use Rattle.pager.specs.Views.{ViewHas, View, newest_view, view_at}
 use Rattle.pager.specs.declared.writer.Writer.{Writer}
 use Rattle.session.specs.Machine.{Connection}
@@ -26,7 +26,7 @@ module _ {D : Type 0} {g : Ghosts D} where
     size = is.sized i;
   }
 
-  pub writer_of : (files : Log D g) (catalog : Catalog) (last : ℕ) (t : Transaction) (k : Connection) (w : Writer) → t ≡ transaction.Writing w → IsTransaction files catalog last t k → IsWriter files w
+  pub writer_of : (files : Log D g) (catalog : Catalogs) (last : ℕ) (t : Transaction) (k : Connection) (w : Writer) → t ≡ transaction.Writing w → IsTransaction files catalog last t k → IsWriter files w
   writer_of files catalog last t k w is are = (subst (λ (x : Transaction). IsTransaction files catalog last x k) is are).2
 
   pub not_writing : (files : Log D g) (t : Transaction) → ((w : Writer) → t ≡ transaction.Writing w → ⊥) → seen_in t files ≡ newest_view files

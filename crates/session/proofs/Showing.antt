@@ -9,8 +9,8 @@ use Rattle.syntax.specs.declared.statement.BeginMode.{BeginMode}
 use Rattle.syntax.specs.declared.statement.BeginMode.TheVariants as begins
 use Rattle.syntax.specs.declared.statement.Statement.TheVariants as statement
 use Rattle.wal.specs.declared.log.Log.{Log}
-use Rattle.catalog.specs.Listed.{committed_in, tables_of}
-use Rattle.catalog.specs.declared.tables.Catalog.{Catalog}
+use Rattle.catalog.specs.Listed.{IsUnchanged, committed_tables, current_tables}
+use Rattle.catalog.specs.declared.tables.Catalogs.{Catalogs}
 use Rattle.catalog.specs.declared.tables.Table.{Table}
 use Rattle.disk.specs.File.{File}
 use Rattle.walframe.specs.Accepted.{KeepsFile}
@@ -26,7 +26,6 @@ use Rattle.session.specs.Machine.{Machine, Connection, Idle, InTransactionOf, Ph
 use Rattle.session.specs.Outcomes.{Gives, RefusedBy, begun}
 use Rattle.session.specs.Stored.{ShowsDatabase}
 use Rattle.session.specs.Representation.{CannotStoreIn, IsGivenUp, IsNewest, RepresentsRunning, IsTransaction, IsWriter, ShowTheSame, StepsOn, is_idle}
-use Rattle.storage.specs.Stored.{AreCommitted}
 use Rattle.session.specs.declared.transactions.Connections.{Connections}
 use Rattle.session.specs.declared.transactions.Transaction.{Transaction}
 use Rattle.session.specs.declared.transactions.Transaction.TheVariants as transaction
@@ -36,9 +35,6 @@ use Rattle.session.proofs.Stepping.{by_outcome, begin_outcome, first_is, first_s
 pub record IsBusy (k : Connection) : Type 0 where
   pub phase : Phase
   pub is : k ≡ InTransactionOf false [] phase
-
-pub take_twice : (n : ℕ) (ts : List Table) → take n (take n ts) ≡ take n ts
-take_twice n ts = take_all n (take n ts) (omega (arith, length-take n ts, min-le_left n (length ts)))
 
 -- what is seen, by the files' contents and what is known of them
 abbrev newest_by : List ℕ → List ℕ → LogState → View
@@ -50,13 +46,13 @@ at_by d l k s = record { db = d; frames = frames_under (header_of k) l (seen_by 
 module _ {D : Type 0} {g : Ghosts D} where
   -- ---- what the first connection is
 
-  pub idle_first : (files : Log D g) (catalog : Catalog) (last : ℕ) (t : Transaction) (k : Connection) → IsTransaction files catalog last t k → is_idle t ≡ true → k ≡ Idle
+  pub idle_first : (files : Log D g) (catalog : Catalogs) (last : ℕ) (t : Transaction) (k : Connection) → IsTransaction files catalog last t k → is_idle t ≡ true → k ≡ Idle
   idle_first files catalog last transaction.Idle k is idle = is.0
   idle_first files catalog last transaction.Begun k is idle = absurd (false≢true idle)
   idle_first files catalog last (transaction.Reading s) k is idle = absurd (false≢true idle)
   idle_first files catalog last (transaction.Writing w) k is idle = absurd (false≢true idle)
 
-  pub busy_first : (files : Log D g) (catalog : Catalog) (last : ℕ) (t : Transaction) (k : Connection) → IsTransaction files catalog last t k → is_idle t ≡ false → IsBusy k
+  pub busy_first : (files : Log D g) (catalog : Catalogs) (last : ℕ) (t : Transaction) (k : Connection) → IsTransaction files catalog last t k → is_idle t ≡ false → IsBusy k
   busy_first files catalog last transaction.Idle k is idle = absurd (false≢true (sym idle))
   busy_first files catalog last transaction.Begun k is idle = record { phase = NoSnapshot; is = is.0 }
   busy_first files catalog last (transaction.Reading s) k is idle = record { phase = Reads last; is = is.0 }
@@ -86,27 +82,26 @@ module _ {D : Type 0} {g : Ghosts D} where
   pub still_writer : (old new : Log D g) (w : Writer) → ShowTheSame old new → IsWriter old w → IsWriter new w
   still_writer old new w same is = record { newest = still_newest old new (snapshot_of w) same is.newest; sound = is.sound; page_size = is.page_size ∙ ap (λ (k : LogState). k.page_size) (sym same.known) }
 
-  pub still_transaction : (old new : Log D g) (catalog : Catalog) (last : ℕ) (t : Transaction) (k : Connection) → ShowTheSame old new → IsTransaction old catalog last t k → IsTransaction new catalog last t k
+  pub still_transaction : (old new : Log D g) (catalog : Catalogs) (last : ℕ) (t : Transaction) (k : Connection) → ShowTheSame old new → IsTransaction old catalog last t k → IsTransaction new catalog last t k
   still_transaction old new catalog last transaction.Idle k same is = is
   still_transaction old new catalog last transaction.Begun k same is = is
   still_transaction old new catalog last (transaction.Reading s) k same is = (is.0, is.1, still_newest old new s same is.2)
   still_transaction old new catalog last (transaction.Writing w) k same is =
-      (is.0, is.1, still_writer old new w same is.2, subst (λ (v : View). ShowsDatabase (after v (changes_of w) (pages_of w)) (tables_of catalog) is.0) (sym (same.at (snapshot_of w))) is.3)
+      (is.0, is.1, still_writer old new w same is.2, subst (λ (v : View). ShowsDatabase (after v (changes_of w) (pages_of w)) (current_tables catalog) is.0) (sym (same.at (snapshot_of w))) is.3)
 
   -- ---- the machine after a statement that commits nothing
 
   pub moved : (old new : Connections D g) (m : Machine) (k : Connection) (shown : RepresentsRunning old m) → ShowTheSame (files_of old) (files_of new) → has_failed_in new ≡ has_failed_in old
-      → take (committed_in new.catalog) (tables_of new.catalog) ≡ take (committed_in old.catalog) (tables_of old.catalog)
-      → committed_in new.catalog ≤ length (tables_of new.catalog) → IsTransaction (files_of new) new.catalog (last_place m) new.transaction k → RepresentsRunning new (with_connection m 1 k)
-  moved old new m k shown same failed tables listed is = record {
+      → committed_tables new.catalog ≡ committed_tables old.catalog
+      → IsTransaction (files_of new) new.catalog (last_place m) new.transaction k → RepresentsRunning new (with_connection m 1 k)
+  moved old new m k shown same failed tables is = record {
     running = shown.running;
     sure = shown.sure;
     whole = failed ∙ shown.whole;
     told = same.told;
     settled = still_settled (files_of old) (files_of new) same shown.settled;
     some = shown.some;
-    listed = listed;
-    stored = subst (λ (v : View). ShowsDatabase v (take (committed_in new.catalog) (tables_of new.catalog)) (newest m)) (sym same.newest)
+    stored = subst (λ (v : View). ShowsDatabase v (committed_tables new.catalog) (newest m)) (sym same.newest)
         (subst (λ (ts : List Table). ShowsDatabase (newest_view (files_of old)) ts (newest m)) (sym tables) shown.stored);
     first = k;
     others = shown.others;
@@ -124,15 +119,14 @@ module _ {D : Type 0} {g : Ghosts D} where
     told = same.told;
     settled = still_settled (files_of old) (files_of new) same shown.settled;
     some = shown.some;
-    listed = subst (λ (c : Catalog). committed_in c ≤ length (tables_of c)) (sym catalog) shown.listed;
-    stored = subst (λ (v : View). ShowsDatabase v (take (committed_in new.catalog) (tables_of new.catalog)) (newest m)) (sym same.newest)
-        (subst (λ (c : Catalog). ShowsDatabase (newest_view (files_of old)) (take (committed_in c) (tables_of c)) (newest m)) (sym catalog) shown.stored);
+    stored = subst (λ (v : View). ShowsDatabase v (committed_tables new.catalog) (newest m)) (sym same.newest)
+        (subst (λ (c : Catalogs). ShowsDatabase (newest_view (files_of old)) (committed_tables c) (newest m)) (sym catalog) shown.stored);
     first = shown.first;
     others = shown.others;
     connections = shown.connections;
     idle = shown.idle;
     transaction = subst (λ (t : Transaction). IsTransaction (files_of new) new.catalog (last_place m) t shown.first) (sym now)
-        (subst (λ (c : Catalog). IsTransaction (files_of new) c (last_place m) old.transaction shown.first) (sym catalog)
+        (subst (λ (c : Catalogs). IsTransaction (files_of new) c (last_place m) old.transaction shown.first) (sym catalog)
         (still_transaction (files_of old) (files_of new) old.catalog (last_place m) old.transaction shown.first same shown.transaction));
   }
 
@@ -156,15 +150,12 @@ module _ {D : Type 0} {g : Ghosts D} where
       record {
         next = with_connection m 1 Idle;
         step = by_outcome (CannotStoreIn old statement.Rollback) m statement.Rollback refl shown.running (Gives [] (with_connection m 1 Idle)) (Rows []) (with_connection m 1 Idle) is (refl, refl);
-        shown = inr (moved old new m Idle shown (subst (ShowTheSame (files_of old)) (sym gone.files) (the_same (files_of old) shown.told)) gone.failed (tables_same old new gone) (omega (arith, all_now gone)) (idle_now gone));
+        shown = inr (moved old new m Idle shown (subst (ShowTheSame (files_of old)) (sym gone.files) (the_same (files_of old) shown.told)) gone.failed gone.committed (idle_now gone));
         crash = crash_keeps old new m (with_connection m 1 Idle) shown (subst (ShowTheSame (files_of old)) (sym gone.files) (the_same (files_of old) shown.told));
       }
     where
-      tables_same : (old new : Connections D g) → IsGivenUp old new → take (committed_in new.catalog) (tables_of new.catalog) ≡ take (committed_in old.catalog) (tables_of old.catalog)
-      tables_same old new gone = ap (λ n. take n (tables_of new.catalog)) gone.committed ∙ ap (take (committed_in old.catalog)) gone.tables ∙ take_twice (committed_in old.catalog) (tables_of old.catalog)
-
-      all_now : IsGivenUp old new → AreCommitted new.catalog
-      all_now gone = gone.committed ∙ sym (length-take-le (committed_in old.catalog) (tables_of old.catalog) shown.listed) ∙ ap length (sym gone.tables)
+      all_now : IsGivenUp old new → IsUnchanged new.catalog
+      all_now gone = gone.tables ∙ sym gone.committed
 
       idle_now : IsGivenUp old new → IsTransaction (files_of new) new.catalog (last_place m) new.transaction Idle
       idle_now gone = subst (λ (t : Transaction). IsTransaction (files_of new) new.catalog (last_place m) t Idle) (sym gone.idle) (refl, all_now gone)
@@ -197,14 +188,13 @@ module _ {D : Type 0} {g : Ghosts D} where
       record {
         next = next;
         step = by_outcome (CannotStoreIn old (statement.Begin begins.Deferred)) m (statement.Begin begins.Deferred) refl shown.running (Gives [] next) (Rows []) next is (refl, refl);
-        shown = inr (moved old new m (InTransactionOf false [] NoSnapshot) shown (subst (ShowTheSame (files_of old)) (sym begun.files) (the_same (files_of old) shown.told)) begun.failed (ap (λ (c : Catalog). take (committed_in c) (tables_of c)) begun.catalog)
-            (subst (λ (c : Catalog). committed_in c ≤ length (tables_of c)) (sym begun.catalog) shown.listed)
+        shown = inr (moved old new m (InTransactionOf false [] NoSnapshot) shown (subst (ShowTheSame (files_of old)) (sym begun.files) (the_same (files_of old) shown.told)) begun.failed (ap committed_tables begun.catalog)
             (subst (λ (t : Transaction). IsTransaction (files_of new) new.catalog (last_place m) t (InTransactionOf false [] NoSnapshot)) (sym begun.now)
-            (refl, subst AreCommitted (sym begun.catalog) (committed_idle old.transaction shown.first shown.transaction idle))));
+            (refl, subst IsUnchanged (sym begun.catalog) (committed_idle old.transaction shown.first shown.transaction idle))));
         crash = crash_keeps old new m next shown (subst (ShowTheSame (files_of old)) (sym begun.files) (the_same (files_of old) shown.told));
       }
     where
-      committed_idle : (t : Transaction) (j : Connection) → IsTransaction (files_of old) old.catalog (last_place m) t j → is_idle t ≡ true → AreCommitted old.catalog
+      committed_idle : (t : Transaction) (j : Connection) → IsTransaction (files_of old) old.catalog (last_place m) t j → is_idle t ≡ true → IsUnchanged old.catalog
       committed_idle transaction.Idle j is idle = is.1
       committed_idle transaction.Begun j is idle = absurd (false≢true idle)
       committed_idle (transaction.Reading s) j is idle = absurd (false≢true idle)

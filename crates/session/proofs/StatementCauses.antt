@@ -31,6 +31,7 @@ module _ {D : Type 0} {g : Ghosts D} where
   change_refused : (c : Connections D g) (w : Write) (s : Statement) (f : Fault) → written w ≡ s → IsRefusedFor c s f
   change_refused c (write.Insert i) s f is = subst (λ t. IsRefusedFor c t f) is (record { memory = λ memory. refl; full = λ m shown commit full. absurd cc })
   change_refused c (write.Delete d) s f is = subst (λ t. IsRefusedFor c t f) is (record { memory = λ memory. refl; full = λ m shown commit full. absurd cc })
+  change_refused c (write.Drop kind name) s f is = subst (λ t. IsRefusedFor c t f) is (record { memory = λ memory. refl; full = λ m shown commit full. absurd cc })
   change_refused c (write.CreateTable sql d) s f is = subst (λ t. IsRefusedFor c t f) is (record { memory = λ memory. refl; full = λ m shown commit full. absurd cc })
 
   pub changes_refused : {T : Type 0} (c : Connections D g) (w : Write) (s : Statement) (result : Result T Fault) → written w ≡ s → IfErr result (IsRefusedFor c s)

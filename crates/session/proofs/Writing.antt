@@ -12,8 +12,8 @@ use Rattle.syntax.specs.declared.statement.Statement.{Statement}
 use Rattle.wal.specs.declared.log.Log.{Log}
 use Rattle.wal.specs.declared.log.Snapshot.{Snapshot}
 use Rattle.catalog.specs.Database.{Database}
-use Rattle.catalog.specs.Listed.{committed_in, tables_of}
-use Rattle.catalog.specs.declared.tables.Catalog.{Catalog}
+use Rattle.catalog.specs.Listed.{IsUnchanged, committed_tables, current_tables}
+use Rattle.catalog.specs.declared.tables.Catalogs.{Catalogs}
 use Rattle.catalog.specs.declared.tables.Table.{Table}
 use Rattle.pages.specs.Map.{PageMap}
 use Rattle.pager.specs.Maps.{pages_in}
@@ -31,7 +31,6 @@ use Rattle.storage.specs.Works.{Work, Makes, IsRefused, Undoes, Binds, Reaches, 
 use Rattle.session.specs.Steps.{Allowed, after_commit}
 use Rattle.session.specs.Stored.{CannotStore, ShowsDatabase}
 use Rattle.session.specs.Representation.{CannotStoreIn, RepresentsRunning, IsTransaction, OnlyReads, ShowTheSame, StepsOn, StepsTo, done_reply, is_idle, is_reading, seen_in, with_transaction}
-use Rattle.storage.specs.Stored.{AreCommitted}
 use Rattle.session.specs.Applying.{CommitsChanges, EndsAlone, IsApplied, IsCommitCause, IsDropped, IsNotApplied, KeepsCommitted, Applies, CanApply, listing_of}
 use Rattle.storage.specs.Changing.{IsChangeRefusal, IsUnstored}
 use Rattle.session.specs.Changing.{ChangesPages, KeepsListed, written}
@@ -87,26 +86,25 @@ module _ {D : Type 0} {g : Ghosts D} where
   pub show_on : (a b c : Log D g) → ShowTheSame a b → ShowTheSame b c → ShowTheSame a c
   show_on a b c first second = record { told = second.told; known = second.known ∙ first.known; newest = second.newest ∙ first.newest; at = λ s. second.at s ∙ first.at s; db_file = second.db_file ∙ first.db_file; log_file = second.log_file ∙ first.log_file }
 
-  pub other_catalog : (files : Log D g) (a b : Catalog) (last : ℕ) (t : Transaction) (k : Connection) → committed_in b ≡ committed_in a → tables_of b ≡ tables_of a → IsTransaction files a last t k → IsTransaction files b last t k
-  other_catalog files a b last transaction.Idle k same tables is = (is.0, same ∙ is.1 ∙ ap length (sym tables))
-  other_catalog files a b last transaction.Begun k same tables is = (is.0, same ∙ is.1 ∙ ap length (sym tables))
-  other_catalog files a b last (transaction.Reading s) k same tables is = (is.0, same ∙ is.1 ∙ ap length (sym tables), is.2)
+  pub other_catalog : (files : Log D g) (a b : Catalogs) (last : ℕ) (t : Transaction) (k : Connection) → committed_tables b ≡ committed_tables a → current_tables b ≡ current_tables a → IsTransaction files a last t k → IsTransaction files b last t k
+  other_catalog files a b last transaction.Idle k same tables is = (is.0, tables ∙ is.1 ∙ sym same)
+  other_catalog files a b last transaction.Begun k same tables is = (is.0, tables ∙ is.1 ∙ sym same)
+  other_catalog files a b last (transaction.Reading s) k same tables is = (is.0, tables ∙ is.1 ∙ sym same, is.2)
   other_catalog files a b last (transaction.Writing w) k same tables is = (is.0, is.1, is.2, subst (λ (ts : List Table). ShowsDatabase (view_of files w) ts is.0) (sym tables) is.3)
 
   -- the machine is shown still where its committed tables and the files are the same
-  pub stays : (old new : Connections D g) (m : Machine) (shown : RepresentsRunning old m) → ShowTheSame (files_of old) (files_of new) → has_failed_in new ≡ has_failed_in old → committed_in new.catalog ≡ committed_in old.catalog
-      → take (committed_in old.catalog) (tables_of new.catalog) ≡ take (committed_in old.catalog) (tables_of old.catalog) → committed_in new.catalog ≤ length (tables_of new.catalog)
+  pub stays : (old new : Connections D g) (m : Machine) (shown : RepresentsRunning old m) → ShowTheSame (files_of old) (files_of new) → has_failed_in new ≡ has_failed_in old
+      → committed_tables new.catalog ≡ committed_tables old.catalog
       → IsTransaction (files_of new) new.catalog (last_place m) new.transaction shown.first → RepresentsRunning new m
-  stays old new m shown same failed committed tables listed is = record {
+  stays old new m shown same failed tables is = record {
     running = shown.running;
     sure = shown.sure;
     whole = failed ∙ shown.whole;
     told = same.told;
     settled = still_settled (files_of old) (files_of new) same shown.settled;
     some = shown.some;
-    listed = listed;
-    stored = subst (λ (v : View). ShowsDatabase v (take (committed_in new.catalog) (tables_of new.catalog)) (newest m)) (sym same.newest)
-        (subst (λ (ts : List Table). ShowsDatabase (newest_view (files_of old)) ts (newest m)) (sym (ap (λ n. take n (tables_of new.catalog)) committed ∙ tables)) shown.stored);
+    stored = subst (λ (v : View). ShowsDatabase v (committed_tables new.catalog) (newest m)) (sym same.newest)
+        (subst (λ (ts : List Table). ShowsDatabase (newest_view (files_of old)) ts (newest m)) (sym tables) shown.stored);
     first = shown.first;
     others = shown.others;
     connections = shown.connections;
@@ -117,7 +115,7 @@ module _ {D : Type 0} {g : Ghosts D} where
   -- ---- a change
 
   keeps : (old new : Connections D g) → has_failed_in new ≡ has_failed_in old → new.transaction ≡ old.transaction → KeepsListed (listing_of old) (listing_of new) → KeepsCommitted old new
-  keeps old new failed same kept = record { files = kept.files; failed = failed; transaction = same; committed = kept.committed; tables = kept.tables }
+  keeps old new failed same kept = record { files = kept.files; failed = failed; transaction = same; tables = kept.tables }
 
   -- what a change of the files and the catalog comes to for the connections that have them
   pub applied : (s : Statement) (old : Connections D g) (w : Writer) (db : Database) (r : Result ⊤ Fault) (new : Connections D g) (left : Writer) → has_failed_in new ≡ has_failed_in old → new.transaction ≡ old.transaction
@@ -142,7 +140,7 @@ module _ {D : Type 0} {g : Ghosts D} where
   pub record Opening (old : Connections D g) (m : Machine) (x : Write) (finish : Work → Outcome) : Type 0 where
     pub ends : IsFinish m finish
     pub comes : outcome m 1 (written x) ≡ finish (change_made (written x) (newest m))
-    pub all : AreCommitted old.catalog
+    pub all : IsUnchanged old.catalog
     pub sees : seen_in old.transaction (files_of old) ≡ newest_view (files_of old)
     pub database : database_of m (connection m 1) ≡ newest m
 
@@ -189,14 +187,13 @@ module _ {D : Type 0} {g : Ghosts D} where
   abbrev pub Started : Connections D g → Connections D g → Writer → Snapshot → Type 0
   Started old mid w s = StartsWriting old (with_transaction mid (transaction.Writing w)) w s
 
-  begun_works : (old mid : Connections D g) (m : Machine) (shown : RepresentsRunning old m) (w : Writer) (s : Snapshot) → Started old mid w s → AreCommitted old.catalog → CanApply mid w (newest m)
+  begun_works : (old mid : Connections D g) (m : Machine) (shown : RepresentsRunning old m) (w : Writer) (s : Snapshot) → Started old mid w s → IsUnchanged old.catalog → CanApply mid w (newest m)
   begun_works old mid m shown w s start all = record {
     told = start.files.told;
     settled = still_settled (files_of old) (files_of mid) start.files shown.settled;
     writer = writer_begins old (with_transaction mid (transaction.Writing w)) w s start shown.stored.served;
-    stored = subst (λ (c : Catalog). ShowsDatabase (view_of (files_of mid) w) (tables_of c) (newest m)) (sym start.catalog)
-        (writer_stores old (with_transaction mid (transaction.Writing w)) w s (tables_of old.catalog) (newest m) start (all_listed old m shown all));
-    listed = subst (λ (c : Catalog). committed_in c ≤ length (tables_of c)) (sym start.catalog) shown.listed;
+    stored = subst (λ (c : Catalogs). ShowsDatabase (view_of (files_of mid) w) (current_tables c) (newest m)) (sym start.catalog)
+        (writer_stores old (with_transaction mid (transaction.Writing w)) w s (current_tables old.catalog) (newest m) start (all_listed old m shown all));
   }
 
   -- a writer that has begun sees the pages of the newest commit
@@ -230,16 +227,14 @@ module _ {D : Type 0} {g : Ghosts D} where
       same : ShowTheSame (files_of old) (files_of after)
       same = show_on (files_of old) (files_of mid) (files_of after) start.files has.kept.files
 
-      committed : committed_in after.catalog ≡ committed_in old.catalog
-      committed = has.kept.committed ∙ ap committed_in start.catalog
+      committed : committed_tables after.catalog ≡ committed_tables old.catalog
+      committed = has.kept.tables ∙ ap committed_tables start.catalog
 
-      tables : tables_of after.catalog ≡ tables_of old.catalog
-      tables = has.tables ∙ ap tables_of start.catalog
+      tables : current_tables after.catalog ≡ current_tables old.catalog
+      tables = has.tables ∙ ap current_tables start.catalog
 
       still : RepresentsRunning after m
       still = stays old after m shown same (has.kept.failed ∙ start.failed) committed
-          (subst (λ (c : Catalog). take (committed_in c) (tables_of after.catalog) ≡ take (committed_in c) (tables_of c)) start.catalog has.kept.tables)
-          (subst (λ (ts : List Table). committed_in after.catalog ≤ length ts) (sym tables) (subst (λ (n : ℕ). n ≤ length (tables_of old.catalog)) (sym committed) shown.listed))
           (subst (λ (t : Transaction). IsTransaction (files_of after) after.catalog (last_place m) t shown.first) (sym (has.kept.transaction ∙ beside))
           (other_catalog (files_of after) old.catalog after.catalog (last_place m) old.transaction shown.first committed tables
           (still_transaction (files_of old) (files_of after) old.catalog (last_place m) old.transaction shown.first same shown.transaction)))
@@ -253,8 +248,8 @@ module _ {D : Type 0} {g : Ghosts D} where
     step = by_outcome (CannotStoreIn old (written x)) m (written x) supported_forms shown.running (in_transaction m (change_made (written x) (newest m))) (Rows []) (working_on m has.made) opened.comes (worked_gives m has.made (change_made (written x) (newest m)) has.reaches);
     shown = inr (moved old (with_transaction after (transaction.Writing left)) m (InTransactionOf false [] (Writes (last_place m) has.made)) shown
         (show_on (files_of old) (files_of mid) (files_of after) start.files has.kept.files) (has.kept.failed ∙ start.failed)
-        (ap (λ n. take n (tables_of after.catalog)) has.kept.committed ∙ subst (λ (c : Catalog). take (committed_in mid.catalog) (tables_of after.catalog) ≡ take (committed_in c) (tables_of c)) start.catalog has.kept.tables)
-        has.applies.listed (has.made, refl, has.applies.writer, has.applies.stored));
+        (has.kept.tables ∙ ap committed_tables start.catalog)
+        (has.made, refl, has.applies.writer, has.applies.stored));
     crash = crash_keeps old after m (working_on m has.made) shown (show_on (files_of old) (files_of mid) (files_of after) start.files has.kept.files);
   }
     where
@@ -270,7 +265,7 @@ module _ {D : Type 0} {g : Ghosts D} where
   -- ---- commits
 
   -- where its commit is refused, what it made is gone
-  pub dropped : (old after : Connections D g) (kept : Catalog) (w left : Writer) (db : Database) (f : Fault) → committed_in kept ≡ committed_in after.catalog → tables_of kept ≡ take (committed_in after.catalog) (tables_of after.catalog)
+  pub dropped : (old after : Connections D g) (kept : Catalogs) (w left : Writer) (db : Database) (f : Fault) → committed_tables kept ≡ committed_tables after.catalog → current_tables kept ≡ committed_tables after.catalog
       → CommitsChanges old w db (Err f) after left → EndsAlone old w db (Err f) (record after { catalog = kept })
   dropped old after kept w left db f committed tables (inl io) = inl (record { io = io.io; failed = io.failed; held = io.held; db_left = io.db_left; log_left = io.log_left })
   dropped old after kept w left db f committed tables (inr none) = inr (record {
@@ -278,8 +273,8 @@ module _ {D : Type 0} {g : Ghosts D} where
     files = none.kept.files;
     failed = none.kept.failed;
     transaction = none.kept.transaction;
-    committed = committed ∙ none.kept.committed;
-    tables = tables ∙ ap (λ n. take n (tables_of after.catalog)) none.kept.committed ∙ ap (take (committed_in old.catalog)) none.tables;
+    committed = committed ∙ none.kept.tables;
+    tables = tables ∙ none.kept.tables;
   })
 
   -- a statement of its own, after its work
@@ -306,10 +301,8 @@ module _ {D : Type 0} {g : Ghosts D} where
       worked : ShowTheSame (files_of old) (files_of after)
       worked = show_on (files_of old) (files_of mid) (files_of after) start.files has.kept.files
 
-      committed_same : take (committed_in after.catalog) (tables_of after.catalog) ≡ take (committed_in old.catalog) (tables_of old.catalog)
-      committed_same =
-          ap (λ n. take n (tables_of after.catalog)) has.kept.committed
-          ∙ subst (λ (c : Catalog). take (committed_in mid.catalog) (tables_of after.catalog) ≡ take (committed_in c) (tables_of c)) start.catalog has.kept.tables
+      committed_same : committed_tables after.catalog ≡ committed_tables old.catalog
+      committed_same = has.kept.tables ∙ ap committed_tables start.catalog
 
       same_gone : (f : Fault) → IsDropped after left new f → ShowTheSame (files_of old) (files_of new)
       same_gone f gone = show_on (files_of old) (files_of after) (files_of new) worked gone.files
@@ -317,12 +310,9 @@ module _ {D : Type 0} {g : Ghosts D} where
       dropped_shown : (f : Fault) → IsDropped after left new f → RepresentsRunning new m
       dropped_shown f gone =
           let same = same_gone f gone in
-          let committed : committed_in new.catalog ≡ committed_in old.catalog = gone.committed ∙ has.kept.committed ∙ ap committed_in start.catalog in
-          let tables : tables_of new.catalog ≡ take (committed_in old.catalog) (tables_of old.catalog) =
-          gone.tables ∙ ap (λ n. take n (tables_of after.catalog)) has.kept.committed
-          ∙ subst (λ (c : Catalog). take (committed_in mid.catalog) (tables_of after.catalog) ≡ take (committed_in c) (tables_of c)) start.catalog has.kept.tables in
-          let whole : tables_of new.catalog ≡ tables_of old.catalog = tables ∙ take_all (committed_in old.catalog) (tables_of old.catalog) (omega (arith, opened.all)) in
-          stays old new m shown same (gone.failed ∙ failed) committed (ap (take (committed_in old.catalog)) whole) (omega (arith, committed, ap length whole, opened.all))
+          let committed : committed_tables new.catalog ≡ committed_tables old.catalog = gone.committed ∙ committed_same in
+          let whole : current_tables new.catalog ≡ current_tables old.catalog = gone.tables ∙ committed_same ∙ sym opened.all in
+          stays old new m shown same (gone.failed ∙ failed) committed
           (subst (λ (t : Transaction). IsTransaction (files_of new) new.catalog (last_place m) t shown.first) (sym (gone.transaction ∙ has.kept.transaction ∙ beside))
           (other_catalog (files_of new) old.catalog new.catalog (last_place m) old.transaction shown.first committed whole
           (still_transaction (files_of old) (files_of new) old.catalog (last_place m) old.transaction shown.first same shown.transaction)))
@@ -361,7 +351,7 @@ module _ {D : Type 0} {g : Ghosts D} where
       t = shown.transaction
 
       here : CanApply mid writer t.0
-      here = record { told = shown.told; settled = shown.settled; writer = t.2; stored = t.3; listed = shown.listed }
+      here = record { told = shown.told; settled = shown.settled; writer = t.2; stored = t.3 }
 
       comes : outcome m 1 (written w) ≡ in_transaction m (change_made (written w) t.0)
       comes = write_outcome_of w m (InTransactionOf false [] (Writes (last_place m) t.0)) (first_is m shown.first shown.others shown.connections ∙ t.1)
@@ -371,13 +361,13 @@ module _ {D : Type 0} {g : Ghosts D} where
         next = working_on m has.made;
         step = by_outcome (CannotStoreIn old (written w)) m (written w) supported_forms shown.running (in_transaction m (change_made (written w) t.0)) (Rows []) (working_on m has.made) comes (worked_gives m has.made (change_made (written w) t.0) has.reaches);
         shown = inr (moved old (with_transaction after (transaction.Writing left)) m (InTransactionOf false [] (Writes (last_place m) has.made)) shown has.kept.files has.kept.failed
-            (ap (λ n. take n (tables_of after.catalog)) has.kept.committed ∙ has.kept.tables) has.applies.listed (has.made, refl, has.applies.writer, has.applies.stored));
+            has.kept.tables (has.made, refl, has.applies.writer, has.applies.stored));
         crash = crash_keeps old (with_transaction after (transaction.Writing left)) m (working_on m has.made) shown has.kept.files;
       }
       by_result (Err f) has now =
           let still = went_back (written w) mid after t.0 writer left f now over here has in
           refused old (with_transaction after (transaction.Writing left)) m w (in_transaction m) shown has.kept.files
-          (stays old (with_transaction after (transaction.Writing left)) m shown has.kept.files has.kept.failed has.kept.committed has.kept.tables still.listed (t.0, t.1, still.writer, still.stored))
+          (stays old (with_transaction after (transaction.Writing left)) m shown has.kept.files has.kept.failed has.kept.tables (t.0, t.1, still.writer, still.stored))
           supported_forms (finish_in m shown.first shown.others shown.connections) t.0 (ap (database_of m) (first_is m shown.first shown.others shown.connections ∙ t.1)) comes f
           (why_of (written w) (view_of (files_of mid) writer) (view_of (files_of mid) writer) t.0 f refl refl has.why)
 

@@ -1,13 +1,13 @@
 -- What a statement makes of the database that its connection works on, and what a commit makes of that (SQL As Understood By
 -- SQLite, "BEGIN TRANSACTION").
-use Rattle.std.specs.Prelude.{◌≡◌, ◌⊎◌, ⊤, true, length, take, Result, Ok, Err}
+use Rattle.std.specs.Prelude.{◌≡◌, ◌⊎◌, ⊤, true, length, Result, Ok, Err}
 use Rattle.sqlval.specs.declared.fault.Fault.{Fault}
 use Rattle.sqlval.specs.declared.fault.Fault.TheVariants as fault
 use Rattle.disk.specs.File.{IsContentLeft}
 use Rattle.disk.specs.declared.device.Disk.{Ghosts}
 use Rattle.syntax.specs.declared.statement.Statement.{Statement}
 use Rattle.catalog.specs.Database.{Database}
-use Rattle.catalog.specs.Listed.{committed_in, tables_of}
+use Rattle.catalog.specs.Listed.{IsUnchanged, committed_tables, current_tables}
 use Rattle.wal.specs.LogState.{db_of, log_of, state_of}
 use Rattle.wal.specs.Refusals.{IsWithin}
 use Rattle.wal.specs.declared.log.Log.{Log}
@@ -19,7 +19,6 @@ use Rattle.storage.specs.Works.{Reaches, change_made}
 use Rattle.session.specs.Holding.{HoldThroughout, IsSettled}
 use Rattle.session.specs.ConnectionState.{files_of, has_failed_in}
 use Rattle.session.specs.Representation.{ShowTheSame}
-use Rattle.storage.specs.Stored.{AreCommitted}
 use Rattle.session.specs.Stored.{ShowsDatabase}
 use Rattle.session.specs.declared.transactions.Connections.{Connections}
 
@@ -39,8 +38,7 @@ module _ {D : Type 0} {g : Ghosts D} where
     pub files : ShowTheSame (files_of old) (files_of new)
     pub failed : has_failed_in new ≡ has_failed_in old
     pub transaction : new.transaction ≡ old.transaction
-    pub committed : committed_in new.catalog ≡ committed_in old.catalog
-    pub tables : take (committed_in old.catalog) (tables_of new.catalog) ≡ take (committed_in old.catalog) (tables_of old.catalog)
+    pub tables : committed_tables new.catalog ≡ committed_tables old.catalog
 
   -- the statement has made a database of this one, and the connections are as they were but for that
   pub record IsApplied (s : Statement) (old : Connections D g) (db : Database) (new : Connections D g) (left : Writer) : Type 0 where
@@ -52,7 +50,7 @@ module _ {D : Type 0} {g : Ghosts D} where
   -- the statement was refused, and the connections have what they had
   pub record IsNotApplied (s : Statement) (old : Connections D g) (writer : Writer) (db : Database) (new : Connections D g) (f : Fault) : Type 0 where
     pub kept : KeepsCommitted old new
-    pub tables : tables_of new.catalog ≡ tables_of old.catalog
+    pub tables : current_tables new.catalog ≡ current_tables old.catalog
     pub why : RefusesChange s (listing_of old) writer db f
 
   -- what a statement's write has come to; after a refusal the writer's pages may be any
@@ -68,14 +66,14 @@ module _ {D : Type 0} {g : Ghosts D} where
     pub settled : IsSettled (files_of new)
     pub failed : has_failed_in new ≡ has_failed_in old
     pub transaction : new.transaction ≡ old.transaction
-    pub tables : tables_of new.catalog ≡ tables_of old.catalog
-    pub all : AreCommitted new.catalog
-    pub stored : ShowsDatabase (newest_view (files_of new)) (tables_of new.catalog) db
+    pub tables : current_tables new.catalog ≡ current_tables old.catalog
+    pub all : IsUnchanged new.catalog
+    pub stored : ShowsDatabase (newest_view (files_of new)) (current_tables new.catalog) db
 
   -- At each moment of a commit a crash leaves the database that was the newest before it, or this one.
   abbrev pub HoldsEither : Connections D g → Database → Connections D g → Type 0
   HoldsEither old db new =
-      (was : Database) → ShowsDatabase (newest_view (files_of old)) (take (committed_in old.catalog) (tables_of old.catalog)) was → HoldThroughout (λ d. (d ≡ was) ⊎ (d ≡ db)) (files_of old) (files_of new)
+      (was : Database) → ShowsDatabase (newest_view (files_of old)) (committed_tables old.catalog) was → HoldThroughout (λ d. (d ≡ was) ⊎ (d ≡ db)) (files_of old) (files_of new)
 
   -- a call of a disk has failed, so that it is open which of the two the files hold
   pub record IsInDoubt (old : Connections D g) (db : Database) (new : Connections D g) (f : Fault) : Type 0 where
@@ -97,7 +95,7 @@ module _ {D : Type 0} {g : Ghosts D} where
   pub record IsUncommitted (old : Connections D g) (writer : Writer) (db : Database) (new : Connections D g) (left : Writer) (f : Fault) : Type 0 where
     pub why : IsCommitCause (files_of old) writer f
     pub kept : KeepsCommitted old new
-    pub tables : tables_of new.catalog ≡ tables_of old.catalog
+    pub tables : current_tables new.catalog ≡ current_tables old.catalog
     pub applies : CanApply new left db
 
   -- what a commit has come to; after a failed call of a disk nothing more is supported
@@ -111,8 +109,8 @@ module _ {D : Type 0} {g : Ghosts D} where
     pub files : ShowTheSame (files_of old) (files_of new)
     pub failed : has_failed_in new ≡ has_failed_in old
     pub transaction : new.transaction ≡ old.transaction
-    pub committed : committed_in new.catalog ≡ committed_in old.catalog
-    pub tables : tables_of new.catalog ≡ take (committed_in old.catalog) (tables_of old.catalog)
+    pub committed : committed_tables new.catalog ≡ committed_tables old.catalog
+    pub tables : current_tables new.catalog ≡ committed_tables old.catalog
 
   -- what the commit of a statement of its own has come to
   abbrev pub EndsAlone : Connections D g → Writer → Database → Result ⊤ Fault → Connections D g → Type 0

@@ -1,5 +1,5 @@
 -- What a statement's change makes of the database whose pages a writer has (SQL As Understood By SQLite, "CREATE TABLE", "INSERT").
-use Rattle.std.specs.Prelude.{◌≡◌, ◌≤◌, ⊤, length, take, Result, Ok, Err}
+use Rattle.std.specs.Prelude.{◌≡◌, ⊤, Result, Ok, Err}
 use Rattle.sqlval.specs.declared.fault.Fault.{Fault}
 use Rattle.disk.specs.declared.device.Disk.{Ghosts}
 use Rattle.syntax.specs.declared.change.Change.TheVariants as change
@@ -7,8 +7,9 @@ use Rattle.syntax.specs.declared.create.NewObject.TheVariants as new
 use Rattle.syntax.specs.declared.statement.Statement.{Statement}
 use Rattle.syntax.specs.declared.statement.Statement.TheVariants as statement
 use Rattle.catalog.specs.Database.{Database}
-use Rattle.catalog.specs.Listed.{committed_in, tables_of}
+use Rattle.catalog.specs.Listed.{committed_tables, current_tables, tables_of}
 use Rattle.catalog.specs.declared.tables.Catalog.{Catalog}
+use Rattle.catalog.specs.declared.tables.Catalogs.{Catalogs}
 use Rattle.wal.specs.declared.log.Log.{Log}
 use Rattle.pager.specs.Maps.{pages_in}
 use Rattle.pager.specs.Views.{Tells, view_of}
@@ -25,18 +26,19 @@ use Rattle.session.specs.declared.changes.Write.TheVariants as write
 abbrev pub written : Write → Statement
 written (write.Insert i) = statement.Change (change.Insert i.now)
 written (write.Delete d) = statement.Change (change.Delete d.now)
+written (write.Drop kind name) = statement.Drop kind name.now
 written (write.CreateTable sql d) = statement.Create (record { sql = sql.now; object = new.Table d.now })
 
 -- ---- a writer's pages
 
--- two files, and the catalog of their tables
+-- two files, and the catalogs of their tables
 pub record Listing (D : Type 0) (g : Ghosts D) : Type 0 where
   pub files : Log D g
-  pub catalog : Catalog
+  pub catalog : Catalogs
 
 module _ {D : Type 0} {g : Ghosts D} where
   -- these files with this catalog
-  abbrev pub listing : Log D g → Catalog → Listing D g
+  abbrev pub listing : Log D g → Catalogs → Listing D g
   listing files catalog = record { files = files; catalog = catalog }
 
   -- the writer's pages hold this database, whose tables the catalog lists
@@ -44,14 +46,12 @@ module _ {D : Type 0} {g : Ghosts D} where
     pub told : Tells l.files
     pub settled : IsSettled l.files
     pub writer : IsWriter l.files w
-    pub stored : ShowsDatabase (view_of l.files w) (tables_of l.catalog) db
-    pub listed : committed_in l.catalog ≤ length (tables_of l.catalog)
+    pub stored : ShowsDatabase (view_of l.files w) (current_tables l.catalog) db
 
   -- the files were read at most, and the committed tables are what they were
   pub record KeepsListed (old new : Listing D g) : Type 0 where
     pub files : ShowTheSame old.files new.files
-    pub committed : committed_in new.catalog ≡ committed_in old.catalog
-    pub tables : take (committed_in old.catalog) (tables_of new.catalog) ≡ take (committed_in old.catalog) (tables_of old.catalog)
+    pub tables : committed_tables new.catalog ≡ committed_tables old.catalog
 
   -- the statement has made a database of this one
   pub record IsChangeMade (s : Statement) (old : Listing D g) (db : Database) (new : Listing D g) (left : Writer) : Type 0 where
@@ -67,8 +67,15 @@ module _ {D : Type 0} {g : Ghosts D} where
   -- the statement was refused, and the catalog has what it had
   pub record IsChangeRefused (s : Statement) (old : Listing D g) (writer : Writer) (db : Database) (new : Listing D g) (f : Fault) : Type 0 where
     pub kept : KeepsListed old new
-    pub tables : tables_of new.catalog ≡ tables_of old.catalog
+    pub tables : current_tables new.catalog ≡ current_tables old.catalog
     pub why : RefusesChange s old writer db f
+
+  -- what a change of the writer's pages has come to that answers a catalog, whose tables are to be the current ones
+  abbrev pub MakesCatalog : Statement → Listing D g → Writer → Database → Result Catalog Fault → Log D g → Writer → Type 0
+  MakesCatalog s old writer db (Ok catalog) files left =
+      (next : Catalogs) → current_tables next ≡ tables_of catalog → committed_tables next ≡ committed_tables old.catalog
+      → IsChangeMade s old db (listing files next) left
+  MakesCatalog s old writer db (Err f) files left = IsChangeRefused s old writer db (listing files old.catalog) f
 
   -- what a statement's change of the writer's pages has come to; after a refusal they may be any
   abbrev pub ChangesPages : Statement → Listing D g → Writer → Database → Result ⊤ Fault → Listing D g → Writer → Type 0

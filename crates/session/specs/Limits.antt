@@ -7,6 +7,7 @@ use Rattle.syntax.specs.declared.statement.Statement.TheVariants as statement
 -- whether a statement may be refused as `Full`: those that change the database, and COMMIT
 abbrev pub may_be_full : Statement → Bool
 may_be_full (statement.Create c) = true
+may_be_full (statement.Drop kind name) = true
 may_be_full (statement.Change (change.Insert i)) = true
 may_be_full (statement.Change (change.Delete d)) = true
 may_be_full statement.Commit = true

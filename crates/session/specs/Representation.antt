@@ -11,8 +11,8 @@ use Rattle.syntax.specs.declared.statement.Statement.{Statement}
 use Rattle.wal.specs.declared.log.Log.{Log}
 use Rattle.wal.specs.declared.log.Snapshot.{Snapshot}
 use Rattle.wal.specs.LogState.{db_of, state_of, log_of, seen_by, size_of}
-use Rattle.catalog.specs.Listed.{committed_in, tables_of}
-use Rattle.catalog.specs.declared.tables.Catalog.{Catalog}
+use Rattle.catalog.specs.Listed.{IsUnchanged, committed_tables, current_tables}
+use Rattle.catalog.specs.declared.tables.Catalogs.{Catalogs}
 use Rattle.catalog.specs.Database.{Database}
 use Rattle.rowprog.specs.Rows.{values_of}
 use Rattle.pager.specs.Limits.{page_size_of}
@@ -25,7 +25,6 @@ use Rattle.session.specs.Holding.{HoldThroughout, IsLeftBy, IsSettled}
 use Rattle.session.specs.ConnectionState.{files_of, has_failed_in}
 use Rattle.session.specs.Machine.{Machine, Connection, Idle, InTransactionOf, NoSnapshot, Reads, Writes, Reply, Rows, Refused, last_place, newest}
 use Rattle.session.specs.Crashes.{MayShow}
-use Rattle.storage.specs.Stored.{AreCommitted}
 use Rattle.session.specs.Stored.{CannotStore, ShowsDatabase}
 use Rattle.session.specs.declared.transactions.Connections.{Connections}
 use Rattle.session.specs.declared.transactions.Transaction.{Transaction}
@@ -70,12 +69,12 @@ module _ {D : Type 0} {g : Ghosts D} where
 
   -- How far the transaction of the first connection has come, where this is the place of the newest commit. It alone is supported so
   -- far, so that commit is what it reads.
-  abbrev pub IsTransaction : Log D g → Catalog → ℕ → Transaction → Connection → Type 0
-  IsTransaction files catalog last transaction.Idle k = (k ≡ Idle) × AreCommitted catalog
-  IsTransaction files catalog last transaction.Begun k = (k ≡ InTransactionOf false [] NoSnapshot) × AreCommitted catalog
-  IsTransaction files catalog last (transaction.Reading snapshot) k = (k ≡ InTransactionOf false [] (Reads last)) × AreCommitted catalog × IsNewest files snapshot
+  abbrev pub IsTransaction : Log D g → Catalogs → ℕ → Transaction → Connection → Type 0
+  IsTransaction files catalog last transaction.Idle k = (k ≡ Idle) × IsUnchanged catalog
+  IsTransaction files catalog last transaction.Begun k = (k ≡ InTransactionOf false [] NoSnapshot) × IsUnchanged catalog
+  IsTransaction files catalog last (transaction.Reading snapshot) k = (k ≡ InTransactionOf false [] (Reads last)) × IsUnchanged catalog × IsNewest files snapshot
   IsTransaction files catalog last (transaction.Writing writer) k =
-      (db : Database) × (k ≡ InTransactionOf false [] (Writes last db)) × IsWriter files writer × ShowsDatabase (view_of files writer) (tables_of catalog) db
+      (db : Database) × (k ≡ InTransactionOf false [] (Writes last db)) × IsWriter files writer × ShowsDatabase (view_of files writer) (current_tables catalog) db
 
   -- The files hold the newest of the committed databases, the catalog lists its tables, and the first connection is where its
   -- transaction is.
@@ -86,8 +85,7 @@ module _ {D : Type 0} {g : Ghosts D} where
     pub told : Tells (files_of c)
     pub settled : IsSettled (files_of c)
     pub some : 1 ≤ length m.history
-    pub listed : committed_in c.catalog ≤ length (tables_of c.catalog)
-    pub stored : ShowsDatabase (newest_view (files_of c)) (take (committed_in c.catalog) (tables_of c.catalog)) (newest m)
+    pub stored : ShowsDatabase (newest_view (files_of c)) (committed_tables c.catalog) (newest m)
     pub first : Connection
     pub others : List Connection
     pub connections : m.connections ≡ first ∷ others
@@ -155,5 +153,5 @@ module _ {D : Type 0} {g : Ghosts D} where
     pub files : files_of new ≡ files_of old
     pub failed : has_failed_in new ≡ has_failed_in old
     pub idle : new.transaction ≡ transaction.Idle
-    pub committed : committed_in new.catalog ≡ committed_in old.catalog
-    pub tables : tables_of new.catalog ≡ take (committed_in old.catalog) (tables_of old.catalog)
+    pub committed : committed_tables new.catalog ≡ committed_tables old.catalog
+    pub tables : current_tables new.catalog ≡ committed_tables old.catalog

@@ -8,19 +8,19 @@ ghost use Rattle.catalog.specs.Database.{Database};
 ghost use Rattle.pager.specs.Marks.{IsOverTheSame, marks_of};
 ghost use Rattle.pager.specs.Views.{Tells};
 ghost use Rattle.pager.specs.Writers.{makes_objects};
-ghost use Rattle.session.specs.Changing.{CanChange, ChangesPages, listing, written};
+ghost use Rattle.session.specs.Changing.{CanChange, ChangesPages, MakesCatalog, listing, written};
 ghost use Rattle.session.specs.ConnectionState.{HasCause};
 ghost use Rattle.session.specs.Limits.{may_be_full};
 ghost use Rattle.session.specs.Representation.{ShowTheSame};
 ghost use Rattle.storage.specs.Schema.{IsCreateOf, WhereSupported};
 ghost use Rattle.storage.specs.Forms as forms;
 
-use catalog::Catalog;
+use catalog::{Catalog, Catalogs};
 use disk::Disk;
 use pager::{Writer, Writing};
-use sqlval::{R, Text};
+use sqlval::{Name, R, Text};
 use std::alloc::Global;
-use syntax::{Change, Create, Delete, Insert, NewObject, Statement, TableDefinition};
+use syntax::{Change, Create, Delete, Insert, NewObject, ObjectKind, Statement, TableDefinition};
 use wal::Log;
 
 /// A statement that changes the database.
@@ -29,6 +29,7 @@ pub enum Write<'a> {
     Insert(&'a Insert),
     Delete(&'a Delete),
     CreateTable(&'a Text, &'a TableDefinition),
+    Drop(ObjectKind, &'a Name),
 }
 
 /// The change that a statement makes, if it makes one.
@@ -46,6 +47,7 @@ pub fn write_of(statement: &Statement) -> Option<Write<'_>>
                 object: NewObject::Table(table),
             },
         ) => Some(Write::CreateTable(sql, table)),
+        Statement::Drop(kind, name) => Some(Write::Drop(*kind, name)),
         _ => None,
     }
 }
@@ -55,7 +57,7 @@ fn insert<D: Disk + Drop>(
     alloc: Global,
     log: &mut Log<D>,
     buffer: &mut Vec<u8>,
-    catalog: &Catalog,
+    catalog: &Catalogs,
     writer: &mut Writer,
     insert: &Insert,
 ) -> R<()>
@@ -75,7 +77,7 @@ fn insert<D: Disk + Drop>(
         buffer,
         place: None,
     };
-    storage::insert(alloc, &mut pages, catalog, insert)
+    storage::insert(alloc, &mut pages, catalog.current(), insert)
 }
 
 /// Removes all rows of a table.
@@ -83,7 +85,7 @@ fn delete<D: Disk + Drop>(
     alloc: Global,
     log: &mut Log<D>,
     buffer: &mut Vec<u8>,
-    catalog: &Catalog,
+    catalog: &Catalogs,
     writer: &mut Writer,
     delete: &Delete,
 ) -> R<()>
@@ -103,25 +105,25 @@ fn delete<D: Disk + Drop>(
         buffer,
         place: None,
     };
-    storage::delete_rows(alloc, &mut pages, catalog, delete)
+    storage::delete_rows(alloc, &mut pages, catalog.current(), delete)
 }
 
-/// Makes a table's row in the schema table, and its tree.
+/// Makes a table's row in the schema table, and its tree. Answers the catalog with it.
 fn create_pages<D: Disk + Drop>(
     alloc: Global,
     log: &mut Log<D>,
     buffer: &mut Vec<u8>,
-    catalog: &mut Catalog,
+    catalog: &Catalogs,
     writer: &mut Writer,
     sql: &Text,
     table: &TableDefinition,
-) -> R<()>
+) -> R<Catalog>
     ensures cause { HasCause true result log.old log.new }
     ensures reads { Tells log.old → ShowTheSame log.old log.new }
     ensures applies { (db : Database) → forms.is_table_supported table.now ≡ true → IsCreateOf sql.now (object.Table table.now)
-        → CanChange (listing log.old catalog.old) writer.old db
-        → ChangesPages (statement.Create (record { sql = sql.now; object = object.Table table.now })) (listing log.old catalog.old)
-        writer.old db result (listing log.new catalog.new) writer.new }
+        → CanChange (listing log.old catalog.now) writer.old db
+        → MakesCatalog (statement.Create (record { sql = sql.now; object = object.Table table.now })) (listing log.old catalog.now)
+        writer.old db result log.new writer.new }
     ensures marks { marks_of writer.new ≡ marks_of writer.old }
     ensures stands { IsOverTheSame writer.old writer.new }
 {
@@ -132,7 +134,7 @@ fn create_pages<D: Disk + Drop>(
         buffer,
         place: None,
     };
-    storage::create_table(alloc, &mut pages, catalog, sql, table)
+    storage::create_table(alloc, &mut pages, catalog.current(), sql, table)
 }
 
 /// Makes a table.
@@ -140,7 +142,7 @@ fn create_table<D: Disk + Drop>(
     alloc: Global,
     log: &mut Log<D>,
     buffer: &mut Vec<u8>,
-    catalog: &mut Catalog,
+    catalog: &mut Catalogs,
     writer: &mut Writer,
     sql: &Text,
     table: &TableDefinition,
@@ -156,7 +158,60 @@ fn create_table<D: Disk + Drop>(
     // The commit is to count the schema cookie up.
     ensures noted { OnOk result (IsTrue (makes_objects writer.new)) }
 {
-    create_pages(alloc, log, buffer, catalog, writer, sql, table)?;
+    let made = create_pages(alloc, log, buffer, catalog, writer, sql, table)?;
+    catalog.change(made);
+    writer.note_schema();
+    Ok(())
+}
+
+/// Takes an object's row out of the schema table, and frees its tree. Answers the catalog without it.
+fn drop_pages<D: Disk + Drop>(
+    alloc: Global,
+    log: &mut Log<D>,
+    buffer: &mut Vec<u8>,
+    catalog: &Catalogs,
+    writer: &mut Writer,
+    kind: ObjectKind,
+    name: &Name,
+) -> R<Catalog>
+    ensures cause { HasCause true result log.old log.new }
+    ensures reads { Tells log.old → ShowTheSame log.old log.new }
+    ensures applies { (db : Database) → CanChange (listing log.old catalog.now) writer.old db
+        → MakesCatalog (statement.Drop kind name.now) (listing log.old catalog.now) writer.old db result log.new writer.new }
+    ensures marks { marks_of writer.new ≡ marks_of writer.old }
+    ensures stands { IsOverTheSame writer.old writer.new }
+{
+    let mut pages = Writing {
+        alloc,
+        log,
+        writer,
+        buffer,
+        place: None,
+    };
+    storage::drop_object(alloc, &mut pages, catalog.current(), kind, name)
+}
+
+/// Drops an object.
+fn drop_object<D: Disk + Drop>(
+    alloc: Global,
+    log: &mut Log<D>,
+    buffer: &mut Vec<u8>,
+    catalog: &mut Catalogs,
+    writer: &mut Writer,
+    kind: ObjectKind,
+    name: &Name,
+) -> R<()>
+    ensures cause { HasCause true result log.old log.new }
+    ensures reads { Tells log.old → ShowTheSame log.old log.new }
+    ensures applies { (db : Database) → CanChange (listing log.old catalog.old) writer.old db
+        → ChangesPages (statement.Drop kind name.now) (listing log.old catalog.old) writer.old db result (listing log.new catalog.new) writer.new }
+    ensures marks { marks_of writer.new ≡ marks_of writer.old }
+    ensures stands { IsOverTheSame writer.old writer.new }
+    // The commit is to count the schema cookie up.
+    ensures noted { OnOk result (IsTrue (makes_objects writer.new)) }
+{
+    let left = drop_pages(alloc, log, buffer, catalog, writer, kind, name)?;
+    catalog.change(left);
     writer.note_schema();
     Ok(())
 }
@@ -166,7 +221,7 @@ pub fn apply<D: Disk + Drop>(
     alloc: Global,
     log: &mut Log<D>,
     buffer: &mut Vec<u8>,
-    catalog: &mut Catalog,
+    catalog: &mut Catalogs,
     writer: &mut Writer,
     write: Write<'_>,
 ) -> R<()>
@@ -183,5 +238,6 @@ pub fn apply<D: Disk + Drop>(
         Write::CreateTable(sql, table) => {
             create_table(alloc, log, buffer, catalog, writer, sql, table)
         }
+        Write::Drop(kind, name) => drop_object(alloc, log, buffer, catalog, writer, kind, name),
     }
 }

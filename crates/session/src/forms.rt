@@ -112,6 +112,7 @@ pub fn is_supported(statement: &Statement) -> bool
         ) => is_table_supported(table),
         Statement::Change(Change::Insert(insert)) => is_source_supported(&insert.source),
         Statement::Change(Change::Delete(delete)) => delete.condition.is_none(),
+        Statement::Drop(_, _) => true,
         Statement::Select(query) => is_query_supported(query),
         Statement::Begin(_) | Statement::Commit | Statement::Rollback => true,
         _ => false,

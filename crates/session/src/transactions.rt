@@ -11,7 +11,7 @@ ghost use Rattle.session.specs.Stored.{ShowsDatabase};
 ghost use Rattle.storage.specs.Forms.{is_query_supported};
 ghost use Rattle.storage.specs.Works.{read_on};
 ghost use Rattle.catalog.specs.Database.{Database};
-ghost use Rattle.catalog.specs.Listed.{tables_of};
+ghost use Rattle.catalog.specs.Listed.{current_tables, tables_of};
 ghost use Rattle.session.specs.Supported.{is_connection_supported};
 ghost use Rattle.storage.specs.Forms as forms;
 ghost use Rattle.wal.specs.LogState.{db_of, log_of};
@@ -24,7 +24,7 @@ ghost use Rattle.session.specs.Changing.{written};
 use crate::changes::{Write, apply, write_of};
 use crate::forms::is_supported;
 use crate::reads::{Sight, read};
-use catalog::Catalog;
+use catalog::{Catalog, Catalogs};
 use disk::Disk;
 use pager::Writer;
 use rowprog::Rows;
@@ -50,7 +50,7 @@ enum Transaction {
 pub struct Connections<D: Disk + Drop> {
     alloc: Global,
     log: Log<D>,
-    catalog: Catalog,
+    catalog: Catalogs,
     transaction: Transaction,
     has_failed: bool,
     /// Where pages of the files are read.
@@ -72,7 +72,6 @@ fn is_io(fault: &Fault) -> bool
 
 impl<D: Disk + Drop> Connections<D> {
     ghost use Rattle.session.specs.Representation.{IsGivenUp, IsNewest, RepresentsRunning, OnlyReads, StartsReading, Steps, StepsOn, done_reply, is_begun, is_idle, is_reading, rows_reply, seen_in, with_transaction};
-    ghost use Rattle.storage.specs.Stored.{AreCommitted};
     ghost use Rattle.session.specs.declared.transactions.Transaction.TheVariants as transaction;
     ghost use Rattle.session.specs.Holding.{IsSettled};
     ghost use Rattle.session.specs.Machine.{Machine, fresh};
@@ -85,13 +84,13 @@ impl<D: Disk + Drop> Connections<D> {
         ensures files { files_of result ≡ log }
         ensures whole { IsFalse (has_failed_in result) }
         // Where the files hold a database and the catalog lists its tables, the connections represent its machine.
-        ensures shown { (db : Database) → Tells log → IsSettled log → AreCommitted catalog
+        ensures shown { (db : Database) → Tells log → IsSettled log
             → ShowsDatabase (newest_view log) (tables_of catalog) db → RepresentsRunning result (fresh db) }
     {
         Connections {
             alloc,
             log,
-            catalog,
+            catalog: Catalogs::new(catalog),
             transaction: Transaction::Idle,
             has_failed: false,
             buffer: Vec::new(alloc),
@@ -310,7 +309,7 @@ impl<D: Disk + Drop> Connections<D> {
         ensures cause { HasCauseIn false result self.old self.new }
         ensures reads { OnlyReads self.old self.new }
         ensures answered { (m : Machine) (db : Database) → RepresentsRunning self.old m
-            → ShowsDatabase (seen_in self.old.transaction (files_of self.old)) (tables_of self.old.catalog) db
+            → ShowsDatabase (seen_in self.old.transaction (files_of self.old)) (current_tables self.old.catalog) db
             → is_query_supported query.now ≡ true → AnswersRead (λ rows. map values_of rows.items) (read_on db query.now) result }
     {
         match &self.transaction {
@@ -318,7 +317,7 @@ impl<D: Disk + Drop> Connections<D> {
                 self.alloc,
                 &mut self.log,
                 &mut self.buffer,
-                &self.catalog,
+                self.catalog.current(),
                 Sight::Writer(writer),
                 query,
             ),
@@ -328,7 +327,7 @@ impl<D: Disk + Drop> Connections<D> {
                     self.alloc,
                     &mut self.log,
                     &mut self.buffer,
-                    &self.catalog,
+                    self.catalog.current(),
                     Sight::Snapshot(snapshot),
                     query,
                 )

@@ -53,9 +53,10 @@ module _ (law : RowsComeLast) (old new : PageMap) (size : ℕ) (values : List Va
   pub not_there : IsInserted old new size 1 row is.tree.depth rows used free false → ⊥
   not_there there = there.0 (law old size 1 rows used row is.tree after).0
 
-  pub added : IsRecord row.payload values → IsInserted old new size 1 row is.tree.depth rows used free true → IsAddedAfter old new size values rows used free
+  pub added : IsRecord row.payload values → IsInserted old new size 1 row is.tree.depth rows used free true → IsAddedAfter old new size values rows used free row.rowid
   added is_record put = record {
     entry = row;
+    rowid_is = refl;
     is = is_record;
     becomes = subst (λ (rs : List Entry). BecomesRows old new size 1 rs used free) (law old size 1 rows used row is.tree after).1 put.1.0;
   }

@@ -11,7 +11,8 @@ use Rattle.catalog.specs.declared.tables.Table.{Table}
 use Rattle.bind.specs.Bound.{IsFaultOf, IsSource}
 use Rattle.bind.specs.Checked.{Checked, Meant, faults}
 use Rattle.bind.specs.declared.queries.BoundSource.{BoundSource}
-use Rattle.rowprog.specs.Rows.{AnswersBy, scan_of}
+use Rattle.terms.specs.Outcome.{AnswersBy}
+use Rattle.rowprog.specs.Rows.{scan_of}
 use Rattle.rowprog.specs.Trees.{AnswersOrFails, HasRows}
 use Rattle.rowprog.specs.declared.plan.Scan.TheVariants as scan
 use Rattle.storage.specs.Reading.{AnswersRead}

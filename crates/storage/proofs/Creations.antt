@@ -1,6 +1,6 @@
 -- What a CREATE TABLE comes to on the database that pages hold.
 use Rattle.std.proofs.Common.{◌≡◌, ◌⊎◌, ◌≤◌, ◌<◌, ◌+◌, inl, inr, refl, sym, ap, subst, ◌∙◌, ℕ, zero, suc, Bool, true, false, cond, ◌==◌, List, [], ◌∷◌, ◌++◌, length, Option, Some, None, Result, Ok, Err, arith}
-use Rattle.std.specs.Prelude.{⊤, Contains, IfErr, IsErrAnd, MatchResult, OnOk}
+use Rattle.std.specs.Prelude.{⊤, Contains, IfErr, IsErrAnd, MatchResult, IfOk}
 use Rattle.std.specs.List.{AllByRecursion, find}
 use Rattle.std.proofs.lemmas.Bool.Decides.{nat_tests}
 use Rattle.std.proofs.lemmas.List.{append-nil}
@@ -169,7 +169,7 @@ module _ (laws : Laws) (old : PageMap) (size : ℕ) (tables : List Table) (db : 
         omega (arith, roots, once, one, sum, both, own)
 
     module _ (t : Table) (is : IsMadeBeside tables d root t) (plain : is_table_supported d ≡ true) (text : IsCreateOf sql (object.Table d)) (new : PageMap)
-        (added : IsAddedAfter mid new size (schema_row d.name d.name root sql) held.schema held.schema_used tree.now_free) where
+        (added : IsAddedAfter mid new size (schema_row d.name d.name root sql) held.schema held.schema_used tree.now_free t.rowid) where
       own_root : IsNewRoot t.root tables
       own_root name u found same =
           let there = found_root (is_table name) tables u found in
@@ -205,6 +205,7 @@ module _ (laws : Laws) (old : PageMap) (size : ℕ) (tables : List Table) (db : 
         creates = text;
         supported_forms = plain;
         made = subst (λ (n : ℕ). IsMadeBeside tables d n t) (sym is.root_is) is;
+        rowid_is = added.rowid_is;
         above = omega (arith, is.root_is, tree.after);
         within = let there = (root_there mid size root [] (root ∷ []) tree.stands.tree).last in let more = added.becomes.moves.longer in omega (arith, is.root_is, there, more);
         name = d.name;
@@ -257,11 +258,11 @@ pub rooted : (tables : List Table) (d : TableDefinition) (none root : ℕ) (t u 
 rooted tables d none root t u name columns at is =
     record { fresh = is.fresh; name_is = name ∙ is.name_is; root_is = at; columns = subst (λ cs. HasColumnsOf d (record u { columns = cs })) (sym columns) (subst (λ cs. HasColumnsOf d (record t { columns = cs })) refl is.columns) }
 
-pub handed_on : (P : ⊤ → Type 0) (Q : Fault → Type 0) (r : Result ⊤ Fault) (f : Fault) → IsErrAnd r (λ e. e ≡ f) → Q f → MatchResult r P Q
+pub handed_on : {X : Type 0} (P : X → Type 0) (Q : Fault → Type 0) (r : Result X Fault) (f : Fault) → IsErrAnd r (λ e. e ≡ f) → Q f → MatchResult r P Q
 handed_on P Q (Ok x) f is why = absurd is
 handed_on P Q (Err e) f is why = subst Q (sym is) why
 
--- the catalog takes the table, or memory is short
-pub taken : (Listed Made : Type 0) (Q : Fault → Type 0) (r : Result ⊤ Fault) → OnOk r Listed → IfErr r (λ f. f ≡ fault.Memory) → (Listed → Made) → Q fault.Memory → MatchResult r (λ done. Made) Q
-taken Listed Made Q (Ok done) listed memory make short = make listed
+-- there is a catalog with the table, or memory is short
+pub taken : {X : Type 0} (Listed Made : X → Type 0) (Q : Fault → Type 0) (r : Result X Fault) → IfOk r Listed → IfErr r (λ f. f ≡ fault.Memory) → ((x : X) → Listed x → Made x) → Q fault.Memory → MatchResult r Made Q
+taken Listed Made Q (Ok x) listed memory make short = make x listed
 taken Listed Made Q (Err f) listed memory make short = subst Q (sym memory) short

@@ -22,7 +22,8 @@ use Rattle.catalog.specs.declared.tables.Table.{Table}
 use Rattle.bind.specs.Bound.{looked_up}
 use Rattle.bind.specs.Checked.{Checked, ◌and_then◌, faults, good, known_map, noted}
 use Rattle.bind.specs.Queries.{resolve_filter}
-use Rattle.bind.specs.Scopes.{ScopeColumn, beside, source_of}
+use Rattle.bind.specs.Scopes.{beside, source_of}
+use Rattle.bind.specs.declared.scope.ScopeColumn.{ScopeColumn}
 use Rattle.bind.proofs.KnownTables.{known_listed}
 use Rattle.dml.specs.Changes.{Deletes, Resolved, no_outer, resolve_change}
 use Rattle.trigger.specs.Binding.{IsFault}

@@ -3,6 +3,7 @@ pub mod Answering
 pub mod BoundQueries
 pub mod Creations
 pub mod Deletions
+pub mod Droppings
 pub mod Headings
 pub mod Insertions
 pub mod NewTables
@@ -25,3 +26,4 @@ pub mod StoredTables
 pub mod StoredTrees
 pub mod Telling
 pub mod TreePages
+pub mod Untelling

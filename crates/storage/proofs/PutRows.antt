@@ -77,7 +77,7 @@ roots_append : (n : ℕ) (front back : List Table) → occurs n (roots_of (front
 roots_append n [] back = omega arith
 roots_append n (t ∷ front) back = let rest = roots_append n front back in omega (arith, rest)
 
-same_owner : (rows_at : ℕ → List TableRow) (t : Table) (o : Owner) (is : IsTreeOf rows_at t o) → o ≡ record { root = t.root; content = OfRows is.entries; used = o.used }
+pub same_owner : (rows_at : ℕ → List TableRow) (t : Table) (o : Owner) (is : IsTreeOf rows_at t o) → o ≡ record { root = t.root; content = OfRows is.entries; used = o.used }
 same_owner rows_at t o is = λ i. record { root = is.root_is i; content = is.content_is i; used = o.used }
 
 -- a listed table's tree stands beside the free pages

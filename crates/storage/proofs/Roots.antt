@@ -103,7 +103,7 @@ one_table p q (x ∷ tables) t u e f same once = by_tests (p x) (q x) (one_table
         absurd (omega (arith, once, there, here))
     by_tests false false rest hp hq e f = rest e f same (omega (arith, once))
 
-named_so : (t : Table) (name : Name) → is_table name t ≡ true → folded t.name ≡ folded name
+pub named_so : (t : Table) (name : Name) → is_table name t ≡ true → folded t.name ≡ folded name
 named_so t name is = tells_apart exact_bytes (folded t.name) (folded name) (is_eq-slice_cmp (folded t.name) (folded name) ∙ is)
 
 found_is : {A : Type 0} (p : A → Bool) (xs : List A) (x : A) → find p xs ≡ Some x → p x ≡ true

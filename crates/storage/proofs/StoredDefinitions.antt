@@ -1,5 +1,5 @@
 -- The table that a row of the schema table tells.
-use Rattle.std.proofs.Common.{◌≡◌, refl, sym, ap, subst, ◌∙◌, ℕ, Bool, true, false, ◌&&◌, ◌||◌, cond, List, [], ◌∷◌, map, Option, Some, None}
+use Rattle.std.proofs.Common.{◌≡◌, refl, sym, ap, subst, ◌∙◌, ℕ, ℤ, pos, Bool, true, false, ◌&&◌, ◌||◌, cond, List, [], ◌∷◌, map, Option, Some, None}
 use Rattle.std.proofs.lemmas.Bool.{false≢true}
 use Rattle.std.specs.FinMap.Entries.{find}
 use Rattle.std.specs.List.{list_any}
@@ -34,9 +34,9 @@ use Rattle.storage.proofs.StoredNames.{both_true, same_named, same_some, some_is
 abbrev pub column_for : ColumnDefinition → Column
 column_for c = record { name = c.name; affinity = unwrap_or (declared_affinity (type_text c)) kind.Blob }
 
--- the table of a definition, whose tree begins at this page
-abbrev pub table_of : TableDefinition → ℕ → Table
-table_of d root = record { name = d.name; columns = map column_for d.columns; root = root }
+-- the table of a definition, whose tree begins at this page, and whose row has this rowid
+abbrev pub table_of : TableDefinition → ℕ → ℤ → Table
+table_of d root rowid = record { name = d.name; columns = map column_for d.columns; root = root; rowid = rowid }
 
 known_is : {A : Type 0} (x : Option A) (other : A) → is_none x ≡ false → Some (unwrap_or x other) ≡ x
 known_is (Some x) other known = refl
@@ -67,17 +67,17 @@ pub record IsTold (row : SchemaRow) (t : database.Table) : Type 0 where
   pub supported_forms : is_table_supported definition ≡ true
   pub accepts : IsAccepted definition
   pub described_is : map described (map column_for definition.columns) ≡ map defined definition.columns
-  pub made : (root : ℕ) → t ≡ plain_table (table_of definition root) t.rows
+  pub made : (root : ℕ) (rowid : ℤ) → t ≡ plain_table (table_of definition root rowid) t.rows
 
 -- what a CREATE TABLE makes
 abbrev Made : Type 0
 Made = database.Table × List (List (ℕ × Collation))
 
 -- what the definition makes, both ways
-both_made : (d : TableDefinition) (t : database.Table) (keys : List (List (ℕ × Collation))) (root : ℕ) → is_table_supported d ≡ true → IsAccepted d → table_made d ≡ good (record t { rows = [] }, keys)
-    → ◌≡◌ {A = Made} (plain_table (table_of d root) [], []) (record t { rows = [] }, keys)
-both_made d t keys root plain is made =
-    ap (meant {A = Made}) (sym (listed_made d plain (table_of d root) is.once (described_so d.columns is.known)) ∙ made)
+both_made : (d : TableDefinition) (t : database.Table) (keys : List (List (ℕ × Collation))) (root : ℕ) (rowid : ℤ) → is_table_supported d ≡ true → IsAccepted d → table_made d ≡ good (record t { rows = [] }, keys)
+    → ◌≡◌ {A = Made} (plain_table (table_of d root rowid) [], []) (record t { rows = [] }, keys)
+both_made d t keys root rowid plain is made =
+    ap (meant {A = Made}) (sym (listed_made d plain (table_of d root rowid) is.once (described_so d.columns is.known)) ∙ made)
 
 pub told : (db : Database) (row : SchemaRow) (t : database.Table) → IsTableRow supported_language db row t → IsTold row t
 told db row t is =
@@ -93,7 +93,7 @@ told db row t is =
       supported_forms = is.text.creates.1;
       accepts = accepts;
       described_is = described_so is.definition.columns accepts.known;
-      made = λ root. ap (λ (m : Made). record m.0 { rows = t.rows }) (sym (both_made is.definition t is.keys root is.text.creates.1 accepts is.made));
+      made = λ root rowid. ap (λ (m : Made). record m.0 { rows = t.rows }) (sym (both_made is.definition t is.keys root rowid is.text.creates.1 accepts is.made));
     }
 
 -- ---- automatic indexes
@@ -130,6 +130,6 @@ pub no_automatic : (db : Database) (row : SchemaRow) (t : database.Table) → Is
     → i.is_automatic ≡ true → folded i.table ≡ folded row.name → ⊥
 no_automatic db row t is q i found automatic_is on =
     let accepts : IsAccepted is.definition = accepted (others db is.definition.name) is.definition is.text.accepts in
-    let none : [] ≡ is.keys = ap (λ (m : Made). m.1) (both_made is.definition t is.keys 0 is.text.creates.1 accepts is.made) in
+    let none : [] ≡ is.keys = ap (λ (m : Made). m.1) (both_made is.definition t is.keys 0 (pos 0) is.text.creates.1 accepts is.made) in
     one_automatic db q i is.definition.name found (both_true i.is_automatic (is_same_name i.table is.definition.name) automatic_is (same_named i.table is.definition.name (on ∙ is.name)))
     (sym is.automatic_are ∙ ap (λ (keys : List (List (ℕ × Collation))). sorted (λ a b. name_order a.0 b.0) (automatic is.definition.name 1 keys)) (sym none))

@@ -1,5 +1,5 @@
 -- The tables that the rows of the schema table tell, with their rows and their trees.
-use Rattle.std.proofs.Common.{◌≡◌, ◌==◌, refl, sym, ap, subst, ◌∙◌, ℕ, true, List, [], ◌∷◌, ◌++◌, length, map, Option, Some, None, inl, inr}
+use Rattle.std.proofs.Common.{◌≡◌, ◌==◌, refl, sym, ap, subst, ◌∙◌, ℕ, ℤ, true, List, [], ◌∷◌, ◌++◌, length, map, Option, Some, None, inl, inr}
 use Rattle.std.proofs.lemmas.Bool.{eqb-true, false≢true}
 use Rattle.std.proofs.lemmas.List.{length-map}
 use Rattle.std.specs.FinMap.Entries.{find}
@@ -17,7 +17,7 @@ use Rattle.catalog.specs.Rows.{are_rows, holds_rows, is_in_order, is_row}
 use Rattle.catalog.specs.declared.tables.Table.{Table}
 use Rattle.filecheck.specs.Contents.{HasPages, HasTree, IsStoredRow, ListsRows, stored}
 use Rattle.filecheck.specs.Layout.{OfRows, Owner, used_by}
-use Rattle.filecheck.specs.Schema.{SchemaRow, IsRowOfObject, IsSchemaRowOf, IsTableRow}
+use Rattle.filecheck.specs.Schema.{IsSchemaEntry, SchemaRow, IsRowOfObject, IsSchemaRowOf, IsTableRow}
 use Rattle.rowprog.specs.Rows.{IsRow, TableRow}
 use Rattle.storage.specs.Language.{supported_language}
 use Rattle.storage.proofs.StoredNames.{first_of, found_among, second_of}
@@ -35,7 +35,7 @@ pub record Listing : Type 0 where
 pub record IsListing (pages : PageMap) (size : ℕ) (db : Database) (l : Listing) : Type 0 where
   pub t : database.Table
   pub says : IsTold l.row t
-  pub table_is : l.table ≡ table_of says.definition l.row.root
+  pub table_is : l.table ≡ table_of says.definition l.row.root l.table.rowid
   pub found : object db l.row.name ≡ Some (ATable (plain_table l.table l.content))
   pub fit : are_rows (plain_table l.table l.content) ≡ true
   pub tree : IsTableTree pages size l.table.root l.entries l.used
@@ -76,12 +76,12 @@ all_hold (e ∷ es) h = (first_of (holds_rows e.1) _ h, all_hold es (second_of (
 
 -- a table of the database, as its row in the schema table and its tree tell it
 module _ (pages : PageMap) (size : ℕ) (db : Database) (in_order : is_in_order db ≡ true) (row : SchemaRow) (t : database.Table)
-    (found : object db row.name ≡ Some (ATable t)) (says : IsTold row t) (used : List ℕ) (lists : ListsRows pages size row.root t used) where
+    (found : object db row.name ≡ Some (ATable t)) (says : IsTold row t) (used : List ℕ) (lists : ListsRows pages size row.root t used) (rowid : ℤ) where
   abbrev pub its_listing : Listing
-  its_listing = record { table = table_of says.definition row.root; content = t.rows; entries = lists.entries; used = used; row = row }
+  its_listing = record { table = table_of says.definition row.root rowid; content = t.rows; entries = lists.entries; used = used; row = row }
 
   made : t ≡ plain_table its_listing.table t.rows
-  made = says.made row.root
+  made = says.made row.root rowid
 
   fit_rows : are_rows t ≡ true
   fit_rows = found_among (λ o. holds_rows o ≡ true) db (folded row.name) (ATable t) (all_hold db (second_of _ (list_all (λ o. holds_rows o.1) db) in_order)) found
@@ -102,12 +102,17 @@ module _ (pages : PageMap) (size : ℕ) (db : Database) (in_order : is_in_order 
 
 -- ---- all rows of the schema table
 
+-- the table's row has the rowid of this entry
+abbrev pub IsEntryOf : Entry → Listing → Type 0
+IsEntryOf entry l = entry.rowid ≡ l.table.rowid
+
 -- the tables that the rows tell, on these pages
-pub record AreListings (pages : PageMap) (size : ℕ) (db : Database) (rows : List SchemaRow) (useds : List (List ℕ)) : Type 0 where
+pub record AreListings (pages : PageMap) (size : ℕ) (db : Database) (entries : List Entry) (rows : List SchemaRow) (useds : List (List ℕ)) : Type 0 where
   pub items : List Listing
   pub rows_are : map (λ l. l.row) items ≡ rows
   pub each : AllByRecursion (IsListing pages size db) items
   pub used : flat_map (λ used. used) useds ≡ used_by (owners_in items)
+  pub at_rowids : Pairwise IsEntryOf entries items
 
 -- no table has an automatic index
 abbrev pub NoneAutomatic : Database → Type 0
@@ -129,20 +134,23 @@ tells_table db row none (ATrigger t) found says = absurd (false≢true says.text
 table_in : (t : database.Table) (o : Object) → Some (ATable t) ≡ Some o → ATable t ≡ o
 table_in t o h = cc
 
-pub listings : (pages : PageMap) (size : ℕ) (db : Database) → is_in_order db ≡ true → NoneAutomatic db → (rows : List SchemaRow) (useds : List (List ℕ))
-    → AllByRecursion (IsSchemaRowOf supported_language db) rows → Pairwise (HasTree pages size db) rows useds → AreListings pages size db rows useds
-listings pages size db in_order none [] [] each trees = record { items = []; rows_are = refl; each = tt; used = refl }
-listings pages size db in_order none [] (used ∷ useds) each trees = absurd trees
-listings pages size db in_order none (row ∷ rows) [] each trees = absurd trees
-listings pages size db in_order none (row ∷ rows) (used ∷ useds) each trees =
-    let more : AreListings pages size db rows useds = listings pages size db in_order none rows useds each.1 trees.1 in
+pub listings : (pages : PageMap) (size : ℕ) (db : Database) → is_in_order db ≡ true → NoneAutomatic db → (entries : List Entry) (rows : List SchemaRow) (useds : List (List ℕ))
+    → Pairwise IsSchemaEntry entries rows → AllByRecursion (IsSchemaRowOf supported_language db) rows → Pairwise (HasTree pages size db) rows useds → AreListings pages size db entries rows useds
+listings pages size db in_order none (entry ∷ entries) [] useds read each trees = absurd read
+listings pages size db in_order none [] (row ∷ rows) useds read each trees = absurd read
+listings pages size db in_order none [] [] [] read each trees = record { items = []; rows_are = refl; each = tt; used = refl; at_rowids = tt }
+listings pages size db in_order none [] [] (used ∷ useds) read each trees = absurd trees
+listings pages size db in_order none (entry ∷ entries) (row ∷ rows) [] read each trees = absurd trees
+listings pages size db in_order none (entry ∷ entries) (row ∷ rows) (used ∷ useds) read each trees =
+    let more : AreListings pages size db entries rows useds = listings pages size db in_order none entries rows useds read.1 each.1 trees.1 in
     let is : TellsTable db row = tells_table db row none each.0.is each.0.found each.0.says in
     let says : IsTold row is.t = told db row is.t is.says in
     let lists : ListsRows pages size row.root is.t used =
     subst (λ (o : Object). HasPages pages size row.root db o used) (sym (table_in is.t trees.0.is (sym is.found ∙ trees.0.found))) trees.0.lists in
     record {
-      items = its_listing pages size db in_order row is.t is.found says used lists ∷ more.items;
+      items = its_listing pages size db in_order row is.t is.found says used lists entry.rowid ∷ more.items;
       rows_are = ap (λ (rs : List SchemaRow). row ∷ rs) more.rows_are;
-      each = (is_listing pages size db in_order row is.t is.found says used lists, more.each);
+      each = (is_listing pages size db in_order row is.t is.found says used lists entry.rowid, more.each);
       used = ap (λ (ns : List ℕ). used ++ ns) more.used;
+      at_rowids = (refl, more.at_rowids);
     }

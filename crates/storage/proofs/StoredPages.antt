@@ -65,10 +65,10 @@ fresh_once count n = grind (arith, common_steps)
 
 module _ (pages : PageMap) (size : ℕ) (db : Database) (stands : StandsFor supported_language size pages db) where
   -- the tables that the schema rows tell
-  pub told_tables : AreListings pages size db stands.rows stands.trees_used
+  pub told_tables : AreListings pages size db stands.schema.entries stands.rows stands.trees_used
   told_tables =
       listings pages size db stands.schema.in_order (none_automatic db stands.rows stands.schema.objects.names stands.schema.objects.each)
-      stands.rows stands.trees_used stands.schema.objects.each stands.trees
+      stands.schema.entries stands.rows stands.trees_used stands.schema.read stands.schema.objects.each stands.trees
 
   abbrev free : List ℕ
   free = pages_of stands.trunks
@@ -151,7 +151,7 @@ module _ (pages : PageMap) (size : ℕ) (db : Database) (stands : StandsFor supp
     schema_used = stands.schema_used;
     tell = rows_told pages size db [] told_tables.items stands.schema.entries told_tables.each after_first are_tables.apart
         (all_so (IsListing pages size db) (λ l. table_named l.table.name [] ≡ None) (λ l is. refl) told_tables.items told_tables.each)
-        (subst (Pairwise IsSchemaEntry stands.schema.entries) (sym told_tables.rows_are) stands.schema.read);
+        (subst (Pairwise IsSchemaEntry stands.schema.entries) (sym told_tables.rows_are) stands.schema.read) told_tables.at_rowids;
     owners = owners_in told_tables.items;
     free = free;
     each = trees_so pages size db told_tables.items told_tables.items (stand pages size db told_tables.items are_tables);

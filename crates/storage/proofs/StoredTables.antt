@@ -20,7 +20,7 @@ use Rattle.bind.proofs.CreatedTables.{keeps_once}
 use Rattle.filecheck.specs.Schema.{SchemaRow, IsSchemaEntry, sql_value}
 use Rattle.storage.specs.Schema.{schema_row, AreRowsOf, IsRowOf}
 use Rattle.storage.proofs.StoredNames.{same_named, some_is_none}
-use Rattle.storage.proofs.StoredListings.{IsListing, Listing}
+use Rattle.storage.proofs.StoredListings.{IsEntryOf, IsListing, Listing}
 use Rattle.storage.proofs.StoredApart.{IsFoundWith, NamesApart, all_both, found_with, other_name, rows_in, tables_in}
 use Rattle.storage.proofs.StoredObjects.{AreTables}
 
@@ -61,8 +61,8 @@ root_above pages root has ne = by_test (nat_lt 1 root) refl
     by_test false le = absurd (ne (omega (arith, has.first, ltb-false _ _ le)))
 
 row_told : (pages : PageMap) (size : ℕ) (db : Database) (before : List Table) (l : Listing) (entry : Entry) → IsListing pages size db l → IsAfterFirst l → table_named l.table.name before ≡ None → IsSchemaEntry entry l.row
-    → IsRowOf (length pages) before l.table entry
-row_told pages size db before l entry is after none read =
+    → IsEntryOf entry l → IsRowOf (length pages) before l.table entry
+row_told pages size db before l entry is after none read at =
     let there = root_there pages size l.table.root l.entries l.used is.tree in
     let name : l.table.name ≡ is.says.definition.name = ap (λ (t : Table). t.name) is.table_is in
     record {
@@ -76,6 +76,7 @@ row_told pages size db before l entry is after none read =
         root_is = refl;
         columns = columns_so pages size db l is;
       };
+      rowid_is = at;
       above = root_above pages l.table.root there after;
       within = there.last;
       name = l.row.name;
@@ -86,15 +87,15 @@ row_told pages size db before l entry is after none read =
     }
 
 pub rows_told : (pages : PageMap) (size : ℕ) (db : Database) (before : List Table) (items : List Listing) (entries : List Entry) → AllByRecursion (IsListing pages size db) items → AllByRecursion IsAfterFirst items
-    → NamesApart items → AllByRecursion (λ l. table_named l.table.name before ≡ None) items → Pairwise IsSchemaEntry entries (rows_in items) → AreRowsOf (length pages) before (tables_in items) entries
-rows_told pages size db before [] [] each after apart none read = tt
-rows_told pages size db before [] (entry ∷ entries) each after apart none read = absurd read
-rows_told pages size db before (l ∷ items) [] each after apart none read = absurd read
-rows_told pages size db before (l ∷ items) (entry ∷ entries) each after apart none read = (
-  row_told pages size db before l entry each.0 after.0 none.0 read.0,
+    → NamesApart items → AllByRecursion (λ l. table_named l.table.name before ≡ None) items → Pairwise IsSchemaEntry entries (rows_in items) → Pairwise IsEntryOf entries items → AreRowsOf (length pages) before (tables_in items) entries
+rows_told pages size db before [] [] each after apart none read at = tt
+rows_told pages size db before [] (entry ∷ entries) each after apart none read at = absurd read
+rows_told pages size db before (l ∷ items) [] each after apart none read at = absurd read
+rows_told pages size db before (l ∷ items) (entry ∷ entries) each after apart none read at = (
+  row_told pages size db before l entry each.0 after.0 none.0 read.0 at.0,
   rows_told pages size db (before ++ l.table ∷ []) items entries each.1 after.1 apart.1
       (all_both (λ m. table_named m.table.name before ≡ None) (λ m. folded l.table.name ≡ folded m.table.name → ⊥) (λ m. table_named m.table.name (before ++ l.table ∷ []) ≡ None)
-      (λ m absent other. none_after m.table.name before l.table absent (other_name l.table.name m.table.name other)) items none.1 apart.0) read.1,
+      (λ m absent other. none_after m.table.name before l.table absent (other_name l.table.name m.table.name other)) items none.1 apart.0) read.1 at.1,
 )
 
 -- ---- their columns

@@ -3,6 +3,8 @@ use Rattle.std.proofs.Common.{◌≤◌, sym, subst, ℕ, List, [], ◌∷◌, �
 use Rattle.std.proofs.lemmas.List.{append-nil, append_assoc}
 use Rattle.page.specs.Leaf.{Entry}
 use Rattle.catalog.specs.declared.tables.Table.{Table}
+use Rattle.bind.specs.Bound.{AreOnce}
+use Rattle.bind.proofs.CreatedTables.{keeps_once}
 use Rattle.storage.specs.Schema.{AreRowsOf, IsRowOf}
 
 row_with_more : (n m : ℕ) → n ≤ m → (before : List Table) (t : Table) (row : Entry) → IsRowOf n before t row → IsRowOf m before t row
@@ -12,6 +14,7 @@ row_with_more n m le before t row is = record {
   creates = is.creates;
   supported_forms = is.supported_forms;
   made = is.made;
+  rowid_is = is.rowid_is;
   above = is.above;
   within = omega (arith, is.within, le);
   name = is.name;
@@ -34,3 +37,14 @@ one_row_more n before [] (r ∷ rows) t row tell is = absurd tell
 one_row_more n before (x ∷ tables) [] t row tell is = absurd tell
 one_row_more n before (x ∷ tables) (r ∷ rows) t row tell is =
     (tell.0, one_row_more n (before ++ x ∷ []) tables rows t row tell.1 (subst (λ (ts : List Table). IsRowOf n ts t row) (sym (append_assoc before (x ∷ []) tables)) is))
+
+-- rows tell tables in which no column has the name of another
+pub told_once : (pages : ℕ) (before tables : List Table) (rows : List Entry) → AreRowsOf pages before tables rows → AreOnce before → AreOnce (before ++ tables)
+told_once pages before [] rows tell are = subst AreOnce (sym (append-nil before)) are
+told_once pages before (t ∷ tables) [] tell are = absurd tell
+told_once pages before (t ∷ tables) (row ∷ rows) tell are =
+    subst AreOnce (append_assoc before (t ∷ []) tables)
+    (told_once pages (before ++ t ∷ []) tables rows tell.1 (keeps_once before tell.0.definition t are tell.0.made.fresh.once tell.0.made.columns))
+
+pub none_once : AreOnce []
+none_once name t is = absurd cc

@@ -97,11 +97,8 @@ IsUnstored s map size db f = IsTooMuch s map size db f ⊎ MayGrowDeep s map siz
 abbrev pub IsChangeRefusal : Statement → PageMap → ℕ → Database → Fault → Type 0
 IsChangeRefusal s map size db f = IsOutsideOrFull f ⊎ (RefusesWith (change_made s db) (refusal_of f) ⊎ IsUnstored s map size db f)
 
--- these tables, and one after them
-abbrev pub IsOneMore : List Table → List Table → Type 0
-IsOneMore old new = (table : Table) × (new ≡ old ++ table ∷ [])
-
--- what a statement's change comes to, where the pages hold a database of the tables
-abbrev pub MakesChange : Statement → PageMap → PageMap → ℕ → List Table → List Table → Result ⊤ Fault → Type 0
-MakesChange s old new size before after result = (db : Database) → Stores old size before db
-    → MatchResult result (λ done. IsMade s db new size after) (IsChangeRefusal s old size db)
+-- What a statement's change comes to, where the pages hold a database of these tables. `tables_by` says which tables there are after a call
+-- that answered.
+abbrev pub MakesChange : {X : Type 0} → (X → List Table) → Statement → PageMap → PageMap → ℕ → List Table → Result X Fault → Type 0
+MakesChange tables_by s old new size before result = (db : Database) → Stores old size before db
+    → MatchResult result (λ x. IsMade s db new size (tables_by x)) (IsChangeRefusal s old size db)

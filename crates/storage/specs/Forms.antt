@@ -55,9 +55,10 @@ is_change_supported (change.Insert i) = is_source_supported i.source
 is_change_supported (change.Delete d) = is_delete_supported d
 is_change_supported _ = false
 
--- tables, inserted rows, deletes of all rows, queries of one source, and transactions
+-- tables, DROP, inserted rows, deletes of all rows, queries of one source, and transactions
 abbrev pub is_supported : Statement → Bool
 is_supported (statement.Create c) = is_object_supported c.object
+is_supported (statement.Drop kind name) = true
 is_supported (statement.Change c) = is_change_supported c
 is_supported (statement.Select q) = is_query_supported q
 is_supported (statement.Begin mode) = true
@@ -79,8 +80,9 @@ changes_rows (change.Insert i) = true
 changes_rows (change.Delete d) = true
 changes_rows _ = false
 
--- it makes a table, or inserts or deletes rows
+-- it makes a table, drops an object, or inserts or deletes rows
 abbrev pub is_write : Statement → Bool
 is_write (statement.Create c) = is_table c.object
+is_write (statement.Drop kind name) = true
 is_write (statement.Change c) = changes_rows c
 is_write _ = false

@@ -1,5 +1,5 @@
--- A row that is added to the schema table, after its rows (Database File Format, "Storage Of The SQL Database Schema").
-use Rattle.std.specs.Prelude.{◌≡◌, ◌⊎◌, ◌-◌, ◌^◌, ⊤, ℕ, pos, List, [], ◌∷◌, ◌++◌, Some, Result, MatchResult}
+-- Rows that are added to the schema table, after its rows, and taken out of it (Database File Format, "Storage Of The SQL Database Schema").
+use Rattle.std.specs.Prelude.{◌≡◌, ◌⊎◌, ◌-◌, ◌^◌, ⊤, ℕ, ℤ, pos, List, [], ◌∷◌, ◌++◌, None, Some, Result, MatchResult}
 use Rattle.sqlval.specs.declared.fault.Fault.{Fault}
 use Rattle.sqlval.specs.declared.fault.Fault.TheVariants as fault
 use Rattle.sqlval.specs.declared.fault.Feature.TheVariants.{RowSize}
@@ -8,13 +8,14 @@ use Rattle.record.specs.Record.{IsRecord}
 use Rattle.record.specs.Writing.{AreStorable}
 use Rattle.page.specs.Leaf.{Entry}
 use Rattle.pages.specs.Map.{PageMap}
-use Rattle.tabletree.specs.Calls.{BecomesRows, Stands}
-use Rattle.tabletree.specs.Rows.{last_rowid}
+use Rattle.tabletree.specs.Calls.{BecomesRows, IsGrowthRefusal, Stands}
+use Rattle.tabletree.specs.Rows.{last_rowid, payload_at, without_row}
 use Rattle.dml.specs.Trees.{CannotGrow}
 
--- after its rows the tree has one of these values
-pub record IsAddedAfter (old new : PageMap) (size : ℕ) (values : List Value) (rows : List Entry) (used free : List ℕ) : Type 0 where
+-- after its rows the tree has one of these values, at this rowid
+pub record IsAddedAfter (old new : PageMap) (size : ℕ) (values : List Value) (rows : List Entry) (used free : List ℕ) (rowid : ℤ) : Type 0 where
   pub entry : Entry
+  pub rowid_is : entry.rowid ≡ rowid
   pub is : IsRecord entry.payload values
   pub becomes : BecomesRows old new size 1 (rows ++ entry ∷ []) used free
 
@@ -22,7 +23,13 @@ pub record IsAddedAfter (old new : PageMap) (size : ℕ) (values : List Value) (
 abbrev pub FindsNoRowid : List Value → List Entry → Fault → Type 0
 FindsNoRowid values rows f = (f ≡ fault.Unsupported RowSize) × ((AreStorable values → ⊥) ⊎ (last_rowid rows ≡ Some (pos (2 ^ 63 - 1))))
 
--- where a tree stands under page 1, a row of these values is put after its rows, or the call is refused
-abbrev pub AddsRow : PageMap → PageMap → ℕ → List Value → Result ⊤ Fault → Type 0
+-- where a tree stands under page 1, a row of these values is put after its rows, and the call answers its rowid; or it is refused
+abbrev pub AddsRow : PageMap → PageMap → ℕ → List Value → Result ℤ Fault → Type 0
 AddsRow old new size values result = (rows : List Entry) (used free : List ℕ) (is : Stands old size 1 rows used free)
-    → MatchResult result (λ done. IsAddedAfter old new size values rows used free) (λ f. CannotGrow 1 is.tree.depth 1 f ⊎ FindsNoRowid values rows f)
+    → MatchResult result (IsAddedAfter old new size values rows used free) (λ f. CannotGrow 1 is.tree.depth 1 f ⊎ FindsNoRowid values rows f)
+
+-- where a tree stands under page 1, its row of this rowid is taken out; or the call is refused, as growth is
+abbrev pub TakesSchemaRow : PageMap → PageMap → ℕ → ℤ → Result ⊤ Fault → Type 0
+TakesSchemaRow old new size rowid result = (rows : List Entry) (used free : List ℕ) (is : Stands old size 1 rows used free)
+    → (payload_at rowid rows ≡ None → ⊥)
+    → MatchResult result (λ done. BecomesRows old new size 1 (without_row rowid rows) used free) (IsGrowthRefusal 1 is.tree.depth)

@@ -45,14 +45,15 @@ KeepsItsText _ = ⊤
 abbrev pub WhereSupported : Statement → Type 0 → Type 0
 WhereSupported s Holds = is_supported s ≡ true → KeepsItsText s → Holds
 
--- The row tells this table: it has the text of a CREATE TABLE that is supported, which makes the table beside those before it, and
--- the page where its tree begins is one of so many. It has the table's name twice, in letters of either case.
+-- The row, at the rowid that the table has for it, tells this table: it has the text of a CREATE TABLE that is supported, which makes the
+-- table beside those before it, and the page where its tree begins is one of so many. It has the table's name twice, in letters of either case.
 pub record IsRowOf (pages : ℕ) (before : List Table) (table : Table) (row : Entry) : Type 0 where
   pub sql : List ℕ
   pub definition : TableDefinition
   pub creates : IsCreateOf sql (new.Table definition)
   pub supported_forms : is_table_supported definition ≡ true
   pub made : IsMadeBeside before definition table.root table
+  pub rowid_is : row.rowid ≡ table.rowid
   pub above : 1 < table.root
   pub within : table.root ≤ pages
   pub name : Name
@@ -68,11 +69,12 @@ AreRowsOf pages before [] (row ∷ rows) = ⊥
 AreRowsOf pages before (table ∷ tables) [] = ⊥
 AreRowsOf pages before (table ∷ tables) (row ∷ rows) = IsRowOf pages before table row × AreRowsOf pages (before ++ table ∷ []) tables rows
 
--- the same table: by its name, its columns, and the page where its tree begins
+-- the same table: by its name, its columns, the page where its tree begins, and its row in the schema table
 pub record IsSameTable (t u : Table) : Type 0 where
   pub name_is : u.name ≡ t.name
   pub columns_are : u.columns ≡ t.columns
   pub root_is : u.root ≡ t.root
+  pub rowid_is : u.rowid ≡ t.rowid
 
 -- the same tables, one by one
 abbrev pub AreSameTables : List Table → List Table → Type 0

@@ -7,10 +7,9 @@ use Rattle.pages.specs.Map.{PageMap, page_at}
 use Rattle.treepage.specs.Cells.{Pairwise}
 use Rattle.filecheck.specs.Layout.{AreShared, OfRows, Owner}
 use Rattle.catalog.specs.Database.{Database}
-use Rattle.catalog.specs.Listed.{Lists, committed_in, has_only_tables, plain_table, tables_of}
+use Rattle.catalog.specs.Listed.{Lists, has_only_tables, plain_table}
 use Rattle.catalog.specs.Named.{IsNamed}
 use Rattle.catalog.specs.Rows.{are_rows}
-use Rattle.catalog.specs.declared.tables.Catalog.{Catalog}
 use Rattle.catalog.specs.declared.tables.Table.{Table}
 use Rattle.bind.specs.Bound.{AreOnce}
 use Rattle.rowprog.specs.Rows.{IsRow, TableRow}
@@ -19,10 +18,6 @@ use Rattle.storage.specs.Schema.{AreRowsOf}
 -- the tree of the schema table, which begins at page 1
 abbrev pub schema_tree : List Entry → List ℕ → Owner
 schema_tree rows used = record { root = 1; content = OfRows rows; used = used }
-
--- no table waits to be committed
-abbrev pub AreCommitted : Catalog → Type 0
-AreCommitted catalog = committed_in catalog ≡ length (tables_of catalog)
 
 -- The tree begins at the table's root and holds its rows, which are such as the table may hold.
 pub record IsTreeOf (rows_at : ℕ → List TableRow) (table : Table) (owner : Owner) : Type 0 where

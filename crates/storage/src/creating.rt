@@ -1,14 +1,14 @@
 //! CREATE TABLE.
 
-ghost use Rattle.std.specs.Prelude.{◌≡◌, ◌⊎◌, true, IsTrue, IfOk, IfErr, MatchOption, MatchResult, ◌+ℤ◌, pos, ◌^◌, ◌-◌, Some, ◌++◌, ◌∷◌, []};
+ghost use Rattle.std.specs.Prelude.{◌≡◌, ◌⊎◌, true, IsTrue, IfOk, IfErr, MatchOption, ◌+ℤ◌, pos, ◌^◌, ◌-◌, Some};
 ghost use Rattle.sqlval.specs.Faults.{IsNotDiskFault};
 ghost use Rattle.sqlval.specs.Refusals.{refusal_of};
 ghost use Rattle.pages.specs.Calls.{Causes};
 ghost use Rattle.syntax.specs.declared.create.NewObject.TheVariants as object;
 ghost use Rattle.syntax.specs.declared.statement.Statement.TheVariants as statement;
-ghost use Rattle.catalog.specs.Listed.{committed_in, tables_of};
+ghost use Rattle.catalog.specs.Listed.{tables_of};
 ghost use Rattle.bind.specs.Creating.{IsCreateRefusal};
-ghost use Rattle.storage.specs.Changing.{IsOneMore, MakesChange};
+ghost use Rattle.storage.specs.Changing.{MakesChange};
 ghost use Rattle.storage.specs.Forms.{is_table_supported};
 ghost use Rattle.storage.specs.Listing.{AddsRow};
 ghost use Rattle.storage.specs.Schema.{IsCreateOf, IsMadeBeside, schema_row};
@@ -29,7 +29,7 @@ use tabletree::{insert, last, new_tree, rows_come_last, table_trees_stay};
 const NO_PAGE: u32 = 0;
 
 /// The page where the tree of the schema table begins.
-const SCHEMA: u32 = 1;
+pub(crate) const SCHEMA: u32 = 1;
 
 /// The values of a table's row in the schema table.
 fn schema_values(alloc: Global, name: &Name, root: u32, sql: &Text) -> R<Vec<Value>>
@@ -45,7 +45,7 @@ fn schema_values(alloc: Global, name: &Name, root: u32, sql: &Text) -> R<Vec<Val
     Ok(values)
 }
 
-/// The table of a definition, without a tree as yet. (`Misuse(ReservedName)`, `Exists`, and what `columns_of` refuses.)
+/// The table of a definition, without a tree and a row in the schema table as yet. (`Misuse(ReservedName)`, `Exists`, and what `columns_of` refuses.)
 fn table_of(alloc: Global, catalog: &Catalog, definition: &TableDefinition) -> R<Table>
     ensures made { IfOk result (λ table. IsMadeBeside (tables_of catalog.now) definition.now NO_PAGE table) }
     ensures why { IfErr result (λ fault. (fault ≡ Fault.Memory)
@@ -63,6 +63,7 @@ fn table_of(alloc: Global, catalog: &Catalog, definition: &TableDefinition) -> R
         columns: columns_of(alloc, definition)?,
         name: name.copy(alloc)?,
         root: NO_PAGE,
+        rowid: 0,
     })
 }
 
@@ -79,9 +80,9 @@ fn rowid_after(last: Option<i64>) -> R<i64>
     }
 }
 
-/// Adds a row of these values to the schema table, after its rows. (`Unsupported(RowSize)` if no record can hold them or no rowid is
+/// Adds a row of these values to the schema table, after its rows, and answers its rowid. (`Unsupported(RowSize)` if no record can hold them or no rowid is
 /// left; what `last` and `insert` refuse.)
-fn add_row<P: WritePages>(alloc: Global, pages: &mut P, values: &[Value]) -> R<()>
+fn add_row<P: WritePages>(alloc: Global, pages: &mut P, values: &[Value]) -> R<i64>
     ensures added { IsTrue (P.Pages.tells (P.Pages.below pages.old))
         → AddsRow (P.Pages.map pages.old) (P.Pages.map pages.new) (P.Pages.limits (P.Pages.below pages.old)).page values.now result }
     ensures kept { P.Pages.below pages.new ≡ P.Pages.below pages.old }
@@ -94,25 +95,22 @@ fn add_row<P: WritePages>(alloc: Global, pages: &mut P, values: &[Value]) -> R<(
     if !insert(alloc, pages, SCHEMA, rowid, &payload)? {
         return Err(Fault::Damaged(Damage::Order, SCHEMA));
     }
-    Ok(())
+    Ok(rowid)
 }
 
-/// Makes a table: its row in the schema table, and a tree without rows. (`Misuse(ReservedName)`, `Exists`, and what `columns_of` refuses;
-/// `Unsupported(RowSize)` if the schema table has no rowid left. Then the catalog is as it was, and some pages may have changed.)
+/// Makes a table: its row in the schema table, and a tree without rows. Answers the catalog with it. (`Misuse(ReservedName)`, `Exists`, and
+/// what `columns_of` refuses; `Unsupported(RowSize)` if the schema table has no rowid left. Then some pages may have changed.)
 pub fn create_table<P: WritePages>(
     alloc: Global,
     pages: &mut P,
-    catalog: &mut Catalog,
+    catalog: &Catalog,
     sql: &Text,
     definition: &TableDefinition,
-) -> R<()>
+) -> R<Catalog>
     ensures made { IsTrue (P.Pages.tells (P.Pages.below pages.old)) → is_table_supported definition.now ≡ true
         → IsCreateOf sql.now (object.Table definition.now)
-        → MakesChange (statement.Create (record { sql = sql.now; object = object.Table definition.now })) (P.Pages.map pages.old)
-        (P.Pages.map pages.new) (P.Pages.limits (P.Pages.below pages.old)).page (tables_of catalog.old) (tables_of catalog.new) result }
-    ensures listed { MatchResult result (λ done. IsOneMore (tables_of catalog.old) (tables_of catalog.new))
-        (λ fault. tables_of catalog.new ≡ tables_of catalog.old) }
-    ensures committed { committed_in catalog.new ≡ committed_in catalog.old }
+        → MakesChange tables_of (statement.Create (record { sql = sql.now; object = object.Table definition.now })) (P.Pages.map pages.old)
+        (P.Pages.map pages.new) (P.Pages.limits (P.Pages.below pages.old)).page (tables_of catalog.now) result }
     ensures kept { P.Pages.below pages.new ≡ P.Pages.below pages.old }
     ensures causes { Causes result (P.Pages.failures pages.old) (P.Pages.failures pages.new)
         (P.Pages.count pages.new ≡ (P.Pages.limits (P.Pages.below pages.new)).most) }
@@ -126,6 +124,6 @@ pub fn create_table<P: WritePages>(
     let mut table = table_of(alloc, catalog, definition)?;
     table.root = new_tree(alloc, pages)?;
     let values = schema_values(alloc, &definition.name, table.root, sql)?;
-    add_row(alloc, pages, &values)?;
-    catalog.add(table)
+    table.rowid = add_row(alloc, pages, &values)?;
+    catalog.with(alloc, table)
 }

@@ -3,6 +3,7 @@
 
 mod creating;
 mod deleting;
+mod dropping;
 mod inserting;
 mod laws;
 mod reading;
@@ -11,6 +12,7 @@ ghost use Rattle.storage.specs.Laws.{SupportedIsPlain, ReadsAsBound, RefusesAsRe
 
 pub use creating::create_table;
 pub use deleting::delete_rows;
+pub use dropping::drop_object;
 pub use inserting::insert;
 pub use laws::stored_pages_stand;
 pub use reading::read;

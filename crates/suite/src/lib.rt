@@ -11,3 +11,4 @@ mod held_output;
 mod replies;
 #[cfg(test)]
 mod same_files;
+#[cfg(test)]

@@ -34,13 +34,16 @@ pub(crate) fn new_database(alloc: Global) -> R<Database> {
 /// Makes a table. (What `create_table` refuses; `Unsupported(StatementForm)` for another object.)
 fn create(alloc: Global, database: &mut Database, create: &Create) -> R<()> {
     match &create.object {
-        NewObject::Table(definition) => create_table(
-            alloc,
-            &mut database.pages,
-            &mut database.catalog,
-            &create.sql,
-            definition,
-        ),
+        NewObject::Table(definition) => {
+            database.catalog = create_table(
+                alloc,
+                &mut database.pages,
+                &database.catalog,
+                &create.sql,
+                definition,
+            )?;
+            Ok(())
+        }
         _ => Err(Fault::Unsupported(Feature::StatementForm)),
     }
 }

@@ -8,6 +8,8 @@ mod databases;
 #[cfg(test)]
 mod forests;
 #[cfg(test)]
+mod removals;
+#[cfg(test)]
 mod statements;
 #[cfg(test)]
 mod tables;

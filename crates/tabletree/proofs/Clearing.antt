@@ -102,13 +102,13 @@ pub all_counted : {T K : Type 0} (kids : List (T × K)) (last : T) → length (a
 all_counted [] last = refl
 all_counted (kid ∷ kids) last = ap suc (all_counted kids last)
 
-each_at : {T K : Type 0} (P : T → Type 0) (kids : List (T × K)) (last d : T) (place : ℕ) → place < suc (length kids) → Each P kids last → P (slice_index_or (all_of kids last) place d)
+pub each_at : {T K : Type 0} (P : T → Type 0) (kids : List (T × K)) (last d : T) (place : ℕ) → place < suc (length kids) → Each P kids last → P (slice_index_or (all_of kids last) place d)
 each_at P [] last d zero lt all = all
 each_at P [] last d (suc place) lt all = absurd (omega (arith, lt))
 each_at P (kid ∷ kids) last d zero lt all = all.0
 each_at P (kid ∷ kids) last d (suc place) lt all = each_at P kids last d place (omega (arith, lt)) all.1
 
-child_is : {T : Type 0} (page : T → ℕ) (kids : List (T × ℤ)) (last d : T) (place : ℕ) → place < suc (length kids) → child_at place (children page kids) (page last) ≡ page (slice_index_or (all_of kids last) place d)
+pub child_is : {T : Type 0} (page : T → ℕ) (kids : List (T × ℤ)) (last d : T) (place : ℕ) → place < suc (length kids) → child_at place (children page kids) (page last) ≡ page (slice_index_or (all_of kids last) place d)
 child_is page [] last d zero lt = refl
 child_is page [] last d (suc place) lt = absurd (omega (arith, lt))
 child_is page (kid ∷ kids) last d zero lt = refl
@@ -333,8 +333,7 @@ module _ {P K : Type 0} (below : P → K) (tells : K → Bool) (limits : K → L
 
 pub standing : (old : PageMap) (size root : ℕ) (rows : List Entry) (used free : List ℕ) (is : Stands old size root rows used free) → StandsUnder old size root 19 is.tree.depth is.tree.tree free
 standing old size root rows used free is =
-    let any : Entry = record { rowid = pos 0; payload = [] } in
-    let under = root_under old size root any rows used free is in
+    let under = root_under old size root (pos 0) rows used free is in
     record { top_is = under.top_is; lies = under.lies; shallow = under.shallow; apart = under.apart; first = under.first; free_are = under.free_are }
 
 -- its root is there, also where its other pages were given back

@@ -58,7 +58,7 @@ parted_split : {T : Type 0} (P : ℤ → T → ℤ → Type 0) (low : ℤ) (kids
 parted_split P low [] t key rest last high h = h
 parted_split P low (kid ∷ kids) t key rest last high (h, r) = let s = parted_split P kid.1 kids t key rest last high r in ((h, s.0), s.1)
 
-each_split : {T X : Type 0} (f : T → List X) (kids : List (T × ℤ)) (t : T) (key : ℤ) (rest : List (T × ℤ)) (last : T)
+pub each_split : {T X : Type 0} (f : T → List X) (kids : List (T × ℤ)) (t : T) (key : ℤ) (rest : List (T × ℤ)) (last : T)
     → each_of f nothing (kids ++ (t, key) ∷ rest) last ≡ each_of f nothing kids t ++ each_of f nothing rest last
 each_split f [] t key rest last = refl
 each_split f (kid ∷ kids) t key rest last =

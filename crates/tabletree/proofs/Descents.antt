@@ -1,5 +1,5 @@
 -- The way to a rowid, from a page of a tree on.
-use Rattle.std.proofs.Common.{◌≡◌, ◌≤◌, ◌<◌, ℕ, zero, suc, ℤ, Bool, true, false, nat_eq, IsTrue, List, [], ◌∷◌, map, None, refl, sym, ap, subst, ◌∙◌, inl, arith}
+use Rattle.std.proofs.Common.{◌≡◌, ◌≤◌, ◌<◌, ℕ, zero, suc, ℤ, pos, Bool, true, false, nat_eq, length, slice_index_or, IsTrue, List, [], ◌∷◌, map, Option, None, refl, sym, ap, subst, ◌∙◌, inl, arith}
 use Rattle.std.proofs.lemmas.Grind.{common_steps}
 use Rattle.std.specs.Prelude.{Result, Ok, Err, MatchResult}
 use Rattle.sqlval.specs.declared.fault.Fault.{Fault}
@@ -12,17 +12,18 @@ use Rattle.treepage.specs.Reading.{NeverFall, below}
 use Rattle.packing.specs.declared.spreading.Packed.{Packed}
 use Rattle.forest.specs.Saying.{Says}
 use Rattle.forest.specs.Sides.{children, Parted}
-use Rattle.tabletree.specs.Growing.{IsUnder, IsChanged, IsDeep, Changes, PlansLeaf, Widens}
-use Rattle.tabletree.specs.Rows.{payload_at}
-use Rattle.tabletree.specs.Stepping.{HasRowid, IsStep, StepsFrom, child_at}
+use Rattle.tabletree.specs.Growing.{IsUnder, IsEdited, Edits, IsChanged, IsLessened, IsDeep, IsWidened, PlansLeaf, CutsLeaf, Widens}
+use Rattle.tabletree.specs.Rows.{payload_at, IsLocal}
+use Rattle.tabletree.specs.Stepping.{before, HasRowid, IsStep, StepsFrom, child_at}
 use Rattle.tabletree.specs.Tree.{Held, Tree, top, rows_of, Rises, IsSorted}
 use Rattle.tabletree.specs.declared.descending.Step.{Step}
 use Rattle.tabletree.specs.declared.descending.Step.TheVariants.{Found, Here, Down}
 use Rattle.tabletree.specs.declared.growing.Change.{Change}
-use Rattle.tabletree.specs.declared.growing.Change.TheVariants.{There, Same, Spread}
+use Rattle.tabletree.specs.declared.growing.Change.TheVariants.{Still, Same, Spread}
 use Rattle.tabletree.proofs.Holes.{Kids, keys_of}
+use Rattle.tabletree.proofs.LeafRows.{said_there, said_counted}
 use Rattle.tabletree.proofs.Orders.{ids_of, lt_le, found_there, not_there, same_ids, sorted_le}
-use Rattle.tabletree.proofs.Widening.{child_refused, above_there, above_same}
+use Rattle.tabletree.proofs.Widening.{child_refused, above_still, above_same, acts_above}
 
 -- ---- the numbers of a page
 
@@ -42,51 +43,53 @@ keys_shown depth (kid ∷ kids) = ap (λ (keys : List ℤ). kid.1 ∷ keys) (key
 
 -- ---- a leaf
 
-module _ (old : PageMap) (size number ways : ℕ) (row : Entry) (low : ℤ) (t : Tree zero) (high : ℤ) (free : List ℕ) (under : IsUnder old size number ways row.rowid zero low t high free) where
+module _ (old : PageMap) (size number ways : ℕ) (rowid : ℤ) (low : ℤ) (t : Tree zero) (high : ℤ) (free : List ℕ) (under : IsUnder old size number ways rowid zero low t high free) where
   abbrev leaf_said : List (ℤ × Local)
   leaf_said = (under.lies).said
 
   leaf_ids : map (λ (said : ℤ × Local). said.0) leaf_said ≡ ids_of t.rows
   leaf_ids = same_ids old size leaf_said t.rows (under.lies).rows
 
-  leaf_step : (result : Result Step Fault) → StepsFrom old size number row.rowid result → MatchResult result (IsStep row.rowid (Rows leaf_said)) IsOutside
+  leaf_step : (result : Result Step Fault) → StepsFrom old size number rowid result → MatchResult result (IsStep rowid (Rows leaf_said)) IsOutside
   leaf_step result steps =
       steps (Rows leaf_said) (map (λ (said : ℤ × Local). said.0) leaf_said) (under.free_are).whole (subst (λ (n : ℕ). Says old n (Rows leaf_said)) under.top_is (under.lies).says) refl
       (subst (λ (ids : List ℤ). NeverFall ids) (sym leaf_ids) (ids_rise low t.rows high under.sorted))
 
-  leaf_found : StepsFrom old size number row.rowid (Ok Found) → payload_at row.rowid (rows_of zero t) ≡ None → ⊥
-  leaf_found steps = found_there old size row.rowid leaf_said t.rows (under.lies).rows (leaf_step (Ok Found) steps)
+  leaf_found : (place : ℕ) → StepsFrom old size number rowid (Ok (Found place)) → payload_at rowid (rows_of zero t) ≡ None → ⊥
+  leaf_found place steps =
+      let is = leaf_step (Ok (Found place)) steps in
+      found_there old size rowid leaf_said t.rows (under.lies).rows (subst (λ (n : ℕ). HasRowid rowid leaf_said n) is.0 is.1)
 
-  leaf_here : (place : ℕ) → StepsFrom old size number row.rowid (Ok (Here place)) → (payload_at row.rowid (rows_of zero t) ≡ None) × (place ≡ below row.rowid (ids_of t.rows))
+  leaf_here : (place : ℕ) → StepsFrom old size number rowid (Ok (Here place)) → (payload_at rowid (rows_of zero t) ≡ None) × (place ≡ below rowid (ids_of t.rows))
   leaf_here place steps =
       let is = leaf_step (Ok (Here place)) steps in (
-        not_there old size row.rowid low leaf_said t.rows high (under.lies).rows under.sorted (λ has. is.1 (subst (λ (n : ℕ). HasRowid row.rowid leaf_said n) (sym is.0) has)),
-        is.0 ∙ ap (below row.rowid) leaf_ids,
+        not_there old size rowid low leaf_said t.rows high (under.lies).rows under.sorted (λ has. is.1 (subst (λ (n : ℕ). HasRowid rowid leaf_said n) (sym is.0) has)),
+        is.0 ∙ ap (below rowid) leaf_ids,
       )
 
-module _ (old : PageMap) (size number ways : ℕ) (row : Entry) (depth : ℕ) (low : ℤ) (t : Tree (suc depth)) (high : ℤ) (free : List ℕ)
-    (under : IsUnder old size number ways row.rowid (suc depth) low t high free) where
-  inner_step : (result : Result Step Fault) → StepsFrom old size number row.rowid result → MatchResult result (IsStep row.rowid (Keys (children (top depth) t.kids) (top depth t.last))) IsOutside
+module _ (old : PageMap) (size number ways : ℕ) (rowid : ℤ) (depth : ℕ) (low : ℤ) (t : Tree (suc depth)) (high : ℤ) (free : List ℕ)
+    (under : IsUnder old size number ways rowid (suc depth) low t high free) where
+  inner_step : (result : Result Step Fault) → StepsFrom old size number rowid result → MatchResult result (IsStep rowid (Keys (children (top depth) t.kids) (top depth t.last))) IsOutside
   inner_step result steps =
       steps (Keys (children (top depth) t.kids) (top depth t.last)) (map (λ (kid : ℕ × ℤ). kid.1) (children (top depth) t.kids)) (under.free_are).whole
       (subst (λ (n : ℕ). Says old n (Keys (children (top depth) t.kids) (top depth t.last))) under.top_is (under.lies).0) refl
       (subst (λ (keys : List ℤ). NeverFall keys) (sym (keys_shown depth t.kids)) (keys_rise depth low t.kids t.last high under.sorted))
 
-  inner_down : (place child : ℕ) → StepsFrom old size number row.rowid (Ok (Down place child))
-      → (place ≡ below row.rowid (keys_of t.kids)) × (child ≡ child_at place (children (top depth) t.kids) (top depth t.last))
-  inner_down place child steps = (let is = inner_step (Ok (Down place child)) steps in (is.0 ∙ ap (below row.rowid) (keys_shown depth t.kids), is.1))
+  inner_down : (place child : ℕ) → StepsFrom old size number rowid (Ok (Down place child))
+      → (place ≡ below rowid (keys_of t.kids)) × (child ≡ child_at place (children (top depth) t.kids) (top depth t.last))
+  inner_down place child steps = (let is = inner_step (Ok (Down place child)) steps in (is.0 ∙ ap (below rowid) (keys_shown depth t.kids), is.1))
 
 -- ---- what the code does next
 
-pub step_refused : (old : PageMap) (size number ways : ℕ) (row : Entry) (depth : ℕ) (low : ℤ) (t : Tree depth) (high : ℤ) (free : List ℕ) → IsUnder old size number ways row.rowid depth low t high free
-    → (fault : Fault) → StepsFrom old size number row.rowid (Err fault) → IsOutsideOrFull fault
-step_refused old size number ways row zero low t high free under fault steps = inl (leaf_step old size number ways row low t high free under (Err fault) steps)
-step_refused old size number ways row (suc depth) low t high free under fault steps = inl (inner_step old size number ways row depth low t high free under (Err fault) steps)
+pub step_refused : (old : PageMap) (size number ways : ℕ) (rowid : ℤ) (depth : ℕ) (low : ℤ) (t : Tree depth) (high : ℤ) (free : List ℕ) → IsUnder old size number ways rowid depth low t high free
+    → (fault : Fault) → StepsFrom old size number rowid (Err fault) → IsOutsideOrFull fault
+step_refused old size number ways rowid zero low t high free under fault steps = inl (leaf_step old size number ways rowid low t high free under (Err fault) steps)
+step_refused old size number ways rowid (suc depth) low t high free under fault steps = inl (inner_step old size number ways rowid depth low t high free under (Err fault) steps)
 
-pub step_found : (old : PageMap) (size number ways : ℕ) (row : Entry) (depth : ℕ) (low : ℤ) (t : Tree depth) (high : ℤ) (free : List ℕ) → IsUnder old size number ways row.rowid depth low t high free
-    → StepsFrom old size number row.rowid (Ok Found) → payload_at row.rowid (rows_of depth t) ≡ None → ⊥
-step_found old size number ways row zero low t high free under steps = leaf_found old size number ways row low t high free under steps
-step_found old size number ways row (suc depth) low t high free under steps = absurd (inner_step old size number ways row depth low t high free under (Ok Found) steps)
+pub step_found : (old : PageMap) (size number ways place : ℕ) (rowid : ℤ) (depth : ℕ) (low : ℤ) (t : Tree depth) (high : ℤ) (free : List ℕ) → IsUnder old size number ways rowid depth low t high free
+    → StepsFrom old size number rowid (Ok (Found place)) → payload_at rowid (rows_of depth t) ≡ None → ⊥
+step_found old size number ways place rowid zero low t high free under steps = leaf_found old size number ways rowid low t high free under place steps
+step_found old size number ways place rowid (suc depth) low t high free under steps = absurd (inner_step old size number ways rowid depth low t high free under (Ok (Found place)) steps)
 
 is_zero : (n : ℕ) → nat_eq n 0 ≡ true → n ≤ 0
 is_zero n e = grind (arith, common_steps)
@@ -103,45 +106,89 @@ pub step_here : (old new : PageMap) (size number ways place : ℕ) (row : Entry)
 step_here old new size number ways place row zero low t high free under steps result plans = by result plans
   where
     is : (payload_at row.rowid (rows_of zero t) ≡ None) × (place ≡ below row.rowid (ids_of t.rows))
-    is = leaf_here old size number ways row low t high free under place steps
+    is = leaf_here old size number ways row.rowid low t high free under place steps
 
     by : (result : Result Packed Fault) → PlansLeaf old new size number place row result
         → MatchResult result (λ packed. IsChanged old new size number ways row zero low t high free (Spread packed (nat_eq ways 0))) IsOutsideOrFull
     by (Ok packed) plans = (is.0, deep_leaf ways, plans ways low t high free under is.0 is.1)
     by (Err fault) plans = plans ways low t high free under is.0 is.1
-step_here old new size number ways place row (suc depth) low t high free under steps result plans = absurd (inner_step old size number ways row depth low t high free under (Ok (Here place)) steps)
+step_here old new size number ways place row (suc depth) low t high free under steps result plans = absurd (inner_step old size number ways row.rowid depth low t high free under (Ok (Here place)) steps)
 
-pub down_deep : (old : PageMap) (size number ways place child : ℕ) (row : Entry) (depth : ℕ) (low : ℤ) (t : Tree depth) (high : ℤ) (free : List ℕ) → IsUnder old size number ways row.rowid depth low t high free
-    → StepsFrom old size number row.rowid (Ok (Down place child)) → ways ≡ 0 → ⊥
-down_deep old size number ways place child row zero low t high free under steps none = leaf_step old size number ways row low t high free under (Ok (Down place child)) steps
-down_deep old size number ways place child row (suc depth) low t high free under steps none = (let le = under.shallow in omega (arith, le, none))
+-- where the row is there, the leaf gives way to packed pages without it
+pub step_cut : (old new : PageMap) (size number ways place : ℕ) (rowid : ℤ) (depth : ℕ) (low : ℤ) (t : Tree depth) (high : ℤ) (free : List ℕ) → IsUnder old size number ways rowid depth low t high free
+    → StepsFrom old size number rowid (Ok (Found place)) → (result : Result Packed Fault) → CutsLeaf old new size number place rowid result
+    → MatchResult result (λ packed. IsLessened old new size number ways rowid depth low t high free (Spread packed (nat_eq ways 0))) IsOutsideOrFull
+step_cut old new size number ways place rowid zero low t high free under steps result cuts = by result cuts
+  where
+    said : List (ℤ × Local)
+    said = (under.lies).said
+
+    is : (place ≡ before rowid said) × HasRowid rowid said place
+    is = leaf_step old size number ways rowid low t high free under (Ok (Found place)) steps
+
+    lt : place < length t.rows
+    lt = (let within = is.1.within in let e = said_counted old size said t.rows (under.lies).rows in omega (arith, within, e))
+
+    same : (d : Held) → (slice_index_or t.rows place d).row.rowid ≡ rowid
+    same d = (let there = said_there old size said t.rows place (pos 0, record { size = 0; bytes = [] }) d (under.lies).rows lt in
+        sym (there.1).rowid ∙ is.1.same (pos 0, record { size = 0; bytes = [] }))
+
+    by : (result : Result Packed Fault) → CutsLeaf old new size number place rowid result
+        → MatchResult result (λ packed. IsLessened old new size number ways rowid zero low t high free (Spread packed (nat_eq ways 0))) IsOutsideOrFull
+    by (Ok packed) cuts = (leaf_found old size number ways rowid low t high free under place steps, deep_leaf ways, cuts ways low t high free under lt same)
+    by (Err fault) cuts = inl (cuts ways low t high free under lt same)
+step_cut old new size number ways place rowid (suc depth) low t high free under steps result cuts = absurd (inner_step old size number ways rowid depth low t high free under (Ok (Found place)) steps)
+
+-- and where it isn't, there is none
+pub step_none : (old : PageMap) (size number ways place : ℕ) (rowid : ℤ) (depth : ℕ) (low : ℤ) (t : Tree depth) (high : ℤ) (free : List ℕ) → IsUnder old size number ways rowid depth low t high free
+    → StepsFrom old size number rowid (Ok (Here place)) → payload_at rowid (rows_of depth t) ≡ None
+step_none old size number ways place rowid zero low t high free under steps = (leaf_here old size number ways rowid low t high free under place steps).0
+step_none old size number ways place rowid (suc depth) low t high free under steps = absurd (inner_step old size number ways rowid depth low t high free under (Ok (Here place)) steps)
+
+pub down_deep : (old : PageMap) (size number ways place child : ℕ) (rowid : ℤ) (depth : ℕ) (low : ℤ) (t : Tree depth) (high : ℤ) (free : List ℕ) → IsUnder old size number ways rowid depth low t high free
+    → StepsFrom old size number rowid (Ok (Down place child)) → ways ≡ 0 → ⊥
+down_deep old size number ways place child rowid zero low t high free under steps none = leaf_step old size number ways rowid low t high free under (Ok (Down place child)) steps
+down_deep old size number ways place child rowid (suc depth) low t high free under steps none = (let le = under.shallow in omega (arith, le, none))
 
 -- what becomes of the child decides
-pub down : (old mid : PageMap) (size number fewer place child : ℕ) (row : Entry) (depth : ℕ) (low : ℤ) (t : Tree depth) (high : ℤ) (free : List ℕ) → IsUnder old size number (suc fewer) row.rowid depth low t high free
-    → StepsFrom old size number row.rowid (Ok (Down place child)) → (result : Result Change Fault) → Changes old mid size child fewer row result
-    → MatchResult result (λ change. ((packed : Packed) (deep : Bool) → change ≡ Spread packed deep → ⊥) → IsChanged old mid size number (suc fewer) row depth low t high free change) IsOutsideOrFull
-down old mid size number fewer place child row zero low t high free under steps result changes = absurd (leaf_step old size number (suc fewer) row low t high free under (Ok (Down place child)) steps)
-down old mid size number fewer place child row (suc depth) low t high free under steps result changes = by result changes
-  where
-    is : (place ≡ below row.rowid (keys_of t.kids)) × (child ≡ child_at place (children (top depth) t.kids) (top depth t.last))
-    is = inner_down old size number (suc fewer) row depth low t high free under place child steps
+module _ (old mid : PageMap) (size number fewer place child : ℕ) (rowid : ℤ) (edit : List Entry → List Entry) (about : IsLocal rowid edit) (Skips Acts : Option (List ℕ) → Type 0) where
+  abbrev Under : (depth : ℕ) → ℤ → Tree depth → ℤ → List ℕ → Type 0
+  Under depth low t high free = IsUnder old size number (suc fewer) rowid depth low t high free
 
-    by : (result : Result Change Fault) → Changes old mid size child fewer row result
-        → MatchResult result (λ change. ((packed : Packed) (deep : Bool) → change ≡ Spread packed deep → ⊥) → IsChanged old mid size number (suc fewer) row (suc depth) low t high free change) IsOutsideOrFull
-    by (Ok There) changes = λ not. above_there old size number fewer row depth low t high free under place child is.0 is.1 mid changes
-    by (Ok Same) changes = λ not. above_same old size number fewer row depth low t high free under place child is.0 is.1 mid changes
-    by (Ok (Spread packed deep)) changes = λ not. absurd (not packed deep refl)
-    by (Err fault) changes = child_refused old size number fewer row depth low t high free under place child is.0 is.1 mid fault changes
+  pub down : (depth : ℕ) (low : ℤ) (t : Tree depth) (high : ℤ) (free : List ℕ) → Under depth low t high free
+      → StepsFrom old size number rowid (Ok (Down place child)) → (result : Result Change Fault) → Edits Skips Acts old mid size child fewer rowid edit result
+      → MatchResult result (λ change. ((packed : Packed) (deep : Bool) → change ≡ Spread packed deep → ⊥) → IsEdited Skips Acts old mid size number (suc fewer) rowid edit depth low t high free change) IsOutsideOrFull
+  down zero low t high free under steps result changes = absurd (leaf_step old size number (suc fewer) rowid low t high free under (Ok (Down place child)) steps)
+  down (suc depth) low t high free under steps result changes = by result changes
+    where
+      is : (place ≡ below rowid (keys_of t.kids)) × (child ≡ child_at place (children (top depth) t.kids) (top depth t.last))
+      is = inner_down old size number (suc fewer) rowid depth low t high free under place child steps
 
-pub down_spread : (old mid new : PageMap) (size number fewer place child : ℕ) (row : Entry) (depth : ℕ) (low : ℤ) (t : Tree depth) (high : ℤ) (free : List ℕ) → IsUnder old size number (suc fewer) row.rowid depth low t high free
-    → StepsFrom old size number row.rowid (Ok (Down place child)) → (packed : Packed) (deep : Bool) → Changes old mid size child fewer row (Ok (Spread packed deep))
-    → (result : Result Change Fault) → Widens mid new size number place child packed deep result
-    → MatchResult result (IsChanged old new size number (suc fewer) row depth low t high free) IsOutsideOrFull
-down_spread old mid new size number fewer place child row zero low t high free under steps packed deep changes result widens =
-    absurd (leaf_step old size number (suc fewer) row low t high free under (Ok (Down place child)) steps)
-down_spread old mid new size number fewer place child row (suc depth) low t high free under steps packed deep changes result widens =
-    let is = inner_down old size number (suc fewer) row depth low t high free under place child steps in
-    widens old fewer row depth low t high free under is.0 is.1 changes
+      by : (result : Result Change Fault) → Edits Skips Acts old mid size child fewer rowid edit result
+          → MatchResult result (λ change. ((packed : Packed) (deep : Bool) → change ≡ Spread packed deep → ⊥) → IsEdited Skips Acts old mid size number (suc fewer) rowid edit (suc depth) low t high free change) IsOutsideOrFull
+      by (Ok Still) changes = λ not. above_still old size number fewer rowid edit about depth low t high free under place child is.0 is.1 Skips Acts mid changes
+      by (Ok Same) changes = λ not. above_same old size number fewer rowid edit about depth low t high free under place child is.0 is.1 Skips Acts mid changes
+      by (Ok (Spread packed deep)) changes = λ not. absurd (not packed deep refl)
+      by (Err fault) changes = child_refused old size number fewer rowid edit about depth low t high free under place child is.0 is.1 Skips Acts mid fault changes
+
+  -- where the child gives way to packed pages, what becomes of the page above is so
+  pub down_spread : (new : PageMap) (depth : ℕ) (low : ℤ) (t : Tree depth) (high : ℤ) (free : List ℕ) → Under depth low t high free
+      → StepsFrom old size number rowid (Ok (Down place child)) → (packed : Packed) (deep : Bool) → Edits Skips Acts old mid size child fewer rowid edit (Ok (Spread packed deep))
+      → (result : Result Change Fault) → Widens mid new size number place child packed deep result
+      → MatchResult result (IsEdited Skips Acts old new size number (suc fewer) rowid edit depth low t high free) IsOutsideOrFull
+  down_spread new zero low t high free under steps packed deep changes result widens =
+      absurd (leaf_step old size number (suc fewer) rowid low t high free under (Ok (Down place child)) steps)
+  down_spread new (suc depth) low t high free under steps packed deep changes result widens =
+      let is = inner_down old size number (suc fewer) rowid depth low t high free under place child steps in
+      by result (acts_above old size number fewer rowid edit about depth low t high free under place child is.0 is.1 Skips Acts mid packed deep changes)
+      (widens old fewer rowid edit about depth low t high free under is.0 is.1 (λ depth low t high free under. (let c = changes depth low t high free under in (c.1, c.2))))
+    where
+      by : (result : Result Change Fault) → Acts (payload_at rowid (rows_of (suc depth) t)) → MatchResult result (IsWidened old new size number (suc fewer) edit (suc depth) low t high free) IsOutsideOrFull
+          → MatchResult result (IsEdited Skips Acts old new size number (suc fewer) rowid edit (suc depth) low t high free) IsOutsideOrFull
+      by (Ok Still) acts is = absurd is
+      by (Ok Same) acts is = (acts, is.0)
+      by (Ok (Spread packed deep)) acts is = (acts, is.0, is.1)
+      by (Err fault) acts is = is
 
 -- ---- since the first call
 

@@ -10,11 +10,11 @@ use Rattle.pages.specs.Map.{PageMap}
 use Rattle.packing.specs.declared.spreading.Packed.{Packed}
 use Rattle.forest.specs.Storing.{cells_of}
 use Rattle.forest.specs.declared.storing.Fan.{Fan}
-use Rattle.tabletree.specs.Growing.{IsPlanned, IsChanged}
+use Rattle.tabletree.specs.Growing.{IsPlanned, IsChanged, IsLessened, IsWidened}
 use Rattle.tabletree.specs.Calls.{IsGrowthRefusal}
 use Rattle.tabletree.specs.Tree.{Tree}
 use Rattle.tabletree.specs.declared.growing.Change.{Change}
-use Rattle.tabletree.specs.declared.growing.Change.TheVariants.{There, Same, Spread}
+use Rattle.tabletree.specs.declared.growing.Change.TheVariants.{Still, Same, Spread}
 
 pub full_err : {T : Type 0} (I : T → Type 0) (result : Result T Fault) (fault : Fault) → IsErrAnd result (λ e. e ≡ fault) → IsOutsideOrFull fault → MatchResult result I IsOutsideOrFull
 full_err I (Ok x) fault is refused = absurd is
@@ -29,10 +29,10 @@ pub planned_since : (old mid new : PageMap) (size number depth : ℕ) (low high 
 planned_since old mid new size number depth low high rows used free result same is =
     subst (λ (m : PageMap). MatchResult result (IsPlanned old m size number depth low high rows used free) IsOutsideOrFull) (sym same) is
 
-pub changed_since : (old mid new : PageMap) (size number ways : ℕ) (row : Entry) (depth : ℕ) (low : ℤ) (t : Tree depth) (high : ℤ) (free : List ℕ) (change : Change) → new ≡ mid
-    → IsChanged old mid size number ways row depth low t high free change → IsChanged old new size number ways row depth low t high free change
-changed_since old mid new size number ways row depth low t high free change same is =
-    subst (λ (m : PageMap). IsChanged old m size number ways row depth low t high free change) (sym same) is
+pub widened_since : (old mid new : PageMap) (size number ways : ℕ) (edit : List Entry → List Entry) (depth : ℕ) (low : ℤ) (t : Tree depth) (high : ℤ) (free : List ℕ) (change : Change) → new ≡ mid
+    → IsWidened old mid size number ways edit depth low t high free change → IsWidened old new size number ways edit depth low t high free change
+widened_since old mid new size number ways edit depth low t high free change same is =
+    subst (λ (m : PageMap). IsWidened old m size number ways edit depth low t high free change) (sym same) is
 
 -- a fan without cells
 pub no_cells : (fan : Fan) → length fan.cells.items ≡ 0 → cells_of fan ≡ []
@@ -44,8 +44,8 @@ no_cells fan none = none_in fan.cells.items none
 
 -- ---- what a change isn't
 
-pub not_there : (packed : Packed) (deep : Bool) → There ≡ Spread packed deep → ⊥
-not_there packed deep e = cc
+pub not_still : (packed : Packed) (deep : Bool) → Still ≡ Spread packed deep → ⊥
+not_still packed deep e = cc
 
 pub not_same : (packed : Packed) (deep : Bool) → Same ≡ Spread packed deep → ⊥
 not_same packed deep e = cc
@@ -60,6 +60,15 @@ pub changed_or_ways : (old new : PageMap) (size number ways other : ℕ) (row : 
     → MatchResult result (IsChanged old new size number ways row depth low t high free) IsOutsideOrFull → MatchResult result (IsChanged old new size number other row depth low t high free) IsOutsideOrFull
 changed_or_ways old new size number ways other row depth low t high free result same is =
     subst (λ (n : ℕ). MatchResult result (IsChanged old new size number n row depth low t high free) IsOutsideOrFull) same is
+
+pub lessened_ways : (old new : PageMap) (size number ways other : ℕ) (rowid : ℤ) (depth : ℕ) (low : ℤ) (t : Tree depth) (high : ℤ) (free : List ℕ) (change : Change) → ways ≡ other
+    → IsLessened old new size number ways rowid depth low t high free change → IsLessened old new size number other rowid depth low t high free change
+lessened_ways old new size number ways other rowid depth low t high free change same is = subst (λ (n : ℕ). IsLessened old new size number n rowid depth low t high free change) same is
+
+pub lessened_or_ways : (old new : PageMap) (size number ways other : ℕ) (rowid : ℤ) (depth : ℕ) (low : ℤ) (t : Tree depth) (high : ℤ) (free : List ℕ) (result : Result Change Fault) → ways ≡ other
+    → MatchResult result (IsLessened old new size number ways rowid depth low t high free) IsOutsideOrFull → MatchResult result (IsLessened old new size number other rowid depth low t high free) IsOutsideOrFull
+lessened_or_ways old new size number ways other rowid depth low t high free result same is =
+    subst (λ (n : ℕ). MatchResult result (IsLessened old new size number n rowid depth low t high free) IsOutsideOrFull) same is
 
 -- ---- at the root
 

@@ -49,11 +49,11 @@ pub record IsHole (depth : ℕ) (rowid low : ℤ) (kids : Kids depth) (last : Tr
 
 -- ---- one more subtree in front
 
-abbrev in_front : {T K : Type 0} → T × K → Frame T K → Frame T K
+abbrev pub in_front : {T K : Type 0} → T × K → Frame T K → Frame T K
 in_front kid (ends front) = ends (kid ∷ front)
 in_front kid (goes front key rest) = goes (kid ∷ front) key rest
 
-front_framed : {T K : Type 0} (kid : T × K) (frame : Frame T K) (window : Side T K) → framed (in_front kid frame) window ≡ behind (kid ∷ []) (framed frame window)
+pub front_framed : {T K : Type 0} (kid : T × K) (frame : Frame T K) (window : Side T K) → framed (in_front kid frame) window ≡ behind (kid ∷ []) (framed frame window)
 front_framed kid (ends front) window = refl
 front_framed kid (goes front key rest) window = refl
 
@@ -90,11 +90,11 @@ pub among : (depth n : ℕ) (kids : Kids depth) (last : Tree depth) → Each (λ
 among depth n kids last =
     each_through depth (λ u. Unit {0}) (λ u. occurs n (pages_of depth u) ≤ occurs n (pages_in depth kids last)) kids last (λ u some k. some n) (units depth kids last)
 
-children_append : {T : Type 0} (page : T → ℕ) (xs ys : List (T × ℤ)) → children page (xs ++ ys) ≡ children page xs ++ children page ys
+pub children_append : {T : Type 0} (page : T → ℕ) (xs ys : List (T × ℤ)) → children page (xs ++ ys) ≡ children page xs ++ children page ys
 children_append page [] ys = refl
 children_append page (x ∷ xs) ys = ap (λ (cells : List (ℕ × ℤ)). (page x.0, x.1) ∷ cells) (children_append page xs ys)
 
-parted_join : {T : Type 0} (P : ℤ → T → ℤ → Type 0) (low : ℤ) (kids : List (T × ℤ)) (t : T) (key : ℤ) (rest : List (T × ℤ)) (last : T) (high : ℤ)
+pub parted_join : {T : Type 0} (P : ℤ → T → ℤ → Type 0) (low : ℤ) (kids : List (T × ℤ)) (t : T) (key : ℤ) (rest : List (T × ℤ)) (last : T) (high : ℤ)
     → Parted P low kids t key → Parted P key rest last high → Parted P low (kids ++ (t, key) ∷ rest) last high
 parted_join P low [] t key rest last high h k = (h, k)
 parted_join P low (kid ∷ kids) t key rest last high (h, r) k = (h, parted_join P kid.1 kids t key rest last high r k)

@@ -1,13 +1,12 @@
 -- The rows of a tree ascend, and a row after the last comes after all.
-use Rattle.std.proofs.Common.{◌≡◌, ℕ, zero, suc, ℤ, ◌<ℤ◌, ◌≤ℤ◌, List, [], ◌∷◌, ◌++◌, map, Option, Some, None, refl, sym, ap, subst, ◌∙◌, arith}
+use Rattle.std.proofs.Common.{◌≡◌, ℕ, zero, suc, ℤ, ◌<ℤ◌, ◌≤ℤ◌, List, [], ◌∷◌, ◌++◌, map, Some, sym, ap, subst, ◌∙◌}
 use Rattle.std.specs.Prelude.{⊤, MatchOption}
 use Rattle.std.proofs.lemmas.List.{append-nil}
 use Rattle.page.specs.Leaf.{Entry}
-use Rattle.pages.specs.Map.{PageMap}
 use Rattle.forest.specs.Sides.{each_of, nothing, Parted}
 use Rattle.tabletree.specs.Laws.{RowsComeLast}
 use Rattle.tabletree.specs.Rows.{last_rowid, payload_at, with_row}
-use Rattle.tabletree.specs.Tree.{Held, IsSorted, IsTableTree, Rises, Tree, rows_of}
+use Rattle.tabletree.specs.Tree.{Held, IsSorted, Rises, Tree, rows_of}
 use Rattle.tabletree.proofs.Orders.{AreLess, le_le, le_lt, lt_le, lt_le_lt, payload_within, with_within}
 
 -- the rowids rise, above `low` and up to `high`

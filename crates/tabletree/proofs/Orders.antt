@@ -36,13 +36,13 @@ is_less a b h = grind (arith, ints)
 pub not_less : (a b : ℤ) → b ≤ℤ a → int_lt a b ≡ false
 not_less a b h = grind (arith, ints)
 
-less_not : (a b : ℤ) → a <ℤ b → int_eq a b ≡ false
+pub less_not : (a b : ℤ) → a <ℤ b → int_eq a b ≡ false
 less_not a b h = elim (same_or_other a b) [
   | inl same ↦ absurd (let e = same.1 in grind (arith, ints))
   | inr other ↦ other.0
 ]
 
-greater_not : (a b : ℤ) → b <ℤ a → int_eq a b ≡ false
+pub greater_not : (a b : ℤ) → b <ℤ a → int_eq a b ≡ false
 greater_not a b h = elim (same_or_other a b) [
   | inl same ↦ absurd (let e = same.1 in grind (arith, ints))
   | inr other ↦ other.0
@@ -93,7 +93,7 @@ with_right row [] rest h = refl
 with_right row (first ∷ left) rest h =
     rw (not_less row.rowid first.rowid (lt_le first.rowid row.rowid h.0)) (rw (is_less first.rowid row.rowid h.0) (ap (λ (rows : List Entry). first ∷ rows) (with_right row left rest h.1)))
 
-with_here : (row : Entry) (right : List Entry) → AreGreater row.rowid right → with_row row right ≡ row ∷ right
+pub with_here : (row : Entry) (right : List Entry) → AreGreater row.rowid right → with_row row right ≡ row ∷ right
 with_here row [] h = refl
 with_here row (first ∷ right) h = rw (is_less row.rowid first.rowid h.0) refl
 

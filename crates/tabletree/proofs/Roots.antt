@@ -72,21 +72,25 @@ wider low high rowid = elim (less_or_not low rowid) [
   ])
 ]
 
+-- the tree has these rows now, and is at most this deep
+abbrev pub BecomesUpTo : PageMap → PageMap → ℕ → ℕ → ℕ → List Entry → List ℕ → List ℕ → Type 0
+BecomesUpTo old new size root most rows used free = (now : BecomesRows old new size root rows used free) × (now.stands.tree.depth ≤ most)
+
 -- the tree has these rows now, and at most one page more on a way than this deep one
 abbrev pub BecomesAtMost : PageMap → PageMap → ℕ → ℕ → ℕ → List Entry → List ℕ → List ℕ → Type 0
-BecomesAtMost old new size root depth rows used free = (now : BecomesRows old new size root rows used free) × (now.stands.tree.depth ≤ suc depth)
+BecomesAtMost old new size root depth rows used free = BecomesUpTo old new size root (suc depth) rows used free
 
 -- ---- the root of a tree that stands
 
-module _ (old : PageMap) (size root : ℕ) (row : Entry) (rows : List Entry) (used free : List ℕ) (is : Stands old size root rows used free) where
+module _ (old : PageMap) (size root : ℕ) (rowid : ℤ) (rows : List Entry) (used free : List ℕ) (is : Stands old size root rows used free) where
   abbrev depth : ℕ
   depth = is.tree.depth
 
   abbrev tree : Tree depth
   tree = is.tree.tree
 
-  pub bounds : AreWider is.tree.low is.tree.high row.rowid
-  bounds = wider is.tree.low is.tree.high row.rowid
+  pub bounds : AreWider is.tree.low is.tree.high rowid
+  bounds = wider is.tree.low is.tree.high rowid
 
   root_first : (root ≡ 1) ⊎ (occurs 1 used ≡ 0) → occurs 1 (below_of depth tree) ≡ 0
   root_first (inl one) =
@@ -97,7 +101,7 @@ module _ (old : PageMap) (size root : ℕ) (row : Entry) (rows : List Entry) (us
   root_first (inr none) = (let e = ap (occurs 1) (sym (pages_split depth tree) ∙ is.tree.used_are) in omega (arith, e, none))
 
   -- any rowid has its place under the root
-  pub root_under : IsUnder old size root 19 row.rowid depth bounds.less tree bounds.more free
+  pub root_under : IsUnder old size root 19 rowid depth bounds.less tree bounds.more free
   root_under = record {
     top_is = is.tree.root_is;
     lies = is.tree.lies;
@@ -112,9 +116,9 @@ module _ (old : PageMap) (size root : ℕ) (row : Entry) (rows : List Entry) (us
   }
 
   -- a tree that took the place of the old one stands
-  becomes : (new : PageMap) (deep : ℕ) (t : Tree deep) (low high : ℤ) (all : List Entry) (now_free : List ℕ) → deep < 20 → deep ≤ suc depth → top deep t ≡ root → Lies new size deep t → IsSorted deep low t high → rows_of deep t ≡ all
-      → HasFree new size now_free → Moves old new (pages_of depth tree) free (pages_of deep t) now_free → KeepsHeader old new → BecomesAtMost old new size root depth all used free
-  becomes new deep t low high all now_free shallow near at lies sorted holds has moves header =
+  pub becomes_up : (most : ℕ) (new : PageMap) (deep : ℕ) (t : Tree deep) (low high : ℤ) (all : List Entry) (now_free : List ℕ) → deep < 20 → deep ≤ most → top deep t ≡ root → Lies new size deep t → IsSorted deep low t high → rows_of deep t ≡ all
+      → HasFree new size now_free → Moves old new (pages_of depth tree) free (pages_of deep t) now_free → KeepsHeader old new → BecomesUpTo old new size root most all used free
+  becomes_up most new deep t low high all now_free shallow near at lies sorted holds has moves header =
       let apart = once_after old new size (pages_of depth tree) free (pages_of deep t) now_free is.free_are moves (tree_up old size depth tree is.tree.lies) root_under.apart in
       let counts = moves.counts 1 in
       let old_page = not_fresh (length old) (length new) 1 (((one_there old size free is.free_are).has).last) in
@@ -159,6 +163,10 @@ module _ (old : PageMap) (size root : ℕ) (row : Entry) (rows : List Entry) (us
         near,
       )
 
+  becomes : (new : PageMap) (deep : ℕ) (t : Tree deep) (low high : ℤ) (all : List Entry) (now_free : List ℕ) → deep < 20 → deep ≤ suc depth → top deep t ≡ root → Lies new size deep t → IsSorted deep low t high → rows_of deep t ≡ all
+      → HasFree new size now_free → Moves old new (pages_of depth tree) free (pages_of deep t) now_free → KeepsHeader old new → BecomesAtMost old new size root depth all used free
+  becomes = becomes_up (suc depth)
+
   pub put_becomes : (new : PageMap) (all : List Entry) → IsPut old new size root depth bounds.less bounds.more all (pages_of depth tree) free → BecomesAtMost old new size root depth all used free
   put_becomes new all p = becomes new depth p.tree bounds.less bounds.more all p.now_free is.tree.shallow (omega arith) p.top_is p.lies p.sorted p.rows_are p.has p.moves p.header
 
@@ -166,16 +174,16 @@ module _ (old : PageMap) (size root : ℕ) (row : Entry) (rows : List Entry) (us
 
   module _ (mid : PageMap) (all : List Entry) (packed : Packed) (plan : IsPlanned old mid size root depth bounds.less bounds.more all (below_of depth tree) free packed) where
     abbrev at_parts : List ℕ
-    at_parts = parts old mid size root 19 row.rowid depth bounds.less tree bounds.more free root_under all packed plan
+    at_parts = parts old mid size root 19 rowid depth bounds.less tree bounds.more free root_under all packed plan
 
     pub root_free : AreFree mid size plan.now_free
-    root_free = (planned_after old mid size root 19 row.rowid depth bounds.less tree bounds.more free root_under all packed plan).are
+    root_free = (planned_after old mid size root 19 rowid depth bounds.less tree bounds.more free root_under all packed plan).are
 
     pub root_there : Has mid root
-    root_there = number_there old mid size root 19 row.rowid depth bounds.less tree bounds.more free root_under all packed plan
+    root_there = number_there old mid size root 19 rowid depth bounds.less tree bounds.more free root_under all packed plan
 
     pub root_unfree : occurs root plan.now_free ≡ 0
-    root_unfree = number_unfree old mid size root 19 row.rowid depth bounds.less tree bounds.more free root_under all packed plan
+    root_unfree = number_unfree old mid size root 19 rowid depth bounds.less tree bounds.more free root_under all packed plan
 
     last_sized : (pages : List (List ℕ)) (page : List ℕ) → AllByRecursion (λ image. length image ≡ size) (pages ++ page ∷ []) → length page ≡ size
     last_sized [] page h = h.0
@@ -198,13 +206,13 @@ module _ (old : PageMap) (size root : ℕ) (row : Entry) (rows : List Entry) (us
     tops_now : (new : PageMap) (now_used now_free : List ℕ) → Moves mid new (root ∷ []) plan.now_free now_used now_free
         → Pairwise (IsTop new size depth (start_in root packed.pieces.items)) (images packed) (all_of plan.kids plan.last)
     tops_now new now_used now_free moves =
-        tops_stay old mid size root 19 row.rowid depth bounds.less tree bounds.more free root_under all packed plan new now_used now_free moves (start_in root packed.pieces.items)
+        tops_stay old mid size root 19 rowid depth bounds.less tree bounds.more free root_under all packed plan new now_used now_free moves (start_in root packed.pieces.items)
         (images packed) plan.kids plan.last (λ n. omega arith) plan.tops
 
     moves_now : (new : PageMap) (now_used now_free pages : List ℕ) → Moves mid new (root ∷ []) plan.now_free now_used now_free
         → ((n : ℕ) → occurs n pages ≡ occurs n now_used + occurs n at_parts) → Moves old new (pages_of depth tree) free pages now_free
     moves_now new now_used now_free pages moves counts =
-        let first = moves_top old mid size root 19 row.rowid depth bounds.less tree bounds.more free root_under all packed plan in
+        let first = moves_top old mid size root 19 rowid depth bounds.less tree bounds.more free root_under all packed plan in
         let second = beside_used mid new (root ∷ []) plan.now_free now_used now_free at_parts (root ∷ at_parts) pages moves (λ n. occurs_append n (root ∷ []) at_parts) counts in
         subst (λ (was : List ℕ). Moves old new was free pages now_free) (ap (λ (n : ℕ). n ∷ below_of depth tree) (sym is.tree.root_is) ∙ sym (pages_split depth tree))
         (in_sequence old mid new (root ∷ below_of depth tree) free (root ∷ at_parts) plan.now_free pages now_free first second)
@@ -221,8 +229,8 @@ module _ (old : PageMap) (size root : ℕ) (row : Entry) (rows : List Entry) (us
         no_cons : {x : Piece} {xs : List Piece} → x ∷ xs ≡ [] → ⊥
         no_cons e = cc
 
-    pub rewritten_becomes : (new : PageMap) → packed.pieces.items ≡ [] → IsRewritten mid new size plan.now_free root packed.last.items → BecomesAtMost old new size root depth all used free
-    rewritten_becomes new none r =
+    pub rewritten_up : (new : PageMap) → packed.pieces.items ≡ [] → IsRewritten mid new size plan.now_free root packed.last.items → BecomesUpTo old new size root depth all used free
+    rewritten_up new none r =
         let alone = one_top new (start_in root packed.pieces.items) packed.pieces.items plan.kids none refl (tops_now new (root ∷ []) plan.now_free r.moves) in
         let t = moved_to depth root plan.last in
         let there = root_there in
@@ -231,7 +239,7 @@ module _ (old : PageMap) (size root : ℕ) (row : Entry) (rows : List Entry) (us
           has = record { first = there.first; last = (let b = there.last in let longer = (r.moves).longer in omega (arith, b, longer)) };
           node_is = subst (λ (page : List ℕ). IsNode page (start_of root) (alone.1).node) (sym bytes) (alone.1).says;
         } in
-        becomes new depth t bounds.less bounds.more all plan.now_free is.tree.shallow (omega arith) (top_moved depth root plan.last) (lies_moved new size depth root plan.last (alone.1).node (alone.1).shows says)
+        becomes_up depth new depth t bounds.less bounds.more all plan.now_free is.tree.shallow (omega arith) (top_moved depth root plan.last) (lies_moved new size depth root plan.last (alone.1).node (alone.1).shows says)
         (sorted_moved depth root bounds.less plan.last bounds.more (subst (λ (ks : Kids depth). Parted (IsSorted depth) bounds.less ks plan.last bounds.more) alone.0 plan.sorted))
         (rows_moved depth root plan.last ∙ subst (λ (ks : Kids depth). each_of (rows_of depth) nothing ks plan.last ≡ all) alone.0 plan.rows_are)
         r.has
@@ -239,6 +247,9 @@ module _ (old : PageMap) (size root : ℕ) (row : Entry) (rows : List Entry) (us
         (let e = ap (occurs n) (pages_moved depth root plan.last) in let s = occurs_append n (root ∷ []) (below_of depth plan.last) in
         let f = ap (λ (ks : Kids depth). occurs n (each_of (below_of depth) nothing ks plan.last)) alone.0 in omega (arith, e, s, f))))
         (keeps_then old mid new plan.header r.header)
+
+    rewritten_becomes : (new : PageMap) → packed.pieces.items ≡ [] → IsRewritten mid new size plan.now_free root packed.last.items → BecomesAtMost old new size root depth all used free
+    rewritten_becomes new none r = (let up = rewritten_up new none r in (up.0, (let le = up.1 in omega (arith, le))))
 
     no_start : (pieces : List Piece) → (pieces ≡ [] → ⊥) → start_in root pieces ≡ 0
     no_start [] some = absurd (some refl)

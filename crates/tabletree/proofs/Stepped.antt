@@ -1,5 +1,5 @@
 -- What a page leads to by a rowid is what the code finds.
-use Rattle.std.proofs.Common.{◌≡◌, ◌≤◌, ◌<◌, ℕ, zero, suc, ℤ, Bool, true, false, ◌==◌, List, [], ◌∷◌, length, Some, None, Ok, Err, slice_index_or, refl, sym, ap, subst, ◌∙◌, arith}
+use Rattle.std.proofs.Common.{◌≡◌, ◌≤◌, ◌<◌, ℕ, zero, suc, ℤ, Bool, true, false, ◌==◌, List, [], ◌∷◌, length, Some, None, Ok, Err, slice_index_or, refl, sym, ap, ◌∙◌, arith}
 use Rattle.std.specs.Prelude.{Result}
 use Rattle.sqlval.specs.declared.fault.Fault.{Fault}
 use Rattle.treepage.specs.Node.{Local, Node, Rows, Keys, Entries, Between, code_of}
@@ -67,9 +67,9 @@ looked_down rowid (Between kids last) numbers place child kind numbered is inner
 
 -- a leaf is found to have a row of the rowid
 pub looked_found : (rowid : ℤ) (node : Node) (numbers : List ℤ) (place : ℕ) (kind : Kind) → numbers_of node ≡ Some numbers → type_of kind ≡ code_of node → kind ≡ TableLeaf
-    → place ≡ below rowid numbers → place < count_of node → ((rows : List (ℤ × Local)) (d : ℤ × Local) → node ≡ Rows rows → rowid ≡ (slice_index_or rows place d).0) → IsStep rowid node Found
+    → place ≡ below rowid numbers → place < count_of node → ((rows : List (ℤ × Local)) (d : ℤ × Local) → node ≡ Rows rows → rowid ≡ (slice_index_or rows place d).0) → IsStep rowid node (Found place)
 looked_found rowid (Rows rows) numbers place kind numbered is leaf at lt found =
-    subst (λ (n : ℕ). HasRowid rowid rows n) (at ∙ ap (below rowid) (sym (some_is numbered))) (record { within = lt; same = λ d. sym (found rows d refl) })
+    (at ∙ ap (below rowid) (sym (some_is numbered)), record { within = lt; same = λ d. sym (found rows d refl) })
 looked_found rowid (Keys kids last) numbers place kind numbered is leaf at lt found = not_leaf kind leaf is
 looked_found rowid (Entries entries) numbers place kind numbered is leaf at lt found = absurd (no_numbers numbered)
 looked_found rowid (Between kids last) numbers place kind numbered is leaf at lt found = absurd (no_numbers numbered)

@@ -2,7 +2,9 @@ pub mod Calls
 pub mod Fanning
 pub mod Freeing
 pub mod Growing
+pub mod Joining
 pub mod Laws
+pub mod Lowering
 pub mod Rows
 pub mod Scanning
 pub mod SingleLeaf

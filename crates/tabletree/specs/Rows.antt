@@ -1,5 +1,6 @@
 -- Rows by rising rowid, as a map.
-use Rattle.std.specs.Prelude.{ℕ, ℤ, List, [], ◌∷◌, Option, Some, None, int_lt, filter, not, if◌then◌else◌}
+use Rattle.std.specs.Prelude.{◌≡◌, ℕ, ℤ, ◌<ℤ◌, List, [], ◌∷◌, ◌++◌, Option, Some, None, int_lt, filter, not, if◌then◌else◌}
+use Rattle.std.specs.List.{AllByRecursion}
 use Rattle.std.specs.Ordering.{int_eq}
 use Rattle.page.specs.Leaf.{Entry}
 
@@ -19,6 +20,11 @@ with_row row (first ∷ rows) =
 abbrev pub without_row : ℤ → List Entry → List Entry
 without_row rowid [] = []
 without_row rowid (row ∷ rows) = if int_eq row.rowid rowid then rows else row ∷ without_row rowid rows
+
+-- A change of rows about a rowid: it leaves rows as they are that are less or greater.
+pub record IsLocal (rowid : ℤ) (edit : List Entry → List Entry) : Type 0 where
+  pub within : (left mid right : List Entry) → AllByRecursion (λ row. row.rowid <ℤ rowid) left → AllByRecursion (λ row. rowid <ℤ row.rowid) right
+      → edit (left ++ (mid ++ right)) ≡ left ++ (edit mid ++ right)
 
 -- the greatest rowid
 abbrev pub last_rowid : List Entry → Option ℤ

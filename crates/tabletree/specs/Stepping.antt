@@ -32,10 +32,10 @@ pub record HasRowid (rowid : ℤ) (rows : List (ℤ × Local)) (place : ℕ) : T
 -- The way to a rowid goes on so: it ends at the first row of a leaf that isn't less, or behind all; on an interior page it goes on
 -- to the child of the first key that isn't less, or to the last child.
 abbrev pub IsStep : ℤ → Node → Step → Type 0
-IsStep rowid (Rows rows) Found = HasRowid rowid rows (before rowid rows)
+IsStep rowid (Rows rows) (Found place) = (place ≡ before rowid rows) × HasRowid rowid rows place
 IsStep rowid (Rows rows) (Here place) = (place ≡ before rowid rows) × (HasRowid rowid rows place → ⊥)
 IsStep rowid (Rows rows) (Down place child) = ⊥
-IsStep rowid (Keys kids last) Found = ⊥
+IsStep rowid (Keys kids last) (Found place) = ⊥
 IsStep rowid (Keys kids last) (Here place) = ⊥
 IsStep rowid (Keys kids last) (Down place child) = (place ≡ below rowid (map (λ kid. kid.1) kids)) × (child ≡ child_at place kids last)
 IsStep rowid (Entries entries) step = ⊥

@@ -14,8 +14,8 @@ use treepage::{Kind, TreePage};
 /// Where the way to a rowid goes on from a page.
 #[derive(Clone, Copy, Drop)]
 pub(crate) enum Step {
-    /// This leaf has a row of the rowid.
-    Found,
+    /// This leaf has a row of the rowid, at this place among the cells.
+    Found(usize),
     /// This leaf has none. It would stand at this place among the cells.
     Here(usize),
     /// To the child at this place, with its page's number; the last child stands behind all cells.
@@ -51,7 +51,7 @@ fn look(bytes: &[u8], start: usize, rowid: i64) -> R<Step>
         return Ok(Step::Down(place, child_at(&page, place)?));
     }
     if place < page.len() && page.row(place)?.rowid == rowid {
-        return Ok(Step::Found);
+        return Ok(Step::Found(place));
     }
     Ok(Step::Here(place))
 }

@@ -58,7 +58,7 @@ fn parts_in(bytes: &[u8], number: u32) -> R<Parts>
 }
 
 /// The parts of a page. (What `load` refuses; `Damaged` for one that is no page of a table.)
-fn parts_of<P: Pages>(pages: &mut P, number: u32) -> R<Parts>
+pub(crate) fn parts_of<P: Pages>(pages: &mut P, number: u32) -> R<Parts>
     ensures found { IsTrue (P.Pages.tells (P.Pages.below pages.old))
         → FindsParts (P.Pages.map pages.old) (P.Pages.limits (P.Pages.below pages.old)).page number result }
     ensures stays { Stays P.Pages.below P.Pages.map P.Pages.count P.Pages.failures result pages.old pages.new }
@@ -81,7 +81,7 @@ fn child_in(bytes: &[u8], number: u32, place: usize) -> R<u32>
 }
 
 /// The child at a place of an interior page. (What `load` refuses; `Damaged` if there is none.)
-fn child_of<P: Pages>(pages: &mut P, number: u32, place: usize) -> R<u32>
+pub(crate) fn child_of<P: Pages>(pages: &mut P, number: u32, place: usize) -> R<u32>
     ensures read { IsTrue (P.Pages.tells (P.Pages.below pages.old))
         → ReadsChild (P.Pages.map pages.old) (P.Pages.limits (P.Pages.below pages.old)).page number place result }
     ensures stays { Stays P.Pages.below P.Pages.map P.Pages.count P.Pages.failures result pages.old pages.new }
@@ -95,7 +95,12 @@ fn child_of<P: Pages>(pages: &mut P, number: u32, place: usize) -> R<u32>
 
 /// Gives the pages back over which the row at a place of a leaf goes on. (`Damaged` if there is no such row; what `load` and `free_chain`
 /// refuse.)
-fn free_row<P: WritePages>(alloc: Global, pages: &mut P, leaf: u32, place: usize) -> R<()>
+pub(crate) fn free_row<P: WritePages>(
+    alloc: Global,
+    pages: &mut P,
+    leaf: u32,
+    place: usize,
+) -> R<()>
     ensures freed { IsTrue (P.Pages.tells (P.Pages.below pages.old))
         → FreesRow (P.Pages.map pages.old) (P.Pages.map pages.new) (P.Pages.limits (P.Pages.below pages.old)).page leaf place result }
     ensures kept { P.Pages.below pages.new ≡ P.Pages.below pages.old }

@@ -17,11 +17,11 @@ use sqlval::{Damage, Fault, R};
 use std::alloc::Global;
 use treepage::TreePage;
 
-/// What becomes of a page into whose tree a row is put.
+/// What becomes of a page into whose tree a row is put, or out of which one is taken.
 #[derive(Drop)]
 pub(crate) enum Change {
-    /// There is a row of this rowid: nothing has changed.
-    There,
+    /// Nothing has changed.
+    Still,
     /// The page stays, and below it all is done.
     Same,
     /// The page gives way to these, which aren't stored yet; and whether no page may stand above it.
@@ -60,7 +60,7 @@ fn packed_leaf<P: WritePages>(
 }
 
 /// The cell with this child in place of its own.
-fn parent_cell(alloc: Global, cell: &[u8], child: u32) -> R<Vec<u8>>
+pub(crate) fn parent_cell(alloc: Global, cell: &[u8], child: u32) -> R<Vec<u8>>
     ensures parents { Parents cell.now child result }
     ensures not_disk { IfErr result IsNotDiskFault }
 {
@@ -85,7 +85,7 @@ fn cells_in<'a>(alloc: Global, fan: &'a Fan) -> R<Vec<&'a [u8]>>
 }
 
 /// The pages that an interior page gives way to when a fan stands in place of the child at a place of it.
-fn fanned(alloc: Global, page: &[u8], start: usize, place: usize, fan: &Fan) -> R<Packed>
+pub(crate) fn fanned(alloc: Global, page: &[u8], start: usize, place: usize, fan: &Fan) -> R<Packed>
     ensures fans { Fans page.now start place fan.now result }
     ensures not_disk { IfErr result IsNotDiskFault }
 {
@@ -117,7 +117,7 @@ fn fanned(alloc: Global, page: &[u8], start: usize, place: usize, fan: &Fan) -> 
 }
 
 /// What becomes of an interior page when the child at a place of it gives way to packed pages, which are stored.
-fn widened<P: WritePages>(
+pub(crate) fn widened<P: WritePages>(
     alloc: Global,
     pages: &mut P,
     number: u32,
@@ -159,7 +159,7 @@ pub(crate) fn packed_below<P: WritePages>(
         (P.Pages.count pages.new ≡ (P.Pages.limits (P.Pages.below pages.new)).most) }
 {
     let (place, child) = match step_from(pages, number, rowid)? {
-        Step::Found => return Ok(Change::There),
+        Step::Found(_) => return Ok(Change::Still),
         Step::Here(place) => {
             let packed = packed_leaf(alloc, pages, number, place, rowid, payload)?;
             return Ok(Change::Spread(packed, ways == 0));
@@ -175,6 +175,6 @@ pub(crate) fn packed_below<P: WritePages>(
             widened(alloc, pages, number, place, child, &packed, deep)
         }
         Change::Same => Ok(Change::Same),
-        Change::There => Ok(Change::There),
+        Change::Still => Ok(Change::Still),
     }
 }

@@ -5,6 +5,7 @@ ghost use Rattle.pages.specs.Calls.{Causes};
 ghost use Rattle.tabletree.specs.Calls.{InsertsRow};
 
 use crate::growing::{Change, packed_below};
+use crate::lowering::trim;
 use forest::store_root;
 use pages::WritePages;
 use sqlval::{Damage, Fault, R};
@@ -31,13 +32,14 @@ pub fn insert<P: WritePages>(
         (P.Pages.count pages.new ≡ (P.Pages.limits (P.Pages.below pages.new)).most) }
 {
     match packed_below(alloc, pages, root, WAYS, rowid, payload)? {
-        Change::There => Ok(false),
+        Change::Still => Ok(false),
         Change::Same => Ok(true),
         Change::Spread(packed, deep) => {
             if deep && !packed.pieces.is_empty() {
                 return Err(Fault::Damaged(Damage::Depth, root));
             }
             store_root(alloc, pages, root, Kind::TableInterior, &packed)?;
+            trim(alloc, pages, root)?;
             Ok(true)
         }
     }

@@ -7,10 +7,14 @@ mod finding;
 mod freeing;
 mod growing;
 mod inserting;
+mod joining;
 mod laws;
 mod leaf;
+mod lowering;
 mod reading;
+mod removing;
 mod scanning;
+mod shrinking;
 mod way;
 
 pub use finding::{get, last};
@@ -21,4 +25,5 @@ pub use leaf::{
     Leaf, a_tree_of_leaves_is_one_page, empty, front_of_page_holds_no_row, next_rowid,
     single_page_is_a_tree, with_rows,
 };
+pub use removing::{remove, replace};
 pub use scanning::{Batch, BatchEntry, BatchRow, Cursor};

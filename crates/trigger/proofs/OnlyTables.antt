@@ -14,8 +14,8 @@ use Rattle.catalog.specs.Database.{Name, Database, Object, ATable, AnIndex, AVie
 use Rattle.catalog.specs.Listed.{has_only_tables, plain_table}
 use Rattle.bind.specs.Checked.{Checked, Meant, faults, known_then}
 use Rattle.bind.specs.Readings.{env_of, values}
-use Rattle.bind.specs.Terms.{Term}
-use Rattle.bind.specs.Values.{Row}
+use Rattle.terms.specs.Terms.{Term}
+use Rattle.terms.specs.Values.{Row}
 use Rattle.bind.specs.Views.{table_rows}
 use Rattle.rowprog.specs.Rows.{TableRow}
 use Rattle.dml.specs.Agreement.{DeletesRows, InsertsRows}

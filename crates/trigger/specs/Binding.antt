@@ -14,7 +14,7 @@ use Rattle.catalog.specs.Database.{Name, Database}
 use Rattle.bind.specs.Expressions.{resolve}
 use Rattle.bind.specs.Checked.{meant, faults, is_good}
 use Rattle.bind.specs.Queries.{resolve_query}
-use Rattle.bind.specs.Values.{Row}
+use Rattle.terms.specs.Values.{Row}
 use Rattle.bind.specs.Views.{look_up}
 use Rattle.dml.specs.Changes.{Outer, no_outer, resolve_change}
 use Rattle.dml.specs.RowChanges.{Event, Inserting, Deleting, Updating}

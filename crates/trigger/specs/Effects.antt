@@ -11,9 +11,9 @@ use Rattle.catalog.specs.Database.{Name, Database, object, Object, ATable}
 use Rattle.bind.specs.Checked.{meant, known_then}
 use Rattle.bind.specs.Queries.{resolve_query}
 use Rattle.bind.specs.Readings.{env_of, values, holds}
-use Rattle.bind.specs.Scopes.{ScopeColumn}
-use Rattle.bind.specs.Terms.{Term}
-use Rattle.bind.specs.Values.{Row}
+use Rattle.bind.specs.declared.scope.ScopeColumn.{ScopeColumn}
+use Rattle.terms.specs.Terms.{Term}
+use Rattle.terms.specs.Values.{Row}
 use Rattle.bind.specs.Views.{look_up, all_rows, answer_of}
 use Rattle.dml.specs.Changes.{Outer, no_outer, Given, GivenRows, GivenQuery, Resolved, Inserts, Updates, Deletes, resolve_change}
 use Rattle.dml.specs.Constraints.{set_values, demand}

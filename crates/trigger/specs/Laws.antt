@@ -13,7 +13,7 @@ use Rattle.catalog.specs.Named.{IsNamed}
 use Rattle.catalog.specs.declared.tables.Table.{Table}
 use Rattle.bind.specs.Checked.{Meant, faults}
 use Rattle.bind.specs.Readings.{env_of, values}
-use Rattle.bind.specs.Terms.{Term}
+use Rattle.terms.specs.Terms.{Term}
 use Rattle.catalog.specs.Rows.{are_rows}
 use Rattle.rowprog.specs.Rows.{TableRow}
 use Rattle.dml.specs.Agreement.{IsSetFor, IsStill}

@@ -14,8 +14,8 @@ use Rattle.catalog.specs.Database.{Name, Database, triggers_of}
 use Rattle.bind.specs.Expressions.{resolve}
 use Rattle.bind.specs.Checked.{known_then}
 use Rattle.bind.specs.Readings.{holds}
-use Rattle.bind.specs.Scopes.{ScopeColumn, ScopeSource}
-use Rattle.bind.specs.Values.{Row}
+use Rattle.bind.specs.declared.scope.ScopeSource.{ScopeSource}
+use Rattle.terms.specs.Values.{Row}
 use Rattle.dml.specs.Changes.{Outer}
 use Rattle.dml.specs.RowChanges.{Event, Inserting, Deleting, Updating, Firing}
 

@@ -1,4 +1,5 @@
-use Rattle.std.proofs.Common.{◌≡◌, None, refl, subst}
+use Rattle.std.proofs.lemmas.Int.{to_z-of_z}
+use Rattle.std.proofs.Common.{rules, SFits, w64, ◌≡◌, None, refl, subst}
 use Rattle.catalog.specs.Database.{Name}
 use Rattle.catalog.specs.Listed.{table_named}
 use Rattle.loading.proofs.SchemaTables.{created}
@@ -7,6 +8,7 @@ use Rattle.loading.proofs.schema.table_made.Goals as goal
 pub returns-clause-found : goal.returns-clause-found
 returns-clause-found c = λ is before new.
     let found = c.in_ok-definition.ensures.found in
+    let fits : SFits w64 c.args.row.now.rowid = search rules in
     let names = c.in_ok-is_of_row.ensures.found in record {
       definition = c.in_ok-definition.definition.now;
       creates = created c.args.row.now.sql.now c.args.statement.now found.0 c.in_ok-definition.definition.now found.1 found.2 is.0 is.1 is.2;
@@ -17,4 +19,5 @@ returns-clause-found c = λ is before new.
         root_is = refl;
         columns = c.in_ok-columns.ensures.found.1;
       };
+      rowid_is = to_z-of_z w64 c.args.row.now.rowid fits;
     }

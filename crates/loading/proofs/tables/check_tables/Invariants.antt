@@ -1,5 +1,6 @@
 -- what the tables that are left decide
 use Rattle.std.proofs.Common.{length}
+use Rattle.catalog.specs.Listed.{shared}
 use Rattle.treepage.specs.Cells.{Pairwise}
 use Rattle.filecheck.specs.Layout.{used_by}
 use Rattle.pagecheck.specs.Exact.{Checks}
@@ -10,8 +11,8 @@ use Rattle.loading.proofs.tables.check_tables.Given as goal
 abbrev pub invariant-tables : goal.invariant-tables
 invariant-tables g l =
     HasChecked g.P.Pages.below g.P.Pages.tells g.P.Pages.limits g.P.Pages.map g.P.Pages.count g.P.Pages.failures l.fn.pages l.pages l.fn.marks.items l.marks.items
-    (λ map size old new result. Checks (Pairwise (IsOwnerOf map size) l.tables) used_by old new result)
-    (λ map size old new result. Checks (Pairwise (IsOwnerOf map size) l.rest) used_by old new result)
+    (λ map size old new result. Checks (Pairwise (IsOwnerOf map size) (shared l.tables)) used_by old new result)
+    (λ map size old new result. Checks (Pairwise (IsOwnerOf map size) (shared l.rest)) used_by old new result)
 
 abbrev pub decreases-tables : goal.decreases-tables
 decreases-tables g l = length l.rest

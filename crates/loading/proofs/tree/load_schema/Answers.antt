@@ -9,7 +9,7 @@ pub batches-init : goal.batches-init
 batches-init g c =
     let gs = g.P.Pages in
     at_start gs.below gs.tells gs.limits gs.map gs.count gs.failures c.args.size c.args.pages.now c.new-cursor.result.root c.new-cursor.result.next c.empty-catalog.result c.new-cursor.ensures.root c.new-cursor.ensures.first
-    c.empty-catalog.ensures.tables
+    c.empty-catalog.ensures
 
 pub returns-in_err-next_batch-clause-loaded : goal.returns-in_err-next_batch-clause-loaded
 returns-in_err-next_batch-clause-loaded g c = λ told tables rows used whole tree tell.
@@ -49,11 +49,11 @@ returns-clause-loaded g c = λ told tables rows used whole tree tell.
     (let gs = g.P.Pages in
     let none : c.batches.cursor.next ≡ None = search rules in
     all_loaded gs.below gs.tells gs.limits gs.map gs.count gs.failures c.args.size c.args.pages.now c.batches.pages c.batches.cursor.root c.batches.cursor.next c.batches.cursor.next c.batches.catalog c.batches.batch c.batches.invariant
-    none c.commit.new.self c.commit.ensures.tables c.commit.ensures.committed told tables rows used whole tree tell)
+    none told tables rows used whole tree tell)
 
 pub returns-clause-told : goal.returns-clause-told
 returns-clause-told g c = λ told rows used whole tree.
     (let gs = g.P.Pages in
     let none : c.batches.cursor.next ≡ None = search rules in
     all_told gs.below gs.tells gs.limits gs.map gs.count gs.failures c.args.size c.args.pages.now c.batches.pages c.batches.cursor.root c.batches.cursor.next c.batches.cursor.next c.batches.catalog c.batches.batch c.batches.invariant
-    none c.commit.new.self c.commit.ensures.tables c.commit.ensures.committed told rows used whole tree)
+    none told rows used whole tree)

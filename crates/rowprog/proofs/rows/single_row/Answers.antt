@@ -1,7 +1,8 @@
 use Rattle.std.proofs.Common.{sym, subst, map, IfErr}
 use Rattle.std.proofs.lemmas.Result.{err_from_is_err_and}
 use Rattle.sqlval.specs.Faults.{IsNotDiskFault}
-use Rattle.rowprog.specs.Rows.{AnswersBy, single_answer, values_of}
+use Rattle.terms.specs.Outcome.{AnswersBy}
+use Rattle.rowprog.specs.Rows.{single_answer, values_of}
 use Rattle.rowprog.proofs.Calm.{single_not_disk}
 use Rattle.rowprog.proofs.RowLemmas.{IsAnswerRefusal, single_refused, single_why, one_row}
 use Rattle.rowprog.proofs.rows.single_row.Goals as goal

@@ -1,7 +1,5 @@
-use Rattle.std.proofs.Common.{refl, rules}
-use Rattle.std.specs.Prelude.{OnErr}
-use Rattle.catalog.specs.Listed.{tables_of}
-use Rattle.session.proofs.ChangedPages.{changed, on_any_err, tells_changes}
+use Rattle.std.proofs.Common.{rules}
+use Rattle.session.proofs.ChangedPages.{changed_on, tells_changes}
 use Rattle.session.proofs.changes.insert.Goals as goal
 
 pub returns-clause-applies : goal.returns-clause-applies
@@ -9,6 +7,6 @@ returns-clause-applies g c db supported_forms on =
     let old = c.args.log.now in
     let catalog = c.args.catalog.now in
     let told = tells_changes old catalog c.args.writer.now db c.args.log.ghost_name c.args.writer.ghost_name c.args.buffer.ghost_name on in
-    let is = changed old c.insert.new.pages.log.now c.args.writer.now c.insert.new.pages.writer.now _ _ _ _ _ _ c.insert.ensures.kept _ catalog catalog db c.insert.result on
-    (λ same. record { files = same; committed = refl; tables = refl }) on.listed (c.insert.ensures.made told supported_forms) (on_any_err c.insert.result _ refl) in
+    let is = changed_on old c.insert.new.pages.log.now c.args.writer.now c.insert.new.pages.writer.now _ _ _ _ _ _ c.insert.ensures.kept _ catalog db _ c.insert.result on
+    c.current.ensures (c.insert.ensures.made told supported_forms) in
     search rules

@@ -5,6 +5,7 @@ use Rattle.record.specs.Record.{IsRecord}
 use Rattle.page.specs.Leaf.{Entry}
 use Rattle.pages.specs.Map.{PageMap}
 use Rattle.tabletree.specs.Calls.{InsertsRow}
+use Rattle.storage.specs.Listing.{IsAddedAfter}
 use Rattle.storage.proofs.AddedRows.{added, by_flag, comes_after, growth, no_rowid, not_there, outside, passed}
 use Rattle.storage.proofs.creating.add_row.Goals as goal
 
@@ -56,5 +57,7 @@ returns-clause-added g c told rows used free is =
     (subst (λ z. InsertsRow (g.P.Pages.map c.last.new.pages) (g.P.Pages.map c.insert.new.pages) (g.P.Pages.limits (g.P.Pages.below c.last.new.pages)).page 1 (record { rowid = z; payload = c.deref.result.now }) (Ok b))
     (to_z-of_z w64 c.in_ok-rowid.rowid fits) (c.in_ok-insert.ensures.inserted told_then))) in
     let after = comes_after c.in_ok-last.field-0 c.in_ok-rowid.rowid rows (c.in_ok-last.ensures.found told rows used is.free_are.whole is.tree) c.in_ok-rowid.ensures.next in
+    let put : IsAddedAfter (g.P.Pages.map c.args.pages.now) (g.P.Pages.map c.insert.new.pages) (g.P.Pages.limits (g.P.Pages.below c.args.pages.now)).page c.args.values.now rows used free c.in_ok-rowid.rowid =
     added c.rows_come_last.ensures _ _ _ c.args.values.now rows used free is row after (subst (λ bytes. IsRecord bytes c.args.values.now) (sym c.deref.ensures.value) c.in_ok-payload.ensures.is)
-    (by_flag c.rows_come_last.ensures _ _ _ c.args.values.now rows used free is row after b true c.if-not-branch.false (inserts rows used free is))
+    (by_flag c.rows_come_last.ensures _ _ _ c.args.values.now rows used free is row after b true c.if-not-branch.false (inserts rows used free is)) in
+    subst (IsAddedAfter (g.P.Pages.map c.args.pages.now) (g.P.Pages.map c.insert.new.pages) (g.P.Pages.limits (g.P.Pages.below c.args.pages.now)).page c.args.values.now rows used free) (sym (to_z-of_z w64 c.in_ok-rowid.rowid fits)) put

@@ -20,4 +20,4 @@ returns-clause-commits g c db whole applies =
     let may = may_commit old c.args.writer.now db applies in
     let page = first_of (view_of (files_of old) c.args.writer.now) in
     let header = applies.stored.stored.header in
-    (has_committed old new c.args.writer.now db applies (c.in_default.ensures.commits page header may) c.commit.ensures.disks.db refl refl c.commit-2.ensures.tables c.commit-2.ensures.committed, commit_holds old new c.args.writer.now db applies c.commit.ensures.disks.db (c.commit.ensures.crash page header may))
+    (has_committed old new c.args.writer.now db applies (c.in_default.ensures.commits page header may) c.commit.ensures.disks.db refl refl c.commit-2.ensures.current c.commit-2.ensures.committed, commit_holds old new c.args.writer.now db applies c.commit.ensures.disks.db (c.commit.ensures.crash page header may))

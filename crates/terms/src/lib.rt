@@ -1,0 +1,31 @@
+//! Expressions whose names are looked up, and their values over rows.
+#![tactic(auto)]
+
+mod collating;
+mod comparing;
+mod datum;
+mod evaluating;
+mod numbers;
+mod rows;
+mod sameness;
+mod texts;
+mod totals;
+mod tree;
+mod truth;
+
+ghost use Rattle.terms.specs.Laws.{ConvertsAsRelated, RefusesReals};
+
+pub use comparing::Manner;
+pub use datum::Datum;
+pub use evaluating::{evaluate, holds};
+pub use rows::{Env, SourceRow};
+pub use sameness::is_same;
+pub use tree::{
+    Aggregate, Arithmetic, Comparison, Function, Node, OneSided, Place, Term, TwoSided,
+};
+
+/// The affinity's function agrees with its relation.
+pub fn conversion_is_one()
+    ensures gives { ConvertsAsRelated }
+    ensures refuses { RefusesReals }
+{}
