@@ -12,3 +12,4 @@ mod replies;
 #[cfg(test)]
 mod same_files;
 #[cfg(test)]
+mod tree_crashes;
