@@ -22,7 +22,7 @@ use Rattle.catalog.specs.declared.tables.Column.{Column}
 use Rattle.catalog.specs.declared.tables.Table.{Table}
 use Rattle.bind.specs.Bound.{AreGiven, EachOf, IsValueOf, count_wanted, is_literal}
 use Rattle.bind.specs.Expressions.{resolve}
-use Rattle.bind.specs.Inserts.{AreColumns, IsInsertFault, IsListRefusal, IsRowsFault, has_unknown, places_in, written_values}
+use Rattle.bind.specs.Inserts.{AreColumns, IsInsertFault, IsListRefusal, IsRowsFault, IsTargetFault, has_unknown, places_in, written_values}
 use Rattle.bind.specs.Checked.{meant}
 use Rattle.bind.specs.Readings.{env_of}
 use Rattle.bind.specs.declared.scope.ScopeSource.{ScopeSource}
@@ -205,3 +205,8 @@ module _ (tables : List Table) (i : Insert) (t : Table) (found : table_named i.t
   source_refused w l (inr (inl h)) = inr (inl (inr (t, found, inr h)))
   source_refused w l (inr (inr (inl h))) = inr (inr (inl h))
   source_refused w l (inr (inr (inr h))) = inr (inr (inr (h.0, (t, found, l, h.1, h.2))))
+
+-- a list that is refused
+pub columns_refused : (tables : List Table) (i : Insert) (t : Table) → table_named i.table tables ≡ Some t → (f : Fault) → (f ≡ fault.Memory) ⊎ IsListRefusal t.columns i.columns (refusal_of f) → IsTargetFault tables i f
+columns_refused tables i t named f (inl memory) = inl memory
+columns_refused tables i t named f (inr why) = inr (inr (t, named, why))

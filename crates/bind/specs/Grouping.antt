@@ -33,7 +33,7 @@ abbrev pub has_total : Term → Bool
 has_total = has true is_total
 
 -- the place of the first key that is this term
-abbrev key_from : ℕ → List Term → Term → Option Term
+abbrev pub key_from : ℕ → List Term → Term → Option Term
 key_from k [] e = None
 key_from k (key ∷ keys) e = if same_term key e then Some (Key k e) else key_from (suc k) keys e
 

@@ -32,14 +32,14 @@ use Rattle.terms.specs.declared.tree.Place.TheVariants.{At}
 abbrev pub Lookup : Type 0
 Lookup = Name → Checked (List ScopeColumn × Bool)
 
-abbrev source_name : Source → Name
+abbrev pub source_name : Source → Name
 source_name s = folded (unwrap_or s.alias s.name)
 
 -- the sources of a query in the order of their text, the first as though after a comma
 abbrev pub sources_of : Query → List Join
 sources_of q = elim q.from [ None ↦ [] | Some f ↦ record { kind = join.Comma; source = f.first; condition = None } ∷ f.joins ]
 
-abbrev resolve_join : List ScopeSource → JoinKind → Option Tree → Checked Condition
+abbrev pub resolve_join : List ScopeSource → JoinKind → Option Tree → Checked Condition
 resolve_join scope kind None = good Always
 resolve_join scope join.Left (Some e) = known_map OrNulls (resolve false scope e)
 resolve_join scope kind (Some e) = known_map Where (resolve false scope e)
@@ -64,7 +64,7 @@ stars_from i p [] = []
 stars_from i p (s ∷ ss) = (if p s.name && not s.needs_name then cells_from i 0 s.columns else []) ++ stars_from (suc i) p ss
 
 -- the name of a result that is a plain column
-abbrev plain_name : Tree → Option Name
+abbrev pub plain_name : Tree → Option Name
 plain_name (tree.Column q n) = Some (folded n)
 plain_name _ = None
 
@@ -98,13 +98,13 @@ resolve_items scope [] = good []
 resolve_items scope (i ∷ is) = both (λ x y. x ++ y) (resolve_item scope i) (resolve_items scope is)
 
 -- the result of that AS name
-abbrev as_named : Name → List ResultItem → Option Tree
+abbrev pub as_named : Name → List ResultItem → Option Tree
 as_named n [] = None
 as_named n (Of e (Some m) ∷ is) = if is_same_name n m then Some e else as_named n is
 as_named n (_ ∷ is) = as_named n is
 
 -- a place among the results, an AS name of theirs, or an expression
-abbrev resolve_order : List ScopeSource → List ResultItem → List (Term × ScopeColumn) → Tree → Checked Term
+abbrev pub resolve_order : List ScopeSource → List ResultItem → List (Term × ScopeColumn) → Tree → Checked Term
 resolve_order scope items results (tree.Integer zero) = bad (Const Null) Misuse
 resolve_order scope items results (tree.Integer (suc k)) =
     elim (slice_get results k) [ None ↦ unless (not (list_any (is_open_item scope) items)) Misuse (good (Const Null)) | Some r ↦ good r.0 ]
@@ -117,10 +117,10 @@ resolve_filter scope None = good None
 resolve_filter scope (Some e) = known_map Some (resolve false scope e)
 
 -- an ORDER BY expression that is none of the results
-abbrev is_other : List (Term × ScopeColumn) → Checked Term → Bool
+abbrev pub is_other : List (Term × ScopeColumn) → Checked Term → Bool
 is_other results k = is_good k && not (list_any (λ r. same_term r.0 (meant k)) results)
 
-abbrev offset_of : Option Limit → ℕ
+abbrev pub offset_of : Option Limit → ℕ
 offset_of None = 0
 offset_of (Some l) = unwrap_or l.offset 0
 

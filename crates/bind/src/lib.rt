@@ -19,7 +19,8 @@ ghost use Rattle.bind.specs.Laws.{CalmIsNotRefused, KnowsListed};
 ghost use Rattle.bind.specs.Supported.{RefusesAsDefined};
 
 pub use expressions::bind_term;
-pub use inserting::{BoundInsert, bind_insert};
+pub use inserting::{BoundInsert, Target, bind_insert, bind_target};
+pub use names::{find_table, missing};
 pub use queries::{BoundQuery, BoundSource, Output, bind_query};
 pub use reading::{Condition, Reading};
 pub use scope::{ScopeColumn, ScopeSource};

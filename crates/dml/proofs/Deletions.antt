@@ -1,10 +1,10 @@
 -- A DELETE of all rows of a listed table, row by row.
-use Rattle.std.proofs.Common.{◌≡◌, refl, sym, ap, ◌∙◌, ℤ, ◌<ℤ◌, Bool, true, false, not, ◌&&◌, cond, List, [], ◌∷◌, map, Option, Some, None, Ok, Err}
+use Rattle.std.proofs.Common.{◌≡◌, refl, sym, ap, subst, ◌∙◌, ℤ, ◌<ℤ◌, Bool, true, false, not, ◌&&◌, cond, List, [], ◌∷◌, ◌++◌, append_assoc, map, Option, Some, None, Ok, Err}
 use Rattle.std.specs.Cmp.{int_cmp_is, tied_itself}
 use Rattle.std.specs.Cmp.Lexicographic.{pointwise}
 use Rattle.std.specs.FinMap.Entries.{find, find-put, where_key}
 use Rattle.std.specs.Ordering.{eq_by_cmp, int_cmp, is_eq}
-use Rattle.std.specs.declared.cmp.Ordering.TheVariants.{Less}
+use Rattle.std.specs.declared.cmp.Ordering.TheVariants.{Greater, Less}
 use Rattle.std.proofs.lemmas.Cmp.{int_cmp_total, int_eq_equiv, nat_list_cmp_total, nat_list_eq_equiv}
 use Rattle.std.proofs.lemmas.Map.Lookups.{exact_bytes}
 use Rattle.std.proofs.lemmas.Map.Views.{tells_apart}
@@ -20,7 +20,8 @@ use Rattle.catalog.specs.Listed.{has_only_tables, plain_table}
 use Rattle.catalog.specs.Named.{IsNamed, KeepsNamed, OneDatabase}
 use Rattle.catalog.specs.declared.tables.Table.{Table}
 use Rattle.rowprog.specs.Rows.{TableRow}
-use Rattle.dml.specs.Agreement.{DeletesRows, IsStill}
+use Rattle.std.specs.Prelude.{filter}
+use Rattle.dml.specs.Agreement.{DeletesRows, DeletesSome, IsStill}
 use Rattle.dml.specs.Constraints.{table_of}
 use Rattle.dml.specs.RowChanges.{Fire, delete_row}
 use Rattle.dml.proofs.Folding.{put_again, put_there}
@@ -34,7 +35,7 @@ same_value (Int n) = int_eq_equiv.refl n
 same_value (Text t) = nat_list_eq_equiv.refl t
 same_value (Blob b) = nat_list_eq_equiv.refl b
 
-same_values : (vs : List Value) → pointwise is_same_value vs vs ≡ true
+pub same_values : (vs : List Value) → pointwise is_same_value vs vs ≡ true
 same_values [] = refl
 same_values (v ∷ vs) = ap (λ b. b && pointwise is_same_value vs vs) (same_value v) ∙ same_values vs
 
@@ -58,9 +59,38 @@ first_gone r rows rises =
     ap (λ o. cond (not (is_eq o)) (r ∷ where_key int_cmp (λ k. not (eq_by_cmp int_cmp r.0 k)) rows) (where_key int_cmp (λ k. not (eq_by_cmp int_cmp r.0 k)) rows)) (tied_itself int_cmp_total r.0)
     ∙ others_stay r.0 rows rises
 
-rest_rises : (r : TableRow) (rows : List TableRow) → Rises (r ∷ rows) → Rises rows
+pub rest_rises : (r : TableRow) (rows : List TableRow) → Rises (r ∷ rows) → Rises rows
 rest_rises r [] rises = tt
 rest_rises r (next ∷ rows) rises = rises.1
+
+-- ---- a row after others
+
+pub climbs_over : (low : ℤ) (kept : List TableRow) (r : TableRow) (rows : List TableRow) → Climbs low (kept ++ (r ∷ rows)) → low <ℤ r.0
+climbs_over low [] r rows climb = climb.0
+climbs_over low (k ∷ kept) r rows climb = further low k.0 r.0 climb.0 (climbs_over k.0 kept r rows climb.1)
+
+pub found_behind : (kept : List TableRow) (r : TableRow) (rows : List TableRow) → Rises (kept ++ (r ∷ rows)) → find int_cmp r.0 (kept ++ (r ∷ rows)) ≡ Some r.1
+found_behind [] r rows rises = found_first r rows
+found_behind (k ∷ kept) r rows rises =
+    ap (λ o. cond (is_eq o) (Some k.1) (find int_cmp r.0 (kept ++ (r ∷ rows)))) (sym (int_cmp_is r.0 k.0 Greater (climbs_over k.0 kept r rows rises)))
+    ∙ found_behind kept r rows (rest_rises k (kept ++ (r ∷ rows)) rises)
+
+pub gone_behind : (kept : List TableRow) (r : TableRow) (rows : List TableRow) → Rises (kept ++ (r ∷ rows)) → where_key int_cmp (λ k. not (eq_by_cmp int_cmp r.0 k)) (kept ++ (r ∷ rows)) ≡ kept ++ rows
+gone_behind [] r rows rises = first_gone r rows rises
+gone_behind (k ∷ kept) r rows rises =
+    ap (λ o. cond (not (is_eq o)) (k ∷ where_key int_cmp (λ j. not (eq_by_cmp int_cmp r.0 j)) (kept ++ (r ∷ rows))) (where_key int_cmp (λ j. not (eq_by_cmp int_cmp r.0 j)) (kept ++ (r ∷ rows))))
+    (sym (int_cmp_is r.0 k.0 Greater (climbs_over k.0 kept r rows rises)))
+    ∙ ap (λ (rest : List TableRow). k ∷ rest) (gone_behind kept r rows (rest_rises k (kept ++ (r ∷ rows)) rises))
+
+-- without it they rise still
+climb_still : (low : ℤ) (kept : List TableRow) (r : TableRow) (rows : List TableRow) → Climbs low (kept ++ (r ∷ rows)) → Climbs low (kept ++ rows)
+climb_still low [] r [] climb = tt
+climb_still low [] r (s ∷ rows) climb = (further low r.0 s.0 climb.0 climb.1.0, climb.1.1)
+climb_still low (k ∷ kept) r rows climb = (climb.0, climb_still k.0 kept r rows climb.1)
+
+rise_still : (kept : List TableRow) (r : TableRow) (rows : List TableRow) → Rises (kept ++ (r ∷ rows)) → Rises (kept ++ rows)
+rise_still [] r rows rises = rest_rises r rows rises
+rise_still (k ∷ kept) r rows rises = climb_still k.0 kept r rows rises
 
 -- ---- all rows
 
@@ -81,7 +111,7 @@ is_there (Some (ATrigger g)) t e = absurd cc
 is_there None t e = absurd cc
 
 -- a table that is put where it stands changes nothing
-put_itself : OneDatabase → KeepsNamed → (db : Database) (name : Name) (t : database.Table) → IsNamed db → table_of db name ≡ Ok t → with_object db name (ATable t) ≡ db
+pub put_itself : OneDatabase → KeepsNamed → (db : Database) (name : Name) (t : database.Table) → IsNamed db → table_of db name ≡ Ok t → with_object db name (ATable t) ≡ db
 put_itself one keeps db name t named is = one (with_object db name (ATable t)) db (keeps db name (ATable t) named) named same
   where
     by_test : (other : Name) (b : Bool) → eq_by_cmp name_order (folded other) (folded name) ≡ b → cond b (Some (ATable t)) (object db other) ≡ object db other
@@ -114,6 +144,51 @@ module _ (fire : Fire) (name : Name) (table : Table) (still : IsStill fire) (kee
     where
       again : (more : List TableRow) → with_rows (with_rows db rows) more ≡ with_rows db more
       again more = put_again (folded name) (ATable (plain_table table rows)) (ATable (plain_table table more)) db
+
+  -- ---- some rows
+
+  row_leaves : (db : Database) (kept : List TableRow) (r : TableRow) (rows : List TableRow) → has_only_tables db ≡ true → table_of db name ≡ Ok (plain_table table (kept ++ (r ∷ rows))) → Rises (kept ++ (r ∷ rows))
+      → delete_row fire name db r.0 ≡ Ok (with_rows db (kept ++ rows))
+  row_leaves db kept r rows only is rises =
+      let found : row (plain_table table (kept ++ (r ∷ rows))) r.0 ≡ Some r.1 = found_behind kept r rows rises in
+      let gone : without_row r.0 (plain_table table (kept ++ (r ∷ rows))) ≡ plain_table table (kept ++ rows) = ap (plain_table table) (gone_behind kept r rows rises) in
+      let later : has_only_tables (with_rows db (kept ++ rows)) ≡ true = keeps db name (plain_table table (kept ++ rows)) only in
+      rw (is, found, still, is, found, same_values r.1, gone, still, ◌then◌) refl
+
+  module _ (gone : TableRow → Bool) where
+    abbrev stays : TableRow → Bool
+    stays r = not (gone r)
+
+    abbrev Folded : Database → List TableRow → List TableRow → Type 0
+    Folded db kept rows = fold_answer (delete_row fire name) db (map (λ row. row.0) (filter gone rows)) ≡ Ok (with_rows db (kept ++ filter stays rows))
+
+    folds_some : (rows : List TableRow) (kept : List TableRow) (db : Database) → has_only_tables db ≡ true → table_of db name ≡ Ok (plain_table table (kept ++ rows)) → Rises (kept ++ rows) → with_rows db (kept ++ rows) ≡ db
+        → Folded db kept rows
+    folds_some [] kept db only is rises there = ap (λ (d : Database). Ok d) (sym there)
+    folds_some (r ∷ rows) kept db only is rises there = by_test (λ now there_now. folds_some rows now there_now) (gone r) refl
+      where
+        again : (more : List TableRow) → with_rows (with_rows db (kept ++ rows)) more ≡ with_rows db more
+        again more = put_again (folded name) (ATable (plain_table table (kept ++ rows))) (ATable (plain_table table more)) db
+
+        joined : (after : List TableRow) → (kept ++ (r ∷ [])) ++ after ≡ kept ++ (r ∷ after)
+        joined after = append_assoc kept (r ∷ []) after
+
+        by_test : ((now : List TableRow) (d : Database) → has_only_tables d ≡ true → table_of d name ≡ Ok (plain_table table (now ++ rows)) → Rises (now ++ rows) → with_rows d (now ++ rows) ≡ d → Folded d now rows)
+            → (test : Bool) → gone r ≡ test → Folded db kept (r ∷ rows)
+        by_test on true it =
+            rw (it)
+            (ap (λ (a : Answer Database). a then λ b. fold_answer (delete_row fire name) b (map (λ row. row.0) (filter gone rows))) (row_leaves db kept r rows only is rises)
+            ∙ (on kept (with_rows db (kept ++ rows)) (keeps db name (plain_table table (kept ++ rows)) only) (put_there db name (plain_table table (kept ++ rows))) (rise_still kept r rows rises) (again (kept ++ rows))
+            ∙ ap (λ (d : Database). Ok d) (again (kept ++ filter stays rows))))
+        by_test on false it =
+            rw (it)
+            (on (kept ++ (r ∷ [])) db only (subst (λ (l : List TableRow). table_of db name ≡ Ok (plain_table table l)) (sym (joined rows)) is) (subst Rises (sym (joined rows)) rises)
+            (subst (λ (l : List TableRow). with_rows db l ≡ db) (sym (joined rows)) there)
+            ∙ ap (λ (l : List TableRow). Ok (with_rows db l)) (joined (filter stays rows)))
+
+pub deletes_some : KeepsOnlyTables → OneDatabase → KeepsNamed → DeletesSome
+deletes_some keeps one named fire name db table rows gone still only in_order is fit =
+    folds_some fire name table still keeps gone rows [] db only is (fit_rows_rise (plain_table table rows) fit) (put_itself one named db name (plain_table table rows) in_order is)
 
 pub deletes_rows : KeepsOnlyTables → OneDatabase → KeepsNamed → DeletesRows
 deletes_rows keeps one named fire name db table rows still only in_order is fit =

@@ -110,7 +110,7 @@ climb_rising low [] climb = refl
 climb_rising low (row ∷ rows) climb =
     both_true (is_lt (int_cmp low row.0)) (is_rising int_cmp (row.0 ∷ map (λ row. row.0) rows)) (is_before low row.0 climb.0) (climb_rising row.0 rows climb.1)
 
-rises_rising : (rows : List TableRow) → Rises rows → is_rising int_cmp (map (λ row. row.0) rows) ≡ true
+pub rises_rising : (rows : List TableRow) → Rises rows → is_rising int_cmp (map (λ row. row.0) rows) ≡ true
 rises_rising [] rises = refl
 rises_rising (row ∷ rows) rises = climb_rising row.0 rows rises
 

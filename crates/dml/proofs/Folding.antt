@@ -46,16 +46,16 @@ given_at_each (c ∷ columns) (p ∷ places) given (v ∷ values) long each =
 
 -- ---- a table without constraints
 
-abbrev not_null_holds : List TableColumn → List Value → Bool
+abbrev pub not_null_holds : List TableColumn → List Value → Bool
 not_null_holds (c ∷ cs) (v ∷ vs) = not (c.is_filled && is_null v) && not_null_holds cs vs
 not_null_holds _ _ = true
 
-all_filled : (columns : List Column) (values : List Value) → not_null_holds (map plain_column columns) values ≡ true
+pub all_filled : (columns : List Column) (values : List Value) → not_null_holds (map plain_column columns) values ≡ true
 all_filled [] values = refl
 all_filled (c ∷ columns) [] = refl
 all_filled (c ∷ columns) (v ∷ values) = all_filled columns values
 
-no_indexes : (db : Database) (name : Name) → has_only_tables db ≡ true → indexes_of db name ≡ []
+pub no_indexes : (db : Database) (name : Name) → has_only_tables db ≡ true → indexes_of db name ≡ []
 no_indexes [] name h = refl
 no_indexes ((n, ATable t) ∷ db) name h = no_indexes db name h
 no_indexes ((n, AnIndex i) ∷ db) name h = absurd (false≢true h)

@@ -32,7 +32,7 @@ use Rattle.bind.specs.declared.scope.ScopeSource.{ScopeSource}
 use Rattle.terms.specs.Terms.{Term}
 use Rattle.bind.specs.Views.{look_up}
 use Rattle.dml.specs.Binding.{IsGivenAs, IsRealRefused, IsInsertOf, row_values, row_with}
-use Rattle.dml.specs.Changes.{Given, GivenRows, Inserts, Resolved, no_outer, resolve_change}
+use Rattle.dml.specs.Changes.{Given, GivenRows, Inserts, Resolved, no_outer, resolve_change, resolve_given}
 use Rattle.dml.specs.Inserting.{given_at}
 use Rattle.dml.proofs.PlacesByName.{column_place, list_places, listed_row, own_row, unknown_list, doubled_list}
 
@@ -253,7 +253,7 @@ all_is i [] = refl
 all_is i (c ∷ cs) = ap (λ ps. i ∷ ps) (ap (λ j. all_from j (seen cs)) (one_more i) ∙ all_is (i + 1) cs)
 
 -- the places of the values' columns
-abbrev value_places : Table → Option (List Name) → List ℕ
+abbrev pub value_places : Table → Option (List Name) → List ℕ
 value_places t None = map (λ p. p) (range_with_len 0 (length t.columns))
 value_places t (Some ns) = map (column_place t.columns) ns
 
@@ -324,6 +324,57 @@ module _ (db : Database) (n : Name) (written : List (List Tree)) (t : Table) (fo
       → Contains (faults (resolve_change db no_outer (change.Insert (insertion n columns (given.Rows written))))) Misuse
   counts_refused columns c = has_fault columns Misuse (Contains-append_right (faults (places_known (source_seen n t) columns)) (faults (rows_known (wanted (source_seen n t) columns) written)) Misuse
       (subst (λ w. Contains (faults (rows_known w written)) Misuse) (sym (wanted_is columns)) (count_refused (count_wanted columns t) written c)))
+
+-- ---- with any source
+
+abbrev rest_with : Database → Name → Option (List Name) → InsertSource → ScopeSource → Checked Resolved
+rest_with db n columns source s = both (Inserts (folded n)) (places_known s columns) (resolve_given db no_outer (wanted s columns) source)
+
+module _ (db : Database) (n : Name) (source : InsertSource) (t : Table) (found : look_up db n ≡ good (columns_seen t)) (once : is_twice_named t.columns ≡ false) where
+  places_of_list : (columns : Option (List Name)) → AreColumns t.columns columns → places_known (source_seen n t) columns ≡ good (value_places t columns)
+  places_of_list None l = ap good (all_is 0 t.columns)
+  places_of_list (Some ns) l = list_places n t once ns l.0 l.1
+
+  count_is : (columns : Option (List Name)) → wanted (source_seen n t) columns ≡ Some (count_wanted columns t)
+  count_is None = ap Some (seen_count t.columns)
+  count_is (Some ns) = refl
+
+  -- where the source isn't refused, the insertion isn't
+  pub source_stands : (columns : Option (List Name)) (given_as : Given) → AreColumns t.columns columns → resolve_given db no_outer (Some (count_wanted columns t)) source ≡ good given_as
+      → resolve_change db no_outer (change.Insert (insertion n columns source)) ≡ good (Inserts (folded n) (value_places t columns) given_as)
+  source_stands columns given_as l stands_so =
+      target_known n (look_up db n) t (rest_with db n columns source) found
+      ∙ (ap (λ p. both (Inserts (folded n)) p (resolve_given db no_outer (wanted (source_seen n t) columns) source)) (places_of_list columns l)
+      ∙ (ap (λ w. both (Inserts (folded n)) (good (value_places t columns)) (resolve_given db no_outer w source)) (count_is columns)
+      ∙ ap (both (Inserts (folded n)) (good (value_places t columns))) stands_so))
+
+  has_part : (columns : Option (List Name)) (r : Refusal) → Contains (faults (places_known (source_seen n t) columns) ++ faults (resolve_given db no_outer (wanted (source_seen n t) columns) source)) r
+      → Contains (faults (resolve_change db no_outer (change.Insert (insertion n columns source)))) r
+  has_part columns r h =
+      subst (λ k. Contains (faults k) r) (sym (target_known n (look_up db n) t (rest_with db n columns source) found))
+      (subst (λ rs. Contains rs r) (sym (both_faults (Inserts (folded n)) (places_known (source_seen n t) columns) (resolve_given db no_outer (wanted (source_seen n t) columns) source))) h)
+
+  -- a refusal of the source is one of the insertion
+  pub source_refused : (columns : Option (List Name)) (r : Refusal) → Contains (faults (resolve_given db no_outer (Some (count_wanted columns t)) source)) r
+      → Contains (faults (resolve_change db no_outer (change.Insert (insertion n columns source)))) r
+  source_refused columns r h = has_part columns r (Contains-append_right (faults (places_known (source_seen n t) columns)) (faults (resolve_given db no_outer (wanted (source_seen n t) columns) source)) r
+      (subst (λ w. Contains (faults (resolve_given db no_outer w source)) r) (sym (count_is columns)) h))
+
+  -- so is one of its list of columns
+  pub columns_refused : (columns : Option (List Name)) (r : Refusal) → IsListRefusal t.columns columns r
+      → Contains (faults (resolve_change db no_outer (change.Insert (insertion n columns source)))) r
+  columns_refused columns r h = has_part columns r (Contains-append_left (faults (places_known (source_seen n t) columns)) (faults (resolve_given db no_outer (wanted (source_seen n t) columns) source)) r
+      (list_fault db n [] t found once columns r h))
+
+  -- the values by their places
+  pub row_placed : (columns : Option (List Name)) → AreColumns t.columns columns → (vs : List Value) → length vs ≡ count_wanted columns t
+      → row_with t (value_places t columns) vs ≡ map (given_at vs) (places_in t.columns columns)
+  row_placed columns l vs k = row_is db n [] t found once columns l vs k
+
+-- no table or view has the name
+pub table_missing : (db : Database) (n : Name) (columns : Option (List Name)) (source : InsertSource) → look_up db n ≡ bad ([], false) NoSuch
+    → Contains (faults (resolve_change db no_outer (change.Insert (insertion n columns source)))) NoSuch
+table_missing db n columns source none = target_missing n (look_up db n) (rest_with db n columns source) none
 
 -- ---- among listed tables
 

@@ -1,22 +1,21 @@
 -- Rows go into a tree one after another.
-use Rattle.std.proofs.Common.{◌≡◌, refl, sym, ap, subst, ◌∙◌, inl, inr, ◌≤◌, ◌<◌, ◌+◌, ℕ, zero, suc, ℤ, Bool, true, false, List, [], ◌∷◌, ◌++◌, length, map, take, slice_index_or, None, Ok, Err, IsTrue, append_assoc, arith}
+use Rattle.std.proofs.Common.{◌≡◌, refl, sym, ap, subst, ◌∙◌, ◌≤◌, ◌<◌, ◌+◌, ℕ, zero, suc, ℤ, Bool, true, false, List, [], ◌∷◌, ◌++◌, length, map, take, slice_index_or, None, Ok, Err, IsTrue, append_assoc, arith}
 use Rattle.std.proofs.lemmas.Grind.{common_steps}
 use Rattle.std.proofs.lemmas.List.{append-nil, map_more, take_all}
 use Rattle.std.specs.Prelude.{Result, IsErrAnd, ⊤}
 use Rattle.sqlval.specs.declared.fault.Fault.{Fault}
 use Rattle.page.specs.Leaf.{Entry}
-use Rattle.pages.specs.Calls.{Limits, Causes}
+use Rattle.pages.specs.Calls.{IsOutsideOrFull, Limits, Causes}
 use Rattle.pages.specs.Counting.{Moves, fresh}
 use Rattle.pages.specs.Map.{PageMap}
 use Rattle.pages.proofs.Moving.{in_sequence}
 use Rattle.freelist.specs.Calls.{KeepsHeader}
-use Rattle.tabletree.specs.Calls.{BecomesRows, InsertsRow, IsGrowthRefusal, Stands}
+use Rattle.tabletree.specs.Calls.{BecomesRows, InsertsRow, Stands}
 use Rattle.tabletree.specs.Rows.{payload_at, with_row}
 use Rattle.tabletree.proofs.Orders.{payload_within, with_within}
 use Rattle.dml.specs.NewRows.{entry_in}
 use Rattle.dml.specs.declared.inserting.RowRecord.{RowRecord}
-use Rattle.dml.specs.Putting.{AreUnder, BecomesWithin, ComeAfter, PutsAfter, PutsLast}
-use Rattle.dml.specs.Trees.{CannotGrow}
+use Rattle.dml.specs.Putting.{AreUnder, ComeAfter, PutsAfter, PutsLast}
 
 -- ---- one row
 
@@ -39,21 +38,21 @@ as_entry old new size root made payload rowid there is same_rowid same_payload s
 module _ (old new : PageMap) (size root : ℕ) (row : Entry) where
   pub put_last : InsertsRow old new size root row (Ok true) → PutsLast old new size root row (Ok tt)
   put_last inserts rows used free is under =
-      subst (λ (all : List Entry). BecomesWithin old new size root (suc is.tree.depth) all used free) (with_last row rows under) (inserts rows used free is).1
+      subst (λ (all : List Entry). BecomesRows old new size root all used free) (with_last row rows under) (inserts rows used free is).1
 
   pub never_there : InsertsRow old new size root row (Ok false) → (rows : List Entry) (used free : List ℕ) → Stands old size root rows used free → AreUnder row.rowid rows → ⊥
   never_there inserts rows used free is under = (inserts rows used free is).0 (not_there row rows under)
 
   pub put_refused : (fault : Fault) (result : Result ⊤ Fault) → IsErrAnd result (λ e. e ≡ fault) → InsertsRow old new size root row (Err fault) → PutsLast old new size root row result
   put_refused fault (Ok done) same inserts = absurd same
-  put_refused fault (Err e) same inserts = λ rows used free is under. subst (λ (f : Fault). IsGrowthRefusal root is.tree.depth f) (sym same) (inserts rows used free is)
+  put_refused fault (Err e) same inserts = λ rows used free is under. subst IsOutsideOrFull (sym same) (inserts rows used free is)
 
 -- ---- several rows
 
 no_fresh : (a n : ℕ) → fresh a a n ≡ 0
 no_fresh a n = grind (arith, common_steps)
 
-unmoved : (pages : PageMap) (used free : List ℕ) → Moves pages pages used free used free
+pub unmoved : (pages : PageMap) (used free : List ℕ) → Moves pages pages used free used free
 unmoved pages used free = record {
   longer = omega arith;
   counts = λ n. (let none = no_fresh (length pages) n in omega (arith, none));
@@ -61,18 +60,18 @@ unmoved pages used free = record {
   whole = λ size whole. whole;
 }
 
-keeps_then : (a b c : PageMap) → KeepsHeader a b → KeepsHeader b c → KeepsHeader a c
+pub keeps_then : (a b c : PageMap) → KeepsHeader a b → KeepsHeader b c → KeepsHeader a c
 keeps_then a b c first then header is = (let now = first header is in then (record header { freelist_trunk = now.0; freelist_count = now.1 }) now.2)
 
-keeps_all : (pages : PageMap) → KeepsHeader pages pages
+pub keeps_all : (pages : PageMap) → KeepsHeader pages pages
 keeps_all pages header is = (header.freelist_trunk, header.freelist_count, is)
 
 -- a tree that stands, before any row is put in
 pub at_first : (pages : PageMap) (size root : ℕ) (rows : List Entry) (used free : List ℕ) (is : Stands pages size root rows used free)
-    → BecomesWithin pages pages size root (is.tree.depth + 0) (rows ++ []) used free
+    → BecomesRows pages pages size root (rows ++ []) used free
 at_first pages size root rows used free is =
-    subst (λ (all : List Entry). BecomesWithin pages pages size root (is.tree.depth + 0) all used free) (sym (append-nil rows))
-    (record { now_used = used; now_free = free; stands = is; moves = unmoved pages used free; header = keeps_all pages }, omega arith)
+    subst (λ (all : List Entry). BecomesRows pages pages size root all used free) (sym (append-nil rows))
+    (record { now_used = used; now_free = free; stands = is; moves = unmoved pages used free; header = keeps_all pages })
 
 -- each row comes after those before it
 pub comes_at : {S : Type 0} (h : S → Entry) (items : List S) (i : ℕ) (item : S) → i < length items → item ≡ slice_index_or items i item
@@ -85,50 +84,38 @@ comes_at h (first ∷ items) (suc i) item lt is rows come =
     (comes_at h items i item (omega (arith, lt)) is (rows ++ h first ∷ []) come.1)
 
 -- after some of the rows the tree has become these
-abbrev pub HaveBeenPut : PageMap → PageMap → ℕ → ℕ → List Entry → List Entry → ℕ → Type 0
-HaveBeenPut old now size root all done count =
-    (rows : List Entry) (used free : List ℕ) (is : Stands old size root rows used free) → ComeAfter rows all → BecomesWithin old now size root (is.tree.depth + count) (rows ++ done) used free
+abbrev pub HaveBeenPut : PageMap → PageMap → ℕ → ℕ → List Entry → List Entry → Type 0
+HaveBeenPut old now size root all done =
+    (rows : List Entry) (used free : List ℕ) → Stands old size root rows used free → ComeAfter rows all → BecomesRows old now size root (rows ++ done) used free
 
-module _ (old mid new : PageMap) (size root : ℕ) (all done : List Entry) (row : Entry) (count : ℕ) (so_far : HaveBeenPut old mid size root all done count)
+module _ (old mid new : PageMap) (size root : ℕ) (all done : List Entry) (row : Entry) (so_far : HaveBeenPut old mid size root all done)
     (comes : (rows : List Entry) → ComeAfter rows all → AreUnder row.rowid (rows ++ done)) where
-  pub one_on : PutsLast mid new size root row (Ok tt) → HaveBeenPut old new size root all (done ++ row ∷ []) (count + 1)
+  pub one_on : PutsLast mid new size root row (Ok tt) → HaveBeenPut old new size root all (done ++ row ∷ [])
   one_on puts rows used free is come =
-      let before = so_far rows used free is come in
-      let was = before.0 in
-      let after = puts (rows ++ done) was.now_used was.now_free was.stands (comes rows come) in
-      let now = after.0 in
-      subst (λ (them : List Entry). BecomesWithin old new size root (is.tree.depth + (count + 1)) them used free) (append_assoc rows done (row ∷ [])) (
-        record {
-          now_used = now.now_used;
-          now_free = now.now_free;
-          stands = now.stands;
-          moves = in_sequence old mid new used free was.now_used was.now_free now.now_used now.now_free was.moves now.moves;
-          header = keeps_then old mid new was.header now.header;
-        },
-        omega (arith, before.1, after.1),
-      )
+      let was = so_far rows used free is come in
+      let now = puts (rows ++ done) was.now_used was.now_free was.stands (comes rows come) in
+      subst (λ (them : List Entry). BecomesRows old new size root them used free) (append_assoc rows done (row ∷ [])) (record {
+        now_used = now.now_used;
+        now_free = now.now_free;
+        stands = now.stands;
+        moves = in_sequence old mid new used free was.now_used was.now_free now.now_used now.now_free was.moves now.moves;
+        header = keeps_then old mid new was.header now.header;
+      })
 
-  pub one_stops : (fault : Fault) (result : Result ⊤ Fault) → IsErrAnd result (λ e. e ≡ fault) → count < length all → PutsLast mid new size root row (Err fault) → PutsAfter old new size root all result
-  one_stops fault (Ok x) same lt puts = absurd same
-  one_stops fault (Err e) same lt puts = λ rows used free is come.
-      (let before = so_far rows used free is come in
-      let was = before.0 in
-      subst (λ (f : Fault). CannotGrow root is.tree.depth (length all) f) (sym same)
-      (refused is.tree.depth was.stands.tree.depth before.1 (puts (rows ++ done) was.now_used was.now_free was.stands (comes rows come))))
-    where
-      refused : (depth deep : ℕ) → deep ≤ depth + count → IsGrowthRefusal root deep fault → CannotGrow root depth (length all) fault
-      refused depth deep le (inl outside) = inl outside
-      refused depth deep le (inr full) = inr (full.0, (let most = full.1 in omega (arith, le, lt, most)))
+  pub one_stops : (fault : Fault) (result : Result ⊤ Fault) → IsErrAnd result (λ e. e ≡ fault) → PutsLast mid new size root row (Err fault) → PutsAfter old new size root all result
+  one_stops fault (Ok x) same puts = absurd same
+  one_stops fault (Err e) same puts = λ rows used free is come.
+      (let was = so_far rows used free is come in subst IsOutsideOrFull (sym same) (puts (rows ++ done) was.now_used was.now_free was.stands (comes rows come)))
 
-pub all_put : (old new : PageMap) (size root : ℕ) (all done : List Entry) (count : ℕ) → done ≡ all → HaveBeenPut old new size root all done count → PutsAfter old new size root all (Ok tt)
-all_put old new size root all done count same put rows used free is come =
-    subst (λ (them : List Entry). BecomesRows old new size root (rows ++ them) used free) same (put rows used free is come).0
+pub all_put : (old new : PageMap) (size root : ℕ) (all done : List Entry) → done ≡ all → HaveBeenPut old new size root all done → PutsAfter old new size root all (Ok tt)
+all_put old new size root all done same put rows used free is come =
+    subst (λ (them : List Entry). BecomesRows old new size root (rows ++ them) used free) same (put rows used free is come)
 
 -- What is so after some of the rows were put in.
-pub record HasPut {P K : Type 0} (below : P → K) (tells : K → Bool) (limits : K → Limits) (pages : P → PageMap) (failures : P → ℕ × ℕ) (old now : P) (root : ℕ) (all done : List Entry) (count : ℕ) : Type 0 where
+pub record HasPut {P K : Type 0} (below : P → K) (tells : K → Bool) (limits : K → Limits) (pages : P → PageMap) (failures : P → ℕ × ℕ) (old now : P) (root : ℕ) (all done : List Entry) : Type 0 where
   pub kept : below now ≡ below old
   pub causes : Causes {T = ⊤} (Ok tt) (failures old) (failures now) ⊥
-  pub put : IsTrue (tells (below old)) → HaveBeenPut (pages old) (pages now) (limits (below old)).page root all done count
+  pub put : IsTrue (tells (below old)) → HaveBeenPut (pages old) (pages now) (limits (below old)).page root all done
 
 -- what one call does it does from before the first
 pub puts_since : {P K : Type 0} (below : P → K) (tells : K → Bool) (limits : K → Limits) (old mid : P) (m new : PageMap) (root : ℕ) (row : Entry) (result : Result ⊤ Fault) → below mid ≡ below old

@@ -1,4 +1,5 @@
 pub mod Calm
+mod Chosen
 mod Deletions
 mod FitRows
 mod Folding
@@ -11,3 +12,8 @@ mod StoredRows
 mod StoredValues
 pub mod PlacesByName
 pub mod GivenAsMeant
+pub mod Taken
+mod Updates
+mod SetRows
+mod Replaced
+mod SetTrees

@@ -5,7 +5,6 @@ use Rattle.std.proofs.lemmas.List.{append-nil, map_push, take_more, get_or-map, 
 use Rattle.sqlval.specs.Gives.{Refuses}
 use Rattle.sqlval.specs.declared.fault.Fault.{Fault}
 use Rattle.sqlval.specs.declared.fault.Fault.TheVariants as f
-use Rattle.sqlval.specs.declared.fault.Feature.TheVariants.{RowSize}
 use Rattle.sqlval.specs.declared.value.Value.{Value}
 use Rattle.record.specs.Writing.{AreStorable}
 use Rattle.page.specs.Leaf.{Entry, IsTableLeaf}
@@ -153,7 +152,7 @@ module _ (page : List ℕ) (number : ℕ) (columns : List Column) (places : List
   no_room : (added : List TableRow) (fault : Fault) → rows_added columns places last given ≡ Ok added → FindNoRoom page number added fault → IsInsertRefusal page number columns places given fault
   no_room added fault answer full = inr (inr (inr (record { last = last; ends = ends_at page number (length columns) held last ends only; added = added; answer = answer; full = full })))
 
-  pub records_refused : (added : List TableRow) (fault : Fault) → rows_added columns places last given ≡ Ok added → (fault ≡ f.Memory) ⊎ ((fault ≡ f.Unsupported RowSize) × (AllStorable added → ⊥)) → IsInsertRefusal page number columns places given fault
+  pub records_refused : (added : List TableRow) (fault : Fault) → rows_added columns places last given ≡ Ok added → (fault ≡ f.Memory) ⊎ ((fault ≡ f.TooLong) × (AllStorable added → ⊥)) → IsInsertRefusal page number columns places given fault
   records_refused added fault answer (inl e) = inl e
   records_refused added fault answer (inr long) = no_room added fault answer (inl long)
 
@@ -207,7 +206,7 @@ rows_on P g h rows i row records made lt is one so_far =
 
 -- one row that no record can hold is among them
 pub one_too_long : {R : Type 0} (g : R → TableRow) (rows : List R) (i : ℕ) (row : R) (fault : Fault) → i < length rows → row ≡ slice_index_or rows i row
-    → (fault ≡ f.Memory) ⊎ ((fault ≡ f.Unsupported RowSize) × (AreStorable (g row).1 → ⊥)) → (fault ≡ f.Memory) ⊎ ((fault ≡ f.Unsupported RowSize) × (AllStorable (map g rows) → ⊥))
+    → (fault ≡ f.Memory) ⊎ ((fault ≡ f.TooLong) × (AreStorable (g row).1 → ⊥)) → (fault ≡ f.Memory) ⊎ ((fault ≡ f.TooLong) × (AllStorable (map g rows) → ⊥))
 one_too_long g rows i row fault lt is (inl e) = inl e
 one_too_long g rows i row fault lt is (inr (e, long)) =
     inr (e, λ all. long (subst (λ r. AreStorable r.1) (get_or-map g rows i row (g row) lt ∙ sym (ap g is)) (all i (g row) (omega (arith, lt, length-map rows g)))))

@@ -1,12 +1,11 @@
 -- What putting the rows of an INSERT into their tree comes to.
-use Rattle.std.proofs.Common.{◌≡◌, refl, sym, ap, subst, ◌∙◌, inl, inr, ◌⊎◌, ◌<ℤ◌, ℕ, suc, ℤ, Bool, List, [], ◌∷◌, ◌++◌, length, Option, Some, Ok, Err, IsTrue}
+use Rattle.std.proofs.Common.{◌≡◌, refl, sym, ap, subst, ◌∙◌, inl, inr, ◌⊎◌, ◌<ℤ◌, ℕ, ℤ, Bool, List, [], ◌∷◌, ◌++◌, length, Option, Some, Ok, Err, IsTrue}
 use Rattle.std.specs.Prelude.{Result, MatchResult, IsErrAnd, ⊤}
 use Rattle.sqlval.specs.declared.fault.Fault.{Fault}
 use Rattle.sqlval.specs.declared.fault.Fault.TheVariants as f
-use Rattle.sqlval.specs.declared.fault.Feature.TheVariants.{RowSize}
 use Rattle.sqlval.specs.declared.value.Value.{Value}
 use Rattle.page.specs.Leaf.{Entry}
-use Rattle.pages.specs.Calls.{Limits}
+use Rattle.pages.specs.Calls.{IsOutsideOrFull, Limits}
 use Rattle.pages.specs.Map.{PageMap}
 use Rattle.treepage.specs.Cells.{Pairwise}
 use Rattle.tabletree.specs.Calls.{BecomesRows, FindsLast, Stands}
@@ -17,7 +16,7 @@ use Rattle.rowprog.proofs.TreeOrder.{tree_rises}
 use Rattle.dml.specs.Inserting.{AllStorable, IsRefusedAs, last_rowid, row_added, rowid_after, rows_added}
 use Rattle.dml.specs.NewRows.{IsWritten}
 use Rattle.dml.specs.Putting.{AreUnder, ComeAfter, PutsAfter}
-use Rattle.dml.specs.Trees.{ArePutIn, CannotGrow, IsPutRefusal, PutsRows}
+use Rattle.dml.specs.Trees.{ArePutIn, IsPutRefusal, PutsRows}
 use Rattle.dml.proofs.FitRows.{fit_after}
 use Rattle.dml.proofs.OnPage.{are_rows, pairwise_append, pairwise_push}
 use Rattle.dml.proofs.Rising.{AreBelow, Rises, last_of_more, rises_on, rows_below, rows_rise}
@@ -76,54 +75,39 @@ come_after columns places (g ∷ given) rows (row ∷ added) last entries (entry
     tail_is : (r : TableRow) (rs : List TableRow) → r ∷ rs ≡ row ∷ added → rs ≡ added
     tail_is r rs h = cc
 
--- ---- how many there are
-
-as_many : (columns : List Column) (places : List (Option ℕ)) (given : List (List Value)) (last : Option ℤ) (added : List TableRow) → rows_added columns places last given ≡ Ok added → length added ≡ length given
-as_many columns places [] last added e = sym (ap (λ (rs : List TableRow). length rs) (no_rows added e))
-as_many columns places (g ∷ given) last added e =
-    let parts = rows_parts columns places last g given added e in
-    let more = as_many columns places given (Some parts.row.0) parts.more parts.more_is in
-    sym (ap (λ (rs : List TableRow). length rs) parts.are) ∙ ap suc more
-
-as_long : (added : List TableRow) (more : List Entry) → Pairwise IsWritten added more → length more ≡ length added
-as_long [] [] all = refl
-as_long [] (entry ∷ more) all = absurd all
-as_long (row ∷ added) [] all = absurd all
-as_long (row ∷ added) (entry ∷ more) all = ap suc (as_long added more all.1)
-
 -- ---- what the calls answer
 
 module _ (old new : PageMap) (size root : ℕ) (columns : List Column) (places : List (Option ℕ)) (given : List (List Value)) where
   refused : (fault : Fault) (result : Result ⊤ Fault) → IsErrAnd result (λ e. e ≡ fault)
-      → ((rows : List TableRow) (entries : List Entry) (used free : List ℕ) (is : Stands old size root entries used free) → Pairwise (IsRow (length columns)) entries rows → IsPutRefusal root is.tree.depth columns places given rows fault)
+      → ((rows : List TableRow) (entries : List Entry) (used free : List ℕ) (is : Stands old size root entries used free) → Pairwise (IsRow (length columns)) entries rows → IsPutRefusal columns places given rows fault)
       → PutsRows old new size root columns places given result
   refused fault (Ok x) same why = absurd same
-  refused fault (Err e) same why = λ rows entries used free is each. subst (λ (g : Fault). IsPutRefusal root is.tree.depth columns places given rows g) (sym same) (why rows entries used free is each)
+  refused fault (Err e) same why = λ rows entries used free is each. subst (λ (g : Fault). IsPutRefusal columns places given rows g) (sym same) (why rows entries used free is each)
 
   pub no_last : (fault : Fault) (result : Result ⊤ Fault) → IsErrAnd result (λ e. e ≡ fault) → FindsLast old size root (Err fault) → PutsRows old new size root columns places given result
-  no_last fault result same finds = refused fault result same (λ rows entries used free is each. inl (inl (inl (finds entries used is.free_are.whole is.tree))))
+  no_last fault result same finds = refused fault result same (λ rows entries used free is each. inl (inl (finds entries used is.free_are.whole is.tree)))
 
   module _ (last : Option ℤ) (finds : FindsLast old size root (Ok last)) where
     last_is : (rows : List TableRow) (entries : List Entry) (used free : List ℕ) → Stands old size root entries used free → Pairwise (IsRow (length columns)) entries rows → last ≡ last_rowid rows
     last_is rows entries used free is each = finds entries used is.free_are.whole is.tree ∙ last_same (length columns) entries rows each
 
     pub not_added : (fault : Fault) (result : Result ⊤ Fault) → IsErrAnd result (λ e. e ≡ fault) → (fault ≡ f.Memory) ⊎ IsRefusedAs (rows_added columns places last given) fault → PutsRows old new size root columns places given result
-    not_added fault result same why = refused fault result same (λ rows entries used free is each. by is.tree.depth rows why (last_is rows entries used free is each))
+    not_added fault result same why = refused fault result same (λ rows entries used free is each. by rows why (last_is rows entries used free is each))
       where
-        by : (depth : ℕ) (rows : List TableRow) → (fault ≡ f.Memory) ⊎ IsRefusedAs (rows_added columns places last given) fault → last ≡ last_rowid rows → IsPutRefusal root depth columns places given rows fault
-        by depth rows (inl memory) at = inl (inl (inl (inl memory)))
-        by depth rows (inr why) at = inr (inl (subst (λ (l : Option ℤ). IsRefusedAs (rows_added columns places l given) fault) at why))
+        by : (rows : List TableRow) → (fault ≡ f.Memory) ⊎ IsRefusedAs (rows_added columns places last given) fault → last ≡ last_rowid rows → IsPutRefusal columns places given rows fault
+        by rows (inl memory) at = inl (inl (inl memory))
+        by rows (inr why) at = inr (inl (subst (λ (l : Option ℤ). IsRefusedAs (rows_added columns places l given) fault) at why))
 
     module _ (added : List TableRow) (answer : rows_added columns places last given ≡ Ok added) where
       answer_is : (rows : List TableRow) → last ≡ last_rowid rows → rows_added columns places (last_rowid rows) given ≡ Ok added
       answer_is rows at = subst (λ (l : Option ℤ). rows_added columns places l given ≡ Ok added) at answer
 
-      pub not_stored : (fault : Fault) (result : Result ⊤ Fault) → IsErrAnd result (λ e. e ≡ fault) → (fault ≡ f.Memory) ⊎ ((fault ≡ f.Unsupported RowSize) × (AllStorable added → ⊥)) → PutsRows old new size root columns places given result
-      not_stored fault result same why = refused fault result same (λ rows entries used free is each. by is.tree.depth rows why (last_is rows entries used free is each))
+      pub not_stored : (fault : Fault) (result : Result ⊤ Fault) → IsErrAnd result (λ e. e ≡ fault) → (fault ≡ f.Memory) ⊎ ((fault ≡ f.TooLong) × (AllStorable added → ⊥)) → PutsRows old new size root columns places given result
+      not_stored fault result same why = refused fault result same (λ rows entries used free is each. by rows why (last_is rows entries used free is each))
         where
-          by : (depth : ℕ) (rows : List TableRow) → (fault ≡ f.Memory) ⊎ ((fault ≡ f.Unsupported RowSize) × (AllStorable added → ⊥)) → last ≡ last_rowid rows → IsPutRefusal root depth columns places given rows fault
-          by depth rows (inl memory) at = inl (inl (inl (inl memory)))
-          by depth rows (inr long) at = inr (inr (record { is = long.0; added = added; answer = answer_is rows at; long = long.1 }))
+          by : (rows : List TableRow) → (fault ≡ f.Memory) ⊎ ((fault ≡ f.TooLong) × (AllStorable added → ⊥)) → last ≡ last_rowid rows → IsPutRefusal columns places given rows fault
+          by rows (inl memory) at = inl (inl (inl memory))
+          by rows (inr long) at = inr (inr (record { is = long.0; added = added; answer = answer_is rows at; long = long.1 }))
 
       pub rows_put : (more : List Entry) (result : Result ⊤ Fault) → Pairwise IsWritten added more → PutsAfter old new size root more result → PutsRows old new size root columns places given result
       rows_put more result written puts rows entries used free is each = by result (puts entries used free is comes)
@@ -137,11 +121,8 @@ module _ (old new : PageMap) (size root : ℕ) (columns : List Column) (places :
           comes : ComeAfter entries more
           comes = come_after columns places given rows added last entries more (at_each (length columns) entries rows each) (sym at) rises answer written
 
-          count : length more ≡ length given
-          count = as_long added more written ∙ as_many columns places given last added answer
-
-          by : (r : Result ⊤ Fault) → MatchResult r (λ done. BecomesRows old new size root (entries ++ more) used free) (CannotGrow root is.tree.depth (length more))
-              → MatchResult r (λ done. ArePutIn old new size root columns places given rows used free) (IsPutRefusal root is.tree.depth columns places given rows)
+          by : (r : Result ⊤ Fault) → MatchResult r (λ done. BecomesRows old new size root (entries ++ more) used free) IsOutsideOrFull
+              → MatchResult r (λ done. ArePutIn old new size root columns places given rows used free) (IsPutRefusal columns places given rows)
           by (Ok done) becomes = record {
             added = added;
             answer = answer_is rows at;
@@ -150,7 +131,7 @@ module _ (old new : PageMap) (size root : ℕ) (columns : List Column) (places :
             each = pairwise_append (IsRow (length columns)) entries more rows added each (are_rows columns places given last added more answer written);
             fit = fit_after columns places given rows added more (answer_is rows at) written;
           }
-          by (Err fault) cannot = inl (subst (λ (n : ℕ). CannotGrow root is.tree.depth n fault) count cannot)
+          by (Err fault) cannot = inl cannot
 
 -- what a call does to pages that were only read before
 pub puts_after : {P K : Type 0} (below : P → K) (tells : K → Bool) (limits : K → Limits) (pages : P → PageMap) (old mid : P) (new : PageMap) (root : ℕ) (more : List Entry) (result : Result ⊤ Fault) → below mid ≡ below old → pages mid ≡ pages old

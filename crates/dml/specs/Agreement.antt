@@ -1,5 +1,5 @@
 -- What the rows of a tree and the definition of a table's rows agree in.
-use Rattle.std.specs.Prelude.{◌≡◌, ◌≤◌, ◌<◌, ℕ, true, List, [], ◌++◌, map, length, slice_index_or, Option, None, Ok, All, zip}
+use Rattle.std.specs.Prelude.{◌≡◌, ◌≤◌, ◌<◌, ℕ, Bool, true, not, filter, List, [], ◌++◌, map, length, slice_index_or, Option, None, Ok, All, zip}
 use Rattle.sqlval.specs.Refusals.{◌then◌, fold_answer}
 use Rattle.sqlval.specs.declared.value.Value.{Value}
 use Rattle.sqlval.specs.declared.value.Value.TheVariants.{Null}
@@ -14,7 +14,10 @@ use Rattle.catalog.specs.Rows.{are_rows}
 use Rattle.rowprog.specs.Rows.{TableRow}
 use Rattle.dml.specs.Constraints.{next_rowid, table_of, default_values, set_values}
 use Rattle.dml.specs.Inserting.{given_at, rowid_after, last_rowid, rows_added}
-use Rattle.dml.specs.RowChanges.{Fire, Firing, delete_row, insert_row}
+use Rattle.dml.specs.RowChanges.{Fire, Firing, delete_row, insert_row, update_row}
+use Rattle.dml.specs.Changes.{no_outer}
+use Rattle.dml.specs.Setting.{rows_meant_set}
+use Rattle.terms.specs.Terms.{Term}
 
 -- the rowid that a row without one gets in a table of rows by rising rowid is the next after the last
 abbrev pub NextIsGreater : Type 0
@@ -47,3 +50,18 @@ abbrev pub DeletesRows : Type 0
 DeletesRows = (fire : Fire) (name : Name) (db : Database) (table : Table) (rows : List TableRow)
     → IsStill fire → has_only_tables db ≡ true → IsNamed db → table_of db name ≡ Ok (plain_table table rows) → are_rows (plain_table table rows) ≡ true
     → fold_answer (delete_row fire name) db (map (λ row. row.0) rows) ≡ Ok (with_object db name (ATable (plain_table table [])))
+
+-- A DELETE of some rows of a listed table, where nothing is set off, leaves it with the others.
+abbrev pub DeletesSome : Type 0
+DeletesSome = (fire : Fire) (name : Name) (db : Database) (table : Table) (rows : List TableRow) (gone : TableRow → Bool)
+    → IsStill fire → has_only_tables db ≡ true → IsNamed db → table_of db name ≡ Ok (plain_table table rows) → are_rows (plain_table table rows) ≡ true
+    → fold_answer (delete_row fire name) db (map (λ row. row.0) (filter gone rows))
+    ≡ Ok (with_object db name (ATable (plain_table table (filter (λ row. not (gone row)) rows))))
+
+-- An UPDATE of some rows of a listed table, where nothing is set off, leaves it with what SET makes of them and with the others, or is
+-- refused as the first of them is.
+abbrev pub UpdatesSome : Type 0
+UpdatesSome = (fire : Fire) (name : Name) (db : Database) (table : Table) (rows : List TableRow) (sets : List (ℕ × Term)) (set : List Name) (is_meant : TableRow → Bool)
+    → IsStill fire → has_only_tables db ≡ true → IsNamed db → table_of db name ≡ Ok (plain_table table rows) → are_rows (plain_table table rows) ≡ true
+    → fold_answer (update_row fire no_outer name sets set) db (map (λ row. row.0) (filter is_meant rows))
+    ≡ (rows_meant_set table.columns sets is_meant rows then λ now. Ok (with_object db name (ATable (plain_table table now))))

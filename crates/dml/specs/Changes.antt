@@ -61,7 +61,8 @@ abbrev differs : Option ℕ → ℕ → Bool
 differs None n = false
 differs (Some m) n = not (m == n)
 
-abbrev resolve_given : Database → Outer → Option ℕ → InsertSource → Checked Given
+-- the rows that INSERT gives, by their names, where each has so many values
+abbrev pub resolve_given : Database → Outer → Option ℕ → InsertSource → Checked Given
 resolve_given db outer n (source.Rows rows) =
     unless (list_any (λ r. differs n (length r)) rows) Misuse
     (known_map GivenRows (known_all (map (λ r. known_all (map (resolve false outer.scope) r)) rows)))

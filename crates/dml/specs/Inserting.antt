@@ -3,7 +3,6 @@ use Rattle.std.specs.Prelude.{◌≡◌, ◌⊎◌, ◌+ℤ◌, ◌^◌, ◌-◌
 use Rattle.sqlval.specs.Refusals.{Answer, ◌then◌, RowidFull, refusal_of}
 use Rattle.sqlval.specs.declared.fault.Fault.{Fault}
 use Rattle.sqlval.specs.declared.fault.Fault.TheVariants as fault
-use Rattle.sqlval.specs.declared.fault.Feature.TheVariants.{RowSize}
 use Rattle.sqlval.specs.declared.value.Value.{Value}
 use Rattle.sqlval.specs.declared.value.Value.TheVariants.{Null}
 use Rattle.record.specs.Writing.{AreStorable, record_of}
@@ -83,7 +82,7 @@ pub record AreRefused (page : List ℕ) (number : ℕ) (columns : List Column) (
 
 -- no record can hold one of the rows, or the page has no room for their entries
 abbrev pub FindNoRoom : List ℕ → ℕ → List TableRow → Fault → Type 0
-FindNoRoom page number rows f = ((f ≡ fault.Unsupported RowSize) × (AllStorable rows → ⊥)) ⊎ IsTooFull page number (map entry_for rows) f
+FindNoRoom page number rows f = ((f ≡ fault.TooLong) × (AllStorable rows → ⊥)) ⊎ IsTooFull page number (map entry_for rows) f
 
 -- there is no room for what the rows given become
 pub record HasNoRoom (page : List ℕ) (number : ℕ) (columns : List Column) (places : List (Option ℕ)) (given : List (List Value)) (f : Fault) : Type 0 where

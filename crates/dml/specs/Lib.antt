@@ -1,9 +1,13 @@
 pub mod Agreement
 pub mod Binding
 pub mod Changes
+pub mod Choosing
 pub mod Constraints
 pub mod Inserting
 pub mod NewRows
 pub mod Putting
 pub mod RowChanges
+pub mod Taking
+pub mod Setting
 pub mod Trees
+pub mod Updating

@@ -1,9 +1,7 @@
 -- What INSERT does to the tree of a table without constraints (SQL As Understood By SQLite, "INSERT").
-use Rattle.std.specs.Prelude.{◌≡◌, ◌⊎◌, ◌≤◌, ◌+◌, ◌++◌, ℕ, true, List, length, Option, Ok, Result, MatchResult, ⊤}
+use Rattle.std.specs.Prelude.{◌≡◌, ◌⊎◌, ◌++◌, ℕ, true, List, length, Option, Ok, Result, MatchResult, ⊤}
 use Rattle.sqlval.specs.declared.fault.Fault.{Fault}
 use Rattle.sqlval.specs.declared.fault.Fault.TheVariants as fault
-use Rattle.sqlval.specs.declared.fault.Damage.TheVariants as damage
-use Rattle.sqlval.specs.declared.fault.Feature.TheVariants.{RowSize}
 use Rattle.sqlval.specs.declared.value.Value.{Value}
 use Rattle.page.specs.Leaf.{Entry}
 use Rattle.pages.specs.Calls.{IsOutsideOrFull}
@@ -32,24 +30,20 @@ pub record ArePutIn (old new : PageMap) (size root : ℕ) (columns : List Column
 
 -- no record can hold one of the rows that these become
 pub record AreTooLong (columns : List Column) (places : List (Option ℕ)) (given : List (List Value)) (rows : List TableRow) (f : Fault) : Type 0 where
-  pub is : f ≡ fault.Unsupported RowSize
+  pub is : f ≡ fault.TooLong
   pub added : List TableRow
   pub answer : rows_added columns places (last_rowid rows) given ≡ Ok added
   pub long : AllStorable added → ⊥
 
--- Memory was short, a disk's call failed, or there are as many pages as there may be; or a way of 20 pages would have to grow, where a tree
--- of such depth gets so many rows.
-abbrev pub CannotGrow : ℕ → ℕ → ℕ → Fault → Type 0
-CannotGrow root depth count f = IsOutsideOrFull f ⊎ ((f ≡ fault.Damaged damage.Depth root) × (19 ≤ depth + count))
-
--- Why rows aren't put in: their tree can't grow, what they become is refused, or no record can hold one.
-abbrev pub IsPutRefusal : ℕ → ℕ → List Column → List (Option ℕ) → List (List Value) → List TableRow → Fault → Type 0
-IsPutRefusal root depth columns places given rows f =
-    CannotGrow root depth (length given) f ⊎ (IsRefusedAs (rows_added columns places (last_rowid rows) given) f ⊎ AreTooLong columns places given rows f)
+-- Why rows aren't put in: memory was short, a disk's call failed, or there are as many pages as there may be; what they become is refused;
+-- or no record can hold one.
+abbrev pub IsPutRefusal : List Column → List (Option ℕ) → List (List Value) → List TableRow → Fault → Type 0
+IsPutRefusal columns places given rows f =
+    IsOutsideOrFull f ⊎ (IsRefusedAs (rows_added columns places (last_rowid rows) given) f ⊎ AreTooLong columns places given rows f)
 
 -- Where a tree has rows of a table, those that the rows given become are put into it, or the call is refused.
 abbrev pub PutsRows : PageMap → PageMap → ℕ → ℕ → List Column → List (Option ℕ) → List (List Value) → Result ⊤ Fault → Type 0
 PutsRows old new size root columns places given result = (rows : List TableRow) (entries : List Entry) (used free : List ℕ)
-    (is : Stands old size root entries used free) → Pairwise (IsRow (length columns)) entries rows
+    → Stands old size root entries used free → Pairwise (IsRow (length columns)) entries rows
     → MatchResult result (λ done. ArePutIn old new size root columns places given rows used free)
-    (IsPutRefusal root is.tree.depth columns places given rows)
+    (IsPutRefusal columns places given rows)

@@ -1,12 +1,13 @@
 //! DELETE.
 
-ghost use Rattle.dml.specs.Agreement.{DeletesRows};
+ghost use Rattle.dml.specs.Agreement.{DeletesRows, DeletesSome};
 
 use catalog::{named_databases_are_one, other_rows_are_listed};
 
-/// A DELETE of all rows of a table that sets off no trigger leaves the table without rows.
+/// A DELETE that sets off no trigger leaves the table without its rows: without any where all are deleted.
 pub fn delete_takes_its_rows()
-    ensures { DeletesRows }
+    ensures all { DeletesRows }
+    ensures some { DeletesSome }
 {
     other_rows_are_listed();
     named_databases_are_one();

@@ -20,7 +20,7 @@ use bind::BoundInsert;
 use catalog::{Column, other_rows_are_listed};
 use page::Cell;
 use record::{encode, is_storable};
-use sqlval::{Fault, Feature, R, Value, apply};
+use sqlval::{Fault, R, Value, apply};
 use std::alloc::Global;
 use tabletree::{Leaf, next_rowid, with_rows};
 use terms::conversion_is_one;
@@ -50,12 +50,17 @@ fn place_of(places: &[Option<usize>], index: usize) -> Option<usize>
 /// A new row.
 #[derive(Drop)]
 pub(crate) struct NewRow {
-    rowid: i64,
-    values: Vec<Value>,
+    pub(crate) rowid: i64,
+    pub(crate) values: Vec<Value>,
 }
 
 /// What a column stores of the value given for it.
-fn stored_value(alloc: Global, column: &Column, place: Option<usize>, given: &[Value]) -> R<Value>
+pub(crate) fn stored_value(
+    alloc: Global,
+    column: &Column,
+    place: Option<usize>,
+    given: &[Value],
+) -> R<Value>
     ensures stored { IfOk result (λ value. converted column.now.affinity (given_at given.now place) ≡ Ok value) }
     ensures refused { IfErr result (λ fault. (fault ≡ Fault.Memory)
         ⊎ ((fault ≡ Fault.RealRefused) × (converted column.now.affinity (given_at given.now place) ≡ Err refusal.RealRefused))) }
@@ -149,10 +154,10 @@ fn payload_of(alloc: Global, values: &[Value]) -> R<Vec<u8>>
     ensures exact { IfOk result (λ payload. payload.items ≡ record_of values.now) }
     ensures fit { OnOk result (list_all is_value values.now ≡ true) }
     ensures refused { IfErr result (λ fault. (fault ≡ Fault.Memory)
-        ⊎ ((fault ≡ Fault.Unsupported Feature.RowSize) × (AreStorable values.now → ⊥))) }
+        ⊎ ((fault ≡ Fault.TooLong) × (AreStorable values.now → ⊥))) }
 {
     if !is_storable(values) {
-        return Err(Fault::Unsupported(Feature::RowSize));
+        return Err(Fault::TooLong);
     }
     let payload = encode(alloc, values)?;
     bytes_are_small(&payload);
@@ -163,7 +168,7 @@ fn payload_of(alloc: Global, values: &[Value]) -> R<Vec<u8>>
 fn record_for(alloc: Global, row: &NewRow) -> R<RowRecord>
     ensures written { IfOk result (λ made. IsWritten (row_of row.now) (entry_in made)) }
     ensures refused { IfErr result (λ fault. (fault ≡ Fault.Memory)
-        ⊎ ((fault ≡ Fault.Unsupported Feature.RowSize) × (AreStorable (row_of row.now).1 → ⊥))) }
+        ⊎ ((fault ≡ Fault.TooLong) × (AreStorable (row_of row.now).1 → ⊥))) }
 {
     Ok(RowRecord {
         rowid: row.rowid,
@@ -175,7 +180,7 @@ fn record_for(alloc: Global, row: &NewRow) -> R<RowRecord>
 pub(crate) fn records_of(alloc: Global, rows: &[NewRow]) -> R<Vec<RowRecord>>
     ensures written { IfOk result (λ records. Pairwise IsWritten (map row_of rows.now) (map entry_in records.items)) }
     ensures refused { IfErr result (λ fault. (fault ≡ Fault.Memory)
-        ⊎ ((fault ≡ Fault.Unsupported Feature.RowSize) × (AllStorable (map row_of rows.now) → ⊥))) }
+        ⊎ ((fault ≡ Fault.TooLong) × (AllStorable (map row_of rows.now) → ⊥))) }
 {
     let mut records = Vec::new(alloc);
     'rows: for row in rows {
@@ -201,7 +206,7 @@ fn cells_of(alloc: Global, records: &[RowRecord]) -> R<Vec<Cell<'_>>>
 
 /// Builds a table's page `number` anew with the new rows after its own; what stands before the tree's node stays. A page that is
 /// no leaf of rising rows is refused as by `Leaf::over`. Row by row, a real is `RealRefused`, and a row after the greatest rowid
-/// of all is `RowidFull`; only then rows that don't fit are `Unsupported(RowSize)`.
+/// of all is `RowidFull`; only then rows that don't fit are `TooLong`.
 pub fn insert(alloc: Global, page: &[u8], number: u32, insert: BoundInsert<'_>) -> R<Vec<u8>>
     ensures inserted { IfOk result (λ new. (rows : List TableRow) → Holds page.now number (length insert.entry.table.now.columns) rows
         → IsInserted new.items number insert.entry.table.now.columns insert.entry.places.items (map (λ row. row.items) insert.entry.rows.items) rows) }

@@ -49,8 +49,7 @@ fn put_records<P: WritePages>(
 }
 
 /// Puts the rows of an INSERT into the tree of their table, after its own. Row by row, a real is `RealRefused`, and a row after the
-/// greatest rowid of all is `RowidFull`; only then a row that no record can hold is `Unsupported(RowSize)`. (`Memory`, `Io`, `Full`;
-/// `Damaged(Depth, root)` where a way of 20 pages would have to grow.)
+/// greatest rowid of all is `RowidFull`; only then a row that no record can hold is `TooLong`. (`Memory`, `Io`, `Full`.)
 pub fn put_rows<P: WritePages>(alloc: Global, pages: &mut P, insert: BoundInsert<'_>) -> R<()>
     ensures put { IsTrue (P.Pages.tells (P.Pages.below pages.old))
         → PutsRows (P.Pages.map pages.old) (P.Pages.map pages.new) (P.Pages.limits (P.Pages.below pages.old)).page

@@ -109,7 +109,6 @@ open_why has_called cannot (Unsupported features.Limit) refusal = inr (inr refus
 open_why has_called cannot (Unsupported features.Statement) refusal = absurd refusal
 open_why has_called cannot (Unsupported features.StatementForm) refusal = absurd refusal
 open_why has_called cannot (Unsupported features.Connection) refusal = absurd refusal
-open_why has_called cannot (Unsupported features.RowSize) refusal = absurd refusal
 open_why has_called cannot Full refusal = absurd refusal
 open_why has_called cannot (Syntax at) refusal = absurd refusal
 open_why has_called cannot (NoSuch kind name) refusal = absurd refusal

@@ -59,7 +59,7 @@ fn take_behind<P: WritePages>(
 }
 
 /// Gives pages back, in order. (What `give` refuses; pages that were given back before stay so.)
-fn give_all<P: WritePages>(alloc: Global, pages: &mut P, spare: &[u32]) -> R<()>
+pub fn give_all<P: WritePages>(alloc: Global, pages: &mut P, spare: &[u32]) -> R<()>
     ensures given { IsTrue (P.Pages.tells (P.Pages.below pages.old))
         → GivesAll (P.Pages.map pages.old) (P.Pages.map pages.new) (P.Pages.limits (P.Pages.below pages.old)).page spare.now result }
     ensures kept { P.Pages.below pages.new ≡ P.Pages.below pages.old }
@@ -194,7 +194,7 @@ fn lent(alloc: Global, cells: &[Vec<u8>]) -> R<Vec<&[u8]>>
 
 /// Makes a page an interior page of this kind over a fan. (`Damaged(Page, root)` if the cells don't fit it or the kind has no children;
 /// `Memory`, and what `load` and `put` refuse.)
-fn raise<P: WritePages>(alloc: Global, pages: &mut P, root: u32, kind: Kind, fan: &Fan) -> R<()>
+pub fn raise<P: WritePages>(alloc: Global, pages: &mut P, root: u32, kind: Kind, fan: &Fan) -> R<()>
     ensures raised { IsTrue (P.Pages.tells (P.Pages.below pages.old))
         → Raises (P.Pages.map pages.old) (P.Pages.map pages.new) (P.Pages.limits (P.Pages.below pages.old)).page
         root kind fan.now.last (cells_of fan.now) result }

@@ -3,8 +3,7 @@ use Rattle.std.proofs.Common.{◌≡◌, ◌≤◌, ◌<◌, ◌+◌, ℕ, suc, 
 use Rattle.std.proofs.lemmas.List.{length-map}
 use Rattle.std.specs.List.{AllByRecursion}
 use Rattle.std.specs.Prelude.{Result, Ok, Err, IsErrAnd, MatchResult}
-use Rattle.sqlval.specs.declared.fault.Fault.TheVariants.{Memory, Unsupported}
-use Rattle.sqlval.specs.declared.fault.Feature.TheVariants as Feature
+use Rattle.sqlval.specs.declared.fault.Fault.TheVariants.{Memory, TooLong}
 use Rattle.record.specs.Writing.{AreStorable}
 use Rattle.sqlval.specs.declared.collation.Collation.{Collation}
 use Rattle.sqlval.specs.declared.fault.Fault.{Fault}
@@ -277,7 +276,7 @@ insert_err I (Err e) fault root depth x is refused = inl (subst (IsGrowthRefusal
 
 -- a record wasn't made
 pub encode_err : {T : Type 0} (I : T → Type 0) (result : Result T Fault) (fault : Fault) (root depth : ℕ) (x : Entry) → IsErrAnd result (λ e. e ≡ fault)
-    → (fault ≡ Memory) ⊎ ((fault ≡ Unsupported Feature.RowSize) × (AreStorable x → ⊥)) → MatchResult result I (IsInsertRefusal root depth x)
+    → (fault ≡ Memory) ⊎ ((fault ≡ TooLong) × (AreStorable x → ⊥)) → MatchResult result I (IsInsertRefusal root depth x)
 encode_err I (Ok y) fault root depth x is refused = absurd is
 encode_err I (Err e) fault root depth x is (inl memory) = inl (inl (inl (inl (is ∙ memory))))
 encode_err I (Err e) fault root depth x is (inr large) = inr (is ∙ large.0, large.1)

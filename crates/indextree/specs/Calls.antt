@@ -4,9 +4,8 @@ use Rattle.sqlval.specs.Faults.{IsOutside}
 use Rattle.sqlval.specs.PageSizes.{IsPageSize}
 use Rattle.sqlval.specs.declared.collation.Collation.{Collation}
 use Rattle.sqlval.specs.declared.fault.Fault.{Fault}
-use Rattle.sqlval.specs.declared.fault.Fault.TheVariants.{Damaged, Unsupported}
+use Rattle.sqlval.specs.declared.fault.Fault.TheVariants.{Damaged, TooLong}
 use Rattle.sqlval.specs.declared.fault.Damage.TheVariants as Damage
-use Rattle.sqlval.specs.declared.fault.Feature.TheVariants as Feature
 use Rattle.record.specs.Writing.{AreStorable}
 use Rattle.pages.specs.Calls.{IsOutsideOrFull}
 use Rattle.pages.specs.Counting.{occurs, Moves}
@@ -85,7 +84,7 @@ IsGrowthRefusal root depth fault = IsOutsideOrFull fault ⊎ ((fault ≡ Damaged
 -- a growth was refused, or no record can hold the entry
 abbrev pub IsInsertRefusal : ℕ → ℕ → Entry → Fault → Type 0
 IsInsertRefusal root depth entry fault =
-    IsGrowthRefusal root depth fault ⊎ ((fault ≡ Unsupported Feature.RowSize) × (AreStorable entry → ⊥))
+    IsGrowthRefusal root depth fault ⊎ ((fault ≡ TooLong) × (AreStorable entry → ⊥))
 
 -- the entry was put in, and the tree, which had so many interior pages above each leaf, has at most one more; or it is there and nothing
 -- changed

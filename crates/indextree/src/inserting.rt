@@ -15,7 +15,7 @@ use std::alloc::Global;
 use treepage::Kind;
 
 /// Puts an entry into the tree under this root, which keeps its number. Answers `false` if the entry is there: then nothing changes.
-/// (`Damaged(Depth, root)` if a way of 20 pages would have to grow; `Unsupported(RowSize)` if no record can hold the entry.)
+/// (`Damaged(Depth, root)` if a way of 20 pages would have to grow; `TooLong` if no record can hold the entry.)
 pub fn insert<P: WritePages>(
     alloc: Global,
     pages: &mut P,

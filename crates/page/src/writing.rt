@@ -8,7 +8,7 @@ ghost use Rattle.page.specs.Writing.{Fits, IsNumbered, cell_size, cell_text, con
 
 use crate::cell::{Cell, is_local};
 use record::{put_varint, varint_len};
-use sqlval::{Fault, Feature, R};
+use sqlval::{Fault, R};
 use std::alloc::{AllocError, Global};
 
 /// The bytes that a cell takes.
@@ -132,7 +132,7 @@ fn write(
 }
 
 /// The page with these cells: `front`, which stands before its header, the header, the pointers, zeros, and the cells
-/// from the page's end downwards. Where they don't fit, the answer is `Fault::Unsupported(Feature::RowSize)`.
+/// from the page's end downwards. Where they don't fit, the answer is `Fault::TooLong`.
 pub fn build(alloc: Global, front: &[u8], page_size: usize, cells: &[Cell<'_>]) -> R<Vec<u8>>
     // The page is a table leaf of the cells, of the page's size,
     ensures is { IfOk result (λ page. IsTableLeaf page.items (length front.now) (map entry_of cells.now)
@@ -141,10 +141,10 @@ pub fn build(alloc: Global, front: &[u8], page_size: usize, cells: &[Cell<'_>]) 
     ensures exact { IfOk result (λ page. page.items ≡ leaf_of front.now page_size (map entry_of cells.now)) }
     ensures fits { OnOk result (Fits page_size (length front.now) (map entry_of cells.now)) }
     ensures refused { IfErr result (λ fault. (fault ≡ Fault.Memory)
-        ⊎ ((fault ≡ Fault.Unsupported Feature.RowSize) × (Fits page_size (length front.now) (map entry_of cells.now) → ⊥))) }
+        ⊎ ((fault ≡ Fault.TooLong) × (Fits page_size (length front.now) (map entry_of cells.now) → ⊥))) }
 {
     let Some(content) = content_start(page_size, front.len(), cells) else {
-        return Err(Fault::Unsupported(Feature::RowSize));
+        return Err(Fault::TooLong);
     };
     Ok(write(alloc, front, page_size, content, cells)?)
 }

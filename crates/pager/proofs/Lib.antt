@@ -17,3 +17,4 @@ pub mod Sparing
 pub mod Undoing
 pub mod WriterPages
 pub mod WriterSights
+pub mod NewPages

@@ -4,6 +4,7 @@
 mod heading;
 mod laws;
 mod marks;
+mod pruning;
 mod reading;
 mod saved;
 mod sights;

@@ -22,7 +22,7 @@ use std::alloc::Global;
 use wal::{Log, Snapshot};
 
 /// Reads a page of a snapshot into a buffer, which gets the page size.
-fn fill<D: Disk + Drop>(
+pub(crate) fn fill<D: Disk + Drop>(
     log: &mut Log<D>,
     snapshot: Snapshot,
     number: u32,

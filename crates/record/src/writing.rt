@@ -7,7 +7,7 @@ ghost use Rattle.record.specs.Writing.{IsStorable, AreStorable, IsBytes, Fits, w
 
 use crate::varint::put_varint;
 use byteorder::{BigEndian, ByteOrder};
-use sqlval::{Fault, Feature, R, Value};
+use sqlval::{Fault, R, Value};
 use std::alloc::{AllocError, Global};
 
 #[tactic(auto, unfolding(crate::specs::Writing::wide_type))]
@@ -181,16 +181,16 @@ pub fn encode(alloc: Global, values: &[Value]) -> R<Vec<u8>>
     write(alloc, values)
 }
 
-/// The record of a row, where a record can hold it: `Fault::Unsupported(Feature::RowSize)` where `is_storable` is false, or
+/// The record of a row, where a record can hold it: `Fault::TooLong` where `is_storable` is false, or
 /// `Fault::Memory`.
 pub fn encode_row(alloc: Global, values: &[Value]) -> R<Vec<u8>>
     ensures is { IfOk result (λ bytes. IsRecord bytes.items values.now) }
     ensures exact { IfOk result (λ bytes. bytes.items ≡ record_of values.now) }
     ensures refused { IfErr result (λ fault. (fault ≡ Fault.Memory)
-        ⊎ ((fault ≡ Fault.Unsupported Feature.RowSize) × (AreStorable values.now → ⊥))) }
+        ⊎ ((fault ≡ Fault.TooLong) × (AreStorable values.now → ⊥))) }
 {
     if !is_storable(values) {
-        return Err(Fault::Unsupported(Feature::RowSize));
+        return Err(Fault::TooLong);
     }
     encode(alloc, values)
 }

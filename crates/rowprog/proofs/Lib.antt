@@ -5,5 +5,6 @@ pub mod QueryAnswers
 pub mod RowLemmas
 pub mod RowOrder
 pub mod Steps
+mod SourceRows
 mod TreeAnswers
 pub mod TreeOrder

@@ -147,11 +147,11 @@ same_fault : {A : Type 0} (fault : Fault) (given : Result A Fault) (other : Faul
 same_fault fault (Ok x) other e e' = absurd cc
 same_fault fault (Err d) other e e' = cc
 
-and_err : {A B : Type 0} (a : Result A Fault) (k : A → Result B Fault) (fault : Fault) → (a and k) ≡ Err fault → (a ≡ Err fault) ⊎ ((x : A) × (a ≡ Ok x) × (k x ≡ Err fault))
+pub and_err : {A B : Type 0} (a : Result A Fault) (k : A → Result B Fault) (fault : Fault) → (a and k) ≡ Err fault → (a ≡ Err fault) ⊎ ((x : A) × (a ≡ Ok x) × (k x ≡ Err fault))
 and_err (Ok x) k fault e = inr (x, refl, e)
 and_err {A} {B} (Err other) k fault e = inl (ap (λ (d : Fault). refused {A = A} d) (sym (same_fault fault (refused {A = B} other) other e refl)))
 
-not_given : {A : Type 0} (x : A) (fault : Fault) → fine x ≡ Err fault → ⊥
+pub not_given : {A : Type 0} (x : A) (fault : Fault) → fine x ≡ Err fault → ⊥
 not_given x fault e = absurd cc
 
 test_err : {A : Type 0} (b : Bool) (x : A) (other fault : Fault) → cond b (Ok x) (Err other) ≡ Err fault → fault ≡ other

@@ -2,4 +2,5 @@ pub mod Answers
 pub mod Held
 pub mod Meaning
 pub mod Rows
+pub mod Sources
 pub mod Trees

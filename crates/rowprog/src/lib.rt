@@ -4,6 +4,7 @@
 mod checking;
 mod plan;
 mod rows;
+mod sources;
 mod tree;
 
 ghost use Rattle.rowprog.specs.Held.{OneRows, RowsInOrder};
@@ -12,6 +13,7 @@ ghost use Rattle.rowprog.specs.Meaning.{AnswersQuery};
 pub use checking::check_rows;
 pub use plan::{Plan, Scan, plan_of};
 pub use rows::{Rows, single_row, table_rows};
+pub use sources::source_rows;
 pub use tree::{check_tree_rows, tree_rows};
 
 /// What a bound query's outputs give of the rows of its source is the query's answer.

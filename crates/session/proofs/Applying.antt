@@ -103,6 +103,7 @@ pub write_outcome_of : (w : Write) (m : Machine) (k : Connection) → connection
 unfolding outcome
 write_outcome_of (write.Insert i) m k is = ap (write_outcome m 1 (change_made (written (write.Insert i)))) is
 write_outcome_of (write.Delete d) m k is = ap (write_outcome m 1 (change_made (written (write.Delete d)))) is
+write_outcome_of (write.Update u) m k is = ap (write_outcome m 1 (change_made (written (write.Update u)))) is
 write_outcome_of (write.Drop kind name) m k is = ap (write_outcome m 1 (change_made (written (write.Drop kind name)))) is
 write_outcome_of (write.CreateTable sql d) m k is = ap (write_outcome m 1 (change_made (written (write.CreateTable sql d)))) is
 

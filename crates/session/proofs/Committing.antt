@@ -16,7 +16,8 @@ use Rattle.catalog.specs.declared.tables.Catalogs.{Catalogs}
 use Rattle.catalog.specs.declared.tables.Table.{Table}
 use Rattle.pager.specs.Commits.{CommitsPages, IsCommittedOver, IsRefusedCommit, LeavesCommit, MayCommit}
 use Rattle.pager.specs.Limits.{pages_of}
-use Rattle.pager.specs.Views.{Tells, View, after, changes_of, newest_view, view_of}
+use Rattle.pager.specs.Pruning.{AreNew}
+use Rattle.pager.specs.Views.{Tells, View, after, changes_of, newest_view, view_at, view_of}
 use Rattle.pager.specs.Writers.{snapshot_of}
 use Rattle.pager.proofs.Backing.{back_sound}
 use Rattle.pager.specs.declared.writer.Writer.{Writer}
@@ -122,9 +123,9 @@ module _ {D : Type 0} {g : Ghosts D} where
           applies = works_left same catalog;
         }
 
-    pub commit_refused : db_of (files_of new) ≡ db_of (files_of old)
+    pub commit_refused : AreNew (view_at (files_of old) (snapshot_of w)) (changes_of w) (changes_of w) → db_of (files_of new) ≡ db_of (files_of old)
         → (log_of (files_of new) ≡ log_of (files_of old)) ⊎ LeavesCommit (files_of old) w (first_of (view_of (files_of old) w)) applies.stored.stored.header (files_of new) → has_failed_in old ≡ false → has_failed_in new ≡ is_io f → new.catalog ≡ old.catalog → new.transaction ≡ old.transaction → CommitsChanges old w db (Err f) new left
-    commit_refused db_same crash whole failed catalog transaction = by_why is.why
+    commit_refused own db_same crash whole failed catalog transaction = by_why is.why
       where
         by_why : (f ≡ fault.Memory) ⊎ ((f ≡ fault.Io) ⊎ ((f ≡ fault.Full) × (IsWithin (state_of (files_of old)) (length (changes_of w)) (pages_of w) → ⊥))) → CommitsChanges old w db (Err f) new left
         by_why (inl memory) = inr (uncommitted (inl memory) (λ io. false≢true (ap is_io (sym memory ∙ io))) (failed ∙ ap is_io memory ∙ sym whole) catalog transaction)
@@ -135,4 +136,4 @@ module _ {D : Type 0} {g : Ghosts D} where
           db_left = db_left (files_of old) (files_of new) applies.settled db_same;
           log_left = log_left (files_of old) (files_of new) w (first_of (view_of (files_of old) w)) applies.stored.stored.header applies.settled crash;
         })
-        by_why (inr (inr full)) = inr (uncommitted (inr full) (λ io. false≢true (ap is_io (sym full.0 ∙ io))) (failed ∙ ap is_io full.0 ∙ sym whole) catalog transaction)
+        by_why (inr (inr full)) = inr (uncommitted (inr (full.0, record { pages = changes_of w; are = own; past = full.1 })) (λ io. false≢true (ap is_io (sym full.0 ∙ io))) (failed ∙ ap is_io full.0 ∙ sym whole) catalog transaction)

@@ -1,5 +1,5 @@
 -- Worked examples of connections.
-use Rattle.std.specs.Prelude.{◌≡◌, ⊤, refl, ℕ, zero, suc, pos, codes, None, Some, Err, List, [], ◌∷◌, ◌++◌}
+use Rattle.std.specs.Prelude.{◌≡◌, ⊤, false, refl, ℕ, zero, suc, pos, codes, None, Some, Err, List, [], ◌∷◌, ◌++◌}
 use Rattle.std.proofs.Common.{inl, inr, arith, sym, subst, ◌⊎◌}
 use mathlib.Core.Bool.{true≢false}
 use Rattle.sqlval.specs.Refusals.{Busy, StaleSnapshot, NoTransaction, NoSavepoint, InTransaction, Misuse, NoSuch, Raised, RaisedRollback, TooLong, Unsupported}
@@ -141,7 +141,11 @@ pub not_stored_so_far : StepSoFar (λ db r. ⊤) (fresh one) 1 (add 1) (Refused 
 unfolding outcome
 not_stored_so_far = inl (refl, inr (Unsupported, refl, refl, refl, tt))
 
-pub unsupported_form : StepSoFar (λ db r. ⊥) (fresh one) 1 (statement.Change (delete t (Some (number 1)))) (Refused Unsupported) (fresh one)
+-- CREATE INDEX x ON t(a)
+abbrev indexing : Statement
+indexing = statement.Create (record { sql = []; object = new.Index (record { is_unique = false; name = x; table = t; columns = record { name = a; collation = None } ∷ [] }) })
+
+pub unsupported_form : StepSoFar (λ db r. ⊥) (fresh one) 1 indexing (Refused Unsupported) (fresh one)
 unsupported_form = inr (refl, refl, inr (inr (refl, refl, inl refl)))
 
 -- g AFTER DELETE ON t WHEN OLD.a = 99: DELETE FROM nosuch. DELETE FROM t, where t has no row

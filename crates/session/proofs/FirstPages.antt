@@ -23,7 +23,7 @@ abbrev pub first_of : View → List ℕ
 first_of view = page_at (pages_in view) 1
 
 module _ (view : View) (tables : List Table) (db : Database) (held : Stores (pages_in view) view.page_size tables db) where
-  some_bytes : 1 ≤ view.page_size
+  pub some_bytes : 1 ≤ view.page_size
   some_bytes = some_size view.page_size (subst IsPageSize held.sized held.header_is.served)
 
   first_has : Has (pages_in view) 1

@@ -15,6 +15,7 @@ pub mod Beginning
 pub mod Applying
 pub mod Writing
 pub mod Marked
+mod NewChanges
 pub mod Committing
 pub mod CommitCrashes
 pub mod CommitSteps

@@ -21,7 +21,6 @@ use Rattle.std.specs.declared.alloc.Global.{Global}
 use Rattle.storage.specs.Reading.{AnswersRead}
 use Rattle.pager.specs.Views.{View, newest_view}
 use Rattle.session.specs.Supported.{StepSoFar}
-use Rattle.storage.specs.Forms.{is_query_supported}
 use Rattle.session.specs.Holding.{HoldThroughout}
 use Rattle.session.specs.ConnectionState.{files_of}
 use Rattle.session.specs.Machine.{Machine, Idle, InTransactionOf, NoSnapshot, Reads, Writes, Rows, Refused, last_place, newest, with_connection}
@@ -146,33 +145,33 @@ module _ {D : Type 0} {g : Ghosts D} where
 
   -- ---- a call that answered
 
-  select_step : (c : Connections D g) (m : Machine) (shown : RepresentsRunning c m) (q : Query) (f : Fault) → is_query_supported q ≡ true → (s : Sees c m) → Answered (read_on s.db q) (Err f) → StepSoFar (CannotStoreIn c (statement.Select q)) m 1 (statement.Select q) (Refused (refusal_of f)) m
-  select_step c m shown q f supported_forms s (inl (inl memory)) = subst (λ (e : Fault). StepSoFar (CannotStoreIn c (statement.Select q)) m 1 (statement.Select q) (Refused (refusal_of e)) m) (sym memory)
-      (instead (CannotStoreIn c (statement.Select q)) m (statement.Select q) supported_forms shown.running _ (Refused refusal.Memory) (s.is q) (given_memory m s.next (read_on s.db q)))
-  select_step c m shown q f supported_forms s (inl (inr io)) = subst (λ (e : Fault). StepSoFar (CannotStoreIn c (statement.Select q)) m 1 (statement.Select q) (Refused (refusal_of e)) m) (sym io)
-      (instead (CannotStoreIn c (statement.Select q)) m (statement.Select q) supported_forms shown.running _ (Refused refusal.Io) (s.is q) (given_io m s.next (read_on s.db q)))
-  select_step c m shown q f supported_forms s (inr (inl has)) =
-      by_outcome (CannotStoreIn c (statement.Select q)) m (statement.Select q) supported_forms shown.running _ (Refused (refusal_of f)) m (s.is q) (given_fault m s.next (refusal_of f) (read_on s.db q) has)
-  select_step c m shown q f supported_forms s (inr (inr refused)) =
-      by_outcome (CannotStoreIn c (statement.Select q)) m (statement.Select q) supported_forms shown.running _ (Refused (refusal_of f)) m (s.is q) (given_refusal m s.next f (read_on s.db q) refused)
+  select_step : (c : Connections D g) (m : Machine) (shown : RepresentsRunning c m) (q : Query) (f : Fault) → (s : Sees c m) → Answered (read_on s.db q) (Err f) → StepSoFar (CannotStoreIn c (statement.Select q)) m 1 (statement.Select q) (Refused (refusal_of f)) m
+  select_step c m shown q f s (inl (inl memory)) = subst (λ (e : Fault). StepSoFar (CannotStoreIn c (statement.Select q)) m 1 (statement.Select q) (Refused (refusal_of e)) m) (sym memory)
+      (instead (CannotStoreIn c (statement.Select q)) m (statement.Select q) refl shown.running _ (Refused refusal.Memory) (s.is q) (given_memory m s.next (read_on s.db q)))
+  select_step c m shown q f s (inl (inr io)) = subst (λ (e : Fault). StepSoFar (CannotStoreIn c (statement.Select q)) m 1 (statement.Select q) (Refused (refusal_of e)) m) (sym io)
+      (instead (CannotStoreIn c (statement.Select q)) m (statement.Select q) refl shown.running _ (Refused refusal.Io) (s.is q) (given_io m s.next (read_on s.db q)))
+  select_step c m shown q f s (inr (inl has)) =
+      by_outcome (CannotStoreIn c (statement.Select q)) m (statement.Select q) refl shown.running _ (Refused (refusal_of f)) m (s.is q) (given_fault m s.next (refusal_of f) (read_on s.db q) has)
+  select_step c m shown q f s (inr (inr refused)) =
+      by_outcome (CannotStoreIn c (statement.Select q)) m (statement.Select q) refl shown.running _ (Refused (refusal_of f)) m (s.is q) (given_refusal m s.next f (read_on s.db q) refused)
 
   -- a refused SELECT
-  pub select_refused : (old new : Connections D g) (q : Query) (f : Fault) → is_query_supported q ≡ true → OnlyReads old new
+  pub select_refused : (old new : Connections D g) (q : Query) (f : Fault) → OnlyReads old new
       → ((m : Machine) (db : Database) → RepresentsRunning old m → ShowsDatabase (seen_in old.transaction (files_of old)) (current_tables old.catalog) db → Answered (read_on db q) (Err f)) → StepsOn old (statement.Select q) (Refused (refusal_of f)) new
-  select_refused old new q f supported_forms reads answered m shown =
+  select_refused old new q f reads answered m shown =
       let s = sees old m shown in
       record {
         next = m;
-        step = select_step old m shown q f supported_forms s (answered m s.db shown s.stored);
+        step = select_step old m shown q f s (answered m s.db shown s.stored);
         shown = inr (still_shown old new m shown (reads.files shown.told) reads.failed reads.catalog reads.transaction);
         crash = crash_keeps old new m m shown (reads.files shown.told);
       }
 
   -- a SELECT that gives rows
-  pub select_gives : (old mid new : Connections D g) (q : Query) (rows : List (List Value)) → is_query_supported q ≡ true → OnlyReads old mid → StartsReading mid new
+  pub select_gives : (old mid new : Connections D g) (q : Query) (rows : List (List Value)) → OnlyReads old mid → StartsReading mid new
       → ((m : Machine) (db : Database) → RepresentsRunning old m → ShowsDatabase (seen_in old.transaction (files_of old)) (current_tables old.catalog) db → read_on db q ≡ Meant (Ok rows) []) → StepsOn old (statement.Select q) (Rows rows) new
   unfolding sees_by
-  select_gives old mid new q rows supported_forms reads starts answered m shown = by_case old.transaction refl shown.transaction
+  select_gives old mid new q rows reads starts answered m shown = by_case old.transaction refl shown.transaction
     where
       mid_shown : RepresentsRunning mid m
       mid_shown = still_shown old mid m shown (reads.files shown.told) reads.failed reads.catalog reads.transaction
@@ -184,7 +183,7 @@ module _ {D : Type 0} {g : Ghosts D} where
       crash_of next = crash_keeps old new m next shown (subst (ShowTheSame (files_of old)) (sym starts.files) (reads.files shown.told))
 
       step_of : (s : Sees old m) → StepSoFar (CannotStoreIn old (statement.Select q)) m 1 (statement.Select q) (Rows rows) s.next
-      step_of s = by_outcome (CannotStoreIn old (statement.Select q)) m (statement.Select q) supported_forms shown.running _ (Rows rows) s.next (s.is q) (given_rows m s.next rows (read_on s.db q) (answered m s.db shown s.stored))
+      step_of s = by_outcome (CannotStoreIn old (statement.Select q)) m (statement.Select q) refl shown.running _ (Rows rows) s.next (s.is q) (given_rows m s.next rows (read_on s.db q) (answered m s.db shown s.stored))
 
       other_shown : (t : Transaction) → old.transaction ≡ t → is_begun t ≡ false → RepresentsRunning new m
       other_shown t is begun = still_shown mid new m mid_shown same_files starts.failed starts.catalog (starts.other (ap is_begun (reads.transaction ∙ is) ∙ begun))

@@ -8,7 +8,12 @@ use Rattle.syntax.specs.declared.statement.Statement.{Statement}
 use Rattle.syntax.specs.declared.statement.Statement.TheVariants as statement
 use Rattle.wal.specs.declared.log.Log.{Log}
 use Rattle.catalog.specs.Database.{Database}
+use Rattle.catalog.specs.Listed.{committed_tables}
+use Rattle.catalog.specs.declared.tables.Catalogs.{Catalogs}
+use Rattle.pager.specs.Views.{newest_view}
 use Rattle.pager.specs.declared.writer.Writer.{Writer}
+use Rattle.session.specs.Machine.{newest}
+use Rattle.session.specs.Stored.{ShowsDatabase}
 use Rattle.session.specs.Applying.{CanApply, CommitsChanges, IsPast}
 use Rattle.session.specs.Changing.{written}
 use Rattle.session.specs.ConnectionState.{files_of, has_failed_in}
@@ -31,6 +36,7 @@ module _ {D : Type 0} {g : Ghosts D} where
   change_refused : (c : Connections D g) (w : Write) (s : Statement) (f : Fault) → written w ≡ s → IsRefusedFor c s f
   change_refused c (write.Insert i) s f is = subst (λ t. IsRefusedFor c t f) is (record { memory = λ memory. refl; full = λ m shown commit full. absurd cc })
   change_refused c (write.Delete d) s f is = subst (λ t. IsRefusedFor c t f) is (record { memory = λ memory. refl; full = λ m shown commit full. absurd cc })
+  change_refused c (write.Update u) s f is = subst (λ t. IsRefusedFor c t f) is (record { memory = λ memory. refl; full = λ m shown commit full. absurd cc })
   change_refused c (write.Drop kind name) s f is = subst (λ t. IsRefusedFor c t f) is (record { memory = λ memory. refl; full = λ m shown commit full. absurd cc })
   change_refused c (write.CreateTable sql d) s f is = subst (λ t. IsRefusedFor c t f) is (record { memory = λ memory. refl; full = λ m shown commit full. absurd cc })
 
@@ -51,11 +57,12 @@ module _ {D : Type 0} {g : Ghosts D} where
     ]
 
     pub commit_refused_for : (result : Result ⊤ Fault) → mid.catalog ≡ old.catalog → has_failed_in mid ≡ has_failed_in old
-        → ((db : Database) → has_failed_in mid ≡ false → CanApply mid w db → CommitsChanges mid w db result new left) → IfErr result (IsRefusedFor old statement.Commit)
+        → ((db was : Database) → has_failed_in mid ≡ false → CanApply mid w db → ShowsDatabase (newest_view (files_of mid)) (committed_tables mid.catalog) was → CommitsChanges mid w db result new left) → IfErr result (IsRefusedFor old statement.Commit)
     commit_refused_for (Ok done) catalog failed commits = tt
     commit_refused_for (Err f) catalog failed commits = record {
       memory = λ memory. ap has_written was;
       full = λ m shown commit full.
           let in_writing = writes_in old mid m w shown was files catalog in
-          full_past in_writing.db f (commits in_writing.db (failed ∙ shown.whole) in_writing.applies) full;
+          let stored = subst (λ (c : Catalogs). ShowsDatabase (newest_view (files_of mid)) (committed_tables c) (newest m)) (sym catalog) (subst (λ (l : Log D g). ShowsDatabase (newest_view l) (committed_tables old.catalog) (newest m)) (sym files) shown.stored) in
+          full_past in_writing.db f (commits in_writing.db (newest m) (failed ∙ shown.whole) in_writing.applies stored) full;
     }

@@ -32,7 +32,7 @@ use Rattle.session.specs.Steps.{Allowed, after_commit}
 use Rattle.session.specs.Stored.{CannotStore, ShowsDatabase}
 use Rattle.session.specs.Representation.{CannotStoreIn, RepresentsRunning, IsTransaction, OnlyReads, ShowTheSame, StepsOn, StepsTo, done_reply, is_idle, is_reading, seen_in, with_transaction}
 use Rattle.session.specs.Applying.{CommitsChanges, EndsAlone, IsApplied, IsCommitCause, IsDropped, IsNotApplied, KeepsCommitted, Applies, CanApply, listing_of}
-use Rattle.storage.specs.Changing.{IsChangeRefusal, IsUnstored}
+use Rattle.storage.specs.Changing.{IsChangeRefusal, IsTooMuch}
 use Rattle.session.specs.Changing.{ChangesPages, KeepsListed, written}
 use Rattle.session.specs.declared.transactions.Connections.{Connections}
 use Rattle.session.specs.declared.transactions.Transaction.{Transaction}
@@ -72,8 +72,8 @@ idle_now (transaction.Reading r) is = absurd (false≢true is)
 idle_now (transaction.Writing v) is = absurd (false≢true is)
 
 -- what can't be stored in the pages that a writer sees, can't in others that are the same
-cannot_store : (v u : View) (s : Statement) (db : Database) (f : Fault) → pages_in u ≡ pages_in v → u.page_size ≡ v.page_size → IsUnstored s (pages_in u) u.page_size db f → CannotStore v s db (refusal_of f)
-cannot_store v u s db f same size is = (f, refl, subst (λ (map : PageMap). IsUnstored s map v.page_size db f) same (subst (λ (n : ℕ). IsUnstored s (pages_in u) n db f) size is))
+cannot_store : (v u : View) (s : Statement) (db : Database) (f : Fault) → pages_in u ≡ pages_in v → u.page_size ≡ v.page_size → IsTooMuch s (pages_in u) u.page_size db f → CannotStore v s db (refusal_of f)
+cannot_store v u s db f same size is = (f, refl, subst (λ (map : PageMap). IsTooMuch s map v.page_size db f) same (subst (λ (n : ℕ). IsTooMuch s (pages_in u) n db f) size is))
 
 why_of : (s : Statement) (v u : View) (db : Database) (f : Fault) → pages_in u ≡ pages_in v → u.page_size ≡ v.page_size → IsChangeRefusal s (pages_in u) u.page_size db f → IsErrorCause (CannotStore v s db) (change_made s db) f
 why_of s v u db f same size (inl out) = inl out
@@ -280,8 +280,8 @@ module _ {D : Type 0} {g : Ghosts D} where
   -- a statement of its own, after its work
   pub ended_alone : (old mid after new : Connections D g) (w left : Writer) (s : Snapshot) (x : Write) (result : Result ⊤ Fault) → is_supported (written x) ≡ true → is_idle old.transaction ≡ true → mid.transaction ≡ old.transaction
       → ((m : Machine) → RepresentsRunning old m → Started old mid w s) → ((db : Database) → CanApply mid w db → IsApplied (written x) mid db after left)
-      → ((db : Database) → has_failed_in after ≡ false → CanApply after left db → EndsAlone after left db result new) → StepsOn old (written x) (done_reply result) new
-  ended_alone old mid after new w left s x result supported_forms idle beside starts applies ends m shown = by_result result (ends has.made (failed ∙ shown.whole) has.applies)
+      → ((db was : Database) → has_failed_in after ≡ false → CanApply after left db → ShowsDatabase (newest_view (files_of after)) (committed_tables after.catalog) was → EndsAlone after left db result new) → StepsOn old (written x) (done_reply result) new
+  ended_alone old mid after new w left s x result supported_forms idle beside starts applies ends m shown = by_result result (ends has.made (newest m) (failed ∙ shown.whole) has.applies newest_stored)
     where
       opened : Opening old m x (alone m)
       opened = opens_alone old m shown x old.transaction refl idle shown.transaction
@@ -303,6 +303,10 @@ module _ {D : Type 0} {g : Ghosts D} where
 
       committed_same : committed_tables after.catalog ≡ committed_tables old.catalog
       committed_same = has.kept.tables ∙ ap committed_tables start.catalog
+
+      newest_stored : ShowsDatabase (newest_view (files_of after)) (committed_tables after.catalog) (newest m)
+      newest_stored = subst (λ (v : View). ShowsDatabase v (committed_tables after.catalog) (newest m)) (sym worked.newest)
+          (subst (λ (ts : List Table). ShowsDatabase (newest_view (files_of old)) ts (newest m)) (sym committed_same) shown.stored)
 
       same_gone : (f : Fault) → IsDropped after left new f → ShowTheSame (files_of old) (files_of new)
       same_gone f gone = show_on (files_of old) (files_of after) (files_of new) worked gone.files

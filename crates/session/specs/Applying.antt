@@ -1,6 +1,6 @@
 -- What a statement makes of the database that its connection works on, and what a commit makes of that (SQL As Understood By
 -- SQLite, "BEGIN TRANSACTION").
-use Rattle.std.specs.Prelude.{◌≡◌, ◌⊎◌, ⊤, true, length, Result, Ok, Err}
+use Rattle.std.specs.Prelude.{◌≡◌, ◌⊎◌, ⊤, true, List, length, Result, Ok, Err}
 use Rattle.sqlval.specs.declared.fault.Fault.{Fault}
 use Rattle.sqlval.specs.declared.fault.Fault.TheVariants as fault
 use Rattle.disk.specs.File.{IsContentLeft}
@@ -11,13 +11,16 @@ use Rattle.catalog.specs.Listed.{IsUnchanged, committed_tables, current_tables}
 use Rattle.wal.specs.LogState.{db_of, log_of, state_of}
 use Rattle.wal.specs.Refusals.{IsWithin}
 use Rattle.wal.specs.declared.log.Log.{Log}
+use Rattle.wal.specs.declared.pages.PageImage.{PageImage}
 use Rattle.pager.specs.Limits.{pages_of}
-use Rattle.pager.specs.Views.{Tells, changes_of, newest_view}
+use Rattle.pager.specs.Pruning.{AreNew}
+use Rattle.pager.specs.Views.{Tells, changes_of, newest_view, view_at}
+use Rattle.pager.specs.Writers.{snapshot_of}
 use Rattle.pager.specs.declared.writer.Writer.{Writer}
 use Rattle.session.specs.Changing.{Listing, CanChange, RefusesChange, listing}
 use Rattle.storage.specs.Works.{Reaches, change_made}
 use Rattle.session.specs.Holding.{HoldThroughout, IsSettled}
-use Rattle.session.specs.ConnectionState.{files_of, has_failed_in}
+use Rattle.session.specs.ConnectionState.{files_of, has_failed_in, is_io}
 use Rattle.session.specs.Representation.{ShowTheSame}
 use Rattle.session.specs.Stored.{ShowsDatabase}
 use Rattle.session.specs.declared.transactions.Connections.{Connections}
@@ -83,9 +86,11 @@ module _ {D : Type 0} {g : Ghosts D} where
     pub db_left : IsContentLeft (g.file (db_of (files_of new)))
     pub log_left : IsContentLeft (g.file (log_of (files_of new)))
 
-  -- what a writer's commit would write is past the limits of the log or of the database
-  abbrev pub IsPast : Log D g → Writer → Type 0
-  IsPast files writer = IsWithin (state_of files) (length (changes_of writer)) (pages_of writer) → ⊥
+  -- what a writer's commit would write, the pages that its snapshot doesn't show, is past the limits of the log or of the database
+  pub record IsPast (files : Log D g) (writer : Writer) : Type 0 where
+    pub pages : List PageImage
+    pub are : AreNew (view_at files (snapshot_of writer)) (changes_of writer) pages
+    pub past : IsWithin (state_of files) (length pages) (pages_of writer) → ⊥
 
   -- why nothing is committed: when out of memory, or past the limits
   abbrev pub IsCommitCause : Log D g → Writer → Fault → Type 0
@@ -102,6 +107,32 @@ module _ {D : Type 0} {g : Ghosts D} where
   abbrev pub CommitsChanges : Connections D g → Writer → Database → Result ⊤ Fault → Connections D g → Writer → Type 0
   CommitsChanges old writer db (Ok done) new left = CommitsDatabase old db new × HoldsEither old db new
   CommitsChanges old writer db (Err f) new left = IsInDoubt old db new f ⊎ IsUncommitted old writer db new left f
+
+  -- nothing differs but the files
+  pub record KeepsAllButFiles (old new : Connections D g) : Type 0 where
+    pub failed : has_failed_in new ≡ has_failed_in old
+    pub transaction : new.transaction ≡ old.transaction
+    pub catalog : new.catalog ≡ old.catalog
+
+  -- the connections after a commit was written: all their tables are committed
+  pub record IsAfterCommit (old : Connections D g) (files : Log D g) (next : Connections D g) : Type 0 where
+    pub files_are : files_of next ≡ files
+    pub failed : has_failed_in next ≡ has_failed_in old
+    pub transaction : next.transaction ≡ old.transaction
+    pub current : current_tables next.catalog ≡ current_tables old.catalog
+    pub committed : committed_tables next.catalog ≡ current_tables old.catalog
+
+  -- the connections after its writing was refused: they are marked where a call of a disk failed
+  pub record IsAfterRefusal (old : Connections D g) (files : Log D g) (f : Fault) (next : Connections D g) : Type 0 where
+    pub files_are : files_of next ≡ files
+    pub failed : has_failed_in next ≡ is_io f
+    pub transaction : next.transaction ≡ old.transaction
+    pub catalog : next.catalog ≡ old.catalog
+
+  -- what the writing of a commit has come to, for the connections that are made of the files then
+  abbrev pub WritesChanges : Connections D g → Writer → Database → Result ⊤ Fault → Log D g → Writer → Type 0
+  WritesChanges old writer db (Ok done) files left = (next : Connections D g) → IsAfterCommit old files next → CommitsChanges old writer db (Ok done) next left
+  WritesChanges old writer db (Err f) files left = (next : Connections D g) → IsAfterRefusal old files f next → CommitsChanges old writer db (Err f) next left
 
   -- nothing is committed, and of the tables the committed ones are left
   pub record IsDropped (old : Connections D g) (writer : Writer) (new : Connections D g) (f : Fault) : Type 0 where

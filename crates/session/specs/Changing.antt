@@ -26,6 +26,7 @@ use Rattle.session.specs.declared.changes.Write.TheVariants as write
 abbrev pub written : Write → Statement
 written (write.Insert i) = statement.Change (change.Insert i.now)
 written (write.Delete d) = statement.Change (change.Delete d.now)
+written (write.Update u) = statement.Change (change.Update u.now)
 written (write.Drop kind name) = statement.Drop kind name.now
 written (write.CreateTable sql d) = statement.Create (record { sql = sql.now; object = new.Table d.now })
 

@@ -10,5 +10,6 @@ may_be_full (statement.Create c) = true
 may_be_full (statement.Drop kind name) = true
 may_be_full (statement.Change (change.Insert i)) = true
 may_be_full (statement.Change (change.Delete d)) = true
+may_be_full (statement.Change (change.Update u)) = true
 may_be_full statement.Commit = true
 may_be_full _ = false

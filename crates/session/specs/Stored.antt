@@ -8,7 +8,7 @@ use Rattle.catalog.specs.Database.{Database}
 use Rattle.catalog.specs.declared.tables.Table.{Table}
 use Rattle.pager.specs.Maps.{pages_in}
 use Rattle.pager.specs.Views.{View}
-use Rattle.storage.specs.Changing.{IsUnstored}
+use Rattle.storage.specs.Changing.{IsTooMuch}
 use Rattle.storage.specs.Stored.{Stores}
 
 -- The view's pages hold the database of these tables, and are no more than there may be.
@@ -18,4 +18,4 @@ pub record ShowsDatabase (view : View) (tables : List Table) (db : Database) : T
 
 -- What the statement makes of the database can't be stored in the view's pages, and is refused so.
 abbrev pub CannotStore : View → Statement → Database → Refusal → Type 0
-CannotStore view s db r = (f : Fault) × (r ≡ refusal_of f) × IsUnstored s (pages_in view) view.page_size db f
+CannotStore view s db r = (f : Fault) × (r ≡ refusal_of f) × IsTooMuch s (pages_in view) view.page_size db f

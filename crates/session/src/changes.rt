@@ -20,7 +20,9 @@ use disk::Disk;
 use pager::{Writer, Writing};
 use sqlval::{Name, R, Text};
 use std::alloc::Global;
-use syntax::{Change, Create, Delete, Insert, NewObject, ObjectKind, Statement, TableDefinition};
+use syntax::{
+    Change, Create, Delete, Insert, NewObject, ObjectKind, Statement, TableDefinition, Update,
+};
 use wal::Log;
 
 /// A statement that changes the database.
@@ -28,6 +30,7 @@ use wal::Log;
 pub enum Write<'a> {
     Insert(&'a Insert),
     Delete(&'a Delete),
+    Update(&'a Update),
     CreateTable(&'a Text, &'a TableDefinition),
     Drop(ObjectKind, &'a Name),
 }
@@ -41,6 +44,7 @@ pub fn write_of(statement: &Statement) -> Option<Write<'_>>
     match statement {
         Statement::Change(Change::Insert(insert)) => Some(Write::Insert(insert)),
         Statement::Change(Change::Delete(delete)) => Some(Write::Delete(delete)),
+        Statement::Change(Change::Update(update)) => Some(Write::Update(update)),
         Statement::Create(
             Create {
                 sql,
@@ -80,7 +84,7 @@ fn insert<D: Disk + Drop>(
     storage::insert(alloc, &mut pages, catalog.current(), insert)
 }
 
-/// Removes all rows of a table.
+/// Removes rows of a table.
 fn delete<D: Disk + Drop>(
     alloc: Global,
     log: &mut Log<D>,
@@ -91,8 +95,7 @@ fn delete<D: Disk + Drop>(
 ) -> R<()>
     ensures cause { HasCause true result log.old log.new }
     ensures reads { Tells log.old → ShowTheSame log.old log.new }
-    ensures applies { (db : Database) → forms.is_delete_supported delete.now ≡ true
-        → CanChange (listing log.old catalog.now) writer.old db
+    ensures applies { (db : Database) → CanChange (listing log.old catalog.now) writer.old db
         → ChangesPages (statement.Change (change.Delete delete.now)) (listing log.old catalog.now) writer.old db result
         (listing log.new catalog.now) writer.new }
     ensures marks { marks_of writer.new ≡ marks_of writer.old }
@@ -106,6 +109,33 @@ fn delete<D: Disk + Drop>(
         place: None,
     };
     storage::delete_rows(alloc, &mut pages, catalog.current(), delete)
+}
+
+/// Sets values in rows of a table.
+fn update<D: Disk + Drop>(
+    alloc: Global,
+    log: &mut Log<D>,
+    buffer: &mut Vec<u8>,
+    catalog: &Catalogs,
+    writer: &mut Writer,
+    update: &Update,
+) -> R<()>
+    ensures cause { HasCause true result log.old log.new }
+    ensures reads { Tells log.old → ShowTheSame log.old log.new }
+    ensures applies { (db : Database) → CanChange (listing log.old catalog.now) writer.old db
+        → ChangesPages (statement.Change (change.Update update.now)) (listing log.old catalog.now) writer.old db result
+        (listing log.new catalog.now) writer.new }
+    ensures marks { marks_of writer.new ≡ marks_of writer.old }
+    ensures stands { IsOverTheSame writer.old writer.new }
+{
+    let mut pages = Writing {
+        alloc,
+        log,
+        writer,
+        buffer,
+        place: None,
+    };
+    storage::update_rows(alloc, &mut pages, catalog.current(), update)
 }
 
 /// Makes a table's row in the schema table, and its tree. Answers the catalog with it.
@@ -235,6 +265,7 @@ pub fn apply<D: Disk + Drop>(
     match write {
         Write::Insert(rows) => insert(alloc, log, buffer, catalog, writer, rows),
         Write::Delete(rows) => delete(alloc, log, buffer, catalog, writer, rows),
+        Write::Update(rows) => update(alloc, log, buffer, catalog, writer, rows),
         Write::CreateTable(sql, table) => {
             create_table(alloc, log, buffer, catalog, writer, sql, table)
         }

@@ -2,80 +2,19 @@
 
 ghost use Rattle.std.specs.Prelude.{◌≡◌, ◌==◌, length};
 ghost use Rattle.std.specs.List.{list_all};
-ghost use Rattle.bind.specs.Bound.{is_literal};
 ghost use Rattle.storage.specs.Forms as supported_forms;
 
 use sqlval::Many;
 use syntax::{
-    Change, ColumnDefinition, Create, Expr, InsertSource, NewObject, Node, Query, ResultItem,
-    Statement, TableDefinition,
+    Change, ColumnDefinition, Create, InsertSource, NewObject, Statement, TableDefinition,
 };
 
-fn is_literal_supported(value: &Expr) -> bool
-    ensures { result ≡ is_literal value.now }
-{
-    match &value.node {
-        Node::Null | Node::Integer(_) | Node::Text(_) | Node::Blob(_) => true,
-        Node::Negated(operand) => matches!(&operand.node, Node::Integer(_)),
-        _ => false,
-    }
-}
-
-fn is_result_supported(item: &ResultItem) -> bool
-    ensures { result ≡ supported_forms.is_result_supported item.now }
-{
-    match item {
-        ResultItem::All | ResultItem::AllOf(_) => true,
-        ResultItem::Of(value, _) => {
-            matches!(&value.node, Node::Column(_, _)) || is_literal_supported(value)
-        }
-    }
-}
-
-fn are_results_supported(results: &Many<ResultItem>) -> bool
-    ensures { result ≡ list_all supported_forms.is_result_supported results.now }
-{
-    results.as_slice().iter().all(is_result_supported)
-}
-
-fn has_one_source(query: &Query) -> bool
-    ensures { result ≡ supported_forms.has_one_source query.now.from }
-{
-    match &query.from {
-        Some(from) => from.joins.len() == 0,
-        None => true,
-    }
-}
-
-fn is_query_supported(query: &Query) -> bool
-    ensures { result ≡ supported_forms.is_query_supported query.now }
-{
-    !query.is_distinct
-        && query.condition.is_none()
-        && query.groups.len() == 0
-        && query.order.len() == 0
-        && query.limit.is_none()
-        && has_one_source(query)
-        && are_results_supported(&query.results)
-}
-
-fn is_row_supported(row: &Many<Expr>) -> bool
-    ensures { result ≡ list_all is_literal row.now }
-{
-    row.as_slice().iter().all(is_literal_supported)
-}
-
-fn are_rows_supported(rows: &Many<Many<Expr>>) -> bool
-    ensures { result ≡ list_all (list_all is_literal) rows.now }
-{
-    rows.as_slice().iter().all(is_row_supported)
-}
-
+/// Whether an INSERT's rows are those of VALUES.
 fn is_source_supported(source: &InsertSource) -> bool
     ensures { result ≡ supported_forms.is_source_supported source.now }
 {
     match source {
-        InsertSource::Rows(rows) => are_rows_supported(rows),
+        InsertSource::Rows(_) => true,
         InsertSource::Query(_) => false,
     }
 }
@@ -111,10 +50,12 @@ pub fn is_supported(statement: &Statement) -> bool
             },
         ) => is_table_supported(table),
         Statement::Change(Change::Insert(insert)) => is_source_supported(&insert.source),
-        Statement::Change(Change::Delete(delete)) => delete.condition.is_none(),
-        Statement::Drop(_, _) => true,
-        Statement::Select(query) => is_query_supported(query),
-        Statement::Begin(_) | Statement::Commit | Statement::Rollback => true,
+        Statement::Change(Change::Delete(_) | Change::Update(_)) => true,
+        Statement::Select(_)
+        | Statement::Drop(_, _)
+        | Statement::Begin(_)
+        | Statement::Commit
+        | Statement::Rollback => true,
         _ => false,
     }
 }

@@ -1,12 +1,11 @@
 //! The reading of queries: on a snapshot, or with the changes of a writer.
 
-ghost use Rattle.std.specs.Prelude.{◌≡◌, ◌≤◌, map, true, false};
+ghost use Rattle.std.specs.Prelude.{◌≡◌, ◌≤◌, map, false};
 ghost use Rattle.catalog.specs.Database.{Database};
 ghost use Rattle.catalog.specs.Listed.{tables_of};
 ghost use Rattle.pager.specs.Views.{Tells, view_at, view_of};
 ghost use Rattle.rowprog.specs.Rows.{values_of};
 ghost use Rattle.wal.specs.LogState.{state_of, seen_by};
-ghost use Rattle.storage.specs.Forms.{is_query_supported};
 ghost use Rattle.storage.specs.Reading.{AnswersRead};
 ghost use Rattle.storage.specs.Works.{read_on};
 ghost use Rattle.session.specs.ConnectionState.{HasCause};
@@ -44,7 +43,7 @@ fn read_snapshot<D: Disk + Drop>(
     ensures same { Tells log.old → ShowTheSame log.old log.new }
     ensures answered { (db : Database) → Tells log.old → seen_by snapshot ≤ (state_of log.old).frames
         → ShowsDatabase (view_at log.old snapshot) (tables_of catalog.now) db
-        → is_query_supported query.now ≡ true → AnswersRead (λ rows. map values_of rows.items) (read_on db query.now) result }
+        → AnswersRead (λ rows. map values_of rows.items) (read_on db query.now) result }
 {
     let mut pages = Reading {
         log,
@@ -67,7 +66,7 @@ fn read_changes<D: Disk + Drop>(
     ensures same { Tells log.old → ShowTheSame log.old log.new }
     ensures answered { (db : Database) → Tells log.old → IsWriter log.old writer.now
         → ShowsDatabase (view_of log.old writer.now) (tables_of catalog.now) db
-        → is_query_supported query.now ≡ true → AnswersRead (λ rows. map values_of rows.items) (read_on db query.now) result }
+        → AnswersRead (λ rows. map values_of rows.items) (read_on db query.now) result }
 {
     let mut pages = Viewing {
         log,
@@ -91,7 +90,7 @@ pub fn read<D: Disk + Drop>(
     ensures same { Tells log.old → ShowTheSame log.old log.new }
     ensures answered { (db : Database) → Tells log.old → IsSightOf log.old sight.entry
         → ShowsDatabase (view_by log.old sight.entry) (tables_of catalog.now) db
-        → is_query_supported query.now ≡ true → AnswersRead (λ rows. map values_of rows.items) (read_on db query.now) result }
+        → AnswersRead (λ rows. map values_of rows.items) (read_on db query.now) result }
 {
     match sight {
         Sight::Snapshot(snapshot) => read_snapshot(alloc, log, buffer, catalog, snapshot, query),

@@ -8,17 +8,16 @@ ghost use Rattle.storage.specs.Reading.{AnswersRead};
 ghost use Rattle.rowprog.specs.Rows.{values_of};
 ghost use Rattle.storage.specs.Schema.{KeepsItsText, WhereSupported};
 ghost use Rattle.session.specs.Stored.{ShowsDatabase};
-ghost use Rattle.storage.specs.Forms.{is_query_supported};
 ghost use Rattle.storage.specs.Works.{read_on};
 ghost use Rattle.catalog.specs.Database.{Database};
-ghost use Rattle.catalog.specs.Listed.{current_tables, tables_of};
+ghost use Rattle.catalog.specs.Listed.{committed_tables, current_tables, tables_of};
 ghost use Rattle.session.specs.Supported.{is_connection_supported};
 ghost use Rattle.storage.specs.Forms as forms;
 ghost use Rattle.wal.specs.LogState.{db_of, log_of};
 ghost use Rattle.session.specs.ConnectionState.{is_io};
 ghost use Rattle.session.specs.Limits.{may_be_full};
 ghost use Rattle.session.specs.Failing.{IsRefusedFor, MarksFailure, ReadsFiles, is_immediate};
-ghost use Rattle.session.specs.Applying.{CommitsChanges, EndsAlone, Applies, CanApply};
+ghost use Rattle.session.specs.Applying.{CommitsChanges, EndsAlone, Applies, CanApply, KeepsAllButFiles, WritesChanges};
 ghost use Rattle.session.specs.Changing.{written};
 
 use crate::changes::{Write, apply, write_of};
@@ -256,14 +255,32 @@ impl<D: Disk + Drop> Connections<D> {
         self.transaction = Transaction::Idle;
     }
 
+    /// Writes those of a writer's pages that its snapshot doesn't show, as one commit. (What `pruned` and `commit` of `Writer` refuse.)
+    fn write_changes(&mut self, writer: &mut Writer) -> R<()>
+        ensures cause { HasCauseIn true result self.old self.new }
+        ensures rest { KeepsAllButFiles self.old self.new }
+        ensures writes { (db was : Database) → has_failed_in self.old ≡ false → CanApply self.old writer.old db
+            → ShowsDatabase (newest_view (files_of self.old)) (committed_tables self.old.catalog) was
+            → WritesChanges self.old writer.old db result (files_of self.new) writer.new }
+    {
+        match writer.pruned(self.alloc, &mut self.log, &mut self.buffer)? {
+            None => writer.commit(self.alloc, &mut self.log),
+            Some(pruned) => {
+                let mut pruned = pruned;
+                pruned.commit(self.alloc, &mut self.log)
+            }
+        }
+    }
+
     /// Commits a writer's pages. After `Io` every statement is refused.
     fn commit_writer(&mut self, writer: &mut Writer) -> R<()>
         ensures cause { HasCauseIn true result self.old self.new }
         ensures marks { MarksFailure result self.old self.new }
-        ensures commits { (db : Database) → has_failed_in self.old ≡ false → CanApply self.old writer.old db
+        ensures commits { (db was : Database) → has_failed_in self.old ≡ false → CanApply self.old writer.old db
+            → ShowsDatabase (newest_view (files_of self.old)) (committed_tables self.old.catalog) was
             → CommitsChanges self.old writer.old db result self.new writer.new }
     {
-        if let Err(fault) = writer.commit(self.alloc, &mut self.log) {
+        if let Err(fault) = self.write_changes(writer) {
             self.has_failed |= is_io(&fault);
             return Err(fault);
         }
@@ -310,7 +327,7 @@ impl<D: Disk + Drop> Connections<D> {
         ensures reads { OnlyReads self.old self.new }
         ensures answered { (m : Machine) (db : Database) → RepresentsRunning self.old m
             → ShowsDatabase (seen_in self.old.transaction (files_of self.old)) (current_tables self.old.catalog) db
-            → is_query_supported query.now ≡ true → AnswersRead (λ rows. map values_of rows.items) (read_on db query.now) result }
+            → AnswersRead (λ rows. map values_of rows.items) (read_on db query.now) result }
     {
         match &self.transaction {
             Transaction::Writing(writer) => read(
@@ -354,7 +371,7 @@ impl<D: Disk + Drop> Connections<D> {
     fn select(&mut self, query: &Query) -> R<Rows>
         ensures cause { HasCauseIn false result self.old self.new }
         ensures reads { ReadsFiles self.old self.new }
-        ensures step { is_query_supported query.now ≡ true → StepsOn self.old (statement.Select query.now) (rows_reply result) self.new }
+        ensures step { StepsOn self.old (statement.Select query.now) (rows_reply result) self.new }
     {
         let rows = self.read(query)?;
         self.begin_reading();
@@ -414,7 +431,8 @@ impl<D: Disk + Drop> Connections<D> {
     fn commit_autocommit(&mut self, writer: Writer) -> R<()>
         ensures cause { HasCauseIn true result self.old self.new }
         ensures marks { MarksFailure result self.old self.new }
-        ensures ends { (db : Database) → has_failed_in self.old ≡ false → CanApply self.old writer db
+        ensures ends { (db was : Database) → has_failed_in self.old ≡ false → CanApply self.old writer db
+            → ShowsDatabase (newest_view (files_of self.old)) (committed_tables self.old.catalog) was
             → EndsAlone self.old writer db result self.new }
     {
         let mut writer = writer;

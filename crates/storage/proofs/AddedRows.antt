@@ -5,36 +5,33 @@ use Rattle.std.proofs.lemmas.Bool.{false≢true}
 use Rattle.sqlval.specs.Faults.{IsOutside}
 use Rattle.sqlval.specs.declared.fault.Fault.{Fault}
 use Rattle.sqlval.specs.declared.fault.Fault.TheVariants as fault
-use Rattle.sqlval.specs.declared.fault.Damage.TheVariants as damage
-use Rattle.sqlval.specs.declared.fault.Feature.TheVariants.{RowSize}
 use Rattle.sqlval.specs.declared.value.Value.{Value}
 use Rattle.record.specs.Record.{IsRecord}
 use Rattle.page.specs.Leaf.{Entry}
+use Rattle.pages.specs.Calls.{IsOutsideOrFull}
 use Rattle.pages.specs.Map.{PageMap}
-use Rattle.tabletree.specs.Calls.{BecomesRows, InsertsRow, IsGrowthRefusal, IsInserted, Stands}
+use Rattle.tabletree.specs.Calls.{BecomesRows, InsertsRow, IsInserted, Stands}
 use Rattle.tabletree.specs.Laws.{RowsComeLast}
 use Rattle.tabletree.specs.Rows.{last_rowid, payload_at, with_row}
-use Rattle.dml.specs.Trees.{CannotGrow}
 use Rattle.storage.specs.Listing.{AddsRow, FindsNoRowid, IsAddedAfter}
 
-abbrev Refusal : Fault → ℕ → List Value → List Entry → Type 0
-Refusal f depth values rows = CannotGrow 1 depth 1 f ⊎ FindsNoRowid values rows f
+abbrev Refusal : Fault → List Value → List Entry → Type 0
+Refusal f values rows = IsOutsideOrFull f ⊎ FindsNoRowid values rows f
 
 -- a refusal that is passed on
-pub passed : {X : Type 0} (P : X → Type 0) (r : Result X Fault) (f : Fault) (depth : ℕ) (values : List Value) (rows : List Entry) → IsErrAnd r (λ e. e ≡ f) → Refusal f depth values rows
-    → MatchResult r P (λ f. Refusal f depth values rows)
-passed P (Ok x) f depth values rows is why = absurd is
-passed P (Err e) f depth values rows is why = subst (λ x. Refusal x depth values rows) (sym is) why
+pub passed : {X : Type 0} (P : X → Type 0) (r : Result X Fault) (f : Fault) (values : List Value) (rows : List Entry) → IsErrAnd r (λ e. e ≡ f) → Refusal f values rows
+    → MatchResult r P (λ f. Refusal f values rows)
+passed P (Ok x) f values rows is why = absurd is
+passed P (Err e) f values rows is why = subst (λ x. Refusal x values rows) (sym is) why
 
-pub outside : (f : Fault) (depth : ℕ) (values : List Value) (rows : List Entry) → IsOutside f → Refusal f depth values rows
-outside f depth values rows why = inl (inl (inl why))
+pub outside : (f : Fault) (values : List Value) (rows : List Entry) → IsOutside f → Refusal f values rows
+outside f values rows why = inl (inl why)
 
-pub no_rowid : (f : Fault) (depth : ℕ) (values : List Value) (rows : List Entry) (last : Option ℤ) → last ≡ last_rowid rows → (f ≡ fault.Unsupported RowSize) × (last ≡ Some (pos (2 ^ 63 - 1))) → Refusal f depth values rows
-no_rowid f depth values rows last found why = inr (why.0, inr (sym found ∙ why.1))
+pub no_rowid : (f : Fault) (values : List Value) (rows : List Entry) (last : Option ℤ) → last ≡ last_rowid rows → (f ≡ fault.TooLong) × (last ≡ Some (pos (2 ^ 63 - 1))) → Refusal f values rows
+no_rowid f values rows last found why = inr (why.0, inr (sym found ∙ why.1))
 
-pub growth : (f : Fault) (depth : ℕ) (values : List Value) (rows : List Entry) → IsGrowthRefusal 1 depth f → Refusal f depth values rows
-growth f depth values rows (inl full) = inl (inl full)
-growth f depth values rows (inr (deep, least)) = inl (inr (deep, omega (arith, least)))
+pub growth : (f : Fault) (values : List Value) (rows : List Entry) → IsOutsideOrFull f → Refusal f values rows
+growth f values rows full = inl full
 
 one_up : (n m : ℤ) → m ≡ n +ℤ pos 1 → n <ℤ m
 one_up n m e = grind (arith)
@@ -50,16 +47,16 @@ comes_after last rowid rows found next = subst (λ (o : Option ℤ). MatchOption
 module _ (law : RowsComeLast) (old new : PageMap) (size : ℕ) (values : List Value) (rows : List Entry) (used free : List ℕ) (is : Stands old size 1 rows used free) (row : Entry)
     (after : MatchOption (last_rowid rows) ⊤ (λ n. n <ℤ row.rowid)) where
   -- it can't be there
-  pub not_there : IsInserted old new size 1 row is.tree.depth rows used free false → ⊥
+  pub not_there : IsInserted old new size 1 row rows used free false → ⊥
   not_there there = there.0 (law old size 1 rows used row is.tree after).0
 
-  pub added : IsRecord row.payload values → IsInserted old new size 1 row is.tree.depth rows used free true → IsAddedAfter old new size values rows used free row.rowid
+  pub added : IsRecord row.payload values → IsInserted old new size 1 row rows used free true → IsAddedAfter old new size values rows used free row.rowid
   added is_record put = record {
     entry = row;
     rowid_is = refl;
     is = is_record;
-    becomes = subst (λ (rs : List Entry). BecomesRows old new size 1 rs used free) (law old size 1 rows used row is.tree after).1 put.1.0;
+    becomes = subst (λ (rs : List Entry). BecomesRows old new size 1 rs used free) (law old size 1 rows used row is.tree after).1 put.1;
   }
 
-  pub by_flag : (b flag : Bool) → b ≡ flag → IsInserted old new size 1 row is.tree.depth rows used free b → IsInserted old new size 1 row is.tree.depth rows used free flag
-  by_flag b flag e put = subst (IsInserted old new size 1 row is.tree.depth rows used free) e put
+  pub by_flag : (b flag : Bool) → b ≡ flag → IsInserted old new size 1 row rows used free b → IsInserted old new size 1 row rows used free flag
+  by_flag b flag e put = subst (IsInserted old new size 1 row rows used free) e put

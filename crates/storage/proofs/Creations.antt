@@ -42,8 +42,7 @@ use Rattle.bind.specs.Creating.{HasColumnsOf, IsCreateRefusal, has_no_rules}
 use Rattle.bind.specs.Schema.{create}
 use Rattle.bind.proofs.CreatedTables.{keeps_once, makes_table, refuses_table}
 use Rattle.rowprog.specs.Rows.{IsRow, TableRow}
-use Rattle.dml.specs.Trees.{CannotGrow}
-use Rattle.storage.specs.Changing.{IsChangeRefusal, IsMade, MayGrowDeep}
+use Rattle.storage.specs.Changing.{IsChangeRefusal, IsMade}
 use Rattle.storage.specs.Forms.{is_table_supported}
 use Rattle.storage.specs.Listing.{FindsNoRowid, IsAddedAfter}
 use Rattle.storage.specs.Schema.{AreRowsOf, IsCreateOf, IsMadeBeside, IsRowOf, schema_row}
@@ -124,27 +123,22 @@ module _ (laws : Laws) (old : PageMap) (size : ℕ) (tables : List Table) (db : 
         let other = laws.stand mid size schema (held.owners ++ made ∷ []) [] (held.owners ++ made ∷ []) 1 held.schema held.schema_used tree.now_free shared_with refl refl page_size in
         record { tree = (laws.stay old mid size 1 held.schema held.schema_used kept schema_stands.tree).0; free_are = other.free_are; apart = other.apart; first = other.first; sized = other.sized }
 
-    as_deep : schema_then.tree.depth ≡ schema_stands.tree.depth
-    unfolding kept schema_stands schema_then
-    as_deep = (laws.stay old mid size 1 held.schema held.schema_used kept schema_stands.tree).1
-
     -- its row isn't added
-    pub refused_row : (t : Table) → has_no_rules d ≡ true → IsMadeBeside tables d root t → (f : Fault) → CannotGrow 1 schema_then.tree.depth 1 f ⊎ FindsNoRowid (schema_row d.name d.name root sql) held.schema f
+    pub refused_row : (t : Table) → has_no_rules d ≡ true → IsMadeBeside tables d root t → (f : Fault) → IsOutsideOrFull f ⊎ FindsNoRowid (schema_row d.name d.name root sql) held.schema f
         → IsChangeRefusal (creating sql d) old size db f
-    refused_row t plain is f (inl (inl full)) = inl full
-    refused_row t plain is f (inl (inr (deep, least))) = inr (inr (inr (record { root = 1; is = deep; rows = held.schema; used = held.schema_used; tree = schema_stands.tree; deep = omega (arith, least, as_deep) })))
-    refused_row t plain is f (inr (what, inl long)) = inr (inr (inl (record {
+    refused_row t plain is f (inl full) = inl full
+    refused_row t plain is f (inr (what, inl long)) = inr (inr (record {
       is = what;
       made = with_object db d.name (ATable (plain_table t []));
       reaches = reached sql db held.rows_at tables d root t held.lists plain is;
       why = inr (inl (root, long));
-    })))
-    refused_row t plain is f (inr (what, inr full)) = inr (inr (inl (record {
+    }))
+    refused_row t plain is f (inr (what, inr full)) = inr (inr (record {
       is = what;
       made = with_object db d.name (ATable (plain_table t []));
       reaches = reached sql db held.rows_at tables d root t held.lists plain is;
       why = inr (inr (record { rows = held.schema; used = held.schema_used; tree = schema_stands.tree; last = full }));
-    })))
+    }))
 
     -- ---- the table is listed
 

@@ -1,37 +1,47 @@
--- What a DELETE of all rows comes to on the database that pages hold.
-use Rattle.std.proofs.Common.{◌≡◌, ◌⊎◌, inl, inr, refl, sym, ap, subst, ◌∙◌, ℕ, Bool, true, List, [], ◌∷◌, ◌++◌, Option, Some, None, is_none, Result, Ok, Err, arith}
+-- What a DELETE comes to on the database that pages hold.
+use Rattle.std.proofs.Common.{◌≡◌, ◌⊎◌, inl, inr, refl, sym, ap, subst, ◌∙◌, ℕ, Bool, true, not, filter, List, [], ◌∷◌, ◌++◌, length, map, Option, Some, None, Result, Ok, Err, arith}
 use Rattle.std.specs.Prelude.{⊤, Contains, MatchResult}
 use Rattle.sqlval.specs.Names.{folded}
-use Rattle.sqlval.specs.Refusals.{Answer, NoSuch, Refusal, refusal_of}
+use Rattle.sqlval.specs.Refusals.{Answer, ◌then◌, NoSuch, Refusal, all_answers, refusal_of}
 use Rattle.sqlval.specs.declared.fault.Fault.{Fault}
 use Rattle.sqlval.specs.declared.fault.Fault.TheVariants as fault
-use Rattle.syntax.specs.Tree.{Tree}
 use Rattle.syntax.specs.declared.change.Change.TheVariants as kind
 use Rattle.syntax.specs.declared.change.Delete.{Delete}
 use Rattle.syntax.specs.declared.statement.Statement.{Statement}
 use Rattle.syntax.specs.declared.statement.Statement.TheVariants as statement
+use Rattle.page.specs.Leaf.{Entry}
 use Rattle.pages.specs.Map.{PageMap}
+use Rattle.treepage.specs.Cells.{Pairwise}
 use Rattle.tabletree.specs.Calls.{BecomesRows, Stands}
-use Rattle.tabletree.specs.Freeing.{ClearsTree, IsCleared}
+use Rattle.tabletree.specs.Freeing.{ClearsTree}
 use Rattle.filecheck.specs.Layout.{ReplacesTrees, TreesStand}
-use Rattle.catalog.specs.Database.{ATable, Database, with_object}
+use Rattle.catalog.specs.Database.{ATable, Database, Name, with_object}
 use Rattle.catalog.specs.Laws.{KeepsOnlyTables, ListsOtherRows}
 use Rattle.catalog.specs.Listed.{plain_table, table_named}
 use Rattle.catalog.specs.Named.{KeepsNamed}
+use Rattle.catalog.specs.Rows.{are_rows}
 use Rattle.catalog.specs.declared.tables.Table.{Table}
-use Rattle.bind.specs.Bound.{looked_up}
-use Rattle.bind.specs.Checked.{Checked, ◌and_then◌, faults, good, known_map, noted}
+use Rattle.bind.specs.Bound.{IsFaultOf, looked_up, source_seen}
+use Rattle.bind.specs.Checked.{Checked, Meant, ◌and_then◌, also, faults, good, known_map, noted}
 use Rattle.bind.specs.Queries.{resolve_filter}
 use Rattle.bind.specs.Scopes.{beside, source_of}
+use Rattle.bind.specs.declared.queries.BoundSource.{BoundSource}
 use Rattle.bind.specs.declared.scope.ScopeColumn.{ScopeColumn}
 use Rattle.bind.proofs.KnownTables.{known_listed}
+use Rattle.terms.specs.Terms.{Term}
+use Rattle.rowprog.specs.Rows.{IsRow, TableRow}
 use Rattle.dml.specs.Changes.{Deletes, Resolved, no_outer, resolve_change}
+use Rattle.dml.specs.Choosing.{is_chosen, rows_left, tested}
+use Rattle.dml.specs.Constraints.{table_of}
+use Rattle.dml.specs.Taking.{IsTakeRefusal, TakesRows}
+use Rattle.dml.proofs.Taken.{fit_still}
 use Rattle.trigger.specs.Binding.{IsFault}
-use Rattle.trigger.specs.Laws.{BindsAlone, DeleteTakesRows}
+use Rattle.trigger.specs.Effects.{change}
+use Rattle.trigger.specs.Laws.{BindsAlone, DeleteTakesChosen, DeleteTakesRows}
 use Rattle.storage.specs.Changing.{IsChangeRefusal, IsMade}
-use Rattle.storage.specs.Forms.{is_delete_supported}
 use Rattle.storage.specs.Stored.{Stores}
-use Rattle.storage.specs.Works.{Reaches, change_made, of_answer}
+use Rattle.storage.specs.Taking.{TakesFrom}
+use Rattle.storage.specs.Works.{Reaches, RefusesWith, change_made, of_answer}
 use Rattle.storage.proofs.Insertions.{listed_table, named_folded}
 use Rattle.storage.proofs.Owners.{HasOwner, owner_of}
 use Rattle.storage.proofs.PutRows.{stands, stores_rows}
@@ -44,82 +54,193 @@ pub record Laws : Type 0 where
   pub named : KeepsNamed
   pub binds : BindsAlone
   pub deletes : DeleteTakesRows
+  pub chosen : DeleteTakesChosen
   pub stand : TreesStand
   pub give_way : ReplacesTrees
 
 abbrev deleting : Delete → Statement
 deleting d = statement.Change (kind.Delete d)
 
--- ---- its name
+-- ---- its names
 
-abbrev resolved_by : Delete → Option Tree → Checked (List ScopeColumn × Bool) → Checked Resolved
-resolved_by d condition found =
-    (noted found and_then λ found. good (source_of (folded d.table) found)) and_then λ s. known_map (Deletes (folded d.table)) (resolve_filter (beside [] (s.name ∷ []) ++ s ∷ []) condition)
+abbrev resolved_by : Delete → Checked (List ScopeColumn × Bool) → Checked Resolved
+resolved_by d found =
+    (noted found and_then λ found. good (source_of (folded d.table) found)) and_then λ s. known_map (Deletes (folded d.table)) (resolve_filter (beside [] (s.name ∷ []) ++ s ∷ []) d.condition)
 
-no_condition : (condition : Option Tree) → is_none condition ≡ true → condition ≡ None
-no_condition None e = refl
-no_condition (Some t) e = absurd cc
+first_fault : (r : Refusal) (k : Checked Resolved) → Contains (faults (also (r ∷ []) k)) r
+first_fault r (Meant x rs) = (0, omega arith, refl)
 
-module _ (laws : Laws) (pages : PageMap) (size : ℕ) (tables : List Table) (db : Database) (held : Stores pages size tables db) (d : Delete) (supported_forms : is_delete_supported d ≡ true) where
-  resolved : (found : Option Table) → table_named d.table tables ≡ found → resolve_change db no_outer (kind.Delete d) ≡ resolved_by d None (looked_up found)
-  resolved found named =
-      ap (resolved_by d d.condition) (known_listed held.rows_at tables db held.lists d.table ∙ ap looked_up named)
-      ∙ ap (λ condition. resolved_by d condition (looked_up found)) (no_condition d.condition supported_forms)
+known_fault : (name : Name) (k : Checked (Option Term)) (r : Refusal) → Contains (faults k) r → Contains (faults (also [] (known_map (Deletes name) k))) r
+known_fault name (Meant w rs) r has = has
+
+-- a refusal is one by its statement
+pub as_refused : (f : Fault) → RefusesWith (of_answer (Err (refusal_of f))) (refusal_of f)
+as_refused fault.Memory = (0, omega arith, refl)
+as_refused fault.Io = (0, omega arith, refl)
+as_refused fault.NotADatabase = (0, omega arith, refl)
+as_refused (fault.Unsupported x) = (0, omega arith, refl)
+as_refused (fault.Damaged x y) = (0, omega arith, refl)
+as_refused fault.Full = (0, omega arith, refl)
+as_refused (fault.Syntax x) = (0, omega arith, refl)
+as_refused (fault.NoSuch x y) = (0, omega arith, refl)
+as_refused (fault.Exists x) = (0, omega arith, refl)
+as_refused (fault.Ambiguous x) = (0, omega arith, refl)
+as_refused (fault.Misuse x) = (0, omega arith, refl)
+as_refused fault.Busy = (0, omega arith, refl)
+as_refused fault.StaleSnapshot = (0, omega arith, refl)
+as_refused fault.NoTransaction = (0, omega arith, refl)
+as_refused fault.InTransaction = (0, omega arith, refl)
+as_refused fault.NoSavepoint = (0, omega arith, refl)
+as_refused fault.NotNull = (0, omega arith, refl)
+as_refused fault.Unique = (0, omega arith, refl)
+as_refused fault.Check = (0, omega arith, refl)
+as_refused (fault.Raised x) = (0, omega arith, refl)
+as_refused fault.RealRefused = (0, omega arith, refl)
+as_refused fault.TypeRefused = (0, omega arith, refl)
+as_refused fault.RowidFull = (0, omega arith, refl)
+as_refused fault.RowidMismatch = (0, omega arith, refl)
+as_refused fault.TooLong = (0, omega arith, refl)
+as_refused fault.RowChangedBefore = (0, omega arith, refl)
+as_refused fault.ViewReadOnly = (0, omega arith, refl)
+as_refused fault.Failed = (0, omega arith, refl)
+as_refused fault.Blank = (0, omega arith, refl)
+
+abbrev stays : Term → TableRow → Bool
+stays c row = not (is_chosen c row)
+
+-- what a condition leaves
+left_fits : (c : Term) (t : Table) (rows left : List TableRow) → rows_left c rows ≡ Ok left → are_rows (plain_table t rows) ≡ true → are_rows (plain_table t left) ≡ true
+left_fits c t rows left e fit = by (all_answers (map (tested c) rows)) e
+  where
+    same : (a b : List TableRow) → (let l : Answer (List TableRow) = Ok a in l) ≡ Ok b → a ≡ b
+    same a b h = cc
+
+    none : (r : Refusal) → (let l : Answer (List TableRow) = Err r in l) ≡ Ok left → ⊥
+    none r h = absurd cc
+
+    by : (a : Answer (List (Option Bool))) → (a then λ tests. Ok (filter (stays c) rows)) ≡ Ok left → are_rows (plain_table t left) ≡ true
+    by (Ok tests) h = subst (λ (l : List TableRow). are_rows (plain_table t l) ≡ true) (same (filter (stays c) rows) left h) (fit_still (stays c) t rows fit)
+    by (Err r) h = absurd (none r h)
+
+module _ (laws : Laws) (pages : PageMap) (size : ℕ) (tables : List Table) (db : Database) (held : Stores pages size tables db) (d : Delete) where
+  resolved : (found : Option Table) → table_named d.table tables ≡ found → resolve_change db no_outer (kind.Delete d) ≡ resolved_by d (looked_up found)
+  resolved found named = ap (resolved_by d) (known_listed held.rows_at tables db held.lists d.table ∙ ap looked_up named)
+
+  refused_so : (f : Fault) → Contains (faults (resolve_change db no_outer (kind.Delete d))) (refusal_of f) → IsChangeRefusal (deleting d) pages size db f
+  refused_so f has = inr (inl (inl ((laws.binds db (kind.Delete d) (refusal_of f) held.only).1 has)))
 
   -- a name that no table has
-  missing : table_named d.table tables ≡ None → IsFault db (kind.Delete d) NoSuch
-  missing none = (laws.binds db (kind.Delete d) NoSuch held.only).1 (subst (λ (k : Checked Resolved). Contains (faults k) NoSuch) (sym (resolved None none)) (0, omega arith, refl))
-
   pub name_refused : (f : Fault) → (f ≡ fault.Memory) ⊎ (refusal_of f ≡ NoSuch) × (table_named d.table tables ≡ None) → IsChangeRefusal (deleting d) pages size db f
   name_refused f (inl memory) = inl (inl (inl memory))
-  name_refused f (inr (is, none)) = inr (inl (inl (subst (IsFault db (kind.Delete d)) (sym is) (missing none))))
-
-  -- ---- its table's rows
+  name_refused f (inr (is, none)) =
+      refused_so f (subst (λ (k : Checked Resolved). Contains (faults k) (refusal_of f)) (sym (resolved None none)) (subst (Contains (faults (resolved_by d (looked_up None)))) (sym is) (first_fault NoSuch _)))
 
   module _ (t : Table) (named : table_named d.table tables ≡ Some t) where
-    owned : HasOwner pages size held.rows_at tables held.owners t
-    owned = owner_of pages size tables db held d.table t named
+    abbrev condition_of : Checked (Option Term)
+    condition_of = resolve_filter (source_seen d.table t ∷ []) d.condition
 
-    not_refused : (r : Refusal) → IsFault db (kind.Delete d) r → ⊥
-    not_refused r is = nothing (subst (λ (k : Checked Resolved). Contains (faults k) r) (resolved (Some t) named) ((laws.binds db (kind.Delete d) r held.only).0 is))
-      where
-        nothing : Contains [] r → ⊥
-        nothing has = absurd (omega (arith, has.1))
+    -- a condition whose names are refused
+    pub where_refused : (f : Fault) → IsFaultOf (faults condition_of) f → IsChangeRefusal (deleting d) pages size db f
+    where_refused f (inl memory) = inl (inl (inl memory))
+    where_refused f (inr has) = refused_so f (subst (λ (k : Checked Resolved). Contains (faults k) (refusal_of f)) (sym (resolved (Some t) named)) (known_fault (folded d.table) condition_of (refusal_of f) has))
 
-    -- the database whose table has no rows
-    abbrev emptied : Database
-    emptied = with_object db (folded d.table) (ATable (plain_table t []))
+    -- ---- its table's rows
 
-    reaches : Reaches (change_made (deleting d) db) emptied
-    reaches = (
-      not_refused,
-      subst (λ (a : Answer Database). Reaches (of_answer a) emptied)
-          (sym (laws.deletes db d t (held.rows_at t.root) held.only held.named (listed_table held.rows_at tables db d.table t held.lists named) owned.split.is.fit (resolved (Some t) named))) refl,
-    )
+    module _ (condition : Option Term) (known : condition_of ≡ Meant condition []) where
+      bound : resolve_change db no_outer (kind.Delete d) ≡ Meant (Deletes (folded d.table) condition) []
+      bound = resolved (Some t) named ∙ ap (λ (k : Checked (Option Term)). also [] (known_map (Deletes (folded d.table)) k)) known
 
-    stored : (new : PageMap) → IsCleared pages new size t.root owned.split.at.used held.free → Stores new size tables emptied
-    stored new cleared =
-        let now : BecomesRows pages new size t.root [] owned.split.at.used held.free = record {
+      owned : HasOwner pages size held.rows_at tables held.owners t
+      owned = owner_of pages size tables db held d.table t named
+
+      not_refused : (r : Refusal) → IsFault db (kind.Delete d) r → ⊥
+      not_refused r is = nothing (subst (λ (k : Checked Resolved). Contains (faults k) r) bound ((laws.binds db (kind.Delete d) r held.only).0 is))
+        where
+          nothing : Contains [] r → ⊥
+          nothing has = absurd (omega (arith, has.1))
+
+      -- the database whose table has these rows
+      abbrev with_left : List TableRow → Database
+      with_left left = with_object db (folded d.table) (ATable (plain_table t left))
+
+      reaches : (made : Database) → change db (kind.Delete d) ≡ Ok made → Reaches (change_made (deleting d) db) made
+      reaches made e = (not_refused, subst (λ (a : Answer Database). Reaches (of_answer a) made) (sym e) refl)
+
+      refuses : (f : Fault) → change db (kind.Delete d) ≡ Err (refusal_of f) → IsChangeRefusal (deleting d) pages size db f
+      refuses f e = inr (inl (inr (not_refused, subst (λ (a : Answer Database). RefusesWith (of_answer a) (refusal_of f)) (sym e) (as_refused f))))
+
+      stored : (new : PageMap) (left : List TableRow) (entries : List Entry) → BecomesRows pages new size t.root entries owned.split.at.used held.free
+          → Pairwise (IsRow (length t.columns)) entries left → are_rows (plain_table t left) ≡ true → Stores new size tables (with_left left)
+      stored new left entries now each fit =
+          stores_rows laws.give_way pages new size tables db (with_left left) t left entries held owned now each fit
+          (laws.lists held.rows_at tables db (folded d.table) t left held.lists (named_folded tables d.table t named)
+          (λ other u found here. own_pages pages size tables db held other (folded d.table) u t found (named_folded tables d.table t named) here))
+          (laws.tables db (folded d.table) (plain_table t left) held.only) (laws.named db (folded d.table) (ATable (plain_table t left)) held.named)
+
+      tree_stands : Stands pages size t.root owned.split.is.entries owned.split.at.used held.free
+      tree_stands = stands laws.stand pages size tables db held t owned
+
+      listed : table_of db (folded d.table) ≡ Ok (plain_table t (held.rows_at t.root))
+      listed = listed_table held.rows_at tables db d.table t held.lists named
+
+    abbrev Makes : PageMap → Result ⊤ Fault → Type 0
+    Makes new result = MatchResult result (λ done. IsMade (deleting d) db new size tables) (IsChangeRefusal (deleting d) pages size db)
+
+    clear_makes : condition_of ≡ Meant None [] → (new : PageMap) (result : Result ⊤ Fault) → ClearsTree pages new size t.root result → Makes new result
+    clear_makes known new (Ok done) clears =
+        let o = owned None known in
+        let cleared = clears o.split.is.entries o.split.at.used held.free (tree_stands None known) in
+        let now : BecomesRows pages new size t.root [] o.split.at.used held.free = record {
           now_used = t.root ∷ [];
           now_free = cleared.now_free;
           stands = cleared.stands;
           moves = cleared.moves;
           header = cleared.header;
         } in
-        stores_rows laws.give_way pages new size tables db emptied t [] [] held owned now tt refl
-        (laws.lists held.rows_at tables db (folded d.table) t [] held.lists (named_folded tables d.table t named)
-        (λ other u found here. own_pages pages size tables db held other (folded d.table) u t found (named_folded tables d.table t named) here))
-        (laws.tables db (folded d.table) (plain_table t []) held.only) (laws.named db (folded d.table) (ATable (plain_table t [])) held.named)
+        record {
+          made = with_left None known [];
+          reaches = reaches None known (with_left None known []) (laws.deletes db d t (held.rows_at t.root) held.only held.named (listed None known) o.split.is.fit (bound None known));
+          stored = stored None known new [] [] now tt refl;
+        }
+    clear_makes known new (Err f) clears = inl (inl (clears (owned None known).split.is.entries (owned None known).split.at.used held.free (tree_stands None known)))
 
-    tree_stands : Stands pages size t.root owned.split.is.entries owned.split.at.used held.free
-    tree_stands = stands laws.stand pages size tables db held t owned
+    module _ (c : Term) (known : condition_of ≡ Meant (Some c) []) where
+      abbrev o : HasOwner pages size held.rows_at tables held.owners t
+      o = owned (Some c) known
 
-    -- what the call that clears the tree comes to
-    pub clear_makes : (new : PageMap) (result : Result ⊤ Fault) → ClearsTree pages new size t.root result
-        → MatchResult result (λ done. IsMade (deleting d) db new size tables) (IsChangeRefusal (deleting d) pages size db)
-    clear_makes new (Ok done) clears = record {
-      made = emptied;
-      reaches = reaches;
-      stored = stored new (clears owned.split.is.entries owned.split.at.used held.free tree_stands);
-    }
-    clear_makes new (Err f) clears = inl (inl (clears owned.split.is.entries owned.split.at.used held.free tree_stands))
+      abbrev place : BoundSource
+      place = record { root = t.root; width = length t.columns }
+
+      change_is : (a : Answer (List TableRow)) → rows_left c (held.rows_at t.root) ≡ a → change db (kind.Delete d) ≡ (a then λ left. Ok (with_left (Some c) known left))
+      change_is a e =
+          laws.chosen db d t (held.rows_at t.root) c held.only held.named (listed (Some c) known) o.split.is.fit (bound (Some c) known)
+          ∙ ap (λ (x : Answer (List TableRow)). x then λ left. Ok (with_left (Some c) known left)) e
+
+      take_makes : (new : PageMap) (result : Result ⊤ Fault) → TakesRows pages new size place c result → Makes new result
+      take_makes new (Ok done) takes =
+          let taken = takes (held.rows_at t.root) o.split.is.entries o.split.at.used held.free (tree_stands (Some c) known) o.split.is.each in
+          record {
+            made = with_left (Some c) known taken.left;
+            reaches = reaches (Some c) known (with_left (Some c) known taken.left) (change_is (Ok taken.left) taken.answer);
+            stored = stored (Some c) known new taken.left taken.entries taken.becomes taken.each (left_fits c t (held.rows_at t.root) taken.left taken.answer o.split.is.fit);
+          }
+      take_makes new (Err f) takes = by (takes (held.rows_at t.root) o.split.is.entries o.split.at.used held.free (tree_stands (Some c) known) o.split.is.each)
+        where
+          by : IsTakeRefusal c (held.rows_at t.root) f → IsChangeRefusal (deleting d) pages size db f
+          by (inl outside) = inl outside
+          by (inr e) = refuses (Some c) known f (change_is (Err (refusal_of f)) e)
+
+    -- what the call that takes the rows out comes to
+    pub taking_makes : (condition : Option Term) → condition_of ≡ Meant condition [] → (new : PageMap) (result : Result ⊤ Fault) → TakesFrom pages new size t condition result → Makes new result
+    taking_makes None known new result takes = clear_makes known new result takes
+    taking_makes (Some c) known new result takes = take_makes c known new result takes
+
+-- ---- as the condition is
+
+module _ (old new : PageMap) (size : ℕ) (t : Table) (condition : Option Term) (result : Result ⊤ Fault) where
+  pub takes_some : (c : Term) (width : ℕ) → condition ≡ Some c → width ≡ length t.columns → TakesRows old new size (record { root = t.root; width = width }) c result → TakesFrom old new size t condition result
+  takes_some c width is wide takes =
+      subst (λ (w : Option Term). TakesFrom old new size t w result) (sym is) (subst (λ (n : ℕ). TakesRows old new size (record { root = t.root; width = n }) c result) wide takes)
+
+  pub takes_all : condition ≡ None → ClearsTree old new size t.root result → TakesFrom old new size t condition result
+  takes_all is clears = subst (λ (w : Option Term). TakesFrom old new size t w result) (sym is) clears

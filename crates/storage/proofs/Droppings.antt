@@ -21,7 +21,7 @@ use Rattle.pages.specs.Calls.{IsOutsideOrFull}
 use Rattle.pages.specs.Counting.{occurs, Moves}
 use Rattle.pages.specs.Map.{PageMap}
 use Rattle.treepage.specs.Cells.{Pairwise}
-use Rattle.tabletree.specs.Calls.{BecomesRows, IsGrowthRefusal, Stands}
+use Rattle.tabletree.specs.Calls.{BecomesRows, Stands}
 use Rattle.tabletree.specs.Freeing.{AreGivenBack, FreesTree}
 use Rattle.tabletree.specs.Rows.{payload_at, without_row}
 use Rattle.tabletree.specs.SingleLeaf.{AreRising}
@@ -112,9 +112,8 @@ module _ (laws : Laws) (old : PageMap) (size : ℕ) (tables : List Table) (db : 
   schema_stands = laws.stand old size schema held.owners [] held.owners 1 held.schema held.schema_used held.free held.shared refl refl page_size
 
   -- its row isn't taken out
-  pub not_taken : (f : Fault) → IsGrowthRefusal 1 schema_stands.tree.depth f → IsChangeRefusal (dropping kind.Table n) old size db f
-  not_taken f (inl full) = inl full
-  not_taken f (inr (deep, least)) = inr (inr (inr (record { root = 1; is = deep; rows = held.schema; used = held.schema_used; tree = schema_stands.tree; deep = omega (arith, least) })))
+  pub not_taken : (f : Fault) → IsOutsideOrFull f → IsChangeRefusal (dropping kind.Table n) old size db f
+  not_taken f full = inl full
 
   -- ---- the table of the name
 

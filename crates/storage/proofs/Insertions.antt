@@ -1,13 +1,11 @@
 -- What an INSERT comes to on the database that pages hold.
-use Rattle.std.proofs.Common.{◌≡◌, ◌⊎◌, ◌≤◌, ◌+◌, inl, inr, refl, sym, ap, subst, ◌∙◌, ℕ, zero, suc, true, List, [], ◌∷◌, ◌++◌, length, map, slice_index_or, Option, Some, None, Result, Ok, Err, arith}
-use Rattle.std.specs.Prelude.{⊤, All, Contains, IsErrAnd, MatchResult, Vec, option_map}
+use Rattle.std.proofs.Common.{◌≡◌, ◌⊎◌, ◌≤◌, ◌+◌, inl, inr, refl, sym, ap, subst, ◌∙◌, ℕ, zero, suc, true, false, List, [], ◌∷◌, ◌++◌, length, map, slice_index_or, Option, Some, None, Result, Ok, Err, arith}
+use Rattle.std.specs.Prelude.{⊤, All, Contains, IfOk, IsErrAnd, MatchResult, option_map}
 use Rattle.std.specs.List.{AllByRecursion, position_from, range_with_len}
-use Rattle.std.specs.declared.alloc.Global.{Global}
-use Rattle.std.proofs.lemmas.Bool.{cases_eq}
+use Rattle.std.proofs.lemmas.Bool.{cases_eq, false≢true}
 use Rattle.std.proofs.lemmas.List.{append-nil, get_or-append-add, get_or-map, length-append, length-map}
 use Rattle.std.proofs.lemmas.List.FromFn.{length-range_with_len}
 use Rattle.sqlval.specs.Names.{folded, is_same_name}
-use Rattle.sqlval.specs.Refusals as refusal
 use Rattle.sqlval.specs.Refusals.{Answer, ◌then◌, NoSuch, Refusal, refusal_of}
 use Rattle.sqlval.specs.declared.fault.Fault.{Fault}
 use Rattle.sqlval.specs.declared.fault.Fault.TheVariants as fault
@@ -29,30 +27,33 @@ use Rattle.catalog.specs.Listed.{Lists, has_only_tables, plain_table, table_name
 use Rattle.catalog.specs.Named.{IsNamed, KeepsNamed}
 use Rattle.catalog.specs.declared.tables.Column.{Column}
 use Rattle.catalog.specs.declared.tables.Table.{Table}
-use Rattle.bind.specs.Bound.{AreGiven, EachOf, count_wanted}
-use Rattle.bind.specs.Checked.{Checked, Meant, faults}
-use Rattle.bind.specs.Inserts.{AreColumns, IsInsertFault, is_of_literals, places_in}
+use Rattle.bind.specs.Bound.{columns_seen, count_wanted, is_twice_named, looked_up}
+use Rattle.bind.specs.Checked.{Checked, Meant, faults, good, known_map, meant}
+use Rattle.bind.specs.Inserts.{AreColumns, IsTargetFault, places_in}
+use Rattle.bind.specs.Views.{look_up}
 use Rattle.bind.proofs.ColumnNames.{folded_twice}
 use Rattle.bind.proofs.KnownTables.{known_listed}
 use Rattle.rowprog.specs.Rows.{TableRow}
 use Rattle.dml.specs.Agreement.{IsSetFor}
-use Rattle.dml.specs.Binding.{IsGivenAs, IsRealRefused, row_with}
-use Rattle.dml.specs.Changes.{Resolved, no_outer, resolve_change}
+use Rattle.dml.specs.Binding.{row_with}
+use Rattle.dml.specs.Changes.{Given, Inserts, Resolved, no_outer, resolve_change, resolve_given}
 use Rattle.dml.specs.Constraints.{table_of}
 use Rattle.dml.specs.Inserting.{AllStorable, IsRefusedAs, given_at, last_rowid, rows_added}
 use Rattle.record.specs.Writing.{AreStorable}
 use Rattle.dml.specs.Trees.{IsPutRefusal, PutsRows}
-use Rattle.dml.proofs.GivenAsMeant.{gives, refuses}
+use Rattle.dml.proofs.GivenAsMeant.{columns_refused, row_placed, source_refused, source_stands, table_missing, value_places}
 use Rattle.trigger.specs.Binding.{IsFault}
-use Rattle.trigger.specs.Effects.{change}
+use Rattle.trigger.specs.Effects.{change, given_rows}
 use Rattle.trigger.specs.Laws.{BindsAlone, InsertAddsRows, InsertIsRefused, InsertOfNoneStays}
-use Rattle.storage.specs.Changing.{HasLongRow, IsChangeRefusal, IsMade, rows_more}
+use Rattle.storage.specs.Changing.{HasLongRow, IsChangeRefusal, IsMade}
 use Rattle.storage.specs.Forms.{is_source_supported}
+use Rattle.storage.specs.Reading.{AnswersRead}
 use Rattle.storage.specs.Stored.{Stores}
-use Rattle.storage.specs.Works.{Reaches, RefusesWith, change_made, of_answer}
+use Rattle.storage.specs.Works.{Reaches, RefusesWith, change_made, given_on, of_answer}
 use Rattle.storage.proofs.Owners.{HasOwner, owner_of}
 use Rattle.storage.proofs.PutRows.{named_as, rows_elsewhere, rows_here, rows_with, stands, stores_put}
 use Rattle.storage.proofs.Roots.{own_pages}
+use Rattle.storage.proofs.WrittenRows.{written_wide}
 
 -- what follows for every listed database, and for the trees of its file
 pub record Laws : Type 0 where
@@ -93,34 +94,114 @@ not_refused laws db i what only stands r is = nothing (subst (λ (k : Checked Re
 abbrev work : Insert → Database → Refusal → Type 0
 work i db r = RefusesWith (change_made (inserting i) db) r
 
-literals : (s : InsertSource) → is_source_supported s ≡ true → is_of_literals s ≡ true
-literals (source.Rows rows) supported_forms = supported_forms
-literals (source.Query q) supported_forms = supported_forms
-
--- the table that a refused real is for
-pub record NamesTable (tables : List Table) (i : Insert) : Type 0 where
-  pub table : Table
-  pub is : table_named i.table tables ≡ Some table
-
-real_for : (tables : List Table) (i : Insert) (f : Fault) → f ≡ fault.RealRefused → IsInsertFault tables i f → NamesTable tables i
-real_for tables i f e (inl memory) = absurd cc
-real_for tables i f e (inr (inl (inl (none, h)))) = (let h : refusal.RealRefused ≡ refusal.NoSuch = sym (ap refusal_of e) ∙ none in absurd cc)
-real_for tables i f e (inr (inl (inr (t, named, h)))) = record { table = t; is = named }
-real_for tables i f e (inr (inr (inl (unsupported, h)))) = absurd cc
-real_for tables i f e (inr (inr (inr (same, (t, named, l, c, past))))) = record { table = t; is = named }
-
-pub bind_refused : (laws : Laws) (pages : PageMap) (size : ℕ) (tables : List Table) (db : Database) (held : Stores pages size tables db) (i : Insert) (f : Fault) → is_source_supported i.source ≡ true → IsInsertFault tables i f
+pub target_refused : (laws : Laws) (pages : PageMap) (size : ℕ) (tables : List Table) (db : Database) (held : Stores pages size tables db) (i : Insert) (f : Fault) → IsTargetFault tables i f
     → IsChangeRefusal (inserting i) pages size db f
-bind_refused laws pages size tables db held i f supported_forms why = elim (refuses db tables (known_listed held.rows_at tables db held.lists) held.once i.table i.columns i.source f (literals i.source supported_forms) why) [
-  | inl memory ↦ inl (inl (inl memory))
-  | inr (inl has) ↦ inr (inl (inl ((laws.binds db (kind.Insert i) (refusal_of f) held.only).1 has)))
-  | inr (inr (e, real)) ↦ inr (inl (past e real (real_for tables i f e why)))
-]
-  where
-    past : f ≡ fault.RealRefused → IsRealRefused db i → NamesTable tables i → work i db (refusal_of f)
-    past e real named =
-        let is = laws.refused db i named.table (held.rows_at named.table.root) real.at real.terms refusal.RealRefused (listed_table held.rows_at tables db i.table named.table held.lists named.is) real.stands real.refused in
-        inr (not_refused laws db i _ held.only real.stands, subst (λ (a : Answer Database). RefusesWith (of_answer a) (refusal_of f)) (sym is) (0, omega arith, sym (ap refusal_of e)))
+target_refused laws pages size tables db held i f (inl memory) = inl (inl (inl memory))
+target_refused laws pages size tables db held i f (inr (inl (e, none))) =
+    inr (inl (inl ((laws.binds db (kind.Insert i) (refusal_of f) held.only).1
+    (subst (Contains (faults (resolve_change db no_outer (kind.Insert i)))) (sym e)
+    (table_missing db i.table i.columns i.source (known_listed held.rows_at tables db held.lists i.table ∙ ap looked_up none))))))
+target_refused laws pages size tables db held i f (inr (inr (t, named, list))) =
+    inr (inl (inl ((laws.binds db (kind.Insert i) (refusal_of f) held.only).1
+    (columns_refused db i.table i.source t (known_listed held.rows_at tables db held.lists i.table ∙ ap looked_up named) (held.once i.table t named) i.columns (refusal_of f) list))))
+
+-- ---- what its source gives
+
+each_for : {A : Type 0} (P Q : A → Type 0) (xs : List A) → ((x : A) → P x → Q x) → AllByRecursion P xs → AllByRecursion Q xs
+each_for P Q [] go each = tt
+each_for P Q (x ∷ xs) go each = (go x each.0, each_for P Q xs go each.1)
+
+abbrev source_known : Database → ℕ → Insert → Checked Given
+source_known db n i = resolve_given db no_outer (Some n) i.source
+
+-- what is meant, where nothing is refused
+is_meant : {A B : Type 0} (f : A → B) (k : Checked A) (x : B) → known_map f k ≡ Meant x [] → (k ≡ Meant (meant k) []) × (f (meant k) ≡ x)
+is_meant f (Meant y rs) x e = (ap (Meant y) (ap faults e), ap meant e)
+
+refused_so : (f : Fault) → RefusesWith (of_answer (Err (refusal_of f))) (refusal_of f)
+refused_so fault.Memory = (0, omega arith, refl)
+refused_so fault.Io = (0, omega arith, refl)
+refused_so fault.NotADatabase = (0, omega arith, refl)
+refused_so (fault.Unsupported feature) = (0, omega arith, refl)
+refused_so (fault.Damaged damage page) = (0, omega arith, refl)
+refused_so fault.Full = (0, omega arith, refl)
+refused_so (fault.Syntax place) = (0, omega arith, refl)
+refused_so (fault.NoSuch kind name) = (0, omega arith, refl)
+refused_so (fault.Exists name) = (0, omega arith, refl)
+refused_so (fault.Ambiguous name) = (0, omega arith, refl)
+refused_so (fault.Misuse misuse) = (0, omega arith, refl)
+refused_so fault.Busy = (0, omega arith, refl)
+refused_so fault.StaleSnapshot = (0, omega arith, refl)
+refused_so fault.NoTransaction = (0, omega arith, refl)
+refused_so fault.InTransaction = (0, omega arith, refl)
+refused_so fault.NoSavepoint = (0, omega arith, refl)
+refused_so fault.NotNull = (0, omega arith, refl)
+refused_so fault.Unique = (0, omega arith, refl)
+refused_so fault.Check = (0, omega arith, refl)
+refused_so (fault.Raised text) = (0, omega arith, refl)
+refused_so fault.RealRefused = (0, omega arith, refl)
+refused_so fault.TypeRefused = (0, omega arith, refl)
+refused_so fault.RowidFull = (0, omega arith, refl)
+refused_so fault.RowidMismatch = (0, omega arith, refl)
+refused_so fault.TooLong = (0, omega arith, refl)
+refused_so fault.RowChangedBefore = (0, omega arith, refl)
+refused_so fault.ViewReadOnly = (0, omega arith, refl)
+refused_so fault.Failed = (0, omega arith, refl)
+refused_so fault.Blank = (0, omega arith, refl)
+
+-- each row that is given has so many values
+pub source_wide : (db : Database) (n : ℕ) (s : InsertSource) (rows : List (List Value)) → is_source_supported s ≡ true → given_on db n s ≡ Meant (Ok rows) [] → AllByRecursion (λ vs. length vs ≡ n) rows
+source_wide db n (source.Query q) rows supported_forms e = absurd (false≢true supported_forms)
+source_wide db n (source.Rows written) rows supported_forms e =
+    let is = is_meant (given_rows db no_outer) (resolve_given db no_outer (Some n) (source.Rows written)) (Ok rows) e in
+    subst (λ (a : Answer (List (List Value))). IfOk a (AllByRecursion (λ vs. length vs ≡ n))) is.1 (written_wide db n written (ap faults is.0))
+
+-- The INSERT isn't refused and has this source, whose rows are these. Each gives the table's columns the same values by their places
+-- in the row, where they have one, as by the place of each value's column.
+pub record IsGivenAs (db : Database) (i : Insert) (t : Table) (places : List (Option ℕ)) (rows : List (List Value)) : Type 0 where
+  pub at : List ℕ
+  pub source : Given
+  pub stands : resolve_change db no_outer (kind.Insert i) ≡ Meant (Inserts (folded i.table) at source) []
+  pub answered : given_rows db no_outer source ≡ Ok rows
+  pub placed : AllByRecursion (λ vs. row_with t at vs ≡ map (given_at vs) places) rows
+
+module _ (laws : Laws) (pages : PageMap) (size : ℕ) (tables : List Table) (db : Database) (held : Stores pages size tables db) (i : Insert) (t : Table) (n : ℕ) (named : table_named i.table tables ≡ Some t)
+    (columns : AreColumns t.columns i.columns) (n_is : n ≡ count_wanted i.columns t) where
+  found : look_up db i.table ≡ good (columns_seen t)
+  found = known_listed held.rows_at tables db held.lists i.table ∙ ap looked_up named
+
+  once : is_twice_named t.columns ≡ false
+  once = held.once i.table t named
+
+  stands_so : (given_as : Given) → source_known db n i ≡ Meant given_as [] → resolve_change db no_outer (kind.Insert i) ≡ Meant (Inserts (folded i.table) (value_places t i.columns) given_as) []
+  stands_so given_as e = source_stands db i.table i.source t found once i.columns given_as columns (subst (λ m. source_known db m i ≡ Meant given_as []) n_is e)
+
+  pub rows_refused : (f : Fault) → AnswersRead {X = List (List Value)} (λ rows. rows) (given_on db n i.source) (Err f) → IsChangeRefusal (inserting i) pages size db f
+  rows_refused f (inl outside) = inl (inl outside)
+  rows_refused f (inr (inl has)) = inr (inl (inl ((laws.binds db (kind.Insert i) (refusal_of f) held.only).1
+      (source_refused db i.table i.source t found once i.columns (refusal_of f) (subst (λ m. Contains (faults (source_known db m i)) (refusal_of f)) n_is (in_it (source_known db n i) has))))))
+    where
+      in_it : (k : Checked Given) → Contains (faults (known_map (given_rows db no_outer) k)) (refusal_of f) → Contains (faults k) (refusal_of f)
+      in_it (Meant g rs) has = has
+  rows_refused f (inr (inr e)) =
+      let is = is_meant (given_rows db no_outer) (source_known db n i) (Err (refusal_of f)) e in
+      let stands = stands_so (meant (source_known db n i)) is.0 in
+      let refused = laws.refused db i t (held.rows_at t.root) (value_places t i.columns) (meant (source_known db n i)) (refusal_of f) (listed_table held.rows_at tables db i.table t held.lists named) stands is.1 in
+      inr (inl (inr (not_refused laws db i _ held.only stands, subst (λ (a : Answer Database). RefusesWith (of_answer a) (refusal_of f)) (sym refused) (refused_so f))))
+
+  pub given_as : (rows : List (List Value)) (places : List (Option ℕ)) → places ≡ places_in t.columns i.columns → given_on db n i.source ≡ Meant (Ok rows) [] → AllByRecursion (λ vs. length vs ≡ n) rows
+      → IsGivenAs db i t places rows
+  given_as rows places places_are e wide =
+      let is = is_meant (given_rows db no_outer) (source_known db n i) (Ok rows) e in
+      record {
+        at = value_places t i.columns;
+        source = meant (source_known db n i);
+        stands = stands_so (meant (source_known db n i)) is.0;
+        answered = is.1;
+        placed = each_for (λ vs. length vs ≡ n) (λ vs. row_with t (value_places t i.columns) vs ≡ map (given_at vs) places) rows (λ vs l.
+            subst (λ ps. row_with t (value_places t i.columns) vs ≡ map (given_at vs) ps) (sym places_are)
+            (row_placed db i.table i.source t found once i.columns columns vs (l ∙ n_is))) wide;
+      }
 
 -- ---- what it gives
 
@@ -128,33 +209,10 @@ pub places_long : (columns : List Column) (names : Option (List Name)) → lengt
 places_long columns None = length-map (range_with_len 0 (length columns)) (λ (n : ℕ). Some n) ∙ length-range_with_len 0 (length columns)
 places_long columns (Some names) = length-map columns (λ column. position_from (λ name. is_same_name name column.name) 0 names)
 
-pub given_as : (pages : PageMap) (size : ℕ) (tables : List Table) (db : Database) (held : Stores pages size tables db) (i : Insert) (t : Table) (places : List (Option ℕ)) (rows : List (Vec Value Global)) → table_named i.table tables ≡ Some t → AreColumns t.columns i.columns
-    → AreGiven (count_wanted i.columns t) rows i.source → places ≡ places_in t.columns i.columns → IsGivenAs db i t places (map (λ row. row.items) rows)
-given_as pages size tables db held i t places rows named columns given is =
-    subst (λ (ps : List (Option ℕ)). IsGivenAs db i t ps (map (λ row. row.items) rows)) (sym is) (gives db tables (known_listed held.rows_at tables db held.lists) held.once i.table i.columns i.source t rows named columns given)
-
-each_long : {A B : Type 0} (P : A → B → Type 0) (xs : List A) (ys : List B) → EachOf P xs ys → length xs ≡ length ys
-each_long P [] [] each = refl
-each_long P [] (y ∷ ys) each = absurd each
-each_long P (x ∷ xs) [] each = absurd each
-each_long P (x ∷ xs) (y ∷ ys) each = ap suc (each_long P xs ys each.1)
-
--- as many rows as are written
-pub rows_written : (n : ℕ) (rows : List (Vec Value Global)) (i : Insert) → AreGiven n rows i.source → length (map (λ (row : Vec Value Global). row.items) rows) ≡ rows_more (inserting i)
-rows_written n rows i given = length-map rows (λ (row : Vec Value Global). row.items) ∙ by_source i.source given
-  where
-    by_source : (s : InsertSource) → AreGiven n rows s → length rows ≡ rows_more (inserting (record i { source = s }))
-    by_source (source.Rows written) given = each_long _ rows written given
-    by_source (source.Query q) given = absurd given
-
 all_of : {A : Type 0} (P : A → Type 0) (xs : List A) → AllByRecursion P xs → All P xs
 all_of P [] each i d lt = absurd (omega (arith, lt))
 all_of P (x ∷ xs) each zero d lt = each.0
 all_of P (x ∷ xs) each (suc i) d lt = all_of P xs each.1 i d (omega (arith, lt))
-
-each_for : {A : Type 0} (P Q : A → Type 0) (xs : List A) → ((x : A) → P x → Q x) → AllByRecursion P xs → AllByRecursion Q xs
-each_for P Q [] go each = tt
-each_for P Q (x ∷ xs) go each = (go x each.0, each_for P Q xs go each.1)
 
 all_behind : {A : Type 0} (P : A → Type 0) (xs ys : List A) → All P (xs ++ ys) → All P ys
 all_behind P xs ys all i d lt = subst P (get_or-append-add xs ys i d) (all (length xs + i) d (let sum = length-append xs ys in omega (arith, lt, sum)))
@@ -200,7 +258,7 @@ module _ (laws : Laws) (pages : PageMap) (size : ℕ) (tables : List Table) (db 
 
   change_is : 1 ≤ length given → change db (kind.Insert i) ≡ changed given
   change_is some =
-      laws.inserts db i t (held.rows_at t.root) is.at is.terms places given held.only (listed_table held.rows_at tables db i.table t held.lists named) owned.split.is.fit is.stands is.answered set_for some
+      laws.inserts db i t (held.rows_at t.root) is.at is.source places given held.only (listed_table held.rows_at tables db i.table t held.lists named) owned.split.is.fit is.stands is.answered set_for some
 
   pub made : (added : List TableRow) → rows_added t.columns places (last_rowid (held.rows_at t.root)) given ≡ Ok added → IsMadeOf held.rows_at tables db i t added
   made added e = by (some_or_none given)
@@ -216,7 +274,7 @@ module _ (laws : Laws) (pages : PageMap) (size : ℕ) (tables : List Table) (db 
           let nothing = nothing_added added (subst (λ rows. rows_added t.columns places (last_rowid (held.rows_at t.root)) rows ≡ Ok added) none e) in
           record {
             made = db;
-            is = laws.none db i t (held.rows_at t.root) is.at is.terms (listed_table held.rows_at tables db i.table t held.lists named) is.stands (is.answered ∙ ap (λ (rows : List (List Value)). Ok rows) none);
+            is = laws.none db i t (held.rows_at t.root) is.at is.source (listed_table held.rows_at tables db i.table t held.lists named) is.stands (is.answered ∙ ap (λ (rows : List (List Value)). Ok rows) none);
             lists = subst (λ (rows_at : ℕ → List TableRow). Lists rows_at tables db) (λ k root. same nothing root k) held.lists;
             only = held.only;
             in_order = held.named;
@@ -258,30 +316,22 @@ module _ (laws : Laws) (pages : PageMap) (size : ℕ) (tables : List Table) (db 
     long = λ all. too_long (all_behind (λ row. AreStorable row.1) (held.rows_at t.root) added all);
   }
 
-  put_refused : length given ≡ rows_more (inserting i) → (f : Fault) → IsPutRefusal t.root beside.tree.depth t.columns places given (held.rows_at t.root) f → IsChangeRefusal (inserting i) pages size db f
-  put_refused many f (inl (inl outside)) = inl outside
-  put_refused many f (inl (inr (deep, grown))) = inr (inr (inr (record {
-    root = t.root;
-    is = deep;
-    rows = owned.split.is.entries;
-    used = owned.split.at.used;
-    tree = beside.tree;
-    deep = omega (arith, grown, many);
-  })))
-  put_refused many f (inr (inl as_rows)) = inr (inl (refused f as_rows))
-  put_refused many f (inr (inr too_long)) =
+  put_refused : (f : Fault) → IsPutRefusal t.columns places given (held.rows_at t.root) f → IsChangeRefusal (inserting i) pages size db f
+  put_refused f (inl outside) = inl outside
+  put_refused f (inr (inl as_rows)) = inr (inl (refused f as_rows))
+  put_refused f (inr (inr too_long)) =
       let m = made too_long.added too_long.answer in
-      inr (inr (inl (record {
+      inr (inr (record {
         is = too_long.is;
         made = m.made;
         reaches = reaches m.made m.is;
         why = inl (long_row too_long.added m too_long.long);
-      })))
+      }))
 
   -- what the call that puts the rows comes to
-  pub put_makes : length given ≡ rows_more (inserting i) → (new : PageMap) (result : Result ⊤ Fault) → PutsRows pages new size t.root t.columns places given result
+  pub put_makes : (new : PageMap) (result : Result ⊤ Fault) → PutsRows pages new size t.root t.columns places given result
       → MatchResult result (λ done. IsMade (inserting i) db new size tables) (IsChangeRefusal (inserting i) pages size db)
-  put_makes many new (Ok done) puts =
+  put_makes new (Ok done) puts =
       let put = puts (held.rows_at t.root) owned.split.is.entries owned.split.at.used held.free beside owned.split.is.each in
       let m = made put.added put.answer in
       record {
@@ -289,7 +339,7 @@ module _ (laws : Laws) (pages : PageMap) (size : ℕ) (tables : List Table) (db 
         reaches = reaches m.made m.is;
         stored = stores_put laws.give_way pages new size tables db m.made t t.columns places given held owned refl put m.lists m.only m.in_order;
       }
-  put_makes many new (Err f) puts = put_refused many f (puts (held.rows_at t.root) owned.split.is.entries owned.split.at.used held.free beside owned.split.is.each)
+  put_makes new (Err f) puts = put_refused f (puts (held.rows_at t.root) owned.split.is.entries owned.split.at.used held.free beside owned.split.is.each)
 
 -- a call that passes a refusal on
 pub passed_on : (P : ⊤ → Type 0) (Q : Fault → Type 0) (r : Result ⊤ Fault) (f : Fault) → IsErrAnd r (λ e. e ≡ f) → Q f → MatchResult r P Q

@@ -1,11 +1,11 @@
 pub mod AddedRows
 pub mod Answering
-pub mod BoundQueries
 pub mod Creations
 pub mod Deletions
 pub mod Droppings
 pub mod Headings
 pub mod Insertions
+pub mod LoadedSources
 pub mod NewTables
 pub mod Owners
 pub mod PutRows
@@ -27,3 +27,5 @@ pub mod StoredTrees
 pub mod Telling
 pub mod TreePages
 pub mod Untelling
+pub mod Updates
+pub mod WrittenRows

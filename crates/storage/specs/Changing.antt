@@ -1,14 +1,8 @@
 -- What a statement's change makes of the pages that hold a database (SQL As Understood By SQLite, "CREATE TABLE", "INSERT").
-use Rattle.std.specs.Prelude.{◌≡◌, ◌⊎◌, ◌≤◌, ◌+◌, ◌-◌, ◌^◌, ⊤, ℕ, pos, List, [], ◌∷◌, ◌++◌, length, Some, Result, MatchResult}
+use Rattle.std.specs.Prelude.{◌≡◌, ◌⊎◌, ◌-◌, ◌^◌, ⊤, ℕ, pos, List, [], ◌∷◌, ◌++◌, Some, Result, MatchResult}
 use Rattle.sqlval.specs.Refusals.{refusal_of}
 use Rattle.sqlval.specs.declared.fault.Fault.{Fault}
 use Rattle.sqlval.specs.declared.fault.Fault.TheVariants as fault
-use Rattle.sqlval.specs.declared.fault.Damage.TheVariants.{Depth}
-use Rattle.sqlval.specs.declared.fault.Feature.TheVariants.{RowSize}
-use Rattle.syntax.specs.declared.change.Change.{Change}
-use Rattle.syntax.specs.declared.change.Change.TheVariants as change
-use Rattle.syntax.specs.declared.change.InsertSource.{InsertSource}
-use Rattle.syntax.specs.declared.change.InsertSource.TheVariants as source
 use Rattle.syntax.specs.declared.create.NewObject.{NewObject}
 use Rattle.syntax.specs.declared.create.NewObject.TheVariants as new
 use Rattle.syntax.specs.declared.statement.Statement.{Statement}
@@ -62,40 +56,14 @@ HasLongText _ = ⊥
 
 -- the statement's database can't be stored: a row is too long for a record, or the schema table has no rowid left
 pub record IsTooMuch (s : Statement) (map : PageMap) (size : ℕ) (db : Database) (f : Fault) : Type 0 where
-  pub is : f ≡ fault.Unsupported RowSize
+  pub is : f ≡ fault.TooLong
   pub made : Database
   pub reaches : Reaches (change_made s db) made
   pub why : HasLongRow made ⊎ (HasLongText s ⊎ IsSchemaFull map size)
 
-abbrev rows_given : InsertSource → ℕ
-rows_given (source.Rows rows) = length rows
-rows_given (source.Query q) = 0
-
-abbrev rows_by : Change → ℕ
-rows_by (change.Insert i) = rows_given i.source
-rows_by _ = 0
-
--- how many rows a statement adds to a tree
-abbrev pub rows_more : Statement → ℕ
-rows_more (statement.Change c) = rows_by c
-rows_more _ = 1
-
--- a tree that gets so many rows may come to need a way of more than 20 pages
-pub record MayGrowDeep (s : Statement) (map : PageMap) (size : ℕ) (f : Fault) : Type 0 where
-  pub root : ℕ
-  pub is : f ≡ fault.Damaged Depth root
-  pub rows : List Entry
-  pub used : List ℕ
-  pub tree : IsTableTree map size root rows used
-  pub deep : 19 ≤ tree.depth + rows_more s
-
--- what a statement makes of the database can't be stored in the pages
-abbrev pub IsUnstored : Statement → PageMap → ℕ → Database → Fault → Type 0
-IsUnstored s map size db f = IsTooMuch s map size db f ⊎ MayGrowDeep s map size f
-
 -- Why a statement makes nothing: out of memory or of pages, by a disk, as its work is refused, or because what it makes can't be stored.
 abbrev pub IsChangeRefusal : Statement → PageMap → ℕ → Database → Fault → Type 0
-IsChangeRefusal s map size db f = IsOutsideOrFull f ⊎ (RefusesWith (change_made s db) (refusal_of f) ⊎ IsUnstored s map size db f)
+IsChangeRefusal s map size db f = IsOutsideOrFull f ⊎ (RefusesWith (change_made s db) (refusal_of f) ⊎ IsTooMuch s map size db f)
 
 -- What a statement's change comes to, where the pages hold a database of these tables. `tables_by` says which tables there are after a call
 -- that answered.

@@ -1,46 +1,21 @@
 -- The forms of the grammar that are supported so far. The list only grows, and goes away when all are.
-use Rattle.std.specs.Prelude.{Bool, true, false, not, ◌&&◌, ◌||◌, length, Option, Some, None, is_none, ◌==◌}
+use Rattle.std.specs.Prelude.{Bool, true, false, ◌&&◌, length, ◌==◌}
 use Rattle.std.specs.List.{list_all}
 use Rattle.syntax.specs.declared.change.Change.{Change}
 use Rattle.syntax.specs.declared.change.Change.TheVariants as change
-use Rattle.syntax.specs.declared.change.Delete.{Delete}
 use Rattle.syntax.specs.declared.change.InsertSource.{InsertSource}
 use Rattle.syntax.specs.declared.change.InsertSource.TheVariants as source
 use Rattle.syntax.specs.declared.create.NewObject.{NewObject}
 use Rattle.syntax.specs.declared.create.NewObject.TheVariants as new
 use Rattle.syntax.specs.declared.create.TableDefinition.{TableDefinition}
-use Rattle.syntax.specs.declared.query.FromClause.{FromClause}
-use Rattle.syntax.specs.declared.query.Query.{Query}
-use Rattle.syntax.specs.declared.query.ResultItem.{ResultItem}
-use Rattle.syntax.specs.declared.query.ResultItem.TheVariants.{All, AllOf, Of}
 use Rattle.syntax.specs.declared.statement.Statement.{Statement}
 use Rattle.syntax.specs.declared.statement.Statement.TheVariants as statement
-use Rattle.bind.specs.Bound.{is_column, is_literal}
+use Rattle.bind.specs.Bound.{is_literal}
 
--- `*`, a column or a literal
-abbrev pub is_result_supported : ResultItem → Bool
-is_result_supported All = true
-is_result_supported (AllOf n) = true
-is_result_supported (Of e n) = is_column e || is_literal e
-
-abbrev pub has_one_source : Option FromClause → Bool
-has_one_source None = true
-has_one_source (Some f) = length f.joins == 0
-
--- results of one source or none, without more clauses
-abbrev pub is_query_supported : Query → Bool
-is_query_supported q =
-    not q.is_distinct && is_none q.condition && length q.groups == 0 && length q.order == 0 && is_none q.limit
-    && has_one_source q.from && list_all is_result_supported q.results
-
--- rows of literals
+-- rows of VALUES
 abbrev pub is_source_supported : InsertSource → Bool
-is_source_supported (source.Rows rows) = list_all (list_all is_literal) rows
+is_source_supported (source.Rows rows) = true
 is_source_supported (source.Query q) = false
-
--- all rows of a table
-abbrev pub is_delete_supported : Delete → Bool
-is_delete_supported d = is_none d.condition
 
 -- columns of names and types alone
 abbrev pub is_table_supported : TableDefinition → Bool
@@ -52,15 +27,15 @@ is_object_supported _ = false
 
 abbrev is_change_supported : Change → Bool
 is_change_supported (change.Insert i) = is_source_supported i.source
-is_change_supported (change.Delete d) = is_delete_supported d
-is_change_supported _ = false
+is_change_supported (change.Delete d) = true
+is_change_supported (change.Update u) = true
 
--- tables, DROP, inserted rows, deletes of all rows, queries of one source, and transactions
+-- tables, DROP, inserted rows, DELETE, UPDATE, queries, and transactions
 abbrev pub is_supported : Statement → Bool
 is_supported (statement.Create c) = is_object_supported c.object
 is_supported (statement.Drop kind name) = true
 is_supported (statement.Change c) = is_change_supported c
-is_supported (statement.Select q) = is_query_supported q
+is_supported (statement.Select q) = true
 is_supported (statement.Begin mode) = true
 is_supported statement.Commit = true
 is_supported statement.Rollback = true
@@ -78,9 +53,9 @@ is_table _ = false
 abbrev changes_rows : Change → Bool
 changes_rows (change.Insert i) = true
 changes_rows (change.Delete d) = true
-changes_rows _ = false
+changes_rows (change.Update u) = true
 
--- it makes a table, drops an object, or inserts or deletes rows
+-- it makes a table, drops an object, or inserts, deletes or updates rows
 abbrev pub is_write : Statement → Bool
 is_write (statement.Create c) = is_table c.object
 is_write (statement.Drop kind name) = true

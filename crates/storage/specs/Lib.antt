@@ -1,10 +1,10 @@
 pub mod Changing
 pub mod Forms
 pub mod Language
-pub mod Laws
 pub mod Listing
 pub mod Reading
 pub mod Schema
 pub mod Standing
 pub mod Stored
+pub mod Taking
 pub mod Works

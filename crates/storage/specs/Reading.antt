@@ -1,13 +1,33 @@
 -- What a query answers (SQL As Understood By SQLite, "SELECT").
-use Rattle.std.specs.Prelude.{◌≡◌, ◌⊎◌, List, [], Contains, Result, Ok, Err}
+use Rattle.std.specs.Prelude.{◌≡◌, ◌⊎◌, ℕ, List, [], map, Contains, MatchResult, Result, Ok, Err}
+use Rattle.std.specs.List.{AllByRecursion}
 use Rattle.sqlval.specs.Faults.{IsOutside}
 use Rattle.sqlval.specs.Refusals.{Answer, refusal_of}
 use Rattle.sqlval.specs.declared.fault.Fault.{Fault}
 use Rattle.sqlval.specs.declared.value.Value.{Value}
+use Rattle.pages.specs.Map.{PageMap, AreWhole}
+use Rattle.terms.specs.Values.{Row}
 use Rattle.bind.specs.Checked.{Checked, Meant, faults}
+use Rattle.bind.specs.declared.queries.BoundSource.{BoundSource}
+use Rattle.rowprog.specs.Rows.{TableRow}
+use Rattle.rowprog.specs.Sources.{as_source}
+use Rattle.rowprog.specs.Trees.{HasRows}
 
 -- What a call answered of a query, seen by `view`, is what reading it comes to, or one of its refusals; or memory was short, or a disk's
 -- call failed.
 abbrev pub AnswersRead : {X : Type 0} → (X → List (List Value)) → Checked (Answer (List (List Value))) → Result X Fault → Type 0
 AnswersRead view read (Ok rows) = read ≡ Meant (Ok (view rows)) []
 AnswersRead view read (Err fault) = IsOutside fault ⊎ (Contains (faults read) (refusal_of fault) ⊎ (read ≡ Meant (Err (refusal_of fault)) []))
+
+-- each table's tree has its rows, where these are the rows of each tree
+abbrev pub HaveRows : PageMap → ℕ → (ℕ → List TableRow) → List BoundSource → Type 0
+HaveRows pages size rows_at tables = AllByRecursion (λ (t : BoundSource). HasRows pages size t.root t.width (rows_at t.root)) tables
+
+-- the rows of each table, as a query's sources have them
+abbrev pub rows_in : (ℕ → List TableRow) → List BoundSource → List (List Row)
+rows_in rows_at tables = map (λ t. map as_source (rows_at t.root)) tables
+
+-- What a call has read, seen by `view`, are the rows of each table, where the trees have some; or memory was short, or a disk's call failed.
+abbrev pub LoadsAll : {X : Type 0} → (X → List (List Row)) → PageMap → ℕ → List BoundSource → Result X Fault → Type 0
+LoadsAll view pages size tables result = (rows_at : ℕ → List TableRow) → AreWhole size pages → HaveRows pages size rows_at tables
+    → MatchResult result (λ x. view x ≡ rows_in rows_at tables) IsOutside

@@ -1,9 +1,10 @@
 -- What statements come to on a database: a query's rows, and what a change makes of it (SQL As Understood By SQLite, "SELECT",
 -- "CREATE TABLE", "INSERT").
-use Rattle.std.specs.Prelude.{◌≡◌, ◌⊎◌, List, [], ◌∷◌, Ok, Err, Contains, if◌then◌else◌}
+use Rattle.std.specs.Prelude.{◌≡◌, ◌⊎◌, ℕ, Some, List, [], ◌∷◌, Ok, Err, Contains, if◌then◌else◌}
 use Rattle.sqlval.specs.Refusals.{Answer, Refusal, Unique, Raised, RaisedRollback}
 use Rattle.sqlval.specs.declared.value.Value.{Value}
 use Rattle.syntax.specs.declared.change.Change.{Change}
+use Rattle.syntax.specs.declared.change.InsertSource.{InsertSource}
 use Rattle.syntax.specs.declared.create.NewObject.{NewObject}
 use Rattle.syntax.specs.declared.create.NewObject.TheVariants as new
 use Rattle.syntax.specs.declared.query.Query.{Query}
@@ -14,14 +15,19 @@ use Rattle.bind.specs.Checked.{Checked, Meant, known_map}
 use Rattle.bind.specs.Queries.{resolve_query}
 use Rattle.bind.specs.Schema.{create, create_index, drop_object, index_clashes}
 use Rattle.bind.specs.Views.{look_up, answer_of}
+use Rattle.dml.specs.Changes.{no_outer, resolve_given}
 use Rattle.trigger.specs.Binding.{IsFault}
-use Rattle.trigger.specs.Effects.{change}
+use Rattle.trigger.specs.Effects.{change, given_rows}
 
 -- ---- queries
 
 -- a query's rows on a database
 abbrev pub read_on : Database → Query → Checked (Answer (List (List Value)))
 read_on db q = known_map (answer_of db []) (resolve_query (look_up db) [] q)
+
+-- the rows that an INSERT gives on a database, where each has so many values
+abbrev pub given_on : Database → ℕ → InsertSource → Checked (Answer (List (List Value)))
+given_on db n source = known_map (given_rows db no_outer) (resolve_given db no_outer (Some n) source)
 
 -- ---- changes
 

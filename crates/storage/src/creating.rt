@@ -20,7 +20,7 @@ use catalog::{
 use filecheck::{table_trees_stand, trees_give_way};
 use pages::WritePages;
 use record::encode_row;
-use sqlval::{Damage, Fault, Feature, Misuse, Name, R, Text, Value};
+use sqlval::{Damage, Fault, Misuse, Name, R, Text, Value};
 use std::alloc::Global;
 use syntax::TableDefinition;
 use tabletree::{insert, last, new_tree, rows_come_last, table_trees_stay};
@@ -67,20 +67,18 @@ fn table_of(alloc: Global, catalog: &Catalog, definition: &TableDefinition) -> R
     })
 }
 
-/// The rowid after the last, or 1. (`Unsupported(RowSize)` after the greatest of all.)
+/// The rowid after the last, or 1. (`TooLong` after the greatest of all.)
 fn rowid_after(last: Option<i64>) -> R<i64>
     ensures next { IfOk result (λ rowid. MatchOption last (rowid ≡ pos 1) (λ before. rowid ≡ before +ℤ pos 1)) }
-    ensures full { IfErr result (λ fault. (fault ≡ Fault.Unsupported Feature.RowSize) × (last ≡ Some (pos (2 ^ 63 - 1)))) }
+    ensures full { IfErr result (λ fault. (fault ≡ Fault.TooLong) × (last ≡ Some (pos (2 ^ 63 - 1)))) }
 {
     match last {
         None => Ok(1),
-        Some(last) => last
-            .checked_add(1)
-            .ok_or(Fault::Unsupported(Feature::RowSize)),
+        Some(last) => last.checked_add(1).ok_or(Fault::TooLong),
     }
 }
 
-/// Adds a row of these values to the schema table, after its rows, and answers its rowid. (`Unsupported(RowSize)` if no record can hold them or no rowid is
+/// Adds a row of these values to the schema table, after its rows, and answers its rowid. (`TooLong` if no record can hold them or no rowid is
 /// left; what `last` and `insert` refuse.)
 fn add_row<P: WritePages>(alloc: Global, pages: &mut P, values: &[Value]) -> R<i64>
     ensures added { IsTrue (P.Pages.tells (P.Pages.below pages.old))
@@ -99,7 +97,7 @@ fn add_row<P: WritePages>(alloc: Global, pages: &mut P, values: &[Value]) -> R<i
 }
 
 /// Makes a table: its row in the schema table, and a tree without rows. Answers the catalog with it. (`Misuse(ReservedName)`, `Exists`, and
-/// what `columns_of` refuses; `Unsupported(RowSize)` if the schema table has no rowid left. Then some pages may have changed.)
+/// what `columns_of` refuses; `TooLong` if the schema table has no rowid left. Then some pages may have changed.)
 pub fn create_table<P: WritePages>(
     alloc: Global,
     pages: &mut P,

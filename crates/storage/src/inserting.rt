@@ -8,7 +8,8 @@ ghost use Rattle.catalog.specs.Listed.{tables_of};
 ghost use Rattle.storage.specs.Changing.{MakesChange};
 ghost use Rattle.storage.specs.Forms.{is_source_supported};
 
-use bind::bind_insert;
+use crate::giving::source_rows;
+use bind::{BoundInsert, bind_target};
 use catalog::{Catalog, named_databases_are_one, other_rows_are_listed};
 use dml::put_rows;
 use filecheck::{table_trees_stand, trees_give_way};
@@ -18,7 +19,8 @@ use std::alloc::Global;
 use syntax::Insert;
 use trigger::only_tables_set_nothing_off;
 
-/// Makes the rows of an INSERT. (What `bind_insert` and `put_rows` refuse; then some pages may have changed.)
+/// Makes the rows of an INSERT: all are known before the first is stored. (What `bind_target`, `source_rows` and `put_rows` refuse;
+/// then some pages may have changed.)
 pub fn insert<P: WritePages>(
     alloc: Global,
     pages: &mut P,
@@ -37,6 +39,12 @@ pub fn insert<P: WritePages>(
     only_tables_set_nothing_off();
     trees_give_way();
     table_trees_stand();
-    let bound = bind_insert(alloc, insert, catalog)?;
+    let target = bind_target(alloc, insert, catalog)?;
+    let rows = source_rows(alloc, &insert.source, target.count)?;
+    let bound = BoundInsert {
+        table: target.table,
+        places: target.places,
+        rows,
+    };
     put_rows(alloc, pages, bound)
 }

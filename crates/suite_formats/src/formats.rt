@@ -191,11 +191,6 @@ fn pages_of_another_kind_and_long_rows_are_refused(rt: HostRuntime) -> Result<()
         rowid: 1,
         payload: &interior,
     };
-    assert!(rt;
-        matches!(
-            build(rt.alloc(), &[], 512, &[cell]),
-            Err(Fault::Unsupported(Feature::RowSize))
-        )
-    );
+    assert!(rt; matches!(build(rt.alloc(), &[], 512, &[cell]), Err(Fault::TooLong)));
     Ok(())
 }

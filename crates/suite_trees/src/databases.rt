@@ -6,7 +6,7 @@ use pages::{MemPages, Pages, WritePages};
 use parser::{parse, release};
 use sqlval::{Fault, Feature, R, Row, Value};
 use std::alloc::Global;
-use storage::{create_table, insert, read};
+use storage::{create_table, delete_rows, insert, read};
 use syntax::{Change, Create, NewObject, Statement};
 
 /// A database: its pages, and its tables.
@@ -48,11 +48,17 @@ fn create(alloc: Global, database: &mut Database, create: &Create) -> R<()> {
     }
 }
 
-/// Makes what a CREATE TABLE or an INSERT says. (What they refuse; `Unsupported(StatementForm)` for another statement.)
+/// Makes what a CREATE TABLE, an INSERT or a DELETE says. (What they refuse; `Unsupported(StatementForm)` for another statement.)
 fn change(alloc: Global, database: &mut Database, statement: &Statement) -> R<()> {
     match statement {
         Statement::Create(made) => create(alloc, database, made),
         Statement::Change(Change::Insert(rows)) => insert(
+            alloc,
+            &mut database.pages,
+            &database.catalog,
+            rows,
+        ),
+        Statement::Change(Change::Delete(rows)) => delete_rows(
             alloc,
             &mut database.pages,
             &database.catalog,

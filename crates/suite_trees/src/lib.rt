@@ -6,6 +6,8 @@ mod checks;
 #[cfg(test)]
 mod databases;
 #[cfg(test)]
+mod deletions;
+#[cfg(test)]
 mod forests;
 #[cfg(test)]
 mod removals;
@@ -13,3 +15,5 @@ mod removals;
 mod statements;
 #[cfg(test)]
 mod tables;
+#[cfg(test)]
+mod ways;

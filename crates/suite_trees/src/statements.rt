@@ -202,3 +202,23 @@ fn a_create_that_is_refused_keeps_the_catalog(rt: HostRuntime) -> Result<(), Fai
     assert_eq!(rt; database.pages.size(), 2);
     Ok(())
 }
+
+#[test]
+fn values_of_any_expressions(rt: HostRuntime) -> Result<(), Fail> {
+    let alloc = rt.alloc();
+    let mut database = new_database(alloc)?;
+    let texts = [
+        "CREATE TABLE t (n INTEGER, t TEXT)",
+        "INSERT INTO t VALUES (2 + 3 * 4, 'a' || 'b'), (-(7), upper('c'))",
+    ];
+    run_all(alloc, &mut database, &texts)?;
+    assert!(rt;
+        gives(
+            alloc,
+            &mut database,
+            "SELECT * FROM t",
+            &[(14, "ab"), (-7, "C")]
+        )?
+    );
+    Ok(())
+}

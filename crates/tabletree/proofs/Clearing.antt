@@ -52,7 +52,7 @@ told_of m size number ways (suc depth) t free is = record {
 pub parts_refused : (m : PageMap) (size number ways depth : ℕ) (t : Tree depth) (free : List ℕ) (fault : Fault) → StandsUnder m size number ways depth t free → FindsParts m size number (Err fault) → IsOutside fault
 parts_refused m size number ways depth t free fault is finds = (let told = told_of m size number ways depth t free is in finds told.node (is.free_are).whole told.says told.ours)
 
-not_children : (a b : ℕ) → Cells a ≡ Children b → ⊥
+pub not_children : (a b : ℕ) → Cells a ≡ Children b → ⊥
 not_children a b e = cc
 
 same_cells : (a b : ℕ) → Cells a ≡ Cells b → a ≡ b
@@ -120,7 +120,7 @@ each_flat pages [] last = append-nil (pages last)
 each_flat pages (kid ∷ kids) last = ap (λ (l : List ℕ). pages kid.0 ++ l) (each_flat pages kids last)
 
 -- a page that is there, where page 1 isn't among these, is after page 1
-after_first : (m : PageMap) (page : ℕ) (pages : List ℕ) → Has m page → occurs 1 (page ∷ pages) ≡ 0 → 1 < page
+pub after_first : (m : PageMap) (page : ℕ) (pages : List ℕ) → Has m page → occurs 1 (page ∷ pages) ≡ 0 → 1 < page
 after_first m page pages has none = elim (cases_lt 1 page) [
   | inl lt ↦ lt
   | inr ge ↦ (let from = has.first in let same : page ≡ 1 = omega (arith, from, ge) in let some = subst (λ (k : ℕ). 1 ≤ occurs k (page ∷ pages)) same (first_of page pages) in absurd (omega (arith, some, none)))

@@ -6,8 +6,7 @@ use Rattle.std.proofs.lemmas.List.{length-set}
 use Rattle.std.specs.Prelude.{Result, Ok, Err, IfErr}
 use Rattle.sqlval.specs.PageSizes.{IsPageSize}
 use Rattle.sqlval.specs.declared.fault.Fault.{Fault}
-use Rattle.sqlval.specs.declared.fault.Fault.TheVariants.{Memory, Unsupported}
-use Rattle.sqlval.specs.declared.fault.Feature.TheVariants as Feature
+use Rattle.sqlval.specs.declared.fault.Fault.TheVariants.{Memory, TooLong}
 use Rattle.page.specs.Leaf.{IsTableLeaf}
 use Rattle.page.specs.Writing.{Fits}
 use Rattle.pages.specs.Counting.{occurs, start_of, Moves}
@@ -37,7 +36,7 @@ pub none_fit : (size start : ℕ) → IsPageSize size → start ≤ 100 → Fits
 none_fit size start is le = (let large = large_size size is in record { addressed = omega (arith, large.1); whole = tt; room = omega (arith, large.0, le) })
 
 pub refused_memory : (size page_size number : ℕ) (fault : Fault) → IsPageSize size → page_size ≡ size
-    → (fault ≡ Memory) ⊎ ((fault ≡ Unsupported Feature.RowSize) × (Fits page_size (start_of number) [] → ⊥)) → fault ≡ Memory
+    → (fault ≡ Memory) ⊎ ((fault ≡ TooLong) × (Fits page_size (start_of number) [] → ⊥)) → fault ≡ Memory
 refused_memory size page_size number fault is same (inl memory) = memory
 refused_memory size page_size number fault is same (inr room) = absurd (room.1 (subst (λ (n : ℕ). Fits n (start_of number) []) (sym same) (none_fit size (start_of number) is (start_le number))))
 
@@ -45,10 +44,10 @@ pub no_start : (size number start : ℕ) → IsPageSize size → start ≡ start
 no_start size number start is same lt = (let large = large_size size is in let le = start_le number in omega (arith, large.0, le, same, lt))
 
 pub memory_alone : {T : Type 0} (result : Result T Fault) (size number start : ℕ) → start ≡ start_of number
-    → IfErr result (λ fault. (fault ≡ Memory) ⊎ ((fault ≡ Unsupported Feature.RowSize) × (Fits size start [] → ⊥))) → IfErr result (λ fault. IsPageSize size → fault ≡ Memory)
+    → IfErr result (λ fault. (fault ≡ Memory) ⊎ ((fault ≡ TooLong) × (Fits size start [] → ⊥))) → IfErr result (λ fault. IsPageSize size → fault ≡ Memory)
 memory_alone (Ok x) size number start same refused = tt
 memory_alone (Err fault) size number start same refused = λ sized.
-    refused_memory size size number fault sized refl (subst (λ (n : ℕ). (fault ≡ Memory) ⊎ ((fault ≡ Unsupported Feature.RowSize) × (Fits size n [] → ⊥))) same refused)
+    refused_memory size size number fault sized refl (subst (λ (n : ℕ). (fault ≡ Memory) ⊎ ((fault ≡ TooLong) × (Fits size n [] → ⊥))) same refused)
 
 -- ---- where it stands
 

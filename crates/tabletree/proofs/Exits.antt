@@ -11,7 +11,6 @@ use Rattle.packing.specs.declared.spreading.Packed.{Packed}
 use Rattle.forest.specs.Storing.{cells_of}
 use Rattle.forest.specs.declared.storing.Fan.{Fan}
 use Rattle.tabletree.specs.Growing.{IsPlanned, IsChanged, IsLessened, IsWidened}
-use Rattle.tabletree.specs.Calls.{IsGrowthRefusal}
 use Rattle.tabletree.specs.Tree.{Tree}
 use Rattle.tabletree.specs.declared.growing.Change.{Change}
 use Rattle.tabletree.specs.declared.growing.Change.TheVariants.{Still, Same, Spread}
@@ -71,10 +70,6 @@ lessened_or_ways old new size number ways other rowid depth low t high free resu
     subst (λ (n : ℕ). MatchResult result (IsLessened old new size number n rowid depth low t high free) IsOutsideOrFull) same is
 
 -- ---- at the root
-
-pub growth_err : {T : Type 0} (I : T → Type 0) (result : Result T Fault) (fault : Fault) (root depth : ℕ) → IsErrAnd result (λ e. e ≡ fault) → IsGrowthRefusal root depth fault → MatchResult result I (IsGrowthRefusal root depth)
-growth_err I (Ok x) fault root depth is refused = absurd is
-growth_err I (Err e) fault root depth is refused = subst (IsGrowthRefusal root depth) (sym is) refused
 
 pub none_left : {A : Type 0} (xs : List A) → length xs ≡ 0 → xs ≡ []
 none_left [] none = refl

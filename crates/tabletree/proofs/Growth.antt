@@ -46,7 +46,7 @@ pub record IsGrown (old new : PageMap) (size child depth : ℕ) (low high : ℤ)
 -- ---- few cells
 
 -- a key has at most nine bytes
-key_len : (bytes : List ℕ) (key : ℤ) → IsKey bytes key → length bytes ≤ 9
+pub key_len : (bytes : List ℕ) (key : ℤ) → IsKey bytes key → length bytes ≤ 9
 key_len bytes key is =
     let v = is.key_is in
     let len : length bytes ≡ length v.high + 1 = omega (arith, ap length v.spelled, length-append (map (λ digit. 128 + digit) v.high) (v.last ∷ []), length-map v.high (λ (digit : ℕ). 128 + digit)) in

@@ -25,6 +25,11 @@ mod Trimmed
 mod Replaced
 mod LastRows
 mod Exits
+mod KidCells
+mod Openings
+mod Gatherings
+mod Flattened
+mod StoredTops
 mod Widening
 mod Fans
 mod Stepped

@@ -55,7 +55,7 @@ rows_up map' usable (row ∷ said) [] h = up_none (length map')
 rows_up map' usable (row ∷ said) (held ∷ rows) h =
     up_append (length map') held.pages (flat_map (λ (held : Held). held.pages) rows) (chain_up map' usable _ held.pages h.0.payload.chain) (rows_up map' usable said rows h.1)
 
-each_up : (depth most : ℕ) (P : Tree depth → Type 0) → ((u : Tree depth) → P u → AreUpTo most (pages_of depth u)) → (kids : Kids depth) (last : Tree depth) → Each P kids last → AreUpTo most (pages_in depth kids last)
+pub each_up : (depth most : ℕ) (P : Tree depth → Type 0) → ((u : Tree depth) → P u → AreUpTo most (pages_of depth u)) → (kids : Kids depth) (last : Tree depth) → Each P kids last → AreUpTo most (pages_in depth kids last)
 each_up depth most P go [] last h = go last h
 each_up depth most P go (kid ∷ kids) last h = up_append most (pages_of depth kid.0) (pages_in depth kids last) (go kid.0 h.0) (each_up depth most P go kids last h.1)
 

@@ -4,8 +4,7 @@ use Rattle.std.specs.declared.alloc.Global.{Global}
 use Rattle.std.proofs.lemmas.Result.{IfOk-weaker, IfErr-weaker}
 use Rattle.std.proofs.lemmas.List.{take-append-le, take_all, length-take}
 use Rattle.sqlval.specs.declared.fault.Fault.{Fault}
-use Rattle.sqlval.specs.declared.fault.Fault.TheVariants.{Memory, Unsupported}
-use Rattle.sqlval.specs.declared.fault.Feature.TheVariants as Feature
+use Rattle.sqlval.specs.declared.fault.Fault.TheVariants.{Memory, TooLong}
 use Rattle.page.specs.Leaf.{Entry}
 use Rattle.page.specs.Writing.{leaf_of, Fits}
 use Rattle.pages.specs.Counting.{start_of}
@@ -24,11 +23,11 @@ front_stays result page size start rows le exact = IfOk-weaker result _ _ (λ ne
 
 pub too_full : (result : Result (Vec ℕ Global) Fault) (page : List ℕ) (number start : ℕ) (old more all : List Entry) → start ≡ start_of number → all ≡ old ++ more
     → ((rows : List Entry) → IsSingleLeaf page number rows → rows ≡ old)
-    → IfErr result (λ fault. (fault ≡ Memory) ⊎ ((fault ≡ Unsupported Feature.RowSize) × (Fits (length page) start all → ⊥)))
+    → IfErr result (λ fault. (fault ≡ Memory) ⊎ ((fault ≡ TooLong) × (Fits (length page) start all → ⊥)))
     → IfErr result (λ fault. (fault ≡ Memory) ⊎ (IsLeafRefusal number fault ⊎ IsTooFull page number more fault))
 too_full result page number start old more all here parts same refused = IfErr-weaker result _ _ turned refused
   where
-    turned : (fault : Fault) → (fault ≡ Memory) ⊎ ((fault ≡ Unsupported Feature.RowSize) × (Fits (length page) start all → ⊥))
+    turned : (fault : Fault) → (fault ≡ Memory) ⊎ ((fault ≡ TooLong) × (Fits (length page) start all → ⊥))
         → (fault ≡ Memory) ⊎ (IsLeafRefusal number fault ⊎ IsTooFull page number more fault)
     turned fault (inl e) = inl e
     turned fault (inr (e, full)) = inr (inr (e, λ rows is fits. full (subst (λ s. Fits (length page) s all) (sym here) (subst (λ xs. Fits (length page) (start_of number) xs) (ap (λ xs. xs ++ more) (same rows is) ∙ sym parts) fits))))
@@ -36,11 +35,11 @@ too_full result page number start old more all here parts same refused = IfErr-w
 -- where the page is such a leaf, only memory or the room is wanting
 pub single_full : (result : Result (Vec ℕ Global) Fault) (page : List ℕ) (number start : ℕ) (old more all : List Entry) → start ≡ start_of number → all ≡ old ++ more
     → ((rows : List Entry) → IsSingleLeaf page number rows → rows ≡ old)
-    → IfErr result (λ fault. (fault ≡ Memory) ⊎ ((fault ≡ Unsupported Feature.RowSize) × (Fits (length page) start all → ⊥)))
+    → IfErr result (λ fault. (fault ≡ Memory) ⊎ ((fault ≡ TooLong) × (Fits (length page) start all → ⊥)))
     → IfErr result (λ fault. (rows : List Entry) → IsSingleLeaf page number rows → (fault ≡ Memory) ⊎ IsTooFull page number more fault)
 single_full result page number start old more all here parts same refused = IfErr-weaker result _ _ turned refused
   where
-    turned : (fault : Fault) → (fault ≡ Memory) ⊎ ((fault ≡ Unsupported Feature.RowSize) × (Fits (length page) start all → ⊥))
+    turned : (fault : Fault) → (fault ≡ Memory) ⊎ ((fault ≡ TooLong) × (Fits (length page) start all → ⊥))
         → (rows : List Entry) → IsSingleLeaf page number rows → (fault ≡ Memory) ⊎ IsTooFull page number more fault
     turned fault (inl e) rows single_leaf = inl e
     turned fault (inr (e, full)) rows single_leaf = inr (e, λ rows is fits. full (subst (λ s. Fits (length page) s all) (sym here) (subst (λ xs. Fits (length page) (start_of number) xs) (ap (λ xs. xs ++ more) (same rows is) ∙ sym parts) fits)))

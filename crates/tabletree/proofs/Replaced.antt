@@ -1,12 +1,13 @@
 -- A row that was taken out and put in again.
-use Rattle.std.proofs.Common.{◌≡◌, ◌≤◌, ℕ, suc, ℤ, ◌≤ℤ◌, Bool, true, false, int_lt, if◌then◌else◌, List, [], ◌∷◌, None, refl, sym, ap, subst, ◌∙◌, inl, inr, arith}
+use Rattle.std.proofs.Common.{◌≡◌, ℕ, ℤ, ◌≤ℤ◌, Bool, true, false, int_lt, if◌then◌else◌, List, [], ◌∷◌, None, refl, sym, ap, subst, ◌∙◌, inl, inr, arith}
 use Rattle.std.proofs.lemmas.Int.{ints}
 use Rattle.std.specs.Ordering.{int_eq}
 use Rattle.std.specs.Prelude.{Result, Ok, Err, MatchResult}
 use Rattle.sqlval.specs.declared.fault.Fault.{Fault}
 use Rattle.page.specs.Leaf.{Entry}
+use Rattle.pages.specs.Calls.{IsOutsideOrFull}
 use Rattle.pages.specs.Map.{PageMap}
-use Rattle.tabletree.specs.Calls.{Stands, BecomesRows, IsGrowthRefusal, IsInserted, IsReplaced}
+use Rattle.tabletree.specs.Calls.{Stands, BecomesRows, IsInserted, IsReplaced}
 use Rattle.tabletree.specs.Rows.{payload_at, with_row, without_row}
 use Rattle.tabletree.proofs.Exits.{not_true}
 use Rattle.tabletree.proofs.LastRows.{Ascends, sorted_ascends}
@@ -72,21 +73,16 @@ stands_ascend map' size root rows used free is =
 
 -- ---- the call
 
-pub deeper_refusal : (root depth : ℕ) (fault : Fault) → IsGrowthRefusal root depth fault → IsGrowthRefusal root (suc depth) fault
-deeper_refusal root depth fault (inl outside) = inl outside
-deeper_refusal root depth fault (inr deep) = inr (deep.0, (let le = deep.1 in omega (arith, le)))
-
 pub replaced_or : (old mid new : PageMap) (size root : ℕ) (row : Entry) (rows : List Entry) (used free : List ℕ) (is : Stands old size root rows used free) → (payload_at row.rowid rows ≡ None → ⊥)
-    → (now : BecomesRows old mid size root (without_row row.rowid rows) used free) → now.stands.tree.depth ≤ suc is.tree.depth → (result : Result Bool Fault)
-    → MatchResult result (IsInserted mid new size root row now.stands.tree.depth (without_row row.rowid rows) now.now_used now.now_free) (IsGrowthRefusal root now.stands.tree.depth)
-    → MatchResult result (IsReplaced old new size root row rows used free) (IsGrowthRefusal root (suc is.tree.depth))
-replaced_or old mid new size root row rows used free is there now near (Ok true) put = (
+    → (now : BecomesRows old mid size root (without_row row.rowid rows) used free) → (result : Result Bool Fault)
+    → MatchResult result (IsInserted mid new size root row (without_row row.rowid rows) now.now_used now.now_free) IsOutsideOrFull
+    → MatchResult result (IsReplaced old new size root row rows used free) IsOutsideOrFull
+replaced_or old mid new size root row rows used free is there now (Ok true) put = (
   there,
   becomes_then old mid new size root (without_row row.rowid rows) (with_row row rows) used free now
       (subst (λ (all : List Entry). BecomesRows mid new size root all now.now_used now.now_free)
-      (with_again row is.tree.low rows is.tree.high (stands_ascend old size root rows used free is)) put.1.0),
+      (with_again row is.tree.low rows is.tree.high (stands_ascend old size root rows used free is)) put.1),
 )
-replaced_or old mid new size root row rows used free is there now near (Ok false) put =
+replaced_or old mid new size root row rows used free is there now (Ok false) put =
     absurd (put.0 (absent_then row.rowid is.tree.low rows is.tree.high (stands_ascend old size root rows used free is)))
-replaced_or old mid new size root row rows used free is there now near (Err fault) (inl outside) = inl outside
-replaced_or old mid new size root row rows used free is there now near (Err fault) (inr deep) = inr (deep.0, (let le = deep.1 in omega (arith, le, near)))
+replaced_or old mid new size root row rows used free is there now (Err fault) refused = refused

@@ -76,10 +76,6 @@ wider low high rowid = elim (less_or_not low rowid) [
 abbrev pub BecomesUpTo : PageMap → PageMap → ℕ → ℕ → ℕ → List Entry → List ℕ → List ℕ → Type 0
 BecomesUpTo old new size root most rows used free = (now : BecomesRows old new size root rows used free) × (now.stands.tree.depth ≤ most)
 
--- the tree has these rows now, and at most one page more on a way than this deep one
-abbrev pub BecomesAtMost : PageMap → PageMap → ℕ → ℕ → ℕ → List Entry → List ℕ → List ℕ → Type 0
-BecomesAtMost old new size root depth rows used free = BecomesUpTo old new size root (suc depth) rows used free
-
 -- ---- the root of a tree that stands
 
 module _ (old : PageMap) (size root : ℕ) (rowid : ℤ) (rows : List Entry) (used free : List ℕ) (is : Stands old size root rows used free) where
@@ -115,15 +111,49 @@ module _ (old : PageMap) (size root : ℕ) (rowid : ℤ) (rows : List Entry) (us
     sized = is.sized;
   }
 
-  -- a tree that took the place of the old one stands
-  pub becomes_up : (most : ℕ) (new : PageMap) (deep : ℕ) (t : Tree deep) (low high : ℤ) (all : List Entry) (now_free : List ℕ) → deep < 20 → deep ≤ most → top deep t ≡ root → Lies new size deep t → IsSorted deep low t high → rows_of deep t ≡ all
-      → HasFree new size now_free → Moves old new (pages_of depth tree) free (pages_of deep t) now_free → KeepsHeader old new → BecomesUpTo old new size root most all used free
-  becomes_up most new deep t low high all now_free shallow near at lies sorted holds has moves header =
+  -- What is free beside a tree that took the place of the old one.
+  pub record IsBesideFree (new : PageMap) (deep : ℕ) (t : Tree deep) (now_free : List ℕ) : Type 0 where
+    pub free_are : AreFree new size now_free
+    pub apart : (n : ℕ) → occurs n (pages_of deep t) + occurs n now_free ≤ 1
+    pub first : (root ≡ 1) ⊎ (occurs 1 (pages_of deep t) ≡ 0)
+    pub below : occurs 1 (below_of deep t) ≡ 0
+
+  pub beside_free : (new : PageMap) (deep : ℕ) (t : Tree deep) (now_free : List ℕ) → top deep t ≡ root → HasFree new size now_free → Moves old new (pages_of depth tree) free (pages_of deep t) now_free → IsBesideFree new deep t now_free
+  beside_free new deep t now_free at has moves =
       let apart = once_after old new size (pages_of depth tree) free (pages_of deep t) now_free is.free_are moves (tree_up old size depth tree is.tree.lies) root_under.apart in
       let counts = moves.counts 1 in
       let old_page = not_fresh (length old) (length new) 1 (((one_there old size free is.free_are).has).last) in
       let behind = (is.free_are).behind in
-      let was = ap (occurs 1) is.tree.used_are in (
+      let was = ap (occurs 1) is.tree.used_are in
+      let split = ap (occurs 1) (pages_split deep t) in
+      let both = apart 1 in
+      let at_root = ap (λ (n : ℕ). occurs 1 (n ∷ below_of deep t)) at in
+      record {
+        free_are = record {
+          has = has;
+          once = record { once = λ n. (let both = apart n in omega (arith, both)) };
+          behind = elim is.first [
+            | inl one ↦ (let f = ap (λ (n : ℕ). occurs 1 (n ∷ below_of deep t)) (at ∙ one) in omega (arith, both, split, f))
+            | inr none ↦ omega (arith, counts, old_page, behind, was, none)
+          ];
+          whole = moves.whole size (is.free_are).whole;
+        };
+        apart = apart;
+        first = elim is.first [
+          | inl one ↦ inl one
+          | inr none ↦ inr (omega (arith, counts, old_page, behind, was, none))
+        ];
+        below = elim is.first [
+          | inl one ↦ (let f = ap (λ (n : ℕ). occurs 1 (n ∷ below_of deep t)) (at ∙ one) in omega (arith, both, split, f))
+          | inr none ↦ omega (arith, counts, old_page, behind, was, none, split)
+        ];
+      }
+
+  -- a tree that took the place of the old one stands
+  pub becomes_up : (most : ℕ) (new : PageMap) (deep : ℕ) (t : Tree deep) (low high : ℤ) (all : List Entry) (now_free : List ℕ) → deep < 20 → deep ≤ most → top deep t ≡ root → Lies new size deep t → IsSorted deep low t high → rows_of deep t ≡ all
+      → HasFree new size now_free → Moves old new (pages_of depth tree) free (pages_of deep t) now_free → KeepsHeader old new → BecomesUpTo old new size root most all used free
+  becomes_up most new deep t low high all now_free shallow near at lies sorted holds has moves header =
+      let beside = beside_free new deep t now_free at has moves in (
         record {
           now_used = pages_of deep t;
           now_free = now_free;
@@ -139,22 +169,11 @@ module _ (old : PageMap) (size root : ℕ) (rowid : ℤ) (rows : List Entry) (us
               sorted = sorted;
               rows_are = holds;
               used_are = refl;
-              once = record { once = λ n. (let both = apart n in omega (arith, both)) };
+              once = record { once = λ n. (let both = beside.apart n in omega (arith, both)) };
             };
-            free_are = record {
-              has = has;
-              once = record { once = λ n. (let both = apart n in omega (arith, both)) };
-              behind = elim is.first [
-                | inl one ↦ (let both = apart 1 in let e = ap (occurs 1) (pages_split deep t) in let f = ap (λ (n : ℕ). occurs 1 (n ∷ below_of deep t)) (at ∙ one) in omega (arith, both, e, f))
-                | inr none ↦ omega (arith, counts, old_page, behind, was, none)
-              ];
-              whole = moves.whole size (is.free_are).whole;
-            };
-            apart = apart;
-            first = elim is.first [
-              | inl one ↦ inl one
-              | inr none ↦ inr (omega (arith, counts, old_page, behind, was, none))
-            ];
+            free_are = beside.free_are;
+            apart = beside.apart;
+            first = beside.first;
             sized = is.sized;
           };
           moves = subst (λ (pages : List ℕ). Moves old new pages free (pages_of deep t) now_free) is.tree.used_are moves;
@@ -163,27 +182,26 @@ module _ (old : PageMap) (size root : ℕ) (rowid : ℤ) (rows : List Entry) (us
         near,
       )
 
-  becomes : (new : PageMap) (deep : ℕ) (t : Tree deep) (low high : ℤ) (all : List Entry) (now_free : List ℕ) → deep < 20 → deep ≤ suc depth → top deep t ≡ root → Lies new size deep t → IsSorted deep low t high → rows_of deep t ≡ all
-      → HasFree new size now_free → Moves old new (pages_of depth tree) free (pages_of deep t) now_free → KeepsHeader old new → BecomesAtMost old new size root depth all used free
-  becomes = becomes_up (suc depth)
+  pub put_up : (most : ℕ) (new : PageMap) (deep : ℕ) (low high : ℤ) (all : List Entry) → deep < 20 → deep ≤ most → IsPut old new size root deep low high all (pages_of depth tree) free → BecomesUpTo old new size root most all used free
+  put_up most new deep low high all shallow near p = becomes_up most new deep p.tree low high all p.now_free shallow near p.top_is p.lies p.sorted p.rows_are p.has p.moves p.header
 
-  pub put_becomes : (new : PageMap) (all : List Entry) → IsPut old new size root depth bounds.less bounds.more all (pages_of depth tree) free → BecomesAtMost old new size root depth all used free
-  put_becomes new all p = becomes new depth p.tree bounds.less bounds.more all p.now_free is.tree.shallow (omega arith) p.top_is p.lies p.sorted p.rows_are p.has p.moves p.header
+  pub put_becomes : (new : PageMap) (all : List Entry) → IsPut old new size root depth bounds.less bounds.more all (pages_of depth tree) free → BecomesRows old new size root all used free
+  put_becomes new all p = (put_up depth new depth bounds.less bounds.more all is.tree.shallow (omega arith) p).0
 
   -- ---- packed pages in place of the root's
 
-  module _ (mid : PageMap) (all : List Entry) (packed : Packed) (plan : IsPlanned old mid size root depth bounds.less bounds.more all (below_of depth tree) free packed) where
+  module _ (low high : ℤ) (under : IsUnder old size root 19 rowid depth low tree high free) (mid : PageMap) (all : List Entry) (packed : Packed) (plan : IsPlanned old mid size root depth low high all (below_of depth tree) free packed) where
     abbrev at_parts : List ℕ
-    at_parts = parts old mid size root 19 rowid depth bounds.less tree bounds.more free root_under all packed plan
+    at_parts = parts old mid size root 19 rowid depth low tree high free under all packed plan
 
     pub root_free : AreFree mid size plan.now_free
-    root_free = (planned_after old mid size root 19 rowid depth bounds.less tree bounds.more free root_under all packed plan).are
+    root_free = (planned_after old mid size root 19 rowid depth low tree high free under all packed plan).are
 
     pub root_there : Has mid root
-    root_there = number_there old mid size root 19 rowid depth bounds.less tree bounds.more free root_under all packed plan
+    root_there = number_there old mid size root 19 rowid depth low tree high free under all packed plan
 
     pub root_unfree : occurs root plan.now_free ≡ 0
-    root_unfree = number_unfree old mid size root 19 rowid depth bounds.less tree bounds.more free root_under all packed plan
+    root_unfree = number_unfree old mid size root 19 rowid depth low tree high free under all packed plan
 
     last_sized : (pages : List (List ℕ)) (page : List ℕ) → AllByRecursion (λ image. length image ≡ size) (pages ++ page ∷ []) → length page ≡ size
     last_sized [] page h = h.0
@@ -206,13 +224,13 @@ module _ (old : PageMap) (size root : ℕ) (rowid : ℤ) (rows : List Entry) (us
     tops_now : (new : PageMap) (now_used now_free : List ℕ) → Moves mid new (root ∷ []) plan.now_free now_used now_free
         → Pairwise (IsTop new size depth (start_in root packed.pieces.items)) (images packed) (all_of plan.kids plan.last)
     tops_now new now_used now_free moves =
-        tops_stay old mid size root 19 rowid depth bounds.less tree bounds.more free root_under all packed plan new now_used now_free moves (start_in root packed.pieces.items)
+        tops_stay old mid size root 19 rowid depth low tree high free under all packed plan new now_used now_free moves (start_in root packed.pieces.items)
         (images packed) plan.kids plan.last (λ n. omega arith) plan.tops
 
     moves_now : (new : PageMap) (now_used now_free pages : List ℕ) → Moves mid new (root ∷ []) plan.now_free now_used now_free
         → ((n : ℕ) → occurs n pages ≡ occurs n now_used + occurs n at_parts) → Moves old new (pages_of depth tree) free pages now_free
     moves_now new now_used now_free pages moves counts =
-        let first = moves_top old mid size root 19 rowid depth bounds.less tree bounds.more free root_under all packed plan in
+        let first = moves_top old mid size root 19 rowid depth low tree high free under all packed plan in
         let second = beside_used mid new (root ∷ []) plan.now_free now_used now_free at_parts (root ∷ at_parts) pages moves (λ n. occurs_append n (root ∷ []) at_parts) counts in
         subst (λ (was : List ℕ). Moves old new was free pages now_free) (ap (λ (n : ℕ). n ∷ below_of depth tree) (sym is.tree.root_is) ∙ sym (pages_split depth tree))
         (in_sequence old mid new (root ∷ below_of depth tree) free (root ∷ at_parts) plan.now_free pages now_free first second)
@@ -239,8 +257,8 @@ module _ (old : PageMap) (size root : ℕ) (rowid : ℤ) (rows : List Entry) (us
           has = record { first = there.first; last = (let b = there.last in let longer = (r.moves).longer in omega (arith, b, longer)) };
           node_is = subst (λ (page : List ℕ). IsNode page (start_of root) (alone.1).node) (sym bytes) (alone.1).says;
         } in
-        becomes_up depth new depth t bounds.less bounds.more all plan.now_free is.tree.shallow (omega arith) (top_moved depth root plan.last) (lies_moved new size depth root plan.last (alone.1).node (alone.1).shows says)
-        (sorted_moved depth root bounds.less plan.last bounds.more (subst (λ (ks : Kids depth). Parted (IsSorted depth) bounds.less ks plan.last bounds.more) alone.0 plan.sorted))
+        becomes_up depth new depth t low high all plan.now_free is.tree.shallow (omega arith) (top_moved depth root plan.last) (lies_moved new size depth root plan.last (alone.1).node (alone.1).shows says)
+        (sorted_moved depth root low plan.last high (subst (λ (ks : Kids depth). Parted (IsSorted depth) low ks plan.last high) alone.0 plan.sorted))
         (rows_moved depth root plan.last ∙ subst (λ (ks : Kids depth). each_of (rows_of depth) nothing ks plan.last ≡ all) alone.0 plan.rows_are)
         r.has
         (moves_now new (root ∷ []) plan.now_free (pages_of depth t) r.moves (λ n.
@@ -248,31 +266,36 @@ module _ (old : PageMap) (size root : ℕ) (rowid : ℤ) (rows : List Entry) (us
         let f = ap (λ (ks : Kids depth). occurs n (each_of (below_of depth) nothing ks plan.last)) alone.0 in omega (arith, e, s, f))))
         (keeps_then old mid new plan.header r.header)
 
-    rewritten_becomes : (new : PageMap) → packed.pieces.items ≡ [] → IsRewritten mid new size plan.now_free root packed.last.items → BecomesAtMost old new size root depth all used free
-    rewritten_becomes new none r = (let up = rewritten_up new none r in (up.0, (let le = up.1 in omega (arith, le))))
-
     no_start : (pieces : List Piece) → (pieces ≡ [] → ⊥) → start_in root pieces ≡ 0
     no_start [] some = absurd (some refl)
     no_start (piece ∷ pieces) some = refl
 
     -- the root is a page above several
-    pub lifted_becomes : (new : PageMap) → (packed.pieces.items ≡ [] → ⊥) → depth < 19 → IsLifted mid new size root TableInterior plan.now_free packed → BecomesAtMost old new size root depth all used free
-    lifted_becomes new some short l =
+    pub lifted_put : (new : PageMap) → (packed.pieces.items ≡ [] → ⊥) → IsLifted mid new size root TableInterior plan.now_free packed → IsPut old new size root (suc depth) low high all (pages_of depth tree) free
+    lifted_put new some l =
         let tops = subst (λ (start : ℕ). Pairwise (IsTop new size depth start) (images packed) (all_of plan.kids plan.last)) (no_start packed.pieces.items some)
         (tops_now new (root ∷ (l.fronts ++ l.last ∷ [])) l.now_free l.moves) in
-        let planted = plant new size depth l.fronts l.last (images packed) plan.kids plan.last (divider_bytes packed) bounds.less bounds.more l.on tops plan.divide plan.sorted in
+        let planted = plant new size depth l.fronts l.last (images packed) plan.kids plan.last (divider_bytes packed) low high l.on tops plan.divide plan.sorted in
         let t : Tree (suc depth) = record { page = root; kids = planted.kids; last = planted.last } in
         let says : Says new root (Keys (children (top depth) planted.kids) (top depth planted.last)) = record {
           has = l.has_root;
           node_is = subst (λ (n : ℕ). IsNode (page_at new root) (start_of root) (Keys (children (top depth) planted.kids) n)) (sym planted.last_is)
               (record { cells = cells_over l.fronts (divider_bytes packed); page_is = l.root_is; say = (planted.cells_are, planted.near) });
         } in
-        becomes new (suc depth) t bounds.less bounds.more all l.now_free (omega (arith, short)) (omega arith) refl (says, planted.lies) planted.sorted (planted.rows_are ∙ plan.rows_are) l.has
-        (moves_now new (root ∷ (l.fronts ++ l.last ∷ [])) l.now_free (pages_of (suc depth) t) l.moves (λ n.
-        (let pages = planted.pages_are n in let a = occurs_append n (root ∷ []) (pages_in depth planted.kids planted.last) in
-        let b = occurs_append n (root ∷ []) (l.fronts ++ l.last ∷ []) in omega (arith, pages, a, b))))
-        (keeps_then old mid new plan.header l.header)
+        record {
+          tree = t;
+          top_is = refl;
+          lies = (says, planted.lies);
+          sorted = planted.sorted;
+          rows_are = planted.rows_are ∙ plan.rows_are;
+          now_free = l.now_free;
+          has = l.has;
+          moves = moves_now new (root ∷ (l.fronts ++ l.last ∷ [])) l.now_free (pages_of (suc depth) t) l.moves (λ n.
+              (let pages = planted.pages_are n in let a = occurs_append n (root ∷ []) (pages_in depth planted.kids planted.last) in
+              let b = occurs_append n (root ∷ []) (l.fronts ++ l.last ∷ []) in omega (arith, pages, a, b)));
+          header = keeps_then old mid new plan.header l.header;
+        }
 
-    pub rooted_becomes : (new : PageMap) → ((packed.pieces.items ≡ [] → ⊥) → depth < 19) → IsRooted mid new size root TableInterior plan.now_free packed → BecomesAtMost old new size root depth all used free
-    rooted_becomes new short (inl alone) = rewritten_becomes new alone.0 alone.1
-    rooted_becomes new short (inr lifted) = lifted_becomes new lifted.0 (short lifted.0) lifted.1
+    pub rooted_becomes : (new : PageMap) → ((packed.pieces.items ≡ [] → ⊥) → depth < 19) → IsRooted mid new size root TableInterior plan.now_free packed → BecomesRows old new size root all used free
+    rooted_becomes new short (inl alone) = (rewritten_up new alone.0 alone.1).0
+    rooted_becomes new short (inr lifted) = (put_up (suc depth) new (suc depth) low high all (let lt = short lifted.0 in omega (arith, lt)) (omega arith) (lifted_put new lifted.0 lifted.1)).0

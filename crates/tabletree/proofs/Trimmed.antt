@@ -79,8 +79,8 @@ module _ (old : PageMap) (size root : ℕ) (rows : List Entry) (used free : List
   pub trimmed : (mid new : PageMap) (packed : Packed) (result : Result ⊤ Fault) → IsTwoJoined mid (Some packed) → packed.pieces.items ≡ [] → Rewrites mid new size root packed.last.items result
       → MatchResult result (λ done. BecomesUpTo old new size root depth rows used free) IsOutsideOrFull
   trimmed mid new packed result plan none rewrites =
-      by result (rewrites plan.now_free (root_free old size root (pos 0) rows used free is mid all packed plan) (root_there old size root (pos 0) rows used free is mid all packed plan)
-      (root_unfree old size root (pos 0) rows used free is mid all packed plan) ((can_root old size root (pos 0) rows used free is mid all packed plan).front none))
+      by result (rewrites plan.now_free (root_free old size root (pos 0) rows used free is (bounds old size root (pos 0) rows used free is).less (bounds old size root (pos 0) rows used free is).more (root_under old size root (pos 0) rows used free is) mid all packed plan) (root_there old size root (pos 0) rows used free is (bounds old size root (pos 0) rows used free is).less (bounds old size root (pos 0) rows used free is).more (root_under old size root (pos 0) rows used free is) mid all packed plan)
+      (root_unfree old size root (pos 0) rows used free is (bounds old size root (pos 0) rows used free is).less (bounds old size root (pos 0) rows used free is).more (root_under old size root (pos 0) rows used free is) mid all packed plan) ((can_root old size root (pos 0) rows used free is (bounds old size root (pos 0) rows used free is).less (bounds old size root (pos 0) rows used free is).more (root_under old size root (pos 0) rows used free is) mid all packed plan).front none))
     where
       all : List Entry
       all = rows_of depth is.tree.tree
@@ -89,25 +89,19 @@ module _ (old : PageMap) (size root : ℕ) (rows : List Entry) (used free : List
           → MatchResult result (λ done. BecomesUpTo old new size root depth rows used free) IsOutsideOrFull
       by (Err fault) outside = inl outside
       by (Ok done) r =
-          subst (λ (xs : List Entry). BecomesUpTo old new size root depth xs used free) is.tree.rows_are (rewritten_up old size root (pos 0) rows used free is mid all packed plan new none r)
+          subst (λ (xs : List Entry). BecomesUpTo old new size root depth xs used free) is.tree.rows_are (rewritten_up old size root (pos 0) rows used free is (bounds old size root (pos 0) rows used free is).less (bounds old size root (pos 0) rows used free is).more (root_under old size root (pos 0) rows used free is) mid all packed plan new none r)
 
 -- ---- after a row was put in
 
-pub trimmed_then : (Skips Acts : Option (List ℕ) → Type 0) (old mid new : PageMap) (size root : ℕ) (rowid : ℤ) (edit : List Entry → List Entry) (depth : ℕ) (rows : List Entry) (used free : List ℕ) (result : Result ⊤ Fault)
-    → IsTreeEdited Skips Acts old mid size root rowid edit depth rows used free true → TrimsRoot mid new size root result
-    → MatchResult result (λ done. IsTreeEdited Skips Acts old new size root rowid edit depth rows used free true) IsOutsideOrFull
-trimmed_then Skips Acts old mid new size root rowid edit depth rows used free result edited trims = by result (trims (edit rows) now.now_used now.now_free now.stands)
+pub trimmed_then : (Skips Acts : Option (List ℕ) → Type 0) (old mid new : PageMap) (size root : ℕ) (rowid : ℤ) (edit : List Entry → List Entry) (rows : List Entry) (used free : List ℕ) (result : Result ⊤ Fault)
+    → IsTreeEdited Skips Acts old mid size root rowid edit rows used free true → TrimsRoot mid new size root result
+    → MatchResult result (λ done. IsTreeEdited Skips Acts old new size root rowid edit rows used free true) IsOutsideOrFull
+trimmed_then Skips Acts old mid new size root rowid edit rows used free result edited trims = by result (trims (edit rows) now.now_used now.now_free now.stands)
   where
     now : BecomesRows old mid size root (edit rows) used free
-    now = edited.1.0
+    now = edited.1
 
     by : (result : Result ⊤ Fault) → MatchResult result (λ done. BecomesUpTo mid new size root now.stands.tree.depth (edit rows) now.now_used now.now_free) IsOutsideOrFull
-        → MatchResult result (λ done. IsTreeEdited Skips Acts old new size root rowid edit depth rows used free true) IsOutsideOrFull
+        → MatchResult result (λ done. IsTreeEdited Skips Acts old new size root rowid edit rows used free true) IsOutsideOrFull
     by (Err fault) refused = refused
-    by (Ok done) after = (
-      edited.0,
-      (
-        becomes_then old mid new size root (edit rows) (edit rows) used free now after.0,
-        (let near = edited.1.1 in let le = after.1 in omega (arith, near, le)),
-      ),
-    )
+    by (Ok done) after = (edited.0, becomes_then old mid new size root (edit rows) (edit rows) used free now after.0)

@@ -1,6 +1,7 @@
 pub mod Calls
 pub mod Fanning
 pub mod Freeing
+pub mod Flattening
 pub mod Growing
 pub mod Joining
 pub mod Laws

@@ -1,7 +1,7 @@
 -- A table's tree that is one page: a leaf (Database File Format, "B-tree Pages").
 use Rattle.std.specs.Prelude.{◌≡◌, ◌⊎◌, ◌<◌, ℕ, zero, ◌≤◌, ◌-◌, ◌<ℤ◌, List, [], ◌∷◌, ◌++◌, length, drop, slice_index_or}
 use Rattle.sqlval.specs.declared.fault.Fault.{Fault}
-use Rattle.sqlval.specs.declared.fault.Fault.TheVariants.{Unsupported, Damaged}
+use Rattle.sqlval.specs.declared.fault.Fault.TheVariants.{Unsupported, Damaged, TooLong}
 use Rattle.sqlval.specs.declared.fault.Damage.TheVariants as Damage
 use Rattle.sqlval.specs.declared.fault.Feature.TheVariants as Feature
 use Rattle.page.specs.Leaf.{Entry, IsTableLeaf}
@@ -27,7 +27,7 @@ IsLeafRefusal number fault =
 
 -- there is no room for these rows after those of the page
 abbrev pub IsTooFull : List ℕ → ℕ → List Entry → Fault → Type 0
-IsTooFull page number more fault = (fault ≡ Unsupported Feature.RowSize) × ((rows : List Entry) → IsSingleLeaf page number rows → Fits (length page) (start_of number) (rows ++ more) → ⊥)
+IsTooFull page number more fault = (fault ≡ TooLong) × ((rows : List Entry) → IsSingleLeaf page number rows → Fits (length page) (start_of number) (rows ++ more) → ⊥)
 
 -- the fault with this page's number, where it has none yet
 abbrev pub placed : ℕ → Fault → Fault

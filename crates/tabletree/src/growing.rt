@@ -73,7 +73,7 @@ pub(crate) fn parent_cell(alloc: Global, cell: &[u8], child: u32) -> R<Vec<u8>>
 }
 
 /// The cells of a fan.
-fn cells_in<'a>(alloc: Global, fan: &'a Fan) -> R<Vec<&'a [u8]>>
+pub(crate) fn cells_in<'a>(alloc: Global, fan: &'a Fan) -> R<Vec<&'a [u8]>>
     ensures cells { IfOk result (λ cells. map (λ cell. cell.now) cells.items ≡ cells_of fan.now) }
     ensures refused { IfErr result (λ fault. fault ≡ Fault.Memory) }
 {

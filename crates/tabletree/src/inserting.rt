@@ -4,19 +4,19 @@ ghost use Rattle.std.specs.Prelude.{◌≡◌, IsTrue};
 ghost use Rattle.pages.specs.Calls.{Causes};
 ghost use Rattle.tabletree.specs.Calls.{InsertsRow};
 
+use crate::flattening::store_top;
 use crate::growing::{Change, packed_below};
 use crate::lowering::trim;
-use forest::store_root;
 use pages::WritePages;
-use sqlval::{Damage, Fault, R};
+use sqlval::R;
 use std::alloc::Global;
-use treepage::Kind;
 
 /// How many pages may stand below a page on each way from a root.
 pub(crate) const WAYS: u32 = 19;
 
-/// Puts a row into the tree under this root, which keeps its number. Answers `false` if there is a row of this rowid: then nothing changes.
-/// (`Damaged(Depth, root)` if a way of 20 pages would have to grow.)
+/// Puts a row into the tree under this root, which keeps its number. Answers `false` if there is a row of this rowid: then nothing
+/// changes. A tree whose ways would have more than 20 pages is built anew. (What the calls of pages refuse; `Damaged` for pages that
+/// are none of a table's tree.)
 pub fn insert<P: WritePages>(
     alloc: Global,
     pages: &mut P,
@@ -35,10 +35,7 @@ pub fn insert<P: WritePages>(
         Change::Still => Ok(false),
         Change::Same => Ok(true),
         Change::Spread(packed, deep) => {
-            if deep && !packed.pieces.is_empty() {
-                return Err(Fault::Damaged(Damage::Depth, root));
-            }
-            store_root(alloc, pages, root, Kind::TableInterior, &packed)?;
+            store_top(alloc, pages, root, &packed, deep)?;
             trim(alloc, pages, root)?;
             Ok(true)
         }

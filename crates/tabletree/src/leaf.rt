@@ -11,7 +11,7 @@ ghost use Rattle.tabletree.specs.SingleLeaf.{AreRising, IsSingleLeaf, IsLeafRefu
 
 use page::{Cell, Node, build};
 use sqlval::limits::DATABASE_HEADER_LEN;
-use sqlval::{Damage, Fault, Feature, R};
+use sqlval::{Damage, Fault, R};
 use std::alloc::Global;
 use std::marker::Model;
 
@@ -122,7 +122,7 @@ pub fn next_rowid(last: Option<i64>) -> R<i64>
 }
 
 /// Builds page `number` anew with more rows after its own; what stands before the tree's node stays. A page that is no leaf
-/// of rising rows is refused as by `Leaf::over`; rows that don't fit are `Unsupported(RowSize)`.
+/// of rising rows is refused as by `Leaf::over`; rows that don't fit are `TooLong`.
 pub fn with_rows(alloc: Global, page: &[u8], number: u32, more: &[Cell<'_>]) -> R<Vec<u8>>
     ensures leaf { IfOk result (λ new. (rows : List Entry) → IsSingleLeaf page.now number rows
         → IsTableLeaf new.items (counting.start_of number) (rows ++ map entry_of more.now)) }
@@ -160,16 +160,16 @@ fn rebuilt(alloc: Global, page: &[u8], start: usize, cells: &[Cell<'_>]) -> R<Ve
     ensures size { IfOk result (λ new. length new.items ≡ length page.now) }
     ensures front { IfOk result (λ new. take start new.items ≡ take start page.now) }
     ensures refused { IfErr result (λ fault. (fault ≡ Fault.Memory)
-        ⊎ ((fault ≡ Fault.Unsupported Feature.RowSize) × (Fits (length page.now) start (map entry_of cells.now) → ⊥))) }
+        ⊎ ((fault ≡ Fault.TooLong) × (Fits (length page.now) start (map entry_of cells.now) → ⊥))) }
 {
     build(alloc, &page[..start], page.len(), cells)
 }
 
-/// Builds the page of a table without rows, other than page 1. A page without room for a header is `Unsupported(RowSize)`.
+/// Builds the page of a table without rows, other than page 1. A page without room for a header is `TooLong`.
 pub fn empty(alloc: Global, page_size: usize) -> R<Vec<u8>>
     ensures leaf { IfOk result (λ page. IsTableLeaf page.items 0 [] × (length page.items ≡ page_size)) }
     ensures refused { IfErr result (λ fault. (fault ≡ Fault.Memory)
-        ⊎ ((fault ≡ Fault.Unsupported Feature.RowSize) × (Fits page_size 0 [] → ⊥))) }
+        ⊎ ((fault ≡ Fault.TooLong) × (Fits page_size 0 [] → ⊥))) }
 {
     build(alloc, &[], page_size, &[])
 }

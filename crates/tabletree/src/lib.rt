@@ -4,6 +4,7 @@
 
 mod descending;
 mod finding;
+mod flattening;
 mod freeing;
 mod growing;
 mod inserting;

@@ -4,18 +4,17 @@ ghost use Rattle.std.specs.Prelude.{◌≡◌, IsTrue};
 ghost use Rattle.pages.specs.Calls.{Causes};
 ghost use Rattle.tabletree.specs.Calls.{RemovesRow, ReplacesRow, TakesRow};
 
+use crate::flattening::store_top;
 use crate::growing::Change;
 use crate::inserting::{WAYS, insert};
 use crate::lowering::settle;
 use crate::shrinking::removed_below;
-use forest::store_root;
 use pages::WritePages;
-use sqlval::{Damage, Fault, R};
+use sqlval::R;
 use std::alloc::Global;
-use treepage::Kind;
 
 /// Takes the row of this rowid out of the tree under this root, which keeps its number. Answers `false` if there is none: then nothing
-/// changes. (`Damaged(Depth, root)` if a way of 20 pages would have to grow.)
+/// changes. (What the calls of pages refuse; `Damaged` for pages that are none of a table's tree.)
 fn take_out<P: WritePages>(alloc: Global, pages: &mut P, root: u32, rowid: i64) -> R<bool>
     ensures taken { IsTrue (P.Pages.tells (P.Pages.below pages.old))
         → TakesRow (P.Pages.map pages.old) (P.Pages.map pages.new) (P.Pages.limits (P.Pages.below pages.old)).page root rowid result }
@@ -27,18 +26,15 @@ fn take_out<P: WritePages>(alloc: Global, pages: &mut P, root: u32, rowid: i64) 
         Change::Still => Ok(false),
         Change::Same => Ok(true),
         Change::Spread(packed, deep) => {
-            if deep && !packed.pieces.is_empty() {
-                return Err(Fault::Damaged(Damage::Depth, root));
-            }
-            store_root(alloc, pages, root, Kind::TableInterior, &packed)?;
+            store_top(alloc, pages, root, &packed, deep)?;
             Ok(true)
         }
     }
 }
 
 /// Takes the row of this rowid out of the tree under this root, which keeps its number. Answers `false` if there is none: then nothing
-/// changes. A tree whose last row went is its root alone. (`Damaged(Depth, root)` if a way of 20 pages would have to grow: where pages are
-/// joined, the key between them may become longer.)
+/// changes. A tree whose last row went is its root alone. (What the calls of pages refuse, `Full` among them: where pages are joined,
+/// the key between them may become longer; `Damaged` for pages that are none of a table's tree.)
 pub fn remove<P: WritePages>(alloc: Global, pages: &mut P, root: u32, rowid: i64) -> R<bool>
     ensures removed { IsTrue (P.Pages.tells (P.Pages.below pages.old))
         → RemovesRow (P.Pages.map pages.old) (P.Pages.map pages.new) (P.Pages.limits (P.Pages.below pages.old)).page root rowid result }
@@ -53,8 +49,8 @@ pub fn remove<P: WritePages>(alloc: Global, pages: &mut P, root: u32, rowid: i64
     Ok(true)
 }
 
-/// Gives the row of this rowid another payload. Answers `false` if there is none: then nothing changes. (`Damaged(Depth, root)` as for
-/// `remove` and `insert`. What a refusal leaves no clause says: the row may be missing.)
+/// Gives the row of this rowid another payload. Answers `false` if there is none: then nothing changes. (As for `remove` and
+/// `insert`. What a refusal leaves no clause says: the row may be missing.)
 pub fn replace<P: WritePages>(
     alloc: Global,
     pages: &mut P,

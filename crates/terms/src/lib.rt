@@ -15,6 +15,7 @@ mod truth;
 
 ghost use Rattle.terms.specs.Laws.{ConvertsAsRelated, RefusesReals};
 
+pub use collating::{affinity, collation};
 pub use comparing::Manner;
 pub use datum::Datum;
 pub use evaluating::{evaluate, holds};

@@ -2,3 +2,4 @@ mod ChangeRows
 pub mod BindingRows
 mod EffectRows
 mod OnlyTables
+mod Updating

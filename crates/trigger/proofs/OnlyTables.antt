@@ -1,30 +1,33 @@
 -- A database that only has tables.
-use Rattle.std.proofs.Common.{◌≡◌, refl, ap, subst, ◌∙◌, ℕ, zero, suc, ◌<◌, true, List, [], ◌∷◌, Option, Some, None, Ok, Err, map, length, ℤ, pos, arith}
-use Rattle.std.specs.Prelude.{flat_map, Contains}
+use Rattle.std.proofs.Common.{◌≡◌, refl, sym, ap, subst, ◌∙◌, ℕ, zero, suc, ◌<◌, Bool, true, false, List, [], ◌∷◌, ◌++◌, Option, Some, None, Ok, Err, map, length, ℤ, pos, arith}
+use Rattle.std.specs.Prelude.{filter, flat_map, not, Contains}
 use Rattle.std.proofs.lemmas.Bool.{false≢true}
 use Rattle.sqlval.specs.Names.{folded}
-use Rattle.sqlval.specs.Refusals.{Answer, ◌then◌, NoSuch, all_answers, fold_answer}
+use Rattle.sqlval.specs.Refusals.{Answer, Refusal, ◌then◌, NoSuch, all_answers, fold_answer}
 use Rattle.sqlval.specs.declared.value.Value.{Value}
 use Rattle.sqlval.specs.declared.value.Value.TheVariants.{Int}
 use Rattle.syntax.specs.declared.change.Delete.{Delete}
 use Rattle.syntax.specs.declared.change.Insert.{Insert}
 use Rattle.syntax.specs.declared.change.Change.TheVariants as statement
 use Rattle.catalog.specs.Database as database
-use Rattle.catalog.specs.Database.{Name, Database, Object, ATable, AnIndex, AView, ATrigger, object, triggers_of}
+use Rattle.catalog.specs.Database.{Name, Database, Object, ATable, AnIndex, AView, ATrigger, object, triggers_of, with_object}
 use Rattle.catalog.specs.Listed.{has_only_tables, plain_table}
+use Rattle.catalog.specs.declared.tables.Table.{Table}
 use Rattle.bind.specs.Checked.{Checked, Meant, faults, known_then}
-use Rattle.bind.specs.Readings.{env_of, values}
+use Rattle.bind.specs.Readings.{env_of, holds, values}
 use Rattle.terms.specs.Terms.{Term}
 use Rattle.terms.specs.Values.{Row}
 use Rattle.bind.specs.Views.{table_rows}
 use Rattle.rowprog.specs.Rows.{TableRow}
-use Rattle.dml.specs.Agreement.{DeletesRows, InsertsRows}
-use Rattle.dml.specs.Changes.{Resolved, Deletes, Inserts, GivenRows, no_outer, resolve_change}
+use Rattle.rowprog.specs.Sources.{as_source}
+use Rattle.dml.specs.Agreement.{DeletesRows, DeletesSome, InsertsRows}
+use Rattle.dml.specs.Choosing.{is_chosen, tested}
+use Rattle.dml.specs.Changes.{Resolved, Deletes, Given, Inserts, no_outer, resolve_change}
 use Rattle.dml.specs.Constraints.{table_of}
 use Rattle.dml.specs.RowChanges.{delete_row, insert_row}
 use Rattle.trigger.specs.Binding.{Aim, aim_of, faults_after, program_faults, program_scope, triggers_for}
-use Rattle.trigger.specs.Effects.{change_with, programs, run_resolved}
-use Rattle.trigger.specs.Laws.{BindsAlone, DeleteTakesRows, InsertAddsRows, InsertIsRefused, InsertOfNoneStays, SetsNothingOff}
+use Rattle.trigger.specs.Effects.{change_with, given_rows, programs, run_resolved}
+use Rattle.trigger.specs.Laws.{BindsAlone, DeleteTakesChosen, DeleteTakesRows, InsertAddsRows, InsertIsRefused, InsertOfNoneStays, SetsNothingOff}
 use Rattle.trigger.specs.Triggers.{Runner, fired}
 
 no_triggers : (db : Database) (name : Name) → has_only_tables db ≡ true → triggers_of db name ≡ []
@@ -60,42 +63,44 @@ given t = Ok t
 same_table : (a b : database.Table) → given a ≡ given b → a ≡ b
 same_table a b e = cc
 
-is_there : (o : Option Object) (t : database.Table) → table_in o ≡ Ok t → o ≡ Some (ATable t)
+pub is_there : (o : Option Object) (t : database.Table) → table_in o ≡ Ok t → o ≡ Some (ATable t)
 is_there (Some (ATable u)) t e = ap (λ x. Some (ATable x)) (same_table u t e)
 is_there (Some (AnIndex i)) t e = absurd cc
 is_there (Some (AView v)) t e = absurd cc
 is_there (Some (ATrigger g)) t e = absurd cc
 is_there None t e = absurd cc
 
--- an INSERT of written rows into a table, with the triggers that it sets off
-row_by_row : (run : Runner) (db : Database) (i : Insert) (t : database.Table) (places : List ℕ) (terms : List (List Term)) → table_of db (folded i.table) ≡ Ok t
-    → resolve_change db no_outer (statement.Insert i) ≡ Meant (Inserts (folded i.table) places (GivenRows terms)) []
-    → change_with run [] no_outer db (statement.Insert i) ≡ (all_answers (map (values (env_of [])) terms) then λ rows. fold_answer (insert_row (fired run []) (folded i.table) places) db rows)
-row_by_row run db i t places terms is bound =
+-- what is made of the rows that an INSERT gives
+abbrev all_put : Runner → Database → Insert → List ℕ → Answer (List (List Value)) → Answer Database
+all_put run db i places rows = rows then λ rows. fold_answer (insert_row (fired run []) (folded i.table) places) db rows
+
+-- an INSERT into a table, with the triggers that it sets off
+row_by_row : (run : Runner) (db : Database) (i : Insert) (t : database.Table) (places : List ℕ) (source : Given) → table_of db (folded i.table) ≡ Ok t
+    → resolve_change db no_outer (statement.Insert i) ≡ Meant (Inserts (folded i.table) places source) []
+    → change_with run [] no_outer db (statement.Insert i) ≡ all_put run db i places (given_rows db no_outer source)
+row_by_row run db i t places source is bound =
     ap (λ (k : Checked Resolved). known_then k (run_resolved run [] no_outer db)) bound ∙ rw (is_there (object db (folded i.table)) t is) refl
 
 pub insert_refused : InsertIsRefused
-insert_refused db i table rows places terms r is bound e =
-    row_by_row (programs 64) db i (plain_table table rows) places terms is bound
-    ∙ ap (λ (a : Answer (List (List Value))). a then λ rows. fold_answer (insert_row (fired (programs 64) []) (folded i.table) places) db rows) e
+insert_refused db i table rows places source r is bound e =
+    row_by_row (programs 64) db i (plain_table table rows) places source is bound ∙ ap (all_put (programs 64) db i places) e
 
 pub none_stays : InsertOfNoneStays
-none_stays db i table rows places terms is bound e =
-    row_by_row (programs 64) db i (plain_table table rows) places terms is bound
-    ∙ ap (λ (a : Answer (List (List Value))). a then λ rows. fold_answer (insert_row (fired (programs 64) []) (folded i.table) places) db rows) e
+none_stays db i table rows places source is bound e =
+    row_by_row (programs 64) db i (plain_table table rows) places source is bound ∙ ap (all_put (programs 64) db i places) e
 
 pub insert_adds : InsertsRows → InsertAddsRows
-insert_adds adds db i table rows places terms by_column given only is fit bound e set some =
-    row_by_row (programs 64) db i (plain_table table rows) places terms is bound
-    ∙ (ap (λ (a : Answer (List (List Value))). a then λ rows. fold_answer (insert_row (fired (programs 64) []) (folded i.table) places) db rows) e
+insert_adds adds db i table rows places source by_column given only is fit bound e set some =
+    row_by_row (programs 64) db i (plain_table table rows) places source is bound
+    ∙ (ap (all_put (programs 64) db i places) e
     ∙ adds (fired (programs 64) []) (folded i.table) places db table by_column rows given (sets_nothing_off (programs 64) []) only is fit set some)
 
 -- ---- DELETE
 
-abbrev chosen_of : List (List Row) → Answer (List Row)
+abbrev pub chosen_of : List (List Row) → Answer (List Row)
 chosen_of rs = Ok (flat_map (λ r. r) rs)
 
-all_chosen : (rows : List Row) → (all_answers (map (λ (r : Row). Ok (r ∷ [])) rows) then chosen_of) ≡ Ok rows
+pub all_chosen : (rows : List Row) → (all_answers (map (λ (r : Row). Ok (r ∷ [])) rows) then chosen_of) ≡ Ok rows
 all_chosen rows = ap (λ (a : Answer (List (List Row))). a then chosen_of) (each rows) ∙ ap (λ (rs : List Row). Ok rs) (joined rows)
   where
     each : (rows : List Row) → all_answers (map (λ (r : Row). Ok (r ∷ [])) rows) ≡ Ok (map (λ (r : Row). r ∷ []) rows)
@@ -106,10 +111,10 @@ all_chosen rows = ap (λ (a : Answer (List (List Row))). a then chosen_of) (each
     joined [] = refl
     joined (r ∷ rows) = ap (λ (rs : List Row). r ∷ rs) (joined rows)
 
-abbrev id_of : Row → ℤ
+abbrev pub id_of : Row → ℤ
 id_of r = elim r.rowid [ Int z ↦ z | _ ↦ pos 0 ]
 
-ids_of : (t : database.Table) → map id_of (table_rows t) ≡ map (λ row. row.0) t.rows
+pub ids_of : (t : database.Table) → map id_of (table_rows t) ≡ map (λ row. row.0) t.rows
 ids_of t = by t.rows
   where
     by : (rows : List TableRow) → map id_of (map (λ r. record { rowid = Int r.0; values = r.1 }) rows) ≡ map (λ row. row.0) rows
@@ -133,3 +138,72 @@ pub delete_takes : DeletesRows → DeleteTakesRows
 delete_takes takes db d table rows only named is fit bound =
     all_rows_go (programs 64) db d (plain_table table rows) is bound
     ∙ takes (fired (programs 64) []) (folded d.table) db table rows (sets_nothing_off (programs 64) []) only named is fit
+
+-- ---- a DELETE with a condition
+
+abbrev pub told : {A : Type 0} → A → Answer A
+told x = Ok x
+
+abbrev row_or_none : Row → Option Bool → Answer (List Row)
+row_or_none r is = elim is [ Some true ↦ Ok (r ∷ []) | _ ↦ Ok [] ]
+
+-- what the definition chooses of a row
+abbrev pub one_chosen : Term → Row → Answer (List Row)
+one_chosen w r = holds w (r ∷ []) then row_or_none r
+
+ok_is : {A : Type 0} (x y : A) → told x ≡ told y → x ≡ y
+ok_is x y e = cc
+
+not_both : {A : Type 0} (x : A) (r : Refusal) → told x ≡ Err r → ⊥
+not_both x r e = absurd cc
+
+next_chosen : (x : List Row) (t : Option Bool) (a : Answer (List (List Row))) (b : Answer (List (Option Bool))) (zs : List Row) → (a then chosen_of) ≡ (b then λ ts. told zs)
+    → ((a then λ xs. told (x ∷ xs)) then chosen_of) ≡ ((b then λ ts. told (t ∷ ts)) then λ ts. told (x ++ zs))
+next_chosen x t (Ok rs) (Ok ts) zs e = ap (λ (l : List Row). told (x ++ l)) (ok_is (flat_map (λ r. r) rs) zs e)
+next_chosen x t (Ok rs) (Err r) zs e = absurd (not_both (flat_map (λ r. r) rs) r e)
+next_chosen x t (Err r) (Ok ts) zs e = absurd (not_both zs r (sym e))
+next_chosen x t (Err r) (Err s) zs e = e
+
+abbrev is_true : Answer (Option Bool) → Bool
+is_true test = elim test [ Ok (Some true) ↦ true | _ ↦ false ]
+
+pub some_chosen : (w : Term) (rows : List TableRow) → (all_answers (map (one_chosen w) (map as_source rows)) then chosen_of) ≡ (all_answers (map (tested w) rows) then λ ts. told (map as_source (filter (is_chosen w) rows)))
+some_chosen w [] = refl
+some_chosen w (r ∷ rows) = by_test (some_chosen w rows) (tested w r) refl
+  where
+    by_test : (all_answers (map (one_chosen w) (map as_source rows)) then chosen_of) ≡ (all_answers (map (tested w) rows) then λ ts. told (map as_source (filter (is_chosen w) rows)))
+        → (a : Answer (Option Bool)) → tested w r ≡ a
+        → (all_answers (map (one_chosen w) (map as_source (r ∷ rows))) then chosen_of) ≡ (all_answers (map (tested w) (r ∷ rows)) then λ ts. told (map as_source (filter (is_chosen w) (r ∷ rows))))
+    by_test more (Ok (Some true)) is = rw (is, ap is_true is) (next_chosen (as_source r ∷ []) (Some true) (all_answers (map (one_chosen w) (map as_source rows))) (all_answers (map (tested w) rows)) (map as_source (filter (is_chosen w) rows)) more)
+    by_test more (Ok (Some false)) is = rw (is, ap is_true is) (next_chosen [] (Some false) (all_answers (map (one_chosen w) (map as_source rows))) (all_answers (map (tested w) rows)) (map as_source (filter (is_chosen w) rows)) more)
+    by_test more (Ok None) is = rw (is, ap is_true is) (next_chosen [] None (all_answers (map (one_chosen w) (map as_source rows))) (all_answers (map (tested w) rows)) (map as_source (filter (is_chosen w) rows)) more)
+    by_test more (Err e) is = rw (is) refl
+
+pub source_ids : (rows : List TableRow) → map id_of (map as_source rows) ≡ map (λ row. row.0) rows
+source_ids [] = refl
+source_ids (r ∷ rows) = ap (λ (ids : List ℤ). r.0 ∷ ids) (source_ids rows)
+
+told_on : {A B C E : Type 0} (b : Answer A) (x : B) (f : B → Answer C) (g : E → C) (y : E) → f x ≡ told (g y) → ((b then λ ts. told x) then f) ≡ ((b then λ ts. told y) then λ z. told (g z))
+told_on (Ok ts) x f g y e = e
+told_on (Err r) x f g y e = refl
+
+chosen_go : (run : Runner) (db : Database) (d : Delete) (table : Table) (rows : List TableRow) (w : Term) → table_of db (folded d.table) ≡ Ok (plain_table table rows)
+    → resolve_change db no_outer (statement.Delete d) ≡ Meant (Deletes (folded d.table) (Some w)) []
+    → change_with run [] no_outer db (statement.Delete d)
+    ≡ ((all_answers (map (tested w) rows) then λ ts. told (map as_source (filter (is_chosen w) rows))) then λ rs. fold_answer (delete_row (fired run []) (folded d.table)) db (map id_of rs))
+chosen_go run db d table rows w is bound =
+    ap (λ (k : Checked Resolved). known_then k (run_resolved run [] no_outer db)) bound
+    ∙ (in_table
+    ∙ ap (λ (a : Answer (List Row)). a then λ rs. fold_answer (delete_row (fired run []) (folded d.table)) db (map id_of rs)) (some_chosen w rows))
+  where
+    in_table : run_resolved run [] no_outer db (Deletes (folded d.table) (Some w))
+        ≡ ((all_answers (map (one_chosen w) (map as_source rows)) then chosen_of) then λ rs. fold_answer (delete_row (fired run []) (folded d.table)) db (map id_of rs))
+    in_table = rw (is_there (object db (folded d.table)) (plain_table table rows) is) refl
+
+pub delete_takes_chosen : DeletesSome → DeleteTakesChosen
+delete_takes_chosen takes db d table rows w only named is fit bound =
+    chosen_go (programs 64) db d table rows w is bound
+    ∙ told_on (all_answers (map (tested w) rows)) (map as_source (filter (is_chosen w) rows)) (λ rs. fold_answer (delete_row (fired (programs 64) []) (folded d.table)) db (map id_of rs))
+    (λ left. with_object db (folded d.table) (ATable (plain_table table left))) (filter (λ row. not (is_chosen w row)) rows)
+    (ap (fold_answer (delete_row (fired (programs 64) []) (folded d.table)) db) (source_ids (filter (is_chosen w) rows))
+    ∙ takes (fired (programs 64) []) (folded d.table) db table rows (is_chosen w) (sets_nothing_off (programs 64) []) only named is fit)

@@ -22,7 +22,8 @@ use Rattle.trigger.specs.Triggers.{Runner, fired, triggers_at}
 
 -- ---- the rows that are changed
 
-abbrev given_rows : Database → Outer → Given → Answer (List (List Value))
+-- the rows that an INSERT gives: all are known before the first is stored
+abbrev pub given_rows : Database → Outer → Given → Answer (List (List Value))
 given_rows db outer (GivenRows rows) = all_answers (map (values (env_of outer.rows)) rows)
 given_rows db outer (GivenQuery q) = answer_of db outer.rows q
 

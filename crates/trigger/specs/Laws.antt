@@ -1,10 +1,11 @@
 -- What a statement does to a database that only has tables.
-use Rattle.std.specs.Prelude.{◌≡◌, ◌↔◌, ◌≤◌, ℕ, true, List, [], ◌++◌, map, length, Option, None, Ok, Err, All, Contains}
+use Rattle.std.specs.Prelude.{◌≡◌, ◌↔◌, ◌≤◌, ℕ, true, List, [], ◌++◌, length, Option, Some, None, Ok, Err, All, Contains}
 use Rattle.sqlval.specs.Names.{folded}
-use Rattle.sqlval.specs.Refusals.{Refusal, ◌then◌, all_answers}
+use Rattle.sqlval.specs.Refusals.{Refusal, ◌then◌}
 use Rattle.sqlval.specs.declared.value.Value.{Value}
 use Rattle.syntax.specs.declared.change.Delete.{Delete}
 use Rattle.syntax.specs.declared.change.Insert.{Insert}
+use Rattle.syntax.specs.declared.change.Update.{Update}
 use Rattle.syntax.specs.declared.change.Change.{Change}
 use Rattle.syntax.specs.declared.change.Change.TheVariants as statement
 use Rattle.catalog.specs.Database.{Name, Database, ATable, with_object}
@@ -12,16 +13,17 @@ use Rattle.catalog.specs.Listed.{has_only_tables, plain_table}
 use Rattle.catalog.specs.Named.{IsNamed}
 use Rattle.catalog.specs.declared.tables.Table.{Table}
 use Rattle.bind.specs.Checked.{Meant, faults}
-use Rattle.bind.specs.Readings.{env_of, values}
 use Rattle.terms.specs.Terms.{Term}
 use Rattle.catalog.specs.Rows.{are_rows}
 use Rattle.rowprog.specs.Rows.{TableRow}
 use Rattle.dml.specs.Agreement.{IsSetFor, IsStill}
-use Rattle.dml.specs.Changes.{Deletes, Inserts, GivenRows, no_outer, resolve_change}
+use Rattle.dml.specs.Changes.{Deletes, Given, Inserts, Updates, no_outer, resolve_change}
+use Rattle.dml.specs.Choosing.{rows_left}
 use Rattle.dml.specs.Constraints.{table_of}
 use Rattle.dml.specs.Inserting.{last_rowid, rows_added}
+use Rattle.dml.specs.Setting.{rows_set}
 use Rattle.trigger.specs.Binding.{IsFault}
-use Rattle.trigger.specs.Effects.{change}
+use Rattle.trigger.specs.Effects.{change, given_rows}
 use Rattle.trigger.specs.Triggers.{Runner, fired}
 
 -- nothing is set off where there are only tables
@@ -32,23 +34,23 @@ SetsNothingOff = (run : Runner) (running : List Name) → IsStill (fired run run
 abbrev pub BindsAlone : Type 0
 BindsAlone = (db : Database) (c : Change) (r : Refusal) → has_only_tables db ≡ true → IsFault db c r ↔ Contains (faults (resolve_change db no_outer c)) r
 
--- there, an INSERT of written rows is refused as the first of its values that is
+-- There, an INSERT whose rows are refused is refused as they are.
 abbrev pub InsertIsRefused : Type 0
-InsertIsRefused = (db : Database) (i : Insert) (table : Table) (rows : List TableRow) (places : List ℕ) (terms : List (List Term)) (r : Refusal)
-    → table_of db (folded i.table) ≡ Ok (plain_table table rows) → resolve_change db no_outer (statement.Insert i) ≡ Meant (Inserts (folded i.table) places (GivenRows terms)) []
-    → all_answers (map (values (env_of [])) terms) ≡ Err r → change db (statement.Insert i) ≡ Err r
+InsertIsRefused = (db : Database) (i : Insert) (table : Table) (rows : List TableRow) (places : List ℕ) (source : Given) (r : Refusal)
+    → table_of db (folded i.table) ≡ Ok (plain_table table rows) → resolve_change db no_outer (statement.Insert i) ≡ Meant (Inserts (folded i.table) places source) []
+    → given_rows db no_outer source ≡ Err r → change db (statement.Insert i) ≡ Err r
 
--- where there are no rows of values, the database stays as it is
+-- Where no rows are given, the database stays as it is.
 abbrev pub InsertOfNoneStays : Type 0
-InsertOfNoneStays = (db : Database) (i : Insert) (table : Table) (rows : List TableRow) (places : List ℕ) (terms : List (List Term))
-    → table_of db (folded i.table) ≡ Ok (plain_table table rows) → resolve_change db no_outer (statement.Insert i) ≡ Meant (Inserts (folded i.table) places (GivenRows terms)) []
-    → all_answers (map (values (env_of [])) terms) ≡ Ok [] → change db (statement.Insert i) ≡ Ok db
+InsertOfNoneStays = (db : Database) (i : Insert) (table : Table) (rows : List TableRow) (places : List ℕ) (source : Given)
+    → table_of db (folded i.table) ≡ Ok (plain_table table rows) → resolve_change db no_outer (statement.Insert i) ≡ Meant (Inserts (folded i.table) places source) []
+    → given_rows db no_outer source ≡ Ok [] → change db (statement.Insert i) ≡ Ok db
 
--- And where its values are these, the table has after its own rows those that they become, or the statement is refused as they are.
+-- And where these rows are given, the table has after its own rows those that they become, or the statement is refused as they are.
 abbrev pub InsertAddsRows : Type 0
-InsertAddsRows = (db : Database) (i : Insert) (table : Table) (rows : List TableRow) (places : List ℕ) (terms : List (List Term)) (by_column : List (Option ℕ)) (given : List (List Value))
+InsertAddsRows = (db : Database) (i : Insert) (table : Table) (rows : List TableRow) (places : List ℕ) (source : Given) (by_column : List (Option ℕ)) (given : List (List Value))
     → has_only_tables db ≡ true → table_of db (folded i.table) ≡ Ok (plain_table table rows) → are_rows (plain_table table rows) ≡ true
-    → resolve_change db no_outer (statement.Insert i) ≡ Meant (Inserts (folded i.table) places (GivenRows terms)) [] → all_answers (map (values (env_of [])) terms) ≡ Ok given
+    → resolve_change db no_outer (statement.Insert i) ≡ Meant (Inserts (folded i.table) places source) [] → given_rows db no_outer source ≡ Ok given
     → All (IsSetFor table by_column places) given → 1 ≤ length given
     → change db (statement.Insert i)
     ≡ (rows_added table.columns by_column (last_rowid rows) given then λ added. Ok (with_object db (folded i.table) (ATable (plain_table table (rows ++ added)))))
@@ -59,3 +61,17 @@ DeleteTakesRows = (db : Database) (d : Delete) (table : Table) (rows : List Tabl
     → has_only_tables db ≡ true → IsNamed db → table_of db (folded d.table) ≡ Ok (plain_table table rows) → are_rows (plain_table table rows) ≡ true
     → resolve_change db no_outer (statement.Delete d) ≡ Meant (Deletes (folded d.table) None) []
     → change db (statement.Delete d) ≡ Ok (with_object db (folded d.table) (ATable (plain_table table [])))
+
+-- A DELETE whose table and condition are known leaves the rows for which the condition isn't true, or is refused as that is.
+abbrev pub DeleteTakesChosen : Type 0
+DeleteTakesChosen = (db : Database) (d : Delete) (table : Table) (rows : List TableRow) (condition : Term)
+    → has_only_tables db ≡ true → IsNamed db → table_of db (folded d.table) ≡ Ok (plain_table table rows) → are_rows (plain_table table rows) ≡ true
+    → resolve_change db no_outer (statement.Delete d) ≡ Meant (Deletes (folded d.table) (Some condition)) []
+    → change db (statement.Delete d) ≡ (rows_left condition rows then λ left. Ok (with_object db (folded d.table) (ATable (plain_table table left))))
+
+-- An UPDATE whose table, columns, expressions and condition are known leaves what SET makes of the rows, or is refused as that is.
+abbrev pub UpdateSetsRows : Type 0
+UpdateSetsRows = (db : Database) (u : Update) (table : Table) (rows : List TableRow) (sets : List (ℕ × Term)) (set : List Name) (condition : Option Term)
+    → has_only_tables db ≡ true → IsNamed db → table_of db (folded u.table) ≡ Ok (plain_table table rows) → are_rows (plain_table table rows) ≡ true
+    → resolve_change db no_outer (statement.Update u) ≡ Meant (Updates (folded u.table) sets set condition) []
+    → change db (statement.Update u) ≡ (rows_set table.columns sets condition rows then λ now. Ok (with_object db (folded u.table) (ATable (plain_table table now))))

@@ -1,12 +1,12 @@
 //! The effect of a statement that changes rows, with the triggers that it sets off, as definitions.
 #![tactic(auto)]
 
-ghost use Rattle.trigger.specs.Laws.{BindsAlone, DeleteTakesRows, InsertAddsRows, InsertIsRefused, InsertOfNoneStays, SetsNothingOff};
+ghost use Rattle.trigger.specs.Laws.{BindsAlone, DeleteTakesChosen, DeleteTakesRows, InsertAddsRows, InsertIsRefused, InsertOfNoneStays, SetsNothingOff, UpdateSetsRows};
 
-use dml::{delete_takes_its_rows, insert_adds_its_rows};
+use dml::{delete_takes_its_rows, insert_adds_its_rows, update_sets_its_rows};
 
 /// In a database of tables alone no trigger fires: an INSERT adds its rows, or is refused as they are,
-/// and a DELETE without a condition takes all rows out.
+/// and a DELETE takes all rows out, or those for which its condition is true.
 pub fn only_tables_set_nothing_off()
     ensures still { SetsNothingOff }
     ensures binds { BindsAlone }
@@ -14,7 +14,15 @@ pub fn only_tables_set_nothing_off()
     ensures inserts { InsertAddsRows }
     ensures none { InsertOfNoneStays }
     ensures deletes { DeleteTakesRows }
+    ensures chosen { DeleteTakesChosen }
 {
     insert_adds_its_rows();
     delete_takes_its_rows();
+}
+
+/// In a database of tables alone an UPDATE sets values in all rows, or in those for which its condition is true, or is refused as they are.
+pub fn update_sets_off_nothing()
+    ensures { UpdateSetsRows }
+{
+    update_sets_its_rows();
 }

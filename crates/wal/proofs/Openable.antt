@@ -9,7 +9,7 @@ use Rattle.disk.specs.Calls.{Rose}
 use Rattle.sqlval.specs.declared.fault.Fault.{Fault}
 use Rattle.sqlval.specs.declared.fault.Fault.TheVariants.{Memory, Io, Damaged, Unsupported, NotADatabase, Full, Syntax, NoSuch, Exists, Ambiguous, Misuse, Busy, StaleSnapshot, NoTransaction, InTransaction, NoSavepoint, NotNull, Unique, Check, Raised, RealRefused, TypeRefused, RowidFull, RowidMismatch, TooLong, RowChangedBefore, ViewReadOnly, Blank, Failed}
 use Rattle.sqlval.specs.declared.fault.Damage.TheVariants.{Header, Size, Page, Cell, FreeSpace, Record, Order, Depth, UsedTwice, Unused, Freelist, Schema, Index}
-use Rattle.sqlval.specs.declared.fault.Feature.TheVariants.{Float, RealColumn, PageSize, FileVersion, ReservedBytes, SchemaFormat, Encoding, AutoVacuum, LogFormat, PageKind, ColumnCount, SchemaObject, Limit, Statement, StatementForm, Connection, RowSize}
+use Rattle.sqlval.specs.declared.fault.Feature.TheVariants.{Float, RealColumn, PageSize, FileVersion, ReservedBytes, SchemaFormat, Encoding, AutoVacuum, LogFormat, PageKind, ColumnCount, SchemaObject, Limit, Statement, StatementForm, Connection}
 use Rattle.walframe.specs.declared.frame.FrameHeader.{FrameHeader}
 use Rattle.walframe.specs.declared.log_header.LogHeader.{LogHeader}
 use Rattle.walframe.specs.declared.progress.Scan.{Scan}
@@ -115,7 +115,6 @@ refused_more A B C D (Unsupported Limit) is call none = none is
 refused_more A B C D (Unsupported Statement) is call none = absurd is
 refused_more A B C D (Unsupported StatementForm) is call none = absurd is
 refused_more A B C D (Unsupported Connection) is call none = absurd is
-refused_more A B C D (Unsupported RowSize) is call none = absurd is
 refused_more A B C D NotADatabase is call none = absurd is
 refused_more A B C D Full is call none = absurd is
 refused_more A B C D (Syntax at) is call none = absurd is

@@ -1,4 +1,4 @@
-use Rattle.trigger.proofs.OnlyTables.{binds_alone, delete_takes, insert_adds, insert_refused, none_stays, sets_nothing_off}
+use Rattle.trigger.proofs.OnlyTables.{binds_alone, delete_takes, delete_takes_chosen, insert_adds, insert_refused, none_stays, sets_nothing_off}
 use Rattle.trigger.proofs.only_tables_set_nothing_off.Goals as goal
 
 pub returns-clause-still : goal.returns-clause-still
@@ -17,4 +17,7 @@ pub returns-clause-none : goal.returns-clause-none
 returns-clause-none c = none_stays
 
 pub returns-clause-deletes : goal.returns-clause-deletes
-returns-clause-deletes c = delete_takes c.delete_takes_its_rows.ensures
+returns-clause-deletes c = delete_takes c.delete_takes_its_rows.ensures.all
+
+pub returns-clause-chosen : goal.returns-clause-chosen
+returns-clause-chosen c = delete_takes_chosen c.delete_takes_its_rows.ensures.some

@@ -1,6 +1,5 @@
 use Rattle.std.proofs.Common.{◌≡◌, ◌⊎◌, rules, map, arith}
-use Rattle.sqlval.specs.declared.fault.Fault.TheVariants.{Memory, Unsupported}
-use Rattle.sqlval.specs.declared.fault.Feature.TheVariants.{RowSize}
+use Rattle.sqlval.specs.declared.fault.Fault.TheVariants.{Memory, TooLong}
 use Rattle.dml.specs.Inserting.{AllStorable}
 use Rattle.dml.specs.NewRows.{IsWritten, entry_in, row_of}
 use Rattle.dml.proofs.OnPage.{one_too_long, rows_on}
@@ -8,7 +7,7 @@ use Rattle.dml.proofs.inserting.records_of.Goals as goal
 
 pub returns-in_err-record_for-clause-refused : goal.returns-in_err-record_for-clause-refused
 returns-in_err-record_for-clause-refused c =
-    let h : (c.in_err-record_for.field-0.0 ≡ Memory) ⊎ ((c.in_err-record_for.field-0.0 ≡ Unsupported RowSize) × (AllStorable (map row_of c.args.rows.now) → ⊥)) =
+    let h : (c.in_err-record_for.field-0.0 ≡ Memory) ⊎ ((c.in_err-record_for.field-0.0 ≡ TooLong) × (AllStorable (map row_of c.args.rows.now) → ⊥)) =
     one_too_long row_of c.args.rows.now c.rows.row-index c.row-item.result c.in_err-record_for.field-0.0 (omega (arith, c.rows-test.true)) c.row-item.is c.in_err-record_for.ensures.refused in
     search rules
 

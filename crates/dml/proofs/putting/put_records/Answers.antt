@@ -1,5 +1,4 @@
-use Rattle.std.proofs.Common.{rules, ◌∙◌, ◌<◌, ◌+◌, List, length, map, take, refl, subst, Ok, Err, arith}
-use Rattle.std.proofs.lemmas.List.{length-map}
+use Rattle.std.proofs.Common.{rules, ◌∙◌, ◌<◌, List, length, map, take, refl, subst, Ok, Err}
 use Rattle.page.specs.Leaf.{Entry}
 use Rattle.dml.specs.NewRows.{entry_in}
 use Rattle.dml.proofs.IntoTrees.{HaveBeenPut, all_put, at_first, comes_at, one_further, one_on, one_stops, puts_since, up_to_end}
@@ -26,8 +25,8 @@ returns-in_err-put_record-clause-put g c = λ told.
     let fault = c.in_err-put_record.field-0.0 in
     let lt : c.records.row-index < length records = c.records-test.true in
     let puts = puts_since pages.below pages.tells pages.limits old mid (pages.map mid) new c.args.root row (Err fault) c.records.invariant.kept c.in_err-put_record.ensures.put told in
-    one_stops (pages.map old) (pages.map mid) new size c.args.root all done row c.records.row-index (c.records.invariant.put told) (comes_at entry_in records c.records.row-index c.row-item.result lt c.row-item.is)
-    fault c.from_residual.result c.from_residual.ensures.1 (omega (arith, lt, length-map records entry_in)) puts)
+    one_stops (pages.map old) (pages.map mid) new size c.args.root all done row (c.records.invariant.put told) (comes_at entry_in records c.records.row-index c.row-item.result lt c.row-item.is)
+    fault c.from_residual.result c.from_residual.ensures.1 puts)
 
 pub records-preserved : goal.records-preserved
 records-preserved g c =
@@ -47,8 +46,8 @@ records-preserved g c =
       causes = search rules;
       put = λ told.
           (let puts = puts_since pages.below pages.tells pages.limits old mid (pages.map mid) new c.args.root row (Ok tt) kept c.in_ok-put_record.ensures.put told in
-          subst (λ (them : List Entry). HaveBeenPut (pages.map old) new size c.args.root all them (c.records.row-index + 1)) (one_further entry_in records c.records.row-index c.row-item.result lt c.row-item.is)
-          (one_on (pages.map old) (pages.map mid) new size c.args.root all done row c.records.row-index (c.records.invariant.put told) (comes_at entry_in records c.records.row-index c.row-item.result lt c.row-item.is) puts));
+          subst (λ (them : List Entry). HaveBeenPut (pages.map old) new size c.args.root all them) (one_further entry_in records c.records.row-index c.row-item.result lt c.row-item.is)
+          (one_on (pages.map old) (pages.map mid) new size c.args.root all done row (c.records.invariant.put told) (comes_at entry_in records c.records.row-index c.row-item.result lt c.row-item.is) puts));
     }
 
 pub returns-clause-put : goal.returns-clause-put
@@ -57,5 +56,5 @@ returns-clause-put g c = λ told.
     let old = c.args.pages.now in
     let size = (pages.limits (pages.below old)).page in
     let records = c.args.records.now in
-    all_put (pages.map old) (pages.map c.records.pages) size c.args.root (map entry_in records) (map entry_in (take c.records.row-index records)) c.records.row-index
+    all_put (pages.map old) (pages.map c.records.pages) size c.args.root (map entry_in records) (map entry_in (take c.records.row-index records))
     (up_to_end entry_in records c.records.row-index c.records-test.false) (c.records.invariant.put told))

@@ -6,4 +6,4 @@ use Rattle.dml.proofs.putting.put_records.Given as goal
 
 abbrev pub invariant-records : goal.invariant-records
 invariant-records g l =
-    HasPut g.P.Pages.below g.P.Pages.tells g.P.Pages.limits g.P.Pages.map g.P.Pages.failures l.fn.pages l.pages l.root (map entry_in l.records) (map entry_in (take l.row-index l.records)) l.row-index
+    HasPut g.P.Pages.below g.P.Pages.tells g.P.Pages.limits g.P.Pages.map g.P.Pages.failures l.fn.pages l.pages l.root (map entry_in l.records) (map entry_in (take l.row-index l.records))

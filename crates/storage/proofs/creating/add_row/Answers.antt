@@ -11,13 +11,13 @@ use Rattle.storage.proofs.creating.add_row.Goals as goal
 
 pub returns-in_err-last-clause-added : goal.returns-in_err-last-clause-added
 returns-in_err-last-clause-added g c told rows used free is =
-    passed _ c.from_residual-in_err-last.result c.in_err-last.field-0.0 is.tree.depth c.args.values.now rows c.from_residual-in_err-last.ensures.1
-    (outside c.in_err-last.field-0.0 is.tree.depth c.args.values.now rows (c.in_err-last.ensures.found told rows used is.free_are.whole is.tree))
+    passed _ c.from_residual-in_err-last.result c.in_err-last.field-0.0 c.args.values.now rows c.from_residual-in_err-last.ensures.1
+    (outside c.in_err-last.field-0.0 c.args.values.now rows (c.in_err-last.ensures.found told rows used is.free_are.whole is.tree))
 
 pub returns-in_err-rowid-clause-added : goal.returns-in_err-rowid-clause-added
 returns-in_err-rowid-clause-added g c told rows used free is =
-    passed _ c.from_residual-in_err-rowid.result c.in_err-rowid.field-0.0 is.tree.depth c.args.values.now rows c.from_residual-in_err-rowid.ensures.1
-    (no_rowid c.in_err-rowid.field-0.0 is.tree.depth c.args.values.now rows c.in_ok-last.field-0 (c.in_ok-last.ensures.found told rows used is.free_are.whole is.tree) c.in_err-rowid.ensures.full)
+    passed _ c.from_residual-in_err-rowid.result c.in_err-rowid.field-0.0 c.args.values.now rows c.from_residual-in_err-rowid.ensures.1
+    (no_rowid c.in_err-rowid.field-0.0 c.args.values.now rows c.in_ok-last.field-0 (c.in_ok-last.ensures.found told rows used is.free_are.whole is.tree) c.in_err-rowid.ensures.full)
 
 pub returns-in_err-insert-clause-added : goal.returns-in_err-insert-clause-added
 returns-in_err-insert-clause-added g c told rows used free is =
@@ -27,8 +27,8 @@ returns-in_err-insert-clause-added g c told rows used free is =
     let inserts : InsertsRow (g.P.Pages.map c.args.pages.now) (g.P.Pages.map c.insert.new.pages) (g.P.Pages.limits (g.P.Pages.below c.args.pages.now)).page 1 row (Err f) =
     subst (λ (m : PageMap). InsertsRow m (g.P.Pages.map c.insert.new.pages) (g.P.Pages.limits (g.P.Pages.below c.args.pages.now)).page 1 row (Err f)) c.last.ensures.stays.same
     (subst (λ k. InsertsRow (g.P.Pages.map c.last.new.pages) (g.P.Pages.map c.insert.new.pages) (g.P.Pages.limits k).page 1 row (Err f)) c.last.ensures.stays.kept (c.in_err-insert.ensures.inserted told_then)) in
-    passed _ c.from_residual-in_err-insert.result f is.tree.depth c.args.values.now rows c.from_residual-in_err-insert.ensures.1
-    (growth f is.tree.depth c.args.values.now rows (inserts rows used free is))
+    passed _ c.from_residual-in_err-insert.result f c.args.values.now rows c.from_residual-in_err-insert.ensures.1
+    (growth f c.args.values.now rows (inserts rows used free is))
 
 pub returns-then-not-branch-clause-added : goal.returns-then-not-branch-clause-added
 returns-then-not-branch-clause-added g c told rows used free is =

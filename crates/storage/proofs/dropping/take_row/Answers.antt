@@ -20,8 +20,8 @@ returns-then-not-branch-clause-taken g c told rows used free is there =
     let fits : SFits w64 c.args.rowid = search rules in
     let removes : RemovesRow (g.P.Pages.map c.args.pages.now) (g.P.Pages.map c.remove.new.pages) size 1 c.args.rowid (Ok b) =
     subst (λ z. RemovesRow (g.P.Pages.map c.args.pages.now) (g.P.Pages.map c.remove.new.pages) size 1 z (Ok b)) (to_z-of_z w64 c.args.rowid fits) (c.in_ok-remove.ensures.removed told) in
-    let missing : IsRemoved (g.P.Pages.map c.args.pages.now) (g.P.Pages.map c.remove.new.pages) size 1 c.args.rowid is.tree.depth rows used free false =
-    subst (IsRemoved (g.P.Pages.map c.args.pages.now) (g.P.Pages.map c.remove.new.pages) size 1 c.args.rowid is.tree.depth rows used free) c.if-not-branch.true (removes rows used free is) in
+    let missing : IsRemoved (g.P.Pages.map c.args.pages.now) (g.P.Pages.map c.remove.new.pages) size 1 c.args.rowid rows used free false =
+    subst (IsRemoved (g.P.Pages.map c.args.pages.now) (g.P.Pages.map c.remove.new.pages) size 1 c.args.rowid rows used free) c.if-not-branch.true (removes rows used free is) in
     absurd (there missing.0)
 
 pub returns-clause-taken : goal.returns-clause-taken
@@ -31,6 +31,6 @@ returns-clause-taken g c told rows used free is there =
     let fits : SFits w64 c.args.rowid = search rules in
     let removes : RemovesRow (g.P.Pages.map c.args.pages.now) (g.P.Pages.map c.remove.new.pages) size 1 c.args.rowid (Ok b) =
     subst (λ z. RemovesRow (g.P.Pages.map c.args.pages.now) (g.P.Pages.map c.remove.new.pages) size 1 z (Ok b)) (to_z-of_z w64 c.args.rowid fits) (c.in_ok-remove.ensures.removed told) in
-    let taken : IsRemoved (g.P.Pages.map c.args.pages.now) (g.P.Pages.map c.remove.new.pages) size 1 c.args.rowid is.tree.depth rows used free true =
-    subst (IsRemoved (g.P.Pages.map c.args.pages.now) (g.P.Pages.map c.remove.new.pages) size 1 c.args.rowid is.tree.depth rows used free) c.if-not-branch.false (removes rows used free is) in
+    let taken : IsRemoved (g.P.Pages.map c.args.pages.now) (g.P.Pages.map c.remove.new.pages) size 1 c.args.rowid rows used free true =
+    subst (IsRemoved (g.P.Pages.map c.args.pages.now) (g.P.Pages.map c.remove.new.pages) size 1 c.args.rowid rows used free) c.if-not-branch.false (removes rows used free is) in
     taken.1.0

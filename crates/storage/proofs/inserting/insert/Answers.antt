@@ -1,10 +1,10 @@
 use Rattle.std.proofs.Common.{◌≡◌, ◌∙◌, ap, map, length}
 use Rattle.catalog.specs.Listed.{tables_of}
-use Rattle.storage.proofs.Insertions.{Laws, bind_refused, given_as, passed_on, places_long, put_makes, rows_written}
+use Rattle.storage.proofs.Insertions.{Laws, given_as, passed_on, places_long, put_makes, rows_refused, source_wide, target_refused}
 use Rattle.storage.proofs.inserting.insert.Goals as goal
 
-pub returns-in_err-bound-clause-made : goal.returns-in_err-bound-clause-made
-returns-in_err-bound-clause-made g c told supported_forms db held =
+pub returns-in_err-target-clause-made : goal.returns-in_err-target-clause-made
+returns-in_err-target-clause-made g c told supported_forms db held =
     let laws : Laws = record {
       lists = c.other_rows_are_listed.ensures.lists;
       tables = c.other_rows_are_listed.ensures.tables;
@@ -16,14 +16,33 @@ returns-in_err-bound-clause-made g c told supported_forms db held =
       stand = c.table_trees_stand.ensures;
       give_way = c.trees_give_way.ensures;
     } in
-    passed_on _ _ c.from_residual.result c.in_err-bound.field-0.0 c.from_residual.ensures.1
-    (bind_refused laws _ _ (tables_of c.args.catalog.now) db held c.args.insert.now c.in_err-bound.field-0.0 supported_forms c.in_err-bound.ensures.refused)
+    passed_on _ _ c.from_residual.result c.in_err-target.field-0.0 c.from_residual.ensures.1
+    (target_refused laws _ _ (tables_of c.args.catalog.now) db held c.args.insert.now c.in_err-target.field-0.0 c.in_err-target.ensures.refused)
+
+pub returns-in_err-rows-clause-made : goal.returns-in_err-rows-clause-made
+returns-in_err-rows-clause-made g c told supported_forms db held =
+    let laws : Laws = record {
+      lists = c.other_rows_are_listed.ensures.lists;
+      tables = c.other_rows_are_listed.ensures.tables;
+      named = c.named_databases_are_one.ensures.named;
+      binds = c.only_tables_set_nothing_off.ensures.binds;
+      refused = c.only_tables_set_nothing_off.ensures.refused;
+      inserts = c.only_tables_set_nothing_off.ensures.inserts;
+      none = c.only_tables_set_nothing_off.ensures.none;
+      stand = c.table_trees_stand.ensures;
+      give_way = c.trees_give_way.ensures;
+    } in
+    let target = c.in_ok-target.target in
+    passed_on _ _ c.from_residual-in_err-rows.result c.in_err-rows.field-0.0 c.from_residual-in_err-rows.ensures.1
+    (rows_refused laws _ _ (tables_of c.args.catalog.now) db held c.args.insert.now target.table.now target.count c.in_ok-target.ensures.table c.in_ok-target.ensures.listed c.in_ok-target.ensures.count
+    c.in_err-rows.field-0.0 (c.in_err-rows.ensures.given db supported_forms))
 
 pub returns-clause-made : goal.returns-clause-made
 returns-clause-made g c told supported_forms db held =
     let i = c.args.insert.now in
-    let b = c.in_ok-bound.bound in
-    let t = b.table.now in
+    let target = c.in_ok-target.target in
+    let t = target.table.now in
+    let rows = map (λ row. row.items) c.in_ok-rows.rows.items in
     let tables = tables_of c.args.catalog.now in
     let laws : Laws = record {
       lists = c.other_rows_are_listed.ensures.lists;
@@ -36,7 +55,8 @@ returns-clause-made g c told supported_forms db held =
       stand = c.table_trees_stand.ensures;
       give_way = c.trees_give_way.ensures;
     } in
-    let named = c.in_ok-bound.ensures.table in
-    let is = given_as _ _ tables db held i t b.places.items b.rows.items named c.in_ok-bound.ensures.bound c.in_ok-bound.ensures.rows c.in_ok-bound.ensures.places in
-    let long : length b.places.items ≡ length t.columns = ap length c.in_ok-bound.ensures.places ∙ places_long t.columns i.columns in
-    put_makes laws _ _ tables db held i t b.places.items (map (λ row. row.items) b.rows.items) named is long (rows_written _ b.rows.items i c.in_ok-bound.ensures.rows) _ c.put_rows.result (c.put_rows.ensures.put told)
+    let given = c.in_ok-rows.ensures.given db supported_forms in
+    let is = given_as laws _ _ tables db held i t target.count c.in_ok-target.ensures.table c.in_ok-target.ensures.listed c.in_ok-target.ensures.count rows target.places.items
+    c.in_ok-target.ensures.places given (source_wide db target.count i.source rows supported_forms given) in
+    let long : length target.places.items ≡ length t.columns = ap length c.in_ok-target.ensures.places ∙ places_long t.columns i.columns in
+    put_makes laws _ _ tables db held i t target.places.items rows c.in_ok-target.ensures.table is long _ c.put_rows.result (c.put_rows.ensures.put told)

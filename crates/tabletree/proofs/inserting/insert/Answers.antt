@@ -1,17 +1,15 @@
-use Rattle.std.proofs.Common.{rules, ◌≡◌, ℤ, w64, true, IsTrue, [], length, ◌∙◌, Ok, Err, inl, inr, refl, sym, subst}
+use Rattle.std.proofs.Common.{ℤ, w64, IsTrue, ◌∙◌, Ok, Err, sym, subst}
 use Rattle.std.proofs.lemmas.Int.{to_z-of_z}
 use Rattle.page.specs.Leaf.{Entry}
-use Rattle.treepage.specs.declared.items.Kind.TheVariants.{TableInterior}
-use Rattle.forest.specs.Storing.{Roots}
 use Rattle.tabletree.specs.Calls.{IsInserted}
+use Rattle.tabletree.specs.Flattening.{StoresTop}
 use Rattle.tabletree.specs.Growing.{Changes, IsThereAt, IsNotAt}
 use Rattle.tabletree.specs.Lowering.{TrimsRoot}
 use Rattle.tabletree.specs.Rows.{with_row}
 use Rattle.tabletree.specs.declared.growing.Change.{Change}
-use Rattle.tabletree.proofs.Exits.{growth_err, none_left, not_true}
-use Rattle.tabletree.proofs.Inserted.{change_refused, edited_still, edited_same, too_deep, edited_spread, spread_refused}
+use Rattle.tabletree.proofs.Exits.{full_err}
+use Rattle.tabletree.proofs.Inserted.{change_refused, edited_still, edited_same, edited_spread}
 use Rattle.tabletree.proofs.Trimmed.{trimmed_then}
-use Rattle.tabletree.proofs.inserting.insert.Goals.{else-deep-via-then-deep+else-not-is_empty, else-deep-via-else-deep}
 use Rattle.tabletree.proofs.inserting.insert.Goals as goal
 
 pub returns-in_err-packed_below-clause-inserted : goal.returns-in_err-packed_below-clause-inserted
@@ -23,7 +21,7 @@ returns-in_err-packed_below-clause-inserted g c = λ told rows used free is.
     let plain = to_z-of_z w64 c.args.rowid c.ranges.rowid in
     let mid = pages.map c.packed_below.new.pages in
     let changes = subst (λ (z : ℤ). Changes old mid size c.args.root 19 (record { rowid = z; payload = c.args.payload.now }) (Err c.in_err-packed_below.field-0.0)) plain (c.in_err-packed_below.ensures.changes told) in
-    growth_err (IsInserted old mid size c.args.root row is.tree.depth rows used free) c.from_residual.result c.in_err-packed_below.field-0.0 c.args.root is.tree.depth c.from_residual.ensures.1
+    full_err (IsInserted old mid size c.args.root row rows used free) c.from_residual.result c.in_err-packed_below.field-0.0 c.from_residual.ensures.1
     (change_refused old size c.args.root row.rowid (with_row row) IsThereAt IsNotAt rows used free is mid c.in_err-packed_below.field-0.0 changes))
 
 pub returns-in-Still-clause-inserted : goal.returns-in-Still-clause-inserted
@@ -50,8 +48,8 @@ returns-in-Same-clause-inserted g c = λ told rows used free is.
     let now = subst (λ (change : Change). Changes old mid size c.args.root 19 row (Ok change)) c.in-Same.is changes in
     edited_same old size c.args.root row.rowid (with_row row) IsThereAt IsNotAt rows used free is mid now)
 
-pub returns-then-not-is_empty-clause-inserted : goal.returns-then-not-is_empty-clause-inserted
-returns-then-not-is_empty-clause-inserted g c = λ told rows used free is.
+pub returns-in_err-store_top-in-Spread-clause-inserted : goal.returns-in_err-store_top-in-Spread-clause-inserted
+returns-in_err-store_top-in-Spread-clause-inserted g c = λ told rows used free is.
     (let pages = g.P.Pages in
     let old = pages.map c.args.pages.now in
     let size = (pages.limits (pages.below c.args.pages.now)).page in
@@ -60,23 +58,11 @@ returns-then-not-is_empty-clause-inserted g c = λ told rows used free is.
     let mid = pages.map c.packed_below.new.pages in
     let changes = subst (λ (z : ℤ). Changes old mid size c.args.root 19 (record { rowid = z; payload = c.args.payload.now }) (Ok c.in_ok-packed_below.field-0)) plain (c.in_ok-packed_below.ensures.changes told) in
     let now = subst (λ (change : Change). Changes old mid size c.args.root 19 row (Ok change)) c.in-Spread.is changes in
-    inr (refl, too_deep old size c.args.root row.rowid (with_row row) IsThereAt IsNotAt rows used free is mid c.in-Spread.packed c.in-Spread.deep now c.if-deep.true))
-
-pub returns-in_err-store_root-in-Spread-clause-inserted : goal.returns-in_err-store_root-in-Spread-clause-inserted
-returns-in_err-store_root-in-Spread-clause-inserted g c = λ told rows used free is.
-    (let pages = g.P.Pages in
-    let old = pages.map c.args.pages.now in
-    let size = (pages.limits (pages.below c.args.pages.now)).page in
-    let row : Entry = record { rowid = c.args.rowid; payload = c.args.payload.now } in
-    let plain = to_z-of_z w64 c.args.rowid c.ranges.rowid in
-    let mid = pages.map c.packed_below.new.pages in
-    let changes = subst (λ (z : ℤ). Changes old mid size c.args.root 19 (record { rowid = z; payload = c.args.payload.now }) (Ok c.in_ok-packed_below.field-0)) plain (c.in_ok-packed_below.ensures.changes told) in
-    let now = subst (λ (change : Change). Changes old mid size c.args.root 19 row (Ok change)) c.in-Spread.is changes in
-    let new = pages.map c.store_root.new.pages in
+    let put = pages.map c.store_top.new.pages in
     let told_mid = subst (λ k. IsTrue (pages.tells k)) (sym c.in_ok-packed_below.ensures.kept) told in
-    let roots = subst (λ k. Roots mid new (pages.limits k).page c.args.root TableInterior c.in-Spread.packed (Err c.in_err-store_root-in-Spread.field-0.0)) c.in_ok-packed_below.ensures.kept (c.in_err-store_root-in-Spread.ensures.rooted told_mid) in
-    growth_err (IsInserted old new size c.args.root row is.tree.depth rows used free) c.from_residual-in_err-store_root-in-Spread.result c.in_err-store_root-in-Spread.field-0.0 c.args.root is.tree.depth c.from_residual-in_err-store_root-in-Spread.ensures.1
-    (spread_refused old size c.args.root row.rowid (with_row row) IsThereAt IsNotAt rows used free is mid c.in-Spread.packed c.in-Spread.deep now new c.in_err-store_root-in-Spread.field-0.0 roots))
+    let stores = subst (λ k. StoresTop mid put (pages.limits k).page c.args.root c.in-Spread.packed c.in-Spread.deep (Err c.in_err-store_top-in-Spread.field-0.0)) c.in_ok-packed_below.ensures.kept (c.in_err-store_top-in-Spread.ensures.stored told_mid) in
+    full_err (IsInserted old put size c.args.root row rows used free) c.from_residual-in_err-store_top-in-Spread.result c.in_err-store_top-in-Spread.field-0.0 c.from_residual-in_err-store_top-in-Spread.ensures.1
+    (edited_spread old size c.args.root row.rowid (with_row row) IsThereAt IsNotAt rows used free is mid c.in-Spread.packed c.in-Spread.deep now put (Err c.in_err-store_top-in-Spread.field-0.0) stores))
 
 pub returns-in_err-trim-in-Spread-clause-inserted : goal.returns-in_err-trim-in-Spread-clause-inserted
 returns-in_err-trim-in-Spread-clause-inserted g c = λ told rows used free is.
@@ -88,20 +74,16 @@ returns-in_err-trim-in-Spread-clause-inserted g c = λ told rows used free is.
     let mid = pages.map c.packed_below.new.pages in
     let changes = subst (λ (z : ℤ). Changes old mid size c.args.root 19 (record { rowid = z; payload = c.args.payload.now }) (Ok c.in_ok-packed_below.field-0)) plain (c.in_ok-packed_below.ensures.changes told) in
     let now = subst (λ (change : Change). Changes old mid size c.args.root 19 row (Ok change)) c.in-Spread.is changes in
-    let put = pages.map c.store_root.new.pages in
-    let new = pages.map c.trim.new.pages in
+    let put = pages.map c.store_top.new.pages in
     let told_mid = subst (λ k. IsTrue (pages.tells k)) (sym c.in_ok-packed_below.ensures.kept) told in
-    let roots = subst (λ k. Roots mid put (pages.limits k).page c.args.root TableInterior c.in-Spread.packed (Ok tt)) c.in_ok-packed_below.ensures.kept (c.in_ok-store_root-in-Spread.ensures.rooted told_mid) in
-    let lone : c.in-Spread.deep ≡ true → c.in-Spread.packed.pieces.items ≡ [] = λ deep. elim c.else-deep.branch [
-      | else-deep-via-then-deep+else-not-is_empty w ↦ (let none : length c.in-Spread.packed.pieces.items ≡ 0 = search rules in none_left c.in-Spread.packed.pieces.items none)
-      | else-deep-via-else-deep w ↦ absurd (not_true deep w.if-deep.false)
-    ] in
-    let edited = edited_spread old size c.args.root row.rowid (with_row row) IsThereAt IsNotAt rows used free is mid c.in-Spread.packed c.in-Spread.deep now put lone roots in
-    let kept = c.in_ok-store_root-in-Spread.ensures.kept ∙ c.in_ok-packed_below.ensures.kept in
+    let new = pages.map c.trim.new.pages in
+    let stores = subst (λ k. StoresTop mid put (pages.limits k).page c.args.root c.in-Spread.packed c.in-Spread.deep (Ok tt)) c.in_ok-packed_below.ensures.kept (c.in_ok-store_top-in-Spread.ensures.stored told_mid) in
+    let edited = edited_spread old size c.args.root row.rowid (with_row row) IsThereAt IsNotAt rows used free is mid c.in-Spread.packed c.in-Spread.deep now put (Ok tt) stores in
+    let kept = c.in_ok-store_top-in-Spread.ensures.kept ∙ c.in_ok-packed_below.ensures.kept in
     let told_put = subst (λ k. IsTrue (pages.tells k)) (sym kept) told in
     let trims = subst (λ k. TrimsRoot put new (pages.limits k).page c.args.root (Err c.in_err-trim-in-Spread.field-0.0)) kept (c.in_err-trim-in-Spread.ensures.trimmed told_put) in
-    growth_err (IsInserted old new size c.args.root row is.tree.depth rows used free) c.from_residual-in_err-trim-in-Spread.result c.in_err-trim-in-Spread.field-0.0 c.args.root is.tree.depth c.from_residual-in_err-trim-in-Spread.ensures.1
-    (inl (trimmed_then IsThereAt IsNotAt old put new size c.args.root row.rowid (with_row row) is.tree.depth rows used free (Err c.in_err-trim-in-Spread.field-0.0) edited trims)))
+    full_err (IsInserted old new size c.args.root row rows used free) c.from_residual-in_err-trim-in-Spread.result c.in_err-trim-in-Spread.field-0.0 c.from_residual-in_err-trim-in-Spread.ensures.1
+    (trimmed_then IsThereAt IsNotAt old put new size c.args.root row.rowid (with_row row) rows used free (Err c.in_err-trim-in-Spread.field-0.0) edited trims))
 
 pub returns-in_ok-trim-in-Spread-clause-inserted : goal.returns-in_ok-trim-in-Spread-clause-inserted
 returns-in_ok-trim-in-Spread-clause-inserted g c = λ told rows used free is.
@@ -113,16 +95,12 @@ returns-in_ok-trim-in-Spread-clause-inserted g c = λ told rows used free is.
     let mid = pages.map c.packed_below.new.pages in
     let changes = subst (λ (z : ℤ). Changes old mid size c.args.root 19 (record { rowid = z; payload = c.args.payload.now }) (Ok c.in_ok-packed_below.field-0)) plain (c.in_ok-packed_below.ensures.changes told) in
     let now = subst (λ (change : Change). Changes old mid size c.args.root 19 row (Ok change)) c.in-Spread.is changes in
-    let put = pages.map c.store_root.new.pages in
-    let new = pages.map c.trim.new.pages in
+    let put = pages.map c.store_top.new.pages in
     let told_mid = subst (λ k. IsTrue (pages.tells k)) (sym c.in_ok-packed_below.ensures.kept) told in
-    let roots = subst (λ k. Roots mid put (pages.limits k).page c.args.root TableInterior c.in-Spread.packed (Ok tt)) c.in_ok-packed_below.ensures.kept (c.in_ok-store_root-in-Spread.ensures.rooted told_mid) in
-    let lone : c.in-Spread.deep ≡ true → c.in-Spread.packed.pieces.items ≡ [] = λ deep. elim c.else-deep.branch [
-      | else-deep-via-then-deep+else-not-is_empty w ↦ (let none : length c.in-Spread.packed.pieces.items ≡ 0 = search rules in none_left c.in-Spread.packed.pieces.items none)
-      | else-deep-via-else-deep w ↦ absurd (not_true deep w.if-deep.false)
-    ] in
-    let edited = edited_spread old size c.args.root row.rowid (with_row row) IsThereAt IsNotAt rows used free is mid c.in-Spread.packed c.in-Spread.deep now put lone roots in
-    let kept = c.in_ok-store_root-in-Spread.ensures.kept ∙ c.in_ok-packed_below.ensures.kept in
+    let new = pages.map c.trim.new.pages in
+    let stores = subst (λ k. StoresTop mid put (pages.limits k).page c.args.root c.in-Spread.packed c.in-Spread.deep (Ok tt)) c.in_ok-packed_below.ensures.kept (c.in_ok-store_top-in-Spread.ensures.stored told_mid) in
+    let edited = edited_spread old size c.args.root row.rowid (with_row row) IsThereAt IsNotAt rows used free is mid c.in-Spread.packed c.in-Spread.deep now put (Ok tt) stores in
+    let kept = c.in_ok-store_top-in-Spread.ensures.kept ∙ c.in_ok-packed_below.ensures.kept in
     let told_put = subst (λ k. IsTrue (pages.tells k)) (sym kept) told in
     let trims = subst (λ k. TrimsRoot put new (pages.limits k).page c.args.root (Ok tt)) kept (c.in_ok-trim-in-Spread.ensures.trimmed told_put) in
-    trimmed_then IsThereAt IsNotAt old put new size c.args.root row.rowid (with_row row) is.tree.depth rows used free (Ok tt) edited trims)
+    trimmed_then IsThereAt IsNotAt old put new size c.args.root row.rowid (with_row row) rows used free (Ok tt) edited trims)

@@ -52,4 +52,4 @@ returns-clause-step g c supported_forms keeps idle =
       newest = newest;
       begun = c.in_ok-writer.ensures.begun shown.told (omega (arith, newest.seen)) (omega (arith, (first_there old m shown c.begin-newest.result newest).last));
     }))
-    (λ db applies. c.in_ok-apply.ensures.applies db supported_forms keeps applies) (λ db whole applies. c.commit_autocommit.ensures.ends db whole applies)
+    (λ db applies. c.in_ok-apply.ensures.applies db supported_forms keeps applies) (λ db was whole applies stored. c.commit_autocommit.ensures.ends db was whole applies stored)

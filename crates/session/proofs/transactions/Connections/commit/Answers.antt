@@ -1,4 +1,5 @@
 use Rattle.std.proofs.Common.{inl, inr, refl, sym, subst, ap, ◌∙◌}
+use Rattle.session.specs.Machine.{newest}
 use Rattle.session.specs.Representation.{StepsTo, done_reply, is_idle}
 use Rattle.session.specs.declared.transactions.Connections.{Connections}
 use Rattle.syntax.specs.declared.statement.Statement.TheVariants as statement
@@ -30,7 +31,7 @@ returns-after-is_err-clause-step g c m shown =
     let left = c.commit_writer-result.new.writer in
     let result = c.commit_writer-result.result in
     let in_writing = writes_in old mid m c.in-Writing.writer shown (sym c.replace.ensures.value ∙ c.in-Writing.is) refl refl in
-    let has = c.commit_writer-result.ensures.commits in_writing.db shown.whole in_writing.applies in
+    let has = c.commit_writer-result.ensures.commits in_writing.db (newest m) shown.whole in_writing.applies shown.stored in
     elim c.if-is_err.branch [
       | then-is_err w ↦ subst (λ (s : Connections g.row.D.Denot g.D.Disk). StepsTo old m 1 statement.Commit (done_reply result) s) (sym w.self-is) (err_step old mid new m c.in-Writing.writer in_writing result left (sym w.if-is_err.ensures.value) refl refl refl has)
       | else-is_err w ↦ subst (λ (s : Connections g.row.D.Denot g.D.Disk). StepsTo old m 1 statement.Commit (done_reply result) s) (sym w.self-is) (ok_step old mid new m c.in-Writing.writer in_writing result left (sym w.if-is_err.ensures.value) refl c.replace.ensures.after has)

@@ -11,16 +11,16 @@ use Rattle.session.proofs.SeenPages.{at_newest, not_writing, writer_of}
 use Rattle.session.proofs.transactions.Connections.read.Goals as goal
 
 pub returns-in-Writing-clause-answered : goal.returns-in-Writing-clause-answered
-returns-in-Writing-clause-answered g c m db shown stored supported_forms =
+returns-in-Writing-clause-answered g c m db shown stored =
     let self = c.args.self.now in
     c.read.ensures.answered db shown.told (writer_of (files_of self) self.catalog (last_place m) self.transaction shown.first c.in-Writing.writer c.in-Writing.is shown.transaction)
     (subst (λ (ts : List Table). ShowsDatabase (view_of (files_of self) c.in-Writing.writer) ts db) (sym c.current.ensures)
-    (subst (λ (t : Transaction). ShowsDatabase (seen_in t (files_of self)) (current_tables self.catalog) db) c.in-Writing.is stored)) supported_forms
+    (subst (λ (t : Transaction). ShowsDatabase (seen_in t (files_of self)) (current_tables self.catalog) db) c.in-Writing.is stored))
 
 pub returns-in_default-clause-answered : goal.returns-in_default-clause-answered
-returns-in_default-clause-answered g c m db shown stored supported_forms =
+returns-in_default-clause-answered g c m db shown stored =
     let self = c.args.self.now in
     let newest = c.snapshot-snapshot.ensures.newest m shown in
     c.read-in_default.ensures.answered db shown.told (omega (arith, newest.seen))
     (subst (λ (ts : List Table). ShowsDatabase (view_at (files_of self) c.snapshot-snapshot.result) ts db) (sym c.current-in_default.ensures)
-    (subst (λ (v : View). ShowsDatabase v (current_tables self.catalog) db) (not_writing (files_of self) self.transaction c.in_default.not-Writing ∙ sym (at_newest (files_of self) c.snapshot-snapshot.result newest)) stored)) supported_forms
+    (subst (λ (v : View). ShowsDatabase v (current_tables self.catalog) db) (not_writing (files_of self) self.transaction c.in_default.not-Writing ∙ sym (at_newest (files_of self) c.snapshot-snapshot.result newest)) stored))

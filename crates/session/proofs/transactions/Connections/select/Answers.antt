@@ -6,10 +6,10 @@ use Rattle.session.proofs.Selecting.{refused_reply, select_gives, select_refused
 use Rattle.session.proofs.transactions.Connections.select.Goals as goal
 
 pub returns-in_err-rows-clause-step : goal.returns-in_err-rows-clause-step
-returns-in_err-rows-clause-step g c supported_forms m shown =
+returns-in_err-rows-clause-step g c m shown =
     subst (λ (r : Reply). StepsTo c.args.self.now m 1 (statement.Select c.args.query.now) r c.read.new.self) (sym (refused_reply c.from_residual.result c.in_err-rows.field-0.0 c.from_residual.ensures.1))
-    (select_refused c.args.self.now c.read.new.self c.args.query.now c.in_err-rows.field-0.0 supported_forms c.read.ensures.reads (λ m db shown stored. c.in_err-rows.ensures.answered m db shown stored supported_forms) m shown)
+    (select_refused c.args.self.now c.read.new.self c.args.query.now c.in_err-rows.field-0.0 c.read.ensures.reads (λ m db shown stored. c.in_err-rows.ensures.answered m db shown stored) m shown)
 
 pub returns-clause-step : goal.returns-clause-step
-returns-clause-step g c supported_forms =
-    select_gives c.args.self.now c.read.new.self c.begin_reading.new.self c.args.query.now _ supported_forms c.read.ensures.reads c.begin_reading.ensures (λ m db shown stored. c.in_ok-rows.ensures.answered m db shown stored supported_forms)
+returns-clause-step g c =
+    select_gives c.args.self.now c.read.new.self c.begin_reading.new.self c.args.query.now _ c.read.ensures.reads c.begin_reading.ensures (λ m db shown stored. c.in_ok-rows.ensures.answered m db shown stored)

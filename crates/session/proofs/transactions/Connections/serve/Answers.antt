@@ -3,7 +3,6 @@ use Rattle.syntax.specs.declared.statement.Statement.{Statement}
 use Rattle.smallvec.specs.SmallVec.{SmallVec}
 use Rattle.sqlval.specs.declared.value.Value.{Value}
 use Rattle.rowprog.specs.Rows.{values_of}
-use Rattle.storage.specs.Forms.{is_supported}
 use Rattle.session.specs.Machine.{Reply, Rows}
 use Rattle.session.specs.Representation.{StepsOn, rows_reply}
 use Rattle.session.proofs.Executing.{no_query, refused_as}
@@ -12,7 +11,7 @@ use Rattle.session.proofs.transactions.Connections.serve.Goals as goal
 pub returns-in-Select-clause-step : goal.returns-in-Select-clause-step
 returns-in-Select-clause-step g c supported_forms keeps =
     subst (λ (s : Statement). StepsOn c.args.self.now s (rows_reply c.select.result) c.select.new.self) (sym c.in-Select.is)
-    (c.select.ensures.step (subst (λ (s : Statement). is_supported s ≡ true) c.in-Select.is supported_forms))
+    c.select.ensures.step
 
 pub returns-in_err-change-clause-step : goal.returns-in_err-change-clause-step
 returns-in_err-change-clause-step g c supported_forms keeps =

@@ -1,0 +1,167 @@
+-- What UPDATE leaves in a tree is what the definition says.
+use Rattle.std.proofs.Common.{◌≡◌, ◌⊎◌, inl, inr, refl, sym, ap, subst, ◌∙◌, ℕ, Bool, true, false, filter, List, [], ◌∷◌, ◌++◌, append_assoc, length, map, Option, Some, None, Result, Ok, Err, IsTrue}
+use Rattle.std.specs.Prelude.{IsErrAnd, MatchResult, ⊤, unwrap_or}
+use Rattle.std.proofs.lemmas.List.{append-nil}
+use Rattle.sqlval.specs.Refusals.{Answer, Refusal, ◌then◌, all_answers, refusal_of}
+use Rattle.sqlval.specs.declared.fault.Fault.{Fault}
+use Rattle.sqlval.specs.declared.fault.Fault.TheVariants as f
+use Rattle.page.specs.Leaf.{Entry}
+use Rattle.pages.specs.Calls.{IsOutsideOrFull}
+use Rattle.pages.specs.Map.{PageMap}
+use Rattle.treepage.specs.Cells.{Pairwise}
+use Rattle.tabletree.specs.Calls.{BecomesRows, Stands}
+use Rattle.catalog.specs.declared.tables.Column.{Column}
+use Rattle.bind.specs.declared.queries.BoundSource.{BoundSource}
+use Rattle.terms.specs.Outcome.{IsRefusedBy}
+use Rattle.terms.specs.Terms.{Term}
+use Rattle.terms.specs.Values.{Row}
+use Rattle.rowprog.specs.Rows.{IsRow, TableRow}
+use Rattle.rowprog.specs.Sources.{LoadsRows, as_source}
+use Rattle.rowprog.specs.Trees.{HasRows}
+use Rattle.rowprog.proofs.TreeOrder.{tree_rises}
+use Rattle.dml.specs.Choosing.{is_chosen, tested}
+use Rattle.dml.specs.Inserting.{AllStorable}
+use Rattle.dml.specs.NewRows.{IsWritten}
+use Rattle.dml.specs.Setting.{row_set, rows_changed, rows_meant, rows_meant_set, rows_set, source_set}
+use Rattle.dml.specs.Updating.{AreSetIn, IsSetRefusal, ReplacesRows, SetsRows, with_all_replaced}
+use Rattle.dml.proofs.Replaced.{are_changed, are_set, fit_now, made, set_refused}
+use Rattle.dml.proofs.Rising.{Rises, rows_rise}
+use Rattle.dml.proofs.SetRows.{map_twice}
+
+-- what the condition says of each row, and of a row
+abbrev asked : Option Term → List TableRow → Answer (List (Option Bool))
+asked None rows = Ok []
+asked (Some c) rows = all_answers (map (tested c) rows)
+
+abbrev meant_by : Option Term → TableRow → Bool
+meant_by None = λ row. true
+meant_by (Some c) = is_chosen c
+
+abbrev given_rows : List Row → Answer (List Row)
+given_rows rows = Ok rows
+
+set_as : (columns : List Column) (sets : List (ℕ × Term)) (c : Option Term) (rows : List TableRow) → rows_set columns sets c rows ≡ (asked c rows then λ ts. rows_meant_set columns sets (meant_by c) rows)
+set_as columns sets None rows = refl
+set_as columns sets (Some c) rows = refl
+
+abbrev is_true : Answer (Option Bool) → Bool
+is_true test = elim test [ Ok (Some true) ↦ true | _ ↦ false ]
+
+meant_as : (c : Option Term) (before : List Row) (rows : List TableRow) → rows_meant c before (map as_source rows) ≡ (asked c rows then λ ts. Ok (before ++ map as_source (filter (meant_by c) rows)))
+meant_as None before [] = ap given_rows (sym (append-nil before))
+meant_as (Some c) before [] = ap given_rows (sym (append-nil before))
+meant_as None before (r ∷ rows) = meant_as None (before ++ as_source r ∷ []) rows ∙ ap given_rows (append_assoc before (as_source r ∷ []) (map as_source (filter (λ row. true) rows)))
+meant_as (Some c) before (r ∷ rows) = by (λ more. meant_as (Some c) more rows) (tested c r) refl
+  where
+    taken : (a : Answer (List (Option Bool))) (x : Option Bool) (them : List Row)
+        → (a then λ ts. given_rows ((before ++ as_source r ∷ []) ++ them)) ≡ ((a then λ xs. Ok (x ∷ xs)) then λ ts. given_rows (before ++ (as_source r ∷ them)))
+    taken (Ok xs) x them = ap given_rows (append_assoc before (as_source r ∷ []) them)
+    taken (Err e) x them = refl
+
+    passed : (a : Answer (List (Option Bool))) (x : Option Bool) (them : List Row) → (a then λ ts. given_rows (before ++ them)) ≡ ((a then λ xs. Ok (x ∷ xs)) then λ ts. given_rows (before ++ them))
+    passed (Ok xs) x them = refl
+    passed (Err e) x them = refl
+
+    by : ((more : List Row) → rows_meant (Some c) more (map as_source rows) ≡ (asked (Some c) rows then λ ts. Ok (more ++ map as_source (filter (is_chosen c) rows)))) → (t : Answer (Option Bool)) → tested c r ≡ t
+        → rows_meant (Some c) before (map as_source (r ∷ rows)) ≡ (asked (Some c) (r ∷ rows) then λ ts. Ok (before ++ map as_source (filter (is_chosen c) (r ∷ rows))))
+    by again (Err e) it = rw (it) refl
+    by again (Ok (Some true)) it = rw (it, ap is_true it) (again (before ++ as_source r ∷ []) ∙ taken (asked (Some c) rows) (Some true) (map as_source (filter (is_chosen c) rows)))
+    by again (Ok (Some false)) it = rw (it, ap is_true it) (again before ∙ passed (asked (Some c) rows) (Some false) (map as_source (filter (is_chosen c) rows)))
+    by again (Ok None) it = rw (it, ap is_true it) (again before ∙ passed (asked (Some c) rows) None (map as_source (filter (is_chosen c) rows)))
+
+module _ (columns : List Column) (sets : List (ℕ × Term)) (c : Option Term) where
+  abbrev changes : List Row → Answer (List TableRow)
+  changes them = all_answers (map (source_set columns sets) them)
+
+  changed_as : (rows : List TableRow) → rows_changed columns sets c (map as_source rows) ≡ (asked c rows then λ ts. made columns sets (meant_by c) rows)
+  changed_as rows =
+      ap (λ (a : Answer (List Row)). a then changes) (meant_as c [] rows)
+      ∙ by (asked c rows)
+    where
+      by : (a : Answer (List (Option Bool))) → ((a then λ ts. given_rows (map as_source (filter (meant_by c) rows))) then changes) ≡ (a then λ ts. made columns sets (meant_by c) rows)
+      by (Ok ts) = ap all_answers (sym (map_twice (source_set columns sets) as_source (filter (meant_by c) rows)))
+      by (Err r) = refl
+
+  abbrev told_rows : List TableRow → Answer (List TableRow)
+  told_rows rows = Ok rows
+
+  changed_known : (rows new : List TableRow) → rows_changed columns sets c (map as_source rows) ≡ Ok new
+      → (made columns sets (meant_by c) rows ≡ Ok new) × (rows_set columns sets c rows ≡ rows_meant_set columns sets (meant_by c) rows)
+  changed_known rows new e = (let both = by (asked c rows) (sym (changed_as rows) ∙ e) in (both.0, set_as columns sets c rows ∙ both.1))
+    where
+      by : (a : Answer (List (Option Bool))) → (a then λ ts. made columns sets (meant_by c) rows) ≡ Ok new
+          → (made columns sets (meant_by c) rows ≡ Ok new) × ((a then λ ts. rows_meant_set columns sets (meant_by c) rows) ≡ rows_meant_set columns sets (meant_by c) rows)
+      by (Ok ts) h = (h, refl)
+      by (Err r) h = absurd cc
+
+  changed_refused : (rows : List TableRow) (why : Refusal) → rows_changed columns sets c (map as_source rows) ≡ Err why → rows_set columns sets c rows ≡ Err why
+  changed_refused rows why e = set_as columns sets c rows ∙ by (asked c rows) (sym (changed_as rows) ∙ e)
+    where
+      by : (a : Answer (List (Option Bool))) → (a then λ ts. made columns sets (meant_by c) rows) ≡ Err why → (a then λ ts. rows_meant_set columns sets (meant_by c) rows) ≡ Err why
+      by (Ok ts) h = set_refused columns sets (meant_by c) rows why h
+      by (Err r) h = h
+
+  -- ---- what the calls answer
+
+  module _ (old new : PageMap) (size root : ℕ) where
+    refused : (fault : Fault) (result : Result ⊤ Fault) → IsErrAnd result (λ e. e ≡ fault)
+        → ((rows : List TableRow) (entries : List Entry) (used free : List ℕ) → Stands old size root entries used free → Pairwise (IsRow (length columns)) entries rows → IsSetRefusal columns sets c rows fault)
+        → SetsRows old new size root columns sets c result
+    refused fault (Ok x) same why = absurd same
+    refused fault (Err e) same why = λ rows entries used free is each. subst (λ (g : Fault). IsSetRefusal columns sets c rows g) (sym same) (why rows entries used free is each)
+
+    module _ (width : ℕ) (wide : width ≡ length columns) where
+      abbrev source : BoundSource
+      source = record { root = root; width = width }
+
+      has_rows : (rows : List TableRow) (entries : List Entry) (used free : List ℕ) → Stands old size root entries used free → Pairwise (IsRow (length columns)) entries rows → HasRows old size root width rows
+      has_rows rows entries used free is each = subst (λ w. HasRows old size root w rows) (sym wide) (record { entries = entries; used = used; tree = is.tree; each = each })
+
+      pub none_loaded : (fault : Fault) (result : Result ⊤ Fault) → IsErrAnd result (λ e. e ≡ fault) → LoadsRows old size source (Err fault) → SetsRows old new size root columns sets c result
+      none_loaded fault result same loads = refused fault result same (λ rows entries used free is each. inl (inl (loads rows is.free_are.whole (has_rows rows entries used free is each))))
+
+      module _ (found : List Row) (loads : LoadsRows old size source (Ok found)) where
+        found_are : (rows : List TableRow) (entries : List Entry) (used free : List ℕ) → Stands old size root entries used free → Pairwise (IsRow (length columns)) entries rows → found ≡ map as_source rows
+        found_are rows entries used free is each = loads rows is.free_are.whole (has_rows rows entries used free is each)
+
+        pub none_changed : (fault : Fault) (result : Result ⊤ Fault) → IsErrAnd result (λ e. e ≡ fault) → IsRefusedBy (rows_changed columns sets c found) fault → SetsRows old new size root columns sets c result
+        none_changed fault result same why = refused fault result same (λ rows entries used free is each. by rows (found_are rows entries used free is each) why)
+          where
+            by : (rows : List TableRow) → found ≡ map as_source rows → IsRefusedBy (rows_changed columns sets c found) fault → IsSetRefusal columns sets c rows fault
+            by rows are (inl memory) = inl (inl (inl memory))
+            by rows are (inr e) = inr (inl (changed_refused rows (refusal_of fault) (ap (rows_changed columns sets c) (sym are) ∙ e)))
+
+        module _ (changed : List TableRow) (answer : rows_changed columns sets c found ≡ Ok changed) where
+          known : (rows : List TableRow) → found ≡ map as_source rows → (made columns sets (meant_by c) rows ≡ Ok changed) × (rows_set columns sets c rows ≡ rows_meant_set columns sets (meant_by c) rows)
+          known rows are = changed_known rows changed (ap (rows_changed columns sets c) (sym are) ∙ answer)
+
+          pub none_stored : (fault : Fault) (result : Result ⊤ Fault) → IsErrAnd result (λ e. e ≡ fault) → (fault ≡ f.Memory) ⊎ ((fault ≡ f.TooLong) × (AllStorable changed → ⊥)) → SetsRows old new size root columns sets c result
+          none_stored fault result same why = refused fault result same (λ rows entries used free is each. by rows (found_are rows entries used free is each) why)
+            where
+              by : (rows : List TableRow) → found ≡ map as_source rows → (fault ≡ f.Memory) ⊎ ((fault ≡ f.TooLong) × (AllStorable changed → ⊥)) → IsSetRefusal columns sets c rows fault
+              by rows are (inl memory) = inl (inl (inl memory))
+              by rows are (inr (long, cannot)) =
+                  let is = known rows are in
+                  let set = are_changed columns sets (meant_by c) rows changed is.0 in
+                  inr (inr (record { is = long; now = set.now; answer = is.1 ∙ set.answer; long = λ all. cannot (set.storable all) }))
+
+          pub rows_replaced : (more : List Entry) (result : Result ⊤ Fault) → Pairwise IsWritten changed more → ReplacesRows old new size root (with_all_replaced more) result → SetsRows old new size root columns sets c result
+          rows_replaced more result written replaces rows entries used free is each = by result (replaces entries used free is)
+            where
+              rises : Rises rows
+              rises = rows_rise (length columns) entries rows (tree_rises old size root entries used is.tree) each
+
+              by : (r : Result ⊤ Fault) → MatchResult r (λ done. BecomesRows old new size root (with_all_replaced more entries) used free) IsOutsideOrFull
+                  → MatchResult r (λ done. AreSetIn old new size root columns sets c rows used free) (IsSetRefusal columns sets c rows)
+              by (Ok done) becomes =
+                  let are = known rows (found_are rows entries used free is each) in
+                  let set = are_set columns sets (meant_by c) rows changed entries more each rises are.0 written in
+                  record {
+                    now = set.now;
+                    answer = are.1 ∙ set.answer;
+                    entries = with_all_replaced more entries;
+                    becomes = becomes;
+                    each = set.each;
+                    fit = fit_now columns sets (meant_by c) rows changed entries more set;
+                  }
+              by (Err fault) cannot = inl cannot

@@ -1,0 +1,46 @@
+use Rattle.std.proofs.Common.{map, subst}
+use Rattle.treepage.specs.Cells.{Pairwise}
+use Rattle.dml.specs.NewRows.{IsWritten, entry_in, row_of}
+use Rattle.dml.specs.Updating.{ReplacesRows, with_all_replaced}
+use Rattle.dml.proofs.Replaced.{replaces_after}
+use Rattle.dml.proofs.SetTrees.{none_changed, none_loaded, none_stored, rows_replaced}
+use Rattle.dml.proofs.updating.set_rows.Goals as goal
+
+pub returns-in_err-rows-clause-set : goal.returns-in_err-rows-clause-set
+returns-in_err-rows-clause-set g c = λ told.
+    (let pages = g.P.Pages in
+    let table = c.args.table.now in
+    none_loaded table.columns c.args.sets.now c.args.condition.now (pages.map c.args.pages.now) (pages.map c.source_rows.new.pages) (pages.limits (pages.below c.args.pages.now)).page table.root
+    c.len.result c.len.ensures c.in_err-rows.field-0.0 c.from_residual.result c.from_residual.ensures.1 (c.in_err-rows.ensures.loaded told))
+
+pub returns-in_err-new-clause-set : goal.returns-in_err-new-clause-set
+returns-in_err-new-clause-set g c = λ told.
+    (let pages = g.P.Pages in
+    let table = c.args.table.now in
+    none_changed table.columns c.args.sets.now c.args.condition.now (pages.map c.args.pages.now) (pages.map c.source_rows.new.pages) (pages.limits (pages.below c.args.pages.now)).page table.root
+    c.len.result c.len.ensures c.in_ok-rows.rows (c.in_ok-rows.ensures.loaded told) c.in_err-new.field-0.0 c.from_residual-in_err-new.result c.from_residual-in_err-new.ensures.1
+    (rw (c.as_slice.ensures) at c.in_err-new.ensures.changed))
+
+pub returns-in_err-records-clause-set : goal.returns-in_err-records-clause-set
+returns-in_err-records-clause-set g c = λ told.
+    (let pages = g.P.Pages in
+    let table = c.args.table.now in
+    none_stored table.columns c.args.sets.now c.args.condition.now (pages.map c.args.pages.now) (pages.map c.source_rows.new.pages) (pages.limits (pages.below c.args.pages.now)).page table.root
+    c.len.result c.len.ensures c.in_ok-rows.rows (c.in_ok-rows.ensures.loaded told) (map row_of c.in_ok-new.new.items) (rw (c.as_slice.ensures) at c.in_ok-new.ensures.changed)
+    c.in_err-records.field-0.0 c.from_residual-in_err-records.result c.from_residual-in_err-records.ensures.1 (rw (c.deref.ensures.value) at c.in_err-records.ensures.refused))
+
+pub returns-clause-set : goal.returns-clause-set
+returns-clause-set g c = λ told.
+    (let pages = g.P.Pages in
+    let table = c.args.table.now in
+    let old = pages.map c.args.pages.now in
+    let new = pages.map c.replace_records.new.pages in
+    let size = (pages.limits (pages.below c.args.pages.now)).page in
+    let more = map entry_in c.in_ok-records.records.items in
+    let stays = c.in_ok-rows.ensures.stays in
+    let written : Pairwise IsWritten (map row_of c.in_ok-new.new.items) more = rw (c.deref.ensures.value) at c.in_ok-records.ensures.written in
+    let replaces = replaces_after pages.below pages.tells pages.limits pages.map c.args.pages.now c.source_rows.new.pages new table.root _ c.replace_records.result stays.kept stays.same c.replace_records.ensures.replaced told in
+    rows_replaced table.columns c.args.sets.now c.args.condition.now old new size table.root
+    c.len.result c.len.ensures c.in_ok-rows.rows (c.in_ok-rows.ensures.loaded told) (map row_of c.in_ok-new.new.items) (rw (c.as_slice.ensures) at c.in_ok-new.ensures.changed)
+    more c.replace_records.result written
+    (subst (λ records. ReplacesRows old new size table.root (with_all_replaced (map entry_in records)) c.replace_records.result) c.deref-2.ensures.value replaces))

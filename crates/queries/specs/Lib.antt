@@ -1,0 +1,6 @@
+pub mod Answers
+pub mod Checks
+pub mod Groups
+pub mod Nesting
+pub mod Numbers
+pub mod Sorting

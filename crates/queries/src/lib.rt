@@ -1,0 +1,19 @@
+//! Answers of bound queries over the rows of their sources.
+#![tactic(auto)]
+
+mod answering;
+mod arguments;
+mod distinct;
+mod grouping;
+mod nesting;
+mod results;
+mod sorting;
+
+ghost use Rattle.queries.specs.Answers.{LoadsBeside};
+
+pub use answering::answer;
+
+/// Lists of rows that are loaded by the sources' names stand beside the sources' conditions.
+pub fn rows_are_loaded_beside_conditions()
+    ensures { LoadsBeside }
+{}

@@ -1,0 +1,10 @@
+pub mod Chains
+pub mod Grown
+pub mod Joining
+pub mod Keyless
+pub mod Placed
+pub mod Quiet
+pub mod Readings
+pub mod TermLists
+pub mod Whole
+pub mod SetColumns

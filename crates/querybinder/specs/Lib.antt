@@ -1,0 +1,3 @@
+pub mod Assigned
+pub mod Marked
+pub mod Named

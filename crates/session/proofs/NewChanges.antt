@@ -1,0 +1,207 @@
+-- The commit of those of a writer's pages that its snapshot doesn't show, after these were read.
+use Rattle.std.proofs.Common.{◌≡◌, ◌⊎◌, ◌≤◌, inl, inr, refl, sym, ap, subst, ◌∙◌, ℕ, List, [], length, false, arith}
+use Rattle.std.specs.Prelude.{⊤, IfErr, IsErrAnd, OnOk, Result, Ok, Err}
+use Rattle.sqlval.specs.Faults.{IsOutside}
+use Rattle.sqlval.specs.declared.fault.Fault.{Fault}
+use Rattle.sqlval.specs.declared.fault.Fault.TheVariants as fault
+use Rattle.disk.specs.File.{IsContentLeft, versions}
+use Rattle.disk.specs.declared.device.Disk.{Ghosts}
+use Rattle.disk.proofs.Current.{synced_left}
+use Rattle.pages.specs.Map.{PageMap, Has}
+use Rattle.wal.specs.LogState.{LogState, db_of, log_of, seen_by, state_of}
+use Rattle.wal.specs.Refusals.{IsWithin}
+use Rattle.wal.specs.Sizes.{IsSizeWithinLimits}
+use Rattle.wal.specs.declared.log.Log.{Log}
+use Rattle.wal.specs.declared.log.Snapshot.{Snapshot}
+use Rattle.catalog.specs.Database.{Database}
+use Rattle.catalog.specs.Listed.{committed_tables, current_tables}
+use Rattle.catalog.specs.declared.tables.Table.{Table}
+use Rattle.dbheader.specs.declared.fields.Header.{Header}
+use Rattle.pager.specs.Commits.{CommitsPages, IsRefusedCommit, LeavesCommit, MayCommit}
+use Rattle.pager.specs.Limits.{page_size_of, pages_of}
+use Rattle.pager.specs.Maps.{pages_in}
+use Rattle.pager.specs.Pruning.{AreAllThere, AreNew, IsPruned}
+use Rattle.pager.specs.Views.{View, ViewHas, after, changes_of, newest_view, view_at, view_of}
+use Rattle.pager.specs.Writers.{seen, snapshot_of}
+use Rattle.pager.specs.declared.writer.Writer.{Writer}
+use Rattle.pager.proofs.Mapping.{count_to, maps_alike, shows_mapped}
+use Rattle.pager.proofs.NewPages.{new_twice}
+use Rattle.storage.specs.Stored.{Stores}
+use Rattle.session.specs.ConnectionState.{files_of, has_failed_in, is_io}
+use Rattle.session.specs.Applying.{CanApply, CommitsChanges, CommitsDatabase, HoldsEither, IsAfterRefusal, IsCommitCause, IsInDoubt, IsPast, IsUncommitted, KeepsCommitted, WritesChanges}
+use Rattle.session.specs.Holding.{HoldThroughout, IsSettled}
+use Rattle.session.specs.Representation.{IsNewest, IsWriter, ShowTheSame}
+use Rattle.session.specs.Stored.{ShowsDatabase}
+use Rattle.session.specs.declared.transactions.Connections.{Connections}
+use Rattle.session.proofs.Committing.{commit_holds, commit_refused, has_committed, may_commit}
+use Rattle.session.proofs.FirstPages.{first_of, some_bytes}
+use Rattle.session.proofs.SeenPages.{at_newest}
+use Rattle.session.proofs.Settled.{held_from, settled_leaves, still_settled}
+use Rattle.session.proofs.Showing.{still_writer}
+use Rattle.session.proofs.Writing.{show_on}
+
+-- each page of a view that shows a database is there
+pub all_there : (view : View) (tables : List Table) (db : Database) → ShowsDatabase view tables db → AreAllThere view
+all_there view tables db held number above below =
+    let has : Has (pages_in view) number = record { first = above; last = omega (arith, below, count_to view view.size) } in
+    let is = shows_mapped view number (some_bytes view tables db held.stored) (record { has = has; whole = held.stored.shared.whole number has }) in
+    (_, is.has)
+
+module _ {D : Type 0} {g : Ghosts D} where
+  -- a writer's snapshot shows a database, where the newest view does
+  pub newest_there : (files : Log D g) (w : Writer) (tables : List Table) (was : Database) → IsWriter files w → ShowsDatabase (newest_view files) tables was → AreAllThere (view_at files (snapshot_of w))
+  newest_there files w tables was writer stored = all_there (view_at files (snapshot_of w)) tables was (subst (λ (v : View). ShowsDatabase v tables was) (sym (at_newest files (snapshot_of w) writer.newest)) stored)
+
+  -- ---- files that were read before
+
+  -- the connections with these files
+  abbrev pub with_files : Connections D g → Log D g → Connections D g
+  with_files c files = record c { log = files }
+
+  module _ (old : Connections D g) (mid : Log D g) (w : Writer) (db was : Database) (whole : has_failed_in old ≡ false) (applies : CanApply old w db) (stored : ShowsDatabase (newest_view (files_of old)) (committed_tables old.catalog) was)
+      (same : ShowTheSame (files_of old) mid) where
+    -- the writer's pages hold the database still
+    pub still_applies : (next : Connections D g) → ShowTheSame (files_of old) (files_of next) → current_tables next.catalog ≡ current_tables old.catalog → CanApply next w db
+    still_applies next shows tables = record {
+      told = shows.told;
+      settled = still_settled (files_of old) (files_of next) shows applies.settled;
+      writer = still_writer (files_of old) (files_of next) w shows applies.writer;
+      stored = subst (λ (ts : List Table). ShowsDatabase (view_of (files_of next) w) ts db) (sym tables)
+          (subst (λ (v : View). ShowsDatabase (after v (changes_of w) (pages_of w)) (current_tables old.catalog) db) (sym (shows.at (snapshot_of w))) applies.stored);
+    }
+
+    pub mid_applies : CanApply (with_files old mid) w db
+    mid_applies = still_applies (with_files old mid) same refl
+
+    -- a refusal after which the files are as they were
+    pub left_so : (next : Connections D g) (f : Fault) → IsCommitCause (files_of old) w f → ShowTheSame (files_of old) (files_of next) → has_failed_in next ≡ has_failed_in old → next.transaction ≡ old.transaction
+        → committed_tables next.catalog ≡ committed_tables old.catalog → current_tables next.catalog ≡ current_tables old.catalog → IsUncommitted old w db next w f
+    left_so next f why shows failed transaction committed current = record {
+      why = why;
+      kept = record { files = shows; failed = failed; transaction = transaction; tables = committed };
+      tables = current;
+      applies = still_applies next shows current;
+    }
+
+    -- where reading them was refused
+    pub not_read : (next : Connections D g) (f : Fault) → IsOutside f → IsAfterRefusal old mid f next → CommitsChanges old w db (Err f) next w
+    not_read next f (inl memory) is = inr (left_so next f (inl memory) (subst (ShowTheSame (files_of old)) (sym is.files_are) same) (is.failed ∙ ap is_io memory ∙ sym whole) is.transaction (ap committed_tables is.catalog) (ap current_tables is.catalog))
+    not_read next f (inr io) is =
+        let shows : ShowTheSame (files_of old) (files_of next) = subst (ShowTheSame (files_of old)) (sym is.files_are) same in
+        let settled = still_settled (files_of old) (files_of next) shows applies.settled in
+        inl (record {
+          io = io;
+          failed = is.failed ∙ ap is_io io;
+          held = λ first shown. ([], (settled_leaves (λ d. (d ≡ first) ⊎ (d ≡ db)) (files_of old) (committed_tables old.catalog) first (inl refl) applies.settled shown, shows.db_file, shows.log_file));
+          db_left = synced_left (g.file (db_of (files_of next))) settled.db_synced;
+          log_left = synced_left (g.file (log_of (files_of next))) settled.log_synced;
+        })
+
+    held_over : (next : Connections D g) → HoldsEither (with_files old mid) db next → HoldsEither old db next
+    held_over next held first shown = held_from (λ d. (d ≡ first) ⊎ (d ≡ db)) (files_of old) mid (files_of next) same
+        (held first (subst (λ (v : View). ShowsDatabase v (committed_tables old.catalog) first) (sym same.newest) shown))
+
+    committed_over : (next : Connections D g) → CommitsDatabase (with_files old mid) db next → CommitsDatabase old db next
+    committed_over next is = record { told = is.told; settled = is.settled; failed = is.failed; transaction = is.transaction; tables = is.tables; all = is.all; stored = is.stored }
+
+    doubt_over : (next : Connections D g) (f : Fault) → IsInDoubt (with_files old mid) db next f → IsInDoubt old db next f
+    doubt_over next f is = record { io = is.io; failed = is.failed; held = held_over next is.held; db_left = is.db_left; log_left = is.log_left }
+
+    -- what is past the limits then was so before
+    past_over : (v : Writer) → snapshot_of v ≡ snapshot_of w → pages_of v ≡ pages_of w
+        → ((pages : List _) → AreNew (view_at (files_of old) (snapshot_of w)) (changes_of v) pages → AreNew (view_at (files_of old) (snapshot_of w)) (changes_of w) pages)
+        → IsPast mid v → IsPast (files_of old) w
+    past_over v snapshot size on past = record {
+      pages = past.pages;
+      are = on past.pages (subst (λ (x : View). AreNew x (changes_of v) past.pages) (same.at (snapshot_of w)) (subst (λ (s : Snapshot). AreNew (view_at mid s) (changes_of v) past.pages) snapshot past.are));
+      past = λ within. past.past (subst (λ (k : LogState). IsWithin k (length past.pages) (pages_of v)) (sym same.known) (subst (λ (n : ℕ). IsWithin (state_of (files_of old)) (length past.pages) n) (sym size) within));
+    }
+
+    cause_over : (v : Writer) (f : Fault) → (IsPast mid v → IsPast (files_of old) w) → IsCommitCause mid v f → IsCommitCause (files_of old) w f
+    cause_over v f on (inl memory) = inl memory
+    cause_over v f on (inr full) = inr (full.0, on full.1)
+
+    -- the commit of the writer itself
+    pub written_over : (result : Result ⊤ Fault) (next : Connections D g) (left : Writer) → CommitsChanges (with_files old mid) w db result next left → CommitsChanges old w db result next left
+    written_over (Ok done) next left is = (committed_over next is.0, held_over next is.1)
+    written_over (Err f) next left (inl doubt) = inl (doubt_over next f doubt)
+    written_over (Err f) next left (inr none) = inr (record {
+      why = cause_over w f (past_over w refl refl (λ pages are. are)) none.why;
+      kept = record { files = show_on (files_of old) mid (files_of next) same none.kept.files; failed = none.kept.failed; transaction = none.kept.transaction; tables = none.kept.tables };
+      tables = none.tables;
+      applies = none.applies;
+    })
+
+    -- ---- a writer that has the new ones alone
+
+    module _ (pruned : Writer) (is : IsPruned (view_at (files_of old) (snapshot_of w)) w pruned) where
+      pruned_sees : (number : ℕ) (bytes : List ℕ) → ViewHas (view_of mid pruned) number bytes → ViewHas (view_of mid w) number bytes
+      pruned_sees number bytes has =
+          subst (λ (v : View). ViewHas (seen v w) number bytes) (sym (same.at (snapshot_of w)))
+          ((is.sees number bytes).0 (subst (λ (v : View). ViewHas (seen v pruned) number bytes) (same.at (snapshot_of w)) (subst (λ (s : Snapshot). ViewHas (seen (view_at mid s) pruned) number bytes) is.snapshot has)))
+
+      sees_pruned : (number : ℕ) (bytes : List ℕ) → ViewHas (view_of mid w) number bytes → ViewHas (view_of mid pruned) number bytes
+      sees_pruned number bytes has =
+          subst (λ (s : Snapshot). ViewHas (seen (view_at mid s) pruned) number bytes) (sym is.snapshot)
+          (subst (λ (v : View). ViewHas (seen v pruned) number bytes) (sym (same.at (snapshot_of w)))
+          ((is.sees number bytes).1 (subst (λ (v : View). ViewHas (seen v w) number bytes) (same.at (snapshot_of w)) has)))
+
+      same_map : pages_in (view_of mid pruned) ≡ pages_in (view_of mid w)
+      same_map = maps_alike (view_of mid pruned) (view_of mid w) is.size (λ number bytes. (pruned_sees number bytes, sees_pruned number bytes))
+
+      pub pruned_applies : CanApply (with_files old mid) pruned db
+      pruned_applies =
+          let all = mid_applies in
+          record {
+            told = all.told;
+            settled = all.settled;
+            writer = record {
+              newest = subst (IsNewest mid) (sym is.snapshot) all.writer.newest;
+              sound = is.sound;
+              page_size = is.page_size ∙ all.writer.page_size;
+            };
+            stored = record {
+              stored = subst (λ (map : PageMap). Stores map (view_of mid w).page_size (current_tables old.catalog) db) (sym same_map) all.stored.stored;
+              served = subst (IsSizeWithinLimits (view_of mid w).page_size) (sym is.size) all.stored.served;
+            };
+          }
+
+      -- its commit is the writer's; after a refusal that one is as it was
+      pub pruned_over : (result : Result ⊤ Fault) (next : Connections D g) (left : Writer) → CommitsChanges (with_files old mid) pruned db result next left → CommitsChanges old w db result next w
+      pruned_over (Ok done) next left has = (committed_over next has.0, held_over next has.1)
+      pruned_over (Err f) next left (inl doubt) = inl (doubt_over next f doubt)
+      pruned_over (Err f) next left (inr none) = inr (left_so next f
+          (cause_over pruned f (past_over pruned is.snapshot is.size (λ pages are. new_twice (view_at (files_of old) (snapshot_of w)) (changes_of w) (changes_of pruned) pages is.changes are)) none.why)
+          (show_on (files_of old) mid (files_of next) same none.kept.files) none.kept.failed none.kept.transaction none.kept.tables none.tables)
+
+    -- ---- what the call has come to
+
+    -- the pages weren't read
+    pub unread : (result : Result ⊤ Fault) (f : Fault) → IsErrAnd result (λ e. e ≡ f) → IsOutside f → WritesChanges old w db result mid w
+    unread (Ok done) f is out = absurd is
+    unread (Err e) f is out = λ next after. not_read next e (subst IsOutside (sym is) out) after
+
+    -- a writer over the files that were read was committed
+    module _ (v : Writer) (applies_now : CanApply (with_files old mid) v db) (own : AreNew (view_at mid (snapshot_of v)) (changes_of v) (changes_of v)) where
+      abbrev pub page : List ℕ
+      page = first_of (view_of mid v)
+
+      abbrev pub header : Header
+      header = applies_now.stored.stored.header
+
+      pub may : MayCommit mid v page header
+      may = may_commit (with_files old mid) v db applies_now
+
+      pub ends : (result : Result ⊤ Fault) (new : Log D g) (left last : Writer) → OnOk result (CommitsPages mid v page header new) → IfErr result (IsRefusedCommit mid v page header new left) → db_of new ≡ db_of mid
+          → (log_of new ≡ log_of mid) ⊎ LeavesCommit mid v page header new
+          → ((r : Result ⊤ Fault) (next : Connections D g) → CommitsChanges (with_files old mid) v db r next left → CommitsChanges old w db r next last) → WritesChanges old w db result new last
+      ends (Ok done) new left last commits refused db_same crash over = λ next after.
+          let made : CommitsPages mid v page header (files_of next) = subst (CommitsPages mid v page header) (sym after.files_are) commits in
+          let same_db : db_of (files_of next) ≡ db_of mid = ap db_of after.files_are ∙ db_same in
+          over (Ok done) next (
+            has_committed (with_files old mid) next v db applies_now made same_db after.failed after.transaction after.current after.committed,
+            commit_holds (with_files old mid) next v db applies_now same_db (subst (λ (l : Log D g). (log_of l ≡ log_of mid) ⊎ LeavesCommit mid v page header l) (sym after.files_are) crash),
+          )
+      ends (Err f) new left last commits refused db_same crash over = λ next after.
+          over (Err f) next (commit_refused (with_files old mid) next v left db f applies_now (subst (λ (l : Log D g). IsRefusedCommit mid v page header l left f) (sym after.files_are) refused) own (ap db_of after.files_are ∙ db_same)
+          (subst (λ (l : Log D g). (log_of l ≡ log_of mid) ⊎ LeavesCommit mid v page header l) (sym after.files_are) crash) whole after.failed after.catalog after.transaction)

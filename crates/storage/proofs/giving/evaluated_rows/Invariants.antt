@@ -1,0 +1,9 @@
+-- what is left of the rows decides
+use Rattle.std.proofs.Common.{◌≡◌, [], drop, map}
+use Rattle.sqlval.specs.Refusals.{all_answers}
+use Rattle.bind.specs.Readings.{env_of, values}
+use Rattle.queries.proofs.InOrder.{left}
+use Rattle.storage.proofs.giving.evaluated_rows.Given as goal
+
+abbrev pub invariant-rows : goal.invariant-rows
+invariant-rows l = left (values (env_of [])) (drop l.terms-index l.rows) (map (λ row. row.items) l.found.items) ≡ all_answers (map (values (env_of [])) l.rows)
