@@ -21,9 +21,6 @@ before (e ∷ es) ts = More e (before es ts)
 abbrev pub onto : List Term → Checked Terms → Checked Terms
 onto found rest = known_map (before found) rest
 
-pub begins : (k : Checked Terms) → onto [] k ≡ k
-begins (Meant ts rs) = refl
-
 pub before_all : (found : List Term) → before found End ≡ terms found
 before_all [] = refl
 before_all (e ∷ es) = ap (More e) (before_all es)

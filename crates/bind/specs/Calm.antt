@@ -1,13 +1,10 @@
 -- Conditions that can't be refused, so that a plan may leave rows unread.
-use Rattle.std.specs.Prelude.{ℕ, Bool, true, false, ◌&&◌, ◌==◌, List, [], ◌∷◌, ◌++◌, pos, Option, Some, None, is_ok}
-use Rattle.std.specs.List.{list_all, list_any}
+use Rattle.std.specs.Prelude.{ℕ, Bool, true, false, ◌&&◌, ◌==◌, List, [], ◌∷◌, ◌++◌, pos, Option, None, is_ok}
+use Rattle.std.specs.List.{list_any}
 use Rattle.sqlval.specs.Conversion.{is_word, converted}
 use Rattle.sqlval.specs.declared.affinity.Affinity.{Affinity}
 use Rattle.sqlval.specs.declared.affinity.Affinity.TheVariants as kind
 use Rattle.sqlval.specs.declared.value.Value.TheVariants.{Int}
-use Rattle.bind.specs.declared.reading.Reading.{Reading}
-use Rattle.bind.specs.declared.reading.Condition.{Condition}
-use Rattle.bind.specs.declared.reading.Condition.TheVariants.{Always, Where, OrNulls}
 use Rattle.terms.specs.Terms.{Term, Terms, Const, Digits, Cell, One, Two, In, Between, End, More, affinity}
 use Rattle.terms.specs.declared.tree.Comparison.TheVariants.{Equal}
 use Rattle.terms.specs.declared.tree.OneSided.TheVariants.{Not}
@@ -57,19 +54,6 @@ is_calm (One Not e) = is_calm e
 is_calm (In n a bs) = is_calm_among a bs
 is_calm (Between n a b c) = are_calm_sides a b && are_calm_sides a c
 is_calm _ = false
-
-abbrev is_calm_condition : Condition → Bool
-is_calm_condition Always = true
-is_calm_condition (Where t) = is_calm t
-is_calm_condition (OrNulls t) = is_calm t
-
-abbrev is_calm_filter : Option Term → Bool
-is_calm_filter None = true
-is_calm_filter (Some t) = is_calm t
-
--- only here may rows of a table stay unread
-abbrev pub is_calm_reading : Reading → Bool
-is_calm_reading q = is_calm_filter q.filter && list_all (λ s. is_calm_condition s.1) q.sources
 
 -- the parts that AND joins at the top
 abbrev pub parts : Term → List Term

@@ -13,6 +13,5 @@ pub mod Queries
 pub mod Readings
 pub mod Schema
 pub mod Scopes
-pub mod Supported
 pub mod Tables
 pub mod Views

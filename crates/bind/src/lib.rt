@@ -7,7 +7,6 @@ mod expressions;
 mod forms;
 mod functions;
 mod inserting;
-mod literals;
 mod names;
 mod queries;
 mod reading;
@@ -16,12 +15,11 @@ mod scope;
 ghost use Rattle.bind.specs.Comprehension.{IsComprehension};
 ghost use Rattle.bind.specs.Creating.{KeepsNamesOnce, MakesListedTable, RefusesTableAsDefined};
 ghost use Rattle.bind.specs.Laws.{CalmIsNotRefused, KnowsListed};
-ghost use Rattle.bind.specs.Supported.{RefusesAsDefined};
 
 pub use expressions::bind_term;
-pub use inserting::{BoundInsert, Target, bind_insert, bind_target};
+pub use inserting::{BoundInsert, Target, bind_target};
 pub use names::{find_table, missing};
-pub use queries::{BoundQuery, BoundSource, Output, bind_query};
+pub use queries::BoundSource;
 pub use reading::{Condition, Reading};
 pub use scope::{ScopeColumn, ScopeSource};
 
@@ -39,11 +37,6 @@ pub fn plain_query_is_a_comprehension()
 /// The tables that a catalog lists of a database are those that its names are looked up among.
 pub fn listed_tables_are_known()
     ensures { KnowsListed }
-{}
-
-/// A query of a supported form is refused only for what its text is refused for, or if out of memory.
-pub fn supported_queries_are_refused_as_defined()
-    ensures { RefusesAsDefined }
 {}
 
 /// A CREATE TABLE of a definition without rules, beside listed tables, makes the table of the definition's columns, or is

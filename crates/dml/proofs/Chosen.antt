@@ -1,16 +1,16 @@
 -- The rows that a condition chooses, one after another.
 use Rattle.std.proofs.Common.{◌≡◌, refl, sym, ap, subst, ◌∙◌, inl, inr, ◌<◌, ◌≤◌, ◌+◌, ℕ, zero, suc, ℤ, Bool, true, false, not, filter, List, [], ◌∷◌, ◌++◌, append_assoc, length, map, drop, Option, Some, None, Result, Ok, Err, arith}
-use Rattle.std.specs.Prelude.{IfErr, IsErrAnd, if◌then◌else◌, unwrap_or}
+use Rattle.std.specs.Prelude.{IfErr, IsErrAnd}
 use Rattle.std.proofs.lemmas.List.{append-nil}
 use Rattle.sqlval.specs.Faults.{IsNotDiskFault}
 use Rattle.sqlval.specs.Refusals.{Answer, Refusal, ◌then◌, all_answers}
 use Rattle.sqlval.specs.declared.fault.Fault.{Fault}
-use Rattle.bind.specs.Readings.{env_of, holds}
+use Rattle.bind.specs.Readings.{env_of}
 use Rattle.terms.specs.Outcome.{AnswersBy, IsRefusedBy}
 use Rattle.terms.specs.Rows.{row_at}
 use Rattle.terms.specs.Terms.{Term}
 use Rattle.terms.specs.Values.{Environment, Row, truth, value}
-use Rattle.queries.proofs.Quiet.{condition_refused}
+use Rattle.bind.proofs.QuietValues.{condition_refused}
 use Rattle.rowprog.specs.Rows.{TableRow}
 use Rattle.rowprog.specs.Sources.{as_source}
 use Rattle.dml.specs.Choosing.{chosen, is_chosen, rowid_if, rowids_after, rows_left, tested, with_rowid}

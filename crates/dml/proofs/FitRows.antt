@@ -23,7 +23,7 @@ use Rattle.rowprog.proofs.RowOrder.{both_true}
 use Rattle.dml.specs.Inserting.{last_rowid, row_added, rowid_after, rows_added}
 use Rattle.dml.specs.NewRows.{IsWritten}
 use Rattle.dml.specs.Trees.{FitAfter}
-use Rattle.dml.proofs.OnPage.{rise_on}
+use Rattle.dml.proofs.Added.{rise_on}
 use Rattle.dml.proofs.Rising.{Climbs, Rises, both, fit_rows_rise, is_next}
 use Rattle.dml.proofs.StoredRows.{long_values, no_rows, row_parts, rows_parts}
 

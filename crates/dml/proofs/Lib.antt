@@ -1,10 +1,9 @@
-pub mod Calm
 mod Chosen
 mod Deletions
 mod FitRows
 mod Folding
 mod IntoTrees
-mod OnPage
+mod Added
 mod PutRows
 mod Rising
 mod RowRows

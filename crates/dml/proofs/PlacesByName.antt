@@ -114,9 +114,6 @@ placed_is i n (c ∷ cs) once =
 abbrev pub column_place : List Column → List ℕ → ℕ
 column_place cs name = unwrap_or (place_named name cs) 0
 
-abbrev pub Once : Table → Type 0
-Once t = is_twice_named t.columns ≡ false
-
 module _ (as_name : List ℕ) (t : Table) (once : is_twice_named t.columns ≡ false) where
   by_place : (o : Option ℕ) (ps : List ℕ) → IsPlaced o ps → is_none o ≡ false → the_one false 0 ps ≡ good (unwrap_or o 0)
   by_place None ps h k = absurd (false≢true (sym k))

@@ -18,7 +18,7 @@ use Rattle.dml.specs.NewRows.{IsWritten}
 use Rattle.dml.specs.Putting.{AreUnder, ComeAfter, PutsAfter}
 use Rattle.dml.specs.Trees.{ArePutIn, IsPutRefusal, PutsRows}
 use Rattle.dml.proofs.FitRows.{fit_after}
-use Rattle.dml.proofs.OnPage.{are_rows, pairwise_append, pairwise_push}
+use Rattle.dml.proofs.Added.{are_rows, pairwise_append, pairwise_push}
 use Rattle.dml.proofs.Rising.{AreBelow, Rises, last_of_more, rises_on, rows_below, rows_rise}
 use Rattle.dml.proofs.StoredRows.{no_rows, row_parts, rows_parts}
 

@@ -1,15 +1,14 @@
 -- Rows of a tree are replaced one after another.
-use Rattle.std.proofs.Common.{◌≡◌, ◌⊎◌, inl, inr, refl, sym, ap, subst, ◌∙◌, ◌<◌, ◌≤◌, ◌+◌, ◌<ℤ◌, ◌≤ℤ◌, ◌&&◌, ◌==◌, ℕ, zero, suc, ℤ, Bool, true, false, cond, filter, List, [], ◌∷◌, ◌++◌, length, map, take, slice_index_or, Option, Some, None, if◌then◌else◌, Result, Ok, Err, IsTrue, All, zip, slice_set, arith}
-use Rattle.std.specs.Prelude.{IsErrAnd, MatchResult, ⊤, int_lt}
+use Rattle.std.proofs.Common.{◌≡◌, inl, inr, refl, sym, ap, subst, ◌∙◌, ◌<ℤ◌, ◌≤ℤ◌, ◌&&◌, ◌==◌, ℕ, zero, suc, ℤ, Bool, true, false, cond, filter, List, [], ◌∷◌, ◌++◌, length, map, Option, Some, None, if◌then◌else◌, Result, Ok, Err, IsTrue, All, zip, slice_set, arith}
+use Rattle.std.specs.Prelude.{IsErrAnd, ⊤, int_lt}
 use Rattle.std.specs.List.{list_all}
 use Rattle.std.specs.Ordering.{int_cmp, int_eq}
 use Rattle.std.proofs.lemmas.Bool.{eq-eqb, false≢true}
-use Rattle.std.proofs.lemmas.List.{append-nil, length-map, length-set, map_more, take_all}
+use Rattle.std.proofs.lemmas.List.{length-map, length-set}
 use Rattle.sqlval.specs.Conversion.{converted, is_word}
 use Rattle.sqlval.specs.Lists.{is_rising}
-use Rattle.sqlval.specs.Refusals.{Answer, Refusal, ◌then◌, all_answers, refusal_of}
+use Rattle.sqlval.specs.Refusals.{Answer, Refusal, ◌then◌, all_answers}
 use Rattle.sqlval.specs.declared.fault.Fault.{Fault}
-use Rattle.sqlval.specs.declared.fault.Fault.TheVariants as f
 use Rattle.sqlval.specs.declared.value.Value.{Value}
 use Rattle.page.specs.Leaf.{Entry}
 use Rattle.pages.specs.Calls.{IsOutsideOrFull, Limits, Causes}
@@ -18,10 +17,10 @@ use Rattle.pages.proofs.Moving.{in_sequence}
 use Rattle.treepage.specs.Cells.{Pairwise}
 use Rattle.tabletree.specs.Calls.{BecomesRows, IsReplaced, ReplacesRow, Stands}
 use Rattle.tabletree.specs.Rows.{payload_at, with_row}
-use Rattle.tabletree.proofs.Orders.{is_less, less_not, not_less, same_or_other, lt_le}
+use Rattle.tabletree.proofs.Orders.{less_not, not_less, same_or_other, lt_le}
 use Rattle.catalog.specs.Database.{TableColumn}
 use Rattle.catalog.specs.Listed.{plain_column, plain_table}
-use Rattle.catalog.specs.Rows.{are_rows, is_row, is_value}
+use Rattle.catalog.specs.Rows.{is_row, is_value}
 use Rattle.catalog.specs.declared.tables.Column.{Column}
 use Rattle.catalog.specs.declared.tables.Table.{Table}
 use Rattle.bind.specs.Readings.{env_of, values}
@@ -30,14 +29,13 @@ use Rattle.rowprog.specs.Rows.{IsRow, TableRow}
 use Rattle.rowprog.specs.Sources.{as_source}
 use Rattle.rowprog.proofs.RowOrder.{both_true}
 use Rattle.dml.specs.Constraints.{set_values, with_affinity}
-use Rattle.dml.specs.Inserting.{AllStorable, entry_for}
 use Rattle.dml.specs.NewRows.{IsWritten, entry_in}
 use Rattle.dml.specs.declared.inserting.RowRecord.{RowRecord}
 use Rattle.record.specs.Writing.{AreStorable}
-use Rattle.dml.specs.Setting.{row_set, rows_meant_set, set_over, values_set}
+use Rattle.dml.specs.Setting.{row_set, rows_meant_set, values_set}
 use Rattle.dml.specs.Updating.{FitNow, ReplacesRows, with_all_replaced, with_replaced}
 use Rattle.dml.proofs.IntoTrees.{keeps_all, keeps_then, unmoved}
-use Rattle.dml.proofs.Rising.{Climbs, Rises, both, fit_rows_rise, further}
+use Rattle.dml.proofs.Rising.{Climbs, Rises, both, further}
 
 -- ---- one row
 

@@ -15,8 +15,7 @@ use Rattle.treepage.specs.Cells.{Pairwise}
 use Rattle.tabletree.specs.SingleLeaf.{AreRising}
 use Rattle.catalog.specs.Database.{Table}
 use Rattle.catalog.specs.Rows.{are_rows, is_row}
-use Rattle.rowprog.specs.Rows.{TableRow, IsRow, Holds}
-use Rattle.dml.specs.Agreement.{NextIsGreater}
+use Rattle.rowprog.specs.Rows.{TableRow, IsRow}
 use Rattle.dml.specs.Constraints.{greatest}
 use Rattle.dml.specs.Inserting.{rowid_after, last_rowid}
 
@@ -52,10 +51,6 @@ rows_rise width [] [] rising each = tt
 rows_rise width [] (row ∷ rows) rising each = absurd each
 rows_rise width (entry ∷ entries) [] rising each = absurd each
 rows_rise width (entry ∷ entries) (row ∷ rows) rising each = subst (λ n. Climbs n rows) each.0.rowid (climbs width entry entries rows rising each.1)
-
--- the rows of a page rise
-pub held_rows_rise : (page : List ℕ) (number width : ℕ) (rows : List TableRow) → Holds page number width rows → Rises rows
-held_rows_rise page number width rows holds = rows_rise width holds.entries rows holds.single_leaf.rising holds.each
 
 pub both : (a b : Bool) → (a && b) ≡ true → (a ≡ true) × (b ≡ true)
 both true b h = (refl, h)
@@ -109,9 +104,6 @@ next_for last = elim last [ None ↦ Ok (pos 1) | Some x ↦ (if int_lt x (pos (
 pub next_is : (last : Option ℤ) → next_for last ≡ rowid_after last
 next_is None = refl
 next_is (Some x) = refl
-
-pub next_is_greater : NextIsGreater
-next_is_greater t fit = ap next_for (greatest_is_last t.rows (fit_rows_rise t fit)) ∙ next_is (last_rowid t.rows)
 
 -- ---- one row after them
 

@@ -1,5 +1,5 @@
 -- What SET makes of rows, one after another.
-use Rattle.std.proofs.Common.{◌≡◌, refl, sym, ap, subst, ◌∙◌, inl, inr, ◌<◌, ◌≤◌, ◌+◌, ℕ, zero, suc, Bool, true, false, cond, List, [], ◌∷◌, ◌++◌, length, map, drop, min, Option, Some, None, Result, Ok, Err, arith}
+use Rattle.std.proofs.Common.{◌≡◌, refl, sym, ap, subst, ◌∙◌, inl, inr, ◌<◌, ◌≤◌, ◌+◌, ℕ, zero, suc, Bool, true, false, List, [], ◌∷◌, ◌++◌, length, map, drop, min, Option, Some, None, Result, Ok, Err, arith}
 use Rattle.std.specs.Prelude.{IfErr, IsErrAnd, if◌then◌else◌, unwrap_or, zip}
 use Rattle.std.proofs.lemmas.List.{append-nil, map_push}
 use Rattle.sqlval.specs.Conversion.{converted}
@@ -15,8 +15,9 @@ use Rattle.terms.specs.Outcome.{AnswersBy, IsRefusedBy}
 use Rattle.terms.specs.Rows.{row_at}
 use Rattle.terms.specs.Terms.{Term}
 use Rattle.terms.specs.Values.{Environment, Row}
-use Rattle.queries.proofs.InOrder.{with_front}
-use Rattle.queries.proofs.Quiet.{IsQuiet, each, memory_is_quiet, next, of_converted, of_holds, of_values, quiet_fault}
+use Rattle.terms.proofs.InOrder.{with_front}
+use Rattle.terms.proofs.Quiet.{IsQuiet, each, memory_is_quiet, next, of_converted, quiet_fault}
+use Rattle.bind.proofs.QuietValues.{of_holds, of_values}
 use Rattle.rowprog.specs.Rows.{TableRow}
 use Rattle.dml.specs.Constraints.{set_values, with_affinity}
 use Rattle.dml.specs.Setting.{is_meant_for, rows_changed, rows_meant, set_over, source_set, values_set}

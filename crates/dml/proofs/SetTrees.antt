@@ -1,6 +1,6 @@
 -- What UPDATE leaves in a tree is what the definition says.
-use Rattle.std.proofs.Common.{◌≡◌, ◌⊎◌, inl, inr, refl, sym, ap, subst, ◌∙◌, ℕ, Bool, true, false, filter, List, [], ◌∷◌, ◌++◌, append_assoc, length, map, Option, Some, None, Result, Ok, Err, IsTrue}
-use Rattle.std.specs.Prelude.{IsErrAnd, MatchResult, ⊤, unwrap_or}
+use Rattle.std.proofs.Common.{◌≡◌, ◌⊎◌, inl, inr, refl, sym, ap, subst, ◌∙◌, ℕ, Bool, true, false, filter, List, [], ◌∷◌, ◌++◌, append_assoc, length, map, Option, Some, None, Result, Ok, Err}
+use Rattle.std.specs.Prelude.{IsErrAnd, MatchResult, ⊤}
 use Rattle.std.proofs.lemmas.List.{append-nil}
 use Rattle.sqlval.specs.Refusals.{Answer, Refusal, ◌then◌, all_answers, refusal_of}
 use Rattle.sqlval.specs.declared.fault.Fault.{Fault}
@@ -22,7 +22,7 @@ use Rattle.rowprog.proofs.TreeOrder.{tree_rises}
 use Rattle.dml.specs.Choosing.{is_chosen, tested}
 use Rattle.dml.specs.Inserting.{AllStorable}
 use Rattle.dml.specs.NewRows.{IsWritten}
-use Rattle.dml.specs.Setting.{row_set, rows_changed, rows_meant, rows_meant_set, rows_set, source_set}
+use Rattle.dml.specs.Setting.{rows_changed, rows_meant, rows_meant_set, rows_set, source_set}
 use Rattle.dml.specs.Updating.{AreSetIn, IsSetRefusal, ReplacesRows, SetsRows, with_all_replaced}
 use Rattle.dml.proofs.Replaced.{are_changed, are_set, fit_now, made, set_refused}
 use Rattle.dml.proofs.Rising.{Rises, rows_rise}
@@ -81,9 +81,6 @@ module _ (columns : List Column) (sets : List (ℕ × Term)) (c : Option Term) w
       by : (a : Answer (List (Option Bool))) → ((a then λ ts. given_rows (map as_source (filter (meant_by c) rows))) then changes) ≡ (a then λ ts. made columns sets (meant_by c) rows)
       by (Ok ts) = ap all_answers (sym (map_twice (source_set columns sets) as_source (filter (meant_by c) rows)))
       by (Err r) = refl
-
-  abbrev told_rows : List TableRow → Answer (List TableRow)
-  told_rows rows = Ok rows
 
   changed_known : (rows new : List TableRow) → rows_changed columns sets c (map as_source rows) ≡ Ok new
       → (made columns sets (meant_by c) rows ≡ Ok new) × (rows_set columns sets c rows ≡ rows_meant_set columns sets (meant_by c) rows)

@@ -1,7 +1,7 @@
 -- What the rows given become, column by column and row by row.
 use Rattle.std.proofs.Common.{◌≡◌, ◌⊎◌, inl, inr, ℕ, suc, ℤ, ◌<◌, ◌+◌, List, [], ◌∷◌, ◌++◌, Option, Some, None, Result, Ok, Err, length, map, drop, slice_index_or, refl, sym, ap, subst, ◌∙◌, append_assoc, arith}
-use Rattle.std.specs.Prelude.{if◌then◌else◌, IfOk, IfErr}
-use Rattle.std.proofs.lemmas.List.{append-nil, drop_more, map_push}
+use Rattle.std.specs.Prelude.{IfOk, IfErr}
+use Rattle.std.proofs.lemmas.List.{drop_more, map_push}
 use Rattle.sqlval.specs.Affinity.{Converts, IsReal, IsConversionFault, WantsNumbers}
 use Rattle.sqlval.specs.Conversion.{converted}
 use Rattle.sqlval.specs.Refusals.{Answer, ◌then◌, Refusal, RealRefused}
@@ -88,10 +88,6 @@ column_refused columns places given values index column place fault long each lt
 abbrev pub after_rows : List TableRow → Answer (List TableRow) → Answer (List TableRow)
 after_rows rows answer = answer then λ more. Ok (rows ++ more)
 
-pub nothing_in_front : (answer : Answer (List TableRow)) → answer ≡ after_rows [] answer
-nothing_in_front (Ok rows) = refl
-nothing_in_front (Err r) = refl
-
 one_in_front : (rows : List TableRow) (row : TableRow) (answer : Answer (List TableRow)) → after_rows rows (answer then λ more. Ok (row ∷ more)) ≡ after_rows (rows ++ row ∷ []) answer
 one_in_front rows row (Ok more) = ap (λ (xs : List TableRow). Ok xs) (sym (append_assoc rows (row ∷ []) more))
 one_in_front rows row (Err r) = refl
@@ -101,14 +97,6 @@ pub row_after : (columns : List Column) (places : List (Option ℕ)) (last : Opt
 row_after columns places last given rest rows row e =
     ap (λ (a : Answer TableRow). after_rows rows (a then λ row. rows_added columns places (Some row.0) rest then λ added. Ok (row ∷ added))) e
     ∙ one_in_front rows row (rows_added columns places (Some row.0) rest)
-
-pub refused_behind : (columns : List Column) (places : List (Option ℕ)) (last : Option ℤ) (given : List Value) (rest : List (List Value)) (rows : List TableRow) (r : Refusal) → row_added columns places last given ≡ Err r
-    → after_rows rows (rows_added columns places last (given ∷ rest)) ≡ Err r
-refused_behind columns places last given rest rows r e =
-    ap (λ (a : Answer TableRow). after_rows rows (a then λ row. rows_added columns places (Some row.0) rest then λ added. Ok (row ∷ added))) e
-
-pub nothing_behind : (columns : List Column) (places : List (Option ℕ)) (last : Option ℤ) (rows : List TableRow) (rest : List (List Value)) → rest ≡ [] → after_rows rows (rows_added columns places last rest) ≡ Ok rows
-nothing_behind columns places last rows rest e = ap (λ xs. after_rows rows (rows_added columns places last xs)) e ∙ ap (λ (xs : List TableRow). Ok xs) (append-nil rows)
 
 -- one row on, the rows so far and those after them are still those of all
 pub rows_go_on : {R N : Type 0} (columns : List Column) (places : List (Option ℕ)) (g : R → List Value) (h : N → TableRow) (rows : List R) (i : ℕ) (row : R) (done : List N) (new : N) (before after : Option ℤ) (all : Answer (List TableRow))

@@ -1,10 +1,9 @@
 -- Rows are taken out of a tree one after another.
-use Rattle.std.proofs.Common.{◌≡◌, ◌⊎◌, inl, inr, refl, sym, ap, subst, ◌∙◌, ◌<◌, ◌≤◌, ◌+◌, ◌<ℤ◌, ℕ, ℤ, Bool, true, false, not, cond, filter, List, [], ◌∷◌, ◌++◌, length, map, take, slice_index_or, Option, Some, None, if◌then◌else◌, Result, Ok, Err, IsTrue, arith}
+use Rattle.std.proofs.Common.{◌≡◌, inl, inr, refl, sym, ap, subst, ◌∙◌, ◌<◌, ◌≤◌, ◌+◌, ◌<ℤ◌, ℕ, ℤ, Bool, true, false, not, cond, filter, List, [], ◌∷◌, ◌++◌, length, map, take, slice_index_or, Some, None, if◌then◌else◌, Result, Ok, Err, IsTrue}
 use Rattle.std.specs.Prelude.{IsErrAnd, MatchResult, ⊤}
 use Rattle.std.specs.List.{list_all}
 use Rattle.std.specs.Ordering.{int_cmp, int_eq}
 use Rattle.std.proofs.lemmas.List.{take_all, take_more}
-use Rattle.sqlval.specs.Faults.{IsOutside}
 use Rattle.sqlval.specs.Lists.{is_rising}
 use Rattle.sqlval.specs.Refusals.{◌then◌, refusal_of}
 use Rattle.sqlval.specs.declared.fault.Fault.{Fault}

@@ -1,12 +1,12 @@
 -- An UPDATE of some rows of a listed table, row by row.
-use Rattle.std.proofs.Common.{◌≡◌, refl, sym, ap, subst, ◌∙◌, ℕ, ℤ, ◌<ℤ◌, Bool, true, false, not, ◌&&◌, cond, List, [], ◌∷◌, ◌++◌, append_assoc, map, Option, Some, None, Ok, Err}
+use Rattle.std.proofs.Common.{◌≡◌, refl, sym, ap, subst, ◌∙◌, ℕ, ℤ, ◌<ℤ◌, Bool, true, false, cond, List, [], ◌∷◌, ◌++◌, append_assoc, map, Some, None, Ok, Err}
 use Rattle.std.specs.Prelude.{filter, zip}
 use Rattle.std.specs.Cmp.{int_cmp_is}
-use Rattle.std.specs.FinMap.Entries.{put, find, by_order, where_key}
-use Rattle.std.specs.Ordering.{eq_by_cmp, int_cmp, is_eq}
+use Rattle.std.specs.FinMap.Entries.{put, find, by_order}
+use Rattle.std.specs.Ordering.{int_cmp, is_eq}
 use Rattle.std.specs.declared.cmp.Ordering.TheVariants.{Greater, Less}
 use Rattle.sqlval.specs.Names.{folded}
-use Rattle.sqlval.specs.Refusals.{Answer, ◌then◌, all_answers, fold_answer}
+use Rattle.sqlval.specs.Refusals.{Answer, ◌then◌, fold_answer}
 use Rattle.sqlval.specs.declared.value.Value.{Value}
 use Rattle.catalog.specs.Database as database
 use Rattle.catalog.specs.Database.{Name, Database, ATable, row, with_object, without_row}
@@ -22,7 +22,7 @@ use Rattle.dml.specs.Constraints.{table_of, stored, set_values, with_affinity}
 use Rattle.dml.specs.RowChanges.{Fire, update_row}
 use Rattle.bind.specs.Readings.{env_of, values}
 use Rattle.rowprog.specs.Sources.{as_source}
-use Rattle.dml.specs.Setting.{row_set, rows_meant_set, values_set}
+use Rattle.dml.specs.Setting.{rows_meant_set, values_set}
 use Rattle.dml.proofs.Deletions.{climbs_over, found_behind, gone_behind, put_itself, rest_rises, same_values}
 use Rattle.dml.proofs.Folding.{all_filled, no_indexes, put_again, put_there}
 use Rattle.dml.proofs.Rising.{Climbs, Rises, fit_rows_rise, further}

@@ -4,7 +4,6 @@ use Rattle.sqlval.specs.Refusals.{◌then◌, fold_answer}
 use Rattle.sqlval.specs.declared.value.Value.{Value}
 use Rattle.sqlval.specs.declared.value.Value.TheVariants.{Null}
 use Rattle.syntax.specs.declared.create.TriggerTime.{TriggerTime}
-use Rattle.catalog.specs.Database as database
 use Rattle.catalog.specs.Database.{Name, Database, ATable, with_object}
 use Rattle.catalog.specs.Listed.{plain_table, has_only_tables}
 use Rattle.catalog.specs.Named.{IsNamed}
@@ -12,16 +11,12 @@ use Rattle.catalog.specs.declared.tables.Column.{Column}
 use Rattle.catalog.specs.declared.tables.Table.{Table}
 use Rattle.catalog.specs.Rows.{are_rows}
 use Rattle.rowprog.specs.Rows.{TableRow}
-use Rattle.dml.specs.Constraints.{next_rowid, table_of, default_values, set_values}
-use Rattle.dml.specs.Inserting.{given_at, rowid_after, last_rowid, rows_added}
+use Rattle.dml.specs.Constraints.{table_of, default_values, set_values}
+use Rattle.dml.specs.Inserting.{given_at, last_rowid, rows_added}
 use Rattle.dml.specs.RowChanges.{Fire, Firing, delete_row, insert_row, update_row}
 use Rattle.dml.specs.Changes.{no_outer}
 use Rattle.dml.specs.Setting.{rows_meant_set}
 use Rattle.terms.specs.Terms.{Term}
-
--- the rowid that a row without one gets in a table of rows by rising rowid is the next after the last
-abbrev pub NextIsGreater : Type 0
-NextIsGreater = (t : database.Table) → are_rows t ≡ true → next_rowid t ≡ rowid_after (last_rowid t.rows)
 
 -- where there are only tables, nothing is set off
 abbrev pub IsStill : Fire → Type 0

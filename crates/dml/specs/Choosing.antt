@@ -1,5 +1,5 @@
 -- Which rows of a table a condition chooses (SQL As Understood By SQLite, "DELETE", "UPDATE").
-use Rattle.std.specs.Prelude.{Bool, true, false, not, filter, if◌then◌else◌, unwrap_or, ℤ, List, [], ◌∷◌, ◌++◌, map, Option, Some, None, Ok, Err}
+use Rattle.std.specs.Prelude.{Bool, true, false, not, filter, if◌then◌else◌, unwrap_or, ℤ, List, [], ◌∷◌, ◌++◌, map, Option, Some, None, Ok}
 use Rattle.sqlval.specs.Refusals.{Answer, ◌then◌, all_answers}
 use Rattle.sqlval.specs.declared.value.Value.TheVariants.{Int}
 use Rattle.bind.specs.Readings.{holds}

@@ -1,5 +1,5 @@
--- What INSERT adds to a table without constraints, as rows and as entries of its page (SQL As Understood By SQLite, "INSERT", and SQLite Autoincrement).
-use Rattle.std.specs.Prelude.{◌≡◌, ◌⊎◌, ◌+ℤ◌, ◌^◌, ◌-◌, ℕ, ℤ, pos, int_lt, List, [], ◌∷◌, ◌++◌, map, length, slice_index_or, Option, Some, None, Ok, Err, unwrap_or, if◌then◌else◌, All}
+-- What INSERT adds to a table without constraints, as rows and as entries of its tree (SQL As Understood By SQLite, "INSERT", and SQLite Autoincrement).
+use Rattle.std.specs.Prelude.{◌≡◌, ◌⊎◌, ◌+ℤ◌, ◌^◌, ◌-◌, ℕ, ℤ, pos, int_lt, List, [], ◌∷◌, map, slice_index_or, Option, Some, None, Ok, Err, unwrap_or, if◌then◌else◌, All}
 use Rattle.sqlval.specs.Refusals.{Answer, ◌then◌, RowidFull, refusal_of}
 use Rattle.sqlval.specs.declared.fault.Fault.{Fault}
 use Rattle.sqlval.specs.declared.fault.Fault.TheVariants as fault
@@ -7,10 +7,9 @@ use Rattle.sqlval.specs.declared.value.Value.{Value}
 use Rattle.sqlval.specs.declared.value.Value.TheVariants.{Null}
 use Rattle.record.specs.Writing.{AreStorable, record_of}
 use Rattle.page.specs.Leaf.{Entry}
-use Rattle.tabletree.specs.SingleLeaf.{IsLeafRefusal, IsTooFull}
 use Rattle.catalog.specs.Listed.{plain_column}
 use Rattle.catalog.specs.declared.tables.Column.{Column}
-use Rattle.rowprog.specs.Rows.{TableRow, Holds}
+use Rattle.rowprog.specs.Rows.{TableRow}
 use Rattle.dml.specs.Constraints.{with_affinity}
 
 -- ---- the rows that are added
@@ -50,13 +49,7 @@ abbrev pub last_rowid : List TableRow → Option ℤ
 last_rowid [] = None
 last_rowid (row ∷ rows) = Some (unwrap_or (last_rowid rows) row.0)
 
--- ---- the page
-
--- After these rows, the page holds those that the rows given become.
-pub record IsInserted (page : List ℕ) (number : ℕ) (columns : List Column) (places : List (Option ℕ)) (given : List (List Value)) (rows : List TableRow) : Type 0 where
-  pub added : List TableRow
-  pub answer : rows_added columns places (last_rowid rows) given ≡ Ok added
-  pub holds : Holds page number (length columns) (rows ++ added)
+-- ---- their entries
 
 -- the entry of a row, with the record that is written of its values
 abbrev pub entry_for : TableRow → Entry
@@ -66,38 +59,6 @@ entry_for row = record { rowid = row.0; payload = record_of row.1 }
 abbrev pub AllStorable : List TableRow → Type 0
 AllStorable rows = All (λ row. AreStorable row.1) rows
 
--- where the page holds rows of so many values, the rowid of their last is this
-abbrev pub EndsAt : List ℕ → ℕ → ℕ → Option ℤ → Type 0
-EndsAt page number width last = (rows : List TableRow) → Holds page number width rows → last_rowid rows ≡ last
-
 -- a refusal of the rows given, as the definition's answer is: a real, or no rowid after the last
 abbrev pub IsRefusedAs : {A : Type 0} → Answer A → Fault → Type 0
 IsRefusedAs answer f = ((f ≡ fault.RealRefused) ⊎ (f ≡ fault.RowidFull)) × (answer ≡ Err (refusal_of f))
-
--- what the rows given become is refused
-pub record AreRefused (page : List ℕ) (number : ℕ) (columns : List Column) (places : List (Option ℕ)) (given : List (List Value)) (f : Fault) : Type 0 where
-  pub last : Option ℤ
-  pub ends : EndsAt page number (length columns) last
-  pub answer : IsRefusedAs (rows_added columns places last given) f
-
--- no record can hold one of the rows, or the page has no room for their entries
-abbrev pub FindNoRoom : List ℕ → ℕ → List TableRow → Fault → Type 0
-FindNoRoom page number rows f = ((f ≡ fault.TooLong) × (AllStorable rows → ⊥)) ⊎ IsTooFull page number (map entry_for rows) f
-
--- there is no room for what the rows given become
-pub record HasNoRoom (page : List ℕ) (number : ℕ) (columns : List Column) (places : List (Option ℕ)) (given : List (List Value)) (f : Fault) : Type 0 where
-  pub last : Option ℤ
-  pub ends : EndsAt page number (length columns) last
-  pub added : List TableRow
-  pub answer : rows_added columns places last given ≡ Ok added
-  pub full : FindNoRoom page number added f
-
--- the page isn't read as a leaf, and holds no rows of so many values
-abbrev pub HoldsNoRows : List ℕ → ℕ → ℕ → Fault → Type 0
-HoldsNoRows page number width f = IsLeafRefusal number f × ((rows : List TableRow) → Holds page number width rows → ⊥)
-
--- Why rows aren't inserted: when out of memory, because the page is no leaf of rows, because what they become is refused, or
--- because there is no room for it.
-abbrev pub IsInsertRefusal : List ℕ → ℕ → List Column → List (Option ℕ) → List (List Value) → Fault → Type 0
-IsInsertRefusal page number columns places given f =
-    (f ≡ fault.Memory) ⊎ (HoldsNoRows page number (length columns) f ⊎ (AreRefused page number columns places given f ⊎ HasNoRoom page number columns places given f))

@@ -1,28 +1,22 @@
 //! Changes of a table's rows.
 
-ghost use Rattle.sqlval.specs.Faults.{IsNotDiskFault};
-ghost use Rattle.std.specs.Prelude.{◌≡◌, ◌⊎◌, List, length, map, take, slice_index_or, None, Some, Ok, Err, true, IfOk, IfErr, OnOk};
+ghost use Rattle.std.specs.Prelude.{◌≡◌, ◌⊎◌, map, slice_index_or, None, Some, Ok, Err, true, IfOk, IfErr, OnOk};
 ghost use Rattle.std.specs.List.{list_all};
 ghost use Rattle.sqlval.specs.Conversion.{converted};
 ghost use Rattle.sqlval.specs.Refusals as refusal;
 ghost use Rattle.record.specs.Record.{IsRecord};
 ghost use Rattle.record.specs.Writing.{AreStorable, IsBytes, record_of};
-ghost use Rattle.page.specs.Leaf.{entry_of};
-ghost use Rattle.pages.specs.Counting.{start_of};
 ghost use Rattle.treepage.specs.Cells.{Pairwise};
 ghost use Rattle.catalog.specs.Rows.{is_value};
-ghost use Rattle.rowprog.specs.Rows.{Holds, TableRow};
-ghost use Rattle.dml.specs.Agreement.{NextIsGreater, InsertsRows};
-ghost use Rattle.dml.specs.Inserting.{AllStorable, IsInserted, IsInsertRefusal, IsRefusedAs, given_at, row_added, row_stored, rows_added};
+ghost use Rattle.dml.specs.Agreement.{InsertsRows};
+ghost use Rattle.dml.specs.Inserting.{AllStorable, IsRefusedAs, given_at, row_added, row_stored, rows_added};
 ghost use Rattle.dml.specs.NewRows.{IsWritten, entry_in, row_of};
 
-use bind::BoundInsert;
 use catalog::{Column, other_rows_are_listed};
-use page::Cell;
 use record::{encode, is_storable};
-use sqlval::{Fault, R, Value, apply};
+use sqlval::{Fault, R, Row, Value, apply};
 use std::alloc::Global;
-use tabletree::{Leaf, next_rowid, with_rows};
+use tabletree::next_rowid;
 use terms::conversion_is_one;
 
 /// The value given for a column, at its place: NULL where it has none.
@@ -117,7 +111,7 @@ pub(crate) fn new_rows(
     alloc: Global,
     columns: &[Column],
     places: &[Option<usize>],
-    rows: &[Vec<Value>],
+    rows: &[Row],
     last: Option<i64>,
 ) -> R<Vec<NewRow>>
     ensures added { IfOk result (λ added. rows_added columns.now places.now last (map (λ row. row.items) rows.now) ≡ Ok (map row_of added.items)) }
@@ -188,50 +182,6 @@ pub(crate) fn records_of(alloc: Global, rows: &[NewRow]) -> R<Vec<RowRecord>>
     }
     Ok(records)
 }
-
-/// The cells of these records.
-fn cells_of(alloc: Global, records: &[RowRecord]) -> R<Vec<Cell<'_>>>
-    ensures cells { IfOk result (λ cells. map entry_of cells.items ≡ map entry_in records.now) }
-    ensures refused { IfErr result (λ fault. fault ≡ Fault.Memory) }
-{
-    let mut cells = Vec::new(alloc);
-    'records: for record in records {
-        cells.push(Cell {
-            rowid: record.rowid,
-            payload: record.payload.as_slice(),
-        })?;
-    }
-    Ok(cells)
-}
-
-/// Builds a table's page `number` anew with the new rows after its own; what stands before the tree's node stays. A page that is
-/// no leaf of rising rows is refused as by `Leaf::over`. Row by row, a real is `RealRefused`, and a row after the greatest rowid
-/// of all is `RowidFull`; only then rows that don't fit are `TooLong`.
-pub fn insert(alloc: Global, page: &[u8], number: u32, insert: BoundInsert<'_>) -> R<Vec<u8>>
-    ensures inserted { IfOk result (λ new. (rows : List TableRow) → Holds page.now number (length insert.entry.table.now.columns) rows
-        → IsInserted new.items number insert.entry.table.now.columns insert.entry.places.items (map (λ row. row.items) insert.entry.rows.items) rows) }
-    ensures size { IfOk result (λ new. length new.items ≡ length page.now) }
-    ensures front { IfOk result (λ new. take (start_of number) new.items ≡ take (start_of number) page.now) }
-    ensures refused { IfErr result (λ fault. IsInsertRefusal page.now number insert.entry.table.now.columns insert.entry.places.items
-        (map (λ row. row.items) insert.entry.rows.items) fault) }
-    ensures not_disk { IfErr result (λ fault. IsNotDiskFault fault) }
-{
-    let BoundInsert {
-        table,
-        places,
-        rows,
-    } = insert;
-    let last = Leaf::over(alloc, page, number)?.last();
-    let added = new_rows(alloc, table.columns.as_slice(), &places, &rows, last)?;
-    let records = records_of(alloc, &added)?;
-    let cells = cells_of(alloc, &records)?;
-    with_rows(alloc, page, number, &cells)
-}
-
-/// A new row's rowid is the next one after those of the table's page.
-pub fn next_rowid_is_greater()
-    ensures { NextIsGreater }
-{}
 
 /// An INSERT that sets off no trigger appends its rows to the table, or is refused as they are.
 pub fn insert_adds_its_rows()

@@ -2,7 +2,6 @@
 //! tables that are supported.
 #![tactic(auto)]
 
-mod binding;
 mod choosing;
 mod deleting;
 mod inserting;
@@ -11,10 +10,9 @@ mod setting;
 mod taking;
 mod updating;
 
-pub use binding::insertions_are_bound_as_meant;
 pub use choosing::chosen_rowids;
 pub use deleting::delete_takes_its_rows;
-pub use inserting::{insert, insert_adds_its_rows, next_rowid_is_greater};
+pub use inserting::insert_adds_its_rows;
 pub use putting::put_rows;
 pub use taking::take_rows;
 pub use updating::{set_rows, update_sets_its_rows};

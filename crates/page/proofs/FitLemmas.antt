@@ -1,11 +1,10 @@
 -- Cells that fit a page.
-use Rattle.std.proofs.Common.{◌≡◌, ℕ, ◌+◌, ◌-◌, ◌*◌, ◌^◌, ◌≤◌, true, false, cond, nat_lt, nat_le, Bool, List, [], ◌∷◌, length, Option, Some, None, sum_by, is_some, refl, ap, arith}
+use Rattle.std.proofs.Common.{◌≡◌, ℕ, ◌+◌, ◌-◌, ◌*◌, ◌^◌, ◌≤◌, true, false, cond, nat_lt, nat_le, Bool, List, [], ◌∷◌, length, Option, Some, None, sum_by, refl, ap, arith}
 use Rattle.std.specs.List.{AllByRecursion}
 use Rattle.std.proofs.lemmas.Bool.{ltb-false, le-ltb, leb-true, le-leb}
 use Rattle.std.proofs.lemmas.List.Sums.{sum_by-cons}
 use Rattle.page.specs.Leaf.{Entry}
-use Rattle.page.specs.Reading.{is_whole}
-use Rattle.page.specs.Writing.{Fits, cell_size, content_below, content_of}
+use Rattle.page.specs.Writing.{Fits, cell_size, content_below, content_of, is_whole}
 
 keep_some : (b : Bool) (r : Option ℕ) (n : ℕ) → cond b r None ≡ Some n → (b ≡ true) × (r ≡ Some n)
 keep_some true r n e = (refl, e)
@@ -71,10 +70,3 @@ fits_again page_size start entries f =
     let b : nat_lt page_size 8 ≡ false = le-ltb _ _ (omega (arith, f.room)) in
     let c : nat_lt (page_size - 8) start ≡ false = le-ltb _ _ (omega (arith, f.room)) in
     rw (a, b, c) (below_again page_size (page_size - 8 - start) page_size entries f.whole (omega (arith, f.room)))
-
-pub fits_test : (page_size start : ℕ) (entries : List Entry) → is_some (content_of page_size start entries) ≡ true → Fits page_size start entries
-fits_test page_size start entries h = by_answer (content_of page_size start entries) refl h
-  where
-    by_answer : (o : Option ℕ) → content_of page_size start entries ≡ o → is_some o ≡ true → Fits page_size start entries
-    by_answer (Some last) e h = (fits_is page_size start entries last e).0
-    by_answer None e h = absurd cc

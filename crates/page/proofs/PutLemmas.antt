@@ -1,26 +1,18 @@
 -- The steps of writing a page.
-use Rattle.std.proofs.Common.{◌≡◌, ℕ, suc, ◌+◌, ◌-◌, ◌*◌, ◌≤◌, List, [], ◌∷◌, ◌++◌, length, map, reverse, take, drop, replicate, sum_by, slice_index_or, refl, sym, ap, subst, ◌∙◌, append_assoc, arith}
-use Rattle.std.specs.List.{AllByRecursion, flat_map}
+use Rattle.std.proofs.Common.{◌≡◌, ℕ, suc, ◌+◌, ◌-◌, ◌*◌, ◌≤◌, List, [], ◌∷◌, ◌++◌, length, map, reverse, take, drop, replicate, sum_by, slice_index_or, refl, ap, ◌∙◌, append_assoc, arith}
+use Rattle.std.specs.List.{flat_map}
 use Rattle.std.specs.Int.{w64, cast_unsigned}
 use Rattle.record.specs.Varint.{varint}
-use Rattle.std.proofs.lemmas.List.{map_push, reverse-append, take_all, length-append}
+use Rattle.std.proofs.lemmas.List.{take_all, length-append}
 use Rattle.std.proofs.lemmas.List.Sums.{sum_by-cons}
 use Rattle.page.specs.declared.cell.Cell.{Cell}
 use Rattle.page.specs.Leaf.{Entry, entry_of, leaf_header}
-use Rattle.treepage.specs.Cells.{pointer}
-use Rattle.page.specs.Writing.{IsNumbered, cell_text, cell_size, content_bytes, spans_below, node_of, leaf_of}
-use Rattle.page.proofs.LeafLemmas.{length-pointers}
+use Rattle.treepage.specs.Cells.{Span, pointer}
+use Rattle.page.specs.Writing.{cell_text, cell_size, content_bytes, spans_below, node_of, leaf_of}
 
 -- the cells from the last to the first
 abbrev pub texts : List Entry → List ℕ
 texts entries = flat_map cell_text (reverse entries)
-
-pub put_last : (out next whole : List ℕ) (left before : List Cell) (cell : Cell) → left ≡ before ++ cell ∷ [] → next ≡ out ++ cell_text (entry_of cell) → out ++ texts (map entry_of left) ≡ whole → next ++ texts (map entry_of before) ≡ whole
-put_last out next whole left before cell l n e =
-    let so_far : out ++ texts (map entry_of (before ++ cell ∷ [])) ≡ whole = subst (λ (xs : List Cell). out ++ texts (map entry_of xs) ≡ whole) l e in
-    let one_more : texts (map entry_of (before ++ cell ∷ [])) ≡ cell_text (entry_of cell) ++ texts (map entry_of before) =
-    ap texts (map_push entry_of before cell) ∙ ap (flat_map cell_text) (reverse-append (map entry_of before) (entry_of cell ∷ [])) in
-    rw n (append_assoc out (cell_text (entry_of cell)) (texts (map entry_of before)) ∙ ap (λ (x : List ℕ). out ++ x) (sym one_more) ∙ so_far)
 
 pub first_size : (left : List Cell) (d : Cell) (n : ℕ) → 1 ≤ length left → sum_by cell_size (map entry_of left) ≤ n
     → cell_size (entry_of (slice_index_or left 0 d)) + sum_by cell_size (map entry_of (take (length left - 1) (drop 1 left))) ≤ n
@@ -43,16 +35,16 @@ cell_parts out0 out1 out2 out3 entry n n_is e1 e2 e3 =
     e3 ∙ ap (λ (x : List ℕ). x ++ entry.payload) (e2 ∙ ap (λ (m : ℕ). out1 ++ varint m) n_is ∙ ap (λ (x : List ℕ). x ++ b) e1)
     ∙ append_assoc (out0 ++ a) b entry.payload ∙ append_assoc out0 a (b ++ entry.payload)
 
-pub numbered_more : (left : List Cell) (d : Cell) → 1 ≤ length left → IsNumbered (entry_of (slice_index_or left 0 d)) → AllByRecursion IsNumbered (map entry_of (take (length left - 1) (drop 1 left))) → AllByRecursion IsNumbered (map entry_of left)
-numbered_more [] d some first rest = absurd (omega arith)
-numbered_more (cell ∷ left) d some first rest = (first, subst (λ (xs : List Cell). AllByRecursion IsNumbered (map entry_of xs)) (take_all (suc (length left) - 1) left (omega arith)) rest)
-
 same_length : (end : ℕ) (entries : List Entry) → length (spans_below end entries) ≡ length entries
 same_length end [] = refl
 same_length end (entry ∷ entries) = ap (λ (n : ℕ). suc n) (same_length (end - cell_size entry) entries)
 
 pub header_len : (count content : ℕ) → length (leaf_header (0 ∷ 0 ∷ []) count (content_bytes content) 0) ≡ 8
 header_len count content = refl
+
+length-pointers : (spans : List Span) → length (flat_map pointer spans) ≡ 2 * length spans
+length-pointers [] = refl
+length-pointers (span ∷ spans) = omega (arith, length-pointers spans)
 
 pub length-pointed : (end : ℕ) (entries : List Entry) → length (flat_map pointer (spans_below end entries)) ≡ 2 * length entries
 length-pointed end entries = omega (arith, length-pointers (spans_below end entries), same_length end entries)

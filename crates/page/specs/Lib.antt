@@ -1,3 +1,2 @@
 pub mod Leaf
-pub mod Reading
 pub mod Writing

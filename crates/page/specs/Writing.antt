@@ -1,11 +1,14 @@
 -- A table leaf as it is written: the cells from the page's end downwards, in order (Database File Format, "B-tree Pages").
-use Rattle.std.specs.Prelude.{◌≤◌, ◌+◌, ◌-◌, ◌*◌, ◌%◌, ◌^◌, ℕ, List, [], ◌∷◌, ◌++◌, length, FitsSigned, replicate, reverse, Option, Some, None, sum_by, nat_lt, if◌then◌else◌}
+use Rattle.std.specs.Prelude.{◌≤◌, ◌+◌, ◌-◌, ◌*◌, ◌%◌, ◌^◌, ℕ, List, [], ◌∷◌, ◌++◌, length, FitsSigned, replicate, reverse, Option, Some, None, sum_by, Bool, nat_le, nat_lt, if◌then◌else◌}
 use Rattle.std.specs.List.{AllByRecursion, flat_map}
 use Rattle.std.specs.Int.{w16, w64, to_be_bytes, cast_unsigned}
 use Rattle.record.specs.Varint.{varint}
 use Rattle.page.specs.Leaf.{Entry, leaf_header}
 use Rattle.treepage.specs.Cells.{Span, pointer}
-use Rattle.page.specs.Reading.{is_whole}
+
+-- whether a payload of so many bytes lies whole on a page of a table leaf
+unfoldable pub is_whole : ℕ → ℕ → Bool
+is_whole page_size payload = nat_le (payload + 35) page_size
 
 -- the row's number has 64 bits
 abbrev pub IsNumbered : Entry → Type 0

@@ -1,14 +1,14 @@
-//! Pages of a tree: the bytes of a page and its cells. Only leaves of tables are supported.
+//! A leaf of a table whose rows are whole: its bytes, and its writing.
 //!
 //! The page's header begins at `start`: at 100 on page 1, after the database header, and at 0 on other pages.
 //!
 //! | offset | size | meaning |
 //! |---|---|---|
 //! | `start` | 1 | type 13: a leaf of a table |
-//! | `start` + 1 | 2 | first freeblock; ignored when read, 0 when written |
+//! | `start` + 1 | 2 | first freeblock; 0 when written |
 //! | `start` + 3 | 2 | number of cells |
-//! | `start` + 5 | 2 | where the cells begin; ignored when read |
-//! | `start` + 7 | 1 | fragmented bytes; ignored when read, 0 when written |
+//! | `start` + 5 | 2 | where the cells begin |
+//! | `start` + 7 | 1 | fragmented bytes; 0 when written |
 //! | `start` + 8 | 2 for each cell | pointers: the offset of each cell |
 //! | as a pointer says | 1 to 9 | the cell: the length of its payload, a varint |
 //! | after that | 1 to 9 | its rowid, a varint |
@@ -16,10 +16,7 @@
 #![tactic(auto)]
 
 mod cell;
-mod claims;
-mod leaf;
 mod writing;
 
 pub use cell::Cell;
-pub use leaf::{Node, one_list};
-pub use writing::{build, fits};
+pub use writing::build;

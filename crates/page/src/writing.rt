@@ -1,6 +1,6 @@
 //! Writing a table leaf.
 
-ghost use Rattle.std.specs.Prelude.{◌≡◌, ◌≤◌, ◌<◌, ◌+◌, ◌++◌, ◌*◌, ◌⊎◌, ◌↔◌, ◌^◌, ◌-◌, [], ◌∷◌, IsTrue, length, map, reverse, sum_by, IfOk, IfErr, OnOk};
+ghost use Rattle.std.specs.Prelude.{◌≡◌, ◌≤◌, ◌<◌, ◌+◌, ◌++◌, ◌*◌, ◌⊎◌, ◌^◌, ◌-◌, [], ◌∷◌, length, map, reverse, sum_by, IfOk, IfErr, OnOk};
 ghost use Rattle.std.specs.List.{AllByRecursion, flat_map};
 ghost use Rattle.page.specs.Leaf.{entry_of, leaf_header, IsTableLeaf};
 ghost use Rattle.treepage.specs.Cells.{pointer};
@@ -37,7 +37,7 @@ fn put_cell(out: &mut Vec<u8>, cell: &Cell<'_>) -> Result<(), AllocError>
 }
 
 /// Where the last cell begins on an empty page, where all cells fit.
-#[tactic(auto, unfolding(crate::specs::Writing::content_of, crate::specs::Reading::is_whole))]
+#[tactic(auto, unfolding(crate::specs::Writing::content_of, crate::specs::Writing::is_whole))]
 fn content_start(page_size: usize, start: usize, cells: &[Cell<'_>]) -> Option<usize>
     ensures { result ≡ content_of page_size start (map entry_of cells.now) }
 {
@@ -60,13 +60,6 @@ fn content_start(page_size: usize, start: usize, cells: &[Cell<'_>]) -> Option<u
         left = after;
     }
     Some(content)
-}
-
-/// Whether the cells fit a table leaf of `page_size` bytes whose header begins at `start`.
-pub fn fits(page_size: usize, start: usize, cells: &[Cell<'_>]) -> bool
-    ensures { IsTrue result ↔ Fits page_size start (map entry_of cells.now) }
-{
-    content_start(page_size, start, cells).is_some()
 }
 
 /// Writes the pointers to cells of which the first ends at `end` and each next one ends where the one before begins.

@@ -20,7 +20,7 @@ use Rattle.queries.specs.declared.results.FoundRow.{FoundRow}
 use Rattle.queries.specs.declared.sorting.SortOrder.{SortOrder}
 use Rattle.queries.proofs.AsDefined.{all_sorted, as_keys, each_itself, groups_as, sorted_as, sorted_seen}
 use Rattle.queries.proofs.Flows.{none_picked}
-use Rattle.queries.proofs.InOrder.{left, one_on}
+use Rattle.terms.proofs.InOrder.{left, one_on}
 use Rattle.queries.proofs.KeyOrders.{by_keys}
 use Rattle.queries.proofs.Runs.{groups_seen, run_at}
 

@@ -57,7 +57,7 @@ abbrev tie : List SortOrder → Numbered → Numbered → Bool
 tie orders r s = is_eq (results_cmp orders r s)
 
 total : (orders : List SortOrder) → IsTotalOrder (results_cmp orders)
-total orders = on_total (λ (r : Numbered). r.row.results.items) (by_keys 0 orders)
+total orders = on_total (λ (r : Numbered). r.row.results) (by_keys 0 orders)
 
 after : (orders : List SortOrder) (ks : List Numbered) (y : Numbered) (xs : List Numbered) → kept_after orders (ks ++ y ∷ []) xs ≡ ks ++ y ∷ firsts_after (results_cmp orders) (total orders) y xs
 after orders ks y [] = refl

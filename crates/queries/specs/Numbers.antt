@@ -17,7 +17,7 @@ numbered_from n (r ∷ rs) = record { number = n; row = r } ∷ numbered_from (n
 
 -- how two rows stand by their results
 abbrev pub by_results : List SortOrder → FoundRow → FoundRow → Ordering
-by_results orders r s = by_values orders r.results.items s.results.items
+by_results orders r s = by_values orders r.results s.results
 
 abbrev pub have_same_results : List SortOrder → FoundRow → FoundRow → Bool
 have_same_results orders r s = is_eq (by_results orders r s)

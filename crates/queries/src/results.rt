@@ -10,8 +10,7 @@ ghost use Rattle.queries.specs.Nesting.{all_found, at_leaf, found_of, grouped_ro
 use crate::arguments::check_arguments;
 use crate::nesting::Loops;
 use bind::Reading;
-use smallvec::SmallVec;
-use sqlval::{Many, R, Row, Value};
+use sqlval::{Many, R, Value};
 use std::alloc::Global;
 use terms::{Env, Term, evaluate, holds};
 
@@ -19,26 +18,15 @@ use terms::{Env, Term, evaluate, holds};
 #[derive(Drop)]
 pub struct FoundRow {
     /// The values of its results; none where it is to be grouped.
-    pub results: Row,
+    pub results: Many<Value>,
     /// What it is sorted by, or grouped by.
     pub keys: Many<Value>,
     /// Where it is to be grouped, the place of each source's row.
     pub picked: Many<usize>,
 }
 
-/// The values of the results, from left to right.
-fn result_values(alloc: Global, terms: &[Term], env: Env<'_>) -> R<Row>
-    ensures { AnswersBy (λ row. row.items) (meant.values (seen env.entry) terms.now) result }
-{
-    let mut values = SmallVec::new(alloc);
-    'terms: for term in terms {
-        values.push(evaluate(alloc, term, env)?.into_value(alloc)?)?;
-    }
-    Ok(values)
-}
-
-/// The values of the expressions of GROUP BY, from left to right.
-fn group_values(alloc: Global, terms: &[Term], env: Env<'_>) -> R<Many<Value>>
+/// The values of these expressions, from left to right.
+fn values_of(alloc: Global, terms: &[Term], env: Env<'_>) -> R<Many<Value>>
     ensures { AnswersBy (λ vs. vs) (meant.values (seen env.entry) terms.now) result }
 {
     let mut values = Many::new(alloc);
@@ -64,7 +52,7 @@ pub fn found_row(alloc: Global, reading: &Reading, env: Env<'_>) -> R<FoundRow>
     ensures found { AnswersBy shown (meant.sortable reading.now (seen env.entry)) result }
     ensures alone { IfOk result (λ f. f.picked ≡ []) }
 {
-    let results = result_values(alloc, reading.results.as_slice(), env)?;
+    let results = values_of(alloc, reading.results.as_slice(), env)?;
     let keys = order_values(alloc, reading.order.as_slice(), env)?;
     let picked = Many::new(alloc);
     Ok(FoundRow {
@@ -81,11 +69,11 @@ fn group_row(alloc: Global, reading: &Reading, picked: &[usize], env: Env<'_>) -
     ensures { AnswersBy (found_of env.entry.sources.now)
         (grouped_row reading.now (picked_rows env.entry.sources.now picked.now)) result }
 {
-    let keys = group_values(alloc, reading.keys.as_slice(), env)?;
+    let keys = values_of(alloc, reading.keys.as_slice(), env)?;
     let order = reading.order.as_slice();
     check_arguments(alloc, reading.results.as_slice(), order, env)?;
     let picked = Many::from_vec(Vec::from_slice(alloc, picked)?);
-    let results = SmallVec::new(alloc);
+    let results = Many::new(alloc);
     Ok(FoundRow {
         results,
         keys,

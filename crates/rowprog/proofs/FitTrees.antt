@@ -1,5 +1,5 @@
 -- The rows of a tree that is checked batch by batch are such as a table may hold.
-use Rattle.std.proofs.Common.{◌≡◌, refl, sym, ap, subst, ◌∙◌, inl, inr, ◌<◌, ◌≤◌, ◌+◌, ◌&&◌, ◌==◌, ℕ, pos, zero, suc, ℤ, Bool, true, false, List, [], ◌∷◌, ◌++◌, length, map, take, slice_index_or, Option, None, Ok, Err, IsTrue, SFits, w64, append_assoc, arith}
+use Rattle.std.proofs.Common.{◌≡◌, refl, sym, ap, subst, ◌∙◌, ◌<◌, ◌≤◌, ◌+◌, ◌&&◌, ◌==◌, ℕ, pos, zero, suc, ℤ, Bool, true, false, List, [], ◌∷◌, ◌++◌, length, map, take, slice_index_or, Option, None, Ok, Err, IsTrue, SFits, w64, append_assoc, arith}
 use Rattle.std.proofs.lemmas.Bool.{eq-eqb, false≢true}
 use Rattle.std.proofs.lemmas.Bool.Decides.{nat_tests}
 use Rattle.std.proofs.lemmas.Int.{ints}
@@ -10,7 +10,7 @@ use Rattle.std.specs.Ordering.{int_cmp}
 use Rattle.std.specs.Prelude.{All, Result, replicate, nat_le, ⊤}
 use Rattle.std.specs.Str.Lossy.{utf8_valid_len}
 use Rattle.sqlval.specs.Conversion.{is_word}
-use Rattle.sqlval.specs.Faults.{IsNotDiskFault, IsOutside}
+use Rattle.sqlval.specs.Faults.{IsOutside}
 use Rattle.sqlval.specs.Gives.{Refuses}
 use Rattle.sqlval.specs.Lists.{is_rising}
 use Rattle.sqlval.specs.declared.affinity.Affinity.TheVariants as to
@@ -34,10 +34,8 @@ use Rattle.catalog.specs.declared.tables.Table.{Table}
 use Rattle.rowprog.specs.Answers.{row_at}
 use Rattle.rowprog.specs.Rows.{IsRow, TableRow}
 use Rattle.rowprog.specs.Trees.{AreFitRows, HasRows, HoldsFit, IsFitRow, FindsFit}
-use Rattle.rowprog.proofs.Calm.{rows_calm}
-use Rattle.rowprog.proofs.RowLemmas.{only_memory, ok_is, row_again, row_is, row_refused}
+use Rattle.rowprog.proofs.RowLemmas.{only_memory, ok_is, row_again, row_is}
 use Rattle.rowprog.proofs.RowOrder.{both_true, record_holds, rowids_rise}
-use Rattle.rowprog.proofs.Steps.{refused_so}
 use Rattle.rowprog.proofs.TreeOrder.{tree_rises}
 
 -- ---- one row
@@ -54,12 +52,6 @@ fit_row width entry row bytes fits can reads =
 -- a fit row is refused only when out of memory
 pub fit_read : (width : ℕ) (entry : Entry) (row : TableRow) (fault : Fault) → IsFitRow width entry row → Refuses fault (row_at width entry) → fault ≡ Memory
 fit_read width entry row fault is refuses = only_memory fault row (subst (λ r. Refuses fault r) (row_again width entry row is.is) refuses)
-
-pub row_calm : (width : ℕ) (entry : Entry) (fault : Fault) → Refuses fault (row_at width entry) → IsNotDiskFault fault
-row_calm width entry fault refuses = elim (refused_so fault (row_at width entry) refuses) [
-  | inl memory ↦ rows_calm 0 fault (inl memory)
-  | inr is ↦ rows_calm 0 fault (inr (inr (row_refused width entry fault is)))
-]
 
 first_of : (a b : Bool) → (a && b) ≡ true → a ≡ true
 first_of true b e = refl

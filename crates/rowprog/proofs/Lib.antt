@@ -1,7 +1,6 @@
 pub mod Calm
 mod FitTrees
 pub mod HeldRows
-pub mod QueryAnswers
 pub mod RowLemmas
 pub mod RowOrder
 pub mod Steps

@@ -1,6 +1,6 @@
 -- The rows of a tree, as a query's source has them.
 use Rattle.std.proofs.Common.{◌≡◌, ◌⊎◌, inl, inr, refl, sym, ap, subst, ◌∙◌, ℕ, List, [], ◌∷◌, map, Ok, Err}
-use Rattle.std.specs.Prelude.{Result, IsErrAnd, MatchResult}
+use Rattle.std.specs.Prelude.{Result, IsErrAnd}
 use Rattle.sqlval.specs.Faults.{IsNotDiskFault, IsOutside}
 use Rattle.sqlval.specs.Gives.{Refuses}
 use Rattle.sqlval.specs.declared.fault.Fault.{Fault}
@@ -13,7 +13,7 @@ use Rattle.bind.specs.declared.queries.BoundSource.{BoundSource}
 use Rattle.rowprog.specs.Answers.{◌and◌, IsRowRefusal, every, left, row_at, with_front}
 use Rattle.rowprog.specs.Rows.{IsRow, TableRow}
 use Rattle.rowprog.specs.Sources.{LoadsRows, as_source, source_at}
-use Rattle.rowprog.proofs.Calm.{page_calm}
+use Rattle.rowprog.proofs.Calm.{rows_calm}
 use Rattle.rowprog.proofs.RowLemmas.{and_err, every_refused, not_given, ok_is, row_again, row_refused}
 use Rattle.rowprog.proofs.Steps.{refused_so}
 
@@ -60,6 +60,6 @@ front_refused front (Err other) fault e = e
 -- what refuses a row is no disk's fault
 pub left_calm : (width : ℕ) (entries : List Entry) (front : List Row) (fault : Fault) → Refuses fault (left (source_at width) entries front) → IsNotDiskFault fault
 left_calm width entries front fault refuses = elim (refused_so fault (left (source_at width) entries front) refuses) [
-  | inl memory ↦ page_calm 0 [] fault (inl memory)
-  | inr is ↦ page_calm 0 [] fault (inr (inr (inl (every_refused IsRowRefusal (source_at width) (source_refused width) entries fault (front_refused front (every (map (source_at width) entries)) fault is)))))
+  | inl memory ↦ rows_calm fault (inl memory)
+  | inr is ↦ rows_calm fault (inr (every_refused IsRowRefusal (source_at width) (source_refused width) entries fault (front_refused front (every (map (source_at width) entries)) fault is)))
 ]

@@ -1,6 +1,6 @@
 -- Answers of which the first refusal counts.
-use Rattle.std.proofs.Common.{◌≡◌, ◌⊎◌, inl, inr, ℕ, ◌+◌, ◌<◌, ◌≤◌, List, [], ◌∷◌, ◌++◌, length, map, drop, slice_index_or, Result, Ok, Err, refl, sym, ap, subst, ◌∙◌, append_assoc, append-nil}
-use Rattle.std.proofs.lemmas.List.{at_drop_more, at_drop_all}
+use Rattle.std.proofs.Common.{◌≡◌, ◌⊎◌, inl, inr, ℕ, ◌+◌, ◌<◌, List, [], ◌∷◌, ◌++◌, length, map, drop, slice_index_or, Result, Ok, Err, refl, sym, ap, subst, ◌∙◌, append_assoc}
+use Rattle.std.proofs.lemmas.List.{at_drop_more}
 use Rattle.sqlval.specs.Gives.{Refuses}
 use Rattle.sqlval.specs.declared.fault.Fault.{Fault}
 use Rattle.sqlval.specs.declared.fault.Fault.TheVariants as f
@@ -95,7 +95,3 @@ pub stops : {A X : Type 0} (f : X → Result A Fault) (xs : List X) (i : ℕ) (d
     → i < length xs → Refuses fault (f (slice_index_or xs i d)) → left f (drop i xs) front ≡ total → Refuses fault total
 stops f xs i d front fault total lt h so_far =
     subst (λ r. Refuses fault r) (sym (at_drop_more (λ rest. left f rest front) xs i d lt) ∙ so_far) (one_stops f (slice_index_or xs i d) (drop (i + 1) xs) front fault h)
-
-pub ends : {A X : Type 0} (f : X → Result A Fault) (xs : List X) (i : ℕ) (front : List A) (total : Result (List A) Fault)
-    → length xs ≤ i → left f (drop i xs) front ≡ total → total ≡ Ok front
-ends {A} f xs i front total le so_far = sym so_far ∙ (at_drop_all (λ rest. left f rest front) xs i le ∙ ap (λ (ys : List A). Ok ys) (simp append-nil))

@@ -1,28 +1,18 @@
 -- The rows of a tree are read batch by batch.
-use Rattle.std.proofs.Common.{◌≡◌, refl, sym, ap, subst, ◌∙◌, inl, inr, ◌⊎◌, ◌<◌, ◌+◌, ◌-◌, ◌^◌, ℕ, ℤ, pos, negsuc, ◌<ℤ◌, Bool, List, [], ◌∷◌, ◌++◌, map, Option, Some, None, Ok, Err, IsTrue, arith}
-use Rattle.std.proofs.lemmas.Int.{ints}
+use Rattle.std.proofs.Common.{◌≡◌, refl, sym, ap, subst, ◌∙◌, inl, inr, ◌⊎◌, ◌+◌, ◌-◌, ◌^◌, ℕ, ℤ, pos, negsuc, Bool, List, [], ◌∷◌, ◌++◌, map, Option, Some, None, Ok, Err, IsTrue, arith}
 use Rattle.std.proofs.lemmas.List.{append-nil}
-use Rattle.std.proofs.lemmas.List.Elements.{recursion_from_All}
-use Rattle.std.specs.Prelude.{Result, IsErrAnd, ⊤}
+use Rattle.std.specs.Prelude.{Result, ⊤}
 use Rattle.sqlval.specs.Gives.{Refuses}
-use Rattle.sqlval.specs.Refusals.{refusal_of}
-use Rattle.sqlval.specs.Faults.{IsNotDiskFault, IsOutside}
+use Rattle.sqlval.specs.Faults.{IsOutside}
 use Rattle.sqlval.specs.declared.fault.Fault.{Fault}
-use Rattle.sqlval.specs.declared.value.Value.{Value}
 use Rattle.page.specs.Leaf.{Entry}
 use Rattle.pages.specs.Calls.{Limits, Stays}
 use Rattle.pages.specs.Map.{PageMap, AreWhole}
 use Rattle.tabletree.specs.Rows.{rows_from}
-use Rattle.tabletree.specs.Scanning.{BeginsAll, GivesBatch, IsForward}
+use Rattle.tabletree.specs.Scanning.{BeginsAll, GivesBatch}
 use Rattle.tabletree.specs.Tree.{IsTableTree}
-use Rattle.bind.specs.Bound.{IsOf}
-use Rattle.bind.specs.declared.queries.BoundSource.{BoundSource}
-use Rattle.bind.specs.declared.queries.Output.{Output}
-use Rattle.rowprog.specs.Answers.{◌and◌, entry_given, every, left, with_front}
-use Rattle.rowprog.specs.Rows.{answers_of}
-use Rattle.rowprog.specs.Trees.{AnswersTree}
-use Rattle.rowprog.proofs.Calm.{page_calm}
-use Rattle.rowprog.proofs.RowLemmas.{IsEntryRefusal, as_answer, entry_refused, every_refused, ok_is, rows_again}
+use Rattle.rowprog.specs.Answers.{◌and◌, every, left, with_front}
+use Rattle.rowprog.proofs.RowLemmas.{ok_is}
 use Rattle.rowprog.proofs.Steps.{begins, one_on, refused_so}
 
 -- ---- lists in two parts
@@ -67,22 +57,6 @@ abbrev pub places_from : Option ℤ → ℕ
 places_from None = 0
 places_from (Some (pos n)) = 1 + (2 ^ 63 - n)
 places_from (Some (negsuc n)) = 2 ^ 63 + 2 + n
-
-falls : (before rowid : ℤ) → before <ℤ rowid → rowid <ℤ pos (2 ^ 63) → places_from (Some rowid) < places_from (Some before)
-falls (pos n) (pos m) lt less = omega (arith, ints, lt, less)
-falls (pos n) (negsuc m) lt less = absurd (omega (arith, ints, lt))
-falls (negsuc n) (pos m) lt less = omega (arith, ints, lt, less)
-falls (negsuc n) (negsuc m) lt less = omega (arith, ints, lt, less)
-
-some_left : (before : ℤ) → 0 < places_from (Some before)
-some_left (pos n) = omega arith
-some_left (negsuc n) = omega arith
-
--- a cursor that goes on has fewer places left
-pub goes_forward : (old new : Option ℤ) → (old ≡ None → ⊥) → IsForward old new → places_from new < places_from old
-goes_forward None new some forward = absurd (some refl)
-goes_forward (Some before) None some forward = some_left before
-goes_forward (Some before) (Some rowid) some forward = falls before rowid forward.0 forward.1
 
 -- ---- what was read so far
 
@@ -144,36 +118,3 @@ module _ {P K : Type 0} (below : P → K) (tells : K → Bool) (limits : K → L
         → every (map f rows) ≡ Ok values
     read_all none told rows used whole tree =
         sym (has.read told rows used whole tree) ∙ ap (λ (at : Option ℤ). left f (rows_from at rows) values) none ∙ ap (λ (vs : List A). given f vs) (append-nil values)
-
--- ---- what the outputs give
-
-abbrev entries_given : BoundSource → List Output → List Entry → Result (List (List Value)) Fault
-entries_given table outputs rows = every (map (entry_given table.width outputs) rows)
-
--- where each entry of a tree gives something, or isn't read
-pub tree_answered : {X : Type 0} (view : X → List (List Value)) (pages : PageMap) (size : ℕ) (table : BoundSource) (outputs : List Output) (x : X)
-    → ((entries : List Entry) (used : List ℕ) → AreWhole size pages → IsTableTree pages size table.root entries used → entries_given table outputs entries ≡ Ok (view x))
-    → AnswersTree view pages size table outputs (Ok x)
-tree_answered view pages size table outputs x read rows whole has within =
-    sym (rows_again table.width outputs has.entries rows (recursion_from_All (IsOf (Some table.width)) outputs within) has.each) ∙ ap as_answer (read has.entries has.used whole has.tree)
-
-pub tree_refused : {X : Type 0} (view : X → List (List Value)) (pages : PageMap) (size : ℕ) (table : BoundSource) (outputs : List Output) (fault : Fault) (result : Result X Fault) → IsErrAnd result (λ e. e ≡ fault)
-    → ((entries : List Entry) (used : List ℕ) → AreWhole size pages → IsTableTree pages size table.root entries used → IsOutside fault ⊎ (entries_given table outputs entries ≡ Err fault))
-    → AnswersTree view pages size table outputs result
-tree_refused view pages size table outputs fault (Ok x) same read = absurd same
-tree_refused view pages size table outputs fault (Err e) same read = λ rows whole has within.
-    subst (λ (g : Fault). IsOutside g ⊎ (answers_of outputs rows ≡ Err (refusal_of g))) (sym same) (elim (read has.entries has.used whole has.tree) [
-      | inl outside ↦ inl outside
-      | inr is ↦ inr (sym (rows_again table.width outputs has.entries rows (recursion_from_All (IsOf (Some table.width)) outputs within) has.each) ∙ ap as_answer is)
-    ])
-
-front_refused : {A : Type 0} (front : List A) (r : Result (List A) Fault) (fault : Fault) → with_front front r ≡ Err fault → r ≡ Err fault
-front_refused front (Ok xs) fault e = absurd cc
-front_refused front (Err other) fault e = e
-
--- what refuses a row is no disk's fault
-pub left_calm : (width : ℕ) (outputs : List Output) (entries : List Entry) (front : List (List Value)) (fault : Fault) → Refuses fault (left (entry_given width outputs) entries front) → IsNotDiskFault fault
-left_calm width outputs entries front fault refuses = elim (refused_so fault (left (entry_given width outputs) entries front) refuses) [
-  | inl memory ↦ page_calm 0 outputs fault (inl memory)
-  | inr is ↦ page_calm 0 outputs fault (inr (inr (every_refused (IsEntryRefusal outputs) (entry_given width outputs) (entry_refused width outputs) entries fault (front_refused front (every (map (entry_given width outputs) entries)) fault is))))
-]

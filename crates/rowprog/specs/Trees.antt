@@ -1,11 +1,10 @@
--- The rows of a table's tree, and what a query gives of each.
-use Rattle.std.specs.Prelude.{◌≡◌, ◌⊎◌, ℕ, true, List, length, All, Some, Result, Ok, Err, IfErr, OnOk, ⊤}
+-- The rows of a table's tree.
+use Rattle.std.specs.Prelude.{◌≡◌, ◌⊎◌, ℕ, true, List, length, Result, Ok, Err, IfErr, OnOk, ⊤}
 use Rattle.std.specs.List.{list_all}
 use Rattle.sqlval.specs.Conversion.{is_word}
 use Rattle.sqlval.specs.Faults.{IsOutside}
 use Rattle.sqlval.specs.Refusals.{Answer, refusal_of}
 use Rattle.sqlval.specs.declared.fault.Fault.{Fault}
-use Rattle.sqlval.specs.declared.value.Value.{Value}
 use Rattle.page.specs.Leaf.{Entry}
 use Rattle.pages.specs.Map.{PageMap, AreWhole}
 use Rattle.treepage.specs.Cells.{Pairwise}
@@ -13,10 +12,7 @@ use Rattle.tabletree.specs.Tree.{IsTableTree}
 use Rattle.catalog.specs.Listed.{plain_table}
 use Rattle.catalog.specs.Rows.{are_rows, is_value}
 use Rattle.catalog.specs.declared.tables.Table.{Table}
-use Rattle.bind.specs.Bound.{IsOf}
-use Rattle.bind.specs.declared.queries.BoundSource.{BoundSource}
-use Rattle.bind.specs.declared.queries.Output.{Output}
-use Rattle.rowprog.specs.Rows.{IsRow, TableRow, answers_of}
+use Rattle.rowprog.specs.Rows.{IsRow, TableRow}
 
 -- the tree under this root has these rows of so many values, by rising rowid
 pub record HasRows (map : PageMap) (size root width : ℕ) (rows : List TableRow) : Type 0 where
@@ -29,11 +25,6 @@ pub record HasRows (map : PageMap) (size root width : ℕ) (rows : List TableRow
 abbrev pub AnswersOrFails : {X A : Type 0} → (X → A) → Answer A → Result X Fault → Type 0
 AnswersOrFails view answer (Ok x) = answer ≡ Ok (view x)
 AnswersOrFails view answer (Err fault) = IsOutside fault ⊎ (answer ≡ Err (refusal_of fault))
-
--- of a tree of rows, this is what the outputs give of each
-abbrev pub AnswersTree : {X : Type 0} → (X → List (List Value)) → PageMap → ℕ → BoundSource → List Output → Result X Fault → Type 0
-AnswersTree view map size table outputs result = (rows : List TableRow) → AreWhole size map → HasRows map size table.root table.width rows
-    → All (IsOf (Some table.width)) outputs → AnswersOrFails view (answers_of outputs rows) result
 
 -- ---- rows that a table may hold
 

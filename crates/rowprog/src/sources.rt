@@ -10,7 +10,6 @@ ghost use Rattle.rowprog.specs.Sources.{LoadsRows, source_at};
 
 use crate::rows::source_of;
 use bind::BoundSource;
-use page::Cell;
 use pages::Pages;
 use record::Record;
 use sqlval::{Many, R, Value};
@@ -33,11 +32,7 @@ fn values_in(alloc: Global, fields: &Record<'_>) -> Result<Many<Value>, AllocErr
 fn source_row(alloc: Global, row: BatchEntry<'_>, width: usize) -> R<SourceRow>
     ensures { Gives (λ row. row) result (source_at width (entry_in row.entry)) }
 {
-    let cell = Cell {
-        rowid: row.rowid,
-        payload: row.payload,
-    };
-    let source = source_of(alloc, cell, width)?;
+    let source = source_of(alloc, row, width)?;
     Ok(SourceRow {
         rowid: Value::Int(source.rowid),
         values: values_in(alloc, &source.record)?,
@@ -54,8 +49,7 @@ fn add_source_rows(alloc: Global, batch: &Batch, width: usize, rows: &mut Many<S
     Ok(())
 }
 
-/// The rows of a table, by rising rowid. (What `Cursor::next_batch` refuses; a row with another number of values is `Unsupported(ColumnCount)`, and
-/// what is no record is refused as by `Record::over`.)
+/// The rows of a table, by rising rowid. (What `Cursor::next_batch` and `source_of` refuse.)
 pub fn source_rows<P: Pages>(alloc: Global, pages: &mut P, table: BoundSource) -> R<Many<SourceRow>>
     ensures loaded { IsTrue (P.Pages.tells (P.Pages.below pages.old))
         → LoadsRows (P.Pages.map pages.old) (P.Pages.limits (P.Pages.below pages.old)).page table result }

@@ -1,76 +1,22 @@
-//! The rows of a query, from the tree of its table.
+//! The check of the rows of a table's tree.
 
-ghost use Rattle.std.specs.Prelude.{◌≡◌, ◌↔◌, List, All, map, IsTrue, IfErr, OnOk};
+ghost use Rattle.std.specs.Prelude.{◌≡◌, ◌↔◌, List, All, IsTrue, IfErr, OnOk};
 ghost use Rattle.sqlval.specs.Faults.{IsNotDiskFault};
 ghost use Rattle.sqlval.specs.Fields.{value_of};
-ghost use Rattle.sqlval.specs.Gives.{Gives};
 ghost use Rattle.pages.specs.Calls.{Stays};
 ghost use Rattle.record.specs.Writing.{IsBytes, IsStorable};
 ghost use Rattle.treepage.specs.Cells.{Pairwise};
 ghost use Rattle.tabletree.specs.Scanning.{entry_in};
-ghost use Rattle.rowprog.specs.Answers.{entry_given, left};
-ghost use Rattle.rowprog.specs.Rows.{TableRow, values_of};
-ghost use Rattle.rowprog.specs.Trees.{AnswersTree, FindsFit, IsFitRow, PassesFit};
+ghost use Rattle.rowprog.specs.Rows.{TableRow};
+ghost use Rattle.rowprog.specs.Trees.{FindsFit, IsFitRow, PassesFit};
 
-use crate::rows::{Rows, result_row, source_of};
-use bind::{BoundSource, Output};
-use page::Cell;
+use crate::rows::source_of;
+use bind::BoundSource;
 use pages::Pages;
 use record::Record;
-use sqlval::{Fault, Feature, Field, R, Row};
+use sqlval::{Fault, Feature, Field, R};
 use std::alloc::Global;
 use tabletree::{Batch, BatchEntry, Cursor};
-
-/// What the outputs give of a row of a batch.
-fn batch_row(alloc: Global, row: BatchEntry<'_>, width: usize, outputs: &[Output]) -> R<Row>
-    ensures { Gives values_of result (entry_given width outputs.now (entry_in row.entry)) }
-{
-    let cell = Cell {
-        rowid: row.rowid,
-        payload: row.payload,
-    };
-    result_row(alloc, cell, width, outputs)
-}
-
-/// Adds what the outputs give of each row of a batch.
-fn add_rows(
-    alloc: Global,
-    batch: &Batch,
-    width: usize,
-    outputs: &[Output],
-    rows: &mut Rows,
-) -> R<()>
-    ensures { Gives (λ done. map values_of rows.new.items) result
-        (left (entry_given width outputs.now) batch.now (map values_of rows.old.items)) }
-{
-    'rows: for index in 0..batch.len() {
-        rows.push(batch_row(alloc, batch.row(index), width, outputs)?)?;
-    }
-    Ok(())
-}
-
-/// The rows of a table: what the outputs give of each, by rising rowid. (As `table_rows`, except for pages that are no tree of a table:
-/// those are refused as a `Cursor` does.)
-pub fn tree_rows<P: Pages>(
-    alloc: Global,
-    pages: &mut P,
-    table: BoundSource,
-    outputs: &[Output],
-) -> R<Rows>
-    ensures answered { IsTrue (P.Pages.tells (P.Pages.below pages.old))
-        → AnswersTree (λ rows. map values_of rows.items) (P.Pages.map pages.old) (P.Pages.limits (P.Pages.below pages.old)).page
-        table outputs.now result }
-    ensures stays { Stays P.Pages.below P.Pages.map P.Pages.count P.Pages.failures result pages.old pages.new }
-{
-    let mut rows = Vec::new(alloc);
-    let mut batch = Batch::new(alloc);
-    let mut cursor = Cursor::new(table.root);
-    'batches: while cursor.next.is_some() {
-        cursor.next_batch(pages, &mut batch)?;
-        add_rows(alloc, &batch, table.width, outputs, &mut rows)?;
-    }
-    Ok(rows)
-}
 
 /// The items of a slice of bytes are bytes.
 fn bytes_are_bytes(bytes: &[u8])
@@ -110,11 +56,7 @@ fn check_row(alloc: Global, row: BatchEntry<'_>, width: usize) -> R<()>
     ensures only { (read : TableRow) → IsFitRow width (entry_in row.entry) read → IfErr result (λ fault. fault ≡ Fault.Memory) }
     ensures not_disk { IfErr result (λ fault. IsNotDiskFault fault) }
 {
-    let cell = Cell {
-        rowid: row.rowid,
-        payload: row.payload,
-    };
-    let source = source_of(alloc, cell, width)?;
+    let source = source_of(alloc, row, width)?;
     bytes_are_bytes(row.payload);
     if !can_all_be_stored(&source.record) {
         return Err(Fault::Unsupported(Feature::Limit));
@@ -134,8 +76,8 @@ fn check_batch(alloc: Global, batch: &Batch, width: usize) -> R<()>
     Ok(())
 }
 
-/// Checks that the rows of a tree are such as a table of so many columns may hold. (As `tree_rows`; `Unsupported(Limit)` for a text or
-/// bytes of more than 1,000,000.)
+/// Checks that the rows of a tree are such as a table of so many columns may hold. (What `Cursor::next_batch` and `check_row`
+/// refuse.)
 pub fn check_tree_rows<P: Pages>(alloc: Global, pages: &mut P, table: BoundSource) -> R<()>
     ensures found { IsTrue (P.Pages.tells (P.Pages.below pages.old))
         → FindsFit (P.Pages.map pages.old) (P.Pages.limits (P.Pages.below pages.old)).page table.root table.width result }

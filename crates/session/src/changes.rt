@@ -67,8 +67,7 @@ fn insert<D: Disk + Drop>(
 ) -> R<()>
     ensures cause { HasCause true result log.old log.new }
     ensures reads { Tells log.old → ShowTheSame log.old log.new }
-    ensures applies { (db : Database) → forms.is_source_supported insert.now.source ≡ true
-        → CanChange (listing log.old catalog.now) writer.old db
+    ensures applies { (db : Database) → CanChange (listing log.old catalog.now) writer.old db
         → ChangesPages (statement.Change (change.Insert insert.now)) (listing log.old catalog.now) writer.old db result
         (listing log.new catalog.now) writer.new }
     ensures marks { marks_of writer.new ≡ marks_of writer.old }

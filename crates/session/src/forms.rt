@@ -5,19 +5,7 @@ ghost use Rattle.std.specs.List.{list_all};
 ghost use Rattle.storage.specs.Forms as supported_forms;
 
 use sqlval::Many;
-use syntax::{
-    Change, ColumnDefinition, Create, InsertSource, NewObject, Statement, TableDefinition,
-};
-
-/// Whether an INSERT's rows are those of VALUES.
-fn is_source_supported(source: &InsertSource) -> bool
-    ensures { result ≡ supported_forms.is_source_supported source.now }
-{
-    match source {
-        InsertSource::Rows(_) => true,
-        InsertSource::Query(_) => false,
-    }
-}
+use syntax::{ColumnDefinition, Create, NewObject, Statement, TableDefinition};
 
 /// Whether a table has columns of names and types alone.
 pub fn is_table_supported(table: &TableDefinition) -> bool
@@ -49,9 +37,8 @@ pub fn is_supported(statement: &Statement) -> bool
                 object: NewObject::Table(table),
             },
         ) => is_table_supported(table),
-        Statement::Change(Change::Insert(insert)) => is_source_supported(&insert.source),
-        Statement::Change(Change::Delete(_) | Change::Update(_)) => true,
-        Statement::Select(_)
+        Statement::Change(_)
+        | Statement::Select(_)
         | Statement::Drop(_, _)
         | Statement::Begin(_)
         | Statement::Commit

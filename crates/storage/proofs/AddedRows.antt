@@ -1,7 +1,6 @@
 -- A row after those of the schema table.
-use Rattle.std.proofs.Common.{◌≡◌, ◌⊎◌, inl, inr, refl, sym, ap, subst, ◌∙◌, ℕ, suc, ℤ, pos, ◌+◌, ◌-◌, ◌^◌, ◌≤◌, ◌+ℤ◌, ◌<ℤ◌, Bool, true, false, List, [], ◌∷◌, ◌++◌, Option, Some, None, Result, Ok, Err, arith}
-use Rattle.std.specs.Prelude.{⊤, IsErrAnd, MatchOption, MatchResult, not}
-use Rattle.std.proofs.lemmas.Bool.{false≢true}
+use Rattle.std.proofs.Common.{◌≡◌, ◌⊎◌, inl, inr, refl, sym, subst, ◌∙◌, ℕ, ℤ, pos, ◌-◌, ◌^◌, ◌+ℤ◌, ◌<ℤ◌, Bool, true, false, List, Option, Some, None, Result, Ok, Err, arith}
+use Rattle.std.specs.Prelude.{⊤, IsErrAnd, MatchOption, MatchResult}
 use Rattle.sqlval.specs.Faults.{IsOutside}
 use Rattle.sqlval.specs.declared.fault.Fault.{Fault}
 use Rattle.sqlval.specs.declared.fault.Fault.TheVariants as fault
@@ -10,10 +9,10 @@ use Rattle.record.specs.Record.{IsRecord}
 use Rattle.page.specs.Leaf.{Entry}
 use Rattle.pages.specs.Calls.{IsOutsideOrFull}
 use Rattle.pages.specs.Map.{PageMap}
-use Rattle.tabletree.specs.Calls.{BecomesRows, InsertsRow, IsInserted, Stands}
+use Rattle.tabletree.specs.Calls.{BecomesRows, IsInserted, Stands}
 use Rattle.tabletree.specs.Laws.{RowsComeLast}
-use Rattle.tabletree.specs.Rows.{last_rowid, payload_at, with_row}
-use Rattle.storage.specs.Listing.{AddsRow, FindsNoRowid, IsAddedAfter}
+use Rattle.tabletree.specs.Rows.{last_rowid}
+use Rattle.storage.specs.Listing.{FindsNoRowid, IsAddedAfter}
 
 abbrev Refusal : Fault → List Value → List Entry → Type 0
 Refusal f values rows = IsOutsideOrFull f ⊎ FindsNoRowid values rows f

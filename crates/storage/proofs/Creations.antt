@@ -1,25 +1,19 @@
 -- What a CREATE TABLE comes to on the database that pages hold.
-use Rattle.std.proofs.Common.{◌≡◌, ◌⊎◌, ◌≤◌, ◌<◌, ◌+◌, inl, inr, refl, sym, ap, subst, ◌∙◌, ℕ, zero, suc, Bool, true, false, cond, ◌==◌, List, [], ◌∷◌, ◌++◌, length, Option, Some, None, Result, Ok, Err, arith}
-use Rattle.std.specs.Prelude.{⊤, Contains, IfErr, IsErrAnd, MatchResult, IfOk}
-use Rattle.std.specs.List.{AllByRecursion, find}
-use Rattle.std.proofs.lemmas.Bool.Decides.{nat_tests}
+use Rattle.std.proofs.Common.{◌≡◌, ◌⊎◌, ◌≤◌, ◌+◌, inl, inr, refl, sym, subst, ◌∙◌, ℕ, true, List, [], ◌∷◌, ◌++◌, length, None, Result, Ok, Err, arith}
+use Rattle.std.specs.Prelude.{Contains, IfErr, IsErrAnd, MatchResult, IfOk}
 use Rattle.std.proofs.lemmas.List.{append-nil}
 use Rattle.sqlval.specs.PageSizes.{IsPageSize}
 use Rattle.sqlval.specs.Refusals.{Refusal, refusal_of}
 use Rattle.sqlval.specs.declared.fault.Fault.{Fault}
 use Rattle.sqlval.specs.declared.fault.Fault.TheVariants as fault
-use Rattle.sqlval.specs.declared.fault.Damage.TheVariants as damage
-use Rattle.sqlval.specs.declared.value.Value.{Value}
 use Rattle.syntax.specs.declared.create.NewObject.TheVariants as object
 use Rattle.syntax.specs.declared.create.TableDefinition.{TableDefinition}
 use Rattle.syntax.specs.declared.statement.Statement.{Statement}
 use Rattle.syntax.specs.declared.statement.Statement.TheVariants as statement
-use Rattle.dbheader.specs.declared.fields.Header.{Header}
 use Rattle.record.specs.Record.{IsRecord}
-use Rattle.page.specs.Leaf.{Entry}
 use Rattle.pages.specs.Calls.{IsOutsideOrFull}
 use Rattle.pages.specs.Counting.{occurs, fresh, Moves}
-use Rattle.pages.specs.Map.{PageMap, Has, page_at}
+use Rattle.pages.specs.Map.{PageMap}
 use Rattle.pages.proofs.Moving.{occurs_append}
 use Rattle.treepage.specs.Cells.{Pairwise}
 use Rattle.freelist.specs.Calls.{AreFree}
@@ -27,12 +21,11 @@ use Rattle.forest.specs.Staying.{AreKept}
 use Rattle.tabletree.specs.Calls.{Stands}
 use Rattle.tabletree.specs.Freeing.{IsNewTree}
 use Rattle.tabletree.specs.Laws.{TreesStay}
-use Rattle.tabletree.specs.Tree.{IsTableTree}
 use Rattle.tabletree.proofs.LeafTrees.{root_there}
-use Rattle.filecheck.specs.Layout.{AreShared, IsTree, OfRows, Owner, ReplacesTrees, TreesStand, used_by}
+use Rattle.filecheck.specs.Layout.{AreShared, Owner, ReplacesTrees, TreesStand, used_by}
 use Rattle.catalog.specs.Database.{Database, Name, ATable, with_object}
 use Rattle.catalog.specs.Laws.{KeepsOnlyTables}
-use Rattle.catalog.specs.Listed.{Lists, has_only_tables, is_table, plain_table, table_named}
+use Rattle.catalog.specs.Listed.{Lists, is_table, plain_table, table_named}
 use Rattle.catalog.specs.Named.{KeepsNamed}
 use Rattle.catalog.specs.NewTables.{IsNewRoot, ListsNewTable}
 use Rattle.catalog.specs.Rows.{are_rows}
@@ -45,7 +38,7 @@ use Rattle.rowprog.specs.Rows.{IsRow, TableRow}
 use Rattle.storage.specs.Changing.{IsChangeRefusal, IsMade}
 use Rattle.storage.specs.Forms.{is_table_supported}
 use Rattle.storage.specs.Listing.{FindsNoRowid, IsAddedAfter}
-use Rattle.storage.specs.Schema.{AreRowsOf, IsCreateOf, IsMadeBeside, IsRowOf, schema_row}
+use Rattle.storage.specs.Schema.{IsCreateOf, IsMadeBeside, IsRowOf, schema_row}
 use Rattle.storage.specs.Stored.{IsTreeOf, Stores, schema_tree}
 use Rattle.storage.specs.Works.{Reaches, RefusesWith, change_made, of_known}
 use Rattle.storage.proofs.Owners.{joins}

@@ -1,11 +1,9 @@
 -- What a DROP comes to on the database that pages hold.
-use Rattle.std.proofs.Common.{◌≡◌, ◌⊎◌, ◌≤◌, ◌<◌, ◌+◌, ◌<ℤ◌, ◌-ℤ◌, pos, ℤ, inl, inr, refl, sym, ap, subst, ◌∙◌, ℕ, Bool, true, false, cond, not, filter, ◌&&◌, List, [], ◌∷◌, ◌++◌, length, Option, Some, None, Result, Ok, Err, arith}
-use Rattle.std.specs.Prelude.{⊤, Contains, MatchResult, option_map}
-use Rattle.std.specs.List.{list_all}
+use Rattle.std.proofs.Common.{◌≡◌, ◌⊎◌, ◌≤◌, ◌<◌, ◌<ℤ◌, ◌-ℤ◌, pos, ℤ, inl, inr, refl, sym, ap, subst, ◌∙◌, ℕ, Bool, true, false, cond, not, filter, ◌&&◌, List, [], ◌∷◌, ◌++◌, length, Option, Some, None, arith}
+use Rattle.std.specs.Prelude.{Contains, option_map}
 use Rattle.std.proofs.lemmas.Bool.{false≢true}
 use Rattle.std.proofs.lemmas.Int.{ints}
 use Rattle.std.proofs.lemmas.List.{append-nil}
-use Rattle.sqlval.specs.Faults.{IsOutside}
 use Rattle.sqlval.specs.Names.{is_same_name}
 use Rattle.sqlval.specs.PageSizes.{IsPageSize}
 use Rattle.sqlval.specs.Refusals.{NoSuch, Refusal, refusal_of}
@@ -15,25 +13,21 @@ use Rattle.syntax.specs.declared.statement.ObjectKind.{ObjectKind}
 use Rattle.syntax.specs.declared.statement.ObjectKind.TheVariants as kind
 use Rattle.syntax.specs.declared.statement.Statement.{Statement}
 use Rattle.syntax.specs.declared.statement.Statement.TheVariants as statement
-use Rattle.dbheader.specs.declared.fields.Header.{Header}
 use Rattle.page.specs.Leaf.{Entry}
 use Rattle.pages.specs.Calls.{IsOutsideOrFull}
-use Rattle.pages.specs.Counting.{occurs, Moves}
+use Rattle.pages.specs.Counting.{Moves}
 use Rattle.pages.specs.Map.{PageMap}
-use Rattle.treepage.specs.Cells.{Pairwise}
 use Rattle.tabletree.specs.Calls.{BecomesRows, Stands}
-use Rattle.tabletree.specs.Freeing.{AreGivenBack, FreesTree}
+use Rattle.tabletree.specs.Freeing.{AreGivenBack}
 use Rattle.tabletree.specs.Rows.{payload_at, without_row}
 use Rattle.tabletree.specs.SingleLeaf.{AreRising}
-use Rattle.filecheck.specs.Layout.{AreShared, OfRows, Owner, ReplacesTrees, TreesStand, used_by}
+use Rattle.filecheck.specs.Layout.{AreShared, Owner, ReplacesTrees, TreesStand, used_by}
 use Rattle.catalog.specs.Database.{Database, Name, Object, ATable, AnIndex, AView, ATrigger, object}
 use Rattle.catalog.specs.Listed.{has_only_tables, plain_table, table_named, without_table}
 use Rattle.catalog.specs.Named.{IsOfTables, ListsOthers, without_object}
 use Rattle.catalog.specs.declared.tables.Table.{Table}
-use Rattle.bind.specs.Bound.{AreOnce}
 use Rattle.bind.specs.Checked.{Checked, Meant, faults}
-use Rattle.bind.specs.Schema.{drop_object, dropped, goes_with}
-use Rattle.rowprog.specs.Rows.{TableRow}
+use Rattle.bind.specs.Schema.{dropped, goes_with}
 use Rattle.rowprog.proofs.TreeOrder.{tree_rises}
 use Rattle.storage.specs.Changing.{IsChangeRefusal, IsMade}
 use Rattle.storage.specs.Schema.{AreRowsOf}
@@ -41,7 +35,7 @@ use Rattle.storage.specs.Stored.{IsTreeOf, Stores, schema_tree}
 use Rattle.storage.specs.Works.{Reaches, RefusesWith, change_made, of_known}
 use Rattle.storage.proofs.PutRows.{same_owner}
 use Rattle.storage.proofs.Telling.{more_pages, none_once, told_once}
-use Rattle.storage.proofs.Untelling.{Above, IsTakenOut, IsUntold, above_all, once_named, taken_out, untold}
+use Rattle.storage.proofs.Untelling.{IsTakenOut, IsUntold, above_all, once_named, taken_out, untold}
 
 -- what follows for every listed database, and for the trees of its file
 pub record Laws : Type 0 where

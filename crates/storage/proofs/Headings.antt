@@ -1,23 +1,20 @@
 -- Pages whose header alone has changed, and tells the same freelist, store what they stored.
-use Rattle.std.proofs.Common.{◌≡◌, ◌∙◌, ◌<◌, ◌≤◌, ◌+◌, ◌==◌, if◌then◌else◌, inl, inr, refl, sym, ap, subst, arith, ℕ, List, [], ◌∷◌, length, drop}
+use Rattle.std.proofs.Common.{◌≡◌, ◌∙◌, ◌<◌, ◌≤◌, ◌==◌, if◌then◌else◌, inl, inr, refl, sym, ap, subst, arith, ℕ, List, [], ◌∷◌, length, drop}
 use Rattle.std.proofs.lemmas.Bool.{cases_lt}
 use Rattle.std.proofs.lemmas.Bool.Decides.{nat_tests}
 use Rattle.std.proofs.lemmas.Grind.{common_steps}
 use Rattle.std.specs.Prelude.{Result, Ok}
-use Rattle.std.specs.List.{AllByRecursion, flat_map}
-use Rattle.std.specs.Int.{w32, to_be_bytes}
+use Rattle.std.specs.List.{AllByRecursion}
 use Rattle.sqlval.specs.PageSizes.{IsPageSize}
 use Rattle.sqlval.specs.declared.fault.Fault.{Fault}
 use Rattle.dbheader.proofs.HeaderLemmas.{header_again}
 use Rattle.dbheader.specs.Header.{IsHeader}
-use Rattle.dbheader.specs.Reading.{header_at}
 use Rattle.dbheader.specs.declared.fields.Header.{Header}
 use Rattle.pages.specs.Counting.{Moves, body_at, fresh, occurs, start_of}
 use Rattle.pages.specs.Map.{PageMap, page_at, AreWhole, Has}
 use Rattle.freelist.proofs.Lists.{occurs_both}
 use Rattle.freelist.specs.Calls.{HasFree}
 use Rattle.freelist.specs.Freelist.{AreTrunks, IsTrunk, Trunk, first_of, pages_of}
-use Rattle.filecheck.specs.Layout.{AreShared, Owner}
 use Rattle.filecheck.proofs.Sharing.{replaces_trees, trees_stand}
 use Rattle.catalog.specs.Database.{Database}
 use Rattle.catalog.specs.declared.tables.Table.{Table}

@@ -1,8 +1,8 @@
 -- What an INSERT comes to on the database that pages hold.
-use Rattle.std.proofs.Common.{◌≡◌, ◌⊎◌, ◌≤◌, ◌+◌, inl, inr, refl, sym, ap, subst, ◌∙◌, ℕ, zero, suc, true, false, List, [], ◌∷◌, ◌++◌, length, map, slice_index_or, Option, Some, None, Result, Ok, Err, arith}
-use Rattle.std.specs.Prelude.{⊤, All, Contains, IfOk, IsErrAnd, MatchResult, option_map}
+use Rattle.std.proofs.Common.{◌≡◌, ◌⊎◌, ◌≤◌, ◌+◌, inl, inr, refl, sym, ap, subst, ◌∙◌, ℕ, zero, suc, Bool, true, false, List, [], ◌∷◌, ◌++◌, length, map, slice_index_or, Option, Some, None, Result, Ok, Err, arith}
+use Rattle.std.specs.Prelude.{⊤, All, Contains, IsErrAnd, IsTrue, MatchResult, option_map}
 use Rattle.std.specs.List.{AllByRecursion, position_from, range_with_len}
-use Rattle.std.proofs.lemmas.Bool.{cases_eq, false≢true}
+use Rattle.std.proofs.lemmas.Bool.{cases_eq}
 use Rattle.std.proofs.lemmas.List.{append-nil, get_or-append-add, get_or-map, length-append, length-map}
 use Rattle.std.proofs.lemmas.List.FromFn.{length-range_with_len}
 use Rattle.sqlval.specs.Names.{folded, is_same_name}
@@ -13,10 +13,9 @@ use Rattle.sqlval.specs.declared.value.Value.{Value}
 use Rattle.sqlval.specs.declared.value.Value.TheVariants.{Null}
 use Rattle.syntax.specs.declared.change.Change.TheVariants as kind
 use Rattle.syntax.specs.declared.change.Insert.{Insert}
-use Rattle.syntax.specs.declared.change.InsertSource.{InsertSource}
-use Rattle.syntax.specs.declared.change.InsertSource.TheVariants as source
 use Rattle.syntax.specs.declared.statement.Statement.{Statement}
 use Rattle.syntax.specs.declared.statement.Statement.TheVariants as statement
+use Rattle.pages.specs.Calls.{Limits}
 use Rattle.pages.specs.Map.{PageMap}
 use Rattle.tabletree.specs.Calls.{Stands}
 use Rattle.filecheck.specs.Layout.{ReplacesTrees, TreesStand}
@@ -46,14 +45,12 @@ use Rattle.trigger.specs.Binding.{IsFault}
 use Rattle.trigger.specs.Effects.{change, given_rows}
 use Rattle.trigger.specs.Laws.{BindsAlone, InsertAddsRows, InsertIsRefused, InsertOfNoneStays}
 use Rattle.storage.specs.Changing.{HasLongRow, IsChangeRefusal, IsMade}
-use Rattle.storage.specs.Forms.{is_source_supported}
 use Rattle.storage.specs.Reading.{AnswersRead}
 use Rattle.storage.specs.Stored.{Stores}
 use Rattle.storage.specs.Works.{Reaches, RefusesWith, change_made, given_on, of_answer}
 use Rattle.storage.proofs.Owners.{HasOwner, owner_of}
 use Rattle.storage.proofs.PutRows.{named_as, rows_elsewhere, rows_here, rows_with, stands, stores_put}
 use Rattle.storage.proofs.Roots.{own_pages}
-use Rattle.storage.proofs.WrittenRows.{written_wide}
 
 -- what follows for every listed database, and for the trees of its file
 pub record Laws : Type 0 where
@@ -148,13 +145,6 @@ refused_so fault.RowChangedBefore = (0, omega arith, refl)
 refused_so fault.ViewReadOnly = (0, omega arith, refl)
 refused_so fault.Failed = (0, omega arith, refl)
 refused_so fault.Blank = (0, omega arith, refl)
-
--- each row that is given has so many values
-pub source_wide : (db : Database) (n : ℕ) (s : InsertSource) (rows : List (List Value)) → is_source_supported s ≡ true → given_on db n s ≡ Meant (Ok rows) [] → AllByRecursion (λ vs. length vs ≡ n) rows
-source_wide db n (source.Query q) rows supported_forms e = absurd (false≢true supported_forms)
-source_wide db n (source.Rows written) rows supported_forms e =
-    let is = is_meant (given_rows db no_outer) (resolve_given db no_outer (Some n) (source.Rows written)) (Ok rows) e in
-    subst (λ (a : Answer (List (List Value))). IfOk a (AllByRecursion (λ vs. length vs ≡ n))) is.1 (written_wide db n written (ap faults is.0))
 
 -- The INSERT isn't refused and has this source, whose rows are these. Each gives the table's columns the same values by their places
 -- in the row, where they have one, as by the place of each value's column.
@@ -345,3 +335,10 @@ module _ (laws : Laws) (pages : PageMap) (size : ℕ) (tables : List Table) (db 
 pub passed_on : (P : ⊤ → Type 0) (Q : Fault → Type 0) (r : Result ⊤ Fault) (f : Fault) → IsErrAnd r (λ e. e ≡ f) → Q f → MatchResult r P Q
 passed_on P Q (Ok x) f is why = absurd is
 passed_on P Q (Err e) f is why = subst Q (sym is) why
+
+-- after a call that reads
+pub read_before : {P K : Type 0} (below : P → K) (tells : K → Bool) (limits : K → Limits) (pages : P → PageMap) (Q : PageMap → ℕ → Type 0) (old mid : P) → below mid ≡ below old → pages mid ≡ pages old
+    → (IsTrue (tells (below mid)) → Q (pages mid) (limits (below mid)).page) → IsTrue (tells (below old)) → Q (pages old) (limits (below old)).page
+read_before {P} {K} below tells limits pages Q old mid kept same says told =
+    subst (λ (m : PageMap). Q m (limits (below old)).page) same
+    (subst (λ (k : K). Q (pages mid) (limits k).page) kept (says (subst (λ (k : K). IsTrue (tells k)) (sym kept) told)))

@@ -3,6 +3,7 @@ pub mod Answering
 pub mod Creations
 pub mod Deletions
 pub mod Droppings
+pub mod GivenQueries
 pub mod Headings
 pub mod Insertions
 pub mod LoadedSources

@@ -1,40 +1,36 @@
 -- The rows of a query's sources, read one table after another, and what a query answers over them.
-use Rattle.std.proofs.Common.{◌≡◌, ◌⊎◌, inl, inr, refl, sym, ap, subst, ◌∙◌, ℕ, List, [], ◌∷◌, ◌++◌, map, length, Bool, Option, Some, None, Result, Ok, Err, arith}
+use Rattle.std.proofs.Common.{◌≡◌, refl, sym, ap, subst, ◌∙◌, ℕ, List, [], ◌∷◌, ◌++◌, map, length, Bool, Option, Some, None, Result, Ok, Err, arith}
 use Rattle.std.proofs.lemmas.List.{append-nil, append_assoc}
-use Rattle.std.specs.List.{AllByRecursion}
-use Rattle.std.specs.Prelude.{⊤, IfErr, IsErrAnd, IsTrue, MatchResult, option_map}
+use Rattle.std.specs.Prelude.{⊤, IsErrAnd, IsTrue, option_map}
 use Rattle.sqlval.specs.Faults.{IsOutside}
-use Rattle.sqlval.specs.Names.{folded}
-use Rattle.sqlval.specs.Refusals.{Answer, ◌then◌, all_answers, refusal_of}
+use Rattle.sqlval.specs.Refusals.{Answer, ◌then◌, all_answers}
 use Rattle.sqlval.specs.declared.fault.Fault.{Fault}
-use Rattle.sqlval.specs.declared.fault.Fault.TheVariants.{Memory}
 use Rattle.pages.specs.Calls.{Limits, Stays}
 use Rattle.pages.specs.Map.{PageMap, AreWhole}
 use Rattle.syntax.specs.declared.query.Query.{Query}
-use Rattle.catalog.specs.Database.{ATable, Database, Name, Object, View, object}
+use Rattle.catalog.specs.Database.{ATable, Database, Name, View}
 use Rattle.catalog.specs.Listed.{Lists, plain_table, table_named}
 use Rattle.catalog.specs.declared.tables.Table.{Table}
 use Rattle.terms.specs.Outcome.{AnswersBy}
 use Rattle.terms.specs.Values.{Row}
-use Rattle.bind.specs.Bound.{EachOf, IsFaultOf}
+use Rattle.bind.specs.Bound.{IsFaultOf}
 use Rattle.bind.specs.Checked.{Checked, Meant, faults, known_map}
-use Rattle.bind.specs.Named.{NamesBy}
 use Rattle.bind.specs.Queries.{resolve_query}
 use Rattle.bind.specs.Readings.{rows_over}
-use Rattle.bind.specs.Views.{all_rows, answer_of, loaded, look_up, rows_of, rows_of_object}
+use Rattle.bind.specs.Views.{all_rows, answer_of, look_up, rows_of_object}
 use Rattle.bind.specs.declared.queries.BoundSource.{BoundSource}
 use Rattle.bind.specs.declared.reading.Condition.{Condition}
 use Rattle.bind.specs.declared.reading.Reading.{Reading}
-use Rattle.querybinder.specs.Named.{ArePlaced, IsPlaced, place_seen}
+use Rattle.querybinder.specs.Named.{ArePlaced, place_seen}
 use Rattle.queries.specs.Answers.{LoadsBeside}
 use Rattle.queries.specs.Nesting.{beside_rows}
 use Rattle.rowprog.specs.Rows.{TableRow}
 use Rattle.rowprog.specs.Sources.{LoadsRows, as_source}
-use Rattle.rowprog.specs.Trees.{HasRows}
-use Rattle.storage.specs.Reading.{AnswersRead, HaveRows, LoadsAll, rows_in}
+use Rattle.rowprog.specs.Trees.{AnswersOrFails, HasRows}
+use Rattle.storage.specs.Reading.{HaveRows, LoadsAll, rows_in}
 use Rattle.storage.specs.Stored.{Stores}
 use Rattle.storage.specs.Works.{read_on}
-use Rattle.storage.proofs.Answering.{answers, bound_read}
+use Rattle.storage.proofs.Answering.{answers}
 use Rattle.storage.proofs.Owners.{has_rows, owner_of}
 
 -- ---- reading
@@ -144,12 +140,11 @@ have_rows pages size tables db stored (s ∷ ss) (p ∷ ps) placed = (at (table_
 
 -- ---- its answer
 
-pub answered : {X : Type 0} (view : X → List (List _)) (law : LoadsBeside) (rows_at : ℕ → List TableRow) (tables : List Table) (db : Database) (q : Query) (reading : Reading) (places : List BoundSource) (sources : List (List Row)) (result : Result X Fault)
-    → Lists rows_at tables db → resolve_query (look_up db) [] q ≡ Meant reading [] → ArePlaced tables reading.sources places → sources ≡ rows_in rows_at places
-    → (length sources ≡ length reading.sources → AnswersBy view (rows_over reading [] (beside_rows reading.sources sources)) result) → AnswersRead view (read_on db q) result
-answered view law rows_at tables db q reading places sources result lists named placed are gives =
-    bound_read view (answer_of db [] reading) (read_on db q) result (ap (known_map (answer_of db [])) named)
-    (answers view (answer_of db [] reading) result (subst (λ a. AnswersBy view a result) (sym over) (gives (ap length are ∙ as_many rows_at tables reading.sources places placed))))
+pub rows_answered : {X : Type 0} (view : X → List (List _)) (law : LoadsBeside) (rows_at : ℕ → List TableRow) (tables : List Table) (db : Database) (reading : Reading) (places : List BoundSource) (sources : List (List Row)) (result : Result X Fault)
+    → Lists rows_at tables db → ArePlaced tables reading.sources places → sources ≡ rows_in rows_at places
+    → (length sources ≡ length reading.sources → AnswersBy view (rows_over reading [] (beside_rows reading.sources sources)) result) → AnswersOrFails view (answer_of db [] reading) result
+rows_answered view law rows_at tables db reading places sources result lists placed are gives =
+    answers view (answer_of db [] reading) result (subst (λ a. AnswersBy view a result) (sym over) (gives (ap length are ∙ as_many rows_at tables reading.sources places placed)))
   where
     over : answer_of db [] reading ≡ rows_over reading [] (beside_rows reading.sources sources)
     over =

@@ -1,18 +1,16 @@
 -- The trees of listed tables, among those that share a file's pages.
-use Rattle.std.proofs.Common.{◌≡◌, ◌∙◌, refl, sym, ap, subst, cond, ℕ, Bool, true, false, List, [], ◌∷◌, ◌++◌, length, Some, None}
+use Rattle.std.proofs.Common.{◌≡◌, refl, ap, subst, cond, ℕ, Bool, true, false, List, [], ◌∷◌, ◌++◌, length, Some}
 use Rattle.std.specs.List.{AllByRecursion, find}
-use Rattle.std.proofs.lemmas.Bool.{false≢true}
-use Rattle.page.specs.Leaf.{Entry}
 use Rattle.pages.specs.Map.{PageMap}
 use Rattle.treepage.specs.Cells.{Pairwise}
 use Rattle.tabletree.specs.Tree.{IsTableTree}
-use Rattle.filecheck.specs.Layout.{AreShared, HoldsUnder, IsTree, OfRows, Owner}
+use Rattle.filecheck.specs.Layout.{HoldsUnder, IsTree, Owner}
 use Rattle.catalog.specs.Database.{Database, Name}
 use Rattle.catalog.specs.Listed.{is_table, table_named}
 use Rattle.catalog.specs.declared.tables.Table.{Table}
 use Rattle.rowprog.specs.Rows.{TableRow}
 use Rattle.rowprog.specs.Trees.{HasRows}
-use Rattle.storage.specs.Stored.{IsTreeOf, Stores, schema_tree}
+use Rattle.storage.specs.Stored.{IsTreeOf, Stores}
 
 -- an item of a list, with those before and after it
 pub record IsAmong {A : Type 0} (xs : List A) (x : A) : Type 0 where

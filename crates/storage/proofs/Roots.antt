@@ -1,7 +1,6 @@
 -- The trees of two listed tables don't begin at one page.
-use Rattle.std.proofs.Common.{◌≡◌, ◌⊎◌, inl, inr, ◌≤◌, ◌+◌, ◌∙◌, ◌==◌, refl, sym, ap, subst, cond, ℕ, zero, suc, Bool, true, false, List, [], ◌∷◌, ◌++◌, length, map, Option, Some, None, arith, bytes_eq}
+use Rattle.std.proofs.Common.{◌≡◌, ◌≤◌, ◌∙◌, ◌==◌, refl, sym, ap, subst, cond, ℕ, zero, suc, Bool, true, false, List, [], ◌∷◌, ◌++◌, length, map, Some, arith}
 use Rattle.std.specs.List.{AllByRecursion, find}
-use Rattle.std.proofs.lemmas.Bool.{false≢true}
 use Rattle.std.proofs.lemmas.Bool.Decides.{nat_tests}
 use Rattle.std.proofs.lemmas.Map.Lookups.{exact_bytes}
 use Rattle.std.proofs.lemmas.Map.Text.{is_eq-slice_cmp}
@@ -13,13 +12,13 @@ use Rattle.pages.specs.Map.{PageMap}
 use Rattle.pages.proofs.Moving.{occurs_append}
 use Rattle.treepage.specs.Cells.{Pairwise}
 use Rattle.tabletree.specs.Tree.{IsTableTree, Tree, top, pages_of}
-use Rattle.filecheck.specs.Layout.{AreShared, HoldsUnder, IsTree, OfRows, Owner, used_by}
+use Rattle.filecheck.specs.Layout.{HoldsUnder, IsTree, Owner, used_by}
 use Rattle.catalog.specs.Database.{Database, Name}
 use Rattle.catalog.specs.Listed.{is_table, table_named}
 use Rattle.catalog.specs.declared.tables.Table.{Table}
 use Rattle.rowprog.specs.Rows.{TableRow}
-use Rattle.storage.specs.Stored.{IsTreeOf, Stores, schema_tree}
-use Rattle.storage.proofs.Owners.{IsAmong, found_among}
+use Rattle.storage.specs.Stored.{IsTreeOf, Stores}
+use Rattle.storage.proofs.Owners.{found_among}
 
 -- the page where each table's tree begins
 abbrev pub roots_of : List Table → List ℕ

@@ -3,7 +3,7 @@ use Rattle.std.proofs.Common.{◌≡◌, ◌⊎◌, inl, inr, refl, sym, ap, sub
 use Rattle.std.specs.Prelude.{⊤, Contains, MatchResult, option_map, zip}
 use Rattle.std.proofs.lemmas.List.Elements.{Contains-append_left, Contains-append_right}
 use Rattle.sqlval.specs.Names.{folded}
-use Rattle.sqlval.specs.Refusals.{Answer, ◌then◌, Misuse, NoSuch, Refusal, refusal_of}
+use Rattle.sqlval.specs.Refusals.{Answer, ◌then◌, NoSuch, Refusal, refusal_of}
 use Rattle.sqlval.specs.declared.fault.Fault.{Fault}
 use Rattle.sqlval.specs.declared.fault.Fault.TheVariants as fault
 use Rattle.syntax.specs.declared.change.Assignment.{Assignment}
@@ -36,10 +36,9 @@ use Rattle.terms.specs.Terms.{Term}
 use Rattle.rowprog.specs.Rows.{IsRow, TableRow}
 use Rattle.querybinder.specs.Assigned.{columns_set, set_known, sets_known}
 use Rattle.dml.specs.Changes.{Resolved, Updates, no_outer, resolve_change}
-use Rattle.dml.specs.Constraints.{table_of}
 use Rattle.dml.specs.Inserting.{AllStorable}
 use Rattle.dml.specs.Setting.{rows_set}
-use Rattle.dml.specs.Updating.{IsSetRefusal, SetTooLong, SetsRows}
+use Rattle.dml.specs.Updating.{IsSetRefusal, SetsRows}
 use Rattle.dml.proofs.PlacesByName.{column_place, doubled_list, list_places, unknown_list}
 use Rattle.trigger.specs.Binding.{IsFault}
 use Rattle.trigger.specs.Effects.{change}

@@ -1,25 +1,22 @@
 -- The rows of VALUES, by their names and as values.
-use Rattle.std.proofs.Common.{◌≡◌, ◌∙◌, refl, sym, ap, subst, ℕ, suc, Bool, true, false, not, ◌||◌, ◌==◌, List, [], ◌∷◌, length, map, Some, Result, Ok, Err, arith}
+use Rattle.std.proofs.Common.{◌≡◌, ◌∙◌, refl, sym, ap, subst, ℕ, suc, Bool, true, false, not, ◌||◌, ◌==◌, List, [], ◌∷◌, length, map, Result, Ok, Err, arith}
 use Rattle.std.specs.Prelude.{IfErr, IfOk}
 use Rattle.std.specs.List.{AllByRecursion, list_any}
 use Rattle.std.proofs.lemmas.Bool.{false≢true}
 use Rattle.std.proofs.lemmas.Bool.Decides.{nat_tests}
 use Rattle.sqlval.specs.Faults.{IsNotDiskFault}
-use Rattle.sqlval.specs.Refusals.{Answer, ◌then◌, Misuse, Refusal, all_answers}
+use Rattle.sqlval.specs.Refusals.{Answer, ◌then◌, all_answers}
 use Rattle.sqlval.specs.declared.fault.Fault.{Fault}
 use Rattle.sqlval.specs.declared.value.Value.{Value}
 use Rattle.syntax.specs.Tree.{Tree}
-use Rattle.syntax.specs.declared.change.InsertSource.TheVariants as source
-use Rattle.catalog.specs.Database.{Database}
-use Rattle.bind.specs.Checked.{Checked, Meant, both, faults, known_all, known_map, meant, unless}
+use Rattle.bind.specs.Checked.{Checked, Meant, both, known_all, meant}
 use Rattle.bind.specs.Expressions.{resolve}
 use Rattle.bind.specs.Readings.{env_of, values}
-use Rattle.dml.specs.Changes.{Given, GivenRows, no_outer, resolve_given}
-use Rattle.queries.proofs.Quiet.{values_quietly}
+use Rattle.queries.specs.Answers.{HaveWidth}
+use Rattle.bind.proofs.QuietValues.{values_quietly}
 use Rattle.terms.specs.Outcome.{AnswersBy}
 use Rattle.terms.specs.Terms.{Term}
 use Rattle.terms.specs.Values.{Environment, value}
-use Rattle.trigger.specs.Effects.{given_rows}
 
 -- a row by its names
 abbrev pub row_known : List Tree → Checked (List Term)
@@ -27,7 +24,7 @@ row_known row = known_all (map (resolve false []) row)
 
 -- ---- each row has as many values as are written
 
-abbrev other : ℕ → List (List Tree) → Bool
+abbrev pub other : ℕ → List (List Tree) → Bool
 other n rows = list_any (λ row. not (n == length row)) rows
 
 both_count : {A : Type 0} (k : Checked A) (l : Checked (List A)) (n : ℕ) → length (meant l) ≡ n → length (meant (both (λ x xs. x ∷ xs) k l)) ≡ suc n
@@ -75,23 +72,12 @@ values_wide n (ts ∷ rows) h =
     then_has (λ vs. length vs ≡ length ts) (Wide n) (values (env_of []) ts) (λ vs. all_answers (map (values (env_of [])) rows) then λ more. Ok (vs ∷ more)) (as_many ts) (λ vs e.
     then_has (Wide n) (Wide n) (all_answers (map (values (env_of [])) rows)) (λ more. Ok (vs ∷ more)) (values_wide n rows h.1) (λ more hs. (e ∙ h.0, hs)))
 
-given_wide : (db : Database) (n : ℕ) (k : Checked (List (List Term))) → Wide n (meant k) → (b : Bool) → faults (unless b Misuse (known_map GivenRows k)) ≡ []
-    → IfOk (given_rows db no_outer (meant (unless b Misuse (known_map GivenRows k)))) (Wide n)
-given_wide db n (Meant terms rs) h true e = (let bad : Misuse ∷ rs ≡ [] = e in absurd cc)
-given_wide db n (Meant terms rs) h false e = values_wide n terms h
-
--- where rows of VALUES aren't refused, each has so many values
-pub written_wide : (db : Database) (n : ℕ) (rows : List (List Tree)) → faults (resolve_given db no_outer (Some n) (source.Rows rows)) ≡ []
-    → IfOk (given_rows db no_outer (meant (resolve_given db no_outer (Some n) (source.Rows rows)))) (Wide n)
-written_wide db n rows e = by (other n rows) refl e
-  where
-    by : (b : Bool) → other n rows ≡ b → faults (unless (other n rows) Misuse (known_map GivenRows (known_all (map row_known rows)))) ≡ []
-        → IfOk (given_rows db no_outer (meant (unless (other n rows) Misuse (known_map GivenRows (known_all (map row_known rows)))))) (Wide n)
-    by true is e = absurd (refused (known_all (map row_known rows)) (subst (λ b. faults (unless b Misuse (known_map GivenRows (known_all (map row_known rows)))) ≡ []) is e))
-      where
-        refused : (k : Checked (List (List Term))) → faults (unless true Misuse (known_map GivenRows k)) ≡ [] → ⊥
-        refused (Meant terms rs) e = (let bad : Misuse ∷ rs ≡ [] = e in absurd cc)
-    by false is e = given_wide db n (known_all (map row_known rows)) (terms_wide n rows is) (other n rows) e
+-- whatever is told of the answer
+pub evaluated_wide : {X : Type 0} (view : X → List (List Value)) (n : ℕ) (rows : List (List Tree)) (terms : List (List Term)) (result : Result X Fault) → other n rows ≡ false → known_all (map row_known rows) ≡ Meant terms []
+    → AnswersBy view (all_answers (map (values (env_of [])) terms)) result → IfOk result (λ x. HaveWidth n (view x))
+evaluated_wide view n rows terms (Err f) is named answers = tt
+evaluated_wide view n rows terms (Ok x) is named answers =
+    subst (λ (a : Answer (List (List Value))). IfOk a (Wide n)) answers (values_wide n terms (subst (λ (k : Checked (List (List Term))). Wide n (meant k)) named (terms_wide n rows is)))
 
 -- ---- why they are refused
 

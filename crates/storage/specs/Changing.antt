@@ -1,5 +1,5 @@
 -- What a statement's change makes of the pages that hold a database (SQL As Understood By SQLite, "CREATE TABLE", "INSERT").
-use Rattle.std.specs.Prelude.{◌≡◌, ◌⊎◌, ◌-◌, ◌^◌, ⊤, ℕ, pos, List, [], ◌∷◌, ◌++◌, Some, Result, MatchResult}
+use Rattle.std.specs.Prelude.{◌≡◌, ◌⊎◌, ◌-◌, ◌^◌, ℕ, pos, List, Some, Result, MatchResult}
 use Rattle.sqlval.specs.Refusals.{refusal_of}
 use Rattle.sqlval.specs.declared.fault.Fault.{Fault}
 use Rattle.sqlval.specs.declared.fault.Fault.TheVariants as fault

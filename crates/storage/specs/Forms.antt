@@ -3,19 +3,11 @@ use Rattle.std.specs.Prelude.{Bool, true, false, ◌&&◌, length, ◌==◌}
 use Rattle.std.specs.List.{list_all}
 use Rattle.syntax.specs.declared.change.Change.{Change}
 use Rattle.syntax.specs.declared.change.Change.TheVariants as change
-use Rattle.syntax.specs.declared.change.InsertSource.{InsertSource}
-use Rattle.syntax.specs.declared.change.InsertSource.TheVariants as source
 use Rattle.syntax.specs.declared.create.NewObject.{NewObject}
 use Rattle.syntax.specs.declared.create.NewObject.TheVariants as new
 use Rattle.syntax.specs.declared.create.TableDefinition.{TableDefinition}
 use Rattle.syntax.specs.declared.statement.Statement.{Statement}
 use Rattle.syntax.specs.declared.statement.Statement.TheVariants as statement
-use Rattle.bind.specs.Bound.{is_literal}
-
--- rows of VALUES
-abbrev pub is_source_supported : InsertSource → Bool
-is_source_supported (source.Rows rows) = true
-is_source_supported (source.Query q) = false
 
 -- columns of names and types alone
 abbrev pub is_table_supported : TableDefinition → Bool
@@ -25,16 +17,11 @@ abbrev pub is_object_supported : NewObject → Bool
 is_object_supported (new.Table d) = is_table_supported d
 is_object_supported _ = false
 
-abbrev is_change_supported : Change → Bool
-is_change_supported (change.Insert i) = is_source_supported i.source
-is_change_supported (change.Delete d) = true
-is_change_supported (change.Update u) = true
-
 -- tables, DROP, inserted rows, DELETE, UPDATE, queries, and transactions
 abbrev pub is_supported : Statement → Bool
 is_supported (statement.Create c) = is_object_supported c.object
 is_supported (statement.Drop kind name) = true
-is_supported (statement.Change c) = is_change_supported c
+is_supported (statement.Change c) = true
 is_supported (statement.Select q) = true
 is_supported (statement.Begin mode) = true
 is_supported statement.Commit = true

@@ -1,14 +1,19 @@
 -- What a query answers (SQL As Understood By SQLite, "SELECT").
-use Rattle.std.specs.Prelude.{◌≡◌, ◌⊎◌, ℕ, List, [], map, Contains, MatchResult, Result, Ok, Err}
+use Rattle.std.specs.Prelude.{◌≡◌, ◌⊎◌, ℕ, false, List, [], map, Contains, MatchResult, Result, Ok, Err}
 use Rattle.std.specs.List.{AllByRecursion}
 use Rattle.sqlval.specs.Faults.{IsOutside}
 use Rattle.sqlval.specs.Refusals.{Answer, refusal_of}
 use Rattle.sqlval.specs.declared.fault.Fault.{Fault}
 use Rattle.sqlval.specs.declared.value.Value.{Value}
 use Rattle.pages.specs.Map.{PageMap, AreWhole}
+use Rattle.syntax.specs.declared.query.Query.{Query}
+use Rattle.catalog.specs.Database.{Database}
 use Rattle.terms.specs.Values.{Row}
 use Rattle.bind.specs.Checked.{Checked, Meant, faults}
+use Rattle.bind.specs.Queries.{resolve_query}
+use Rattle.bind.specs.Views.{look_up}
 use Rattle.bind.specs.declared.queries.BoundSource.{BoundSource}
+use Rattle.bind.specs.declared.reading.Reading.{Reading}
 use Rattle.rowprog.specs.Rows.{TableRow}
 use Rattle.rowprog.specs.Sources.{as_source}
 use Rattle.rowprog.specs.Trees.{HasRows}
@@ -18,6 +23,10 @@ use Rattle.rowprog.specs.Trees.{HasRows}
 abbrev pub AnswersRead : {X : Type 0} → (X → List (List Value)) → Checked (Answer (List (List Value))) → Result X Fault → Type 0
 AnswersRead view read (Ok rows) = read ≡ Meant (Ok (view rows)) []
 AnswersRead view read (Err fault) = IsOutside fault ⊎ (Contains (faults read) (refusal_of fault) ⊎ (read ≡ Meant (Err (refusal_of fault)) []))
+
+-- the names of the query stand for this reading on the database, whose number of results is known
+abbrev pub Asks : Database → Query → Reading → Type 0
+Asks db query reading = (resolve_query (look_up db) [] query ≡ Meant reading []) × (reading.is_open ≡ false)
 
 -- each table's tree has its rows, where these are the rows of each tree
 abbrev pub HaveRows : PageMap → ℕ → (ℕ → List TableRow) → List BoundSource → Type 0

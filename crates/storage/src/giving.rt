@@ -1,24 +1,37 @@
 //! The rows that an INSERT gives.
 
-ghost use Rattle.std.specs.Prelude.{◌≡◌, ◌==◌, [], false, length, map, not, true, IfErr};
+ghost use Rattle.std.specs.Prelude.{◌≡◌, ◌==◌, [], false, length, map, not, IfErr, IfOk, IsTrue, List};
 ghost use Rattle.std.specs.List.{list_any};
 ghost use Rattle.sqlval.specs.Faults.{IsNotDiskFault};
 ghost use Rattle.sqlval.specs.Refusals.{all_answers};
+ghost use Rattle.pages.specs.Calls.{Stays};
 ghost use Rattle.syntax.specs.declared.change.InsertSource.TheVariants as source;
 ghost use Rattle.catalog.specs.Database.{Database};
+ghost use Rattle.catalog.specs.Listed.{tables_of};
+ghost use Rattle.catalog.specs.declared.tables.Table.{Table as Listed};
+ghost use Rattle.syntax.specs.declared.query.Query.{Query as Asked};
 ghost use Rattle.bind.specs.Checked.{known_all};
 ghost use Rattle.bind.specs.Expressions.{resolve};
 ghost use Rattle.bind.specs.Named.{NamesBy};
 ghost use Rattle.bind.specs.Readings.{env_of, values};
 ghost use Rattle.terms.specs.Outcome.{AnswersBy};
-ghost use Rattle.storage.specs.Reading.{AnswersRead};
-ghost use Rattle.storage.specs.Forms.{is_source_supported};
+ghost use Rattle.querybinder.specs.Named.{ArePlaced};
+ghost use Rattle.queries.specs.Answers.{HaveWidth};
+ghost use Rattle.rowprog.specs.Rows.{values_of};
+ghost use Rattle.storage.specs.Reading.{AnswersRead, Asks};
+ghost use Rattle.storage.specs.Stored.{Stores};
 ghost use Rattle.storage.specs.Works.{given_on};
 
+use crate::reading::bound_rows;
 use bind::bind_term;
-use sqlval::{Fault, Feature, Many, Misuse, R, Value};
+use catalog::Catalog;
+use pages::Pages;
+use querybinder::{BoundReading, bind_reading};
+use rowprog::Rows;
+use smallvec::SmallVec;
+use sqlval::{Fault, Many, Misuse, R, Row};
 use std::alloc::Global;
-use syntax::{Expr, InsertSource};
+use syntax::{Expr, InsertSource, Query};
 use terms::{Env, Term, evaluate};
 
 /// Looks up the names of a row of VALUES, whose expressions see no source. (What `bind_term` refuses.)
@@ -46,7 +59,7 @@ fn bind_rows(alloc: Global, rows: &[Many<Expr>]) -> R<Many<Many<Term>>>
 }
 
 /// The values of a row's terms, from left to right. (What `evaluate` refuses.)
-fn row_values(alloc: Global, terms: &[Term]) -> R<Vec<Value>>
+fn row_values(alloc: Global, terms: &[Term]) -> R<Row>
     ensures { AnswersBy (λ row. row.items) (values (env_of []) terms.now) result }
 {
     let env = Env {
@@ -55,7 +68,7 @@ fn row_values(alloc: Global, terms: &[Term]) -> R<Vec<Value>>
         group: &[],
         keys: &[],
     };
-    let mut row = Vec::new(alloc);
+    let mut row = SmallVec::new(alloc);
     'terms: for term in terms {
         row.push(evaluate(alloc, term, env)?.into_value(alloc)?)?;
     }
@@ -63,8 +76,8 @@ fn row_values(alloc: Global, terms: &[Term]) -> R<Vec<Value>>
 }
 
 /// The values of each row's terms. (What `row_values` refuses.)
-fn evaluated_rows(alloc: Global, rows: &[Many<Term>]) -> R<Vec<Vec<Value>>>
-    ensures { AnswersBy (λ found. map (λ row. row.items) found.items) (all_answers (map (values (env_of [])) rows.now)) result }
+fn evaluated_rows(alloc: Global, rows: &[Many<Term>]) -> R<Rows>
+    ensures { AnswersBy (λ found. map values_of found.items) (all_answers (map (values (env_of [])) rows.now)) result }
 {
     let mut found = Vec::new(alloc);
     'rows: for terms in rows {
@@ -82,9 +95,10 @@ fn has_other_count(rows: &[Many<Expr>], count: usize) -> bool
 
 /// The rows of VALUES, of which each must have `count` values: the names of all are looked up before the first is evaluated.
 /// (`Misuse`, and what `bind_rows` and `evaluated_rows` refuse.)
-pub fn written_rows(alloc: Global, rows: &[Many<Expr>], count: usize) -> R<Vec<Vec<Value>>>
+fn written_rows(alloc: Global, rows: &[Many<Expr>], count: usize) -> R<Rows>
     ensures given { (db : Database)
-        → AnswersRead (λ found. map (λ row. row.items) found.items) (given_on db count (source.Rows rows.now)) result }
+        → AnswersRead (λ found. map values_of found.items) (given_on db count (source.Rows rows.now)) result }
+    ensures wide { IfOk result (λ found. HaveWidth count (map values_of found.items)) }
     ensures not_disk { IfErr result (λ fault. IsNotDiskFault fault) }
 {
     if has_other_count(rows, count) {
@@ -94,14 +108,59 @@ pub fn written_rows(alloc: Global, rows: &[Many<Expr>], count: usize) -> R<Vec<V
     evaluated_rows(alloc, terms.as_slice())
 }
 
-/// The rows that an INSERT gives, each of `count` values. (What `written_rows` refuses; `Unsupported` for a query.)
-pub fn source_rows(alloc: Global, source: &InsertSource, count: usize) -> R<Vec<Vec<Value>>>
-    ensures given { (db : Database) → is_source_supported source.now ≡ true
-        → AnswersRead (λ found. map (λ row. row.items) found.items) (given_on db count source.now) result }
-    ensures not_disk { IfErr result (λ fault. IsNotDiskFault fault) }
+/// The rows of a query whose names are looked up, which must have `count` results. (`Misuse`, and what `bound_rows` refuses.)
+fn counted_rows<P: Pages>(
+    alloc: Global,
+    pages: &mut P,
+    bound: &BoundReading,
+    count: usize,
+) -> R<Rows>
+    ensures given { (tables : List Listed) (db : Database) (query : Asked) → IsTrue (P.Pages.tells (P.Pages.below pages.old))
+        → Stores (P.Pages.map pages.old) (P.Pages.limits (P.Pages.below pages.old)).page tables db → ArePlaced tables bound.now.reading.sources bound.now.tables
+        → Asks db query bound.now.reading → AnswersRead (λ found. map values_of found.items) (given_on db count (source.Query query)) result }
+    ensures wide { IfOk result (λ found. HaveWidth count (map values_of found.items)) }
+    ensures stays { Stays P.Pages.below P.Pages.map P.Pages.count P.Pages.failures result pages.old pages.new }
+{
+    if bound.reading.results.len() != count {
+        return Err(Fault::Misuse(Misuse::Count));
+    }
+    bound_rows(alloc, pages, bound)
+}
+
+/// The rows of a query, which must have `count` results. (What `bind_reading` and `counted_rows` refuse.)
+fn queried_rows<P: Pages>(
+    alloc: Global,
+    pages: &mut P,
+    catalog: &Catalog,
+    query: &Query,
+    count: usize,
+) -> R<Rows>
+    ensures given { (db : Database) → IsTrue (P.Pages.tells (P.Pages.below pages.old))
+        → Stores (P.Pages.map pages.old) (P.Pages.limits (P.Pages.below pages.old)).page (tables_of catalog.now) db
+        → AnswersRead (λ found. map values_of found.items) (given_on db count (source.Query query.now)) result }
+    ensures wide { IfOk result (λ found. HaveWidth count (map values_of found.items)) }
+    ensures stays { Stays P.Pages.below P.Pages.map P.Pages.count P.Pages.failures result pages.old pages.new }
+{
+    let bound = bind_reading(alloc, catalog, query)?;
+    counted_rows(alloc, pages, &bound, count)
+}
+
+/// The rows that an INSERT gives, each of `count` values. (What `written_rows` and `queried_rows` refuse.)
+pub fn given_rows<P: Pages>(
+    alloc: Global,
+    pages: &mut P,
+    catalog: &Catalog,
+    source: &InsertSource,
+    count: usize,
+) -> R<Rows>
+    ensures given { (db : Database) → IsTrue (P.Pages.tells (P.Pages.below pages.old))
+        → Stores (P.Pages.map pages.old) (P.Pages.limits (P.Pages.below pages.old)).page (tables_of catalog.now) db
+        → AnswersRead (λ found. map values_of found.items) (given_on db count source.now) result }
+    ensures wide { IfOk result (λ found. HaveWidth count (map values_of found.items)) }
+    ensures stays { Stays P.Pages.below P.Pages.map P.Pages.count P.Pages.failures result pages.old pages.new }
 {
     match source {
         InsertSource::Rows(rows) => written_rows(alloc, rows.as_slice(), count),
-        InsertSource::Query(_) => Err(Fault::Unsupported(Feature::StatementForm)),
+        InsertSource::Query(query) => queried_rows(alloc, pages, catalog, query, count),
     }
 }

@@ -1,14 +1,13 @@
 //! INSERT.
 
-ghost use Rattle.std.specs.Prelude.{◌≡◌, true, IsTrue};
+ghost use Rattle.std.specs.Prelude.{◌≡◌, IsTrue};
 ghost use Rattle.pages.specs.Calls.{Causes};
 ghost use Rattle.syntax.specs.declared.change.Change.TheVariants as change;
 ghost use Rattle.syntax.specs.declared.statement.Statement.TheVariants as statement;
 ghost use Rattle.catalog.specs.Listed.{tables_of};
 ghost use Rattle.storage.specs.Changing.{MakesChange};
-ghost use Rattle.storage.specs.Forms.{is_source_supported};
 
-use crate::giving::source_rows;
+use crate::giving::given_rows;
 use bind::{BoundInsert, bind_target};
 use catalog::{Catalog, named_databases_are_one, other_rows_are_listed};
 use dml::put_rows;
@@ -19,7 +18,7 @@ use std::alloc::Global;
 use syntax::Insert;
 use trigger::only_tables_set_nothing_off;
 
-/// Makes the rows of an INSERT: all are known before the first is stored. (What `bind_target`, `source_rows` and `put_rows` refuse;
+/// Makes the rows of an INSERT: all are known before the first is stored. (What `bind_target`, `given_rows` and `put_rows` refuse;
 /// then some pages may have changed.)
 pub fn insert<P: WritePages>(
     alloc: Global,
@@ -27,7 +26,7 @@ pub fn insert<P: WritePages>(
     catalog: &Catalog,
     insert: &Insert,
 ) -> R<()>
-    ensures made { IsTrue (P.Pages.tells (P.Pages.below pages.old)) → is_source_supported insert.now.source ≡ true
+    ensures made { IsTrue (P.Pages.tells (P.Pages.below pages.old))
         → MakesChange (λ done. tables_of catalog.now) (statement.Change (change.Insert insert.now)) (P.Pages.map pages.old) (P.Pages.map pages.new)
         (P.Pages.limits (P.Pages.below pages.old)).page (tables_of catalog.now) result }
     ensures kept { P.Pages.below pages.new ≡ P.Pages.below pages.old }
@@ -40,7 +39,7 @@ pub fn insert<P: WritePages>(
     trees_give_way();
     table_trees_stand();
     let target = bind_target(alloc, insert, catalog)?;
-    let rows = source_rows(alloc, &insert.source, target.count)?;
+    let rows = given_rows(alloc, pages, catalog, &insert.source, target.count)?;
     let bound = BoundInsert {
         table: target.table,
         places: target.places,

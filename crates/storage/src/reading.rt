@@ -1,10 +1,15 @@
 //! The rows of a query.
 
-ghost use Rattle.std.specs.Prelude.{◌≡◌, map, IsTrue};
+ghost use Rattle.std.specs.Prelude.{◌≡◌, [], length, map, IfOk, IsTrue, List};
 ghost use Rattle.pages.specs.Calls.{Stays};
 ghost use Rattle.catalog.specs.Database.{Database};
 ghost use Rattle.catalog.specs.Listed.{tables_of};
+ghost use Rattle.catalog.specs.declared.tables.Table.{Table as Listed};
+ghost use Rattle.bind.specs.Views.{answer_of};
+ghost use Rattle.querybinder.specs.Named.{ArePlaced};
+ghost use Rattle.queries.specs.Answers.{HaveWidth};
 ghost use Rattle.rowprog.specs.Rows.{values_of};
+ghost use Rattle.rowprog.specs.Trees.{AnswersOrFails};
 ghost use Rattle.storage.specs.Reading.{AnswersRead, LoadsAll};
 ghost use Rattle.storage.specs.Stored.{Stores};
 ghost use Rattle.storage.specs.Works.{read_on};
@@ -13,7 +18,7 @@ use bind::BoundSource;
 use catalog::Catalog;
 use pages::Pages;
 use queries::{answer, rows_are_loaded_beside_conditions};
-use querybinder::bind_reading;
+use querybinder::{BoundReading, bind_reading};
 use rowprog::{Rows, source_rows};
 use sqlval::{Many, R};
 use std::alloc::Global;
@@ -39,6 +44,20 @@ fn load_sources<P: Pages>(
     Ok(sources)
 }
 
+/// The rows of a query whose names are looked up. (What `source_rows` and `answer` refuse.)
+pub(crate) fn bound_rows<P: Pages>(alloc: Global, pages: &mut P, bound: &BoundReading) -> R<Rows>
+    ensures answered { (tables : List Listed) (db : Database) → IsTrue (P.Pages.tells (P.Pages.below pages.old))
+        → Stores (P.Pages.map pages.old) (P.Pages.limits (P.Pages.below pages.old)).page tables db
+        → ArePlaced tables bound.now.reading.sources bound.now.tables
+        → AnswersOrFails (λ rows. map values_of rows.items) (answer_of db [] bound.now.reading) result }
+    ensures wide { IfOk result (λ rows. HaveWidth (length bound.now.reading.results) (map values_of rows.items)) }
+    ensures stays { Stays P.Pages.below P.Pages.map P.Pages.count P.Pages.failures result pages.old pages.new }
+{
+    rows_are_loaded_beside_conditions();
+    let sources = load_sources(alloc, pages, bound.tables.as_slice())?;
+    answer(alloc, &bound.reading, &sources)
+}
+
 /// The rows of a query. (What `bind_reading`, `source_rows` and `answer` refuse.)
 pub fn read<P: Pages>(alloc: Global, pages: &mut P, catalog: &Catalog, query: &Query) -> R<Rows>
     ensures answered { (db : Database) → IsTrue (P.Pages.tells (P.Pages.below pages.old))
@@ -46,8 +65,6 @@ pub fn read<P: Pages>(alloc: Global, pages: &mut P, catalog: &Catalog, query: &Q
         → AnswersRead (λ rows. map values_of rows.items) (read_on db query.now) result }
     ensures stays { Stays P.Pages.below P.Pages.map P.Pages.count P.Pages.failures result pages.old pages.new }
 {
-    rows_are_loaded_beside_conditions();
     let bound = bind_reading(alloc, catalog, query)?;
-    let sources = load_sources(alloc, pages, bound.tables.as_slice())?;
-    answer(alloc, &bound.reading, &sources)
+    bound_rows(alloc, pages, &bound)
 }

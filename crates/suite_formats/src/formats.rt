@@ -1,7 +1,7 @@
 //! The bytes of records, of the database file's header and of a table's page.
 
 use dbheader::Header;
-use page::{Cell, Node, build, fits, one_list};
+use page::{Cell, build};
 use record::{Record, encode, get_varint, is_storable, put_varint, varint_len};
 use sqlval::{Damage, Fault, Feature, Field, Text, Value, is_page_size};
 use std::test::*;
@@ -141,7 +141,6 @@ fn page_one_with_one_table(rt: HostRuntime) -> Result<(), Fail> {
         payload: payload.as_slice(),
     };
     let front = vec![in rt.alloc(); 7; 100]?;
-    assert!(rt; fits(512, 100, &[cell]));
     let page = build(rt.alloc(), &front, 512, &[cell])?;
     assert_eq!(rt; page.len(), 512);
     assert!(rt; page.starts_with(&front));
@@ -153,11 +152,7 @@ fn page_one_with_one_table(rt: HostRuntime) -> Result<(), Fail> {
         )
     );
     assert!(rt; begins_at(&page, 479, b"\x1f\x01\x06\x17\x0f\x0f\x01\x2f".as_slice()));
-    let node = Node::over(rt.alloc(), &page, 100)?;
-    assert_eq!(rt; node.len(), 1);
-    assert_eq!(rt; node.cell(0).rowid, 1);
-    assert_eq!(rt; node.cell(0).payload, payload.as_slice());
-    one_list();
+    assert!(rt; begins_at(&page, 481, payload.as_slice()));
     Ok(())
 }
 
@@ -167,29 +162,15 @@ fn a_leaf_without_rows(rt: HostRuntime) -> Result<(), Fail> {
     let page = build(rt.alloc(), &front, 512, &[])?;
     assert_eq!(rt; page.len(), 512);
     assert!(rt; begins_at(&page, 100, b"\x0d\x00\x00\x00\x00\x02\x00\x00".as_slice()));
-    assert_eq!(rt; Node::over(rt.alloc(), &page, 100)?.len(), 0);
     Ok(())
 }
 
 #[test]
-fn pages_of_another_kind_and_long_rows_are_refused(rt: HostRuntime) -> Result<(), Fail> {
-    let interior = vec![in rt.alloc(); 5; 512]?;
-    assert!(rt;
-        matches!(
-            Node::over(rt.alloc(), &interior, 0),
-            Err(Fault::Unsupported(Feature::PageKind))
-        )
-    );
-    let blank = vec![in rt.alloc(); 0; 512]?;
-    assert!(rt;
-        matches!(
-            Node::over(rt.alloc(), &blank, 0),
-            Err(Fault::Damaged(Damage::Page, 0))
-        )
-    );
+fn a_long_row_is_refused(rt: HostRuntime) -> Result<(), Fail> {
+    let payload = vec![in rt.alloc(); 5; 512]?;
     let cell = Cell {
         rowid: 1,
-        payload: &interior,
+        payload: &payload,
     };
     assert!(rt; matches!(build(rt.alloc(), &[], 512, &[cell]), Err(Fault::TooLong)));
     Ok(())

@@ -5,7 +5,7 @@ use pages::{MemPages, Pages, WritePages};
 use sqlval::R;
 use std::alloc::Global;
 use std::test::*;
-use tabletree::insert;
+use tabletree::{insert, new_tree};
 
 /// A file of two pages of 512 bytes: page 1 with an empty leaf after the database's header, and an empty leaf.
 fn two_leaves(alloc: Global) -> R<MemPages> {
@@ -16,8 +16,7 @@ fn two_leaves(alloc: Global) -> R<MemPages> {
     first.extend_from_slice(&[13, 0, 0, 0, 0, 2, 0, 0])?;
     first.resize(512, 0)?;
     pages.put(1, &first)?;
-    let root = pages.grow()?;
-    pages.put(root, &tabletree::empty(alloc, 512)?)?;
+    new_tree(alloc, &mut pages)?;
     Ok(pages)
 }
 

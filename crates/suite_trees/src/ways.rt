@@ -6,7 +6,7 @@ use pages::{MemPages, Pages, WritePages};
 use sqlval::R;
 use std::alloc::Global;
 use std::test::*;
-use tabletree::{get, insert, last};
+use tabletree::{get, insert, last, new_tree};
 
 /// The key of all cells, as a rowid.
 const KEY: i64 = 1 << 62;
@@ -53,7 +53,7 @@ fn add(pages: &mut MemPages, bytes: &[u8]) -> R<u32> {
 
 /// Adds a leaf without rows below so many interior pages of one child each, and answers the page at the top.
 fn add_way(alloc: Global, pages: &mut MemPages, depth: u32) -> R<u32> {
-    let mut top = add(pages, &tabletree::empty(alloc, 512)?)?;
+    let mut top = new_tree(alloc, pages)?;
     for _ in 0..depth {
         top = add(pages, &interior(alloc, &[], top)?)?;
     }
@@ -71,7 +71,7 @@ fn add_full(alloc: Global, pages: &mut MemPages, depth: u32, last: u32) -> R<u32
 
 /// Adds a tree whose ways have 20 pages, and whose last way is full; answers its root.
 fn add_tree(alloc: Global, pages: &mut MemPages) -> R<u32> {
-    let mut root = add(pages, &tabletree::empty(alloc, 512)?)?;
+    let mut root = new_tree(alloc, pages)?;
     for depth in 0..DEPTH {
         root = add_full(alloc, pages, depth, root)?;
     }

@@ -6,7 +6,7 @@ use Rattle.std.specs.List.{flat_map}
 use Rattle.std.specs.Prelude.{⊤}
 use Rattle.page.specs.Leaf.{Entry}
 use Rattle.pages.specs.Calls.{Limits, Stays}
-use Rattle.pages.specs.Map.{PageMap, AreWhole}
+use Rattle.pages.specs.Map.{PageMap, AreWhole, page_at}
 use Rattle.tabletree.specs.Scanning.{entries_from, start_at}
 use Rattle.tabletree.specs.Tree.{Held, Leaf, IsLeaf}
 use Rattle.tabletree.specs.declared.scanning.BatchRow.{BatchRow}
@@ -105,15 +105,6 @@ pub record AreCopied (place at : ℕ) (from : List Held) (rows : List BatchRow) 
   pub laid : AreLaid 0 rows (rows_between place at from)
   pub bytes_are : bytes ≡ payloads_of (rows_between place at from)
 
-pub none_copied : (place : ℕ) (from : List Held) (rows : List BatchRow) (bytes : List ℕ) → rows ≡ [] → bytes ≡ [] → AreCopied place place from rows bytes
-none_copied place from rows bytes none empty =
-    let same : place - place ≡ 0 = omega arith in
-    let start : rows_between place place from ≡ [] = ap (λ (n : ℕ). rows_in (take n (drop place from))) same in
-    record {
-      laid = subst (λ (rs : List BatchRow). AreLaid 0 rs (rows_between place place from)) (sym none) (subst (λ (es : List Entry). AreLaid 0 [] es) (sym start) tt);
-      bytes_are = empty ∙ ap payloads_of (sym start);
-    }
-
 pub copied_more : (place at : ℕ) (from : List Held) (rows : List BatchRow) (bytes after : List ℕ) (row : BatchRow) (d : Held) → place ≤ at → at < length from → AreCopied place at from rows bytes
     → row.rowid ≡ (slice_index_or from at d).row.rowid → after ≡ bytes ++ (slice_index_or from at d).row.payload → row.end ≡ length after → AreCopied place (at + 1) from (rows ++ row ∷ []) after
 copied_more place at from rows bytes after row d le lt copied rowid payload ends =
@@ -136,9 +127,14 @@ pub copied_are : (place at : ℕ) (from : List Held) (rows : List BatchRow) (byt
 copied_are place at from rows bytes le copied =
     ap (λ (l : List ℕ). entries_from 0 rows l) copied.bytes_are ∙ laid_are 0 rows (rows_between place at from) [] copied.laid refl ∙ all_copied place at from le
 
--- What was copied up to here.
-pub record HasCopied {P K : Type 0} (below : P → K) (tells : K → Bool) (limits : K → Limits) (map : P → PageMap) (count : P → ℕ) (failures : P → ℕ × ℕ) (old new : P) (leaf place at : ℕ) (rows : List BatchRow) (bytes : List ℕ) : Type 0 where
+-- the page that is loaded is that of the pages as they are
+pub loaded_on : {P : Type 0} (map : P → PageMap) (held : P → List ℕ) (old mid : P) (leaf : ℕ) → map mid ≡ map old → held mid ≡ page_at (map old) leaf → held mid ≡ page_at (map mid) leaf
+loaded_on map held old mid leaf same loaded = loaded ∙ ap (λ (m : PageMap). page_at m leaf) (sym same)
+
+-- What was copied up to here; the leaf is loaded.
+pub record HasCopied {P K : Type 0} (below : P → K) (tells : K → Bool) (limits : K → Limits) (map : P → PageMap) (count : P → ℕ) (failures : P → ℕ × ℕ) (held : P → List ℕ) (old new : P) (leaf place at : ℕ) (rows : List BatchRow) (bytes : List ℕ) : Type 0 where
   pub stays : Stays below map count failures {T = ⊤} (Ok tt) old new
   pub from : place ≤ at
+  pub loaded : IsTrue (tells (below old)) → held new ≡ page_at (map old) leaf
   pub copied : IsTrue (tells (below old)) → (it : Leaf) → AreWhole (limits (below old)).page (map old) → IsLeaf (map old) (limits (below old)).page it → it.page ≡ leaf
       → AreCopied place at it.rows rows bytes

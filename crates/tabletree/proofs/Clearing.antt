@@ -26,7 +26,7 @@ use Rattle.tabletree.specs.Tree.{Tree, top, pages_of, Lies}
 use Rattle.tabletree.specs.declared.freeing.Parts.{Parts}
 use Rattle.tabletree.specs.declared.freeing.Parts.TheVariants.{Cells, Children}
 use Rattle.tabletree.proofs.Emptied.{other_or_none, emptied}
-use Rattle.tabletree.proofs.Givings.{none_given, given_as, given_then, given_by, up_to, up_to_more, up_to_all, among, after_part}
+use Rattle.tabletree.proofs.Givings.{given_as, given_then, given_by, up_to, up_to_more, up_to_all, among, after_part}
 use Rattle.tabletree.proofs.LeafRows.{said_counted}
 use Rattle.tabletree.proofs.Passing.{beside_used, up_cons, up_none, top_there}
 use Rattle.tabletree.proofs.Planting.{pages_split}
@@ -275,14 +275,6 @@ module _ {P K : Type 0} (below : P → K) (tells : K → Bool) (limits : K → L
     pub causes : Causes {T = ⊤} (Ok tt) (failures old) (failures now) ⊥
     pub given : IsTrue (tells (below old)) → (depth : ℕ) (t : Tree (suc depth)) (free : List ℕ) → StandsUnder (map old) (limits (below old)).page number ways (suc depth) t free → count ≡ suc (length t.kids)
         → AreGivenBack (map old) (map now) (limits (below old)).page (up_to (pages_of depth) place (all_of t.kids t.last)) free
-
-  pub no_kid_given : (old now : P) (number ways count : ℕ) → below now ≡ below old → map now ≡ map old → Causes {T = ⊤} (Ok tt) (failures old) (failures now) ⊥ → HasGivenKids old now number ways count 0
-  no_kid_given old now number ways count kept same causes = record {
-    kept = kept;
-    causes = causes;
-    given = λ told depth t free is counted.
-        subst (λ (m : PageMap). AreGivenBack (map old) m (limits (below old)).page [] free) (sym same) (none_given (map old) (limits (below old)).page free is.free_are);
-  }
 
   module _ (old now : P) (number ways count place : ℕ) (has : HasGivenKids old now number ways count place) (lt : place < count) (told : IsTrue (tells (below old))) (depth : ℕ) (t : Tree (suc depth)) (free : List ℕ)
       (is : StandsUnder (map old) (limits (below old)).page number ways (suc depth) t free) (counted : count ≡ suc (length t.kids)) where

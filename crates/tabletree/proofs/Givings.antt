@@ -187,13 +187,6 @@ module _ {P K : Type 0} (below : P → K) (tells : K → Bool) (limits : K → L
     pub given : IsTrue (tells (below old)) → (ways : ℕ) (t : Leaf) (free : List ℕ) → StandsUnder (map old) (limits (below old)).page number ways zero t free → count ≡ length t.rows
         → AreGivenBack (map old) (map now) (limits (below old)).page (up_to chain_of place t.rows) free
 
-  pub no_row_given : (old : P) (number count : ℕ) → HasGivenRows old old number count 0
-  no_row_given old number count = record {
-    kept = refl;
-    causes = record { db = omega arith; log = omega arith; why = tt };
-    given = λ told ways t free is counted. none_given (map old) (limits (below old)).page free is.free_are;
-  }
-
   pub next_row : (old now new : P) (number count place : ℕ) (result : Result ⊤ Fault) → HasGivenRows old now number count place → place < count
       → (IsTrue (tells (below now)) → FreesRow (map now) (map new) (limits (below now)).page number place result) → IsTrue (tells (below old)) → (ways : ℕ) (t : Leaf) (free : List ℕ)
       → StandsUnder (map old) (limits (below old)).page number ways zero t free → count ≡ length t.rows

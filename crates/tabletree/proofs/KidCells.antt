@@ -129,10 +129,6 @@ pub first_said : (cell : List ℕ) (cells : List (List ℕ)) (kids : List (ℕ �
 first_said cell cells [] say = absurd say
 first_said cell cells (kid ∷ kids) say = (kid, kids, refl, say.0, say.1)
 
-pub none_said : (kids : List (ℕ × ℤ)) → Pairwise IsKeyCell [] kids → kids ≡ []
-none_said [] say = refl
-none_said (kid ∷ kids) say = absurd say
-
 -- what a place's cells say, where the place is on these bytes
 pub copied_at : (place : Place) (bytes : List ℕ) (start : ℕ) (before after : List (List ℕ)) (result : Result ⊤ Fault) → place ≡ record { bytes = bytes; start = start }
     → ((node : Node) (is : IsNode place.bytes place.start node) → MatchResult result (λ done. after ≡ before ++ is.cells) (λ fault. fault ≡ Memory))

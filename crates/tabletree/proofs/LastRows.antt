@@ -1,5 +1,5 @@
 -- The rows of a tree ascend, and a row after the last comes after all.
-use Rattle.std.proofs.Common.{◌≡◌, ℕ, zero, suc, ℤ, ◌<ℤ◌, ◌≤ℤ◌, List, [], ◌∷◌, ◌++◌, map, Some, sym, ap, subst, ◌∙◌}
+use Rattle.std.proofs.Common.{◌≡◌, ℕ, zero, suc, ℤ, ◌<ℤ◌, ◌≤ℤ◌, List, [], ◌∷◌, ◌++◌, map, sym, ap, subst, ◌∙◌}
 use Rattle.std.specs.Prelude.{⊤, MatchOption}
 use Rattle.std.proofs.lemmas.List.{append-nil}
 use Rattle.page.specs.Leaf.{Entry}
@@ -36,9 +36,6 @@ kids_ascend depth low (kid ∷ kids) last high each h =
 pub sorted_ascends : (depth : ℕ) (low : ℤ) (t : Tree depth) (high : ℤ) → IsSorted depth low t high → Ascends low (rows_of depth t) high
 sorted_ascends zero low t high h = leaf_ascends low t.rows high h
 sorted_ascends (suc depth) low t high h = kids_ascend depth low t.kids t.last high (sorted_ascends depth) h
-
-some_same : (a b : ℤ) → Some a ≡ Some b → a ≡ b
-some_same a b e = cc
 
 -- all rows are less than one after the last
 all_less : (low : ℤ) (row : Entry) (rows : List Entry) (high rowid : ℤ) → Ascends low (row ∷ rows) high → MatchOption (last_rowid (row ∷ rows)) ⊤ (λ last. last <ℤ rowid)

@@ -136,9 +136,6 @@ a_chain map' usable bytes (page ∷ pages) some h = refl
 not_le : (a b : ℕ) → nat_le a b ≡ false → b < a
 not_le a b e = grind (arith, common_steps)
 
-is_le : (a b : ℕ) → a ≤ b → nat_le a b ≡ true
-is_le a b le = grind (arith, common_steps)
-
 no_bool : true ≡ false → ⊥
 no_bool e = cc
 

@@ -2,7 +2,6 @@ pub mod WholeLeaf
 mod Refused
 mod Rebuilding
 pub mod SinglePages
-pub mod AfterFront
 pub mod SameRows
 pub mod LeafTrees
 mod Holes

@@ -140,9 +140,6 @@ pub sorted_le : (depth : ℕ) (low : ℤ) (t : Tree depth) (high : ℤ) → IsSo
 sorted_le zero low t high h = rises_le low t.rows high h
 sorted_le (suc depth) low t high h = parted_le (IsSorted depth) (sorted_le depth) low t.kids t.last high h
 
-pub kids_le : (depth : ℕ) (low : ℤ) (kids : List (Tree depth × ℤ)) (last : Tree depth) (high : ℤ) → Parted (IsSorted depth) low kids last high → low ≤ℤ high
-kids_le depth = parted_le (IsSorted depth) (sorted_le depth)
-
 more_each : {T : Type 0} (P : ℤ → T → ℤ → Type 0) (f : T → List Entry) → ((low : ℤ) (t : T) (high : ℤ) → P low t high → low ≤ℤ high)
     → ((rowid low : ℤ) (t : T) (high : ℤ) → rowid ≤ℤ low → P low t high → AreGreater rowid (f t))
     → (rowid low : ℤ) (kids : List (T × ℤ)) (last : T) (high : ℤ) → rowid ≤ℤ low → Parted P low kids last high → AreGreater rowid (each_of f nothing kids last)

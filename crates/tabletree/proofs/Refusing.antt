@@ -13,7 +13,3 @@ memory_outside number fault is same memory = inl (same ∙ ap (placed number) me
 pub memory_err : {T : Type 0} (I : T → Type 0) (result : Result T Fault) (fault : Fault) → IsErrAnd result (λ e. e ≡ fault) → fault ≡ Memory → MatchResult result I IsOutside
 memory_err I (Ok x) fault is memory = absurd is
 memory_err I (Err e) fault is memory = inl (is ∙ memory)
-
-pub memory_or : {T : Type 0} (I J : T → Type 0) (result : Result T Fault) → ((x : T) → I x → J x) → MatchResult result I (λ fault. fault ≡ Memory) → MatchResult result J IsOutside
-memory_or I J (Ok x) go is = go x is
-memory_or I J (Err fault) go is = inl is

@@ -4,7 +4,6 @@ use Rattle.std.proofs.lemmas.List.{length-drop, take_at}
 use Rattle.pages.specs.Counting.{start_of}
 use Rattle.packing.specs.Lists.{entry_parts, with_key, row_parts, sides_of}
 use Rattle.packing.specs.Packing as packing
-use Rattle.packing.specs.Packing.{IsKey}
 use Rattle.packing.specs.Rows.{LieWithin}
 use Rattle.packing.specs.declared.spreading.Piece.{Piece}
 use Rattle.tabletree.specs.Growing.{start_in}

@@ -82,14 +82,6 @@ looked_here rowid (Keys kids last) numbers place kind numbered is leaf at none =
 looked_here rowid (Entries entries) numbers place kind numbered is leaf at none = absurd (no_numbers numbered)
 looked_here rowid (Between kids last) numbers place kind numbered is leaf at none = absurd (no_numbers numbered)
 
--- what a page of another kind has to be
-pub as_keys : (node : Node) (numbers : List ℤ) (kind : Kind) → numbers_of node ≡ Some numbers → type_of kind ≡ code_of node → (kind ≡ TableLeaf → ⊥)
-    → ((kids : List (ℕ × ℤ)) (last : ℕ) → node ≡ Keys kids last → ⊥) → ⊥
-as_keys (Rows rows) numbers kind numbered is inner go = inner (leaf_kind kind is)
-as_keys (Keys kids last) numbers kind numbered is inner go = go kids last refl
-as_keys (Entries entries) numbers kind numbered is inner go = no_numbers numbered
-as_keys (Between kids last) numbers kind numbered is inner go = no_numbers numbered
-
 pub as_rows : (node : Node) (numbers : List ℤ) (kind : Kind) → numbers_of node ≡ Some numbers → type_of kind ≡ code_of node → kind ≡ TableLeaf
     → ((rows : List (ℤ × Local)) → node ≡ Rows rows → ⊥) → ⊥
 as_rows (Rows rows) numbers kind numbered is leaf go = go rows refl

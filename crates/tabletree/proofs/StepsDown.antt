@@ -2,7 +2,7 @@
 use Rattle.std.proofs.Common.{◌≡◌, refl, sym, ◌∙◌, ap, subst, ℕ, zero, suc, ◌<◌, ◌≤◌, ◌-◌, Bool, true, false, ℤ, int_lt, List, [], ◌∷◌, length, map, slice_index_or, if◌then◌else◌, Option, Some, Result, Ok, Err, arith}
 use Rattle.sqlval.specs.declared.fault.Fault.{Fault}
 use Rattle.treepage.specs.Node.{Node, Rows, Keys, Entries, Between, IsNode, code_of}
-use Rattle.treepage.specs.Reading.{Place, NeverFall, below, key_of, numbers_of, Answers}
+use Rattle.treepage.specs.Reading.{Place, NeverFall, below, key_of, numbers_of}
 use Rattle.treepage.specs.declared.items.Key.{Key}
 use Rattle.treepage.proofs.Places.{below_within}
 use Rattle.pages.specs.Counting.{start_of}
@@ -68,10 +68,6 @@ way_is : (a b : Way) → a.page ≡ b.page → a.left ≡ b.left → a.right ≡
 way_is a b page left right = λ i. record { page = page i; left = left i; right = right i }
 
 -- ---- what the calls answer
-
--- what a call answers that gives the key at a place
-pub never_refused : (fault : Fault) (kid : ℕ × ℤ) → Answers key_of (Err fault) kid → ⊥
-never_refused fault kid no_answer = no_answer
 
 pub key_left : (rowid : ℤ) (left : Option ℤ) (kids : List (ℕ × ℤ)) (place : ℕ) (key : Key) (d : ℕ × ℤ) → (place ≡ 0 → ⊥) → place ≡ below rowid (map (λ kid. kid.1) kids)
     → key_of key ≡ slice_index_or kids (place - 1) d → Some key.rowid ≡ left_for rowid left kids

@@ -1,5 +1,5 @@
 -- A page has the bytes of another one, which is given back.
-use Rattle.std.proofs.Common.{◌≡◌, ◌≤◌, ◌<◌, ◌-◌, ℕ, nat_lt, true, false, if◌then◌else◌, List, [], ◌∷◌, length, take, Option, None, refl, sym, ap, ◌∙◌, arith}
+use Rattle.std.proofs.Common.{◌≡◌, ◌<◌, ◌-◌, ℕ, nat_lt, true, if◌then◌else◌, List, [], ◌∷◌, length, take, Option, None, refl, sym, ap, ◌∙◌, arith}
 use Rattle.std.proofs.lemmas.Grind.{common_steps}
 use Rattle.std.proofs.lemmas.List.{get_or-set_same}
 use Rattle.std.specs.Prelude.{⊤, Result, Ok, Err, MatchResult}
@@ -11,9 +11,7 @@ use Rattle.pages.proofs.Moving.{in_sequence, occurs_append}
 use Rattle.freelist.specs.Calls.{AreFree, Gives, IsGiven}
 use Rattle.overflow.proofs.Laying.{beside, keeps_then, whole_body}
 use Rattle.forest.specs.Storing.{CanStand, IsRewritten, Rewrites}
-use Rattle.treepage.specs.Node.{Node}
-use Rattle.treepage.specs.Reading.{count_of, last_of}
-use Rattle.tabletree.specs.Lowering.{lone_of, IsTakenOver, AreApart}
+use Rattle.tabletree.specs.Lowering.{IsTakenOver, AreApart}
 use Rattle.tabletree.proofs.Passing.{beside_used}
 use Rattle.tabletree.proofs.Planting.{after_one}
 
@@ -21,15 +19,6 @@ use Rattle.tabletree.proofs.Planting.{after_one}
 
 pub some_cells : (n : ℕ) (last : Option ℕ) → 0 < n → (if nat_lt 0 n then None else last) ≡ None
 some_cells n last some = (let test : nat_lt 0 n ≡ true = grind (arith, common_steps) in rw test refl)
-
-no_cells : (n : ℕ) (last : Option ℕ) → n ≡ 0 → (if nat_lt 0 n then None else last) ≡ last
-no_cells n last none = (let test : nat_lt 0 n ≡ false = grind (arith, common_steps) in rw test refl)
-
-pub lone_none : (node : Node) (len : ℕ) → len ≡ count_of node → 0 < len → None ≡ lone_of node
-lone_none node len is some = sym (some_cells (count_of node) (last_of node) (omega (arith, is, some)))
-
-pub lone_last : (node : Node) (len : ℕ) (last : Option ℕ) → len ≡ count_of node → len ≤ 0 → last ≡ last_of node → last ≡ lone_of node
-lone_last node len last is none same = same ∙ sym (no_cells (count_of node) (last_of node) (omega (arith, is, none)))
 
 -- ---- the bytes
 

@@ -31,10 +31,6 @@ use Rattle.tabletree.proofs.Putting.{usual}
 deeper : (ways depth : ℕ) (deep : Bool) → IsDeep ways depth deep → IsDeep (suc ways) (suc depth) deep
 deeper ways depth deep is = record { full = λ e. (let le = is.full e in omega (arith, le)); short = λ e. (let lt = is.short e in omega (arith, lt)) }
 
-or_full : {T : Type 0} (I : T → Type 0) (result : Result T Fault) → MatchResult result I (λ fault. fault ≡ Memory) → MatchResult result I IsOutsideOrFull
-or_full I (Ok x) is = is
-or_full I (Err fault) is = inl (inl is)
-
 module _ (old : PageMap) (size number ways : ℕ) (rowid : ℤ) (edit : List Entry → List Entry) (about : IsLocal rowid edit) (depth : ℕ) (low : ℤ) (t : Tree (suc depth)) (high : ℤ) (free : List ℕ)
     (under : IsUnder old size number (suc ways) rowid (suc depth) low t high free) (place child : ℕ)
     (place_is : place ≡ below rowid (keys_of t.kids)) (child_is : child ≡ child_at place (children (top depth) t.kids) (top depth t.last)) where

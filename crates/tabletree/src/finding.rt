@@ -1,6 +1,6 @@
 //! Finding a row of a table's tree.
 
-ghost use Rattle.std.specs.Prelude.{◌≡◌, IsTrue};
+ghost use Rattle.std.specs.Prelude.{◌≡◌, ◌+ℤ◌, pos, Some, IsTrue, IfOk, IfErr, MatchOption};
 ghost use Rattle.pages.specs.Calls.{Stays};
 ghost use Rattle.tabletree.specs.Calls.{FindsLast, FindsRow};
 
@@ -44,5 +44,16 @@ pub fn last<P: Pages>(pages: &mut P, root: u32) -> R<Option<i64>>
             return Ok(None);
         };
         most = key;
+    }
+}
+
+/// The rowid of a new row after those up to `last`. `RowidFull` where that is the greatest of 64 bits.
+pub fn next_rowid(last: Option<i64>) -> R<i64>
+    ensures next { IfOk result (λ rowid. MatchOption last (rowid ≡ pos 1) (λ before. rowid ≡ before +ℤ pos 1)) }
+    ensures full { IfErr result (λ fault. (fault ≡ Fault.RowidFull) × (last ≡ Some (pos 9223372036854775807))) }
+{
+    match last {
+        None => Ok(1),
+        Some(last) => last.checked_add(1).ok_or(Fault::RowidFull),
     }
 }

@@ -18,13 +18,9 @@ mod scanning;
 mod shrinking;
 mod way;
 
-pub use finding::{get, last};
+pub use finding::{get, last, next_rowid};
 pub use freeing::{clear, free_tree, new_tree};
 pub use inserting::insert;
 pub use laws::{one_table_tree, rows_come_last, table_trees_stay};
-pub use leaf::{
-    Leaf, a_tree_of_leaves_is_one_page, empty, front_of_page_holds_no_row, next_rowid,
-    single_page_is_a_tree, with_rows,
-};
 pub use removing::{remove, replace};
 pub use scanning::{Batch, BatchEntry, BatchRow, Cursor};

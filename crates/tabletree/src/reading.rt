@@ -1,9 +1,10 @@
 //! Reading the rows of a leaf.
 
-ghost use Rattle.std.specs.Prelude.{◌≡◌, ◌<◌, ℤ, Ok, IsTrue, IfErr, IsOkAnd, List, length, map, slice_index_or};
+ghost use Rattle.std.specs.Prelude.{◌≡◌, ◌<◌, ℤ, Ok, IsTrue, IfErr, IsOkAnd, OnOk, List, length, map, slice_index_or};
 ghost use Rattle.sqlval.specs.Faults.{IsNotDiskFault};
 ghost use Rattle.pages.specs.Calls.{Stays};
 ghost use Rattle.pages.specs.Counting as counting;
+ghost use Rattle.pages.specs.Map.{page_at};
 ghost use Rattle.treepage.specs.Node.{Local as LocalIs, Rows, IsNode};
 ghost use Rattle.treepage.specs.Reading.{Answers, row_of};
 ghost use Rattle.tabletree.specs.Ways.{IsRowAt, CountsRows, FindsLastRow, FindsRowid, ReadsRow, last_of_numbers};
@@ -63,6 +64,8 @@ fn is_row_in(bytes: &[u8], leaf: u32, place: usize, rowid: i64) -> R<bool>
 pub fn count_rows<P: Pages>(pages: &mut P, leaf: u32) -> R<usize>
     ensures counted { IsTrue (P.Pages.tells (P.Pages.below pages.old))
         → CountsRows (P.Pages.map pages.old) (P.Pages.limits (P.Pages.below pages.old)).page leaf result }
+    // The leaf is loaded then.
+    ensures held { IsTrue (P.Pages.tells (P.Pages.below pages.old)) → OnOk result (P.Pages.held pages.new ≡ page_at (P.Pages.map pages.old) leaf) }
     ensures stays { Stays P.Pages.below P.Pages.map P.Pages.count P.Pages.failures result pages.old pages.new }
 {
     pages.load(leaf)?;
@@ -120,5 +123,38 @@ pub fn read_row<P: Pages>(pages: &mut P, leaf: u32, place: usize, out: &mut Vec<
     // The chain is read through the same pages, which lend these bytes.
     let held = row.payload.bytes.to_vec(*out.allocator())?;
     read_payload(pages, held.as_slice(), size, most, out)?;
+    Ok(rowid)
+}
+
+/// Like `read_row`, with the leaf loaded afterwards.
+fn read_long_row<P: Pages>(pages: &mut P, leaf: u32, place: usize, out: &mut Vec<u8>) -> R<i64>
+    ensures read { IsTrue (P.Pages.tells (P.Pages.below pages.old))
+        → ReadsRow (P.Pages.map pages.old) (P.Pages.limits (P.Pages.below pages.old)).page leaf place out.old.items out.new.items result }
+    ensures held { IsTrue (P.Pages.tells (P.Pages.below pages.old)) → OnOk result (P.Pages.held pages.new ≡ page_at (P.Pages.map pages.old) leaf) }
+    ensures stays { Stays P.Pages.below P.Pages.map P.Pages.count P.Pages.failures result pages.old pages.new }
+{
+    let rowid = read_row(pages, leaf, place, out)?;
+    pages.load(leaf)?;
+    Ok(rowid)
+}
+
+/// Like `read_row`, of a leaf that was loaded last, as it is afterwards too: only a row with a chain loads pages.
+pub fn read_next_row<P: Pages>(pages: &mut P, leaf: u32, place: usize, out: &mut Vec<u8>) -> R<i64>
+    ensures read { IsTrue (P.Pages.tells (P.Pages.below pages.old)) → P.Pages.held pages.old ≡ page_at (P.Pages.map pages.old) leaf
+        → ReadsRow (P.Pages.map pages.old) (P.Pages.limits (P.Pages.below pages.old)).page leaf place out.old.items out.new.items result }
+    ensures held { IsTrue (P.Pages.tells (P.Pages.below pages.old)) → P.Pages.held pages.old ≡ page_at (P.Pages.map pages.old) leaf
+        → OnOk result (P.Pages.held pages.new ≡ page_at (P.Pages.map pages.old) leaf) }
+    ensures stays { Stays P.Pages.below P.Pages.map P.Pages.count P.Pages.failures result pages.old pages.new }
+{
+    let most = pages.page_size().saturating_sub(35);
+    let row = match row_in(pages.loaded(), leaf, place) {
+        Ok(row) => row,
+        Err(fault) => return Err(at_page(fault, leaf)),
+    };
+    if row.payload.size > most as u64 {
+        return read_long_row(pages, leaf, place, out);
+    }
+    let rowid = row.rowid;
+    out.extend_from_slice(row.payload.bytes)?;
     Ok(rowid)
 }

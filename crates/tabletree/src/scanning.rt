@@ -5,7 +5,7 @@ ghost use Rattle.page.specs.Leaf.{Entry};
 ghost use Rattle.pages.specs.Calls.{Stays};
 ghost use Rattle.tabletree.specs.Scanning.{BeginsAll, CopiesRows, GivesBatch, GivesLeaf, IsForward, IsNextOf, entries_from, entry_in, start_at};
 
-use crate::reading::{count_rows, read_row};
+use crate::reading::{count_rows, read_next_row};
 use crate::way::find_leaf;
 use pages::Pages;
 use sqlval::R;
@@ -77,7 +77,7 @@ fn nth_entry<'a>(rows: &[BatchRow], bytes: &'a [u8], index: usize) -> BatchEntry
     entry_at(rows[index], bytes, start_in(rows, index))
 }
 
-/// Reads the rows of a leaf from a place on, in place of these rows and bytes. (What `count_rows` and `read_row` refuse.)
+/// Reads the rows of a leaf from a place on, in place of these rows and bytes. (What `count_rows` and `read_next_row` refuse.)
 fn copy_rows<P: Pages>(
     pages: &mut P,
     leaf: u32,
@@ -94,7 +94,7 @@ fn copy_rows<P: Pages>(
     bytes.clear();
     let len = count_rows(pages, leaf)?;
     'rows: for at in place..len {
-        let rowid = read_row(pages, leaf, at, bytes)?;
+        let rowid = read_next_row(pages, leaf, at, bytes)?;
         let end = bytes.len();
         rows.push(BatchRow { rowid, end })?;
     }
@@ -135,7 +135,7 @@ impl Batch {
         self.bytes.clear();
     }
 
-    /// Reads the rows of a leaf from a place on, in place of those that the batch has. (What `read_row` refuses.)
+    /// Reads the rows of a leaf from a place on, in place of those that the batch has. (What `read_next_row` refuses.)
     fn fill<P: Pages>(&mut self, pages: &mut P, leaf: u32, place: usize) -> R<()>
         ensures copied { IsTrue (P.Pages.tells (P.Pages.below pages.old))
             → CopiesRows (P.Pages.map pages.old) (P.Pages.limits (P.Pages.below pages.old)).page leaf place self.new result }
@@ -156,7 +156,7 @@ fn next_of(key: Option<i64>) -> Option<i64>
 }
 
 /// Reads the rows of the leaf where a rowid belongs, from that rowid on, in place of those that the batch has. Answers where the rows
-/// after them begin. (What `find_leaf` and `read_row` refuse.)
+/// after them begin. (What `find_leaf` and `read_next_row` refuse.)
 fn next_leaf<P: Pages>(pages: &mut P, root: u32, next: i64, batch: &mut Batch) -> R<Option<i64>>
     ensures given { IsTrue (P.Pages.tells (P.Pages.below pages.old))
         → GivesLeaf (P.Pages.map pages.old) (P.Pages.limits (P.Pages.below pages.old)).page root next batch.new result }

@@ -5,3 +5,5 @@ pub mod Groups
 pub mod Items
 pub mod Limits
 pub mod Picked
+pub mod InOrder
+pub mod Quiet

@@ -1,5 +1,6 @@
 //! The program over given arguments, input and output.
 
+use cacheddisk::CachedDisk;
 use engine::{Engine, Refused, create, put_reply};
 use filedisk::FileDisk;
 use settings::{ArgsError, StartOptions, settings};
@@ -18,24 +19,36 @@ const REFUSED: u8 = 1;
 /// Exit status for bad arguments.
 const MISUSED: u8 = 2;
 
+/// How many pages of each file are kept in memory at most.
+const KEPT_PAGES: usize = 1024;
+
+/// A file whose pages are read once, as long as they are kept.
+type PageFile = CachedDisk<FileDisk>;
+
+/// Opens a file, which is created where it doesn't exist.
+fn open_file<F: Files<File = File>>(files: &F, alloc: Global, name: &str) -> R<PageFile> {
+    let disk = FileDisk::open(files, name)?;
+    Ok(CachedDisk::new(alloc, disk, KEPT_PAGES))
+}
+
 /// Opens the database file and its log, which are created where they don't exist.
 fn open_files<F: Files<File = File>>(
     files: &F,
     alloc: Global,
     name: &str,
-) -> R<(FileDisk, FileDisk)> {
+) -> R<(PageFile, PageFile)> {
     let log_name = format!(in alloc; "{name}-wal")?;
-    let db = FileDisk::open(files, name)?;
-    let log = FileDisk::open(files, log_name.as_str())?;
+    let db = open_file(files, alloc, name)?;
+    let log = open_file(files, alloc, log_name.as_str())?;
     Ok((db, log))
 }
 
 /// Opens the database of these files, which is created if the database file is blank.
 fn open_or_create(
     alloc: Global,
-    files: (FileDisk, FileDisk),
+    files: (PageFile, PageFile),
     options: &StartOptions<'_>,
-) -> R<Engine<FileDisk>> {
+) -> R<Engine<PageFile>> {
     let (db, log) = files;
     let Refused { fault, db, log } = match Engine::open(alloc, db, log, options.salts) {
         Ok(engine) => return Ok(engine),
@@ -64,7 +77,7 @@ fn start<F: Files<File = File>>(
     files: &F,
     alloc: Global,
     options: &StartOptions<'_>,
-) -> R<Engine<FileDisk>> {
+) -> R<Engine<PageFile>> {
     let opened = open_files(files, alloc, options.name)?;
     open_or_create(alloc, opened, options)
 }

@@ -1,8 +1,8 @@
-use Rattle.std.proofs.Common.{inl, inr, sym, subst, IfErr}
+use Rattle.std.proofs.Common.{sym, subst, IfErr}
 use Rattle.std.proofs.lemmas.Result.{err_from_is_err_and}
 use Rattle.catalog.specs.Listed.{tables_of}
 use Rattle.bind.specs.Inserts.{IsTargetFault}
-use Rattle.bind.proofs.GivenRows.{columns_refused}
+use Rattle.bind.proofs.InsertNames.{columns_refused}
 use Rattle.bind.proofs.inserting.bind_target.Goals as goal
 
 pub returns-in_err-check_list-clause-refused : goal.returns-in_err-check_list-clause-refused

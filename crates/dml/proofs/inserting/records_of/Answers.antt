@@ -2,7 +2,7 @@ use Rattle.std.proofs.Common.{◌≡◌, ◌⊎◌, rules, map, arith}
 use Rattle.sqlval.specs.declared.fault.Fault.TheVariants.{Memory, TooLong}
 use Rattle.dml.specs.Inserting.{AllStorable}
 use Rattle.dml.specs.NewRows.{IsWritten, entry_in, row_of}
-use Rattle.dml.proofs.OnPage.{one_too_long, rows_on}
+use Rattle.dml.proofs.Added.{one_too_long, rows_on}
 use Rattle.dml.proofs.inserting.records_of.Goals as goal
 
 pub returns-in_err-record_for-clause-refused : goal.returns-in_err-record_for-clause-refused

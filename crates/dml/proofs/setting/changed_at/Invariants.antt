@@ -2,7 +2,7 @@
 use Rattle.std.proofs.Common.{◌≡◌, drop, map}
 use Rattle.sqlval.specs.Refusals.{all_answers}
 use Rattle.terms.specs.Rows.{row_at}
-use Rattle.queries.proofs.InOrder.{left}
+use Rattle.terms.proofs.InOrder.{left}
 use Rattle.dml.specs.NewRows.{row_of}
 use Rattle.dml.specs.Setting.{source_set}
 use Rattle.dml.proofs.setting.changed_at.Given as goal

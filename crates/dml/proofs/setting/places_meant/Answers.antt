@@ -1,4 +1,4 @@
-use Rattle.std.proofs.Common.{ap, subst, map, [], ◌<◌}
+use Rattle.std.proofs.Common.{subst, map, [], ◌<◌}
 use Rattle.terms.specs.Rows.{row_at}
 use Rattle.dml.specs.Setting.{rows_meant}
 use Rattle.dml.proofs.SetRows.{one_more, one_refused}

@@ -1,6 +1,6 @@
 use Rattle.dml.specs.Constraints.{with_affinity}
 use Rattle.catalog.specs.Listed.{plain_column}
-use Rattle.std.proofs.Common.{map, subst, ◌≤◌, arith}
+use Rattle.std.proofs.Common.{map, subst, ◌≤◌}
 use Rattle.dml.proofs.SetRows.{all_stored}
 use Rattle.dml.proofs.setting.stored.Goals as goal
 

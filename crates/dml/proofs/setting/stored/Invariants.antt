@@ -2,7 +2,7 @@
 use Rattle.std.proofs.Common.{◌≡◌, drop, map}
 use Rattle.catalog.specs.Listed.{plain_column}
 use Rattle.dml.specs.Constraints.{with_affinity}
-use Rattle.queries.proofs.InOrder.{with_front}
+use Rattle.terms.proofs.InOrder.{with_front}
 use Rattle.dml.proofs.setting.stored.Given as goal
 
 abbrev pub invariant-columns : goal.invariant-columns

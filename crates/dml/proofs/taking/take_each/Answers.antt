@@ -1,4 +1,4 @@
-use Rattle.std.proofs.Common.{rules, ◌∙◌, ◌<◌, List, ℤ, length, take, refl, slice_index_or, subst, Ok, Err}
+use Rattle.std.proofs.Common.{rules, ◌∙◌, List, ℤ, take, refl, slice_index_or, subst, Ok, Err}
 use Rattle.std.specs.Prelude.{pos}
 use Rattle.tabletree.specs.Rows.{without_row}
 use Rattle.dml.specs.Taking.{MakesRows, without_rows}

@@ -8,5 +8,5 @@ use Rattle.queries.proofs.distinct.sort_by_results.Goals as goal
 
 pub returns-clause-sorted : goal.returns-clause-sorted
 returns-clause-sorted c =
-    sort_by_is (λ r s. by_values c.args.orders.now r.row.results.items s.row.results.items) c.args.rows.now.items c.sort_by.new.self.items (on_total (λ (r : Numbered). r.row.results.items) (by_keys 0 c.args.orders.now)) c.in_ok-sort_by.ensures.sorted c.in_ok-sort_by.ensures.stable
+    sort_by_is (λ r s. by_values c.args.orders.now r.row.results s.row.results) c.args.rows.now.items c.sort_by.new.self.items (on_total (λ (r : Numbered). r.row.results) (by_keys 0 c.args.orders.now)) c.in_ok-sort_by.ensures.sorted c.in_ok-sort_by.ensures.stable
     (λ a r q k. search rules)

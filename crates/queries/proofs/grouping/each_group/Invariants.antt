@@ -3,7 +3,7 @@ use Rattle.std.proofs.Common.{◌≡◌, ◌-◌, ◌≤◌, drop, length, map}
 use Rattle.sqlval.specs.Lists.{groups}
 use Rattle.queries.specs.Groups.{have_same_keys, of_group, of_runs}
 use Rattle.queries.specs.Nesting.{shown}
-use Rattle.queries.proofs.InOrder.{left}
+use Rattle.terms.proofs.InOrder.{left}
 use Rattle.queries.proofs.grouping.each_group.Given as goal
 
 abbrev pub invariant-groups : goal.invariant-groups

@@ -3,7 +3,7 @@ use Rattle.std.proofs.Common.{◌≡◌, drop, map}
 use Rattle.terms.specs.Rows.{seen}
 use Rattle.terms.specs.Values.{value}
 use Rattle.bind.specs.Readings.{values}
-use Rattle.queries.proofs.InOrder.{left}
+use Rattle.terms.proofs.InOrder.{left}
 use Rattle.queries.proofs.results.order_values.Given as goal
 
 abbrev pub invariant-terms : goal.invariant-terms

@@ -1,6 +1,5 @@
 use Rattle.std.proofs.lemmas.Int.{to_z-of_z}
-use Rattle.std.proofs.Common.{rules, SFits, w64, ◌≡◌, ◌∙◌, sym, subst, ap, Ok, Err, Bool, true, false, inl, inr, IsTrue}
-use Rattle.std.specs.Prelude.{not}
+use Rattle.std.proofs.Common.{rules, SFits, w64, sym, subst, Ok, Err, true, false, IsTrue}
 use Rattle.record.specs.Record.{IsRecord}
 use Rattle.page.specs.Leaf.{Entry}
 use Rattle.pages.specs.Map.{PageMap}

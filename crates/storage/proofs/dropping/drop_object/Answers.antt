@@ -1,6 +1,6 @@
 use Rattle.std.proofs.Common.{rules, refl}
 use Rattle.catalog.specs.Listed.{tables_of}
-use Rattle.storage.proofs.Droppings.{Laws, no_other}
+use Rattle.storage.proofs.Droppings.{no_other}
 use Rattle.storage.proofs.dropping.drop_object.Goals as goal
 
 pub returns-in_default : goal.returns-in_default

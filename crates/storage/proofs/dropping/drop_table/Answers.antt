@@ -1,5 +1,5 @@
 use Rattle.std.proofs.lemmas.Int.{to_z-of_z}
-use Rattle.std.proofs.Common.{rules, SFits, w64, ◌≡◌, ◌∙◌, ap, sym, subst, inl, Ok, Err, IsTrue}
+use Rattle.std.proofs.Common.{rules, SFits, w64, ◌∙◌, ap, sym, subst, inl, Ok, Err, IsTrue}
 use Rattle.catalog.specs.Listed.{tables_of, without_table}
 use Rattle.storage.specs.Changing.{IsMade}
 use Rattle.storage.specs.Listing.{TakesSchemaRow}

@@ -1,5 +1,5 @@
 use Rattle.std.proofs.lemmas.Int.{to_z-of_z}
-use Rattle.std.proofs.Common.{rules, SFits, w64, ◌≡◌, subst, Ok, Err, Bool, true, false}
+use Rattle.std.proofs.Common.{rules, SFits, w64, subst, Ok, Err, true, false}
 use Rattle.tabletree.specs.Calls.{IsRemoved, RemovesRow}
 use Rattle.storage.proofs.Creations.{handed_on}
 use Rattle.storage.proofs.dropping.take_row.Goals as goal

@@ -2,8 +2,9 @@
 use Rattle.std.proofs.Common.{◌≡◌, [], drop, map}
 use Rattle.sqlval.specs.Refusals.{all_answers}
 use Rattle.bind.specs.Readings.{env_of, values}
-use Rattle.queries.proofs.InOrder.{left}
+use Rattle.rowprog.specs.Rows.{values_of}
+use Rattle.terms.proofs.InOrder.{left}
 use Rattle.storage.proofs.giving.evaluated_rows.Given as goal
 
 abbrev pub invariant-rows : goal.invariant-rows
-invariant-rows l = left (values (env_of [])) (drop l.terms-index l.rows) (map (λ row. row.items) l.found.items) ≡ all_answers (map (values (env_of [])) l.rows)
+invariant-rows l = left (values (env_of [])) (drop l.terms-index l.rows) (map values_of l.found.items) ≡ all_answers (map (values (env_of [])) l.rows)

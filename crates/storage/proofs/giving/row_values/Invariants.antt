@@ -2,7 +2,7 @@
 use Rattle.std.proofs.Common.{◌≡◌, [], drop}
 use Rattle.terms.specs.Values.{value}
 use Rattle.bind.specs.Readings.{env_of, values}
-use Rattle.queries.proofs.InOrder.{left}
+use Rattle.terms.proofs.InOrder.{left}
 use Rattle.storage.proofs.giving.row_values.Given as goal
 
 abbrev pub invariant-terms : goal.invariant-terms

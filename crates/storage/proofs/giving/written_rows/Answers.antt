@@ -1,12 +1,15 @@
-use Rattle.std.proofs.Common.{[], map, rules}
+use Rattle.std.proofs.Common.{◌≡◌, ◌==◌, [], false, length, map, not, rules}
+use Rattle.std.specs.List.{list_any}
 use Rattle.std.specs.Prelude.{Vec}
 use Rattle.std.specs.declared.alloc.Global.{Global}
+use Rattle.smallvec.specs.SmallVec.{SmallVec}
 use Rattle.sqlval.specs.Faults.{IsNotDiskFault}
 use Rattle.sqlval.specs.declared.value.Value.{Value}
+use Rattle.rowprog.specs.Rows.{values_of}
 use Rattle.bind.specs.Readings.{env_of}
-use Rattle.bind.specs.Checked.{known_all}
+use Rattle.bind.specs.Checked.{Meant, known_all}
 use Rattle.querybinder.proofs.Quiet.{not_disk, of_rows}
-use Rattle.storage.proofs.WrittenRows.{evaluated_quietly, row_known}
+use Rattle.storage.proofs.WrittenRows.{evaluated_quietly, evaluated_wide, row_known}
 use Rattle.storage.proofs.giving.written_rows.Goals as goal
 
 pub returns-in_err-terms-clause-not_disk : goal.returns-in_err-terms-clause-not_disk
@@ -16,4 +19,10 @@ returns-in_err-terms-clause-not_disk c =
 
 pub returns-clause-not_disk : goal.returns-clause-not_disk
 returns-clause-not_disk c =
-    evaluated_quietly (λ (found : Vec (Vec Value Global) Global). map (λ (row : Vec Value Global). row.items) found.items) (env_of []) c.as_slice.result.now c.evaluated_rows.result c.evaluated_rows.ensures
+    evaluated_quietly (λ (found : Vec (SmallVec Value) Global). map values_of found.items) (env_of []) c.as_slice.result.now c.evaluated_rows.result c.evaluated_rows.ensures
+
+pub returns-clause-wide : goal.returns-clause-wide
+returns-clause-wide c =
+    let few : list_any (λ row. not (c.args.count == length row)) c.args.rows.now ≡ false = search rules in
+    let named : known_all (map row_known c.args.rows.now) ≡ Meant c.as_slice.result.now [] = search rules in
+    evaluated_wide (λ (found : Vec (SmallVec Value) Global). map values_of found.items) c.args.count c.args.rows.now c.as_slice.result.now c.evaluated_rows.result few named c.evaluated_rows.ensures

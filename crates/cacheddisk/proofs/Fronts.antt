@@ -1,0 +1,46 @@
+-- What is kept of a content is kept of each that begins as it does.
+use Rattle.std.proofs.Common.{◌≡◌, ◌∙◌, ◌≤◌, ◌+◌, ℕ, zero, suc, List, [], ◌∷◌, ◌++◌, length, take, drop, ap, sym, refl, arith}
+use Rattle.std.proofs.lemmas.List.{drop-take, length-take-le, take-append-le}
+use Rattle.disk.specs.Calls.{overwritten}
+use Rattle.cacheddisk.specs.Kept.{AreKept}
+use Rattle.cacheddisk.specs.declared.blocks.Block.{Block}
+
+take_front : (m n : ℕ) (xs : List ℕ) → m ≤ n → take m (take n xs) ≡ take m xs
+take_front zero n xs le = refl
+take_front (suc m) zero xs le = absurd (omega (arith, le))
+take_front (suc m) (suc n) [] le = refl
+take_front (suc m) (suc n) (x ∷ xs) le = ap (λ ys. x ∷ ys) (take_front m n xs (omega (arith, le)))
+
+same_within : (end at n : ℕ) (old new : List ℕ) → at + n ≤ end → take end new ≡ take end old → take n (drop at old) ≡ take n (drop at new)
+same_within end at n old new le same =
+    sym (drop-take at n old)
+    ∙ (ap (drop at) (sym (take_front (at + n) end old le) ∙ (ap (take (at + n)) (sym same) ∙ take_front (at + n) end new le))
+    ∙ drop-take at n new)
+
+pub kept_on : (end : ℕ) (old new : List ℕ) (blocks : List Block) → take end new ≡ take end old → AreKept old end blocks → AreKept new end blocks
+kept_on end old new blocks same kept = λ k d lt.
+    (let is = kept k d lt in record { within = is.within; same = is.same ∙ same_within end _ _ old new is.within same })
+
+-- a greater end will do
+pub kept_longer : (end longer : ℕ) (content : List ℕ) (blocks : List Block) → end ≤ longer → AreKept content end blocks → AreKept content longer blocks
+kept_longer end longer content blocks le kept = λ k d lt.
+    (let is = kept k d lt in let within = is.within in record { within = omega (arith, within, le); same = is.same })
+
+-- a write from the end on keeps what is before it, and so does a cut
+pub front_written : (end at : ℕ) (bytes old : List ℕ) → end ≤ at → at ≤ length old → take end (overwritten at bytes old) ≡ take end old
+front_written end at bytes old le within =
+    let long = length-take-le at old within in
+    take_within (drop (at + length bytes) old) (omega (arith, le, long)) ∙ take_front end at old le
+  where
+    take_within : (rest : List ℕ) → end ≤ length (take at old) → take end (take at old ++ bytes ++ rest) ≡ take end (take at old)
+    take_within rest le = first rest ∙ take-append-le end (take at old) bytes le
+      where
+        first : (rest : List ℕ) → take end (take at old ++ bytes ++ rest) ≡ take end (take at old ++ bytes)
+        first rest = take-append-le end (take at old ++ bytes) rest (let more = longer bytes (take at old) in omega (arith, le, more))
+          where
+            longer : (ys xs : List ℕ) → length xs ≤ length (xs ++ ys)
+            longer ys [] = omega arith
+            longer ys (x ∷ xs) = (let rest = longer ys xs in omega (arith, rest))
+
+pub front_cut : (end n : ℕ) (old : List ℕ) → end ≤ n → take end (take n old) ≡ take end old
+front_cut end n old le = take_front end n old le

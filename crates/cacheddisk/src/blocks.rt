@@ -1,0 +1,96 @@
+//! Blocks that were read, each in the place that its offset has.
+
+ghost use Rattle.std.specs.Prelude.{◌≡◌, ◌+◌, ◌<◌, ◌≤◌, ℕ, List, length, take, drop, IfSome};
+ghost use Rattle.cacheddisk.specs.Kept.{AreKept, IsKept};
+
+use std::alloc::Global;
+
+/// Bytes that were read from an offset on.
+#[derive(Drop)]
+pub struct Block {
+    pub at: u64,
+    pub bytes: Vec<u8>,
+}
+
+/// The place of an offset among so many.
+fn place_of(at: u64, count: usize) -> usize
+    requires { 0 < count }
+    ensures { result < count }
+{
+    (at / 512 % count as u64) as usize
+}
+
+/// The bytes of a block, if it begins at this offset and is of this length.
+fn bytes_of(block: &Block, at: u64, len: usize) -> Option<&[u8]>
+    ensures { IfSome result (λ bytes. (block.now.at ≡ at) × (block.now.bytes.items ≡ bytes.now) × (length bytes.now ≡ len)) }
+{
+    if block.at == at && block.bytes.len() == len {
+        Some(block.bytes.as_slice())
+    } else {
+        None
+    }
+}
+
+/// The bytes that were read from an offset on, if so many of them are kept.
+pub fn find(blocks: &[Block], at: u64, len: usize) -> Option<&[u8]>
+    ensures { IfSome result (λ bytes. (length bytes.now ≡ len) × ((content : List ℕ) (end : ℕ) → AreKept content end blocks.now
+        → bytes.now ≡ take len (drop at content))) }
+{
+    if blocks.len() == 0 {
+        return None;
+    }
+    bytes_of(&blocks[place_of(at, blocks.len())], at, len)
+}
+
+/// Adds a block without bytes, and answers whether there was memory for it.
+fn add_blank(alloc: Global, blocks: &mut Vec<Block>) -> bool
+    ensures { (content : List ℕ) (end : ℕ) → AreKept content end blocks.old.items → AreKept content end blocks.new.items }
+{
+    let block = Block {
+        at: 0,
+        bytes: Vec::new(alloc),
+    };
+    blocks.push(block).is_ok()
+}
+
+/// Adds blocks without bytes, as many as there is memory for, but at most so many.
+fn fill(alloc: Global, blocks: &mut Vec<Block>, count: usize)
+    ensures { (content : List ℕ) (end : ℕ) → AreKept content end blocks.old.items → AreKept content end blocks.new.items }
+{
+    'blocks: for _ in 0..count {
+        if !add_blank(alloc, blocks) {
+            return;
+        }
+    }
+}
+
+/// Puts a block in the place of its offset.
+fn put(blocks: &mut Vec<Block>, block: Block)
+    ensures { (content : List ℕ) (end : ℕ) → AreKept content end blocks.old.items → IsKept content end block → AreKept content end blocks.new.items }
+{
+    let count = blocks.len();
+    if count > 0 {
+        let place = place_of(block.at, count);
+        blocks[place] = block;
+    }
+}
+
+/// Adds blocks where there are none.
+fn prepare(alloc: Global, blocks: &mut Vec<Block>, count: usize)
+    ensures { (content : List ℕ) (end : ℕ) → AreKept content end blocks.old.items → AreKept content end blocks.new.items }
+{
+    if blocks.len() == 0 {
+        fill(alloc, blocks, count);
+    }
+}
+
+/// Keeps bytes that were read from an offset on, if there is memory for them. At most so many blocks are kept.
+pub fn keep(alloc: Global, blocks: &mut Vec<Block>, count: usize, at: u64, bytes: &[u8])
+    ensures { (content : List ℕ) (end : ℕ) → AreKept content end blocks.old.items → at + length bytes.now ≤ end
+        → bytes.now ≡ take (length bytes.now) (drop at content) → AreKept content end blocks.new.items }
+{
+    prepare(alloc, blocks, count);
+    if let Ok(bytes) = Vec::from_slice(alloc, bytes) {
+        put(blocks, Block { at, bytes });
+    }
+}

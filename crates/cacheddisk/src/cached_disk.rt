@@ -1,0 +1,133 @@
+//! A disk over another.
+
+ghost use Rattle.std.specs.Prelude.{◌≡◌, ◌≤◌, [], ℕ, IsTrue, List, length, take, drop};
+ghost use Rattle.cacheddisk.specs.Kept.{AreKept};
+
+use crate::blocks::{Block, find, keep};
+use disk::Disk;
+use sqlval::R;
+use std::alloc::Global;
+
+/// The longest reading that is kept, in bytes.
+const MAX_LEN: usize = 65536;
+
+/// A disk whose readings are kept in memory, so that the same bytes are read once. Writings go to the disk below at once. It takes
+/// memory where it finds some, and is never refused for it.
+#[derive(Drop)]
+pub struct CachedDisk<D: Disk> {
+    disk: D,
+    alloc: Global,
+    /// How many blocks are kept at most.
+    count: usize,
+    blocks: Vec<Block>,
+    /// No block ends after it.
+    end: u64,
+    ghost kept: { IsTrue (D.tells disk) → AreKept (D.file disk).content end blocks.items },
+}
+
+impl<D: Disk> CachedDisk<D> {
+    ghost use Rattle.cacheddisk.specs.Below.{below};
+
+    /// A disk over another, of which at most `count` readings are kept.
+    pub fn new(alloc: Global, disk: D, count: usize) -> CachedDisk<D>
+        ensures { below result ≡ disk }
+    {
+        CachedDisk {
+            disk,
+            alloc,
+            count,
+            blocks: Vec::new(alloc),
+            end: 0,
+        }
+    }
+
+    /// Gives the disk below back.
+    pub fn into_inner(self) -> D
+        ensures { result ≡ below self }
+    {
+        let CachedDisk {
+            disk,
+            alloc: _,
+            count: _,
+            blocks: _,
+            end: _,
+        } = self;
+        disk
+    }
+
+    /// Keeps what was read from an offset on.
+    fn remember(&mut self, at: u64, bytes: &[u8])
+        requires { IsTrue (D.tells (below self.old)) → bytes.now ≡ take (length bytes.now) (drop at (D.file (below self.old)).content) }
+        ensures { below self.new ≡ below self.old }
+    {
+        if bytes.len() > MAX_LEN {
+            return;
+        }
+        let Some(end) = at.checked_add(bytes.len() as u64) else {
+            return;
+        };
+        self.end = self.end.max(end);
+        keep(self.alloc, &mut self.blocks, self.count, at, bytes);
+    }
+
+    /// Lets go of all that is kept, unless it ends before an offset.
+    fn keep_before(&mut self, at: u64)
+        ensures same { below self.new ≡ below self.old }
+        ensures before { self.new.end ≤ at }
+    {
+        if at < self.end {
+            self.blocks.clear();
+            self.end = 0;
+        }
+    }
+}
+
+impl<D: Disk> Disk for CachedDisk<D> {
+    ghost use Rattle.cacheddisk.specs.Below.{below};
+
+    ghost tells = { λ cached. D.tells (below cached) };
+
+    ghost file = { λ cached. D.file (below cached) };
+
+    ghost failures = { λ cached. D.failures (below cached) };
+
+    fn len(&mut self) -> R<u64> {
+        self.disk.len()
+    }
+
+    fn read_at(&mut self, at: u64, buf: &mut [u8]) -> R<()> {
+        if let Some(bytes) = find(&self.blocks, at, buf.len()) {
+            buf.copy_from_slice(bytes);
+            return Ok(());
+        }
+        self.disk.read_at(at, buf)?;
+        self.remember(at, buf);
+        Ok(())
+    }
+
+    fn write_at(&mut self, at: u64, bytes: &[u8]) -> R<()> {
+        self.keep_before(at);
+        match self.disk.write_at(at, bytes) {
+            Ok(()) => Ok(()),
+            Err(fault) => {
+                self.blocks.clear();
+                Err(fault)
+            }
+        }
+    }
+
+    fn cut(&mut self, len: u64) -> R<()> {
+        self.keep_before(len);
+        match self.disk.cut(len) {
+            Ok(()) => Ok(()),
+            Err(fault) => {
+                self.blocks.clear();
+                Err(fault)
+            }
+        }
+    }
+
+    fn sync(&mut self) -> R<()> {
+        self.disk.sync()
+    }
+}

@@ -1,0 +1,10 @@
+-- what is left of the expressions decides
+use Rattle.std.proofs.Common.{◌≡◌, drop}
+use Rattle.terms.specs.Rows.{seen}
+use Rattle.terms.specs.Values.{value}
+use Rattle.bind.specs.Readings.{values}
+use Rattle.terms.proofs.InOrder.{left}
+use Rattle.queries.proofs.results.values_of.Given as goal
+
+abbrev pub invariant-terms : goal.invariant-terms
+invariant-terms l = left (λ t. value t (seen l.env)) (drop l.term-index l.terms) l.values ≡ values (seen l.env) l.terms
