@@ -10,7 +10,7 @@ ghost use Rattle.rowprog.specs.Rows.{TableRow};
 ghost use Rattle.rowprog.specs.Sources.{as_source};
 ghost use Rattle.dml.specs.Choosing.{chosen, is_true_for, rowid_if, rowid_in, rowids_after, with_rowid};
 
-use sqlval::{Fault, Many, R, Value};
+use sqlval::{Fault, Many, R};
 use std::alloc::Global;
 use std::array::from_ref;
 use terms::{Env, SourceRow, Term, holds};
@@ -41,9 +41,9 @@ fn is_chosen(alloc: Global, rows: &Many<SourceRow>, index: usize, condition: &Te
 fn rowid_of(row: &SourceRow) -> Option<i64>
     ensures { result ≡ rowid_in row.now }
 {
-    match &row.rowid {
-        Value::Int(rowid) => Some(*rowid),
-        _ => None,
+    match row.rowid() {
+        Some(rowid) => Some(rowid),
+        None => None,
     }
 }
 

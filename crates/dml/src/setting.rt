@@ -70,25 +70,13 @@ fn places_meant(alloc: Global, rows: &Many<SourceRow>, condition: &Option<Term>)
     Ok(places)
 }
 
-/// Copies of the values. (`Memory`.)
-fn copies(alloc: Global, values: &[Value]) -> R<Vec<Value>>
-    ensures copied { IfOk result (λ new. new.items ≡ values.now) }
-    ensures refused { IfErr result (λ fault. fault ≡ Fault.Memory) }
-{
-    let mut new = Vec::new(alloc);
-    'values: for value in values {
-        new.push(value.copy(alloc)?)?;
-    }
-    Ok(new)
-}
-
 /// Copies of the values of the row at a place. (`Memory`.)
 fn values_at(alloc: Global, rows: &Many<SourceRow>, place: usize) -> R<Vec<Value>>
     ensures copied { IfOk result (λ new. new.items ≡ (row_at rows.now place).values) }
     ensures refused { IfErr result (λ fault. fault ≡ Fault.Memory) }
 {
     match rows.as_slice().get(place) {
-        Some(row) => copies(alloc, row.values.as_slice()),
+        Some(row) => Ok(row.values(alloc)?.into_vec()),
         None => Ok(Vec::new(alloc)),
     }
 }
@@ -97,9 +85,9 @@ fn values_at(alloc: Global, rows: &Many<SourceRow>, place: usize) -> R<Vec<Value
 fn rowid_of(row: &SourceRow) -> i64
     ensures { result ≡ rowid_number row.now.rowid }
 {
-    match &row.rowid {
-        Value::Int(rowid) => *rowid,
-        _ => 0,
+    match row.rowid() {
+        Some(rowid) => rowid,
+        None => 0,
     }
 }
 

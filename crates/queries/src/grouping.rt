@@ -14,18 +14,18 @@ ghost use Rattle.queries.specs.Sorting.{order_of};
 use crate::nesting::Loops;
 use crate::results::{FoundRow, found_row};
 use crate::sorting::{SortOrder, compare_values, rising_orders, sort_rows};
-use sqlval::{Fault, Many, R, Value};
+use sqlval::{Fault, R, Value};
 use std::alloc::Global;
-use terms::Env;
+use terms::{Env, RowPlaces};
 
 /// The place of each source's row, for each of the rows.
-fn places_of(alloc: Global, rows: &[FoundRow]) -> R<Vec<Many<usize>>>
+fn places_of(alloc: Global, rows: &[FoundRow]) -> R<Vec<RowPlaces>>
     ensures places { IfOk result (λ places. places.items ≡ map (λ r. r.picked) rows.now) }
     ensures refused { IfErr result (λ fault. fault ≡ Fault.Memory) }
 {
     let mut places = Vec::new(alloc);
     'rows: for row in rows {
-        places.push(Many::from_vec(Vec::from_slice(alloc, row.picked.as_slice())?))?;
+        places.push(RowPlaces::from_slice(alloc, row.picked.as_slice())?)?;
     }
     Ok(places)
 }
@@ -74,7 +74,7 @@ fn keys_of(group: &[FoundRow]) -> &[Value]
 }
 
 /// What is evaluated over of a group.
-fn group_env<'a>(loops: Loops<'a>, group: &'a [FoundRow], places: &'a [Many<usize>]) -> Env<'a>
+fn group_env<'a>(loops: Loops<'a>, group: &'a [FoundRow], places: &'a [RowPlaces]) -> Env<'a>
     requires { places.now ≡ map (λ r. r.picked) group.now }
     ensures { seen result ≡ meant.group_env [] (map (keyed_of loops.entry.sources.now) group.entry.now) }
 {
@@ -91,7 +91,7 @@ fn group_result(
     alloc: Global,
     loops: Loops<'_>,
     group: &[FoundRow],
-    places: &[Many<usize>],
+    places: &[RowPlaces],
 ) -> R<FoundRow>
     requires { places.now ≡ map (λ r. r.picked) group.now }
     ensures { AnswersBy shown (of_group loops.entry.reading.now loops.entry.sources.now group.now) result }
@@ -116,7 +116,7 @@ fn each_group(
     loops: Loops<'_>,
     orders: &[SortOrder],
     rows: &[FoundRow],
-    places: &[Many<usize>],
+    places: &[RowPlaces],
 ) -> R<Vec<FoundRow>>
     requires { places.now ≡ map (λ r. r.picked) rows.now }
     ensures { AnswersBy (λ found. map shown found.items)

@@ -12,7 +12,7 @@ use crate::nesting::Loops;
 use bind::Reading;
 use sqlval::{Many, R, Value};
 use std::alloc::Global;
-use terms::{Env, Term, evaluate, holds};
+use terms::{Env, RowPlaces, Term, evaluate, holds};
 
 /// What a query keeps of a combination of rows.
 #[derive(Drop)]
@@ -22,7 +22,7 @@ pub struct FoundRow {
     /// What it is sorted by, or grouped by.
     pub keys: Many<Value>,
     /// Where it is to be grouped, the place of each source's row.
-    pub picked: Many<usize>,
+    pub picked: RowPlaces,
 }
 
 /// The values of these expressions, from left to right.
@@ -54,7 +54,7 @@ pub fn found_row(alloc: Global, reading: &Reading, env: Env<'_>) -> R<FoundRow>
 {
     let results = values_of(alloc, reading.results.as_slice(), env)?;
     let keys = order_values(alloc, reading.order.as_slice(), env)?;
-    let picked = Many::new(alloc);
+    let picked = RowPlaces::new(alloc);
     Ok(FoundRow {
         results,
         keys,
@@ -72,7 +72,7 @@ fn group_row(alloc: Global, reading: &Reading, picked: &[usize], env: Env<'_>) -
     let keys = values_of(alloc, reading.keys.as_slice(), env)?;
     let order = reading.order.as_slice();
     check_arguments(alloc, reading.results.as_slice(), order, env)?;
-    let picked = Many::from_vec(Vec::from_slice(alloc, picked)?);
+    let picked = RowPlaces::from_slice(alloc, picked)?;
     let results = Many::new(alloc);
     Ok(FoundRow {
         results,

@@ -3,14 +3,14 @@
 ghost use Rattle.std.specs.Prelude.{◌≡◌, IfErr, IfOk, OnOk, map, slice_get, unwrap_or};
 ghost use Rattle.sqlval.specs.Lists.{sorted};
 ghost use Rattle.sqlval.specs.declared.value.Value.TheVariants.{Null};
-ghost use Rattle.terms.specs.Rows.{datum};
+ghost use Rattle.sqlval.specs.Fields.{value_of};
 ghost use Rattle.queries.specs.Sorting.{by_values, falling_or_rising, order_of, ordered};
 
 use crate::results::FoundRow;
-use sqlval::{Collation, Fault, R, Value, compare};
+use sqlval::{Collation, Fault, Field, R, Value, compare_fields};
 use std::alloc::Global;
 use std::cmp::Ordering;
-use terms::{Datum, Term, collation};
+use terms::{Term, collation};
 
 /// A key to sort by.
 #[derive(Clone, Copy)]
@@ -20,20 +20,20 @@ pub struct SortOrder {
 }
 
 /// The value at a place, NULL past the last.
-fn key_at(keys: &[Value], index: usize) -> Datum<'_>
-    ensures { datum result ≡ unwrap_or (slice_get keys.now index) Null }
+fn key_at(keys: &[Value], index: usize) -> Field<'_>
+    ensures { value_of result ≡ unwrap_or (slice_get keys.now index) Null }
 {
     match keys.get(index) {
-        Some(value) => Datum::Lent(value),
-        None => Datum::Made(Value::Null),
+        Some(value) => value.as_field(),
+        None => Field::Null,
     }
 }
 
 /// How two values stand by a key.
-fn by_one(order: SortOrder, a: &Value, b: &Value) -> Ordering
-    ensures { result ≡ ordered order a.now b.now }
+fn by_one(order: SortOrder, a: Field<'_>, b: Field<'_>) -> Ordering
+    ensures { result ≡ ordered order (value_of a.entry) (value_of b.entry) }
 {
-    let found = compare(a, b, order.collation);
+    let found = compare_fields(a, b, order.collation);
     if order.descending {
         found.reverse()
     } else {
@@ -46,11 +46,7 @@ fn by_place(order: SortOrder, index: usize, a: &[Value], b: &[Value]) -> Orderin
     ensures { result
         ≡ ordered order (unwrap_or (slice_get a.now index) Null) (unwrap_or (slice_get b.now index) Null) }
 {
-    by_one(
-        order,
-        key_at(a, index).as_value(),
-        key_at(b, index).as_value(),
-    )
+    by_one(order, key_at(a, index), key_at(b, index))
 }
 
 /// How two lists of values stand by their keys, a missing value being NULL.

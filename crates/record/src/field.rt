@@ -30,7 +30,7 @@ impl From<Wrong> for Fault {
 
 /// The bytes that a value of this serial type takes.
 #[tactic(auto, unfolding(crate::specs::Reading::body_len))]
-fn body_size(serial: u64) -> u64
+pub(crate) fn body_size(serial: u64) -> u64
     ensures { result ≡ body_len serial }
 {
     match serial {

@@ -15,11 +15,13 @@
 //! | odd, from 13 on: n | (n - 13) / 2 | a text in UTF-8 |
 #![tactic(auto)]
 
+mod columns;
 mod field;
 mod row;
 mod varint;
 mod writing;
 
+pub use columns::{records_hold_their_values, value_at, values_of};
 pub use row::{Record, bytes_determine_values};
 pub use varint::{get_varint, put_varint, varint_len};
 pub use writing::{encode, encode_row, is_storable};

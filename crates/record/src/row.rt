@@ -17,7 +17,7 @@ use std::marker::Model;
 
 /// The types and the bodies of a record.
 #[tactic(auto, unfolding(crate::specs::Reading::halves_at))]
-fn split(bytes: &[u8]) -> Result<(&[u8], &[u8]), Wrong>
+pub(crate) fn split(bytes: &[u8]) -> Result<(&[u8], &[u8]), Wrong>
     ensures { Reads (λ found. (found.0.now, found.1.now)) result (halves_at bytes.now) }
 {
     let Some((whole, rest)) = get_varint(bytes) else {

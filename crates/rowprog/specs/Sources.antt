@@ -3,11 +3,11 @@ use Rattle.std.specs.Prelude.{◌≡◌, ℕ, List, map, Result, Ok, MatchResult
 use Rattle.sqlval.specs.Faults.{IsOutside}
 use Rattle.sqlval.specs.declared.fault.Fault.{Fault}
 use Rattle.sqlval.specs.declared.value.Value.TheVariants.{Int}
+use Rattle.record.specs.Columns.{values_in}
 use Rattle.page.specs.Leaf.{Entry}
 use Rattle.pages.specs.Map.{PageMap, AreWhole}
 use Rattle.terms.specs.Values.{Row}
 use Rattle.bind.specs.declared.queries.BoundSource.{BoundSource}
-use Rattle.rowprog.specs.Answers.{◌and◌, row_at}
 use Rattle.rowprog.specs.Rows.{TableRow}
 use Rattle.rowprog.specs.Trees.{HasRows}
 
@@ -15,9 +15,13 @@ use Rattle.rowprog.specs.Trees.{HasRows}
 abbrev pub as_source : TableRow → Row
 as_source row = record { rowid = Int row.0; values = row.1 }
 
--- the row of so many values that an entry is, as a source has it
-abbrev pub source_at : ℕ → Entry → Result Row Fault
-source_at width entry = row_at width entry and λ row. Ok (as_source row)
+-- what an entry is as a source's row
+abbrev pub as_held : Entry → Row
+as_held entry = record { rowid = Int entry.rowid; values = values_in entry.payload }
+
+-- and it is never refused
+abbrev pub source_at : Entry → Result Row Fault
+source_at entry = Ok (as_held entry)
 
 -- of a tree of rows these are the rows; or memory was short, or a disk's call failed
 abbrev pub LoadsRows : PageMap → ℕ → BoundSource → Result (List Row) Fault → Type 0

@@ -4,10 +4,11 @@ ghost use Rattle.std.specs.Prelude.{◌≡◌};
 ghost use Rattle.std.specs.Ordering.{nat_cmp};
 ghost use Rattle.std.specs.Cmp.Lexicographic.{slice_cmp};
 ghost use Rattle.sqlval.specs.Names.{folded};
+ghost use Rattle.sqlval.specs.Fields.{value_of};
 ghost use Rattle.sqlval.specs.Laws.{OrderIsTotal, EqualAreAlike, AlikeAreEqual};
 ghost use Rattle.sqlval.specs.Order.{trimmed, seen_by, kind_of, order};
 
-use crate::value::Value;
+use crate::value::{Field, Value};
 use std::cmp::Ordering;
 
 /// How texts are compared.
@@ -66,32 +67,35 @@ fn compare_texts(a: &[u8], b: &[u8], collation: Collation) -> Ordering
     }
 }
 
-/// The order of values under a collation.
-pub fn compare(a: &Value, b: &Value, collation: Collation) -> Ordering
-    ensures { result ≡ order collation a.now b.now }
+/// The order of values under a collation, wherever their bytes lie.
+pub fn compare_fields(a: Field<'_>, b: Field<'_>, collation: Collation) -> Ordering
+    ensures { result ≡ order collation (value_of a.entry) (value_of b.entry) }
 {
     match (a, b) {
-        (Value::Null, Value::Null) => Ordering::Equal,
-        (Value::Int(m), Value::Int(n)) => m.cmp(n),
-        (Value::Text(s), Value::Text(t)) => compare_texts(
-            s.as_str().as_bytes(),
-            t.as_str().as_bytes(),
-            collation,
-        ),
-        (Value::Blob(s), Value::Blob(t)) => s.as_slice().cmp(&t.as_slice()),
+        (Field::Null, Field::Null) => Ordering::Equal,
+        (Field::Int(m), Field::Int(n)) => m.cmp(&n),
+        (Field::Text(s), Field::Text(t)) => compare_texts(s.as_bytes(), t.as_bytes(), collation),
+        (Field::Blob(s), Field::Blob(t)) => s.cmp(&t),
         _ => kind(a).cmp(&kind(b)),
     }
 }
 
+/// The order of values under a collation.
+pub fn compare(a: &Value, b: &Value, collation: Collation) -> Ordering
+    ensures { result ≡ order collation a.now b.now }
+{
+    compare_fields(a.as_field(), b.as_field(), collation)
+}
+
 /// NULL, then integers, then texts, then blobs.
-fn kind(value: &Value) -> u8
-    ensures { result ≡ kind_of value.now }
+fn kind(value: Field<'_>) -> u8
+    ensures { result ≡ kind_of (value_of value.entry) }
 {
     match value {
-        Value::Null => 0,
-        Value::Int(_) => 1,
-        Value::Text(_) => 2,
-        Value::Blob(_) => 3,
+        Field::Null => 0,
+        Field::Int(_) => 1,
+        Field::Text(_) => 2,
+        Field::Blob(_) => 3,
     }
 }
 

@@ -12,7 +12,7 @@ mod text;
 mod value;
 
 pub use affinity::{Affinity, affinity_of, apply, numbers_are_shaped};
-pub use collation::{Collation, compare, order_is_total};
+pub use collation::{Collation, compare, compare_fields, order_is_total};
 pub use fault::{Damage, Fault, Feature, Misuse, Object, R};
 pub use many::Many;
 pub use name::Name;

@@ -2,6 +2,7 @@
 
 use bind::{Condition, Reading};
 use queries::answer;
+use record::encode_row;
 use sqlval::{Collation, Fault, Many, Name, R, Row, Value};
 use std::alloc::Global;
 use std::test::*;
@@ -51,14 +52,11 @@ fn a_is_c(alloc: Global) -> R<Term> {
 
 /// A row of a table.
 fn row(alloc: Global, numbers: &[i64]) -> R<SourceRow> {
-    let mut values = Many::new(alloc);
+    let mut values = Vec::new(alloc);
     for number in numbers {
         values.push(Value::Int(*number))?;
     }
-    Ok(SourceRow {
-        rowid: Value::Null,
-        values,
-    })
+    Ok(SourceRow::new(alloc, None, &encode_row(alloc, &values)?)?)
 }
 
 /// The rows of t.

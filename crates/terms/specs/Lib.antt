@@ -5,4 +5,5 @@ pub mod Outcome
 pub mod Rows
 pub mod Terms
 pub mod Values
+pub mod Stored
 pub mod View

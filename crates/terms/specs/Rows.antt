@@ -1,12 +1,13 @@
 -- What the code holds of values and rows, as the definitions see it.
 use Rattle.std.specs.Prelude.{ℕ, Bool, true, false, not, ◌==◌, if◌then◌else◌, count_by, filter, Some, None, Ok, List, [], ◌∷◌, map, Option, unwrap_or, slice_get, option_and_then}
-use Rattle.std.specs.Borrow.{Bor}
 use Rattle.std.specs.declared.cmp.Ordering.{Ordering}
 use Rattle.std.specs.Ordering.{is_lt, is_gt}
 use Rattle.sqlval.specs.Conversion.{word}
+use Rattle.sqlval.specs.Fields.{value_of}
 use Rattle.sqlval.specs.Order.{order}
 use Rattle.sqlval.specs.Refusals.{Answer, ◌then◌, all_answers}
 use Rattle.sqlval.specs.declared.collation.Collation.{Collation}
+use Rattle.sqlval.specs.declared.value.Field.{Field}
 use Rattle.sqlval.specs.declared.value.Value.{Value}
 use Rattle.sqlval.specs.declared.value.Value.TheVariants.{Null}
 use Rattle.terms.specs.Terms.{Term, affinity, collation, collation_of_two}
@@ -19,7 +20,7 @@ use Rattle.terms.specs.declared.tree.Comparison.{Comparison}
 
 -- the value of a datum
 abbrev pub datum : Datum → Value
-datum (Lent v) = v.now
+datum (Lent f) = value_of f
 datum (Made v) = v
 
 -- ---- rows
@@ -85,9 +86,9 @@ better_of m c v Null = v
 better_of m c v w = if before_of m (order c w v) then w else v
 
 -- the value that is lent, or NULL
-abbrev pub held : Option (Bor Value) → Value
+abbrev pub held : Option Field → Value
 held None = Null
-held (Some v) = v.now
+held (Some f) = value_of f
 
 -- the first of those that none is before, NULLs left out
 abbrev pub best_of : Bool → Collation → List Value → Value

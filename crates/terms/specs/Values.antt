@@ -16,7 +16,6 @@ use Rattle.sqlval.specs.declared.value.Value.{Value}
 use Rattle.sqlval.specs.declared.value.Value.TheVariants.{Null, Int, Text, Blob}
 use Rattle.syntax.specs.declared.expr.RaiseAction.{RaiseAction}
 use Rattle.syntax.specs.declared.expr.RaiseAction.TheVariants.{Abort, Rollback}
-use Rattle.terms.specs.declared.rows.SourceRow.{SourceRow}
 use Rattle.terms.specs.Terms.{Term, Terms, Const, Digits, Cell, Key, Apply, Total, One, Two, Collate, In, Between, Raise, End, More, affinity, collation, collation_of_two}
 use Rattle.terms.specs.declared.tree.Comparison.{Comparison}
 use Rattle.terms.specs.declared.tree.Comparison.TheVariants.{Equal, NotEqual, Less, LessOrEqual, Greater, GreaterOrEqual}
@@ -217,9 +216,10 @@ aggregated Max c vs = Ok (best is_gt c (filter (λ v. not (is_null v)) vs))
 
 -- ---- the value of a term
 
--- a row of a source: its rowid, if it has one, and its values
-abbrev pub Row : Type 0
-Row = SourceRow
+-- A row of a source: its rowid, NULL where it has none, and its values.
+pub record Row : Type 0 where
+  pub rowid : Value
+  pub values : List Value
 
 -- what a term is evaluated over
 pub record Environment : Type 0 where

@@ -2,6 +2,7 @@
 
 ghost use Rattle.std.specs.Prelude.{◌≡◌, ◌⊎◌, Bool, Ok};
 ghost use Rattle.sqlval.specs.Conversion.{converted};
+ghost use Rattle.sqlval.specs.Fields.{value_of};
 ghost use Rattle.terms.specs.Outcome.{Answers, AnswersBy};
 ghost use Rattle.terms.specs.Rows.{datum};
 ghost use Rattle.terms.specs.Values as meant;
@@ -9,7 +10,7 @@ ghost use Rattle.terms.specs.Values as meant;
 use crate::conversion_is_one;
 use crate::datum::Datum;
 use crate::tree::Comparison;
-use sqlval::{Affinity, Collation, R, Value, apply, compare};
+use sqlval::{Affinity, Collation, Field, R, Value, apply, compare_fields};
 use std::alloc::Global;
 use std::cmp::Ordering;
 
@@ -65,30 +66,35 @@ pub fn of_bool(is_true: bool) -> Value
 }
 
 /// 1 or 0, and NULL beside a NULL.
-fn compared(comparison: Comparison, collation: Collation, left: &Value, right: &Value) -> Value
-    ensures { result ≡ meant.compared comparison collation left.now right.now }
+fn compared(
+    comparison: Comparison,
+    collation: Collation,
+    left: Field<'_>,
+    right: Field<'_>,
+) -> Value
+    ensures { result ≡ meant.compared comparison collation (value_of left.entry) (value_of right.entry) }
 {
     match (left, right) {
-        (Value::Null, _) | (_, Value::Null) => Value::Null,
-        _ => of_bool(is_met(comparison, compare(left, right, collation))),
+        (Field::Null, _) | (_, Field::Null) => Value::Null,
+        _ => of_bool(is_met(comparison, compare_fields(left, right, collation))),
     }
 }
 
 /// A copy of a value as an affinity makes it.
-fn changed(alloc: Global, affinity: Affinity, value: &Value) -> R<Value>
-    ensures { Answers (converted affinity value.now) result }
+fn changed(alloc: Global, affinity: Affinity, value: Field<'_>) -> R<Value>
+    ensures { Answers (converted affinity (value_of value.entry)) result }
 {
     conversion_is_one();
-    let copy = value.copy(alloc)?;
+    let copy = value.to_value(alloc)?;
     apply(alloc, affinity, copy)
 }
 
 /// A value as an affinity makes it; its bytes are copied only where they may change.
-fn convert(alloc: Global, affinity: Affinity, value: &Value) -> R<Datum<'_>>
-    ensures { AnswersBy datum (converted affinity value.now) result }
+fn convert<'a>(alloc: Global, affinity: Affinity, value: Field<'a>) -> R<Datum<'a>>
+    ensures { AnswersBy datum (converted affinity (value_of value.entry)) result }
 {
     match (affinity, value) {
-        (Affinity::Integer | Affinity::Numeric, Value::Text(_)) | (Affinity::Text, Value::Int(_)) =>
+        (Affinity::Integer | Affinity::Numeric, Field::Text(_)) | (Affinity::Text, Field::Int(_)) =>
             { Ok(Datum::Made(changed(alloc, affinity, value)?)) }
         _ => Ok(Datum::Lent(value)),
     }
@@ -99,26 +105,26 @@ pub fn compare_by(
     alloc: Global,
     comparison: Comparison,
     manner: Manner,
-    left: &Value,
-    right: &Value,
+    left: Field<'_>,
+    right: Field<'_>,
 ) -> R<Value>
-    ensures { Answers (meant.compare comparison manner.collation manner.left manner.right left.now right.now) result }
+    ensures { Answers (meant.compare comparison manner.collation manner.left manner.right (value_of left.entry) (value_of right.entry)) result }
 {
     let first = convert(alloc, conversion(manner.left, manner.right), left)?;
     let second = convert(alloc, conversion(manner.right, manner.left), right)?;
     Ok(compared(
         comparison,
         manner.collation,
-        first.as_value(),
-        second.as_value(),
+        first.as_field(),
+        second.as_field(),
     ))
 }
 
 /// Whether two values are one.
-pub fn are_same(alloc: Global, manner: Manner, left: &Value, right: &Value) -> R<bool>
-    ensures { Answers (meant.same manner.collation manner.left manner.right left.now right.now) result }
+pub fn are_same(alloc: Global, manner: Manner, left: Field<'_>, right: Field<'_>) -> R<bool>
+    ensures { Answers (meant.same manner.collation manner.left manner.right (value_of left.entry) (value_of right.entry)) result }
 {
     let first = convert(alloc, conversion(manner.left, manner.right), left)?;
     let second = convert(alloc, conversion(manner.right, manner.left), right)?;
-    Ok(compare(first.as_value(), second.as_value(), manner.collation).is_eq())
+    Ok(compare_fields(first.as_field(), second.as_field(), manner.collation).is_eq())
 }

@@ -7,29 +7,22 @@ ghost use Rattle.terms.specs.Rows.{datum};
 use sqlval::{Field, Value};
 use std::alloc::{AllocError, Global};
 
-/// A value that a row or an expression lends, or that was made.
+/// A value whose bytes a row or an expression lends, or one that was made.
 #[derive(Drop)]
 pub enum Datum<'a> {
-    Lent(&'a Value),
+    Lent(Field<'a>),
     Made(Value),
 }
 
 impl Datum<'_> {
-    /// The value.
-    pub fn as_value(&self) -> &Value
-        ensures { result.now ≡ datum self.now }
-    {
-        match self {
-            Datum::Lent(value) => *value,
-            Datum::Made(value) => value,
-        }
-    }
-
     /// The value without a copy of its bytes.
     pub fn as_field(&self) -> Field<'_>
         ensures { value_of result ≡ datum self.now }
     {
-        self.as_value().as_field()
+        match self {
+            Datum::Lent(field) => *field,
+            Datum::Made(value) => value.as_field(),
+        }
     }
 
     /// The value, copied where it is lent.
@@ -37,7 +30,7 @@ impl Datum<'_> {
         ensures { IfOk result (λ v. v ≡ datum self.entry) }
     {
         match self {
-            Datum::Lent(value) => value.copy(alloc),
+            Datum::Lent(field) => field.to_value(alloc),
             Datum::Made(value) => Ok(value),
         }
     }

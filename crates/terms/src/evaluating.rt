@@ -1,6 +1,7 @@
 //! The value of an expression over rows.
 
 ghost use Rattle.std.specs.Prelude.{◌≡◌, ◌≢◌, ◌⊎◌, if◌then◌else◌, map, None};
+ghost use Rattle.sqlval.specs.Fields.{value_of};
 ghost use Rattle.sqlval.specs.Refusals.{◌then◌};
 ghost use Rattle.terms.specs.Outcome.{Answers, AnswersBy};
 ghost use Rattle.terms.specs.Rows.{alone, at_each, both_sides, compared_to, datum, manner_of, seen};
@@ -17,7 +18,7 @@ use crate::texts::{concatenate, length_of, lower, type_of, upper};
 use crate::totals::{aggregated, count_word};
 use crate::tree::{Aggregate, Arithmetic, Comparison, Function, Node, OneSided, Term, TwoSided};
 use crate::truth::{both_hold, is_null, negated, of_truth, one_holds, truth, turned};
-use sqlval::{R, Value};
+use sqlval::{Field, R, Value};
 use std::alloc::Global;
 
 /// The value of an expression, or its first refusal.
@@ -26,10 +27,10 @@ pub fn evaluate<'a>(alloc: Global, term: &'a Term, env: Env<'a>) -> R<Datum<'a>>
     ensures { AnswersBy datum (meant.value term.now (seen env.entry)) result }
 {
     match &term.node {
-        Node::Const(value) => Ok(Datum::Lent(value)),
+        Node::Const(value) => Ok(Datum::Lent(value.as_field())),
         Node::Digits(number) => Ok(Datum::Made(word(i128::from(*number))?)),
-        Node::Cell(source, place, _, _) => Ok(env.cell(*source, *place)),
-        Node::Key(place, _) => Ok(env.key(*place)),
+        Node::Cell(source, place, _, _) => Ok(Datum::Lent(env.cell(*source, *place))),
+        Node::Key(place, _) => Ok(Datum::Lent(env.key(*place))),
         Node::Collate(_, inner) => evaluate(alloc, inner, env),
         Node::Apply(function, list) => call(alloc, *function, list, env),
         Node::Total(aggregate, argument) => {
@@ -152,7 +153,7 @@ fn comparison(
     let first = evaluate(alloc, left, env)?;
     let second = evaluate(alloc, right, env)?;
     let manner = manner_of_two(left, right);
-    compare_by(alloc, operator, manner, first.as_value(), second.as_value())
+    compare_by(alloc, operator, manner, first.as_field(), second.as_field())
 }
 
 /// IS and IS NOT.
@@ -164,7 +165,7 @@ fn identity(alloc: Global, is_not: bool, left: &Term, right: &Term, env: Env<'_>
     let first = evaluate(alloc, left, env)?;
     let second = evaluate(alloc, right, env)?;
     let manner = manner_of_two(left, right);
-    let is_same = are_same(alloc, manner, first.as_value(), second.as_value())?;
+    let is_same = are_same(alloc, manner, first.as_field(), second.as_field())?;
     if is_not { Ok(!is_same) } else { Ok(is_same) }
 }
 
@@ -174,14 +175,14 @@ fn side(
     alloc: Global,
     comparison: Comparison,
     manner: Manner,
-    value: &Value,
+    value: Field<'_>,
     term: &Term,
     env: Env<'_>,
 ) -> R<Option<bool>>
-    ensures { Answers (compared_to comparison manner value.now (meant.value term.now (seen env.entry))) result }
+    ensures { Answers (compared_to comparison manner (value_of value.entry) (meant.value term.now (seen env.entry))) result }
 {
     let other = evaluate(alloc, term, env)?;
-    let outcome = compare_by(alloc, comparison, manner, value, other.as_value())?;
+    let outcome = compare_by(alloc, comparison, manner, value, other.as_field())?;
     truth(outcome.as_field())
 }
 
@@ -191,13 +192,13 @@ fn equals(
     alloc: Global,
     operand: &Term,
     manner: Manner,
-    value: &Value,
+    value: Field<'_>,
     term: &Term,
     env: Env<'_>,
 ) -> R<Option<bool>>
     requires { manner ≡ alone operand.now }
     ensures { Answers
-        (compared_to Comparison.Equal (alone operand.now) value.now (meant.value term.now (seen env.entry))) result }
+        (compared_to Comparison.Equal (alone operand.now) (value_of value.entry) (meant.value term.now (seen env.entry))) result }
 {
     side(alloc, Comparison::Equal, manner, value, term, env)
 }
@@ -208,12 +209,12 @@ fn equals(
 fn found_among(
     alloc: Global,
     operand: &Term,
-    value: &Value,
+    value: Field<'_>,
     list: &[Term],
     env: Env<'_>,
 ) -> R<Option<bool>>
     ensures { AnswersBy meant.of_truth
-        (meant.value_among operand.now value.now (terms list.now) (seen env.entry)) result }
+        (meant.value_among operand.now (value_of value.entry) (terms list.now) (seen env.entry)) result }
 {
     let manner = manner_alone(operand);
     let mut so_far = Some(false);
@@ -233,7 +234,7 @@ fn among(alloc: Global, is_negated: bool, operand: &Term, list: &[Term], env: En
     ensures { Answers (meant.value (tree.In is_negated operand.now (terms list.now)) (seen env.entry)) result }
 {
     let value = evaluate(alloc, operand, env)?;
-    let found = found_among(alloc, operand, value.as_value(), list, env)?;
+    let found = found_among(alloc, operand, value.as_field(), list, env)?;
     turned(is_negated, of_truth(found))
 }
 
@@ -242,14 +243,14 @@ fn among(alloc: Global, is_negated: bool, operand: &Term, list: &[Term], env: En
 fn within(
     alloc: Global,
     operand: &Term,
-    value: &Value,
+    value: Field<'_>,
     low: &Term,
     high: &Term,
     env: Env<'_>,
 ) -> R<Option<bool>>
     ensures { Answers (both_sides
-        (compared_to Comparison.GreaterOrEqual (manner_of operand.now low.now) value.now (meant.value low.now (seen env.entry)))
-        (compared_to Comparison.LessOrEqual (manner_of operand.now high.now) value.now (meant.value high.now (seen env.entry))))
+        (compared_to Comparison.GreaterOrEqual (manner_of operand.now low.now) (value_of value.entry) (meant.value low.now (seen env.entry)))
+        (compared_to Comparison.LessOrEqual (manner_of operand.now high.now) (value_of value.entry) (meant.value high.now (seen env.entry))))
         result }
 {
     let from = manner_of_two(operand, low);
@@ -277,7 +278,7 @@ fn between(
         (meant.value (tree.Between is_negated operand.now low.now high.now) (seen env.entry)) result }
 {
     let value = evaluate(alloc, operand, env)?;
-    let is_within = within(alloc, operand, value.as_value(), low, high, env)?;
+    let is_within = within(alloc, operand, value.as_field(), low, high, env)?;
     turned(is_negated, of_truth(is_within))
 }
 

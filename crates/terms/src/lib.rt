@@ -6,6 +6,7 @@ mod comparing;
 mod datum;
 mod evaluating;
 mod numbers;
+mod places;
 mod rows;
 mod sameness;
 mod texts;
@@ -19,6 +20,7 @@ pub use collating::{affinity, collation};
 pub use comparing::Manner;
 pub use datum::Datum;
 pub use evaluating::{evaluate, holds};
+pub use places::RowPlaces;
 pub use rows::{Env, SourceRow};
 pub use sameness::is_same;
 pub use tree::{

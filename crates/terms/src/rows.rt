@@ -2,18 +2,34 @@
 
 ghost use Rattle.std.specs.Prelude.{◌≡◌, [], Some, None, option_map, unwrap_or, slice_get};
 ghost use Rattle.sqlval.specs.declared.value.Value.TheVariants.{Null};
-ghost use Rattle.terms.specs.Rows.{datum, picked_rows, row_of, seen};
+ghost use Rattle.sqlval.specs.Fields.{value_of};
+ghost use Rattle.terms.specs.Rows.{picked_rows, row_of, seen};
+ghost use Rattle.terms.specs.Stored.{rowid_value};
 ghost use Rattle.terms.specs.Values as meant;
 
-use crate::datum::Datum;
+use crate::places::RowPlaces;
 use crate::tree::Place;
-use sqlval::{Many, Value};
+use record::{value_at, values_of};
+use smallvec::SmallVec;
+use sqlval::{Field, Many, Value};
+use std::alloc::{AllocError, Global};
+use std::marker::Model;
 
-/// A row of a source: its rowid, or NULL where it has none, and its values.
+/// A row of a source. Its values lie in a record, out of which one is read where it is asked for: contracts see the values.
 #[derive(Drop)]
 pub struct SourceRow {
-    pub rowid: Value,
-    pub values: Many<Value>,
+    rowid: Option<i64>,
+    record: SmallVec<u8, 48>,
+}
+
+impl Model for SourceRow {
+    ghost use Rattle.record.specs.Columns.{values_in};
+    ghost use Rattle.terms.specs.Stored.{rowid_value};
+    ghost use Rattle.terms.specs.Values.{Row};
+
+    ghost Value = { Row };
+
+    ghost view = { λ row. record { rowid = rowid_value row.rowid; values = values_in row.record.items } };
 }
 
 /// What an expression is evaluated over: lists of rows, and which row of each is looked at.
@@ -24,30 +40,68 @@ pub struct Env<'a> {
     /// The place of each source's row; past its rows where it has none. Sources that aren't reached yet have no place.
     pub picked: &'a [usize],
     /// In a query with groups the places of each of the group's rows.
-    pub group: &'a [Many<usize>],
+    pub group: &'a [RowPlaces],
     /// The group's keys.
     pub keys: &'a [Value],
 }
 
 impl SourceRow {
+    ghost use Rattle.std.specs.Prelude.{IfOk};
+    ghost use Rattle.record.specs.Columns.{values_in};
+    ghost use Rattle.terms.specs.Stored.{rowid_value};
+
+    /// The row of the record in these bytes, of which it keeps a copy. (See `record::value_at`.)
+    pub fn new(alloc: Global, rowid: Option<i64>, bytes: &[u8]) -> Result<SourceRow, AllocError>
+        ensures { IfOk result (λ row. row ≡ record { rowid = rowid_value rowid; values = values_in bytes.now }) }
+    {
+        Ok(SourceRow {
+            rowid,
+            record: SmallVec::from_slice(alloc, bytes)?,
+        })
+    }
+
+    /// The rowid, if it has one.
+    pub fn rowid(&self) -> Option<i64>
+        ensures { rowid_value result ≡ self.now.rowid }
+    {
+        self.rowid
+    }
+
+    /// Copies of the values.
+    pub fn values(&self, alloc: Global) -> Result<Many<Value>, AllocError>
+        ensures { IfOk result (λ values. values ≡ self.now.values) }
+    {
+        values_of(alloc, self.record.as_slice())
+    }
+
     /// The value at a place.
-    fn at(&self, place: Place) -> Datum<'_>
-        ensures { datum result ≡ meant.at_row (Some self.now) place }
+    fn at(&self, place: Place) -> Field<'_>
+        ensures { value_of result ≡ meant.at_row (Some self.now) place }
     {
         match place {
-            Place::RowId => Datum::Lent(&self.rowid),
-            Place::At(index) => value_at(self.values.as_slice(), index),
+            Place::RowId => rowid_field(self.rowid),
+            Place::At(index) => value_at(self.record.as_slice(), index),
         }
     }
 }
 
-/// The value at a place, NULL past the last.
-fn value_at(values: &[Value], index: usize) -> Datum<'_>
-    ensures { datum result ≡ unwrap_or (slice_get values.now index) Null }
+/// A rowid as a value.
+fn rowid_field(rowid: Option<i64>) -> Field<'static>
+    ensures { value_of result ≡ rowid_value rowid }
 {
-    match values.get(index) {
-        Some(value) => Datum::Lent(value),
-        None => Datum::Made(Value::Null),
+    match rowid {
+        Some(rowid) => Field::Int(rowid),
+        None => Field::Null,
+    }
+}
+
+/// The key at a place, NULL past the last.
+fn key_at(keys: &[Value], index: usize) -> Field<'_>
+    ensures { value_of result ≡ unwrap_or (slice_get keys.now index) Null }
+{
+    match keys.get(index) {
+        Some(value) => value.as_field(),
+        None => Field::Null,
     }
 }
 
@@ -61,20 +115,20 @@ impl<'a> Env<'a> {
     }
 
     /// The value of a source at a place.
-    pub fn cell(self, source: usize, place: Place) -> Datum<'a>
-        ensures { datum result ≡ meant.cell (seen self.entry) source place }
+    pub fn cell(self, source: usize, place: Place) -> Field<'a>
+        ensures { value_of result ≡ meant.cell (seen self.entry) source place }
     {
         match self.row(source) {
             Some(row) => row.at(place),
-            None => Datum::Made(Value::Null),
+            None => Field::Null,
         }
     }
 
     /// The group's key at a place.
-    pub fn key(self, place: usize) -> Datum<'a>
-        ensures { datum result ≡ unwrap_or (slice_get (seen self.entry).keys place) Null }
+    pub fn key(self, place: usize) -> Field<'a>
+        ensures { value_of result ≡ unwrap_or (slice_get (seen self.entry).keys place) Null }
     {
-        value_at(self.keys, place)
+        key_at(self.keys, place)
     }
 
     /// One row of the group by itself.

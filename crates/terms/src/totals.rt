@@ -11,7 +11,7 @@ use crate::datum::Datum;
 use crate::numbers::word;
 use crate::tree::Aggregate;
 use crate::truth::is_null;
-use sqlval::{Collation, Field, R, Value, compare};
+use sqlval::{Collation, Field, R, Value, compare_fields};
 use std::alloc::Global;
 use std::cmp::Ordering;
 
@@ -85,14 +85,14 @@ fn number_in(value: Field<'_>) -> i64
 }
 
 /// The least or the greatest of the values, of equal ones the first; none where all is NULL.
-fn best<'a>(is_max: bool, collation: Collation, values: &'a [Datum<'_>]) -> Option<&'a Value>
+fn best<'a>(is_max: bool, collation: Collation, values: &'a [Datum<'_>]) -> Option<Field<'a>>
     ensures { held result ≡ best_of is_max collation (map datum values.now) }
 {
     let mut best = None;
     let mut index = values.len();
     'values: while index > 0 {
         index -= 1;
-        best = better(is_max, collation, values[index].as_value(), best);
+        best = better(is_max, collation, values[index].as_field(), best);
     }
     best
 }
@@ -101,17 +101,16 @@ fn best<'a>(is_max: bool, collation: Collation, values: &'a [Datum<'_>]) -> Opti
 fn better<'a>(
     is_max: bool,
     collation: Collation,
-    value: &'a Value,
-    best: Option<&'a Value>,
-) -> Option<&'a Value>
-    ensures { held result
-        ≡ better_of is_max collation value.now (held best.entry) }
+    value: Field<'a>,
+    best: Option<Field<'a>>,
+) -> Option<Field<'a>>
+    ensures { held result ≡ better_of is_max collation (value_of value.entry) (held best.entry) }
 {
     match (value, best) {
-        (Value::Null, _) => best,
-        (_, None | Some(Value::Null)) => Some(value),
+        (Field::Null, _) => best,
+        (_, None | Some(Field::Null)) => Some(value),
         (_, Some(other)) => {
-            if is_before(is_max, compare(other, value, collation)) {
+            if is_before(is_max, compare_fields(other, value, collation)) {
                 best
             } else {
                 Some(value)
@@ -128,11 +127,11 @@ fn is_before(is_max: bool, order: Ordering) -> bool
 }
 
 /// A copy of the best value, NULL where there is none.
-fn copied(alloc: Global, best: Option<&Value>) -> R<Value>
+fn copied(alloc: Global, best: Option<Field<'_>>) -> R<Value>
     ensures { Answers (Ok (held best.entry)) result }
 {
     match best {
-        Some(value) => Ok(value.copy(alloc)?),
+        Some(value) => Ok(value.to_value(alloc)?),
         None => Ok(Value::Null),
     }
 }

@@ -5,4 +5,4 @@ use Rattle.rowprog.specs.Sources.{source_at}
 use Rattle.rowprog.proofs.sources.add_source_rows.Given as goal
 
 abbrev pub invariant-rows : goal.invariant-rows
-invariant-rows l = left (source_at l.width) (drop l.index l.batch) l.rows ≡ left (source_at l.width) l.batch l.initial.rows
+invariant-rows l = left source_at (drop l.index l.batch) l.rows ≡ left source_at l.batch l.initial.rows

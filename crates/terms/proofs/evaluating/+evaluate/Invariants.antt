@@ -1,5 +1,6 @@
 -- Each part of an expression is smaller; an expression stands over its operator's own function.
 use Rattle.std.proofs.Common.{◌≡◌, ◌+◌, ◌*◌, drop, map}
+use Rattle.sqlval.specs.Fields.{value_of}
 use Rattle.terms.specs.Terms.{terms, size, size_in}
 use Rattle.terms.specs.Rows.{at_each, datum, picked_rows, seen}
 use Rattle.terms.specs.Values.{first_value, value_among}
@@ -74,7 +75,7 @@ invariant-first_value-terms l = first_value (terms (drop l.term-index l.list)) (
 -- what was found so far, together with what is left, decides
 abbrev pub invariant-found_among-terms : goal.invariant-found_among-terms
 invariant-found_among-terms l =
-    together l.so_far (value_among l.operand l.value (terms (drop l.term-index l.list)) (seen l.env)) ≡ value_among l.operand l.value (terms l.list) (seen l.env)
+    together l.so_far (value_among l.operand (value_of l.value) (terms (drop l.term-index l.list)) (seen l.env)) ≡ value_among l.operand (value_of l.value) (terms l.list) (seen l.env)
 
 abbrev pub decreases-total : goal.decreases-total
 decreases-total l = size l.argument.now * 4 + 3

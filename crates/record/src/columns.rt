@@ -1,0 +1,89 @@
+//! The values of a record, each read where it is asked for.
+
+ghost use Rattle.std.specs.Prelude.{◌≡◌, ◌<◌, IfOk, IfSome, length, option_map, slice_get, unwrap_or};
+ghost use Rattle.sqlval.specs.declared.value.Value.TheVariants.{Null};
+ghost use Rattle.sqlval.specs.Fields.{value_of};
+ghost use Rattle.record.specs.Columns.{HoldsValues, left_after, value_here, values_from, values_in};
+
+use crate::field::{body_size, read_field};
+use crate::row::split;
+use crate::varint::get_varint;
+use sqlval::{Field, Many, Value};
+use std::alloc::{AllocError, Global};
+
+/// What is left of the types and of the bodies after the first value, whatever it is.
+fn after_value<'a>(types: &'a [u8], bodies: &'a [u8]) -> Option<(&'a [u8], &'a [u8])>
+    ensures left { option_map (λ left. (left.0.now, left.1.now)) result ≡ left_after types.now bodies.now }
+    ensures shorter { IfSome result (λ left. length left.0.now < length types.now) }
+{
+    let (serial, types_left) = get_varint(types)?;
+    let size = body_size(serial).min(bodies.len() as u64);
+    Some((types_left, &bodies[size as usize..]))
+}
+
+/// The first value, NULL where none can be read.
+fn first_value<'a>(types: &'a [u8], bodies: &'a [u8]) -> Field<'a>
+    ensures { value_of result ≡ value_here types.now bodies.now }
+{
+    match read_field(types, bodies) {
+        Ok((field, _, _)) => field,
+        Err(_) => Field::Null,
+    }
+}
+
+/// The value at a place, NULL where there is none, or none that can be read.
+fn nth_value<'a>(types: &'a [u8], bodies: &'a [u8], index: usize) -> Field<'a>
+    ensures { value_of result ≡ unwrap_or (slice_get (values_from (length types.now) types.now bodies.now) index) Null }
+{
+    let mut types_left = types;
+    let mut bodies_left = bodies;
+    'columns: for _ in 0..index {
+        let Some((types_after, bodies_after)) = after_value(types_left, bodies_left) else {
+            return Field::Null;
+        };
+        types_left = types_after;
+        bodies_left = bodies_after;
+    }
+    first_value(types_left, bodies_left)
+}
+
+/// All values, in order.
+fn all_values(alloc: Global, types: &[u8], bodies: &[u8]) -> Result<Many<Value>, AllocError>
+    ensures { IfOk result (λ values. values ≡ values_from (length types.now) types.now bodies.now) }
+{
+    let mut values = Many::new(alloc);
+    let mut types_left = types;
+    let mut bodies_left = bodies;
+    'columns: while let Some((types_after, bodies_after)) = after_value(types_left, bodies_left) {
+        values.push(first_value(types_left, bodies_left).to_value(alloc)?)?;
+        types_left = types_after;
+        bodies_left = bodies_after;
+    }
+    Ok(values)
+}
+
+/// The value at a place of the record in these bytes, counted from 0: no other value is looked at. NULL past its values, and where none can be
+/// read.
+pub fn value_at(bytes: &[u8], index: usize) -> Field<'_>
+    ensures { value_of result ≡ unwrap_or (slice_get (values_in bytes.now) index) Null }
+{
+    match split(bytes) {
+        Ok((types, bodies)) => nth_value(types, bodies, index),
+        Err(_) => Field::Null,
+    }
+}
+
+/// Copies of the values of the record in these bytes, as `value_at` gives them.
+pub fn values_of(alloc: Global, bytes: &[u8]) -> Result<Many<Value>, AllocError>
+    ensures { IfOk result (λ values. values ≡ values_in bytes.now) }
+{
+    match split(bytes) {
+        Ok((types, bodies)) => all_values(alloc, types, bodies),
+        Err(_) => Ok(Many::new(alloc)),
+    }
+}
+
+/// In the bytes of a record lie its values.
+pub fn records_hold_their_values()
+    ensures { HoldsValues }
+{}
