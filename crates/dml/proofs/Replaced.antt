@@ -1,7 +1,8 @@
 -- Rows of a tree are replaced one after another.
 use Rattle.std.proofs.Common.{◌≡◌, inl, inr, refl, sym, ap, subst, ◌∙◌, ◌<ℤ◌, ◌≤ℤ◌, ◌&&◌, ◌==◌, ℕ, zero, suc, ℤ, Bool, true, false, cond, filter, List, [], ◌∷◌, ◌++◌, length, map, Option, Some, None, if◌then◌else◌, Result, Ok, Err, IsTrue, All, zip, slice_set, arith}
 use Rattle.std.specs.Prelude.{IsErrAnd, ⊤, int_lt}
-use Rattle.std.specs.List.{list_all}
+use Rattle.std.specs.Global.{Vec}
+use Rattle.std.specs.List.{AllByRecursion, list_all}
 use Rattle.std.specs.Ordering.{int_cmp, int_eq}
 use Rattle.std.proofs.lemmas.Bool.{eq-eqb, false≢true}
 use Rattle.std.proofs.lemmas.List.{length-map, length-set}
@@ -11,12 +12,12 @@ use Rattle.sqlval.specs.Refusals.{Answer, Refusal, ◌then◌, all_answers}
 use Rattle.sqlval.specs.declared.fault.Fault.{Fault}
 use Rattle.sqlval.specs.declared.value.Value.{Value}
 use Rattle.page.specs.Leaf.{Entry}
-use Rattle.pages.specs.Calls.{IsOutsideOrFull, Limits, Causes}
+use Rattle.pages.specs.Calls.{IsOutsideOrFull, Limits}
 use Rattle.pages.specs.Map.{PageMap}
-use Rattle.pages.proofs.Moving.{in_sequence}
 use Rattle.treepage.specs.Cells.{Pairwise}
-use Rattle.tabletree.specs.Calls.{BecomesRows, IsReplaced, ReplacesRow, Stands}
-use Rattle.tabletree.specs.Rows.{payload_at, with_row}
+use Rattle.tabletree.specs.Calls.{BecomesRows, ChangesRows, Stands}
+use Rattle.tabletree.specs.Rows.{with_change, with_changes, with_replaced}
+use Rattle.tabletree.specs.declared.changing.RowChange.{RowChange}
 use Rattle.tabletree.proofs.Orders.{less_not, not_less, same_or_other, lt_le}
 use Rattle.catalog.specs.Database.{TableColumn}
 use Rattle.catalog.specs.Listed.{plain_column, plain_table}
@@ -29,91 +30,46 @@ use Rattle.rowprog.specs.Rows.{IsRow, TableRow}
 use Rattle.rowprog.specs.Sources.{as_source}
 use Rattle.rowprog.proofs.RowOrder.{both_true}
 use Rattle.dml.specs.Constraints.{set_values, with_affinity}
-use Rattle.dml.specs.NewRows.{IsWritten, entry_in}
+use Rattle.dml.specs.NewRows.{IsReplacement, IsWritten, entry_left}
 use Rattle.dml.specs.declared.inserting.RowRecord.{RowRecord}
 use Rattle.record.specs.Writing.{AreStorable}
 use Rattle.dml.specs.Setting.{row_set, rows_meant_set, values_set}
-use Rattle.dml.specs.Updating.{FitNow, ReplacesRows, with_all_replaced, with_replaced}
-use Rattle.dml.proofs.IntoTrees.{keeps_all, keeps_then, unmoved}
+use Rattle.dml.specs.Updating.{FitNow, ReplacesRows, with_all_replaced}
 use Rattle.dml.proofs.Rising.{Climbs, Rises, both, further}
 
--- ---- one row
+-- ---- the call
 
-replaced_there : (row : Entry) (rows : List Entry) → (payload_at row.rowid rows ≡ None → ⊥) → with_replaced row rows ≡ with_row row rows
-replaced_there row rows some = by (payload_at row.rowid rows) some
+pub all_push : {A : Type 0} (P : A → Type 0) (xs : List A) (x : A) → AllByRecursion P xs → P x → AllByRecursion P (xs ++ x ∷ [])
+all_push P [] x all one = (one, tt)
+all_push P (y ∷ xs) x all one = (all.0, all_push P xs x all.1 one)
+
+change_by : (rowid : ℤ) (payload : Option (Vec ℕ)) (rows : List Entry) → (payload ≡ None → ⊥)
+    → with_change (record { rowid = rowid; payload = payload }) rows ≡ with_replaced (entry_left (record { rowid = rowid; payload = payload })) rows
+change_by rowid None rows some = absurd (some refl)
+change_by rowid (Some payload) rows some = refl
+
+-- changes that give rows other payloads put the entries in place of theirs
+changes_replace : (changes : List RowChange) (rows : List Entry) → AllByRecursion IsReplacement changes → with_changes changes rows ≡ with_all_replaced (map entry_left changes) rows
+changes_replace [] rows all = refl
+changes_replace (change ∷ changes) rows all =
+    changes_replace changes (with_change change rows) all.1
+    ∙ ap (λ (rs : List Entry). with_all_replaced (map entry_left changes) rs) (change_by change.rowid change.payload rows all.0)
+
+pub as_replaced : (old new : PageMap) (size root : ℕ) (changes : List RowChange) (result : Result ⊤ Fault) → AllByRecursion IsReplacement changes → ChangesRows old new size root changes result
+    → ReplacesRows old new size root (with_all_replaced (map entry_left changes)) result
+as_replaced old new size root changes result all makes rows used free is = by result (makes rows used free is)
   where
-    by : (o : Option (List ℕ)) → (o ≡ None → ⊥) → elim o [ None ↦ rows | Some payload ↦ with_row row rows ] ≡ with_row row rows
-    by None h = absurd (h refl)
-    by (Some payload) h = refl
-
-unchanged : (pages : PageMap) (size root : ℕ) (rows : List Entry) (used free : List ℕ) → Stands pages size root rows used free → BecomesRows pages pages size root rows used free
-unchanged pages size root rows used free is = record { now_used = used; now_free = free; stands = is; moves = unmoved pages used free; header = keeps_all pages }
-
-module _ (old new : PageMap) (size root : ℕ) (row : Entry) where
-  pub row_replaced : (found : Bool) → ReplacesRow old new size root row (Ok found) → ReplacesRows old new size root (with_replaced row) (Ok tt)
-  row_replaced found replaces rows used free is = by found (replaces rows used free is)
-    where
-      by : (b : Bool) → IsReplaced old new size root row rows used free b → BecomesRows old new size root (with_replaced row rows) used free
-      by true (some, becomes) = subst (λ (all : List Entry). BecomesRows old new size root all used free) (sym (replaced_there row rows some)) becomes
-      by false (none, same) =
-          subst (λ (all : List Entry). BecomesRows old new size root all used free) (sym (ap (λ (o : Option (List ℕ)). elim o [ None ↦ rows | Some payload ↦ with_row row rows ]) none))
-          (subst (λ (now : PageMap). BecomesRows old now size root rows used free) (sym same) (unchanged old size root rows used free is))
-
-  pub row_kept : (fault : Fault) (result : Result ⊤ Fault) → IsErrAnd result (λ e. e ≡ fault) → ReplacesRow old new size root row (Err fault) → ReplacesRows old new size root (with_replaced row) result
-  row_kept fault (Ok done) same replaces = absurd same
-  row_kept fault (Err e) same replaces = λ rows used free is. subst IsOutsideOrFull (sym same) (replaces rows used free is)
-
--- what was put in is the entry of the record
-pub as_replaced : (old new : PageMap) (size root : ℕ) (made : RowRecord) (payload : List ℕ) (rowid : ℤ) (result : Result Bool Fault) → rowid ≡ made.rowid → payload ≡ made.payload.items
-    → ReplacesRow old new size root (record { rowid = rowid; payload = payload }) result → ReplacesRow old new size root (entry_in made) result
-as_replaced old new size root made payload rowid result same_rowid same_payload replaces =
-    subst (λ (z : ℤ). ReplacesRow old new size root (record { rowid = z; payload = made.payload.items }) result) same_rowid
-    (subst (λ (bytes : List ℕ). ReplacesRow old new size root (record { rowid = rowid; payload = bytes }) result) same_payload replaces)
-
--- ---- several rows
-
-one_after : (more : List Entry) (row : Entry) (rows : List Entry) → with_all_replaced (more ++ row ∷ []) rows ≡ with_replaced row (with_all_replaced more rows)
-one_after [] row rows = refl
-one_after (first ∷ more) row rows = one_after more row (with_replaced first rows)
-
--- What is so after some of the rows were replaced.
-pub record HasReplaced {P K : Type 0} (below : P → K) (tells : K → Bool) (limits : K → Limits) (pages : P → PageMap) (failures : P → ℕ × ℕ) (old now : P) (root : ℕ) (done : List Entry) : Type 0 where
-  pub kept : below now ≡ below old
-  pub causes : Causes {T = ⊤} (Ok tt) (failures old) (failures now) ⊥
-  pub replaced : IsTrue (tells (below old)) → ReplacesRows (pages old) (pages now) (limits (below old)).page root (with_all_replaced done) (Ok tt)
-
-pub none_replaced : (pages : PageMap) (size root : ℕ) → ReplacesRows pages pages size root (with_all_replaced []) (Ok tt)
-none_replaced pages size root rows used free is = unchanged pages size root rows used free is
-
-module _ (old mid new : PageMap) (size root : ℕ) (done : List Entry) (row : Entry) (so_far : ReplacesRows old mid size root (with_all_replaced done) (Ok tt)) where
-  pub one_on : ReplacesRows mid new size root (with_replaced row) (Ok tt) → ReplacesRows old new size root (with_all_replaced (done ++ row ∷ [])) (Ok tt)
-  one_on replaces rows used free is =
-      let was = so_far rows used free is in
-      let now = replaces (with_all_replaced done rows) was.now_used was.now_free was.stands in
-      subst (λ (them : List Entry). BecomesRows old new size root them used free) (sym (one_after done row rows)) (record {
-        now_used = now.now_used;
-        now_free = now.now_free;
-        stands = now.stands;
-        moves = in_sequence old mid new used free was.now_used was.now_free now.now_used now.now_free was.moves now.moves;
-        header = keeps_then old mid new was.header now.header;
-      })
-
-  pub one_stops : (all : List Entry) (fault : Fault) (result : Result ⊤ Fault) → IsErrAnd result (λ e. e ≡ fault) → ReplacesRows mid new size root (with_replaced row) (Err fault) → ReplacesRows old new size root (with_all_replaced all) result
-  one_stops all fault (Ok x) same replaces = absurd same
-  one_stops all fault (Err e) same replaces = λ rows used free is.
-      (let was = so_far rows used free is in subst IsOutsideOrFull (sym same) (replaces (with_all_replaced done rows) was.now_used was.now_free was.stands))
-
--- what one call does it does from before the first
-pub replaces_since : {P K : Type 0} (below : P → K) (tells : K → Bool) (limits : K → Limits) (old mid : P) (m new : PageMap) (root : ℕ) (edit : List Entry → List Entry) (result : Result ⊤ Fault) → below mid ≡ below old
-    → (IsTrue (tells (below mid)) → ReplacesRows m new (limits (below mid)).page root edit result) → IsTrue (tells (below old)) → ReplacesRows m new (limits (below old)).page root edit result
-replaces_since {P} {K} below tells limits old mid m new root edit result kept replaces told =
-    subst (λ (k : K). ReplacesRows m new (limits k).page root edit result) kept (replaces (subst (λ (k : K). IsTrue (tells k)) (sym kept) told))
+    by : (r : Result ⊤ Fault) → MatchResult r (λ done. BecomesRows old new size root (with_changes changes rows) used free) IsOutsideOrFull
+        → MatchResult r (λ done. BecomesRows old new size root (with_all_replaced (map entry_left changes) rows) used free) IsOutsideOrFull
+    by (Ok done) becomes = subst (λ (rs : List Entry). BecomesRows old new size root rs used free) (changes_replace changes rows all) becomes
+    by (Err fault) refused = refused
 
 -- what a call does to pages that were only read before
-pub replaces_after : {P K : Type 0} (below : P → K) (tells : K → Bool) (limits : K → Limits) (pages : P → PageMap) (old mid : P) (new : PageMap) (root : ℕ) (edit : List Entry → List Entry) (result : Result ⊤ Fault) → below mid ≡ below old
-    → pages mid ≡ pages old → (IsTrue (tells (below mid)) → ReplacesRows (pages mid) new (limits (below mid)).page root edit result) → IsTrue (tells (below old)) → ReplacesRows (pages old) new (limits (below old)).page root edit result
-replaces_after {P} {K} below tells limits pages old mid new root edit result kept same replaces told =
-    subst (λ (m : PageMap). ReplacesRows m new (limits (below old)).page root edit result) same (replaces_since below tells limits old mid (pages mid) new root edit result kept replaces told)
+pub changes_after : {P K : Type 0} (below : P → K) (tells : K → Bool) (limits : K → Limits) (pages : P → PageMap) (old mid : P) (new : PageMap) (root : ℕ) (changes : List RowChange) (result : Result ⊤ Fault) → below mid ≡ below old
+    → pages mid ≡ pages old → (IsTrue (tells (below mid)) → ChangesRows (pages mid) new (limits (below mid)).page root changes result) → IsTrue (tells (below old)) → ChangesRows (pages old) new (limits (below old)).page root changes result
+changes_after {P} {K} below tells limits pages old mid new root changes result kept same makes told =
+    subst (λ (m : PageMap). ChangesRows m new (limits (below old)).page root changes result) same
+    (subst (λ (k : K). ChangesRows (pages mid) new (limits k).page root changes result) kept (makes (subst (λ (k : K). IsTrue (tells k)) (sym kept) told)))
 
 -- ---- the parts of an answer
 

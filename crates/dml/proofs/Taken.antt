@@ -1,19 +1,20 @@
 -- Rows are taken out of a tree one after another.
-use Rattle.std.proofs.Common.{◌≡◌, inl, inr, refl, sym, ap, subst, ◌∙◌, ◌<◌, ◌≤◌, ◌+◌, ◌<ℤ◌, ℕ, ℤ, Bool, true, false, not, cond, filter, List, [], ◌∷◌, ◌++◌, length, map, take, slice_index_or, Some, None, if◌then◌else◌, Result, Ok, Err, IsTrue}
+use Rattle.std.proofs.Common.{◌≡◌, inl, inr, refl, sym, ap, subst, ◌∙◌, ◌<◌, ◌≤◌, ◌+◌, ◌<ℤ◌, ℕ, ℤ, Bool, true, false, not, cond, filter, List, [], ◌∷◌, ◌++◌, length, map, take, slice_index_or, Option, Some, None, if◌then◌else◌, Result, Ok, Err}
 use Rattle.std.specs.Prelude.{IsErrAnd, MatchResult, ⊤}
+use Rattle.std.specs.Global.{Vec}
 use Rattle.std.specs.List.{list_all}
 use Rattle.std.specs.Ordering.{int_cmp, int_eq}
 use Rattle.std.proofs.lemmas.List.{take_all, take_more}
 use Rattle.sqlval.specs.Lists.{is_rising}
 use Rattle.sqlval.specs.Refusals.{◌then◌, refusal_of}
 use Rattle.sqlval.specs.declared.fault.Fault.{Fault}
+use Rattle.sqlval.specs.declared.fault.Fault.TheVariants.{Memory}
 use Rattle.page.specs.Leaf.{Entry}
-use Rattle.pages.specs.Calls.{IsOutsideOrFull, Limits, Causes}
+use Rattle.pages.specs.Calls.{IsOutsideOrFull}
 use Rattle.pages.specs.Map.{PageMap}
-use Rattle.pages.proofs.Moving.{in_sequence}
 use Rattle.treepage.specs.Cells.{Pairwise}
-use Rattle.tabletree.specs.Calls.{BecomesRows, IsRemoved, RemovesRow, Stands}
-use Rattle.tabletree.specs.Rows.{payload_at, without_row}
+use Rattle.tabletree.specs.Calls.{BecomesRows, ChangesRows, Stands}
+use Rattle.tabletree.specs.Rows.{without_row, with_change, with_changes}
 use Rattle.tabletree.proofs.Orders.{less_not, same_or_other}
 use Rattle.catalog.specs.Listed.{plain_table}
 use Rattle.catalog.specs.Rows.{are_rows, is_row}
@@ -27,39 +28,11 @@ use Rattle.rowprog.specs.Sources.{LoadsRows, as_source}
 use Rattle.rowprog.proofs.RowOrder.{both_true}
 use Rattle.rowprog.proofs.TreeOrder.{tree_rises}
 use Rattle.dml.specs.Choosing.{chosen, is_chosen, rows_left}
+use Rattle.tabletree.specs.declared.changing.RowChange.{RowChange}
 use Rattle.dml.specs.Taking.{AreTakenOut, IsTakeRefusal, MakesRows, TakesRows, without_rows}
 use Rattle.dml.proofs.Chosen.{chosen_and_left, chosen_refused}
 use Rattle.dml.proofs.FitRows.{rises_rising}
-use Rattle.dml.proofs.IntoTrees.{keeps_all, keeps_then, unmoved}
 use Rattle.dml.proofs.Rising.{Climbs, Rises, both, fit_rows_rise, further, rows_rise}
-
--- ---- one row
-
--- without a row that isn't there, the rows are the same
-none_without : (rowid : ℤ) (rows : List Entry) → payload_at rowid rows ≡ None → without_row rowid rows ≡ rows
-none_without rowid [] none = refl
-none_without rowid (row ∷ rows) none = by (none_without rowid rows) (int_eq row.rowid rowid) none
-  where
-    by : (payload_at rowid rows ≡ None → without_row rowid rows ≡ rows) → (b : Bool) → (if b then Some row.payload else payload_at rowid rows) ≡ None → (if b then rows else row ∷ without_row rowid rows) ≡ row ∷ rows
-    by on true e = absurd cc
-    by on false e = ap (λ (more : List Entry). row ∷ more) (on e)
-
-unchanged : (pages : PageMap) (size root : ℕ) (rows : List Entry) (used free : List ℕ) → Stands pages size root rows used free → BecomesRows pages pages size root rows used free
-unchanged pages size root rows used free is = record { now_used = used; now_free = free; stands = is; moves = unmoved pages used free; header = keeps_all pages }
-
-module _ (old new : PageMap) (size root : ℕ) (rowid : ℤ) where
-  pub row_taken : (found : Bool) → RemovesRow old new size root rowid (Ok found) → MakesRows old new size root (without_row rowid) (Ok tt)
-  row_taken found removes rows used free is = by found (removes rows used free is)
-    where
-      by : (b : Bool) → IsRemoved old new size root rowid rows used free b → BecomesRows old new size root (without_row rowid rows) used free
-      by true removed = removed.1.0
-      by false (none, same) =
-          subst (λ (all : List Entry). BecomesRows old new size root all used free) (sym (none_without rowid rows none))
-          (subst (λ (now : PageMap). BecomesRows old now size root rows used free) (sym same) (unchanged old size root rows used free is))
-
-  pub row_kept : (fault : Fault) (result : Result ⊤ Fault) → IsErrAnd result (λ e. e ≡ fault) → RemovesRow old new size root rowid (Err fault) → MakesRows old new size root (without_row rowid) result
-  row_kept fault (Ok done) same removes = absurd same
-  row_kept fault (Err e) same removes = λ rows used free is. subst IsOutsideOrFull (sym same) (removes rows used free is)
 
 -- ---- several rows
 
@@ -67,38 +40,28 @@ without_more : (rowids : List ℤ) (rowid : ℤ) (rows : List Entry) → without
 without_more [] rowid rows = refl
 without_more (first ∷ rowids) rowid rows = without_more rowids rowid (without_row first rows)
 
--- what is so after some of the rows were taken out
-pub record HasTaken {P K : Type 0} (below : P → K) (tells : K → Bool) (limits : K → Limits) (pages : P → PageMap) (failures : P → ℕ × ℕ) (old now : P) (root : ℕ) (rowids : List ℤ) : Type 0 where
-  pub kept : below now ≡ below old
-  pub causes : Causes {T = ⊤} (Ok tt) (failures old) (failures now) ⊥
-  pub taken : IsTrue (tells (below old)) → MakesRows (pages old) (pages now) (limits (below old)).page root (without_rows rowids) (Ok tt)
+changes_more : (changes : List RowChange) (change : RowChange) (rows : List Entry) → with_changes (changes ++ change ∷ []) rows ≡ with_change change (with_changes changes rows)
+changes_more [] change rows = refl
+changes_more (first ∷ changes) change rows = changes_more changes change (with_change first rows)
 
-pub none_taken : (pages : PageMap) (size root : ℕ) → MakesRows pages pages size root (without_rows []) (Ok tt)
-none_taken pages size root rows used free is = unchanged pages size root rows used free is
+-- one removal more
+pub removal_on : (changes : List RowChange) (change : RowChange) (rowids : List ℤ) (rows : List Entry) → change.payload ≡ None → with_changes changes rows ≡ without_rows rowids rows
+    → with_changes (changes ++ change ∷ []) rows ≡ without_rows (rowids ++ change.rowid ∷ []) rows
+removal_on changes change rowids rows none so =
+    changes_more changes change rows ∙ by change.payload none (with_changes changes rows) ∙ ap (λ (rs : List Entry). without_row change.rowid rs) so ∙ sym (without_more rowids change.rowid rows)
+  where
+    by : (payload : Option (Vec ℕ)) → payload ≡ None → (rs : List Entry) → with_change (record { rowid = change.rowid; payload = payload }) rs ≡ without_row change.rowid rs
+    by None e rs = refl
+    by (Some payload) e rs = absurd cc
 
-module _ (old mid new : PageMap) (size root : ℕ) (done : List ℤ) (rowid : ℤ) (so_far : MakesRows old mid size root (without_rows done) (Ok tt)) where
-  pub one_on : MakesRows mid new size root (without_row rowid) (Ok tt) → MakesRows old new size root (without_rows (done ++ rowid ∷ [])) (Ok tt)
-  one_on takes rows used free is =
-      let was = so_far rows used free is in
-      let now = takes (without_rows done rows) was.now_used was.now_free was.stands in
-      subst (λ (them : List Entry). BecomesRows old new size root them used free) (sym (without_more done rowid rows)) (record {
-        now_used = now.now_used;
-        now_free = now.now_free;
-        stands = now.stands;
-        moves = in_sequence old mid new used free was.now_used was.now_free now.now_used now.now_free was.moves now.moves;
-        header = keeps_then old mid new was.header now.header;
-      })
-
-  pub one_stops : (all : List ℤ) (fault : Fault) (result : Result ⊤ Fault) → IsErrAnd result (λ e. e ≡ fault) → MakesRows mid new size root (without_row rowid) (Err fault) → MakesRows old new size root (without_rows all) result
-  one_stops all fault (Ok x) same takes = absurd same
-  one_stops all fault (Err e) same takes = λ rows used free is.
-      (let was = so_far rows used free is in subst IsOutsideOrFull (sym same) (takes (without_rows done rows) was.now_used was.now_free was.stands))
-
--- what one call does it does from before the first
-pub makes_since : {P K : Type 0} (below : P → K) (tells : K → Bool) (limits : K → Limits) (old mid : P) (m new : PageMap) (root : ℕ) (edit : List Entry → List Entry) (result : Result ⊤ Fault) → below mid ≡ below old
-    → (IsTrue (tells (below mid)) → MakesRows m new (limits (below mid)).page root edit result) → IsTrue (tells (below old)) → MakesRows m new (limits (below old)).page root edit result
-makes_since {P} {K} below tells limits old mid m new root edit result kept makes told =
-    subst (λ (k : K). MakesRows m new (limits k).page root edit result) kept (makes (subst (λ (k : K). IsTrue (tells k)) (sym kept) told))
+pub as_made : (old new : PageMap) (size root : ℕ) (changes : List RowChange) (rowids : List ℤ) (result : Result ⊤ Fault) → ((rows : List Entry) → with_changes changes rows ≡ without_rows rowids rows) → ChangesRows old new size root changes result
+    → MakesRows old new size root (without_rows rowids) result
+as_made old new size root changes rowids result are makes rows used free is = by result (makes rows used free is)
+  where
+    by : (r : Result ⊤ Fault) → MatchResult r (λ done. BecomesRows old new size root (with_changes changes rows) used free) IsOutsideOrFull
+        → MatchResult r (λ done. BecomesRows old new size root (without_rows rowids rows) used free) IsOutsideOrFull
+    by (Ok done) becomes = subst (λ (rs : List Entry). BecomesRows old new size root rs used free) (are rows) becomes
+    by (Err fault) refused = refused
 
 pub one_further : (rowids : List ℤ) (i : ℕ) (rowid d : ℤ) → i < length rowids → rowid ≡ slice_index_or rowids i d → take i rowids ++ rowid ∷ [] ≡ take (i + 1) rowids
 one_further rowids i rowid d lt is = ap (λ (x : ℤ). take i rowids ++ x ∷ []) is ∙ sym (take_more rowids i d lt)
@@ -200,6 +163,9 @@ module _ (old new : PageMap) (size : ℕ) (table : BoundSource) (condition : Ter
   refused fault (Ok x) same why = absurd same
   refused fault (Err e) same why = λ rows entries used free is each. subst (λ (g : Fault). IsTakeRefusal condition rows g) (sym same) (why rows entries used free is each)
 
+  pub none_listed : (fault : Fault) (result : Result ⊤ Fault) → IsErrAnd result (λ e. e ≡ fault) → fault ≡ Memory → TakesRows old new size table condition result
+  none_listed fault result same memory = refused fault result same (λ rows entries used free is each. inl (inl (inl memory)))
+
   pub none_loaded : (fault : Fault) (result : Result ⊤ Fault) → IsErrAnd result (λ e. e ≡ fault) → LoadsRows old size table (Err fault) → TakesRows old new size table condition result
   none_loaded fault result same loads = refused fault result same (λ rows entries used free is each. inl (inl (loads rows is.free_are.whole (record { entries = entries; used = used; tree = is.tree; each = each }))))
 
@@ -236,9 +202,3 @@ module _ (old new : PageMap) (size : ℕ) (table : BoundSource) (condition : Ter
               (left_are table.width (is_chosen condition) entries rows each rises);
         }
         by (Err fault) cannot = inl cannot
-
--- what a call does to pages that were only read before
-pub makes_after : {P K : Type 0} (below : P → K) (tells : K → Bool) (limits : K → Limits) (pages : P → PageMap) (old mid : P) (new : PageMap) (root : ℕ) (edit : List Entry → List Entry) (result : Result ⊤ Fault) → below mid ≡ below old
-    → pages mid ≡ pages old → (IsTrue (tells (below mid)) → MakesRows (pages mid) new (limits (below mid)).page root edit result) → IsTrue (tells (below old)) → MakesRows (pages old) new (limits (below old)).page root edit result
-makes_after {P} {K} below tells limits pages old mid new root edit result kept same makes told =
-    subst (λ (m : PageMap). MakesRows m new (limits (below old)).page root edit result) same (makes_since below tells limits old mid (pages mid) new root edit result kept makes told)

@@ -1,5 +1,5 @@
 -- What UPDATE does to the tree of a table without constraints (SQL As Understood By SQLite, "UPDATE").
-use Rattle.std.specs.Prelude.{◌≡◌, ◌⊎◌, ℕ, true, List, [], ◌∷◌, length, Option, Some, None, Ok, Err, Result, MatchResult, ⊤}
+use Rattle.std.specs.Prelude.{◌≡◌, ◌⊎◌, ℕ, true, List, [], ◌∷◌, length, Option, Ok, Err, Result, MatchResult, ⊤}
 use Rattle.sqlval.specs.Refusals.{refusal_of}
 use Rattle.sqlval.specs.declared.fault.Fault.{Fault}
 use Rattle.sqlval.specs.declared.fault.Fault.TheVariants as fault
@@ -8,7 +8,7 @@ use Rattle.pages.specs.Calls.{IsOutsideOrFull}
 use Rattle.pages.specs.Map.{PageMap}
 use Rattle.treepage.specs.Cells.{Pairwise}
 use Rattle.tabletree.specs.Calls.{Stands, BecomesRows}
-use Rattle.tabletree.specs.Rows.{payload_at, with_row}
+use Rattle.tabletree.specs.Rows.{with_replaced}
 use Rattle.catalog.specs.Listed.{plain_table}
 use Rattle.catalog.specs.Rows.{are_rows}
 use Rattle.catalog.specs.declared.tables.Column.{Column}
@@ -17,10 +17,6 @@ use Rattle.terms.specs.Terms.{Term}
 use Rattle.rowprog.specs.Rows.{IsRow, TableRow}
 use Rattle.dml.specs.Inserting.{AllStorable}
 use Rattle.dml.specs.Setting.{rows_set}
-
--- the rows with this one in place of the one of its rowid, if there is one
-abbrev pub with_replaced : Entry → List Entry → List Entry
-with_replaced row rows = elim (payload_at row.rowid rows) [ None ↦ rows | Some payload ↦ with_row row rows ]
 
 -- the rows with these in place of those of their rowids
 abbrev pub with_all_replaced : List Entry → List Entry → List Entry

@@ -1,7 +1,7 @@
 //! Changes of a table's rows.
 
 ghost use Rattle.std.specs.Prelude.{◌≡◌, ◌⊎◌, map, slice_index_or, None, Some, Ok, Err, true, IfOk, IfErr, OnOk};
-ghost use Rattle.std.specs.List.{list_all};
+ghost use Rattle.std.specs.List.{AllByRecursion, list_all};
 ghost use Rattle.sqlval.specs.Conversion.{converted};
 ghost use Rattle.sqlval.specs.Refusals as refusal;
 ghost use Rattle.record.specs.Record.{IsRecord};
@@ -10,13 +10,13 @@ ghost use Rattle.treepage.specs.Cells.{Pairwise};
 ghost use Rattle.catalog.specs.Rows.{is_value};
 ghost use Rattle.dml.specs.Agreement.{InsertsRows};
 ghost use Rattle.dml.specs.Inserting.{AllStorable, IsRefusedAs, given_at, row_added, row_stored, rows_added};
-ghost use Rattle.dml.specs.NewRows.{IsWritten, entry_in, row_of};
+ghost use Rattle.dml.specs.NewRows.{IsReplacement, IsWritten, entry_in, entry_left, row_of};
 
 use catalog::{Column, other_rows_are_listed};
 use record::{encode, is_storable};
 use sqlval::{Fault, R, Row, Value, apply};
 use std::alloc::Global;
-use tabletree::next_rowid;
+use tabletree::{RowChange, next_rowid};
 use terms::conversion_is_one;
 
 /// The value given for a column, at its place: NULL where it has none.
@@ -181,6 +181,33 @@ pub(crate) fn records_of(alloc: Global, rows: &[NewRow]) -> R<Vec<RowRecord>>
         records.push(record_for(alloc, row)?)?;
     }
     Ok(records)
+}
+
+/// The change of the row of a rowid to this one, with its record.
+fn change_for(alloc: Global, row: &NewRow) -> R<RowChange>
+    ensures made { IfOk result (λ made. IsWritten (row_of row.now) (entry_left made)) }
+    ensures some { IfOk result IsReplacement }
+    ensures refused { IfErr result (λ fault. (fault ≡ Fault.Memory)
+        ⊎ ((fault ≡ Fault.TooLong) × (AreStorable (row_of row.now).1 → ⊥))) }
+{
+    Ok(RowChange {
+        rowid: row.rowid,
+        payload: Some(payload_of(alloc, &row.values)?),
+    })
+}
+
+/// The changes of rows to these, with their records.
+pub(crate) fn changes_of(alloc: Global, rows: &[NewRow]) -> R<Vec<RowChange>>
+    ensures made { IfOk result (λ changes. Pairwise IsWritten (map row_of rows.now) (map entry_left changes.items)) }
+    ensures some { IfOk result (λ changes. AllByRecursion IsReplacement changes.items) }
+    ensures refused { IfErr result (λ fault. (fault ≡ Fault.Memory)
+        ⊎ ((fault ≡ Fault.TooLong) × (AllStorable (map row_of rows.now) → ⊥))) }
+{
+    let mut changes = Vec::new(alloc);
+    'rows: for row in rows {
+        changes.push(change_for(alloc, row)?)?;
+    }
+    Ok(changes)
 }
 
 /// An INSERT that sets off no trigger appends its rows to the table, or is refused as they are.

@@ -1,48 +1,36 @@
 //! Rows that are taken out of the tree of their table.
 
-ghost use Rattle.std.specs.Prelude.{◌≡◌, IsTrue};
+ghost use Rattle.std.specs.Prelude.{◌≡◌, List, IfOk, IfErr, IsTrue};
+ghost use Rattle.page.specs.Leaf.{Entry};
 ghost use Rattle.pages.specs.Calls.{Causes};
-ghost use Rattle.tabletree.specs.Rows.{without_row};
-ghost use Rattle.dml.specs.Taking.{MakesRows, TakesRows, without_rows};
+ghost use Rattle.tabletree.specs.Rows.{with_changes};
+ghost use Rattle.dml.specs.Taking.{TakesRows, without_rows};
 
 use crate::choosing::chosen_rowids;
 use bind::BoundSource;
 use pages::WritePages;
 use rowprog::source_rows;
-use sqlval::R;
+use sqlval::{Fault, R};
 use std::alloc::Global;
-use tabletree::remove;
+use tabletree::{RowChange, change_rows};
 use terms::Term;
 
-/// Takes the row of a rowid out of a tree, if there is one. (What `remove` refuses.)
-fn take_row<P: WritePages>(alloc: Global, pages: &mut P, root: u32, rowid: &i64) -> R<()>
-    ensures taken { IsTrue (P.Pages.tells (P.Pages.below pages.old))
-        → MakesRows (P.Pages.map pages.old) (P.Pages.map pages.new) (P.Pages.limits (P.Pages.below pages.old)).page
-        root (without_row rowid.now) result }
-    ensures kept { P.Pages.below pages.new ≡ P.Pages.below pages.old }
-    ensures causes { Causes result (P.Pages.failures pages.old) (P.Pages.failures pages.new)
-        (P.Pages.count pages.new ≡ (P.Pages.limits (P.Pages.below pages.new)).most) }
+/// The removals of the rows of these rowids.
+fn removals(alloc: Global, rowids: &[i64]) -> R<Vec<RowChange>>
+    ensures made { (rows : List Entry) → IfOk result (λ changes. with_changes changes.items rows ≡ without_rows rowids.now rows) }
+    ensures refused { IfErr result (λ fault. fault ≡ Fault.Memory) }
 {
-    remove(alloc, pages, root, *rowid)?;
-    Ok(())
-}
-
-/// Takes the rows of these rowids out of a tree, one after another. (As `take_row`.)
-fn take_each<P: WritePages>(alloc: Global, pages: &mut P, root: u32, rowids: &[i64]) -> R<()>
-    ensures taken { IsTrue (P.Pages.tells (P.Pages.below pages.old))
-        → MakesRows (P.Pages.map pages.old) (P.Pages.map pages.new) (P.Pages.limits (P.Pages.below pages.old)).page
-        root (without_rows rowids.now) result }
-    ensures kept { P.Pages.below pages.new ≡ P.Pages.below pages.old }
-    ensures causes { Causes result (P.Pages.failures pages.old) (P.Pages.failures pages.new)
-        (P.Pages.count pages.new ≡ (P.Pages.limits (P.Pages.below pages.new)).most) }
-{
+    let mut changes = Vec::with_capacity(alloc, rowids.len())?;
     'rowids: for rowid in rowids {
-        take_row(alloc, pages, root, rowid)?;
+        changes.push(RowChange {
+            rowid: *rowid,
+            payload: None,
+        })?;
     }
-    Ok(())
+    Ok(changes)
 }
 
-/// Takes the rows for which a condition is true out of a table's tree. (What `source_rows`, the condition and `remove` refuse; where the
+/// Takes the rows for which a condition is true out of a table's tree. (What `source_rows`, the condition and `change_rows` refuse; where the
 /// condition is refused, no row is taken out.)
 pub fn take_rows<P: WritePages>(
     alloc: Global,
@@ -59,5 +47,6 @@ pub fn take_rows<P: WritePages>(
 {
     let rows = source_rows(alloc, pages, table)?;
     let rowids = chosen_rowids(alloc, &rows, condition)?;
-    take_each(alloc, pages, table.root, &rowids)
+    let changes = removals(alloc, &rowids)?;
+    change_rows(alloc, pages, table.root, &changes)
 }

@@ -1,12 +1,11 @@
 //! UPDATE.
 
-ghost use Rattle.std.specs.Prelude.{◌≡◌, map, IsTrue};
+ghost use Rattle.std.specs.Prelude.{◌≡◌, IsTrue};
 ghost use Rattle.pages.specs.Calls.{Causes};
 ghost use Rattle.dml.specs.Agreement.{UpdatesSome};
-ghost use Rattle.dml.specs.NewRows.{entry_in};
-ghost use Rattle.dml.specs.Updating.{ReplacesRows, SetsRows, with_all_replaced, with_replaced};
+ghost use Rattle.dml.specs.Updating.{SetsRows};
 
-use crate::inserting::{RowRecord, records_of};
+use crate::inserting::changes_of;
 use crate::setting::changed_rows;
 use bind::BoundSource;
 use catalog::{Table, named_databases_are_one, other_rows_are_listed};
@@ -14,7 +13,7 @@ use pages::WritePages;
 use rowprog::source_rows;
 use sqlval::R;
 use std::alloc::Global;
-use tabletree::replace;
+use tabletree::change_rows;
 use terms::Term;
 
 /// An UPDATE that sets off no trigger leaves the table with what SET makes of its rows, or is refused as they are.
@@ -25,42 +24,9 @@ pub fn update_sets_its_rows()
     named_databases_are_one();
 }
 
-/// Puts a record in place of that of its rowid, if there is one. (What `replace` refuses.)
-fn replace_record<P: WritePages>(alloc: Global, pages: &mut P, root: u32, row: &RowRecord) -> R<()>
-    ensures replaced { IsTrue (P.Pages.tells (P.Pages.below pages.old))
-        → ReplacesRows (P.Pages.map pages.old) (P.Pages.map pages.new) (P.Pages.limits (P.Pages.below pages.old)).page
-        root (with_replaced (entry_in row.now)) result }
-    ensures kept { P.Pages.below pages.new ≡ P.Pages.below pages.old }
-    ensures causes { Causes result (P.Pages.failures pages.old) (P.Pages.failures pages.new)
-        (P.Pages.count pages.new ≡ (P.Pages.limits (P.Pages.below pages.new)).most) }
-{
-    replace(alloc, pages, root, row.rowid, &row.payload)?;
-    Ok(())
-}
-
-/// Puts records in place of those of their rowids, one after another. (As `replace_record`.)
-fn replace_records<P: WritePages>(
-    alloc: Global,
-    pages: &mut P,
-    root: u32,
-    records: &[RowRecord],
-) -> R<()>
-    ensures replaced { IsTrue (P.Pages.tells (P.Pages.below pages.old))
-        → ReplacesRows (P.Pages.map pages.old) (P.Pages.map pages.new) (P.Pages.limits (P.Pages.below pages.old)).page
-        root (with_all_replaced (map entry_in records.now)) result }
-    ensures kept { P.Pages.below pages.new ≡ P.Pages.below pages.old }
-    ensures causes { Causes result (P.Pages.failures pages.old) (P.Pages.failures pages.new)
-        (P.Pages.count pages.new ≡ (P.Pages.limits (P.Pages.below pages.new)).most) }
-{
-    'records: for row in records {
-        replace_record(alloc, pages, root, row)?;
-    }
-    Ok(())
-}
-
 /// Sets values in the rows of a table's tree for which a condition is true, or in all where there is none. The condition is asked of all
-/// rows before the first is set. (What `source_rows`, the condition, SET's expressions and `replace` refuse, a real, and `TooLong` for a
-/// row that no record can hold; only what `replace` refuses leaves rows that are set.)
+/// rows before the first is set. (What `source_rows`, the condition, SET's expressions and `change_rows` refuse, a real, and `TooLong` for a
+/// row that no record can hold; only what `change_rows` refuses leaves rows that are set.)
 pub fn set_rows<P: WritePages>(
     alloc: Global,
     pages: &mut P,
@@ -81,6 +47,6 @@ pub fn set_rows<P: WritePages>(
     };
     let rows = source_rows(alloc, pages, source)?;
     let new = changed_rows(alloc, table.columns.as_slice(), sets, &rows, condition)?;
-    let records = records_of(alloc, &new)?;
-    replace_records(alloc, pages, table.root, &records)
+    let changes = changes_of(alloc, &new)?;
+    change_rows(alloc, pages, table.root, &changes)
 }

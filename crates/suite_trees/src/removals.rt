@@ -6,7 +6,7 @@ use pages::{MemPages, Pages};
 use sqlval::R;
 use std::alloc::Global;
 use std::test::*;
-use tabletree::{get, insert, new_tree, remove, replace};
+use tabletree::{RowChange, change_rows, get, insert, new_tree, remove};
 
 /// How many rows the trees have: one less than a prime, so that the multiples of a rowid go through all.
 const ROWS: i64 = 198;
@@ -141,6 +141,15 @@ fn a_row_that_is_not_there_stays_out(rt: HostRuntime) -> Result<(), Fail> {
     Ok(())
 }
 
+/// Gives a row another payload.
+fn replace(alloc: Global, pages: &mut MemPages, root: u32, rowid: i64, payload: &[u8]) -> R<()> {
+    let changes = [RowChange {
+        rowid,
+        payload: Some(payload.to_vec(alloc)?),
+    }];
+    change_rows(alloc, pages, root, &changes)
+}
+
 // Of 1000 bytes all but 39 lie on two overflow pages, which are free when the row has 2 bytes.
 #[test]
 fn a_payload_is_replaced(rt: HostRuntime) -> Result<(), Fail> {
@@ -149,12 +158,104 @@ fn a_payload_is_replaced(rt: HostRuntime) -> Result<(), Fail> {
     let root = new_tree(alloc, &mut pages)?;
     grow(alloc, &mut pages, root)?;
     let free = free_count(&mut pages)?;
-    assert_eq!(rt; replace(alloc, &mut pages, root, 3, &[8, 9])?, true);
+    replace(alloc, &mut pages, root, 3, &[8, 9])?;
     assert_eq!(rt; free_count(&mut pages)?, free.saturating_add(2));
     let mut out = Vec::new(alloc);
     assert_eq!(rt; get(&mut pages, root, 3, &mut out)?, true);
     assert_eq!(rt; out.as_slice() == [8, 9].as_slice(), true);
-    assert_eq!(rt; replace(alloc, &mut pages, root, 199, &[8])?, false);
+    replace(alloc, &mut pages, root, 199, &[8])?;
+    assert_eq!(rt; get(&mut pages, root, 199, &mut out)?, false);
+    assert_eq!(rt; is_whole(alloc, &mut pages, root)?, true);
+    Ok(())
+}
+
+/// How long the payload of a row is after the changes, if it stays: each second row is removed, and of the others each fifth gets 600 bytes
+/// and each seventh none.
+fn size_after(rowid: i64) -> Option<usize> {
+    if rowid % 2 == 0 {
+        None
+    } else if rowid % 5 == 0 {
+        Some(600)
+    } else if rowid % 7 == 0 {
+        Some(0)
+    } else if rowid % 3 == 0 {
+        Some(1000)
+    } else {
+        Some(60)
+    }
+}
+
+/// Whether the row of a rowid is as it is after the changes.
+fn is_as_changed(alloc: Global, pages: &mut MemPages, root: u32, rowid: i64) -> R<bool> {
+    let mut out = Vec::new(alloc);
+    let there = get(pages, root, rowid, &mut out)?;
+    Ok(match size_after(rowid) {
+        None => !there,
+        Some(size) => there && out.len() == size,
+    })
+}
+
+/// The changes of rows up to this rowid, by rising rowid, and of one that isn't there.
+fn changes_up_to(alloc: Global, most: i64) -> R<Vec<RowChange>> {
+    let mut changes = Vec::new(alloc);
+    for rowid in 1..=most {
+        match size_after(rowid) {
+            None => changes.push(RowChange {
+                rowid,
+                payload: None,
+            })?,
+            Some(size) => {
+                if rowid % 5 == 0 || rowid % 7 == 0 {
+                    let payload = vec![in alloc; 9; size]?;
+                    changes.push(RowChange {
+                        rowid,
+                        payload: Some(payload),
+                    })?;
+                }
+            }
+        }
+    }
+    changes.push(RowChange {
+        rowid: 1000,
+        payload: Some(Vec::new(alloc)),
+    })?;
+    Ok(changes)
+}
+
+// A leaf has at most seven of these rows; each run has some of them.
+#[test]
+fn runs_of_rows_are_changed(rt: HostRuntime) -> Result<(), Fail> {
+    let alloc = rt.alloc();
+    let mut pages = new_database(alloc)?.pages;
+    let root = new_tree(alloc, &mut pages)?;
+    grow(alloc, &mut pages, root)?;
+    let changes = changes_up_to(alloc, ROWS)?;
+    change_rows(alloc, &mut pages, root, &changes)?;
+    let mut right = true;
+    for rowid in 1..=ROWS {
+        right = right && is_as_changed(alloc, &mut pages, root, rowid)?;
+    }
+    assert_eq!(rt; right, true);
+    assert_eq!(rt; is_as_changed(alloc, &mut pages, root, 1000)?, true);
+    assert_eq!(rt; is_whole(alloc, &mut pages, root)?, true);
+    Ok(())
+}
+
+// Changes by falling rowid are runs of one row each, and leave the same rows.
+#[test]
+fn changes_in_any_order_are_made(rt: HostRuntime) -> Result<(), Fail> {
+    let alloc = rt.alloc();
+    let mut pages = new_database(alloc)?.pages;
+    let root = new_tree(alloc, &mut pages)?;
+    grow(alloc, &mut pages, root)?;
+    let mut changes = changes_up_to(alloc, ROWS)?;
+    changes.reverse();
+    change_rows(alloc, &mut pages, root, &changes)?;
+    let mut right = true;
+    for rowid in 1..=ROWS {
+        right = right && is_as_changed(alloc, &mut pages, root, rowid)?;
+    }
+    assert_eq!(rt; right, true);
     assert_eq!(rt; is_whole(alloc, &mut pages, root)?, true);
     Ok(())
 }
@@ -197,15 +298,15 @@ fn a_row_without_room_beside_the_header_lies_below(rt: HostRuntime) -> Result<()
     Ok(())
 }
 
-// Each of two pages has a row. When the second row is short both fit one page, and no other stands above it.
+// Each of two pages has a row, also where the second one has few bytes then.
 #[test]
-fn a_short_payload_takes_a_page_less(rt: HostRuntime) -> Result<(), Fail> {
+fn a_short_payload_leaves_its_page(rt: HostRuntime) -> Result<(), Fail> {
     let alloc = rt.alloc();
     let mut pages = new_database(alloc)?.pages;
     let root = new_tree(alloc, &mut pages)?;
     assert_eq!(rt; puts_large(alloc, &mut pages, root, 1)?, true);
     assert_eq!(rt; puts_large(alloc, &mut pages, root, 2)?, true);
-    assert_eq!(rt; replace(alloc, &mut pages, root, 2, &[8, 9])?, true);
+    replace(alloc, &mut pages, root, 2, &[8, 9])?;
     assert_eq!(rt; is_whole(alloc, &mut pages, root)?, true);
     Ok(())
 }

@@ -89,7 +89,7 @@ plan_side old mid size number depth low high sized used free rows s lies sorted 
           (let cells = is.room in let few = few_cells in omega (arith, cells, few, front_len, near, long, sizes.0)) in let le = counted.few in omega (arith, most, le));
     }
 
-module _ (old : PageMap) (size number ways : ℕ) (rowid : ℤ) (edit : List Entry → List Entry) (about : IsLocal rowid edit) (depth : ℕ) (low : ℤ) (t : Tree (suc depth)) (high : ℤ) (free : List ℕ)
+module _ (old : PageMap) (size number ways : ℕ) (rowid : ℤ) (edit : List Entry → List Entry) (depth : ℕ) (low : ℤ) (t : Tree (suc depth)) (high : ℤ) (free : List ℕ)
     (under : IsUnder old size number (suc ways) rowid (suc depth) low t high free) (place : ℕ) (h : IsHole depth rowid low t.kids t.last high place) where
   abbrev Row : Type 0
   Row = Side (Tree depth) ℤ
@@ -137,11 +137,11 @@ module _ (old : PageMap) (size number ways : ℕ) (rowid : ℤ) (edit : List Ent
   pub payload_same : payload_at rowid (rows_of (suc depth) t) ≡ payload_at rowid (rows_of depth h.tree)
   payload_same = ap (payload_at rowid) rows_split ∙ payload_within rowid left (rows_of depth h.tree) right h.left h.right
 
-  rows_with : (window : Row) → each_of (rows_of depth) nothing window.0 window.1 ≡ edit (rows_of depth h.tree)
+  rows_with : IsLocal rowid h.to edit → (window : Row) → each_of (rows_of depth) nothing window.0 window.1 ≡ edit (rows_of depth h.tree)
       → each_of (rows_of depth) nothing (framed h.frame window).0 (framed h.frame window).1 ≡ edit (rows_of (suc depth) t)
-  rows_with window e =
+  rows_with about window e =
       frame_gives (rows_of depth) nothing h.frame window ∙ ap (λ (rows : List Entry). left ++ (rows ++ right)) e
-      ∙ sym (ap edit rows_split ∙ about.within left (rows_of depth h.tree) right h.left h.right)
+      ∙ sym (ap edit rows_split ∙ about.within left (rows_of depth h.tree) right h.left h.beyond)
 
   -- ---- pages
 
@@ -198,9 +198,9 @@ module _ (old : PageMap) (size number ways : ℕ) (rowid : ℤ) (edit : List Ent
 
   -- ---- one page in place of the child, which kept its number
 
-  pub put_above : (mid : PageMap) → IsPut old mid size (top depth h.tree) depth h.from h.to (edit (rows_of depth h.tree)) (pages_of depth h.tree) free
+  pub put_above : IsLocal rowid h.to edit → (mid : PageMap) → IsPut old mid size (top depth h.tree) depth h.from h.to (edit (rows_of depth h.tree)) (pages_of depth h.tree) free
       → IsPut old mid size number (suc depth) low high (edit (rows_of (suc depth) t)) (pages_of (suc depth) t) free
-  put_above mid p =
+  put_above about mid p =
       let window : Row = ([], p.tree) in
       let s = framed h.frame window in
       let same : seen (top depth) s ≡ seen (top depth) (t.kids, t.last) = (
@@ -213,7 +213,7 @@ module _ (old : PageMap) (size number ways : ℕ) (rowid : ℤ) (edit : List Ent
           side_lies mid window p.now_free p.moves p.lies,
         );
         sorted = h.opening.fill window p.sorted;
-        rows_are = rows_with window p.rows_are;
+        rows_are = rows_with about window p.rows_are;
         now_free = p.now_free;
         has = p.has;
         moves = beside old mid (pages_in depth t.kids t.last) free (pages_in depth s.0 s.1) p.now_free t.page (side_moves mid window p.now_free p.moves p.lies);
@@ -243,14 +243,14 @@ module _ (old : PageMap) (size number ways : ℕ) (rowid : ℤ) (edit : List Ent
       → Says mid number (Keys (children (top depth) t.kids) (top depth t.last))
   page_at_mid mid fan g = subst (λ (n : ℕ). Says mid n (Keys (children (top depth) t.kids) (top depth t.last))) under.top_is (page_says mid (g.kids, g.last) g.now_free g.moves g.lies)
 
-  pub plan_above : (mid : PageMap) (fan : Fan) (g : IsGrown old mid size (top depth h.tree) depth h.from h.to (edit (rows_of depth h.tree)) (pages_of depth h.tree) free fan) (packed : Packed)
+  pub plan_above : IsLocal rowid h.to edit → (mid : PageMap) (fan : Fan) (g : IsGrown old mid size (top depth h.tree) depth h.from h.to (edit (rows_of depth h.tree)) (pages_of depth h.tree) free fan) (packed : Packed)
       → IsFanned (page_at mid number) (start_of number) (fanned place (children (top depth) g.kids) fan.last (children (top depth) t.kids) (top depth t.last)) fan packed
       → IsPlanned old mid size number (suc depth) low high (edit (rows_of (suc depth) t)) (below_of (suc depth) t) free packed
-  plan_above mid fan g packed is =
+  plan_above about mid fan g packed is =
       let window : Row = (g.kids, g.last) in
       let s = framed h.frame window in
       let long = whole_mid mid window g.now_free g.moves g.lies number (page_at_mid mid fan g).has in
       plan_side old mid size number depth low high under.sized (below_of (suc depth) t) free (edit (rows_of (suc depth) t)) s (side_lies mid window g.now_free g.moves g.lies) (h.opening.fill window g.sorted)
-      (rows_with window g.rows_are) g.now_free g.has (side_moves mid window g.now_free g.moves g.lies) g.header long fan g.few
+      (rows_with about window g.rows_are) g.now_free g.has (side_moves mid window g.now_free g.moves g.lies) g.header long fan g.few
       (fanned place (children (top depth) g.kids) fan.last (children (top depth) t.kids) (top depth t.last))
       (ap (λ (n : ℕ). fanned place (children (top depth) g.kids) n (children (top depth) t.kids) (top depth t.last)) (sym g.last_is) ∙ sym (h.fan window)) packed is

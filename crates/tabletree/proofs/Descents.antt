@@ -1,5 +1,5 @@
 -- The way to a rowid, from a page of a tree on.
-use Rattle.std.proofs.Common.{◌≡◌, ◌≤◌, ◌<◌, ℕ, zero, suc, ℤ, pos, Bool, true, false, nat_eq, length, slice_index_or, IsTrue, List, [], ◌∷◌, map, Option, None, refl, sym, ap, subst, ◌∙◌, inl, arith}
+use Rattle.std.proofs.Common.{◌≡◌, ◌≤◌, ◌<◌, ℕ, zero, suc, ℤ, pos, Bool, true, false, nat_eq, length, slice_index_or, IsTrue, List, [], ◌∷◌, map, take, Option, None, refl, sym, ap, subst, ◌∙◌, inl, arith}
 use Rattle.std.proofs.lemmas.Grind.{common_steps}
 use Rattle.std.specs.Prelude.{Result, Ok, Err, MatchResult}
 use Rattle.sqlval.specs.declared.fault.Fault.{Fault}
@@ -12,22 +12,25 @@ use Rattle.treepage.specs.Reading.{NeverFall, below}
 use Rattle.packing.specs.declared.spreading.Packed.{Packed}
 use Rattle.forest.specs.Saying.{Says}
 use Rattle.forest.specs.Sides.{children, Parted}
-use Rattle.tabletree.specs.Growing.{IsUnder, IsEdited, Edits, IsChanged, IsLessened, IsDeep, IsWidened, PlansLeaf, CutsLeaf, Widens}
-use Rattle.tabletree.specs.Rows.{payload_at, IsLocal}
+use Rattle.tabletree.specs.Growing.{IsUnder, IsEdited, Edits, IsChanged, IsThereAt, IsDeep, IsWidened, PlansLeaf, Widens}
+use Rattle.tabletree.specs.Rows.{payload_at, with_row, with_changes, IsLocal}
+use Rattle.tabletree.specs.Runs.{IsFirst, IsNoRun, ChangesLeaf}
 use Rattle.tabletree.specs.Stepping.{before, HasRowid, IsStep, StepsFrom, child_at}
 use Rattle.tabletree.specs.Tree.{Held, Tree, top, rows_of, Rises, IsSorted}
+use Rattle.tabletree.specs.declared.changing.RowChange.{RowChange}
 use Rattle.tabletree.specs.declared.descending.Step.{Step}
 use Rattle.tabletree.specs.declared.descending.Step.TheVariants.{Found, Here, Down}
 use Rattle.tabletree.specs.declared.growing.Change.{Change}
 use Rattle.tabletree.specs.declared.growing.Change.TheVariants.{Still, Same, Spread}
 use Rattle.tabletree.proofs.Holes.{Kids, keys_of}
+use Rattle.tabletree.proofs.Locals.{local_wider, same_le, with_local}
 use Rattle.tabletree.proofs.LeafRows.{said_there, said_counted}
 use Rattle.tabletree.proofs.Orders.{ids_of, lt_le, found_there, not_there, same_ids, sorted_le}
 use Rattle.tabletree.proofs.Widening.{child_refused, above_still, above_same, acts_above}
 
 -- ---- the numbers of a page
 
-ids_rise : (low : ℤ) (rows : List Held) (high : ℤ) → Rises low rows high → NeverFall (ids_of rows)
+pub ids_rise : (low : ℤ) (rows : List Held) (high : ℤ) → Rises low rows high → NeverFall (ids_of rows)
 ids_rise low [] high h = tt
 ids_rise low (a ∷ []) high h = tt
 ids_rise low (a ∷ b ∷ rows) high h = (lt_le a.row.rowid b.row.rowid h.1.0, ids_rise a.row.rowid (b ∷ rows) high h.1)
@@ -110,15 +113,15 @@ step_here old new size number ways place row zero low t high free under steps re
 
     by : (result : Result Packed Fault) → PlansLeaf old new size number place row result
         → MatchResult result (λ packed. IsChanged old new size number ways row zero low t high free (Spread packed (nat_eq ways 0))) IsOutsideOrFull
-    by (Ok packed) plans = (is.0, deep_leaf ways, plans ways low t high free under is.0 is.1)
+    by (Ok packed) plans = (is.0, local_wider row.rowid row.rowid row.rowid high (with_row row) (same_le row.rowid) under.upto (with_local row), deep_leaf ways, plans ways low t high free under is.0 is.1)
     by (Err fault) plans = plans ways low t high free under is.0 is.1
 step_here old new size number ways place row (suc depth) low t high free under steps result plans = absurd (inner_step old size number ways row.rowid depth low t high free under (Ok (Here place)) steps)
 
--- where the row is there, the leaf gives way to packed pages without it
+-- where the row is there, the leaf gives way to packed pages
 pub step_cut : (old new : PageMap) (size number ways place : ℕ) (rowid : ℤ) (depth : ℕ) (low : ℤ) (t : Tree depth) (high : ℤ) (free : List ℕ) → IsUnder old size number ways rowid depth low t high free
-    → StepsFrom old size number rowid (Ok (Found place)) → (result : Result Packed Fault) → CutsLeaf old new size number place rowid result
-    → MatchResult result (λ packed. IsLessened old new size number ways rowid depth low t high free (Spread packed (nat_eq ways 0))) IsOutsideOrFull
-step_cut old new size number ways place rowid zero low t high free under steps result cuts = by result cuts
+    → StepsFrom old size number rowid (Ok (Found place)) → (changes : List RowChange) → IsFirst rowid changes → (result : Result (ℕ × Packed) Fault) → ChangesLeaf old new size number place changes result
+    → MatchResult result (λ done. IsEdited (IsNoRun done.0) IsThereAt old new size number ways rowid (with_changes (take done.0 changes)) depth low t high free (Spread done.1 (nat_eq ways 0))) IsOutsideOrFull
+step_cut old new size number ways place rowid zero low t high free under steps changes first result cuts = by result cuts
   where
     said : List (ℤ × Local)
     said = (under.lies).said
@@ -133,11 +136,11 @@ step_cut old new size number ways place rowid zero low t high free under steps r
     same d = (let there = said_there old size said t.rows place (pos 0, record { size = 0; bytes = [] }) d (under.lies).rows lt in
         sym (there.1).rowid ∙ is.1.same (pos 0, record { size = 0; bytes = [] }))
 
-    by : (result : Result Packed Fault) → CutsLeaf old new size number place rowid result
-        → MatchResult result (λ packed. IsLessened old new size number ways rowid zero low t high free (Spread packed (nat_eq ways 0))) IsOutsideOrFull
-    by (Ok packed) cuts = (leaf_found old size number ways rowid low t high free under place steps, deep_leaf ways, cuts ways low t high free under lt same)
-    by (Err fault) cuts = inl (cuts ways low t high free under lt same)
-step_cut old new size number ways place rowid (suc depth) low t high free under steps result cuts = absurd (inner_step old size number ways rowid depth low t high free under (Ok (Found place)) steps)
+    by : (result : Result (ℕ × Packed) Fault) → ChangesLeaf old new size number place changes result
+        → MatchResult result (λ done. IsEdited (IsNoRun done.0) IsThereAt old new size number ways rowid (with_changes (take done.0 changes)) zero low t high free (Spread done.1 (nat_eq ways 0))) IsOutsideOrFull
+    by (Ok (count, packed)) cuts = (let c = cuts ways rowid low t high free under first lt same in (leaf_found old size number ways rowid low t high free under place steps, c.0, deep_leaf ways, c.1))
+    by (Err fault) cuts = cuts ways rowid low t high free under first lt same
+step_cut old new size number ways place rowid (suc depth) low t high free under steps changes first result cuts = absurd (inner_step old size number ways rowid depth low t high free under (Ok (Found place)) steps)
 
 -- and where it isn't, there is none
 pub step_none : (old : PageMap) (size number ways place : ℕ) (rowid : ℤ) (depth : ℕ) (low : ℤ) (t : Tree depth) (high : ℤ) (free : List ℕ) → IsUnder old size number ways rowid depth low t high free
@@ -151,7 +154,7 @@ down_deep old size number ways place child rowid zero low t high free under step
 down_deep old size number ways place child rowid (suc depth) low t high free under steps none = (let le = under.shallow in omega (arith, le, none))
 
 -- what becomes of the child decides
-module _ (old mid : PageMap) (size number fewer place child : ℕ) (rowid : ℤ) (edit : List Entry → List Entry) (about : IsLocal rowid edit) (Skips Acts : Option (List ℕ) → Type 0) where
+module _ (old mid : PageMap) (size number fewer place child : ℕ) (rowid : ℤ) (edit : List Entry → List Entry) (Skips Acts : Option (List ℕ) → Type 0) where
   abbrev Under : (depth : ℕ) → ℤ → Tree depth → ℤ → List ℕ → Type 0
   Under depth low t high free = IsUnder old size number (suc fewer) rowid depth low t high free
 
@@ -166,10 +169,10 @@ module _ (old mid : PageMap) (size number fewer place child : ℕ) (rowid : ℤ)
 
       by : (result : Result Change Fault) → Edits Skips Acts old mid size child fewer rowid edit result
           → MatchResult result (λ change. ((packed : Packed) (deep : Bool) → change ≡ Spread packed deep → ⊥) → IsEdited Skips Acts old mid size number (suc fewer) rowid edit (suc depth) low t high free change) IsOutsideOrFull
-      by (Ok Still) changes = λ not. above_still old size number fewer rowid edit about depth low t high free under place child is.0 is.1 Skips Acts mid changes
-      by (Ok Same) changes = λ not. above_same old size number fewer rowid edit about depth low t high free under place child is.0 is.1 Skips Acts mid changes
+      by (Ok Still) changes = λ not. above_still old size number fewer rowid edit depth low t high free under place child is.0 is.1 Skips Acts mid changes
+      by (Ok Same) changes = λ not. above_same old size number fewer rowid edit depth low t high free under place child is.0 is.1 Skips Acts mid changes
       by (Ok (Spread packed deep)) changes = λ not. absurd (not packed deep refl)
-      by (Err fault) changes = child_refused old size number fewer rowid edit about depth low t high free under place child is.0 is.1 Skips Acts mid fault changes
+      by (Err fault) changes = child_refused old size number fewer rowid edit depth low t high free under place child is.0 is.1 Skips Acts mid fault changes
 
   -- where the child gives way to packed pages, what becomes of the page above is so
   pub down_spread : (new : PageMap) (depth : ℕ) (low : ℤ) (t : Tree depth) (high : ℤ) (free : List ℕ) → Under depth low t high free
@@ -180,14 +183,14 @@ module _ (old mid : PageMap) (size number fewer place child : ℕ) (rowid : ℤ)
       absurd (leaf_step old size number (suc fewer) rowid low t high free under (Ok (Down place child)) steps)
   down_spread new (suc depth) low t high free under steps packed deep changes result widens =
       let is = inner_down old size number (suc fewer) rowid depth low t high free under place child steps in
-      by result (acts_above old size number fewer rowid edit about depth low t high free under place child is.0 is.1 Skips Acts mid packed deep changes)
-      (widens old fewer rowid edit about depth low t high free under is.0 is.1 (λ depth low t high free under. (let c = changes depth low t high free under in (c.1, c.2))))
+      by result (acts_above old size number fewer rowid edit depth low t high free under place child is.0 is.1 Skips Acts mid packed deep changes)
+      (widens old fewer rowid edit depth low t high free under is.0 is.1 (λ depth low t high free under. (let c = changes depth low t high free under in (c.1, c.2, c.3))))
     where
-      by : (result : Result Change Fault) → Acts (payload_at rowid (rows_of (suc depth) t)) → MatchResult result (IsWidened old new size number (suc fewer) edit (suc depth) low t high free) IsOutsideOrFull
+      by : (result : Result Change Fault) → Acts (payload_at rowid (rows_of (suc depth) t)) × IsLocal rowid high edit → MatchResult result (IsWidened old new size number (suc fewer) edit (suc depth) low t high free) IsOutsideOrFull
           → MatchResult result (IsEdited Skips Acts old new size number (suc fewer) rowid edit (suc depth) low t high free) IsOutsideOrFull
       by (Ok Still) acts is = absurd is
-      by (Ok Same) acts is = (acts, is.0)
-      by (Ok (Spread packed deep)) acts is = (acts, is.0, is.1)
+      by (Ok Same) acts is = (acts.0, acts.1, is.0)
+      by (Ok (Spread packed deep)) acts is = (acts.0, acts.1, is.0, is.1)
       by (Err fault) acts is = is
 
 -- ---- since the first call

@@ -1,5 +1,5 @@
 -- What a refusal says where a call below was refused.
-use Rattle.std.proofs.Common.{◌≡◌, ℕ, ℤ, Bool, true, false, List, [], ◌∷◌, length, map, inl, refl, sym, subst, arith}
+use Rattle.std.proofs.Common.{◌≡◌, ℕ, ℤ, Bool, true, false, List, [], ◌∷◌, length, map, Option, inl, refl, sym, subst, arith}
 use Rattle.std.specs.Global.{Vec}
 use Rattle.std.specs.Prelude.{Result, Ok, Err, MatchResult, IsErrAnd}
 use Rattle.sqlval.specs.declared.fault.Fault.{Fault}
@@ -10,7 +10,7 @@ use Rattle.pages.specs.Map.{PageMap}
 use Rattle.packing.specs.declared.spreading.Packed.{Packed}
 use Rattle.forest.specs.Storing.{cells_of}
 use Rattle.forest.specs.declared.storing.Fan.{Fan}
-use Rattle.tabletree.specs.Growing.{IsPlanned, IsChanged, IsLessened, IsWidened}
+use Rattle.tabletree.specs.Growing.{IsPlanned, IsChanged, IsEdited, IsWidened}
 use Rattle.tabletree.specs.Tree.{Tree}
 use Rattle.tabletree.specs.declared.growing.Change.{Change}
 use Rattle.tabletree.specs.declared.growing.Change.TheVariants.{Still, Same, Spread}
@@ -60,14 +60,14 @@ pub changed_or_ways : (old new : PageMap) (size number ways other : ℕ) (row : 
 changed_or_ways old new size number ways other row depth low t high free result same is =
     subst (λ (n : ℕ). MatchResult result (IsChanged old new size number n row depth low t high free) IsOutsideOrFull) same is
 
-pub lessened_ways : (old new : PageMap) (size number ways other : ℕ) (rowid : ℤ) (depth : ℕ) (low : ℤ) (t : Tree depth) (high : ℤ) (free : List ℕ) (change : Change) → ways ≡ other
-    → IsLessened old new size number ways rowid depth low t high free change → IsLessened old new size number other rowid depth low t high free change
-lessened_ways old new size number ways other rowid depth low t high free change same is = subst (λ (n : ℕ). IsLessened old new size number n rowid depth low t high free change) same is
+pub edited_ways : (Skips Acts : Option (List ℕ) → Type 0) (old new : PageMap) (size number ways other : ℕ) (rowid : ℤ) (edit : List Entry → List Entry) (depth : ℕ) (low : ℤ) (t : Tree depth) (high : ℤ) (free : List ℕ) (change : Change) → ways ≡ other
+    → IsEdited Skips Acts old new size number ways rowid edit depth low t high free change → IsEdited Skips Acts old new size number other rowid edit depth low t high free change
+edited_ways Skips Acts old new size number ways other rowid edit depth low t high free change same is = subst (λ (n : ℕ). IsEdited Skips Acts old new size number n rowid edit depth low t high free change) same is
 
-pub lessened_or_ways : (old new : PageMap) (size number ways other : ℕ) (rowid : ℤ) (depth : ℕ) (low : ℤ) (t : Tree depth) (high : ℤ) (free : List ℕ) (result : Result Change Fault) → ways ≡ other
-    → MatchResult result (IsLessened old new size number ways rowid depth low t high free) IsOutsideOrFull → MatchResult result (IsLessened old new size number other rowid depth low t high free) IsOutsideOrFull
-lessened_or_ways old new size number ways other rowid depth low t high free result same is =
-    subst (λ (n : ℕ). MatchResult result (IsLessened old new size number n rowid depth low t high free) IsOutsideOrFull) same is
+pub edited_or_ways : (Skips Acts : Option (List ℕ) → Type 0) (old new : PageMap) (size number ways other : ℕ) (rowid : ℤ) (edit : List Entry → List Entry) (depth : ℕ) (low : ℤ) (t : Tree depth) (high : ℤ) (free : List ℕ) (result : Result Change Fault) → ways ≡ other
+    → MatchResult result (IsEdited Skips Acts old new size number ways rowid edit depth low t high free) IsOutsideOrFull → MatchResult result (IsEdited Skips Acts old new size number other rowid edit depth low t high free) IsOutsideOrFull
+edited_or_ways Skips Acts old new size number ways other rowid edit depth low t high free result same is =
+    subst (λ (n : ℕ). MatchResult result (IsEdited Skips Acts old new size number n rowid edit depth low t high free) IsOutsideOrFull) same is
 
 -- ---- at the root
 

@@ -1,5 +1,6 @@
 -- The child of an interior page that has a rowid's place: what stands beside it, and what can stand in its place.
 use Rattle.std.proofs.Common.{◌≡◌, ◌≤◌, ◌+◌, ℕ, suc, ℤ, ◌<ℤ◌, ◌≤ℤ◌, List, [], ◌∷◌, ◌++◌, length, map, refl, sym, ap, subst, ◌∙◌, inl, inr, arith}
+use Rattle.std.proofs.lemmas.Int.{ints}
 use Rattle.page.specs.Leaf.{Entry}
 use Rattle.pages.specs.Counting.{occurs}
 use Rattle.pages.proofs.Moving.{occurs_append}
@@ -10,7 +11,7 @@ use Rattle.forest.proofs.Windows.{each_join}
 use Rattle.tabletree.specs.Fanning.{fanned}
 use Rattle.tabletree.specs.Stepping.{child_at}
 use Rattle.tabletree.specs.Tree.{Tree, IsSorted, rows_of, pages_of, top}
-use Rattle.tabletree.proofs.Orders.{AreLess, AreGreater, all_append, less_or_not, sorted_less, kids_more}
+use Rattle.tabletree.proofs.Orders.{AreLess, AreGreater, all_append, less_or_not, sorted_less, sorted_le, kids_more}
 
 abbrev pub Kids : ℕ → Type 0
 Kids depth = List (Tree depth × ℤ)
@@ -38,6 +39,8 @@ pub record IsHole (depth : ℕ) (rowid low : ℤ) (kids : Kids depth) (last : Tr
   pub opening : IsOpening (IsSorted depth) low frame high from to
   pub left : AreLess rowid (left_of (rows_of depth) nothing frame)
   pub right : AreGreater rowid (right_of (rows_of depth) nothing frame)
+  pub beyond : AreGreater to (right_of (rows_of depth) nothing frame)
+  pub to_le : to ≤ℤ high
   pub child : child_at place (children (top depth) kids) (top depth last) ≡ top depth tree
   pub fan : (window : Side (Tree depth) ℤ)
       → seen (top depth) (framed frame window) ≡ fanned place (children (top depth) window.0) (top depth window.1) (children (top depth) kids) (top depth last)
@@ -101,6 +104,9 @@ parted_join P low (kid ∷ kids) t key rest last high (h, r) k = (h, parted_join
 
 -- ---- the hole
 
+same_le : (a : ℤ) → a ≤ℤ a
+same_le a = omega (arith, ints)
+
 hole_last : (depth : ℕ) (rowid low : ℤ) (last : Tree depth) (high : ℤ) → low <ℤ rowid → rowid ≤ℤ high → IsSorted depth low last high → IsHole depth rowid low [] last high 0
 hole_last depth rowid low last high above upto sorted = record {
   frame = ends [];
@@ -114,6 +120,8 @@ hole_last depth rowid low last high above upto sorted = record {
   opening = record { fill = λ window parted. parted };
   left = tt;
   right = tt;
+  beyond = tt;
+  to_le = same_le high;
   child = refl;
   fan = λ window. refl;
   within = omega arith;
@@ -137,6 +145,8 @@ hole_here depth rowid low kid kids last high above upto sorted more =
       opening = record { fill = λ window parted. parted_join (IsSorted depth) low window.0 window.1 kid.1 kids last high parted more };
       left = tt;
       right = kids_more depth rowid kid.1 kids last high upto more;
+      beyond = kids_more depth kid.1 kid.1 kids last high (same_le kid.1) more;
+      to_le = sorted_le (suc depth) kid.1 (record { page = 0; kids = kids; last = last }) high more;
       child = refl;
       fan = λ window. ap (λ (cells : List (ℕ × ℤ)). (cells, top depth last)) (children_append (top depth) window.0 ((window.1, kid.1) ∷ kids));
       within = omega arith;
@@ -161,6 +171,8 @@ hole_behind depth rowid low kid kids last high place lt sorted r =
       left = subst (λ (rows : List Entry). AreLess rowid rows) (sym (front_left (rows_of depth) kid r.frame))
           (all_append (λ (row : Entry). row.rowid <ℤ rowid) (rows_of depth kid.0) (left_of (rows_of depth) nothing r.frame) (sorted_less depth rowid low kid.0 kid.1 lt sorted) r.left);
       right = subst (λ (rows : List Entry). AreGreater rowid rows) (sym (front_right (rows_of depth) kid r.frame)) r.right;
+      beyond = subst (λ (rows : List Entry). AreGreater r.to rows) (sym (front_right (rows_of depth) kid r.frame)) r.beyond;
+      to_le = r.to_le;
       child = r.child;
       fan = λ window. ap (λ (s : Side (Tree depth) ℤ). seen (top depth) s) (front_framed kid r.frame window)
           ∙ ap (λ (s : Side ℕ ℤ). behind ((top depth kid.0, kid.1) ∷ []) s) (r.fan window);

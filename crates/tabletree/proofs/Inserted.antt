@@ -39,7 +39,7 @@ module _ (old : PageMap) (size root : ℕ) (rowid : ℤ) (edit : List Entry → 
       let c = changed new Same changes in (
         subst Acts found_same c.0,
         subst (λ (all : List Entry). BecomesRows old new size root (edit all) used free) rows_are
-            (put_becomes old size root rowid rows used free is new (edit (rows_of is.tree.depth is.tree.tree)) c.1),
+            (put_becomes old size root rowid rows used free is new (edit (rows_of is.tree.depth is.tree.tree)) c.2),
       )
 
   module _ (mid : PageMap) (packed : Packed) (deep : Bool) (changes : Edits Skips Acts old mid size root 19 rowid edit (Ok (Spread packed deep))) where
@@ -51,7 +51,7 @@ module _ (old : PageMap) (size root : ℕ) (rowid : ℤ) (edit : List Entry → 
         → MatchResult result (λ done. IsTreeEdited Skips Acts old new size root rowid edit rows used free true) IsOutsideOrFull
     edited_spread new result stores =
         by result (stores old rowid rows (edit (rows_of is.tree.depth is.tree.tree)) used free is (bounds old size root rowid rows used free is).less (bounds old size root rowid rows used free is).more
-        (root_under old size root rowid rows used free is) spread.1 spread.2)
+        (root_under old size root rowid rows used free is) spread.2 spread.3)
       where
         by : (result : Result ⊤ Fault) → MatchResult result (λ done. BecomesRows old new size root (edit (rows_of is.tree.depth is.tree.tree)) used free) IsOutsideOrFull
             → MatchResult result (λ done. IsTreeEdited Skips Acts old new size root rowid edit rows used free true) IsOutsideOrFull

@@ -26,12 +26,13 @@ use Rattle.tabletree.proofs.Branches.{under_child, child_far, payload_same, put_
 use Rattle.tabletree.proofs.Few.{large_size}
 use Rattle.tabletree.proofs.Growth.{IsGrown, grown, planned_after, can_store}
 use Rattle.tabletree.proofs.Holes.{keys_of, hole, IsHole}
+use Rattle.tabletree.proofs.Locals.{local_wider, same_le}
 use Rattle.tabletree.proofs.Putting.{usual}
 
 deeper : (ways depth : ℕ) (deep : Bool) → IsDeep ways depth deep → IsDeep (suc ways) (suc depth) deep
 deeper ways depth deep is = record { full = λ e. (let le = is.full e in omega (arith, le)); short = λ e. (let lt = is.short e in omega (arith, lt)) }
 
-module _ (old : PageMap) (size number ways : ℕ) (rowid : ℤ) (edit : List Entry → List Entry) (about : IsLocal rowid edit) (depth : ℕ) (low : ℤ) (t : Tree (suc depth)) (high : ℤ) (free : List ℕ)
+module _ (old : PageMap) (size number ways : ℕ) (rowid : ℤ) (edit : List Entry → List Entry) (depth : ℕ) (low : ℤ) (t : Tree (suc depth)) (high : ℤ) (free : List ℕ)
     (under : IsUnder old size number (suc ways) rowid (suc depth) low t high free) (place child : ℕ)
     (place_is : place ≡ below rowid (keys_of t.kids)) (child_is : child ≡ child_at place (children (top depth) t.kids) (top depth t.last)) where
   h : IsHole depth rowid low t.kids t.last high (below rowid (keys_of t.kids))
@@ -44,7 +45,10 @@ module _ (old : PageMap) (size number ways : ℕ) (rowid : ℤ) (edit : List Ent
   child_same = child_is ∙ ap (λ (n : ℕ). child_at n (children (top depth) t.kids) (top depth t.last)) place_is ∙ h.child
 
   under_now : IsUnder old size (top depth h.tree) ways rowid depth h.from h.tree h.to free
-  under_now = under_child old size number ways rowid edit about depth low t high free under at h
+  under_now = under_child old size number ways rowid edit depth low t high free under at h
+
+  wider : IsLocal rowid h.to edit → IsLocal rowid high edit
+  wider is = local_wider rowid rowid h.to high edit (same_le rowid) h.to_le is
 
   -- what became of the page, where this became of the child
   module _ (Skips Acts : Option (List ℕ) → Type 0) where
@@ -60,7 +64,7 @@ module _ (old : PageMap) (size number ways : ℕ) (rowid : ℤ) (edit : List Ent
     child_refused mid fault becomes = child_changed mid (Err fault) becomes
 
     same_found : payload_at rowid (rows_of depth h.tree) ≡ payload_at rowid (rows_of (suc depth) t)
-    same_found = sym (payload_same old size number ways rowid edit about depth low t high free under at h)
+    same_found = sym (payload_same old size number ways rowid edit depth low t high free under at h)
 
     -- where nothing changed, or the child stays, the page stays
     pub above_still : (mid : PageMap) → Becomes mid (Ok Still) → IsEdited Skips Acts old mid size number (suc ways) rowid edit (suc depth) low t high free Still
@@ -69,20 +73,20 @@ module _ (old : PageMap) (size number ways : ℕ) (rowid : ℤ) (edit : List Ent
     pub above_same : (mid : PageMap) → Becomes mid (Ok Same) → IsEdited Skips Acts old mid size number (suc ways) rowid edit (suc depth) low t high free Same
     above_same mid becomes =
         let is = child_changed mid (Ok Same) becomes in
-        (subst Acts same_found is.0, put_above old size number ways rowid edit about depth low t high free under at h mid is.1)
+        (subst Acts same_found is.0, wider is.1, put_above old size number ways rowid edit depth low t high free under at h is.1 mid is.2)
 
-    pub acts_above : (mid : PageMap) (packed : Packed) (deep : Bool) → Becomes mid (Ok (Spread packed deep)) → Acts (payload_at rowid (rows_of (suc depth) t))
-    acts_above mid packed deep becomes = (let is = child_changed mid (Ok (Spread packed deep)) becomes in subst Acts same_found is.0)
+    pub acts_above : (mid : PageMap) (packed : Packed) (deep : Bool) → Becomes mid (Ok (Spread packed deep)) → Acts (payload_at rowid (rows_of (suc depth) t)) × IsLocal rowid high edit
+    acts_above mid packed deep becomes = (let is = child_changed mid (Ok (Spread packed deep)) becomes in (subst Acts same_found is.0, wider is.1))
 
   module _ (mid : PageMap) (packed : Packed) (deep : Bool) (gives : GivesWay old mid size child ways rowid edit packed deep) where
-    spread : IsDeep ways depth deep × IsPlanned old mid size (top depth h.tree) depth h.from h.to (edit (rows_of depth h.tree)) (below_of depth h.tree) free packed
+    spread : IsLocal rowid h.to edit × IsDeep ways depth deep × IsPlanned old mid size (top depth h.tree) depth h.from h.to (edit (rows_of depth h.tree)) (below_of depth h.tree) free packed
     spread = subst (λ (n : ℕ). GivesWay old mid size n ways rowid edit packed deep) child_same gives depth h.from h.tree h.to free under_now
 
     abbrev plan : IsPlanned old mid size (top depth h.tree) depth h.from h.to (edit (rows_of depth h.tree)) (below_of depth h.tree) free packed
-    plan = spread.1
+    plan = spread.2
 
     pub still_deep : IsDeep (suc ways) (suc depth) deep
-    still_deep = deeper ways depth deep spread.0
+    still_deep = deeper ways depth deep spread.1
 
     -- the packed pages are stored
     store_or : (new : PageMap) (result : Result Fan Fault) → Stores mid new size (child ∷ []) packed result
@@ -90,7 +94,7 @@ module _ (old : PageMap) (size number ways : ℕ) (rowid : ℤ) (edit : List Ent
     store_or new result stores = by result (subst (λ (n : ℕ). Stores mid new size (n ∷ []) packed result) child_same stores)
       where
         far : 1 < top depth h.tree
-        far = child_far old size number ways rowid edit about depth low t high free under at h
+        far = child_far old size number ways rowid edit depth low t high free under at h
 
         by : (result : Result Fan Fault) → Stores mid new size (top depth h.tree ∷ []) packed result → MatchResult result (IsStored mid new size (top depth h.tree ∷ []) plan.now_free packed) IsOutsideOrFull
         by (Ok fan) stores =
@@ -110,17 +114,17 @@ module _ (old : PageMap) (size number ways : ℕ) (rowid : ℤ) (edit : List Ent
     module _ (new : PageMap) (fan : Fan) (stores : Stores mid new size (child ∷ []) packed (Ok fan)) where
       g : IsGrown old new size (top depth h.tree) depth h.from h.to (edit (rows_of depth h.tree)) (pages_of depth h.tree) free fan
       g = grown old mid new size (top depth h.tree) ways rowid depth h.from h.tree h.to free under_now (edit (rows_of depth h.tree)) packed plan fan
-          (child_far old size number ways rowid edit about depth low t high free under at h) (store_or new (Ok fan) stores)
+          (child_far old size number ways rowid edit depth low t high free under at h) (store_or new (Ok fan) stores)
 
       -- one page took the child's place
       pub widened_same : cells_of fan ≡ [] → IsWidened old new size number (suc ways) edit (suc depth) low t high free Same
       widened_same none = (
-        put_above old size number ways rowid edit about depth low t high free under at h new (grown_alone old size number ways rowid edit about depth low t high free under at h new fan g none),
-        page_stays old size number ways rowid edit about depth low t high free under at h new (g.kids, g.last) g.now_free g.moves g.lies,
+        put_above old size number ways rowid edit depth low t high free under at h spread.0 new (grown_alone old size number ways rowid edit depth low t high free under at h new fan g none),
+        page_stays old size number ways rowid edit depth low t high free under at h new (g.kids, g.last) g.now_free g.moves g.lies,
       )
 
       page_says : Says new number (Keys (children (top depth) t.kids) (top depth t.last))
-      page_says = page_at_mid old size number ways rowid edit about depth low t high free under at h new fan g
+      page_says = page_at_mid old size number ways rowid edit depth low t high free under at h new fan g
 
       pub page_there : IsThere new size number
       page_there = record { has = page_says.has; whole = (g.moves).whole size (under.free_are).whole number page_says.has }
@@ -135,8 +139,8 @@ module _ (old : PageMap) (size number ways : ℕ) (rowid : ℤ) (edit : List Ent
           by : (result : Result Packed Fault) → Fans (page_at new number) (start_of number) at fan result
               → MatchResult result (λ p. IsWidened old new size number (suc ways) edit (suc depth) low t high free (Spread p deep)) (λ fault. fault ≡ Memory)
           by (Ok p) fans = (
-            deeper ways depth deep spread.0,
-            plan_above old size number ways rowid edit about depth low t high free under at h new fan g p
+            deeper ways depth deep spread.1,
+            plan_above old size number ways rowid edit depth low t high free under at h spread.0 new fan g p
                 (fans (children (top depth) t.kids) (children (top depth) g.kids) (top depth t.last) page_says.node_is
                 (usual size number (page_at new number) (large_size size under.sized) (page_there.whole)) h.within g.near g.cells_are),
           )

@@ -1,5 +1,5 @@
 -- What calls do with a table's tree: it is a map from rowids to payloads.
-use Rattle.std.specs.Prelude.{◌≡◌, ◌⊎◌, ◌≤◌, ◌+◌, ℕ, ℤ, Bool, true, false, List, [], ◌∷◌, ◌++◌, Option, Some, None, Result, MatchResult}
+use Rattle.std.specs.Prelude.{◌≡◌, ◌⊎◌, ◌≤◌, ◌+◌, ℕ, ℤ, Bool, true, false, List, [], ◌∷◌, ◌++◌, Option, Some, None, Result, MatchResult, ⊤}
 use Rattle.sqlval.specs.Faults.{IsOutside}
 use Rattle.sqlval.specs.PageSizes.{IsPageSize}
 use Rattle.sqlval.specs.declared.fault.Fault.{Fault}
@@ -8,8 +8,9 @@ use Rattle.pages.specs.Calls.{IsOutsideOrFull}
 use Rattle.pages.specs.Counting.{occurs, Moves}
 use Rattle.pages.specs.Map.{PageMap, AreWhole}
 use Rattle.freelist.specs.Calls.{AreFree, KeepsHeader}
-use Rattle.tabletree.specs.Rows.{payload_at, with_row, without_row, last_rowid}
+use Rattle.tabletree.specs.Rows.{payload_at, with_row, without_row, with_changes, last_rowid}
 use Rattle.tabletree.specs.Tree.{IsTableTree}
+use Rattle.tabletree.specs.declared.changing.RowChange.{RowChange}
 
 -- a tree of these rows, and free pages beside it, none of them in it; page 1 is at most its root
 pub record Stands (map : PageMap) (size root : ℕ) (rows : List Entry) (used free : List ℕ) : Type 0 where
@@ -58,22 +59,11 @@ abbrev pub IsInserted : PageMap → PageMap → ℕ → ℕ → Entry → List E
 IsInserted old new size root row =
     IsTreeEdited (λ found. (found ≡ None) → ⊥) (λ found. found ≡ None) old new size root row.rowid (with_row row)
 
--- a row was taken out; or there is none of its rowid, and nothing changed
-abbrev pub IsTakenOut : PageMap → PageMap → ℕ → ℕ → ℤ → List Entry → List ℕ → List ℕ → Bool → Type 0
-IsTakenOut old new size root rowid =
-    IsTreeEdited (λ found. found ≡ None) (λ found. (found ≡ None) → ⊥) old new size root rowid (without_row rowid)
-
 -- Where a tree stands, a row is put into it;
 -- or memory was short, a disk's call failed, or there are as many pages as there may be.
 abbrev pub InsertsRow : PageMap → PageMap → ℕ → ℕ → Entry → Result Bool Fault → Type 0
 InsertsRow old new size root row result = (rows : List Entry) (used free : List ℕ) → Stands old size root rows used free
     → MatchResult result (IsInserted old new size root row rows used free) IsOutsideOrFull
-
--- Where a tree stands, a row is taken out of it;
--- or memory was short, a disk's call failed, or there are as many pages as there may be.
-abbrev pub TakesRow : PageMap → PageMap → ℕ → ℕ → ℤ → Result Bool Fault → Type 0
-TakesRow old new size root rowid result = (rows : List Entry) (used free : List ℕ) → Stands old size root rows used free
-    → MatchResult result (IsTakenOut old new size root rowid rows used free) IsOutsideOrFull
 
 -- The row was taken out; without rows the tree is its root alone. Or there is none of the rowid, and nothing changed.
 abbrev pub IsRemoved : PageMap → PageMap → ℕ → ℕ → ℤ → List Entry → List ℕ → List ℕ → Bool → Type 0
@@ -88,14 +78,8 @@ abbrev pub RemovesRow : PageMap → PageMap → ℕ → ℕ → ℤ → Result B
 RemovesRow old new size root rowid result = (rows : List Entry) (used free : List ℕ) → Stands old size root rows used free
     → MatchResult result (IsRemoved old new size root rowid rows used free) IsOutsideOrFull
 
--- the row's payload was replaced; or there is none of its rowid, and nothing changed
-abbrev pub IsReplaced : PageMap → PageMap → ℕ → ℕ → Entry → List Entry → List ℕ → List ℕ → Bool → Type 0
-IsReplaced old new size root row rows used free true =
-    ((payload_at row.rowid rows ≡ None) → ⊥) × BecomesRows old new size root (with_row row rows) used free
-IsReplaced old new size root row rows used free false = (payload_at row.rowid rows ≡ None) × (new ≡ old)
-
--- Where a tree stands, a row gets another payload;
+-- Where a tree stands, its rows are changed one after another;
 -- or memory was short, a disk's call failed, or there are as many pages as there may be.
-abbrev pub ReplacesRow : PageMap → PageMap → ℕ → ℕ → Entry → Result Bool Fault → Type 0
-ReplacesRow old new size root row result = (rows : List Entry) (used free : List ℕ) → Stands old size root rows used free
-    → MatchResult result (IsReplaced old new size root row rows used free) IsOutsideOrFull
+abbrev pub ChangesRows : PageMap → PageMap → ℕ → ℕ → List RowChange → Result ⊤ Fault → Type 0
+ChangesRows old new size root changes result = (rows : List Entry) (used free : List ℕ) → Stands old size root rows used free
+    → MatchResult result (λ done. BecomesRows old new size root (with_changes changes rows) used free) IsOutsideOrFull

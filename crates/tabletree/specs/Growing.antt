@@ -1,9 +1,8 @@
 -- How a row is put into a table's tree or taken out of it: what becomes of the page at the top of a subtree.
 use Rattle.std.specs.Prelude.{◌≡◌, ◌≤◌, ◌<◌, ◌+◌, ℕ, zero, suc, ℤ, ◌<ℤ◌, ◌≤ℤ◌, Bool}
-use Rattle.std.specs.Prelude.{true, false, List, [], ◌∷◌, length, map, take, slice_index_or, Option, None, Result, MatchResult}
+use Rattle.std.specs.Prelude.{true, false, List, [], ◌∷◌, length, map, take, Option, None, Result, MatchResult}
 use Rattle.std.specs.List.{AllByRecursion, flat_map}
 use Rattle.sqlval.specs.declared.fault.Fault.{Fault}
-use Rattle.sqlval.specs.Faults.{IsOutside}
 use Rattle.sqlval.specs.PageSizes.{IsPageSize}
 use Rattle.page.specs.Leaf.{Entry}
 use Rattle.pages.specs.Calls.{IsOutsideOrFull}
@@ -17,9 +16,9 @@ use Rattle.packing.specs.Packing.{IsKey, images, divider_bytes}
 use Rattle.packing.specs.declared.spreading.Packed.{Packed}
 use Rattle.packing.specs.declared.spreading.Piece.{Piece}
 use Rattle.forest.specs.Sides.{Each, Parted, children, each_of, nothing}
-use Rattle.tabletree.specs.Rows.{payload_at, with_row, without_row, IsLocal}
+use Rattle.tabletree.specs.Rows.{payload_at, with_row, IsLocal}
 use Rattle.tabletree.specs.Stepping.{child_at}
-use Rattle.tabletree.specs.Tree.{Held, IsHeldAs, Leaf, Tree, top, rows_of, pages_of, IsSorted, Lies}
+use Rattle.tabletree.specs.Tree.{IsHeldAs, Leaf, Tree, top, rows_of, pages_of, IsSorted, Lies}
 use Rattle.tabletree.specs.declared.growing.Change.{Change}
 use Rattle.tabletree.specs.declared.growing.Change.TheVariants.{Still, Same, Spread}
 
@@ -100,15 +99,16 @@ pub record IsDeep (ways depth : ℕ) (deep : Bool) : Type 0 where
   pub full : deep ≡ true → ways ≤ depth
   pub short : deep ≡ false → depth < ways
 
--- What became of a page in whose tree rows were changed about a rowid: nothing changed; or the tree under the page has the changed rows; or
+-- What became of a page in whose tree rows were changed from a rowid on: nothing changed; or the tree under the page has the changed rows; or
 -- packed pages have to take its place. What was looked up of the rowid is so in the first case, and so in the others.
 abbrev pub IsEdited : (Option (List ℕ) → Type 0) → (Option (List ℕ) → Type 0) → PageMap → PageMap → ℕ → ℕ → ℕ → ℤ → (List Entry → List Entry)
     → (depth : ℕ) → ℤ → Tree depth → ℤ → List ℕ → Change → Type 0
 IsEdited Skips Acts old new size number ways rowid edit depth low t high free Still = Skips (payload_at rowid (rows_of depth t)) × (new ≡ old)
 IsEdited Skips Acts old new size number ways rowid edit depth low t high free Same =
-    Acts (payload_at rowid (rows_of depth t)) × IsPut old new size number depth low high (edit (rows_of depth t)) (pages_of depth t) free
+    Acts (payload_at rowid (rows_of depth t)) × IsLocal rowid high edit
+    × IsPut old new size number depth low high (edit (rows_of depth t)) (pages_of depth t) free
 IsEdited Skips Acts old new size number ways rowid edit depth low t high free (Spread packed deep) =
-    Acts (payload_at rowid (rows_of depth t)) × IsDeep ways depth deep
+    Acts (payload_at rowid (rows_of depth t)) × IsLocal rowid high edit × IsDeep ways depth deep
     × IsPlanned old new size number depth low high (edit (rows_of depth t)) (below_of depth t) free packed
 
 -- there is a row
@@ -123,10 +123,6 @@ IsNotAt found = found ≡ None
 abbrev pub IsChanged : PageMap → PageMap → ℕ → ℕ → ℕ → Entry → (depth : ℕ) → ℤ → Tree depth → ℤ → List ℕ → Change → Type 0
 IsChanged old new size number ways row = IsEdited IsThereAt IsNotAt old new size number ways row.rowid (with_row row)
 
--- a row was taken out; or there is none of its rowid, and nothing changed
-abbrev pub IsLessened : PageMap → PageMap → ℕ → ℕ → ℕ → ℤ → (depth : ℕ) → ℤ → Tree depth → ℤ → List ℕ → Change → Type 0
-IsLessened old new size number ways rowid = IsEdited IsNotAt IsThereAt old new size number ways rowid (without_row rowid)
-
 -- where a tree stands under a page, this becomes of it; or memory was short, a disk's call failed, or there are as many pages as
 -- there may be
 abbrev pub Edits : (Option (List ℕ) → Type 0) → (Option (List ℕ) → Type 0) → PageMap → PageMap → ℕ → ℕ → ℕ → ℤ → (List Entry → List Entry) → Result Change Fault → Type 0
@@ -138,10 +134,6 @@ Edits Skips Acts old new size number ways rowid edit result = (depth : ℕ) (low
 abbrev pub Changes : PageMap → PageMap → ℕ → ℕ → ℕ → Entry → Result Change Fault → Type 0
 Changes old new size number ways row = Edits IsThereAt IsNotAt old new size number ways row.rowid (with_row row)
 
--- where a tree stands under a page, a row is taken out of it, or there is none
-abbrev pub Lessens : PageMap → PageMap → ℕ → ℕ → ℕ → ℤ → Result Change Fault → Type 0
-Lessens old new size number ways rowid = Edits IsNotAt IsThereAt old new size number ways rowid (without_row rowid)
-
 -- where a leaf has no row of the rowid, and the place is that of the row, packed pages have to take its place
 abbrev pub PlansLeaf : PageMap → PageMap → ℕ → ℕ → ℕ → Entry → Result Packed Fault → Type 0
 PlansLeaf old new size number place row result = (ways : ℕ) (low : ℤ) (t : Leaf) (high : ℤ) (free : List ℕ)
@@ -149,20 +141,14 @@ PlansLeaf old new size number place row result = (ways : ℕ) (low : ℤ) (t : L
     → place ≡ below row.rowid (map (λ held. held.row.rowid) t.rows)
     → MatchResult result (IsPlanned old new size number zero low high (with_row row (rows_of zero t)) (below_of zero t) free) IsOutsideOrFull
 
--- where a leaf has a row of the rowid at this place, packed pages have to take its place
-abbrev pub CutsLeaf : PageMap → PageMap → ℕ → ℕ → ℕ → ℤ → Result Packed Fault → Type 0
-CutsLeaf old new size number place rowid result = (ways : ℕ) (low : ℤ) (t : Leaf) (high : ℤ) (free : List ℕ)
-    → IsUnder old size number ways rowid zero low t high free → place < length t.rows
-    → ((d : Held) → (slice_index_or t.rows place d).row.rowid ≡ rowid)
-    → MatchResult result (IsPlanned old new size number zero low high (without_row rowid (rows_of zero t)) (below_of zero t) free) IsOutside
-
 -- ---- the page above
 
 -- where a tree stands under a page, packed pages have to take its place, with changed rows
 abbrev pub GivesWay : PageMap → PageMap → ℕ → ℕ → ℕ → ℤ → (List Entry → List Entry) → Packed → Bool → Type 0
 GivesWay old new size number ways rowid edit packed deep = (depth : ℕ) (low : ℤ) (t : Tree depth) (high : ℤ) (free : List ℕ)
     → IsUnder old size number ways rowid depth low t high free
-    → IsDeep ways depth deep × IsPlanned old new size number depth low high (edit (rows_of depth t)) (below_of depth t) free packed
+    → IsLocal rowid high edit × IsDeep ways depth deep
+    × IsPlanned old new size number depth low high (edit (rows_of depth t)) (below_of depth t) free packed
 
 -- the tree under a page has changed rows, and the page is as it was; or packed pages have to take its place
 abbrev pub IsWidened : PageMap → PageMap → ℕ → ℕ → ℕ → (List Entry → List Entry) → (depth : ℕ) → ℤ → Tree depth → ℤ → List ℕ → Change → Type 0
@@ -175,7 +161,7 @@ IsWidened old new size number ways edit depth low t high free (Spread packed dee
 -- where packed pages have to take the place of a child, this becomes of the page above
 abbrev pub Widens : PageMap → PageMap → ℕ → ℕ → ℕ → ℕ → Packed → Bool → Result Change Fault → Type 0
 Widens mid new size number place child packed deep result =
-    (old : PageMap) (ways : ℕ) (rowid : ℤ) (edit : List Entry → List Entry) (about : IsLocal rowid edit)
+    (old : PageMap) (ways : ℕ) (rowid : ℤ) (edit : List Entry → List Entry)
     (depth : ℕ) (low : ℤ) (t : Tree (suc depth)) (high : ℤ) (free : List ℕ)
     → IsUnder old size number (suc ways) rowid (suc depth) low t high free
     → place ≡ below rowid (map (λ kid. kid.1) t.kids) → child ≡ child_at place (children (top depth) t.kids) (top depth t.last)

@@ -7,6 +7,7 @@ pub mod Joining
 pub mod Laws
 pub mod Lowering
 pub mod Rows
+pub mod Runs
 pub mod Scanning
 pub mod SingleLeaf
 pub mod Stepping

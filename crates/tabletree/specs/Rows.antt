@@ -3,6 +3,7 @@ use Rattle.std.specs.Prelude.{◌≡◌, ℕ, ℤ, ◌<ℤ◌, List, [], ◌∷�
 use Rattle.std.specs.List.{AllByRecursion}
 use Rattle.std.specs.Ordering.{int_eq}
 use Rattle.page.specs.Leaf.{Entry}
+use Rattle.tabletree.specs.declared.changing.RowChange.{RowChange}
 
 -- the payload of the row of this rowid
 abbrev pub payload_at : ℤ → List Entry → Option (List ℕ)
@@ -21,9 +22,25 @@ abbrev pub without_row : ℤ → List Entry → List Entry
 without_row rowid [] = []
 without_row rowid (row ∷ rows) = if int_eq row.rowid rowid then rows else row ∷ without_row rowid rows
 
--- A change of rows about a rowid: it leaves rows as they are that are less or greater.
-pub record IsLocal (rowid : ℤ) (edit : List Entry → List Entry) : Type 0 where
-  pub within : (left mid right : List Entry) → AllByRecursion (λ row. row.rowid <ℤ rowid) left → AllByRecursion (λ row. rowid <ℤ row.rowid) right
+-- the rows with this one in place of the one of its rowid, if there is one
+abbrev pub with_replaced : Entry → List Entry → List Entry
+with_replaced row rows = elim (payload_at row.rowid rows) [ None ↦ rows | Some payload ↦ with_row row rows ]
+
+-- the rows with another payload for the row of a rowid, or without it; where there is none, the rows as they are
+abbrev pub with_change : RowChange → List Entry → List Entry
+with_change change rows = elim change.payload [
+  | None ↦ without_row change.rowid rows
+  | Some payload ↦ with_replaced (record { rowid = change.rowid; payload = payload.items }) rows
+]
+
+-- the rows after these changes, one after another
+abbrev pub with_changes : List RowChange → List Entry → List Entry
+with_changes [] rows = rows
+with_changes (change ∷ changes) rows = with_changes changes (with_change change rows)
+
+-- A change of rows from a rowid up to another: it leaves rows as they are that are less than the first, or greater than the second.
+pub record IsLocal (from upto : ℤ) (edit : List Entry → List Entry) : Type 0 where
+  pub within : (left mid right : List Entry) → AllByRecursion (λ row. row.rowid <ℤ from) left → AllByRecursion (λ row. upto <ℤ row.rowid) right
       → edit (left ++ (mid ++ right)) ≡ left ++ (edit mid ++ right)
 
 -- the greatest rowid

@@ -41,7 +41,7 @@ fn is_leaf(kind: Kind) -> bool
 }
 
 /// Where the way to a rowid goes on from the page of these bytes, whose header begins at `start`.
-fn look(bytes: &[u8], start: usize, rowid: i64) -> R<Step>
+pub(crate) fn look(bytes: &[u8], start: usize, rowid: i64) -> R<Step>
     ensures found { LooksUp bytes.now start rowid result }
     ensures not_disk { IfErr result IsNotDiskFault }
 {

@@ -2,6 +2,7 @@
 //! payloads.
 #![tactic(auto)]
 
+mod changing;
 mod descending;
 mod finding;
 mod flattening;
@@ -13,14 +14,13 @@ mod laws;
 mod leaf;
 mod lowering;
 mod reading;
-mod removing;
+mod runs;
 mod scanning;
-mod shrinking;
 mod way;
 
+pub use changing::{RowChange, change_rows, remove};
 pub use finding::{get, last, next_rowid};
 pub use freeing::{clear, free_tree, new_tree};
 pub use inserting::insert;
 pub use laws::{one_table_tree, rows_come_last, table_trees_stay};
-pub use removing::{remove, replace};
 pub use scanning::{Batch, BatchEntry, BatchRow, Cursor};

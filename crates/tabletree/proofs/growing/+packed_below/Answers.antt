@@ -10,7 +10,6 @@ use Rattle.tabletree.specs.declared.growing.Change.{Change}
 use Rattle.tabletree.specs.declared.growing.Change.TheVariants.{Still, Same}
 use Rattle.tabletree.proofs.Descents.{since, step_refused, step_found, step_here, down_deep, down, down_spread}
 use Rattle.tabletree.proofs.Exits.{full_err, changed_ways, changed_or_ways, not_still, not_same}
-use Rattle.tabletree.proofs.Locals.{with_local}
 use Rattle.tabletree.proofs.growing.+packed_below.Goals as goal
 
 pub returns-in_err-step_from-clause-changes : goal.returns-in_err-step_from-clause-changes
@@ -103,7 +102,7 @@ returns-in_err-change-clause-changes g n c = λ told depth low t high free under
     let changes = subst (λ (z : ℤ). Changes base mid size c.in-Down.child fewer (record { rowid = z; payload = c.args.payload.now }) (Err c.in_err-change.field-0.0)) plain
     (since pages.below pages.tells pages.limits pages.map old c.step_from.new.pages (λ (m : PageMap) (k : ℕ). Changes m mid k c.in-Down.child fewer (record { rowid = to_z w64 (of_z w64 c.args.rowid); payload = c.args.payload.now }) (Err c.in_err-change.field-0.0)) stays.kept stays.same c.in_err-change.ensures.changes told) in
     full_err (IsChanged base mid size c.args.number c.args.ways row depth low t high free) c.from_residual-in_err-change.result c.in_err-change.field-0.0 c.from_residual-in_err-change.ensures.1
-    (down base mid size c.args.number fewer c.in-Down.place c.in-Down.child c.args.rowid (with_row row) (with_local row) IsThereAt IsNotAt depth low t high free under_now steps (Err c.in_err-change.field-0.0) changes))
+    (down base mid size c.args.number fewer c.in-Down.place c.in-Down.child c.args.rowid (with_row row) IsThereAt IsNotAt depth low t high free under_now steps (Err c.in_err-change.field-0.0) changes))
 
 pub returns-in-Same-clause-changes : goal.returns-in-Same-clause-changes
 returns-in-Same-clause-changes g n c = λ told depth low t high free under.
@@ -124,7 +123,7 @@ returns-in-Same-clause-changes g n c = λ told depth low t high free under.
     (since pages.below pages.tells pages.limits pages.map old c.step_from.new.pages (λ (m : PageMap) (k : ℕ). Changes m mid k c.in-Down.child fewer (record { rowid = to_z w64 (of_z w64 c.args.rowid); payload = c.args.payload.now }) (Ok c.in_ok-change.change)) stays.kept stays.same c.in_ok-change.ensures.changes told) in
     let now = subst (λ (change : Change). Changes base mid size c.in-Down.child fewer row (Ok change)) c.in-Same.is changes in
     changed_ways base mid size c.args.number (suc fewer) c.args.ways row depth low t high free Same (sym more)
-    (down base mid size c.args.number fewer c.in-Down.place c.in-Down.child c.args.rowid (with_row row) (with_local row) IsThereAt IsNotAt depth low t high free under_now steps (Ok Same) now not_same))
+    (down base mid size c.args.number fewer c.in-Down.place c.in-Down.child c.args.rowid (with_row row) IsThereAt IsNotAt depth low t high free under_now steps (Ok Same) now not_same))
 
 pub returns-in-Still-clause-changes : goal.returns-in-Still-clause-changes
 returns-in-Still-clause-changes g n c = λ told depth low t high free under.
@@ -145,7 +144,7 @@ returns-in-Still-clause-changes g n c = λ told depth low t high free under.
     (since pages.below pages.tells pages.limits pages.map old c.step_from.new.pages (λ (m : PageMap) (k : ℕ). Changes m mid k c.in-Down.child fewer (record { rowid = to_z w64 (of_z w64 c.args.rowid); payload = c.args.payload.now }) (Ok c.in_ok-change.change)) stays.kept stays.same c.in_ok-change.ensures.changes told) in
     let now = subst (λ (change : Change). Changes base mid size c.in-Down.child fewer row (Ok change)) c.in-Still.is changes in
     changed_ways base mid size c.args.number (suc fewer) c.args.ways row depth low t high free Still (sym more)
-    (down base mid size c.args.number fewer c.in-Down.place c.in-Down.child c.args.rowid (with_row row) (with_local row) IsThereAt IsNotAt depth low t high free under_now steps (Ok Still) now not_still))
+    (down base mid size c.args.number fewer c.in-Down.place c.in-Down.child c.args.rowid (with_row row) IsThereAt IsNotAt depth low t high free under_now steps (Ok Still) now not_still))
 
 pub returns-in-Spread-clause-changes : goal.returns-in-Spread-clause-changes
 returns-in-Spread-clause-changes g n c = λ told depth low t high free under.
@@ -170,4 +169,4 @@ returns-in-Spread-clause-changes g n c = λ told depth low t high free under.
     let told_mid = subst (λ k. IsTrue (pages.tells k)) (sym kept) told in
     let widens = subst (λ k. Widens mid new (pages.limits k).page c.args.number c.in-Down.place c.in-Down.child c.in-Spread.packed c.in-Spread.deep c.widened.result) kept (c.widened.ensures.widened told_mid) in
     changed_or_ways base new size c.args.number (suc fewer) c.args.ways row depth low t high free c.widened.result (sym more)
-    (down_spread base mid size c.args.number fewer c.in-Down.place c.in-Down.child c.args.rowid (with_row row) (with_local row) IsThereAt IsNotAt new depth low t high free under_now steps c.in-Spread.packed c.in-Spread.deep now c.widened.result widens))
+    (down_spread base mid size c.args.number fewer c.in-Down.place c.in-Down.child c.args.rowid (with_row row) IsThereAt IsNotAt new depth low t high free under_now steps c.in-Spread.packed c.in-Spread.deep now c.widened.result widens))

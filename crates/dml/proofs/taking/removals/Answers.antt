@@ -1,0 +1,19 @@
+use Rattle.std.proofs.Common.{rules, ◌≡◌, ◌∙◌, ◌++◌, ◌+◌, List, ℤ, pos, [], ◌∷◌, take, slice_index_or, refl, sym, ap, subst}
+use Rattle.tabletree.specs.Rows.{with_changes}
+use Rattle.tabletree.specs.declared.changing.RowChange.{RowChange}
+use Rattle.dml.specs.Taking.{without_rows}
+use Rattle.dml.proofs.Taken.{one_further, removal_on, up_to_end}
+use Rattle.dml.proofs.taking.removals.Goals as goal
+
+pub rowids-preserved : goal.rowids-preserved
+rowids-preserved c = λ rows.
+    (let rowids = c.args.rowids.now in
+    let i = c.rowids.rowid-index in
+    let rowid = slice_index_or rowids i (pos 0) in
+    subst (λ (cs : List RowChange). with_changes cs rows ≡ without_rows (take (i + 1) rowids) rows) (sym c.in_ok-push.ensures.items)
+    (subst (λ (them : List ℤ). with_changes (c.rowids.changes.items ++ _ ∷ []) rows ≡ without_rows them rows) (one_further rowids i rowid (pos 0) c.rowids-test.true refl)
+    (removal_on c.rowids.changes.items _ (take i rowids) rows refl (c.rowids.invariant rows))))
+
+pub returns-clause-made : goal.returns-clause-made
+returns-clause-made c = λ rows.
+    subst (λ (them : List ℤ). with_changes c.rowids.changes.items rows ≡ without_rows them rows) (up_to_end c.args.rowids.now c.rowids.rowid-index c.rowids-test.false) (c.rowids.invariant rows)

@@ -1,0 +1,4 @@
+use Rattle.tabletree.proofs.runs.+changed_below.Given as goal
+
+abbrev pub decreases-changed_below : goal.decreases-changed_below
+decreases-changed_below g l = l.ways

@@ -1,4 +1,0 @@
-use Rattle.tabletree.proofs.shrinking.+removed_below.Given as goal
-
-abbrev pub decreases-removed_below : goal.decreases-removed_below
-decreases-removed_below g l = l.ways
