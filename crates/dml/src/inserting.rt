@@ -190,10 +190,9 @@ fn change_for(alloc: Global, row: &NewRow) -> R<RowChange>
     ensures refused { IfErr result (λ fault. (fault ≡ Fault.Memory)
         ⊎ ((fault ≡ Fault.TooLong) × (AreStorable (row_of row.now).1 → ⊥))) }
 {
-    Ok(RowChange {
-        rowid: row.rowid,
-        payload: Some(payload_of(alloc, &row.values)?),
-    })
+    let rowid = row.rowid;
+    let payload = Some(payload_of(alloc, &row.values)?);
+    Ok(RowChange { rowid, payload })
 }
 
 /// The changes of rows to these, with their records.

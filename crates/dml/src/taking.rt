@@ -1,6 +1,6 @@
 //! Rows that are taken out of the tree of their table.
 
-ghost use Rattle.std.specs.Prelude.{◌≡◌, List, IfOk, IfErr, IsTrue};
+ghost use Rattle.std.specs.Prelude.{◌≡◌, List, None, IfOk, IfErr, IsTrue};
 ghost use Rattle.page.specs.Leaf.{Entry};
 ghost use Rattle.pages.specs.Calls.{Causes};
 ghost use Rattle.tabletree.specs.Rows.{with_changes};
@@ -15,6 +15,17 @@ use std::alloc::Global;
 use tabletree::{RowChange, change_rows};
 use terms::Term;
 
+/// The removal of the row of a rowid.
+fn removal(rowid: &i64) -> RowChange
+    ensures rowid { result.rowid ≡ rowid.now }
+    ensures none { result.payload ≡ None }
+{
+    RowChange {
+        rowid: *rowid,
+        payload: None,
+    }
+}
+
 /// The removals of the rows of these rowids.
 fn removals(alloc: Global, rowids: &[i64]) -> R<Vec<RowChange>>
     ensures made { (rows : List Entry) → IfOk result (λ changes. with_changes changes.items rows ≡ without_rows rowids.now rows) }
@@ -22,10 +33,7 @@ fn removals(alloc: Global, rowids: &[i64]) -> R<Vec<RowChange>>
 {
     let mut changes = Vec::with_capacity(alloc, rowids.len())?;
     'rowids: for rowid in rowids {
-        changes.push(RowChange {
-            rowid: *rowid,
-            payload: None,
-        })?;
+        changes.push(removal(rowid))?;
     }
     Ok(changes)
 }

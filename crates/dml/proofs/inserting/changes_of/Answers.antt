@@ -15,8 +15,7 @@ returns-in_err-change_for-clause-refused c =
 
 pub rows-preserved : goal.rows-preserved
 rows-preserved c =
-    rw (c.in_ok-push.ensures.items)
-    (
+    rw (c.in_ok-push.ensures.items) (
       rows_on IsWritten row_of entry_left c.args.rows.now c.rows.row-index c.row-item.result c.rows.changes.items c.in_ok-change_for.field-0 (omega (arith, c.rows-test.true)) c.row-item.is c.in_ok-change_for.ensures.made c.rows.invariant.0,
       all_push IsReplacement c.rows.changes.items c.in_ok-change_for.field-0 c.rows.invariant.1 c.in_ok-change_for.ensures.some,
     )

@@ -9,10 +9,10 @@ pub rowids-preserved : goal.rowids-preserved
 rowids-preserved c = λ rows.
     (let rowids = c.args.rowids.now in
     let i = c.rowids.rowid-index in
-    let rowid = slice_index_or rowids i (pos 0) in
+    let change = c.removal.result in
     subst (λ (cs : List RowChange). with_changes cs rows ≡ without_rows (take (i + 1) rowids) rows) (sym c.in_ok-push.ensures.items)
-    (subst (λ (them : List ℤ). with_changes (c.rowids.changes.items ++ _ ∷ []) rows ≡ without_rows them rows) (one_further rowids i rowid (pos 0) c.rowids-test.true refl)
-    (removal_on c.rowids.changes.items _ (take i rowids) rows refl (c.rowids.invariant rows))))
+    (subst (λ (them : List ℤ). with_changes (c.rowids.changes.items ++ change ∷ []) rows ≡ without_rows them rows) (one_further rowids i change.rowid (pos 0) c.rowids-test.true c.removal.ensures.rowid)
+    (removal_on c.rowids.changes.items change (take i rowids) rows c.removal.ensures.none (c.rowids.invariant rows))))
 
 pub returns-clause-made : goal.returns-clause-made
 returns-clause-made c = λ rows.

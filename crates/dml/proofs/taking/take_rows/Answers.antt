@@ -35,7 +35,7 @@ returns-clause-taken g c = λ told.
     let stays = c.in_ok-rows.ensures.stays in
     let changes = c.in_ok-changes.changes.items in
     let changed = subst (λ them. ChangesRows old new size root them c.change_rows.result) c.deref-2.ensures.value
-    (changes_after pages.below pages.tells pages.limits pages.map c.args.pages.now c.source_rows.new.pages new root _ c.change_rows.result stays.kept stays.same c.change_rows.ensures.changed told) in
+    (changes_after pages.below pages.tells pages.limits pages.map c.args.pages.now c.source_rows.new.pages new root c.deref-2.result.now c.change_rows.result stays.kept stays.same c.change_rows.ensures.changed told) in
     let made = λ (rows : List Entry). subst (λ rowids. with_changes changes rows ≡ without_rows rowids rows) c.deref.ensures.value (c.in_ok-changes.ensures.made rows) in
     rows_taken old new size c.args.table c.args.condition.now c.in_ok-rows.rows (c.in_ok-rows.ensures.loaded told) c.in_ok-rowids.rowids.items c.change_rows.result c.in_ok-rowids.ensures.chosen
     (as_made old new size root changes c.in_ok-rowids.rowids.items c.change_rows.result made changed))

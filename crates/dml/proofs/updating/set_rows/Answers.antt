@@ -40,7 +40,7 @@ returns-clause-set g c = λ told.
     let stays = c.in_ok-rows.ensures.stays in
     let written : Pairwise IsWritten (map row_of c.in_ok-new.new.items) (map entry_left changes) = rw (c.deref.ensures.value) at c.in_ok-changes.ensures.made in
     let changed = subst (λ them. ChangesRows old new size table.root them c.change_rows.result) c.deref-2.ensures.value
-    (changes_after pages.below pages.tells pages.limits pages.map c.args.pages.now c.source_rows.new.pages new table.root _ c.change_rows.result stays.kept stays.same c.change_rows.ensures.changed told) in
+    (changes_after pages.below pages.tells pages.limits pages.map c.args.pages.now c.source_rows.new.pages new table.root c.deref-2.result.now c.change_rows.result stays.kept stays.same c.change_rows.ensures.changed told) in
     rows_replaced table.columns c.args.sets.now c.args.condition.now old new size table.root
     c.len.result c.len.ensures c.in_ok-rows.rows (c.in_ok-rows.ensures.loaded told) (map row_of c.in_ok-new.new.items) (rw (c.as_slice.ensures) at c.in_ok-new.ensures.changed)
     (map entry_left changes) c.change_rows.result written (as_replaced old new size table.root changes c.change_rows.result c.in_ok-changes.ensures.some changed))
