@@ -31,7 +31,8 @@ use Rattle.indextree.proofs.Cutting.{values}
 use Rattle.indextree.proofs.Inserts.{entries_part, turn}
 use Rattle.indextree.proofs.Orders.{not_less, greater_first, not_less_first, before_one, after_one, first_right}
 use Rattle.indextree.proofs.Readings.{since}
-use Rattle.indextree.proofs.Rows.{tree_at, left_at, right_at, row_split, child_there, holds_at, keys_first}
+use Rattle.indextree.specs.Joining.{tree_at, left_at, right_at}
+use Rattle.indextree.proofs.Rows.{row_split, child_there, holds_at, keys_first}
 use Rattle.indextree.proofs.Subtrees.{entries_at, entries_between, told}
 use Rattle.indextree.proofs.Widening.{kids_alike}
 

@@ -20,18 +20,25 @@ use Rattle.forest.specs.Storing.{cells_of}
 use Rattle.forest.specs.declared.storing.Fan.{Fan}
 use Rattle.forest.proofs.Staying.{says_kept, occurs_here, kept_of}
 use Rattle.indextree.specs.Comparing.{front_count, is_less, child_at}
-use Rattle.indextree.specs.Entries.{Entry, AreEntries, has_entry, with_entry}
+use Rattle.indextree.specs.Entries.{Entry, AreEntries, has_entry}
 use Rattle.indextree.specs.Freeing.{chains_of, below_of}
 use Rattle.indextree.specs.Growing.{replaced, IsEqualAt, IsFanned, IsPlanned, IsUnder, IsPut, entries_in}
 use Rattle.indextree.specs.Tree.{Held, IsKidAs, IsInterior, Tree, top, entries_of, pages_of, Lies}
 use Rattle.indextree.proofs.Cutting.{cut_branch}
 use Rattle.indextree.proofs.Growth.{IsGrown, chain, pages_in}
-use Rattle.indextree.proofs.Inserts.{has_within, with_within, entries_part}
+use Rattle.indextree.proofs.Inserts.{has_within, entries_part}
 use Rattle.indextree.proofs.Orders.{greater, not_less, greater_first, not_less_first}
-use Rattle.indextree.proofs.Rows.{tree_at, left_at, right_at, row_gives, row_split, same_row, seen, seen_row, pair_row, child_there, holds_at, row_kept, pages_among, left_less, right_greater}
+use Rattle.indextree.specs.Joining.{tree_at, left_at, right_at}
+use Rattle.indextree.proofs.Rows.{row_gives, row_split, same_row, seen, seen_row, pair_row, child_there, holds_at, row_kept, pages_among, left_less, right_greater}
 use Rattle.indextree.proofs.Shares.{beside_used, others_kept}
 use Rattle.indextree.proofs.Staying.{entry_kept, lies_kept}
 use Rattle.indextree.proofs.Subtrees.{entries_between, row_pages}
+
+-- what is done to entries beside those that are less and those that are greater is done to the ones between
+abbrev pub IsLocalTo : List Collation → Entry → (List Entry → List Entry) → Type 0
+IsLocalTo columns x edit =
+    (left mid right : List Entry) → AllByRecursion (λ e. greater columns x e ≡ true) left → AllByRecursion (λ e. not_less columns x e ≡ false) right
+    → edit (left ++ (mid ++ right)) ≡ left ++ (edit mid ++ right)
 
 abbrev one : Held → List Entry
 one held = held.entry ∷ []
@@ -42,7 +49,7 @@ starts_at [] = refl
 starts_at (count ∷ counts) = refl
 
 -- what a page says of children stays where the entries between them are kept
-kids_kept : {T : Type 0} (old new : PageMap) (size : ℕ) (page : T → ℕ) (said : List (ℕ × Local)) (kids : List (T × Held)) → AreKept old new size (chains_of (entries_between kids))
+pub kids_kept : {T : Type 0} (old new : PageMap) (size : ℕ) (page : T → ℕ) (said : List (ℕ × Local)) (kids : List (T × Held)) → AreKept old new size (chains_of (entries_between kids))
     → Pairwise (IsKidAs old size) said (children page kids) → Pairwise (IsKidAs new size) said (children page kids)
 kids_kept old new size page [] [] kept all = tt
 kids_kept old new size page [] (kid ∷ kids) kept all = absurd all
@@ -123,11 +130,14 @@ module _ (old : PageMap) (size number ways : ℕ) (columns : List Collation) (x 
   pub has_same : has_entry columns x (entries_of (suc depth) t) ≡ has_entry columns x (entries_of depth kid)
   has_same = ap (has_entry columns x) split ∙ has_within columns x left (entries_of depth kid) right more fewer
 
-  entries_with : (window : Row) → entries_in depth window.0 window.1 ≡ with_entry columns x (entries_of depth kid)
-      → entries_in depth (replaced place window t.kids t.last).0 (replaced place window t.kids t.last).1 ≡ with_entry columns x (entries_of (suc depth) t)
-  entries_with window e =
-      row_gives (entries_of depth) one place window t.kids t.last ∙ ap (λ (es : List Entry). left ++ (es ++ right)) e
-      ∙ sym (ap (with_entry columns x) split ∙ with_within columns x left (entries_of depth kid) right more fewer)
+  -- what is done to the entries is done to those of the subtree
+  pub about : (edit : List Entry → List Entry) → IsLocalTo columns x edit → edit (entries_of (suc depth) t) ≡ left ++ (edit (entries_of depth kid) ++ right)
+  about edit local = ap edit split ∙ local left (entries_of depth kid) right more fewer
+
+  entries_with : (edit : List Entry → List Entry) → IsLocalTo columns x edit → (window : Row) → entries_in depth window.0 window.1 ≡ edit (entries_of depth kid)
+      → entries_in depth (replaced place window t.kids t.last).0 (replaced place window t.kids t.last).1 ≡ edit (entries_of (suc depth) t)
+  entries_with edit local window e =
+      row_gives (entries_of depth) one place window t.kids t.last ∙ ap (λ (es : List Entry). left ++ (es ++ right)) e ∙ sym (about edit local)
 
   -- ---- the page with others in place of the child
 
@@ -164,9 +174,9 @@ module _ (old : PageMap) (size number ways : ℕ) (columns : List Collation) (x 
 
   -- ---- one page in place of the child, which kept its number
 
-  pub put_above : (mid : PageMap) → IsPut old mid size (top depth kid) depth (with_entry columns x (entries_of depth kid)) (pages_of depth kid) free
-      → IsPut old mid size number (suc depth) (with_entry columns x (entries_of (suc depth) t)) (pages_of (suc depth) t) free
-  put_above mid p =
+  pub put_above : (edit : List Entry → List Entry) → IsLocalTo columns x edit → (mid : PageMap) → IsPut old mid size (top depth kid) depth (edit (entries_of depth kid)) (pages_of depth kid) free
+      → IsPut old mid size number (suc depth) (edit (entries_of (suc depth) t)) (pages_of (suc depth) t) free
+  put_above edit local mid p =
       let window : Row = ([], p.tree) in
       let s = replaced place window t.kids t.last in
       let same : seen (top depth) s ≡ (children (top depth) t.kids, top depth t.last) = (
@@ -181,7 +191,7 @@ module _ (old : PageMap) (size number ways : ℕ) (columns : List Collation) (x 
           subst (λ (shown : Side ℕ Held). IsInterior mid size t.page shown.0 shown.1) (sym same) interior,
           side_lies mid window p.now_free p.moves p.lies,
         );
-        entries_are = entries_with window p.entries_are;
+        entries_are = entries_with edit local window p.entries_are;
         now_free = p.now_free;
         has = p.has;
         moves = beside old mid (pages_in depth t.kids t.last) free (pages_in depth s.0 s.1) p.now_free t.page (side_moves mid window p.now_free p.moves p.lies);
@@ -193,15 +203,21 @@ module _ (old : PageMap) (size number ways : ℕ) (columns : List Collation) (x 
       there zero (kid ∷ kids) last = refl
       there (suc place) (kid ∷ kids) last = there place kids last
 
-  pub grown_alone : (mid : PageMap) (fan : Fan) (g : IsGrown old mid size (top depth kid) depth (with_entry columns x (entries_of depth kid)) (pages_of depth kid) free fan) → cells_of fan ≡ []
-      → IsPut old mid size (top depth kid) depth (with_entry columns x (entries_of depth kid)) (pages_of depth kid) free
-  grown_alone mid fan g none =
+  -- the pages below the page have moved, and not the page
+  pub put_moves : (edit : List Entry → List Entry) (local : IsLocalTo columns x edit) (mid : PageMap) (p : IsPut old mid size (top depth kid) depth (edit (entries_of depth kid)) (pages_of depth kid) free)
+      → Moves old mid (below_of (suc depth) t) free (below_of (suc depth) (put_above edit local mid p).tree) (put_above edit local mid p).now_free
+  unfolding put_above
+  put_moves edit local mid p = side_moves mid ([], p.tree) p.now_free p.moves p.lies
+
+  pub grown_alone : (edit : List Entry → List Entry) (mid : PageMap) (fan : Fan) (g : IsGrown old mid size (top depth kid) depth (edit (entries_of depth kid)) (pages_of depth kid) free fan) → cells_of fan ≡ []
+      → IsPut old mid size (top depth kid) depth (edit (entries_of depth kid)) (pages_of depth kid) free
+  grown_alone edit mid fan g none =
       let alone = g.alone none in
       record {
         tree = g.last;
         top_is = g.last_is ∙ alone.1;
         lies = subst (λ (ks : List (Tree depth × Held)). Each (Lies mid size depth) ks g.last) alone.0 g.lies;
-        entries_are = subst (λ (ks : List (Tree depth × Held)). entries_in depth ks g.last ≡ with_entry columns x (entries_of depth kid)) alone.0 g.entries_are;
+        entries_are = subst (λ (ks : List (Tree depth × Held)). entries_in depth ks g.last ≡ edit (entries_of depth kid)) alone.0 g.entries_are;
         now_free = g.now_free;
         has = g.has;
         moves = subst (λ (ks : List (Tree depth × Held)). Moves old mid (pages_of depth kid) free (pages_in depth ks g.last) g.now_free) alone.0 g.moves;
@@ -210,7 +226,7 @@ module _ (old : PageMap) (size number ways : ℕ) (columns : List Collation) (x 
 
   -- ---- several pages in place of the child
 
-  module _ (mid : PageMap) (fan : Fan) (g : IsGrown old mid size (top depth kid) depth (with_entry columns x (entries_of depth kid)) (pages_of depth kid) free fan) where
+  module _ (edit : List Entry → List Entry) (mid : PageMap) (fan : Fan) (g : IsGrown old mid size (top depth kid) depth (edit (entries_of depth kid)) (pages_of depth kid) free fan) where
     -- the page's children are these, and so it says
     pub page_at_mid : Says mid number (Between (under.stands.lies.0).said (top depth t.last))
     page_at_mid = subst (λ (n : ℕ). Says mid n (Between (under.stands.lies.0).said (top depth t.last))) under.stands.top_is (page_says mid (g.kids, g.last) g.now_free g.moves g.lies)
@@ -218,9 +234,9 @@ module _ (old : PageMap) (size number ways : ℕ) (columns : List Collation) (x 
     pub long_mid : length (page_at mid number) ≡ size
     long_mid = whole_mid mid (g.kids, g.last) g.now_free g.moves g.lies number page_at_mid.has
 
-    pub plan_above : (packed : Packed) → IsFanned (page_at mid number) (replaced place (g.news, fan.last) (under.stands.lies.0).said (top depth t.last)) packed
-        → IsPlanned old mid size (suc depth) (with_entry columns x (entries_of (suc depth) t)) (below_of (suc depth) t) free packed
-    plan_above packed is =
+    pub plan_above : IsLocalTo columns x edit → (packed : Packed) → IsFanned (page_at mid number) (replaced place (g.news, fan.last) (under.stands.lies.0).said (top depth t.last)) fan packed
+        → IsPlanned old mid size (suc depth) (edit (entries_of (suc depth) t)) (below_of (suc depth) t) free packed
+    plan_above local packed is =
         let window : Row = (g.kids, g.last) in
         let s = replaced place window t.kids t.last in
         let said = (under.stands.lies.0).said in
@@ -239,11 +255,11 @@ module _ (old : PageMap) (size number ways : ℕ) (columns : List Collation) (x 
           last = cut.last_of;
           tops = cut.tops;
           divide = cut.divide;
-          entries_are = sym (cut.gives (entries_of depth) one) ∙ entries_with window g.entries_are;
+          entries_are = sym (cut.gives (entries_of depth) one) ∙ entries_with edit local window g.entries_are;
           now_free = g.now_free;
           has = g.has;
           moves = subst (λ (pages : List ℕ). Moves old mid (below_of (suc depth) t) free pages g.now_free) (cut.gives (pages_of depth) chain) (side_moves mid window g.now_free g.moves g.lies);
           header = g.header;
           sized = subst (λ (n : ℕ). AllByRecursion (λ image. length image ≡ n) (images packed)) long_mid packs.sized;
-          few = is.few;
+          few = (let le = is.few in omega (arith, le));
         }

@@ -279,7 +279,7 @@ module _ (old : PageMap) (size number ways : ℕ) where
   not_leaf zero t free is some none = some refl
   not_leaf (suc depth) t free is some none = (let few = is.shallow in omega (arith, few, none))
 
-  few_kids : (depth : ℕ) (t : Tree (suc depth)) (free : List ℕ) → StandsUnder old size number ways (suc depth) t free → length t.kids < 2 ^ 16
+  pub few_kids : (depth : ℕ) (t : Tree (suc depth)) (free : List ℕ) → StandsUnder old size number ways (suc depth) t free → length t.kids < 2 ^ 16
   few_kids depth t free is =
       let page = is.lies.0 in
       let node = page.says.node_is in

@@ -18,7 +18,8 @@ use Rattle.packing.specs.Parts.{total}
 use Rattle.packing.specs.Splicing.{spliced, IsUsual, Splices}
 use Rattle.packing.specs.declared.spreading.Packed.{Packed}
 use Rattle.packing.specs.declared.spreading.Piece.{Piece}
-use Rattle.packing.proofs.SmallLemmas.{between_small}
+use Rattle.packing.proofs.SmallLemmas.{entry_len}
+use Rattle.std.proofs.lemmas.List.{length-append}
 use Rattle.packing.proofs.Splices.{pairwise_spliced, pairwise_append}
 use Rattle.forest.specs.Sides.{Side, behind}
 use Rattle.forest.specs.Storing.{cells_of}
@@ -72,12 +73,21 @@ spliced_one place news kids = (let e : place + 1 ≡ suc place = omega arith in 
 
 -- ---- as cells
 
-sides_count : {T K : Type 0} (parts : List (List (T × K) × (T × K))) → length (sides_of parts) ≡ length parts
+-- a cell takes less than a third of a page
+pub between_third : (size : ℕ) (cell : List ℕ) (kid : Item) → 512 ≤ size → IsBetweenCell size cell kid → 3 * cell_room cell + 36 < size
+between_third size cell kid big is =
+    let len = entry_len size is.rest kid.1 big is.entry in
+    let parts = ap length is.parts in
+    let both = length-append (to_be_bytes w32 kid.0) is.rest in
+    let child : length (to_be_bytes w32 kid.0) ≡ 4 = refl in
+    omega (arith, len, parts, both, child, big)
+
+pub sides_count : {T K : Type 0} (parts : List (List (T × K) × (T × K))) → length (sides_of parts) ≡ length parts
 sides_count [] = refl
 sides_count (part ∷ parts) = (let e = sides_count parts in omega (arith, e))
 
 module _ (page : List ℕ) (place : ℕ) (fan : Fan) (said news : List Item) (last : ℕ) (is : IsNode page 0 (Between said last)) (usual : IsUsual page 0)
-    (pair : Pairwise (IsBetweenCell (length page)) (cells_of fan) news) (near : fan.last < 2 ^ 32) (short : length news ≤ 1) where
+    (pair : Pairwise (IsBetweenCell (length page)) (cells_of fan) news) (near : fan.last < 2 ^ 32) (short : length news ≤ 2) where
   abbrev side : Side ℕ Local
   side = replaced place (news, fan.last) said last
 
@@ -87,25 +97,30 @@ module _ (page : List ℕ) (place : ℕ) (fan : Fan) (said news : List Item) (la
   fits : 0 + 8 + 4 + total (map cell_room is.cells) ≤ length page
   fits = cells_fit 2 page 0 (to_be_bytes w32 last) is.cells is.page_is
 
-  -- the fan's cell takes at most half of the room
-  half : 2 * total (map cell_room (cells_of fan)) ≤ length page - 12
-  half = by (cells_of fan) news pair short where
-    by : (cells : List (List ℕ)) (items : List Item) → Pairwise (IsBetweenCell (length page)) cells items → length items ≤ 1 → 2 * total (map cell_room cells) ≤ length page - 12
-    by [] [] all le = omega arith
+  -- the fan's cells don't fill a page
+  small_fan : total (map cell_room (cells_of fan)) + 12 < length page
+  small_fan = by (cells_of fan) news pair short where
+    by : (cells : List (List ℕ)) (items : List Item) → Pairwise (IsBetweenCell (length page)) cells items → length items ≤ 2 → total (map cell_room cells) + 12 < length page
+    by [] [] all le = (let big = usual.least in omega (arith, big))
     by [] (it ∷ items) all le = absurd all
     by (cell ∷ cells) [] all le = absurd all
-    by (cell ∷ []) (it ∷ []) all le = (let big = usual.least in let small = between_small (length page) cell it big all.0 in omega (arith, small, big))
+    by (cell ∷ []) (it ∷ []) all le = (let big = usual.least in let small = between_third (length page) cell it big all.0 in omega (arith, small, big))
     by (cell ∷ []) (it ∷ other ∷ items) all le = absurd all.1
-    by (cell ∷ other ∷ cells) (it ∷ []) all le = absurd all.1
-    by (cell ∷ other ∷ cells) (it ∷ more ∷ items) all le = absurd (omega (arith, le))
+    by (cell ∷ other ∷ []) (it ∷ []) all le = absurd all.1
+    by (cell ∷ other ∷ []) (it ∷ more ∷ []) all le =
+        (let big = usual.least in let one = between_third (length page) cell it big all.0 in let two = between_third (length page) other more big all.1.0 in omega (arith, one, two, big))
+    by (cell ∷ other ∷ []) (it ∷ more ∷ another ∷ items) all le = absurd (omega (arith, le))
+    by (cell ∷ other ∷ third ∷ cells) (it ∷ []) all le = absurd all.1
+    by (cell ∷ other ∷ third ∷ cells) (it ∷ more ∷ []) all le = absurd all.1.1
+    by (cell ∷ other ∷ third ∷ cells) (it ∷ more ∷ another ∷ items) all le = absurd (omega (arith, le))
 
   few_pages : (rises : Bool) (cells : List (List ℕ)) (shows : Side ℕ Local) (packed : Packed) → (packs : Packs IndexInterior (length page) [] rises cells (Between shows.0 shows.1) packed)
       → total (map cell_room cells) ≤ total (map cell_room is.cells) + total (map cell_room (cells_of fan)) → length packed.pieces.items ≤ 1
   few_pages rises cells shows packed packs sum =
       let big = usual.least in
       let fit = fits in
-      let small = half in
-      let most = at_most_two (length page - 0 - 8 - 4) rises (map cell_room cells) packs.counts packs.cut (omega (arith, big)) (omega (arith, sum, fit, small, big)) in
+      let small = small_fan in
+      let most = at_most_two (length page - 0 - 8 - 4) rises (map cell_room cells) packs.counts packs.cut (omega (arith, sum, fit, small, big)) in
       let parts = parts_few packs.counts shows.0 in
       let pieces : length packed.pieces.items ≡ length (entry_parts packs.counts shows.0).0 = (
       sym (length-map packed.pieces.items (λ (piece : Piece). piece.divider.items)) ∙ same_length (IsEntryCell (length page)) (divider_bytes packed) _ packs.divide
@@ -114,7 +129,7 @@ module _ (page : List ℕ) (place : ℕ) (fan : Fan) (said news : List Item) (la
 
   -- after all cells
   pub fan_last : place ≡ length said → (result : Result Packed Fault) → Splices page 0 place 0 (cells_of fan) (to_be_bytes w32 fan.last) result
-      → MatchResult result (IsFanned page side) (λ fault. fault ≡ Memory)
+      → MatchResult result (IsFanned page side fan) (λ fault. fault ≡ Memory)
   fan_last e result splices = by result splices
     where
       same : (spliced place 0 news said, fan.last) ≡ side
@@ -126,23 +141,24 @@ module _ (page : List ℕ) (place : ℕ) (fan : Fan) (said news : List Item) (la
       are : AreOf IndexInterior (length page) (to_be_bytes w32 fan.last) (spliced place 0 (cells_of fan) is.cells) (Between (spliced place 0 news said) fan.last)
       are = record { kind_is = refl; right_is = refl; say = (say, near) }
 
-      fanned : (packed : Packed) → Packs IndexInterior (length page) [] (place + 0 == length is.cells) (spliced place 0 (cells_of fan) is.cells) (Between (spliced place 0 news said) fan.last) packed → IsFanned page side packed
-      fanned packed packs = subst (λ (s : Side ℕ Local). IsFanned page s packed) same (record {
+      fanned : (packed : Packed) → Packs IndexInterior (length page) [] (place + 0 == length is.cells) (spliced place 0 (cells_of fan) is.cells) (Between (spliced place 0 news said) fan.last) packed → IsFanned page side fan packed
+      fanned packed packs = subst (λ (s : Side ℕ Local). IsFanned page s fan packed) same (record {
         rises = place + 0 == length is.cells;
         cells = spliced place 0 (cells_of fan) is.cells;
         packs = packs;
         say = say;
+        room = (let sum = room_added cell_room place (cells_of fan) is.cells in let fit = fits in omega (arith, sum, fit));
         few = few_pages (place + 0 == length is.cells) (spliced place 0 (cells_of fan) is.cells) (spliced place 0 news said, fan.last) packed packs
             (let sum = room_added cell_room place (cells_of fan) is.cells in omega (arith, sum));
       })
 
-      by : (result : Result Packed Fault) → Splices page 0 place 0 (cells_of fan) (to_be_bytes w32 fan.last) result → MatchResult result (IsFanned page side) (λ fault. fault ≡ Memory)
+      by : (result : Result Packed Fault) → Splices page 0 place 0 (cells_of fan) (to_be_bytes w32 fan.last) result → MatchResult result (IsFanned page side fan) (λ fault. fault ≡ Memory)
       by (Ok packed) splices = fanned packed (splices IndexInterior (Between said last) (Between (spliced place 0 news said) fan.last) is usual refl (let n = count in omega (arith, n, e)) are)
       by (Err fault) splices = splices IndexInterior (Between said last) (Between (spliced place 0 news said) fan.last) is usual refl (let n = count in omega (arith, n, e)) are
 
   -- in place of a cell
   pub fan_mid : (d : Item) (moved : List ℕ) → place < length said → IsBetweenCell (length page) moved (fan.last, (slice_index_or said place d).1) → length moved ≡ length (slice_index_or is.cells place []) → last < 2 ^ 32
-      → (result : Result Packed Fault) → Splices page 0 place 1 (cells_of fan ++ moved ∷ []) (to_be_bytes w32 last) result → MatchResult result (IsFanned page side) (λ fault. fault ≡ Memory)
+      → (result : Result Packed Fault) → Splices page 0 place 1 (cells_of fan ++ moved ∷ []) (to_be_bytes w32 last) result → MatchResult result (IsFanned page side fan) (λ fault. fault ≡ Memory)
   fan_mid d moved lt cell long near_last result splices = by result splices
     where
       others : List Item
@@ -158,18 +174,20 @@ module _ (page : List ℕ) (place : ℕ) (fan : Fan) (said news : List Item) (la
       are : AreOf IndexInterior (length page) (to_be_bytes w32 last) (spliced place 1 (cells_of fan ++ moved ∷ []) is.cells) (Between (spliced place 1 others said) last)
       are = record { kind_is = refl; right_is = refl; say = (say, near_last) }
 
-      fanned : (packed : Packed) → Packs IndexInterior (length page) [] (place + 1 == length is.cells) (spliced place 1 (cells_of fan ++ moved ∷ []) is.cells) (Between (spliced place 1 others said) last) packed → IsFanned page side packed
-      fanned packed packs = subst (λ (s : Side ℕ Local). IsFanned page s packed) same (record {
+      fanned : (packed : Packed) → Packs IndexInterior (length page) [] (place + 1 == length is.cells) (spliced place 1 (cells_of fan ++ moved ∷ []) is.cells) (Between (spliced place 1 others said) last) packed → IsFanned page side fan packed
+      fanned packed packs = subst (λ (s : Side ℕ Local). IsFanned page s fan packed) same (record {
         rises = place + 1 == length is.cells;
         cells = spliced place 1 (cells_of fan ++ moved ∷ []) is.cells;
         packs = packs;
         say = say;
+        room = (let sum = room_swapped cell_room place (cells_of fan ++ moved ∷ []) is.cells [] (let n = count in omega (arith, n, lt)) in
+            let both = room_append cell_room (cells_of fan) (moved ∷ []) in let fit = fits in omega (arith, sum, both, long, fit));
         few = few_pages (place + 1 == length is.cells) (spliced place 1 (cells_of fan ++ moved ∷ []) is.cells) (spliced place 1 others said, last) packed packs
             (let sum = room_swapped cell_room place (cells_of fan ++ moved ∷ []) is.cells [] (let n = count in omega (arith, n, lt)) in
             let both = room_append cell_room (cells_of fan) (moved ∷ []) in omega (arith, sum, both, long));
       })
 
-      by : (result : Result Packed Fault) → Splices page 0 place 1 (cells_of fan ++ moved ∷ []) (to_be_bytes w32 last) result → MatchResult result (IsFanned page side) (λ fault. fault ≡ Memory)
+      by : (result : Result Packed Fault) → Splices page 0 place 1 (cells_of fan ++ moved ∷ []) (to_be_bytes w32 last) result → MatchResult result (IsFanned page side fan) (λ fault. fault ≡ Memory)
       by (Ok packed) splices = fanned packed (splices IndexInterior (Between said last) (Between (spliced place 1 others said) last) is usual refl (let n = count in omega (arith, n, lt)) are)
       by (Err fault) splices = splices IndexInterior (Between said last) (Between (spliced place 1 others said) last) is usual refl (let n = count in omega (arith, n, lt)) are
 

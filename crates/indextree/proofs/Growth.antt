@@ -41,7 +41,7 @@ pub record IsGrown (old new : PageMap) (size child depth : ℕ) (entries : List 
   pub news : List (ℕ × Local)
   pub cells : Pairwise (IsBetweenCell size) (cells_of fan) news
   pub shown : Pairwise (IsKidAs new size) news (children (top depth) kids)
-  pub few : length news ≤ 1
+  pub few : length news ≤ 2
   pub now_free : List ℕ
   pub has : HasFree new size now_free
   pub moves : Moves old new used free (pages_in depth kids last) now_free

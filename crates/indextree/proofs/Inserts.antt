@@ -26,12 +26,12 @@ true_false e = cc
 -- ---- one of three
 
 -- the order of a key and an entry by its three tests
-gt_not_eq : (o : Ordering) → is_gt o ≡ true → is_eq o ≡ false
+pub gt_not_eq : (o : Ordering) → is_gt o ≡ true → is_eq o ≡ false
 gt_not_eq Less e = absurd (true_false (sym e))
 gt_not_eq Equal e = absurd (true_false (sym e))
 gt_not_eq Greater e = refl
 
-lt_not_eq : (o : Ordering) → not (is_lt o) ≡ false → is_eq o ≡ false
+pub lt_not_eq : (o : Ordering) → not (is_lt o) ≡ false → is_eq o ≡ false
 lt_not_eq Less e = refl
 lt_not_eq Equal e = absurd (true_false e)
 lt_not_eq Greater e = absurd (true_false e)

@@ -55,12 +55,20 @@ pub parts_few : {A : Type 0} (counts : List ℕ) (items : List A) → length (en
 parts_few [] items = omega arith
 parts_few (count ∷ counts) items = key_few counts items (take count items) (drop count items) (λ xs. parts_few counts xs)
 
--- cells that take half as much room again as a page has make two pages
-pub at_most_two : (room : ℕ) (rises : Bool) (sizes counts : List ℕ) → IsCut 1 room rises sizes counts → 1 ≤ room → 2 * total sizes ≤ 3 * room → length counts ≤ 1
-at_most_two room rises sizes counts cut some small = elim (cases_lt 1 (length counts)) [
-  | inl lt ↦ absurd (let most = cut_fewer 1 room rises sizes counts (omega arith) cut in let two = mul-le-mul_left room lt in omega (arith, most, two, some, small))
+-- cells that don't fill so many pages make at most one more
+pub at_most : (pages room : ℕ) (rises : Bool) (sizes counts : List ℕ) → IsCut 1 room rises sizes counts → total sizes < room * suc pages → length counts ≤ pages
+at_most pages room rises sizes counts cut small = elim (cases_lt pages (length counts)) [
+  | inl lt ↦ absurd (let most = cut_fewer 1 room rises sizes counts (omega arith) cut in let more = mul-le-mul_left room lt in omega (arith, most, more, small))
   | inr ge ↦ ge
 ]
+
+-- cells that don't fill two pages
+pub at_most_two : (room : ℕ) (rises : Bool) (sizes counts : List ℕ) → IsCut 1 room rises sizes counts → total sizes < 2 * room → length counts ≤ 1
+at_most_two room rises sizes counts cut small = at_most 1 room rises sizes counts cut (omega (arith, small))
+
+-- or three
+pub at_most_three : (room : ℕ) (rises : Bool) (sizes counts : List ℕ) → IsCut 1 room rises sizes counts → total sizes < 3 * room → length counts ≤ 2
+at_most_three room rises sizes counts cut small = at_most 2 room rises sizes counts cut (omega (arith, small))
 
 -- pages of the format's sizes are usual
 pub usual : (page : List ℕ) (size : ℕ) → (512 ≤ size) × (size < 2 ^ 16) → length page ≡ size → IsUsual page 0
@@ -232,7 +240,7 @@ module _ (old mid : PageMap) (size number ways : ℕ) (entry : Entry) (payload :
               let small = entry_small size cell local sizes.0 is_cell in
               let long = long_mid in
               let big = sizes.0 in
-              let most = at_most_two room (place + 0 == length node.cells) (map cell_room cells) packs.counts packs.cut (omega (arith, long, big)) (omega (arith, sum, fit, small, long, big)) in
+              let most = at_most_two room (place + 0 == length node.cells) (map cell_room cells) packs.counts packs.cut (omega (arith, sum, fit, small, long, big)) in
               let parts = parts_few packs.counts said in
               omega (arith, most, parts, piece_count));
         }

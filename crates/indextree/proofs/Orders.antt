@@ -3,7 +3,7 @@ use Rattle.std.proofs.Common.{◌≡◌, refl, sym, ◌∙◌, ap, ℕ, zero, su
 use Rattle.std.specs.declared.cmp.Ordering.{Ordering}
 use Rattle.std.specs.declared.cmp.Ordering.TheVariants.{Less, Equal, Greater}
 use Rattle.std.specs.List.{AllByRecursion}
-use Rattle.std.specs.Ordering.{is_lt, is_gt, ordering_then, ordering_reverse}
+use Rattle.std.specs.Ordering.{is_lt, is_eq, is_gt, ordering_then, ordering_reverse}
 use Rattle.sqlval.specs.Lists.{SortKey, keys_cmp, is_rising}
 use Rattle.sqlval.specs.Order.{order}
 use Rattle.sqlval.specs.declared.collation.Collation.{Collation}
@@ -105,6 +105,24 @@ less_after (c ∷ ks) (v ∷ key) (w ∷ a) (x ∷ b) la lb e f =
     by more p Greater p_is q_is e f = absurd (false_true f)
     by more Less Less p_is q_is e f = rw (less_less c v w x p_is q_is) refl
     by more Less Equal p_is q_is e f = rw (less_equal c v w x p_is q_is) refl
+    by more Equal Less p_is q_is e f = rw (equal_same c v w x p_is ∙ q_is) refl
+    by more Equal Equal p_is q_is e f = rw (equal_same c v w x p_is ∙ q_is) (more e f)
+
+-- where a key equals an entry, it is less than one that is greater
+pub equal_after : (ks : List Collation) (key a b : List Value) → length key ≡ length ks → length a ≡ length ks → length b ≡ length ks → is_eq (keys_cmp (rising ks) key a) ≡ true → is_lt (keys_cmp (rising ks) a b) ≡ true
+    → is_lt (keys_cmp (rising ks) key b) ≡ true
+equal_after [] key a b lk la lb e f = absurd (false_true f)
+equal_after (c ∷ ks) [] a b lk la lb e f = absurd (omega (arith, lk))
+equal_after (c ∷ ks) (v ∷ key) [] b lk la lb e f = absurd (omega (arith, la))
+equal_after (c ∷ ks) (v ∷ key) (w ∷ a) [] lk la lb e f = absurd (omega (arith, lb))
+equal_after (c ∷ ks) (v ∷ key) (w ∷ a) (x ∷ b) lk la lb e f =
+    by (λ e f. equal_after ks key a b (omega (arith, lk)) (omega (arith, la)) (omega (arith, lb)) e f) (order c v w) (order c w x) refl refl e f
+  where
+    by : (is_eq (keys_cmp (rising ks) key a) ≡ true → is_lt (keys_cmp (rising ks) a b) ≡ true → is_lt (keys_cmp (rising ks) key b) ≡ true) → (p q : Ordering) → order c v w ≡ p → order c w x ≡ q
+        → is_eq (ordering_then p (keys_cmp (rising ks) key a)) ≡ true → is_lt (ordering_then q (keys_cmp (rising ks) a b)) ≡ true → is_lt (ordering_then (order c v x) (keys_cmp (rising ks) key b)) ≡ true
+    by more Greater q p_is q_is e f = absurd (false_true e)
+    by more Less q p_is q_is e f = absurd (false_true e)
+    by more Equal Greater p_is q_is e f = absurd (false_true f)
     by more Equal Less p_is q_is e f = rw (equal_same c v w x p_is ∙ q_is) refl
     by more Equal Equal p_is q_is e f = rw (equal_same c v w x p_is ∙ q_is) (more e f)
 
@@ -233,3 +251,21 @@ module _ (columns : List Collation) (key : List Value) where
 
   pub not_less_first : (entries : List Entry) → AreEntries columns entries → ComeFirst not_less entries
   not_less_first entries are = handed not_less less_next entries are.whole are.rising
+
+  equal_next : (a b : Entry) → length key ≡ length columns + 1 → length a ≡ length columns + 1 → length b ≡ length columns + 1 → is_eq (entry_cmp columns key a) ≡ true → is_lt (entry_cmp columns a b) ≡ true
+      → not_less b ≡ false
+  equal_next a b lk la lb e f =
+      ap not (ap (λ (ks : List SortKey). is_lt (keys_cmp ks key b)) keys_same
+      ∙ equal_after all_columns key a b (long key lk) (long a la) (long b lb) (sym (ap (λ (ks : List SortKey). is_eq (keys_cmp ks key a)) keys_same) ∙ e) (sym (ap (λ (ks : List SortKey). is_lt (keys_cmp ks a b)) keys_same) ∙ f))
+
+  first_two : (a b : Bool) → a && b ≡ true → (a ≡ true) × (b ≡ true)
+  first_two true b e = (refl, e)
+  first_two false b e = absurd (false_true e)
+
+  -- after one that is equal, all are greater
+  pub after_equal : length key ≡ length columns + 1 → (e : Entry) (rest : List Entry) → AreEntries columns (e ∷ rest) → is_eq (entry_cmp columns key e) ≡ true → AllByRecursion (λ y. not_less y ≡ false) rest
+  after_equal lk e [] are same = tt
+  after_equal lk e (f ∷ rest) are same =
+      let both = first_two (is_lt (entry_cmp columns e f)) (is_rising (entry_cmp columns) (f ∷ rest)) are.rising in
+      let next = equal_next e f lk are.whole.0 are.whole.1.0 same both.0 in
+      (next, (not_less_first (f ∷ rest) (record { whole = are.whole.1; rising = both.1 })).0 next)

@@ -112,7 +112,7 @@ said_counted pages size [] (entry ∷ entries) all = absurd all
 said_counted pages size (one ∷ said) [] all = absurd all
 said_counted pages size (one ∷ said) (entry ∷ entries) all = ap suc (said_counted pages size said entries all.1)
 
-locals_mapped : (kids : List (ℕ × Local)) → length (map (λ kid. kid.1) kids) ≡ length kids
+pub locals_mapped : (kids : List (ℕ × Local)) → length (map (λ kid. kid.1) kids) ≡ length kids
 locals_mapped [] = refl
 locals_mapped (kid ∷ kids) = ap suc (locals_mapped kids)
 

@@ -1,5 +1,5 @@
 -- A tree under a root that has one more entry.
-use Rattle.std.proofs.Common.{◌≡◌, ◌≤◌, ◌<◌, ◌+◌, ℕ, suc, ◌⊎◌, Bool, true, false, List, [], ◌∷◌, ◌++◌, length, map, refl, sym, ap, subst, ◌∙◌, inl, inr, arith}
+use Rattle.std.proofs.Common.{◌≡◌, ◌≤◌, ◌<◌, ◌+◌, ◌*◌, ℕ, suc, ◌⊎◌, Bool, true, false, List, [], ◌∷◌, ◌++◌, length, map, refl, sym, ap, subst, ◌∙◌, inl, inr, arith}
 use Rattle.std.proofs.lemmas.List.{length-map}
 use Rattle.std.specs.List.{AllByRecursion}
 use Rattle.std.specs.Prelude.{Result, Ok, Err, IsErrAnd, MatchResult}
@@ -63,7 +63,7 @@ module _ (old : PageMap) (size root : ℕ) (columns : List Collation) (entries :
   pub root_under : IsUnder old size root 19 columns depth tree free
   root_under = record { stands = root_stands; sorted = subst (λ (es : List Entry). AreEntries columns es) (sym is.tree.entries_are) is.tree.sorted; sized = is.sized }
 
-  becomes : (new : PageMap) (deep : ℕ) (t : Tree deep) (all : List Entry) (now_free : List ℕ) → deep < 20 → deep ≤ suc depth → top deep t ≡ root → Lies new size deep t → entries_of deep t ≡ all → AreEntries columns all
+  pub becomes : (new : PageMap) (deep : ℕ) (t : Tree deep) (all : List Entry) (now_free : List ℕ) → deep < 20 → deep ≤ suc depth → top deep t ≡ root → Lies new size deep t → entries_of deep t ≡ all → AreEntries columns all
       → HasFree new size now_free → Moves old new (pages_of depth tree) free (pages_of deep t) now_free → KeepsHeader old new → BecomesAtMost old new size root columns depth all used free
   becomes new deep t all now_free shallow near at lies holds sorted has moves header =
       let beside = root_stands in
@@ -119,12 +119,15 @@ module _ (old : PageMap) (size root : ℕ) (columns : List Collation) (entries :
     last_sized [] page h = h.0
     last_sized (other ∷ pages) page h = last_sized pages page h.1
 
-    -- at most one cell of the root's page
-    short : (dividers : List (List ℕ)) (held : List Held) → 512 ≤ size → length dividers ≤ 1 → Pairwise (IsDivider mid size) dividers held → total (map (λ divider. length divider + 6) dividers) ≤ index_most size + 19
+    -- at most two cells of the root's page
+    short : (dividers : List (List ℕ)) (held : List Held) → 512 ≤ size → length dividers ≤ 2 → Pairwise (IsDivider mid size) dividers held → total (map (λ divider. length divider + 6) dividers) ≤ 2 * (index_most size + 19)
     short [] held big le divide = omega arith
-    short (one ∷ []) [] big le divide = absurd divide
+    short (one ∷ dividers) [] big le divide = absurd divide
     short (one ∷ []) (h ∷ held) big le divide = (let len = entry_len size one divide.0.said big divide.0.cell in omega (arith, len))
-    short (one ∷ other ∷ dividers) held big le divide = absurd (omega (arith, le))
+    short (one ∷ other ∷ dividers) (h ∷ []) big le divide = absurd divide.1
+    short (one ∷ other ∷ []) (h ∷ more ∷ held) big le divide =
+        (let len = entry_len size one divide.0.said big divide.0.cell in let next = entry_len size other divide.1.0.said big divide.1.0.cell in omega (arith, len, next))
+    short (one ∷ other ∷ another ∷ dividers) (h ∷ more ∷ held) big le divide = absurd (omega (arith, le))
 
     pub can_root : CanRoot mid size root packed
     can_root =

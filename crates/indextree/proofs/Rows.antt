@@ -19,28 +19,11 @@ use Rattle.indextree.specs.Comparing.{ComeFirst, front_count, is_less, child_at}
 use Rattle.indextree.specs.Entries.{Entry, entry_cmp}
 use Rattle.indextree.specs.Freeing.{all_of}
 use Rattle.indextree.specs.Growing.{replaced, IsEqualAt}
+use Rattle.indextree.specs.Joining.{tree_at, left_at, right_at}
 use Rattle.indextree.specs.Tree.{Held, IsKidAs}
 use Rattle.indextree.proofs.Inserts.{by_bool, neither_lt}
 use Rattle.indextree.proofs.Orders.{greater, not_less, before_one, after_one, first_right, count_more, count_none}
 use Rattle.indextree.proofs.Subtrees.{entries_between}
-
--- the subtree at a place
-abbrev pub tree_at : {T K : Type 0} → ℕ → List (T × K) → T → T
-tree_at place [] last = last
-tree_at zero (kid ∷ kids) last = kid.0
-tree_at (suc place) (kid ∷ kids) last = tree_at place kids last
-
--- what the row gives on its left
-abbrev pub left_at : {T K X : Type 0} → (T → List X) → (K → List X) → ℕ → List (T × K) → T → List X
-left_at f between place [] last = []
-left_at f between zero (kid ∷ kids) last = []
-left_at f between (suc place) (kid ∷ kids) last = f kid.0 ++ (between kid.1 ++ left_at f between place kids last)
-
--- and on its right
-abbrev pub right_at : {T K X : Type 0} → (T → List X) → (K → List X) → ℕ → List (T × K) → T → List X
-right_at f between place [] last = []
-right_at f between zero (kid ∷ kids) last = between kid.1 ++ each_of f between kids last
-right_at f between (suc place) (kid ∷ kids) last = right_at f between place kids last
 
 -- ---- what the row gives
 
@@ -72,7 +55,7 @@ row_split {T} {K} f between place kids last =
 abbrev pub seen : {T K : Type 0} → (T → ℕ) → Side T K → Side ℕ K
 seen page side = (children page side.0, page side.1)
 
-children_append : {T K : Type 0} (page : T → ℕ) (xs ys : List (T × K)) → children page (xs ++ ys) ≡ children page xs ++ children page ys
+pub children_append : {T K : Type 0} (page : T → ℕ) (xs ys : List (T × K)) → children page (xs ++ ys) ≡ children page xs ++ children page ys
 children_append page [] ys = refl
 children_append {T} {K} page (x ∷ xs) ys = ap (λ (cells : List (ℕ × K)). (page x.0, x.1) ∷ cells) (children_append page xs ys)
 

@@ -31,7 +31,7 @@ use Rattle.indextree.proofs.Branches.{kid, under_child, has_same, put_above, gro
 use Rattle.indextree.proofs.Clearing.{number_far}
 use Rattle.indextree.proofs.Emptied.{large_size}
 use Rattle.indextree.proofs.Growth.{IsGrown, grown, planned_after, can_store}
-use Rattle.indextree.proofs.Inserts.{leaf_there, leaf_absent, put_at, between_there}
+use Rattle.indextree.proofs.Inserts.{leaf_there, leaf_absent, put_at, between_there, with_within}
 use Rattle.indextree.proofs.Leaves.{usual}
 use Rattle.indextree.proofs.Orders.{greater, greater_first, not_less_first, count_within}
 use Rattle.indextree.proofs.Rows.{child_there, keys_first}
@@ -41,7 +41,7 @@ use Rattle.indextree.proofs.Subtrees.{entries_at, entries_between, told}
 deeper : (ways depth : ℕ) (deep : Bool) → IsDeep ways depth deep → IsDeep (suc ways) (suc depth) deep
 deeper ways depth deep is = record { full = λ e. (let le = is.full e in omega (arith, le)); short = λ e. (let lt = is.short e in omega (arith, lt)) }
 
-full_or : {A : Type 0} (fault : Fault) → IsOutside fault ⊎ ((fault ≡ Full) × A) → IsOutsideOrFull fault
+pub full_or : {A : Type 0} (fault : Fault) → IsOutside fault ⊎ ((fault ≡ Full) × A) → IsOutsideOrFull fault
 full_or fault (inl outside) = inl outside
 full_or fault (inr full) = inr full.0
 
@@ -76,7 +76,7 @@ module _ (old : PageMap) (size number ways : ℕ) (columns : List Collation) (x 
   above_there mid changes = (let is = child_changed mid There changes in (same ∙ is.0, is.1))
 
   pub above_same : (mid : PageMap) → Changes old mid size child ways columns x payload (Ok Same) → IsChanged old mid size number (suc ways) columns x (suc depth) t free Same
-  above_same mid changes = (let is = child_changed mid Same changes in (same ∙ is.0, put_above old size number ways columns x depth t free under other mid is.1))
+  above_same mid changes = (let is = child_changed mid Same changes in (same ∙ is.0, put_above old size number ways columns x depth t free under other (with_entry columns x) (with_within columns x) mid is.1))
 
   module _ (mid : PageMap) (packed : Packed) (deep : Bool) (changes : Changes old mid size child ways columns x payload (Ok (Spread packed deep))) where
     spread : IsChanged old mid size (top depth at_kid) ways columns x depth at_kid free (Spread packed deep)
@@ -110,13 +110,13 @@ module _ (old : PageMap) (size number ways : ℕ) (columns : List Collation) (x 
 
       -- one page took the child's place
       pub widened_same : cells_of fan ≡ [] → IsChanged old new size number (suc ways) columns x (suc depth) t free Same
-      widened_same none = (absent, put_above old size number ways columns x depth t free under other new (grown_alone old size number ways columns x depth t free under other new fan g none))
+      widened_same none = (absent, put_above old size number ways columns x depth t free under other (with_entry columns x) (with_within columns x) new (grown_alone old size number ways columns x depth t free under other (with_entry columns x) new fan g none))
 
       page_says : Says new number (Between (under.stands.lies.0).said (top depth t.last))
-      page_says = page_at_mid old size number ways columns x depth t free under other new fan g
+      page_says = page_at_mid old size number ways columns x depth t free under other (with_entry columns x) new fan g
 
       long : length (page_at new number) ≡ size
-      long = long_mid old size number ways columns x depth t free under other new fan g
+      long = long_mid old size number ways columns x depth t free under other (with_entry columns x) new fan g
 
       pub page_there : IsThere new size number
       page_there = record { has = page_says.has; whole = long }
@@ -150,7 +150,7 @@ module _ (old : PageMap) (size number ways : ℕ) (columns : List Collation) (x 
           by (Ok p) fans = (
             absent,
             deeper ways depth deep spread.1,
-            plan_above old size number ways columns x depth t free under other new fan g p
+            plan_above old size number ways columns x depth t free under other (with_entry columns x) new fan g (with_within columns x) p
                 (fans (under.stands.lies.0).said g.news (top depth t.last) node (usual (page_at new number) size (large_size size under.sized) long) within g.near cells g.few),
           )
           by (Err fault) fans = fans (under.stands.lies.0).said g.news (top depth t.last) node (usual (page_at new number) size (large_size size under.sized) long) within g.near cells g.few
@@ -173,13 +173,13 @@ is_more n e = grind (arith, common_steps)
 deep_leaf : (ways : ℕ) → IsDeep ways zero (nat_eq ways 0)
 deep_leaf ways = record { full = λ e. is_zero ways e; short = λ e. is_more ways e }
 
-none_some : (a : ℕ) → None ≡ Some a → ⊥
+pub none_some : (a : ℕ) → None ≡ Some a → ⊥
 none_some a e = cc
 
-some_none : (a : ℕ) → Some a ≡ None → ⊥
+pub some_none : (a : ℕ) → Some a ≡ None → ⊥
 some_none a e = cc
 
-some_is : (a b : ℕ) → Some a ≡ Some b → a ≡ b
+pub some_is : (a b : ℕ) → Some a ≡ Some b → a ≡ b
 some_is a b e = cc
 
 module _ (old : PageMap) (size number ways : ℕ) (columns : List Collation) (x : Entry) where
@@ -190,7 +190,7 @@ module _ (old : PageMap) (size number ways : ℕ) (columns : List Collation) (x 
   first zero t free under = mapped_first columns x t.entries (greater_first columns x (entries_of zero t) under.sorted)
   first (suc depth) t free under = keys_first (entries_of depth) columns x (greater columns x) t.kids t.last (greater_first columns x (entries_of (suc depth) t) under.sorted)
 
-  stepped : (depth : ℕ) (t : Tree depth) (free : List ℕ) (under : IsUnder old size number ways columns depth t free) (result : Result Step Fault) → StepsFrom old size number columns x result
+  pub stepped : (depth : ℕ) (t : Tree depth) (free : List ℕ) (under : IsUnder old size number ways columns depth t free) (result : Result Step Fault) → StepsFrom old size number columns x result
       → MatchResult result (IsStep columns x (top_node depth t free under) (entries_at depth t)) IsOutside
   stepped depth t free under result steps =
       let its = told old size number depth t under.stands.top_is under.stands.lies in
@@ -199,9 +199,9 @@ module _ (old : PageMap) (size number ways : ℕ) (columns : List Collation) (x 
   pub step_refused : (depth : ℕ) (t : Tree depth) (free : List ℕ) → IsUnder old size number ways columns depth t free → (fault : Fault) → StepsFrom old size number columns x (Err fault) → IsOutsideOrFull fault
   step_refused depth t free under fault steps = inl (stepped depth t free under (Err fault) steps)
 
-  pub step_found : (depth : ℕ) (t : Tree depth) (free : List ℕ) → IsUnder old size number ways columns depth t free → StepsFrom old size number columns x (Ok Found) → has_entry columns x (entries_of depth t) ≡ true
-  step_found zero t free under steps = leaf_there columns x t.entries _ (stepped zero t free under (Ok Found) steps)
-  step_found (suc depth) t free under steps = between_there (entries_of depth) columns x t.kids t.last _ (stepped (suc depth) t free under (Ok Found) steps)
+  pub step_found : (place depth : ℕ) (t : Tree depth) (free : List ℕ) → IsUnder old size number ways columns depth t free → StepsFrom old size number columns x (Ok (Found place)) → has_entry columns x (entries_of depth t) ≡ true
+  step_found place zero t free under steps = leaf_there columns x t.entries place (stepped zero t free under (Ok (Found place)) steps).1
+  step_found place (suc depth) t free under steps = between_there (entries_of depth) columns x t.kids t.last place (stepped (suc depth) t free under (Ok (Found place)) steps).1
 
   pub step_here : (new : PageMap) (place : ℕ) (payload : List ℕ) (depth : ℕ) (t : Tree depth) (free : List ℕ) → IsUnder old size number ways columns depth t free → IsRecord payload x
       → StepsFrom old size number columns x (Ok (Here place)) → (result : Result Packed Fault) → PlansLeaf old new size number place x payload result

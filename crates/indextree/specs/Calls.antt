@@ -11,7 +11,7 @@ use Rattle.pages.specs.Calls.{IsOutsideOrFull}
 use Rattle.pages.specs.Counting.{occurs, Moves}
 use Rattle.pages.specs.Map.{PageMap}
 use Rattle.freelist.specs.Calls.{AreFree, KeepsHeader}
-use Rattle.indextree.specs.Entries.{Entry, has_entry, with_entry}
+use Rattle.indextree.specs.Entries.{Entry, has_entry, with_entry, without_entry}
 use Rattle.indextree.specs.Tree.{IsIndexTree}
 
 -- a tree of these entries, and free pages beside it, none of them in it; page 1 isn't one of its pages
@@ -99,3 +99,19 @@ abbrev pub InsertsEntry : PageMap → PageMap → ℕ → ℕ → List Collation
 InsertsEntry old new size root columns entry result =
     (entries : List Entry) (used free : List ℕ) (is : Stands old size root columns entries used free) → length entry ≡ length columns + 1
     → MatchResult result (IsInserted old new size root columns entry is.tree.depth entries used free) (IsInsertRefusal root is.tree.depth entry)
+
+-- ---- an entry that is taken out
+
+-- the entry was taken out, and the tree is at most one page deeper; or it isn't there and nothing changed
+abbrev pub IsRemoved : PageMap → PageMap → ℕ → ℕ → List Collation → Entry → ℕ → List Entry → List ℕ → List ℕ → Bool → Type 0
+IsRemoved old new size root columns entry depth entries used free true =
+    (has_entry columns entry entries ≡ true)
+    × ((now : BecomesEntries old new size root columns (without_entry columns entry entries) used free) × (now.stands.tree.depth ≤ suc depth))
+IsRemoved old new size root columns entry depth entries used free false = (has_entry columns entry entries ≡ false) × (new ≡ old)
+
+-- Where a tree stands, an entry of its columns and a rowid is taken out of it; or the call is refused, as growth is: pages that are joined
+-- may need one more.
+abbrev pub RemovesEntry : PageMap → PageMap → ℕ → ℕ → List Collation → Entry → Result Bool Fault → Type 0
+RemovesEntry old new size root columns entry result =
+    (entries : List Entry) (used free : List ℕ) (is : Stands old size root columns entries used free) → length entry ≡ length columns + 1
+    → MatchResult result (IsRemoved old new size root columns entry is.tree.depth entries used free) (IsGrowthRefusal root is.tree.depth)

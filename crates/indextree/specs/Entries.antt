@@ -37,6 +37,10 @@ has_entry columns entry entries = list_any (λ other. is_eq (entry_cmp columns e
 abbrev pub with_entry : List Collation → Entry → List Entry → List Entry
 with_entry columns entry entries = placed (entry_cmp columns) entry entries
 
+-- the entries without those that the order can't tell from this one
+abbrev pub without_entry : List Collation → Entry → List Entry → List Entry
+without_entry columns entry entries = filter (λ other. not (is_eq (entry_cmp columns entry other))) entries
+
 -- an entry, which compares so with a key, is passed: it is less, or it is equal where the key itself is passed
 abbrev pub is_passed : Bool → Ordering → Bool
 is_passed after order = if after then not (is_lt order) else is_gt order

@@ -1,5 +1,5 @@
 -- How an entry is put into an index's tree: what becomes of the page at the top of a subtree.
-use Rattle.std.specs.Prelude.{◌≡◌, ◌≤◌, ◌<◌, ℕ, zero, suc, Bool, true, false, List, [], ◌∷◌, ◌++◌, length, map, slice_index_or, take, drop, ◌^◌, Some, None, Ok, Result, MatchResult}
+use Rattle.std.specs.Prelude.{◌≡◌, ◌≤◌, ◌<◌, ◌+◌, ℕ, zero, suc, Bool, true, false, List, [], ◌∷◌, ◌++◌, length, map, slice_index_or, take, drop, ◌^◌, Some, None, Ok, Result, MatchResult}
 use Rattle.std.specs.Global.{Vec}
 use Rattle.std.specs.List.{AllByRecursion}
 use Rattle.std.specs.Ordering.{is_eq}
@@ -30,6 +30,8 @@ use Rattle.indextree.specs.declared.growing.Change.{Change}
 use Rattle.indextree.specs.declared.growing.Change.TheVariants.{There, Same, Spread}
 use Rattle.indextree.specs.declared.placing.Step.{Step}
 use Rattle.indextree.specs.declared.placing.Step.TheVariants.{Found, Here, Down}
+use Rattle.packing.specs.Building.{cell_room}
+use Rattle.packing.specs.Parts.{total}
 
 -- ---- the way down
 
@@ -39,7 +41,8 @@ IsEqualAt columns entry entries place = (place < length entries) × ((d : Held) 
 
 -- The way to an entry goes on so: it ends where it is, or at its place on a leaf; else it goes on to the child at its place.
 abbrev pub IsStep : List Collation → Entry → Node → List Held → Step → Type 0
-IsStep columns entry node entries Found = IsEqualAt columns entry entries (front_count (is_less columns entry) entries)
+IsStep columns entry node entries (Found place) =
+    (place ≡ front_count (is_less columns entry) entries) × IsEqualAt columns entry entries place
 IsStep columns entry node entries (Here place) =
     (place ≡ front_count (is_less columns entry) entries) × (IsEqualAt columns entry entries place → ⊥) × (child_of place node ≡ None)
 IsStep columns entry node entries (Down place child) =
@@ -70,19 +73,20 @@ abbrev pub Parents : ℕ → List ℕ → ℕ → Result (Vec ℕ) Fault → Typ
 Parents usable cell child result = (kid : ℕ × Local) → IsBetweenCell usable cell kid
     → MatchResult result (λ moved. IsBetweenCell usable moved.items (child, kid.1) × (length moved.items ≡ length cell)) (λ fault. fault ≡ Memory)
 
--- the children are packed, on at most two pages
-pub record IsFanned (page : List ℕ) (side : Side ℕ Local) (packed : Packed) : Type 0 where
+-- the children are packed, on at most two pages, and on no more room than the page and the fan's cells had
+pub record IsFanned (page : List ℕ) (side : Side ℕ Local) (fan : Fan) (packed : Packed) : Type 0 where
   pub rises : Bool
   pub cells : List (List ℕ)
   pub packs : Packs IndexInterior (length page) [] rises cells (Between side.0 side.1) packed
   pub say : Pairwise (IsBetweenCell (length page)) cells side.0
+  pub room : total (map cell_room cells) + 12 ≤ length page + total (map cell_room (cells_of fan))
   pub few : length packed.pieces.items ≤ 1
 
--- where the page is an interior one and the fan's cells, at most one, say these children, they are packed with it; or memory was short
+-- where the page is an interior one and the fan's cells, at most two, say these children, they are packed with it; or memory was short
 abbrev pub Fans : List ℕ → ℕ → Fan → Result Packed Fault → Type 0
 Fans page place fan result = (said news : List (ℕ × Local)) (last : ℕ) → IsNode page 0 (Between said last) → IsUsual page 0
-    → place ≤ length said → fan.last < 2 ^ 32 → Pairwise (IsBetweenCell (length page)) (cells_of fan) news → length news ≤ 1
-    → MatchResult result (IsFanned page (replaced place (news, fan.last) said last)) (λ fault. fault ≡ Memory)
+    → place ≤ length said → fan.last < 2 ^ 32 → Pairwise (IsBetweenCell (length page)) (cells_of fan) news → length news ≤ 2
+    → MatchResult result (IsFanned page (replaced place (news, fan.last) said last) fan) (λ fault. fault ≡ Memory)
 
 -- ---- subtrees whose top page isn't stored
 
@@ -109,7 +113,7 @@ pub record IsDivider (map : PageMap) (size : ℕ) (bytes : List ℕ) (held : Hel
 abbrev pub entries_in : (depth : ℕ) → List (Tree depth × Held) → Tree depth → List Entry
 entries_in depth kids last = each_of (entries_of depth) (λ held. held.entry ∷ []) kids last
 
--- Packed pages, at most two, are the tops of subtrees of these entries, whose other pages are stored.
+-- Packed pages, at most three, are the tops of subtrees of these entries, whose other pages are stored.
 pub record IsPlanned (old new : PageMap) (size depth : ℕ) (entries : List Entry) (used free : List ℕ) (packed : Packed) : Type 0 where
   pub kids : List (Tree depth × Held)
   pub last : Tree depth
@@ -121,7 +125,7 @@ pub record IsPlanned (old new : PageMap) (size depth : ℕ) (entries : List Entr
   pub moves : Moves old new used free (each_of (below_of depth) (λ held. held.pages) kids last) now_free
   pub header : KeepsHeader old new
   pub sized : AllByRecursion (λ image. length image ≡ size) (images packed)
-  pub few : length packed.pieces.items ≤ 1
+  pub few : length packed.pieces.items ≤ 2
 
 -- ---- changes
 

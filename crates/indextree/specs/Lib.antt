@@ -5,4 +5,7 @@ pub mod Calls
 pub mod Comparing
 pub mod Freeing
 pub mod Growing
+pub mod Joining
+pub mod Removing
+pub mod Lowering
 pub mod Scanning

@@ -48,7 +48,12 @@ pub fn new_tree<P: WritePages>(alloc: Global, pages: &mut P) -> R<u32>
 
 /// Gives the pages back over which the entry at a place of a page goes on. (`Damaged` if there is no such entry; what `load` and `free_chain`
 /// refuse.)
-fn free_entry<P: WritePages>(alloc: Global, pages: &mut P, number: u32, place: usize) -> R<()>
+pub(crate) fn free_entry<P: WritePages>(
+    alloc: Global,
+    pages: &mut P,
+    number: u32,
+    place: usize,
+) -> R<()>
     ensures freed { IsTrue (P.Pages.tells (P.Pages.below pages.old))
         → FreesEntry (P.Pages.map pages.old) (P.Pages.map pages.new) (P.Pages.limits (P.Pages.below pages.old)).page number place result }
     ensures kept { P.Pages.below pages.new ≡ P.Pages.below pages.old }

@@ -73,7 +73,7 @@ fn parent_cell(alloc: Global, cell: &[u8], child: u32) -> R<Vec<u8>>
 }
 
 /// The cells of a fan.
-fn cells_in<'a>(alloc: Global, fan: &'a Fan) -> R<Vec<&'a [u8]>>
+pub(crate) fn cells_in<'a>(alloc: Global, fan: &'a Fan) -> R<Vec<&'a [u8]>>
     ensures cells { IfOk result (λ cells. map (λ cell. cell.now) cells.items ≡ cells_of fan.now) }
     ensures refused { IfErr result (λ fault. fault ≡ Fault.Memory) }
 {
@@ -85,7 +85,7 @@ fn cells_in<'a>(alloc: Global, fan: &'a Fan) -> R<Vec<&'a [u8]>>
 }
 
 /// The pages that an interior page gives way to when a fan stands in place of the child at a place of it.
-fn fanned(alloc: Global, page: &[u8], place: usize, fan: &Fan) -> R<Packed>
+pub(crate) fn fanned(alloc: Global, page: &[u8], place: usize, fan: &Fan) -> R<Packed>
     ensures fans { Fans page.now place fan.now result }
     ensures not_disk { IfErr result IsNotDiskFault }
 {
@@ -151,7 +151,7 @@ pub(crate) fn packed_below<P: WritePages>(
         (P.Pages.count pages.new ≡ (P.Pages.limits (P.Pages.below pages.new)).most) }
 {
     let (place, child) = match step_from(pages, number, new.key, scratch)? {
-        Step::Found => return Ok(Change::There),
+        Step::Found(_) => return Ok(Change::There),
         Step::Here(place) => {
             let packed = packed_leaf(alloc, pages, number, place, new)?;
             return Ok(Change::Spread(packed, ways == 0));

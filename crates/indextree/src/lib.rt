@@ -7,12 +7,16 @@ mod comparing;
 mod freeing;
 mod growing;
 mod inserting;
+mod joining;
 mod laws;
+mod lowering;
 mod placing;
+mod removing;
 mod scanning;
 
 pub use comparing::{Key, order};
 pub use freeing::{clear, free_tree, new_tree};
 pub use inserting::insert;
 pub use laws::index_trees_stay;
+pub use removing::remove;
 pub use scanning::Cursor;

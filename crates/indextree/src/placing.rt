@@ -15,8 +15,8 @@ use std::cmp::Ordering;
 /// Where the way to an entry goes on from a page.
 #[derive(Clone, Copy, Drop)]
 pub(crate) enum Step {
-    /// The entry is on this page.
-    Found,
+    /// The entry is at this place of the page.
+    Found(usize),
     /// This leaf hasn't the entry. It would stand at this place.
     Here(usize),
     /// To the child at this place, with its page's number; the last child stands after all cells.
@@ -88,7 +88,7 @@ pub(crate) fn step_from<P: Pages>(
 {
     let place = place_of(pages, number, key, false, scratch)?;
     if is_equal_at(pages, number, place, key, scratch)? {
-        return Ok(Step::Found);
+        return Ok(Step::Found(place));
     }
     match child_of(pages, number, place)? {
         Some(child) => Ok(Step::Down(place, child)),

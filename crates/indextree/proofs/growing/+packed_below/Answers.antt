@@ -31,7 +31,7 @@ returns-in-Found-clause-changes g n c = λ told depth t free under record_is.
     let payload = c.args.new.payload.now in
     let stays = c.in_ok-step_from.ensures.stays in
     let steps = subst (λ (s : Step). StepsFrom base size c.args.number columns x (Ok s)) c.in-Found.is (c.in_ok-step_from.ensures.found told) in
-    (step_found base size c.args.number c.args.ways columns x depth t free under steps, stays.same))
+    (step_found base size c.args.number c.args.ways columns x c.in-Found.field-0 depth t free under steps, stays.same))
 
 pub returns-in_err-packed-in-Here-clause-changes : goal.returns-in_err-packed-in-Here-clause-changes
 returns-in_err-packed-in-Here-clause-changes g n c = λ told depth t free under record_is.

@@ -36,7 +36,7 @@ returns-in_err-moved-clause-fans c = λ said news last is usual le near pair few
     let long = c.len.ensures (Between said last) here in
     let lt : c.args.place < length said = omega (arith, long, c.if-place-len.false) in
     let cell = cell_on c.in_ok-node.node c.args.page.now 0 c.args.place c.in_ok-cell.field-0.now c.in_ok-node.ensures.place c.in_ok-cell.ensures.only (Between said last) is lt in
-    memory_err (IsFanned c.args.page.now (replaced c.args.place (news, c.args.fan.now.last) said last)) c.from_residual-in_err-moved.result c.in_err-moved.field-0.0
+    memory_err (IsFanned c.args.page.now (replaced c.args.place (news, c.args.fan.now.last) said last) c.args.fan.now) c.from_residual-in_err-moved.result c.in_err-moved.field-0.0
     c.from_residual-in_err-moved.ensures.1
     (c.in_err-moved.ensures.parents (length c.args.page.now) (slice_index_or said c.args.place nothing) (cell_at c.args.page.now c.args.place said last nothing is c.in_ok-cell.field-0.now cell lt)))
 
