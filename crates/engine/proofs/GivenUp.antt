@@ -2,10 +2,10 @@
 use Rattle.std.proofs.Common.{◌≡◌, ◌∙◌, inl, inr, refl, sym, ap, subst}
 use Rattle.disk.specs.declared.device.Disk.{Ghosts}
 use Rattle.wal.specs.declared.log.Log.{Log}
-use Rattle.catalog.specs.Listed.{IsUnchanged}
+use Rattle.session.specs.SavedTables.{IsUnchanged}
 use Rattle.session.specs.Holding.{IsLeftBy}
 use Rattle.session.specs.ConnectionState.{files_of}
-use Rattle.session.specs.Machine.{Machine, Idle, last_place, with_connection}
+use Rattle.session.specs.Machine.{Machine, Idle, with_connection}
 use Rattle.session.specs.Representation.{IsGivenUp, RepresentsRunning, IsTransaction, ShowTheSame, Represents}
 use Rattle.session.specs.declared.transactions.Connections.{Connections}
 use Rattle.session.specs.declared.transactions.Transaction.{Transaction}
@@ -18,8 +18,8 @@ module _ {D : Type 0} {g : Ghosts D} (old new : Connections D g) (gone : IsGiven
       all_now : IsUnchanged new.catalog
       all_now = gone.tables ∙ sym gone.committed
 
-      idle_now : IsTransaction (files_of new) new.catalog (last_place m) new.transaction Idle
-      idle_now = subst (λ (t : Transaction). IsTransaction (files_of new) new.catalog (last_place m) t Idle) (sym gone.idle) (refl, all_now)
+      idle_now : IsTransaction (files_of new) new.catalog m.history new.transaction Idle
+      idle_now = subst (λ (t : Transaction). IsTransaction (files_of new) new.catalog m.history t Idle) (sym gone.idle) (refl, all_now, gone.savepoints)
 
   left_idle : IsLeftBy (files_of old) m → IsLeftBy (files_of new) (with_connection m 1 Idle)
   left_idle left = subst (λ (files : Log D g). IsLeftBy files (with_connection m 1 Idle)) (sym gone.files) (record { some = left.some; db_left = left.db_left; log_left = left.log_left; held = left.held })

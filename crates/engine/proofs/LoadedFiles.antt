@@ -18,7 +18,7 @@ use Rattle.pager.proofs.Mapping.{count_to, maps_shown}
 use Rattle.pager.proofs.Sighting.{view_told}
 use Rattle.storage.specs.Stored.{IsCounted, Stores}
 use Rattle.session.specs.Holding.{IsFound}
-use Rattle.session.specs.Representation.{IsNewest}
+use Rattle.session.specs.Writers.{IsNewest}
 use Rattle.session.specs.Stored.{ShowsDatabase}
 use Rattle.session.proofs.KeptFiles.{keeps_told, known_kept, snapshot_told}
 use Rattle.session.proofs.SeenPages.{at_newest}

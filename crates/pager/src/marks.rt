@@ -16,6 +16,13 @@ use sqlval::{Fault, R};
 use wal::PageImage;
 
 impl Writer {
+    /// How many marks there are.
+    pub fn marks(&self) -> usize
+        ensures { result ≡ length (marks_of self.now) }
+    {
+        self.marks.len()
+    }
+
     /// Sets a mark, and answers its place. (`Memory`.)
     pub fn mark(&mut self) -> R<usize>
         ensures marked { IfOk result (λ place. (place ≡ length (marks_of self.old))

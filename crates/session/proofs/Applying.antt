@@ -1,5 +1,5 @@
 -- What a statement that writes comes to, by what it makes of the database before it.
-use Rattle.std.proofs.Common.{◌≡◌, ◌⊎◌, inl, inr, refl, sym, ap, subst, ◌∙◌, ℕ, ◌==◌, true, false, List, [], ◌∷◌, if◌then◌else◌, arith}
+use Rattle.std.proofs.Common.{◌≡◌, ◌⊎◌, inl, inr, refl, sym, ap, subst, ◌∙◌, ℕ, ◌==◌, Bool, true, false, List, [], ◌∷◌, if◌then◌else◌, arith}
 use Rattle.std.proofs.lemmas.Bool.Decides.{nat_tests}
 use Rattle.std.specs.Prelude.{◌&&◌}
 use Rattle.pages.specs.Calls.{IsOutsideOrFull}
@@ -12,29 +12,35 @@ use Rattle.syntax.specs.declared.statement.Statement.{Statement}
 use Rattle.catalog.specs.Database.{Database}
 use Rattle.session.specs.Supported.{StepSoFar, database_of}
 use Rattle.storage.specs.Forms.{is_supported}
-use Rattle.session.specs.Machine.{Machine, Connection, Idle, InTransactionOf, NoSnapshot, Reads, Writes, Rows, Refused, connection, is_writing, last_place, newest, with_connection}
+use Rattle.session.specs.Machine.{Machine, Connection, Idle, InTransactionOf, Phase, SavepointState, Writes, Rows, Refused, connection, is_writing, last_place, newest, with_connection}
 use Rattle.session.specs.Outcomes.{Outcome, RefusedBy, outcome, unless_busy, worked, worked_alone, write_outcome}
 use Rattle.storage.specs.Works.{Work, Makes, IsRefused, Undoes, Binds, Reaches, RefusesWith, change_made}
 use Rattle.session.specs.Steps.{Allowed, Instead}
 use Rattle.session.specs.Changing.{written}
 use Rattle.session.specs.declared.changes.Write.{Write}
 use Rattle.session.specs.declared.changes.Write.TheVariants as write
+use Rattle.session.proofs.ReadingPhases.{IsReadingPhase}
 use Rattle.session.proofs.Stepping.{by_outcome, first_is, first_set, instead, no_other}
 
 -- ---- in a transaction
 
+-- how the first connection's transaction began, and its savepoints
+pub record Begun : Type 0 where
+  pub by_savepoint : Bool
+  pub points : List SavepointState
+
 -- the machine whose first connection works on this database
-abbrev pub working_on : Machine → Database → Machine
-working_on m db = with_connection m 1 (InTransactionOf false [] (Writes (last_place m) db))
+abbrev pub working_on : Begun → Machine → Database → Machine
+working_on b m db = with_connection m 1 (InTransactionOf b.by_savepoint b.points (Writes (last_place m) db))
 
-abbrev pub in_transaction : Machine → Work → Outcome
-in_transaction m w = worked m 1 false [] (last_place m) w
+abbrev pub working : Begun → Machine → Work → Outcome
+working b m w = worked m 1 b.by_savepoint b.points (last_place m) w
 
-pub worked_gives : (m : Machine) (made : Database) (w : Work) → Reaches w made → Allowed m 1 (in_transaction m w) (Rows []) (working_on m made)
-worked_gives m made (Makes db) is = (refl, ap (working_on m) (sym is))
-worked_gives m made (IsRefused rs) is = absurd is
-worked_gives m made (Undoes r) is = absurd is
-worked_gives m made (Binds over ch w) is = inr (is.0, worked_gives m made w is.1)
+pub worked_gives : (b : Begun) (m : Machine) (made : Database) (w : Work) → Reaches w made → Allowed m 1 (working b m w) (Rows []) (working_on b m made)
+worked_gives b m made (Makes db) is = (refl, ap (working_on b m) (sym is))
+worked_gives b m made (IsRefused rs) is = absurd is
+worked_gives b m made (Undoes r) is = absurd is
+worked_gives b m made (Binds over ch w) is = inr (is.0, worked_gives b m made w is.1)
 
 -- ---- what either end of a statement has in common
 
@@ -43,21 +49,21 @@ pub record IsFinish (m : Machine) (finish : Work → Outcome) : Type 0 where
   pub refuses : (r : Refusal) (w : Work) → RefusesWith w r → Allowed m 1 (finish w) (Refused r) m
   pub io : (w : Work) → Instead m (finish w) (Refused refusal.Io) m
 
-module _ (m : Machine) (first : Connection) (others : List Connection) (are : m.connections ≡ first ∷ others) where
-  in_refuses : (r : Refusal) (w : Work) → RefusesWith w r → Allowed m 1 (in_transaction m w) (Refused r) m
+module _ (b : Begun) (m : Machine) where
+  in_refuses : (r : Refusal) (w : Work) → RefusesWith w r → Allowed m 1 (working b m w) (Refused r) m
   in_refuses r (Makes db) why = absurd why
   in_refuses r (IsRefused rs) why = (r, why, refl, refl)
   in_refuses r (Undoes s) why = absurd why
   in_refuses r (Binds over ch w) (inl bad) = inl (r, bad, refl, refl)
   in_refuses r (Binds over ch w) (inr rest) = inr (rest.0, in_refuses r w rest.1)
 
-  in_io : (w : Work) → Instead m (in_transaction m w) (Refused refusal.Io) m
+  in_io : (w : Work) → Instead m (working b m w) (Refused refusal.Io) m
   in_io (Makes db) = (inr (refl, refl), refl)
   in_io (IsRefused rs) = (inr (refl, refl), refl)
   in_io (Undoes r) = (inr (refl, refl), refl)
   in_io (Binds over ch w) = in_io w
 
-  pub finish_in : IsFinish m (in_transaction m)
+  pub finish_in : IsFinish m (working b m)
   finish_in = record { refuses = in_refuses; io = in_io }
 
 abbrev pub alone : Machine → Work → Outcome
@@ -107,9 +113,6 @@ write_outcome_of (write.Update u) m k is = ap (write_outcome m 1 (change_made (w
 write_outcome_of (write.Drop kind name) m k is = ap (write_outcome m 1 (change_made (written (write.Drop kind name)))) is
 write_outcome_of (write.CreateTable sql d) m k is = ap (write_outcome m 1 (change_made (written (write.CreateTable sql d)))) is
 
-itself : (n : ℕ) → (n == n) ≡ true
-itself n = grind (arith, nat_tests)
-
 module _ (m : Machine) (first : Connection) (others : List Connection) (are : m.connections ≡ first ∷ others) (idle : AllByRecursion (λ k. k ≡ Idle) others) where
   not_busy : (o : Outcome) → unless_busy m 1 o ≡ o
   not_busy o = ap (λ b. if b then RefusedBy (Busy ∷ []) else o) (no_other m first others are is_writing refl idle)
@@ -117,10 +120,5 @@ module _ (m : Machine) (first : Connection) (others : List Connection) (are : m.
   pub writes_alone : (work : Database → Work) → write_outcome m 1 work Idle ≡ alone m (work (newest m))
   writes_alone work = not_busy (alone m (work (newest m)))
 
-  pub writes_begun : (work : Database → Work) → write_outcome m 1 work (InTransactionOf false [] NoSnapshot) ≡ in_transaction m (work (newest m))
-  writes_begun work = not_busy (in_transaction m (work (newest m)))
-
-  pub writes_behind_reads : (work : Database → Work) → write_outcome m 1 work (InTransactionOf false [] (Reads (last_place m))) ≡ in_transaction m (work (newest m))
-  writes_behind_reads work =
-      ap (λ b. if b then unless_busy m 1 (in_transaction m (work (newest m))) else RefusedBy (refusal.StaleSnapshot ∷ [])) (itself (last_place m))
-      ∙ not_busy (in_transaction m (work (newest m)))
+  pub writes_reading : (b : Begun) (phase : Phase) → IsReadingPhase m phase → (work : Database → Work) → write_outcome m 1 work (InTransactionOf b.by_savepoint b.points phase) ≡ working b m (work (newest m))
+  writes_reading b phase is work = is.writes b.by_savepoint b.points work ∙ not_busy (working b m (work (newest m)))

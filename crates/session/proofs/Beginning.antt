@@ -1,5 +1,6 @@
 -- BEGIN IMMEDIATE is a step of the machine.
 use Rattle.std.proofs.Common.{◌≡◌, ◌⊎◌, ◌≤◌, inl, inr, refl, sym, ap, subst, ◌∙◌, ℕ, List, [], length, take, true, false, arith}
+use Rattle.std.proofs.lemmas.Bool.{false≢true}
 use Rattle.std.specs.Prelude.{◌↔◌, ⊤, IsErrAnd, Result, Ok, Err}
 use Rattle.disk.specs.declared.device.Disk.{Ghosts}
 use Rattle.sqlval.specs.Refusals as refusal
@@ -12,15 +13,16 @@ use Rattle.wal.specs.LogState.{LogState, size_of}
 use Rattle.wal.specs.Sizes.{IsSizeWithinLimits}
 use Rattle.wal.specs.declared.log.Snapshot.{Snapshot}
 use Rattle.catalog.specs.Database.{Database}
-use Rattle.catalog.specs.Listed.{IsUnchanged, committed_tables, current_tables}
-use Rattle.catalog.specs.declared.tables.Catalogs.{Catalogs}
+use Rattle.session.specs.SavedTables.{HasNoSavepoints, IsUnchanged, Savepoints, committed_in, current_in}
+use Rattle.session.specs.declared.savepoints.SavedCatalogs.{SavedCatalogs}
 use Rattle.catalog.specs.declared.tables.Table.{Table}
+use Rattle.pager.specs.Marks.{Changes}
 use Rattle.pager.specs.Views.{ViewHas, IsViewPage, View, newest_view, view_at, view_of}
 use Rattle.pager.specs.Writers.{IsBegun, seen, snapshot_of}
 use Rattle.pager.specs.declared.writer.Writer.{Writer}
 use Rattle.session.specs.Supported.{StepSoFar}
 use Rattle.session.specs.ConnectionState.{files_of, has_failed_in}
-use Rattle.session.specs.Machine.{Machine, Connection, Idle, Rows, Refused, is_writing, last_place, newest, with_connection}
+use Rattle.session.specs.Machine.{Machine, Connection, Idle, Rows, Refused, Writes, is_writing, last_place, newest, with_connection}
 use Rattle.session.specs.Outcomes.{Gives, outcome}
 use Rattle.storage.specs.Stored.{Stores}
 use Rattle.session.specs.Stored.{ShowsDatabase}
@@ -28,14 +30,15 @@ use Rattle.pages.specs.Map.{PageMap}
 use Rattle.pager.specs.Maps.{pages_in}
 use Rattle.pager.proofs.Mapping.{maps_alike}
 use Rattle.pager.proofs.Sounding.{begun_is_sound}
-use Rattle.session.specs.Representation.{CannotStoreIn, IsNewest, RepresentsRunning, IsTransaction, IsWriter, OnlyReads, ShowTheSame, StepsOn, done_reply, is_idle}
+use Rattle.session.specs.Representation.{CannotStoreIn, RepresentsRunning, IsTransaction, OnlyReads, ShowTheSame, StepsOn, done_reply, is_idle}
+use Rattle.session.specs.Writers.{IsNewest, IsWriter}
 use Rattle.session.specs.declared.transactions.Connections.{Connections}
 use Rattle.session.specs.declared.transactions.Transaction.{Transaction}
 use Rattle.session.specs.declared.transactions.Transaction.TheVariants as transaction
 use Rattle.session.proofs.SeenPages.{at_newest}
 use Rattle.session.proofs.Selecting.{all_listed}
 use Rattle.session.proofs.Settled.{crash_keeps}
-use Rattle.session.proofs.Showing.{idle_first, moved, still_shown}
+use Rattle.session.proofs.Showing.{begins_in, idle_first, moved, still_shown}
 use Rattle.session.proofs.Stepping.{begin_outcome, begun_as, by_outcome, first_is, free_begin, instead, no_other}
 
 -- views of the same pages hold the same
@@ -61,15 +64,15 @@ module _ {D : Type 0} {g : Ghosts D} where
     pub newest : IsNewest (files_of old) s
     pub begun : IsBegun (view_at (files_of old) s) w
 
-  pub committed_where_idle : (c : Connections D g) (last : ℕ) (t : Transaction) (k : Connection) → IsTransaction (files_of c) c.catalog last t k → is_idle t ≡ true → IsUnchanged c.catalog
-  committed_where_idle c last transaction.Idle k is idle = is.1
-  committed_where_idle c last transaction.Begun k is idle = is.1
-  committed_where_idle c last (transaction.Reading s) k is idle = is.1
-  committed_where_idle c last (transaction.Writing w) k is idle = (let bad : false ≡ true = idle in cc)
+  pub none_where_idle : (c : Connections D g) (m : Machine) (t : Transaction) (k : Connection) → IsTransaction (files_of c) c.catalog m.history t k → is_idle t ≡ true → IsUnchanged c.catalog × HasNoSavepoints c.catalog
+  none_where_idle c m transaction.Idle k is idle = (is.1, is.2)
+  none_where_idle c m transaction.Begun k is idle = absurd (false≢true idle)
+  none_where_idle c m (transaction.Reading s) k is idle = absurd (false≢true idle)
+  none_where_idle c m (transaction.Writing w) k is idle = absurd (false≢true idle)
 
   pub immediate_outcome : (c : Connections D g) (m : Machine) (shown : RepresentsRunning c m) → is_idle c.transaction ≡ true → outcome m 1 (statement.Begin begins.Immediate) ≡ Gives [] (with_connection m 1 (begun_as begins.Immediate m))
   immediate_outcome c m shown idle =
-      begin_outcome begins.Immediate m Idle (first_is m shown.first shown.others shown.connections ∙ idle_first (files_of c) c.catalog (last_place m) c.transaction shown.first shown.transaction idle)
+      begin_outcome begins.Immediate m Idle (first_is m shown.first shown.others shown.connections ∙ idle_first (files_of c) c.catalog m c.transaction shown.first shown.transaction idle)
       ∙ free_begin begins.Immediate m (no_other m shown.first shown.others shown.connections is_writing refl shown.idle)
 
   -- the writer that begins may commit over the newest commit
@@ -94,17 +97,20 @@ module _ {D : Type 0} {g : Ghosts D} where
   begun_immediate old new w s idle all m shown =
       let start = all m shown in
       let next = with_connection m 1 (begun_as begins.Immediate m) in
-      let all_committed = committed_where_idle old (last_place m) old.transaction shown.first shown.transaction idle in
+      let was = none_where_idle old m old.transaction shown.first shown.transaction idle in
       record {
         next = next;
         step = by_outcome (CannotStoreIn old (statement.Begin begins.Immediate)) m (statement.Begin begins.Immediate) refl shown.running (Gives [] next) (Rows []) next (immediate_outcome old m shown idle) (refl, refl);
-        shown = inr (moved old new m (begun_as begins.Immediate m) shown start.files start.failed (ap committed_tables start.catalog)
-            (subst (λ (t : Transaction). IsTransaction (files_of new) new.catalog (last_place m) t (begun_as begins.Immediate m)) (sym start.now) (
-              newest m,
-              refl,
-              writer_begins old new w s start shown.stored.served,
-              subst (λ (c : Catalogs). ShowsDatabase (view_of (files_of new) w) (current_tables c) (newest m)) (sym start.catalog) (writer_stores old new w s (current_tables old.catalog) (newest m) start (all_listed old m shown all_committed)),
-            )));
+        shown = inr (moved old new m (begun_as begins.Immediate m) shown start.files start.failed (ap committed_in start.catalog)
+            (subst (λ (t : Transaction). IsTransaction (files_of new) new.catalog m.history t (begun_as begins.Immediate m)) (sym start.now) (record {
+              db = newest m;
+              points = [];
+              is = begins_in Changes new.catalog (Writes (last_place m) (newest m)) (subst HasNoSavepoints (sym start.catalog) was.1);
+              may = writer_begins old new w s start shown.stored.served;
+              stored = subst (λ (c : SavedCatalogs). ShowsDatabase (view_of (files_of new) w) (current_in c) (newest m)) (sym start.catalog) (writer_stores old new w s (current_in old.catalog) (newest m) start (all_listed old m shown was.0));
+              saved = record { tables = ap (λ (p : Savepoints). p.points) (subst HasNoSavepoints (sym start.catalog) was.1); hold = tt };
+              marks = start.begun.marks;
+            })));
         crash = crash_keeps old new m next shown start.files;
       }
 

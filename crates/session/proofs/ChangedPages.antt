@@ -7,9 +7,10 @@ use Rattle.sqlval.specs.declared.fault.Fault.{Fault}
 use Rattle.disk.specs.declared.device.Disk.{Ghosts}
 use Rattle.syntax.specs.declared.statement.Statement.{Statement}
 use Rattle.catalog.specs.Database.{Database}
-use Rattle.catalog.specs.Listed.{committed_tables, current_tables, tables_of}
+use Rattle.catalog.specs.Listed.{tables_of}
+use Rattle.session.specs.SavedTables.{committed_in, current_in, savepoints_in}
 use Rattle.catalog.specs.declared.tables.Catalog.{Catalog}
-use Rattle.catalog.specs.declared.tables.Catalogs.{Catalogs}
+use Rattle.session.specs.declared.savepoints.SavedCatalogs.{SavedCatalogs}
 use Rattle.catalog.specs.declared.tables.Table.{Table}
 use Rattle.wal.specs.LogState.{LogState, state_of}
 use Rattle.wal.specs.Sizes.{IsSizeWithinLimits}
@@ -29,7 +30,8 @@ use Rattle.pager.proofs.WriterSights.{map_told}
 use Rattle.storage.specs.Changing as pages
 use Rattle.storage.specs.Stored.{Stores}
 use Rattle.session.specs.Changing.{CanChange, ChangesPages, KeepsListed, Listing, MakesCatalog, listing}
-use Rattle.session.specs.Representation.{IsNewest, IsWriter, ShowTheSame}
+use Rattle.session.specs.Representation.{ShowTheSame}
+use Rattle.session.specs.Writers.{IsNewest, IsWriter}
 use Rattle.session.specs.Stored.{ShowsDatabase}
 use Rattle.session.proofs.KeptFiles.{changes_stored, changes_told, files_kept}
 use Rattle.session.proofs.Settled.{still_settled}
@@ -69,18 +71,18 @@ module _ {D : Type 0} {g : Ghosts D} where
       told = has.applies.told;
       settled = has.applies.settled;
       writer = noted_writer next.files v end now over has.applies.writer;
-      stored = subst (λ (x : View). ShowsDatabase x (current_tables next.catalog) has.made) (sym (noted_view next.files v end now over)) has.applies.stored;
+      stored = subst (λ (x : View). ShowsDatabase x (current_in next.catalog) has.made) (sym (noted_view next.files v end now over)) has.applies.stored;
     };
   }
 
   -- a writer that changes the database of a catalog's tables has pages that tell their bytes
-  pub tells_changes : (files : Log D g) (catalog : Catalogs) (w : Writer) (db : Database) (a n b : ℕ) → CanChange (listing files catalog) w db → IsTrue (tells_writer (under_writer files w a n b))
+  pub tells_changes : (files : Log D g) (catalog : SavedCatalogs) (w : Writer) (db : Database) (a n b : ℕ) → CanChange (listing files catalog) w db → IsTrue (tells_writer (under_writer files w a n b))
   tells_changes files catalog w db a n b on = changes_told files w a n b on.told on.writer
 
   -- and they are those that it sees
-  stored_over : (files : Log D g) (catalog : Catalogs) (w : Writer) (db : Database) (a b : ℕ) → (on : CanChange (listing files catalog) w db)
-      → Stores (map_over (under_reader files (snapshot_of w) a b) w) (page_size_of w) (current_tables catalog) db
-  stored_over files catalog w db a b on = changes_stored files w (current_tables catalog) db a b on.told on.writer on.stored
+  stored_over : (files : Log D g) (catalog : SavedCatalogs) (w : Writer) (db : Database) (a b : ℕ) → (on : CanChange (listing files catalog) w db)
+      → Stores (map_over (under_reader files (snapshot_of w) a b) w) (page_size_of w) (current_in catalog) db
+  stored_over files catalog w db a b on = changes_stored files w (current_in catalog) db a b on.told on.writer on.stored
 
   module _ (old new : Log D g) (w v : Writer) (a n b c m d : ℕ) (kept : under_writer new v c m d ≡ under_writer old w a n b) where
     reader_kept : under_reader new (snapshot_of v) c d ≡ under_reader old (snapshot_of w) a b
@@ -121,52 +123,52 @@ module _ {D : Type 0} {g : Ghosts D} where
       served = served_now same is;
     }
 
-    refused_over : (s : Statement) (catalog : Catalogs) (db : Database) (f : Fault) → (on : CanChange (listing old catalog) w db)
+    refused_over : (s : Statement) (catalog : SavedCatalogs) (db : Database) (f : Fault) → (on : CanChange (listing old catalog) w db)
         → pages.IsChangeRefusal s (map_over (under_reader old (snapshot_of w) a b) w) (page_size_of w) db f → pages.IsChangeRefusal s (pages_in (view_of old w)) (view_of old w).page_size db f
     refused_over s catalog db f on why =
         subst (λ (map : PageMap). pages.IsChangeRefusal s map (view_of old w).page_size db f) (map_told old w a b on.told)
         (subst (λ (p : ℕ). pages.IsChangeRefusal s (map_over (under_reader old (snapshot_of w) a b) w) p db f) on.writer.page_size why)
 
     -- what a change of the pages comes to
-    pub changed : (s : Statement) (catalog next : Catalogs) (db : Database) (r : Result ⊤ Fault) → CanChange (listing old catalog) w db
-        → committed_tables next ≡ committed_tables catalog
-        → pages.MakesChange (λ done. current_tables next) s (map_over (under_reader old (snapshot_of w) a b) w) (map_over (under_reader new (snapshot_of v) c d) v) (page_size_of w) (current_tables catalog) r
-        → OnErr r (current_tables next ≡ current_tables catalog)
+    pub changed : (s : Statement) (catalog next : SavedCatalogs) (db : Database) (r : Result ⊤ Fault) → CanChange (listing old catalog) w db
+        → committed_in next ≡ committed_in catalog → savepoints_in next ≡ savepoints_in catalog
+        → pages.MakesChange (λ done. current_in next) s (map_over (under_reader old (snapshot_of w) a b) w) (map_over (under_reader new (snapshot_of v) c d) v) (page_size_of w) (current_in catalog) r
+        → OnErr r (current_in next ≡ current_in catalog)
         → ChangesPages s (listing old catalog) w db r (listing new next) v
-    changed s catalog next db (Ok done) on keeps makes refused =
+    changed s catalog next db (Ok done) on keeps points makes refused =
         let same = shows_same on.told in
         let made = makes db (stored_over old catalog w db a b on) in
         record {
-          kept = record { files = same; tables = keeps };
+          kept = record { files = same; tables = keeps; savepoints = points };
           made = made.made;
           reaches = made.reaches;
           applies = record {
             told = same.told;
             settled = still_settled old new same on.settled;
             writer = writer_still same on.writer;
-            stored = stored_now (current_tables next) made.made same on.writer made.stored;
+            stored = stored_now (current_in next) made.made same on.writer made.stored;
           };
         }
-    changed s catalog next db (Err f) on keeps makes refused =
-        record { kept = record { files = shows_same on.told; tables = keeps }; tables = refused; why = refused_over s catalog db f on (makes db (stored_over old catalog w db a b on)) }
+    changed s catalog next db (Err f) on keeps points makes refused =
+        record { kept = record { files = shows_same on.told; tables = keeps; savepoints = points }; tables = refused; why = refused_over s catalog db f on (makes db (stored_over old catalog w db a b on)) }
 
     -- the same where the change answers a catalog
-    pub changed_to : (s : Statement) (catalog : Catalogs) (db : Database) (tables : List Table) (r : Result Catalog Fault) → CanChange (listing old catalog) w db → tables ≡ current_tables catalog
+    pub changed_to : (s : Statement) (catalog : SavedCatalogs) (db : Database) (tables : List Table) (r : Result Catalog Fault) → CanChange (listing old catalog) w db → tables ≡ current_in catalog
         → pages.MakesChange tables_of s (map_over (under_reader old (snapshot_of w) a b) w) (map_over (under_reader new (snapshot_of v) c d) v) (page_size_of w) tables r
         → MakesCatalog s (listing old catalog) w db r new v
-    changed_to s catalog db tables (Ok made) on same makes = λ next now kept.
-        changed s catalog next db (Ok tt) on kept
+    changed_to s catalog db tables (Ok made) on same makes = λ next now kept points.
+        changed s catalog next db (Ok tt) on kept points
         (λ base held. subst (λ (ts : List Table). pages.IsMade s base (map_over (under_reader new (snapshot_of v) c d) v) (page_size_of w) ts) (sym now)
         (makes base (subst (λ (ts : List Table). Stores (map_over (under_reader old (snapshot_of w) a b) w) (page_size_of w) ts base) (sym same) held))) tt
     changed_to s catalog db tables (Err f) on same makes =
-        changed s catalog catalog db (Err f) on refl
+        changed s catalog catalog db (Err f) on refl refl
         (λ base held. makes base (subst (λ (ts : List Table). Stores (map_over (under_reader old (snapshot_of w) a b) w) (page_size_of w) ts base) (sym same) held)) refl
 
     -- the same of a call on the current catalog
-    pub changed_on : (s : Statement) (catalog : Catalogs) (db : Database) (tables : List Table) (r : Result ⊤ Fault) → CanChange (listing old catalog) w db → tables ≡ current_tables catalog
+    pub changed_on : (s : Statement) (catalog : SavedCatalogs) (db : Database) (tables : List Table) (r : Result ⊤ Fault) → CanChange (listing old catalog) w db → tables ≡ current_in catalog
         → pages.MakesChange (λ done. tables) s (map_over (under_reader old (snapshot_of w) a b) w) (map_over (under_reader new (snapshot_of v) c d) v) (page_size_of w) tables r
         → ChangesPages s (listing old catalog) w db r (listing new catalog) v
     changed_on s catalog db tables r on same makes =
-        changed s catalog catalog db r on refl
+        changed s catalog catalog db r on refl refl
         (subst (λ (ts : List Table). pages.MakesChange (λ done. ts) s (map_over (under_reader old (snapshot_of w) a b) w) (map_over (under_reader new (snapshot_of v) c d) v) (page_size_of w) ts r) same makes)
         (on_any_err r _ refl)

@@ -7,7 +7,7 @@ use Rattle.disk.specs.declared.device.Disk.{Ghosts}
 use Rattle.sqlval.specs.declared.fault.Fault.{Fault}
 use Rattle.wal.specs.LogState.{db_of, log_of}
 use Rattle.catalog.specs.Database.{Database}
-use Rattle.catalog.specs.Listed.{committed_tables, current_tables}
+use Rattle.session.specs.SavedTables.{committed_in, current_in}
 use Rattle.catalog.specs.declared.tables.Table.{Table}
 use Rattle.pager.specs.Views.{View, newest_view}
 use Rattle.session.specs.Holding.{HoldThroughout, IsLeftBy}
@@ -48,12 +48,12 @@ may_be_left m made d (inr is) = inr (inr (inl (ap Some (sym is))))
 module _ {D : Type 0} {g : Ghosts D} where
   -- The commit of connections whose files were read at most since the machine was shown, and whose committed tables are as they were then.
   module _ (old mid new : Connections D g) (m : Machine) (made : Database) (shown : RepresentsRunning old m) (same : ShowTheSame (files_of old) (files_of mid))
-      (tables : committed_tables mid.catalog ≡ committed_tables old.catalog) (held : HoldsEither mid made new) where
+      (tables : committed_in mid.catalog ≡ committed_in old.catalog) (held : HoldsEither mid made new) where
     abbrev Either : Database → Type 0
     Either d = (d ≡ newest m) ⊎ (d ≡ made)
 
     either : HoldThroughout Either (files_of mid) (files_of new)
-    either = held (newest m) (subst (λ (v : View). ShowsDatabase v (committed_tables mid.catalog) (newest m)) (sym same.newest)
+    either = held (newest m) (subst (λ (v : View). ShowsDatabase v (committed_in mid.catalog) (newest m)) (sym same.newest)
         (subst (λ (ts : List Table). ShowsDatabase (newest_view (files_of old)) ts (newest m)) (sym tables) shown.stored))
 
     pub commit_crashes : HoldThroughout (MayShow m (after_commit m 1 made)) (files_of old) (files_of new)

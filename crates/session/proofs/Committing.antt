@@ -11,8 +11,8 @@ use Rattle.wal.specs.LogState.{LogState, db_of, header_of, state_of, log_of, see
 use Rattle.wal.specs.Refusals.{IsWithin}
 use Rattle.wal.specs.declared.log.Log.{Log}
 use Rattle.catalog.specs.Database.{Database}
-use Rattle.catalog.specs.Listed.{committed_tables, current_tables}
-use Rattle.catalog.specs.declared.tables.Catalogs.{Catalogs}
+use Rattle.session.specs.SavedTables.{HasNoSavepoints, committed_in, current_in, savepoints_in}
+use Rattle.session.specs.declared.savepoints.SavedCatalogs.{SavedCatalogs}
 use Rattle.catalog.specs.declared.tables.Table.{Table}
 use Rattle.pager.specs.Commits.{CommitsPages, IsCommittedOver, IsRefusedCommit, LeavesCommit, MayCommit}
 use Rattle.pager.specs.Limits.{pages_of}
@@ -22,7 +22,8 @@ use Rattle.pager.specs.Writers.{snapshot_of}
 use Rattle.pager.proofs.Backing.{back_sound}
 use Rattle.pager.specs.declared.writer.Writer.{Writer}
 use Rattle.session.specs.ConnectionState.{files_of, has_failed_in, is_io}
-use Rattle.session.specs.Representation.{IsNewest, IsWriter, ShowTheSame}
+use Rattle.session.specs.Representation.{ShowTheSame}
+use Rattle.session.specs.Writers.{IsNewest, IsWriter}
 use Rattle.session.specs.Stored.{ShowsDatabase}
 use Rattle.session.specs.Applying.{CommitsChanges, CommitsDatabase, HoldsEither, IsCommitCause, IsUncommitted, CanApply}
 use Rattle.session.specs.declared.transactions.Connections.{Connections}
@@ -38,7 +39,7 @@ module _ {D : Type 0} {g : Ghosts D} where
     whole = applies.writer.sound.consistent;
     newest = applies.writer.newest.seen;
     page_size = applies.writer.page_size;
-    first = (first_shown (view_of (files_of c) w) (current_tables c.catalog) db applies.stored).has;
+    first = (first_shown (view_of (files_of c) w) (current_in c.catalog) db applies.stored).has;
     header_is = applies.stored.stored.header_is;
   }
 
@@ -52,29 +53,30 @@ module _ {D : Type 0} {g : Ghosts D} where
   some_pages old w tables db held = (first_shown (view_of old w) tables db held).last
 
   pub has_committed : (old new : Connections D g) (w : Writer) (db : Database) (applies : CanApply old w db) → CommitsPages (files_of old) w (first_of (view_of (files_of old) w)) applies.stored.stored.header (files_of new)
-      → db_of (files_of new) ≡ db_of (files_of old) → has_failed_in new ≡ has_failed_in old → new.transaction ≡ old.transaction → current_tables new.catalog ≡ current_tables old.catalog
-      → committed_tables new.catalog ≡ current_tables old.catalog → CommitsDatabase old db new
-  has_committed old new w db applies is db_same failed transaction tables all = record {
+      → db_of (files_of new) ≡ db_of (files_of old) → has_failed_in new ≡ has_failed_in old → new.transaction ≡ old.transaction → current_in new.catalog ≡ current_in old.catalog
+      → committed_in new.catalog ≡ current_in old.catalog → HasNoSavepoints new.catalog → CommitsDatabase old db new
+  has_committed old new w db applies is db_same failed transaction tables all none = record {
     told = is.tells;
     settled = record {
       db_synced = subst (λ (d : D). IsSynced (g.file d)) (sym db_same) applies.settled.db_synced;
       log_synced = is.synced;
       commits = is.settled;
-      found = found_over (files_of old) w (first_of (view_of (files_of old) w)) applies.stored.stored.header (newest_view (files_of new)) applies.settled.found is.db_is is.page_size_is is.left is.sized is.few (some_pages (files_of old) w (current_tables old.catalog) db applies.stored);
+      found = found_over (files_of old) w (first_of (view_of (files_of old) w)) applies.stored.stored.header (newest_view (files_of new)) applies.settled.found is.db_is is.page_size_is is.left is.sized is.few (some_pages (files_of old) w (current_in old.catalog) db applies.stored);
     };
     failed = failed;
     transaction = transaction;
     tables = tables;
     all = tables ∙ sym all;
-    stored = subst (λ (ts : List Table). ShowsDatabase (newest_view (files_of new)) ts db) (sym tables) (stores_over (files_of old) w (current_tables old.catalog) db applies.stored (newest_view (files_of new)) is.page_size_is is.left);
+    savepoints = none;
+    stored = subst (λ (ts : List Table). ShowsDatabase (newest_view (files_of new)) ts db) (sym tables) (stores_over (files_of old) w (current_in old.catalog) db applies.stored (newest_view (files_of new)) is.page_size_is is.left);
   }
 
   -- what a crash leaves of it
   pub commit_holds : (old new : Connections D g) (w : Writer) (db : Database) (applies : CanApply old w db) → db_of (files_of new) ≡ db_of (files_of old)
       → (log_of (files_of new) ≡ log_of (files_of old)) ⊎ LeavesCommit (files_of old) w (first_of (view_of (files_of old) w)) applies.stored.stored.header (files_of new) → HoldsEither old db new
   commit_holds old new w db applies db_same crash was stored =
-      either_throughout (files_of old) (files_of new) w (first_of (view_of (files_of old) w)) applies.stored.stored.header applies.settled db_same (some_pages (files_of old) w (current_tables old.catalog) db applies.stored)
-      (committed_tables old.catalog) (current_tables old.catalog) was db stored (stores_over (files_of old) w (current_tables old.catalog) db applies.stored) crash
+      either_throughout (files_of old) (files_of new) w (first_of (view_of (files_of old) w)) applies.stored.stored.header applies.settled db_same (some_pages (files_of old) w (current_in old.catalog) db applies.stored)
+      (committed_in old.catalog) (current_in old.catalog) was db stored (stores_over (files_of old) w (current_in old.catalog) db applies.stored) crash
 
   -- ---- a refused commit
 
@@ -99,17 +101,17 @@ module _ {D : Type 0} {g : Ghosts D} where
     }
 
     -- and sees the same database
-    stores_left : ShowsDatabase (view_of (files_of old) left) (current_tables old.catalog) db
+    stores_left : ShowsDatabase (view_of (files_of old) left) (current_in old.catalog) db
     stores_left =
-        shows_headed (view_of (files_of old) w) (view_of (files_of old) left) refl is.size is.others is.first applies.stored.stored.header is.has_first is.headed (current_tables old.catalog) db applies.stored refl refl refl
+        shows_headed (view_of (files_of old) w) (view_of (files_of old) left) refl is.size is.others is.first applies.stored.stored.header is.has_first is.headed (current_in old.catalog) db applies.stored refl refl refl
 
     works_left : ShowTheSame (files_of old) (files_of new) → new.catalog ≡ old.catalog → CanApply new left db
     works_left same catalog = record {
       told = same.told;
       settled = still_settled (files_of old) (files_of new) same applies.settled;
       writer = still_writer (files_of old) (files_of new) left same writer_left;
-      stored = subst (λ (c : Catalogs). ShowsDatabase (view_of (files_of new) left) (current_tables c) db) (sym catalog)
-          (subst (λ (v : View). ShowsDatabase (after v (changes_of left) (pages_of left)) (current_tables old.catalog) db) (sym (same.at (snapshot_of left))) stores_left);
+      stored = subst (λ (c : SavedCatalogs). ShowsDatabase (view_of (files_of new) left) (current_in c) db) (sym catalog)
+          (subst (λ (v : View). ShowsDatabase (after v (changes_of left) (pages_of left)) (current_in old.catalog) db) (sym (same.at (snapshot_of left))) stores_left);
     }
 
     uncommitted : IsCommitCause (files_of old) w f → (f ≡ fault.Io → ⊥) → has_failed_in new ≡ has_failed_in old → new.catalog ≡ old.catalog → new.transaction ≡ old.transaction → IsUncommitted old w db new left f
@@ -118,9 +120,11 @@ module _ {D : Type 0} {g : Ghosts D} where
         let same = same_files (files_of old) (files_of new) applies.told files.0 files.1 files.2 in
         record {
           why = why;
-          kept = record { files = same; failed = failed; transaction = transaction; tables = ap committed_tables catalog };
-          tables = ap current_tables catalog;
+          kept = record { files = same; failed = failed; transaction = transaction; tables = ap committed_in catalog; savepoints = ap savepoints_in catalog };
+          tables = ap current_in catalog;
           applies = works_left same catalog;
+          marks = is.marks;
+          stands = record { page_size = is.page_size; snapshot = is.snapshot };
         }
 
     pub commit_refused : AreNew (view_at (files_of old) (snapshot_of w)) (changes_of w) (changes_of w) → db_of (files_of new) ≡ db_of (files_of old)

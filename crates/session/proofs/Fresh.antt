@@ -4,7 +4,7 @@ use Rattle.std.specs.List.{AllByRecursion}
 use Rattle.std.proofs.lemmas.List.{take_all}
 use Rattle.disk.specs.declared.device.Disk.{Ghosts}
 use Rattle.catalog.specs.Database.{Database}
-use Rattle.catalog.specs.Listed.{IsUnchanged, committed_tables, current_tables}
+use Rattle.session.specs.SavedTables.{HasNoSavepoints, IsUnchanged, committed_in, current_in}
 use Rattle.catalog.specs.declared.tables.Table.{Table}
 use Rattle.pager.specs.Views.{Tells, newest_view}
 use Rattle.session.specs.Holding.{IsSettled}
@@ -21,9 +21,9 @@ all_idle zero = tt
 all_idle (suc n) = (refl, all_idle n)
 
 module _ {D : Type 0} {g : Ghosts D} where
-  pub fresh_shown : (c : Connections D g) (db : Database) → has_failed_in c ≡ false → c.transaction ≡ transaction.Idle → Tells (files_of c) → IsSettled (files_of c) → IsUnchanged c.catalog → ShowsDatabase (newest_view (files_of c)) (current_tables c.catalog) db
+  pub fresh_shown : (c : Connections D g) (db : Database) → has_failed_in c ≡ false → c.transaction ≡ transaction.Idle → Tells (files_of c) → IsSettled (files_of c) → IsUnchanged c.catalog → HasNoSavepoints c.catalog → ShowsDatabase (newest_view (files_of c)) (current_in c.catalog) db
       → RepresentsRunning c (fresh db)
-  fresh_shown c db whole is told settled all stored = record {
+  fresh_shown c db whole is told settled all none stored = record {
     running = refl;
     sure = refl;
     whole = whole;
@@ -35,5 +35,5 @@ module _ {D : Type 0} {g : Ghosts D} where
     others = idle 15;
     connections = refl;
     idle = all_idle 15;
-    transaction = subst (λ (t : Transaction). IsTransaction (files_of c) c.catalog 0 t Idle) (sym is) (refl, all);
+    transaction = subst (λ (t : Transaction). IsTransaction (files_of c) c.catalog (fresh db).history t Idle) (sym is) (refl, all, none);
   }

@@ -19,7 +19,8 @@ use Rattle.pager.specs.declared.writer.Writer.{Writer}
 use Rattle.pager.proofs.Sighting.{tells_read, view_told}
 use Rattle.pager.proofs.WriterSights.{map_told, tells_write}
 use Rattle.storage.specs.Stored.{Stores}
-use Rattle.session.specs.Representation.{IsWriter, ShowTheSame}
+use Rattle.session.specs.Representation.{ShowTheSame}
+use Rattle.session.specs.Writers.{IsWriter}
 use Rattle.session.specs.Stored.{ShowsDatabase}
 use Rattle.session.proofs.Showing.{read_files}
 

@@ -11,6 +11,12 @@ pub mod Besides
 pub mod FirstPages
 pub mod KeptFiles
 mod ChangedPages
+pub mod ReadingPhases
+mod SavedLists
+pub mod SavedStates
+pub mod SavedPoints
+pub mod SavingSteps
+pub mod MarksAtBegin
 pub mod Beginning
 pub mod Applying
 pub mod Writing

@@ -8,7 +8,7 @@ use Rattle.sqlval.specs.declared.fault.Fault.TheVariants as fault
 use Rattle.syntax.specs.declared.statement.Statement.{Statement}
 use Rattle.wal.specs.declared.log.Log.{Log}
 use Rattle.catalog.specs.Database.{Database}
-use Rattle.catalog.specs.Listed.{committed_tables, current_tables}
+use Rattle.session.specs.SavedTables.{committed_in, current_in}
 use Rattle.catalog.specs.declared.tables.Table.{Table}
 use Rattle.pager.specs.Limits.{pages_of}
 use Rattle.pager.specs.Marks.{Changes, IsOverTheSame, now_of}
@@ -20,7 +20,7 @@ use Rattle.pager.specs.Maps.{pages_in}
 use Rattle.session.specs.Applying.{IsApplied, IsNotApplied, Applies, CanApply}
 use Rattle.storage.specs.Changing.{IsChangeRefusal}
 use Rattle.session.specs.ConnectionState.{files_of}
-use Rattle.session.specs.Representation.{IsNewest, IsWriter}
+use Rattle.session.specs.Writers.{IsNewest, IsWriter}
 use Rattle.session.specs.Stored.{ShowsDatabase}
 use Rattle.session.specs.declared.transactions.Connections.{Connections}
 use Rattle.session.proofs.Settled.{still_settled}
@@ -31,14 +31,17 @@ pub at_last_mark : (marks left : List Changes) (now back : Changes) (place : ℕ
 at_last_mark marks left now back place last is kept =
     kept now ∙ ap (λ (changes : List Changes). slice_index_or changes place now) is ∙ get_or_push marks now now place (sym last)
 
+pub over_on : (w v u : Writer) → IsOverTheSame w v → IsOverTheSame v u → IsOverTheSame w u
+over_on w v u first second = record { page_size = second.page_size ∙ first.page_size; snapshot = second.snapshot ∙ first.snapshot }
+
 module _ {D : Type 0} {g : Ghosts D} where
   -- ---- a mark is set, or forgotten
 
-  moved_view : (files : Log D g) (w v : Writer) → now_of v ≡ now_of w → IsOverTheSame w v → view_of files v ≡ view_of files w
+  pub moved_view : (files : Log D g) (w v : Writer) → now_of v ≡ now_of w → IsOverTheSame w v → view_of files v ≡ view_of files w
   moved_view files w v now over = λ k. after (view_at files (over.snapshot k)) ((now k).pages) ((now k).size)
 
   -- a writer that would commit the same over the same snapshot
-  moved_writer : (files : Log D g) (w v : Writer) → now_of v ≡ now_of w → IsOverTheSame w v → IsWriter files w → IsWriter files v
+  pub moved_writer : (files : Log D g) (w v : Writer) → now_of v ≡ now_of w → IsOverTheSame w v → IsWriter files w → IsWriter files v
   moved_writer files w v now over is = record {
     newest = subst (IsNewest files) (sym over.snapshot) is.newest;
     sound = back_sound w v now over is.sound;
@@ -50,14 +53,14 @@ module _ {D : Type 0} {g : Ghosts D} where
     told = on.told;
     settled = on.settled;
     writer = moved_writer (files_of c) w v now over on.writer;
-    stored = subst (λ (x : View). ShowsDatabase x (current_tables c.catalog) db) (sym (moved_view (files_of c) w v now over)) on.stored;
+    stored = subst (λ (x : View). ShowsDatabase x (current_in c.catalog) db) (sym (moved_view (files_of c) w v now over)) on.stored;
   }
 
   -- a mark that is refused
   pub unmarked : (s : Statement) (c : Connections D g) (w v : Writer) (db : Database) (r : Result ⊤ Fault) (f : Fault) → IsErrAnd r (λ e. e ≡ f) → f ≡ fault.Memory → CanApply c w db → Applies s c w db r c v
   unmarked s c w v db (Ok done) f is memory on = absurd is
   unmarked s c w v db (Err e) f is memory on = record {
-    kept = record { files = the_same (files_of c) on.told; failed = refl; transaction = refl; tables = refl };
+    kept = record { files = the_same (files_of c) on.told; failed = refl; transaction = refl; tables = refl; savepoints = refl };
     tables = refl;
     why = inl (inl (inl (is ∙ memory)));
   }
@@ -82,5 +85,5 @@ module _ {D : Type 0} {g : Ghosts D} where
         settled = still_settled (files_of old) (files_of new) has.kept.files on.settled;
         writer = still_writer (files_of old) (files_of new) w has.kept.files on.writer;
         stored = subst (λ (ts : List Table). ShowsDatabase (view_of (files_of new) w) ts db) (sym has.tables)
-            (subst (λ (v : View). ShowsDatabase (after v (changes_of w) (pages_of w)) (current_tables old.catalog) db) (sym (has.kept.files.at (snapshot_of w))) on.stored);
+            (subst (λ (v : View). ShowsDatabase (after v (changes_of w) (pages_of w)) (current_in old.catalog) db) (sym (has.kept.files.at (snapshot_of w))) on.stored);
       })

@@ -14,7 +14,7 @@ use Rattle.wal.specs.Sizes.{IsSizeWithinLimits}
 use Rattle.wal.specs.declared.log.Log.{Log}
 use Rattle.wal.specs.declared.log.Snapshot.{Snapshot}
 use Rattle.catalog.specs.Database.{Database}
-use Rattle.catalog.specs.Listed.{committed_tables, current_tables}
+use Rattle.session.specs.SavedTables.{committed_in, current_in, savepoints_in}
 use Rattle.catalog.specs.declared.tables.Table.{Table}
 use Rattle.dbheader.specs.declared.fields.Header.{Header}
 use Rattle.pager.specs.Commits.{CommitsPages, IsRefusedCommit, LeavesCommit, MayCommit}
@@ -30,7 +30,8 @@ use Rattle.storage.specs.Stored.{Stores}
 use Rattle.session.specs.ConnectionState.{files_of, has_failed_in, is_io}
 use Rattle.session.specs.Applying.{CanApply, CommitsChanges, CommitsDatabase, HoldsEither, IsAfterRefusal, IsCommitCause, IsInDoubt, IsPast, IsUncommitted, KeepsCommitted, WritesChanges}
 use Rattle.session.specs.Holding.{HoldThroughout, IsSettled}
-use Rattle.session.specs.Representation.{IsNewest, IsWriter, ShowTheSame}
+use Rattle.session.specs.Representation.{ShowTheSame}
+use Rattle.session.specs.Writers.{IsNewest, IsWriter}
 use Rattle.session.specs.Stored.{ShowsDatabase}
 use Rattle.session.specs.declared.transactions.Connections.{Connections}
 use Rattle.session.proofs.Committing.{commit_holds, commit_refused, has_committed, may_commit}
@@ -58,16 +59,16 @@ module _ {D : Type 0} {g : Ghosts D} where
   abbrev pub with_files : Connections D g → Log D g → Connections D g
   with_files c files = record c { log = files }
 
-  module _ (old : Connections D g) (mid : Log D g) (w : Writer) (db was : Database) (whole : has_failed_in old ≡ false) (applies : CanApply old w db) (stored : ShowsDatabase (newest_view (files_of old)) (committed_tables old.catalog) was)
+  module _ (old : Connections D g) (mid : Log D g) (w : Writer) (db was : Database) (whole : has_failed_in old ≡ false) (applies : CanApply old w db) (stored : ShowsDatabase (newest_view (files_of old)) (committed_in old.catalog) was)
       (same : ShowTheSame (files_of old) mid) where
     -- the writer's pages hold the database still
-    pub still_applies : (next : Connections D g) → ShowTheSame (files_of old) (files_of next) → current_tables next.catalog ≡ current_tables old.catalog → CanApply next w db
+    pub still_applies : (next : Connections D g) → ShowTheSame (files_of old) (files_of next) → current_in next.catalog ≡ current_in old.catalog → CanApply next w db
     still_applies next shows tables = record {
       told = shows.told;
       settled = still_settled (files_of old) (files_of next) shows applies.settled;
       writer = still_writer (files_of old) (files_of next) w shows applies.writer;
       stored = subst (λ (ts : List Table). ShowsDatabase (view_of (files_of next) w) ts db) (sym tables)
-          (subst (λ (v : View). ShowsDatabase (after v (changes_of w) (pages_of w)) (current_tables old.catalog) db) (sym (shows.at (snapshot_of w))) applies.stored);
+          (subst (λ (v : View). ShowsDatabase (after v (changes_of w) (pages_of w)) (current_in old.catalog) db) (sym (shows.at (snapshot_of w))) applies.stored);
     }
 
     pub mid_applies : CanApply (with_files old mid) w db
@@ -75,34 +76,36 @@ module _ {D : Type 0} {g : Ghosts D} where
 
     -- a refusal after which the files are as they were
     pub left_so : (next : Connections D g) (f : Fault) → IsCommitCause (files_of old) w f → ShowTheSame (files_of old) (files_of next) → has_failed_in next ≡ has_failed_in old → next.transaction ≡ old.transaction
-        → committed_tables next.catalog ≡ committed_tables old.catalog → current_tables next.catalog ≡ current_tables old.catalog → IsUncommitted old w db next w f
-    left_so next f why shows failed transaction committed current = record {
+        → committed_in next.catalog ≡ committed_in old.catalog → savepoints_in next.catalog ≡ savepoints_in old.catalog → current_in next.catalog ≡ current_in old.catalog → IsUncommitted old w db next w f
+    left_so next f why shows failed transaction committed points current = record {
       why = why;
-      kept = record { files = shows; failed = failed; transaction = transaction; tables = committed };
+      kept = record { files = shows; failed = failed; transaction = transaction; tables = committed; savepoints = points };
       tables = current;
       applies = still_applies next shows current;
+      marks = refl;
+      stands = record { page_size = refl; snapshot = refl };
     }
 
     -- where reading them was refused
     pub not_read : (next : Connections D g) (f : Fault) → IsOutside f → IsAfterRefusal old mid f next → CommitsChanges old w db (Err f) next w
-    not_read next f (inl memory) is = inr (left_so next f (inl memory) (subst (ShowTheSame (files_of old)) (sym is.files_are) same) (is.failed ∙ ap is_io memory ∙ sym whole) is.transaction (ap committed_tables is.catalog) (ap current_tables is.catalog))
+    not_read next f (inl memory) is = inr (left_so next f (inl memory) (subst (ShowTheSame (files_of old)) (sym is.files_are) same) (is.failed ∙ ap is_io memory ∙ sym whole) is.transaction (ap committed_in is.catalog) (ap savepoints_in is.catalog) (ap current_in is.catalog))
     not_read next f (inr io) is =
         let shows : ShowTheSame (files_of old) (files_of next) = subst (ShowTheSame (files_of old)) (sym is.files_are) same in
         let settled = still_settled (files_of old) (files_of next) shows applies.settled in
         inl (record {
           io = io;
           failed = is.failed ∙ ap is_io io;
-          held = λ first shown. ([], (settled_leaves (λ d. (d ≡ first) ⊎ (d ≡ db)) (files_of old) (committed_tables old.catalog) first (inl refl) applies.settled shown, shows.db_file, shows.log_file));
+          held = λ first shown. ([], (settled_leaves (λ d. (d ≡ first) ⊎ (d ≡ db)) (files_of old) (committed_in old.catalog) first (inl refl) applies.settled shown, shows.db_file, shows.log_file));
           db_left = synced_left (g.file (db_of (files_of next))) settled.db_synced;
           log_left = synced_left (g.file (log_of (files_of next))) settled.log_synced;
         })
 
     held_over : (next : Connections D g) → HoldsEither (with_files old mid) db next → HoldsEither old db next
     held_over next held first shown = held_from (λ d. (d ≡ first) ⊎ (d ≡ db)) (files_of old) mid (files_of next) same
-        (held first (subst (λ (v : View). ShowsDatabase v (committed_tables old.catalog) first) (sym same.newest) shown))
+        (held first (subst (λ (v : View). ShowsDatabase v (committed_in old.catalog) first) (sym same.newest) shown))
 
     committed_over : (next : Connections D g) → CommitsDatabase (with_files old mid) db next → CommitsDatabase old db next
-    committed_over next is = record { told = is.told; settled = is.settled; failed = is.failed; transaction = is.transaction; tables = is.tables; all = is.all; stored = is.stored }
+    committed_over next is = record { told = is.told; settled = is.settled; failed = is.failed; transaction = is.transaction; tables = is.tables; all = is.all; savepoints = is.savepoints; stored = is.stored }
 
     doubt_over : (next : Connections D g) (f : Fault) → IsInDoubt (with_files old mid) db next f → IsInDoubt old db next f
     doubt_over next f is = record { io = is.io; failed = is.failed; held = held_over next is.held; db_left = is.db_left; log_left = is.log_left }
@@ -127,9 +130,11 @@ module _ {D : Type 0} {g : Ghosts D} where
     written_over (Err f) next left (inl doubt) = inl (doubt_over next f doubt)
     written_over (Err f) next left (inr none) = inr (record {
       why = cause_over w f (past_over w refl refl (λ pages are. are)) none.why;
-      kept = record { files = show_on (files_of old) mid (files_of next) same none.kept.files; failed = none.kept.failed; transaction = none.kept.transaction; tables = none.kept.tables };
+      kept = record { files = show_on (files_of old) mid (files_of next) same none.kept.files; failed = none.kept.failed; transaction = none.kept.transaction; tables = none.kept.tables; savepoints = none.kept.savepoints };
       tables = none.tables;
       applies = none.applies;
+      marks = none.marks;
+      stands = none.stands;
     })
 
     -- ---- a writer that has the new ones alone
@@ -161,7 +166,7 @@ module _ {D : Type 0} {g : Ghosts D} where
               page_size = is.page_size ∙ all.writer.page_size;
             };
             stored = record {
-              stored = subst (λ (map : PageMap). Stores map (view_of mid w).page_size (current_tables old.catalog) db) (sym same_map) all.stored.stored;
+              stored = subst (λ (map : PageMap). Stores map (view_of mid w).page_size (current_in old.catalog) db) (sym same_map) all.stored.stored;
               served = subst (IsSizeWithinLimits (view_of mid w).page_size) (sym is.size) all.stored.served;
             };
           }
@@ -172,7 +177,7 @@ module _ {D : Type 0} {g : Ghosts D} where
       pruned_over (Err f) next left (inl doubt) = inl (doubt_over next f doubt)
       pruned_over (Err f) next left (inr none) = inr (left_so next f
           (cause_over pruned f (past_over pruned is.snapshot is.size (λ pages are. new_twice (view_at (files_of old) (snapshot_of w)) (changes_of w) (changes_of pruned) pages is.changes are)) none.why)
-          (show_on (files_of old) mid (files_of next) same none.kept.files) none.kept.failed none.kept.transaction none.kept.tables none.tables)
+          (show_on (files_of old) mid (files_of next) same none.kept.files) none.kept.failed none.kept.transaction none.kept.tables none.kept.savepoints none.tables)
 
     -- ---- what the call has come to
 
@@ -199,7 +204,7 @@ module _ {D : Type 0} {g : Ghosts D} where
           let made : CommitsPages mid v page header (files_of next) = subst (CommitsPages mid v page header) (sym after.files_are) commits in
           let same_db : db_of (files_of next) ≡ db_of mid = ap db_of after.files_are ∙ db_same in
           over (Ok done) next (
-            has_committed (with_files old mid) next v db applies_now made same_db after.failed after.transaction after.current after.committed,
+            has_committed (with_files old mid) next v db applies_now made same_db after.failed after.transaction after.current after.committed after.savepoints,
             commit_holds (with_files old mid) next v db applies_now same_db (subst (λ (l : Log D g). (log_of l ≡ log_of mid) ⊎ LeavesCommit mid v page header l) (sym after.files_are) crash),
           )
       ends (Err f) new left last commits refused db_same crash over = λ next after.

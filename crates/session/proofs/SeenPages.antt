@@ -6,11 +6,12 @@ use Rattle.wal.specs.LogState.{db_of, log_of, state_of, header_of}
 use Rattle.wal.specs.declared.log.Log.{Log}
 use Rattle.wal.specs.declared.log.Snapshot.{Snapshot}
 use Rattle.wal.proofs.Changes.{page_one}
-use Rattle.catalog.specs.declared.tables.Catalogs.{Catalogs}
+use Rattle.session.specs.declared.savepoints.SavedCatalogs.{SavedCatalogs}
 use Rattle.pager.specs.Views.{ViewHas, View, newest_view, view_at}
 use Rattle.pager.specs.declared.writer.Writer.{Writer}
-use Rattle.session.specs.Machine.{Connection}
-use Rattle.session.specs.Representation.{IsNewest, IsTransaction, IsWriter, seen_in}
+use Rattle.session.specs.Machine.{Connection, Machine}
+use Rattle.session.specs.Representation.{IsTransaction, seen_in}
+use Rattle.session.specs.Writers.{IsNewest, IsWriter}
 use Rattle.session.specs.declared.transactions.Transaction.{Transaction}
 use Rattle.session.specs.declared.transactions.Transaction.TheVariants as transaction
 
@@ -26,8 +27,8 @@ module _ {D : Type 0} {g : Ghosts D} where
     size = is.sized i;
   }
 
-  pub writer_of : (files : Log D g) (catalog : Catalogs) (last : ℕ) (t : Transaction) (k : Connection) (w : Writer) → t ≡ transaction.Writing w → IsTransaction files catalog last t k → IsWriter files w
-  writer_of files catalog last t k w is are = (subst (λ (x : Transaction). IsTransaction files catalog last x k) is are).2
+  pub writer_of : (files : Log D g) (catalog : SavedCatalogs) (m : Machine) (t : Transaction) (k : Connection) (w : Writer) → t ≡ transaction.Writing w → IsTransaction files catalog m.history t k → IsWriter files w
+  writer_of files catalog m t k w is are = (subst (λ (x : Transaction). IsTransaction files catalog m.history x k) is are).may
 
   pub not_writing : (files : Log D g) (t : Transaction) → ((w : Writer) → t ≡ transaction.Writing w → ⊥) → seen_in t files ≡ newest_view files
   not_writing files transaction.Idle other = refl

@@ -11,8 +11,8 @@ use Rattle.sqlval.specs.declared.value.Value.{Value}
 use Rattle.syntax.specs.declared.query.Query.{Query}
 use Rattle.syntax.specs.declared.statement.Statement.TheVariants as statement
 use Rattle.catalog.specs.Database.{Database}
-use Rattle.catalog.specs.Listed.{IsUnchanged, committed_tables, current_tables}
-use Rattle.catalog.specs.declared.tables.Catalogs.{Catalogs}
+use Rattle.session.specs.SavedTables.{IsUnchanged, committed_in, current_in}
+use Rattle.session.specs.declared.savepoints.SavedCatalogs.{SavedCatalogs}
 use Rattle.catalog.specs.declared.tables.Table.{Table}
 use Rattle.bind.specs.Checked.{Checked, Meant, faults}
 use Rattle.rowprog.specs.Rows.{values_of}
@@ -23,13 +23,14 @@ use Rattle.pager.specs.Views.{View, newest_view}
 use Rattle.session.specs.Supported.{StepSoFar}
 use Rattle.session.specs.Holding.{HoldThroughout}
 use Rattle.session.specs.ConnectionState.{files_of}
-use Rattle.session.specs.Machine.{Machine, Idle, InTransactionOf, NoSnapshot, Reads, Writes, Rows, Refused, last_place, newest, with_connection}
+use Rattle.session.specs.Machine.{Machine, Idle, NoSnapshot, Reads, Writes, Rows, Refused, last_place, newest, with_connection}
 use Rattle.session.specs.Outcomes.{answered, given, outcome}
 use Rattle.storage.specs.Works.{read_on}
 use Rattle.session.specs.Steps.{Allowed, Instead}
 use Rattle.session.specs.Crashes.{MayShow}
 use Rattle.session.specs.Stored.{ShowsDatabase}
-use Rattle.session.specs.Representation.{CannotStoreIn, RepresentsRunning, IsTransaction, OnlyReads, ShowTheSame, StartsReading, StepsOn, StepsTo, is_begun, rows_reply, seen_in}
+use Rattle.session.specs.Saving.{in_transaction}
+use Rattle.session.specs.Representation.{CannotStoreIn, IsReadingIn, RepresentsRunning, IsTransaction, OnlyReads, ShowTheSame, StartsReading, StepsOn, StepsTo, is_begun, rows_reply, seen_in}
 use Rattle.session.specs.declared.transactions.Connections.{Connections}
 use Rattle.session.specs.declared.transactions.Transaction.{Transaction}
 use Rattle.session.specs.declared.transactions.Transaction.TheVariants as transaction
@@ -107,37 +108,37 @@ module _ {D : Type 0} {g : Ghosts D} where
   -- the database that the first connection reads, and where a query leaves the machine
   pub record Sees (c : Connections D g) (m : Machine) : Type 0 where
     pub db : Database
-    pub stored : ShowsDatabase (seen_in c.transaction (files_of c)) (current_tables c.catalog) db
+    pub stored : ShowsDatabase (seen_in c.transaction (files_of c)) (current_in c.catalog) db
     pub next : Machine
     pub is : (q : Query) → outcome m 1 (statement.Select q) ≡ given next (read_on db q)
 
-  pub all_listed : (c : Connections D g) (m : Machine) → RepresentsRunning c m → IsUnchanged c.catalog → ShowsDatabase (newest_view (files_of c)) (current_tables c.catalog) (newest m)
+  pub all_listed : (c : Connections D g) (m : Machine) → RepresentsRunning c m → IsUnchanged c.catalog → ShowsDatabase (newest_view (files_of c)) (current_in c.catalog) (newest m)
   all_listed c m shown all = subst (λ (ts : List Table). ShowsDatabase (newest_view (files_of c)) ts (newest m)) (sym all) shown.stored
 
-  pub sees_by : (c : Connections D g) (m : Machine) (shown : RepresentsRunning c m) (t : Transaction) → c.transaction ≡ t → IsTransaction (files_of c) c.catalog (last_place m) t shown.first → Sees c m
+  pub sees_by : (c : Connections D g) (m : Machine) (shown : RepresentsRunning c m) (t : Transaction) → c.transaction ≡ t → IsTransaction (files_of c) c.catalog m.history t shown.first → Sees c m
   sees_by c m shown transaction.Idle is first = record {
     db = newest m;
-    stored = subst (λ (t : Transaction). ShowsDatabase (seen_in t (files_of c)) (current_tables c.catalog) (newest m)) (sym is) (all_listed c m shown first.1);
+    stored = subst (λ (t : Transaction). ShowsDatabase (seen_in t (files_of c)) (current_in c.catalog) (newest m)) (sym is) (all_listed c m shown first.1);
     next = m;
     is = λ q. select_outcome q m Idle (first_is m shown.first shown.others shown.connections ∙ first.0);
   }
   sees_by c m shown transaction.Begun is first = record {
     db = newest m;
-    stored = subst (λ (t : Transaction). ShowsDatabase (seen_in t (files_of c)) (current_tables c.catalog) (newest m)) (sym is) (all_listed c m shown first.1);
-    next = with_connection m 1 (InTransactionOf false [] (Reads (last_place m)));
-    is = λ q. select_outcome q m (InTransactionOf false [] NoSnapshot) (first_is m shown.first shown.others shown.connections ∙ first.0);
+    stored = subst (λ (t : Transaction). ShowsDatabase (seen_in t (files_of c)) (current_in c.catalog) (newest m)) (sym is) (all_listed c m shown first.all);
+    next = with_connection m 1 (in_transaction c.catalog first.points (Reads (last_place m)));
+    is = λ q. select_outcome q m (in_transaction c.catalog first.points NoSnapshot) (first_is m shown.first shown.others shown.connections ∙ first.is);
   }
   sees_by c m shown (transaction.Reading s) is first = record {
     db = newest m;
-    stored = subst (λ (t : Transaction). ShowsDatabase (seen_in t (files_of c)) (current_tables c.catalog) (newest m)) (sym is) (all_listed c m shown first.1);
+    stored = subst (λ (t : Transaction). ShowsDatabase (seen_in t (files_of c)) (current_in c.catalog) (newest m)) (sym is) (all_listed c m shown first.0.all);
     next = m;
-    is = λ q. select_outcome q m (InTransactionOf false [] (Reads (last_place m))) (first_is m shown.first shown.others shown.connections ∙ first.0);
+    is = λ q. select_outcome q m (in_transaction c.catalog first.0.points (Reads (last_place m))) (first_is m shown.first shown.others shown.connections ∙ first.0.is);
   }
   sees_by c m shown (transaction.Writing w) is first = record {
-    db = first.0;
-    stored = subst (λ (t : Transaction). ShowsDatabase (seen_in t (files_of c)) (current_tables c.catalog) first.0) (sym is) first.3;
+    db = first.db;
+    stored = subst (λ (t : Transaction). ShowsDatabase (seen_in t (files_of c)) (current_in c.catalog) first.db) (sym is) first.stored;
     next = m;
-    is = λ q. select_outcome q m (InTransactionOf false [] (Writes (last_place m) first.0)) (first_is m shown.first shown.others shown.connections ∙ first.1);
+    is = λ q. select_outcome q m (in_transaction c.catalog first.points (Writes (last_place m) first.db)) (first_is m shown.first shown.others shown.connections ∙ first.is);
   }
 
   pub sees : (c : Connections D g) (m : Machine) → RepresentsRunning c m → Sees c m
@@ -157,7 +158,7 @@ module _ {D : Type 0} {g : Ghosts D} where
 
   -- a refused SELECT
   pub select_refused : (old new : Connections D g) (q : Query) (f : Fault) → OnlyReads old new
-      → ((m : Machine) (db : Database) → RepresentsRunning old m → ShowsDatabase (seen_in old.transaction (files_of old)) (current_tables old.catalog) db → Answered (read_on db q) (Err f)) → StepsOn old (statement.Select q) (Refused (refusal_of f)) new
+      → ((m : Machine) (db : Database) → RepresentsRunning old m → ShowsDatabase (seen_in old.transaction (files_of old)) (current_in old.catalog) db → Answered (read_on db q) (Err f)) → StepsOn old (statement.Select q) (Refused (refusal_of f)) new
   select_refused old new q f reads answered m shown =
       let s = sees old m shown in
       record {
@@ -169,7 +170,7 @@ module _ {D : Type 0} {g : Ghosts D} where
 
   -- a SELECT that gives rows
   pub select_gives : (old mid new : Connections D g) (q : Query) (rows : List (List Value)) → OnlyReads old mid → StartsReading mid new
-      → ((m : Machine) (db : Database) → RepresentsRunning old m → ShowsDatabase (seen_in old.transaction (files_of old)) (current_tables old.catalog) db → read_on db q ≡ Meant (Ok rows) []) → StepsOn old (statement.Select q) (Rows rows) new
+      → ((m : Machine) (db : Database) → RepresentsRunning old m → ShowsDatabase (seen_in old.transaction (files_of old)) (current_in old.catalog) db → read_on db q ≡ Meant (Ok rows) []) → StepsOn old (statement.Select q) (Rows rows) new
   unfolding sees_by
   select_gives old mid new q rows reads starts answered m shown = by_case old.transaction refl shown.transaction
     where
@@ -188,16 +189,18 @@ module _ {D : Type 0} {g : Ghosts D} where
       other_shown : (t : Transaction) → old.transaction ≡ t → is_begun t ≡ false → RepresentsRunning new m
       other_shown t is begun = still_shown mid new m mid_shown same_files starts.failed starts.catalog (starts.other (ap is_begun (reads.transaction ∙ is) ∙ begun))
 
-      begun_shown : old.transaction ≡ transaction.Begun → IsUnchanged old.catalog → RepresentsRunning new (with_connection m 1 (InTransactionOf false [] (Reads (last_place m))))
-      begun_shown is all =
+      begun_shown : old.transaction ≡ transaction.Begun → (first : IsReadingIn old.catalog NoSnapshot shown.first) → RepresentsRunning new (with_connection m 1 (in_transaction old.catalog first.points (Reads (last_place m))))
+      begun_shown is first =
           let begun = starts.begun (ap is_begun (reads.transaction ∙ is)) in
-          moved mid new m (InTransactionOf false [] (Reads (last_place m))) mid_shown same_files starts.failed (ap committed_tables starts.catalog)
-          (subst (λ (t : Transaction). IsTransaction (files_of new) new.catalog (last_place m) t (InTransactionOf false [] (Reads (last_place m)))) (sym begun.1)
-          (refl, subst IsUnchanged (sym (starts.catalog ∙ reads.catalog)) all, still_newest (files_of mid) (files_of new) begun.0 same_files begun.2))
+          let k = in_transaction old.catalog first.points (Reads (last_place m)) in
+          let reading : IsReadingIn old.catalog (Reads (last_place m)) k = record { points = first.points; is = refl; all = first.all; saved = first.saved } in
+          moved mid new m k mid_shown same_files starts.failed (ap committed_in starts.catalog)
+          (subst (λ (t : Transaction). IsTransaction (files_of new) new.catalog m.history t k) (sym begun.1)
+          (subst (λ (c : SavedCatalogs). IsReadingIn c (Reads (last_place m)) k) (sym (starts.catalog ∙ reads.catalog)) reading, still_newest (files_of mid) (files_of new) begun.0 same_files begun.2))
 
-      by_case : (t : Transaction) → old.transaction ≡ t → IsTransaction (files_of old) old.catalog (last_place m) t shown.first → StepsTo old m 1 (statement.Select q) (Rows rows) new
+      by_case : (t : Transaction) → old.transaction ≡ t → IsTransaction (files_of old) old.catalog m.history t shown.first → StepsTo old m 1 (statement.Select q) (Rows rows) new
       by_case transaction.Idle is first = (let s = sees_by old m shown transaction.Idle is first in record { next = s.next; step = step_of s; shown = inr (other_shown transaction.Idle is refl); crash = crash_of s.next })
-      by_case transaction.Begun is first = (let s = sees_by old m shown transaction.Begun is first in record { next = s.next; step = step_of s; shown = inr (begun_shown is first.1); crash = crash_of s.next })
+      by_case transaction.Begun is first = (let s = sees_by old m shown transaction.Begun is first in record { next = s.next; step = step_of s; shown = inr (begun_shown is first); crash = crash_of s.next })
       by_case (transaction.Reading t) is first = (let s = sees_by old m shown (transaction.Reading t) is first in record { next = s.next; step = step_of s; shown = inr (other_shown (transaction.Reading t) is refl); crash = crash_of s.next })
       by_case (transaction.Writing w) is first = (let s = sees_by old m shown (transaction.Writing w) is first in record { next = s.next; step = step_of s; shown = inr (other_shown (transaction.Writing w) is refl); crash = crash_of s.next })
 

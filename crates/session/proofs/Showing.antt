@@ -1,5 +1,7 @@
 -- What the connections show after a statement.
-use Rattle.std.proofs.Common.{◌≡◌, ◌<◌, ◌≤◌, inr, refl, sym, ap, subst, ◌∙◌, ℕ, List, [], ◌∷◌, length, take, true, false, arith}
+use Rattle.std.proofs.Common.{◌≡◌, ◌<◌, ◌≤◌, inr, refl, sym, ap, subst, ◌∙◌, ℕ, Bool, List, [], ◌∷◌, length, take, true, false, arith}
+use Rattle.std.specs.Prelude.{⊤, unwrap_or}
+use Rattle.std.specs.List.{AllByRecursion}
 use Rattle.std.proofs.lemmas.List.{take_all, length-take, length-take-le}
 use Rattle.std.proofs.Math.Nat.{min-le_left}
 use Rattle.std.proofs.lemmas.Bool.{false≢true}
@@ -9,8 +11,10 @@ use Rattle.syntax.specs.declared.statement.BeginMode.{BeginMode}
 use Rattle.syntax.specs.declared.statement.BeginMode.TheVariants as begins
 use Rattle.syntax.specs.declared.statement.Statement.TheVariants as statement
 use Rattle.wal.specs.declared.log.Log.{Log}
-use Rattle.catalog.specs.Listed.{IsUnchanged, committed_tables, current_tables}
-use Rattle.catalog.specs.declared.tables.Catalogs.{Catalogs}
+use Rattle.session.specs.SavedTables.{HasNoSavepoints, IsUnchanged, Savepoints, committed_in, current_in, savepoints_in}
+use Rattle.session.specs.Saving.{AreSaved, IsMarked, SavedAs, in_transaction, states_of}
+use Rattle.session.specs.declared.savepoints.SavedCatalogs.{SavedCatalogs}
+use Rattle.catalog.specs.Database.{Database}
 use Rattle.catalog.specs.declared.tables.Table.{Table}
 use Rattle.disk.specs.File.{File}
 use Rattle.walframe.specs.Accepted.{KeepsFile}
@@ -18,23 +22,34 @@ use Rattle.wal.specs.Committed.{frames_under}
 use Rattle.wal.specs.LogState.{LogState, db_of, log_of, state_of, header_of, seen_by, size_of}
 use Rattle.wal.specs.declared.log.Snapshot.{Snapshot}
 use Rattle.pager.specs.Limits.{pages_of}
-use Rattle.pager.specs.Views.{View, Tells, after, changes_of, newest_view}
+use Rattle.pager.specs.Marks.{Changes, IsOverTheSame, now_of}
+use Rattle.pager.specs.Views.{View, Tells, after, changes_of, newest_view, view_of}
 use Rattle.pager.specs.Writers.{snapshot_of}
 use Rattle.pager.specs.declared.writer.Writer.{Writer}
 use Rattle.session.specs.ConnectionState.{files_of, has_failed_in}
-use Rattle.session.specs.Machine.{Machine, Connection, Idle, InTransactionOf, Phase, NoSnapshot, Reads, Writes, Rows, Refused, last_place, newest, with_connection}
+use Rattle.session.specs.Machine.{Machine, Connection, Idle, InTransactionOf, Phase, NoSnapshot, Reads, SavepointState, Writes, Rows, Refused, last_place, newest, with_connection}
 use Rattle.session.specs.Outcomes.{Gives, RefusedBy, begun}
 use Rattle.session.specs.Stored.{ShowsDatabase}
-use Rattle.session.specs.Representation.{CannotStoreIn, IsGivenUp, IsNewest, RepresentsRunning, IsTransaction, IsWriter, ShowTheSame, StepsOn, is_idle}
+use Rattle.session.specs.Representation.{CannotStoreIn, IsGivenUp, IsReadingIn, RepresentsRunning, IsTransaction, ShowTheSame, StepsOn, is_idle}
+use Rattle.session.specs.Writers.{IsNewest, IsWriter}
 use Rattle.session.specs.declared.transactions.Connections.{Connections}
 use Rattle.session.specs.declared.transactions.Transaction.{Transaction}
 use Rattle.session.specs.declared.transactions.Transaction.TheVariants as transaction
 use Rattle.session.proofs.Settled.{as_shown, still_settled, crash_keeps}
 use Rattle.session.proofs.Stepping.{by_outcome, begin_outcome, first_is, first_set, rollback_outcome}
 
+-- a transaction that begins has no savepoint
+pub begins_in : (Kept : Type 0) (catalog : SavedCatalogs) (phase : Phase) → HasNoSavepoints catalog → InTransactionOf false [] phase ≡ in_transaction {Kept = Kept} catalog [] phase
+begins_in Kept catalog phase none = ap (λ (s : Savepoints). InTransactionOf s.began [] phase) (sym none)
+
+pub begins_reading : (catalog : SavedCatalogs) → IsUnchanged catalog → HasNoSavepoints catalog → IsReadingIn catalog NoSnapshot (InTransactionOf false [] NoSnapshot)
+begins_reading catalog all none = record { points = []; is = begins_in ⊤ catalog NoSnapshot none; all = all; saved = record { tables = ap (λ (s : Savepoints). s.points) none; hold = tt } }
+
 pub record IsBusy (k : Connection) : Type 0 where
+  pub began : Bool
+  pub points : List SavepointState
   pub phase : Phase
-  pub is : k ≡ InTransactionOf false [] phase
+  pub is : k ≡ InTransactionOf began points phase
 
 -- what is seen, by the files' contents and what is known of them
 abbrev newest_by : List ℕ → List ℕ → LogState → View
@@ -46,17 +61,17 @@ at_by d l k s = record { db = d; frames = frames_under (header_of k) l (seen_by 
 module _ {D : Type 0} {g : Ghosts D} where
   -- ---- what the first connection is
 
-  pub idle_first : (files : Log D g) (catalog : Catalogs) (last : ℕ) (t : Transaction) (k : Connection) → IsTransaction files catalog last t k → is_idle t ≡ true → k ≡ Idle
-  idle_first files catalog last transaction.Idle k is idle = is.0
-  idle_first files catalog last transaction.Begun k is idle = absurd (false≢true idle)
-  idle_first files catalog last (transaction.Reading s) k is idle = absurd (false≢true idle)
-  idle_first files catalog last (transaction.Writing w) k is idle = absurd (false≢true idle)
+  pub idle_first : (files : Log D g) (catalog : SavedCatalogs) (m : Machine) (t : Transaction) (k : Connection) → IsTransaction files catalog m.history t k → is_idle t ≡ true → k ≡ Idle
+  idle_first files catalog m transaction.Idle k is idle = is.0
+  idle_first files catalog m transaction.Begun k is idle = absurd (false≢true idle)
+  idle_first files catalog m (transaction.Reading s) k is idle = absurd (false≢true idle)
+  idle_first files catalog m (transaction.Writing w) k is idle = absurd (false≢true idle)
 
-  pub busy_first : (files : Log D g) (catalog : Catalogs) (last : ℕ) (t : Transaction) (k : Connection) → IsTransaction files catalog last t k → is_idle t ≡ false → IsBusy k
-  busy_first files catalog last transaction.Idle k is idle = absurd (false≢true (sym idle))
-  busy_first files catalog last transaction.Begun k is idle = record { phase = NoSnapshot; is = is.0 }
-  busy_first files catalog last (transaction.Reading s) k is idle = record { phase = Reads last; is = is.0 }
-  busy_first files catalog last (transaction.Writing w) k is idle = record { phase = Writes last is.0; is = is.1 }
+  pub busy_first : (files : Log D g) (catalog : SavedCatalogs) (m : Machine) (t : Transaction) (k : Connection) → IsTransaction files catalog m.history t k → is_idle t ≡ false → IsBusy k
+  busy_first files catalog m transaction.Idle k is idle = absurd (false≢true (sym idle))
+  busy_first files catalog m transaction.Begun k is idle = record { began = (savepoints_in catalog).began; points = states_of is.points; phase = NoSnapshot; is = is.is }
+  busy_first files catalog m (transaction.Reading s) k is idle = record { began = (savepoints_in catalog).began; points = states_of is.0.points; phase = Reads (last_place m); is = is.0.is }
+  busy_first files catalog m (transaction.Writing w) k is idle = record { began = (savepoints_in catalog).began; points = states_of is.points; phase = Writes (last_place m) is.db; is = is.is }
 
   -- ---- files that were read at most
 
@@ -82,18 +97,43 @@ module _ {D : Type 0} {g : Ghosts D} where
   pub still_writer : (old new : Log D g) (w : Writer) → ShowTheSame old new → IsWriter old w → IsWriter new w
   still_writer old new w same is = record { newest = still_newest old new (snapshot_of w) same is.newest; sound = is.sound; page_size = is.page_size ∙ ap (λ (k : LogState). k.page_size) (sym same.known) }
 
-  pub still_transaction : (old new : Log D g) (catalog : Catalogs) (last : ℕ) (t : Transaction) (k : Connection) → ShowTheSame old new → IsTransaction old catalog last t k → IsTransaction new catalog last t k
-  still_transaction old new catalog last transaction.Idle k same is = is
-  still_transaction old new catalog last transaction.Begun k same is = is
-  still_transaction old new catalog last (transaction.Reading s) k same is = (is.0, is.1, still_newest old new s same is.2)
-  still_transaction old new catalog last (transaction.Writing w) k same is =
-      (is.0, is.1, still_writer old new w same is.2, subst (λ (v : View). ShowsDatabase (after v (changes_of w) (pages_of w)) (current_tables catalog) is.0) (sym (same.at (snapshot_of w))) is.3)
+  -- what a writer shows is what it showed
+  pub still_stored : (old new : Log D g) (w : Writer) (tables : List Table) (db : Database) → ShowTheSame old new → ShowsDatabase (view_of old w) tables db → ShowsDatabase (view_of new w) tables db
+  still_stored old new w tables db same stored = subst (λ (v : View). ShowsDatabase (after v (changes_of w) (pages_of w)) tables db) (sym (same.at (snapshot_of w))) stored
+
+  -- what is kept at a mark is kept of a writer over the same snapshot
+  still_marked : (old new : Log D g) (newest : Database) (w v : Writer) (p : SavedAs Changes) → ShowTheSame old new → ((u : Writer) → IsOverTheSame v u → IsOverTheSame w u) → IsMarked old newest w p → IsMarked new newest v p
+  still_marked old new newest w v p same over is = record {
+    named = is.named;
+    back = λ u now on. (let back = is.back u now (over u on) in (still_writer old new u same back.0, still_stored old new u p.tables.tables (unwrap_or p.state.working newest) same back.1));
+  }
+
+  all_marked : (old new : Log D g) (newest : Database) (w v : Writer) (points : List (SavedAs Changes)) → ShowTheSame old new → ((u : Writer) → IsOverTheSame v u → IsOverTheSame w u) → AllByRecursion (IsMarked old newest w) points → AllByRecursion (IsMarked new newest v) points
+  all_marked old new newest w v [] same over all = tt
+  all_marked old new newest w v (p ∷ points) same over all = (still_marked old new newest w v p same over all.0, all_marked old new newest w v points same over all.1)
+
+  pub still_saved : (old new : Log D g) (catalog : SavedCatalogs) (newest : Database) (w v : Writer) (points : List (SavedAs Changes)) → ShowTheSame old new → ((u : Writer) → IsOverTheSame v u → IsOverTheSame w u) → AreSaved (IsMarked old newest w) catalog points → AreSaved (IsMarked new newest v) catalog points
+  still_saved old new catalog newest w v points same over saved = record { tables = saved.tables; hold = all_marked old new newest w v points same over saved.hold }
+
+  pub still_transaction : (old new : Log D g) (catalog : SavedCatalogs) (m : Machine) (t : Transaction) (k : Connection) → ShowTheSame old new → IsTransaction old catalog m.history t k → IsTransaction new catalog m.history t k
+  still_transaction old new catalog m transaction.Idle k same is = is
+  still_transaction old new catalog m transaction.Begun k same is = is
+  still_transaction old new catalog m (transaction.Reading s) k same is = (is.0, still_newest old new s same is.1)
+  still_transaction old new catalog m (transaction.Writing w) k same is = record {
+    db = is.db;
+    points = is.points;
+    is = is.is;
+    may = still_writer old new w same is.may;
+    stored = still_stored old new w (current_in catalog) is.db same is.stored;
+    saved = still_saved old new catalog (newest m) w w is.points same (λ v over. over) is.saved;
+    marks = is.marks;
+  }
 
   -- ---- the machine after a statement that commits nothing
 
   pub moved : (old new : Connections D g) (m : Machine) (k : Connection) (shown : RepresentsRunning old m) → ShowTheSame (files_of old) (files_of new) → has_failed_in new ≡ has_failed_in old
-      → committed_tables new.catalog ≡ committed_tables old.catalog
-      → IsTransaction (files_of new) new.catalog (last_place m) new.transaction k → RepresentsRunning new (with_connection m 1 k)
+      → committed_in new.catalog ≡ committed_in old.catalog
+      → IsTransaction (files_of new) new.catalog m.history new.transaction k → RepresentsRunning new (with_connection m 1 k)
   moved old new m k shown same failed tables is = record {
     running = shown.running;
     sure = shown.sure;
@@ -101,7 +141,7 @@ module _ {D : Type 0} {g : Ghosts D} where
     told = same.told;
     settled = still_settled (files_of old) (files_of new) same shown.settled;
     some = shown.some;
-    stored = subst (λ (v : View). ShowsDatabase v (committed_tables new.catalog) (newest m)) (sym same.newest)
+    stored = subst (λ (v : View). ShowsDatabase v (committed_in new.catalog) (newest m)) (sym same.newest)
         (subst (λ (ts : List Table). ShowsDatabase (newest_view (files_of old)) ts (newest m)) (sym tables) shown.stored);
     first = k;
     others = shown.others;
@@ -119,22 +159,22 @@ module _ {D : Type 0} {g : Ghosts D} where
     told = same.told;
     settled = still_settled (files_of old) (files_of new) same shown.settled;
     some = shown.some;
-    stored = subst (λ (v : View). ShowsDatabase v (committed_tables new.catalog) (newest m)) (sym same.newest)
-        (subst (λ (c : Catalogs). ShowsDatabase (newest_view (files_of old)) (committed_tables c) (newest m)) (sym catalog) shown.stored);
+    stored = subst (λ (v : View). ShowsDatabase v (committed_in new.catalog) (newest m)) (sym same.newest)
+        (subst (λ (c : SavedCatalogs). ShowsDatabase (newest_view (files_of old)) (committed_in c) (newest m)) (sym catalog) shown.stored);
     first = shown.first;
     others = shown.others;
     connections = shown.connections;
     idle = shown.idle;
-    transaction = subst (λ (t : Transaction). IsTransaction (files_of new) new.catalog (last_place m) t shown.first) (sym now)
-        (subst (λ (c : Catalogs). IsTransaction (files_of new) c (last_place m) old.transaction shown.first) (sym catalog)
-        (still_transaction (files_of old) (files_of new) old.catalog (last_place m) old.transaction shown.first same shown.transaction));
+    transaction = subst (λ (t : Transaction). IsTransaction (files_of new) new.catalog m.history t shown.first) (sym now)
+        (subst (λ (c : SavedCatalogs). IsTransaction (files_of new) c m.history old.transaction shown.first) (sym catalog)
+        (still_transaction (files_of old) (files_of new) old.catalog m old.transaction shown.first same shown.transaction));
   }
 
   -- ---- ROLLBACK
 
   pub rollback_refused : (c : Connections D g) → is_idle c.transaction ≡ true → StepsOn c statement.Rollback (Refused NoTransaction) c
   rollback_refused c idle m shown =
-      let k = idle_first (files_of c) c.catalog (last_place m) c.transaction shown.first shown.transaction idle in
+      let k = idle_first (files_of c) c.catalog m c.transaction shown.first shown.transaction idle in
       let is = rollback_outcome m Idle (first_is m shown.first shown.others shown.connections ∙ k) in
       record {
         next = m;
@@ -145,8 +185,8 @@ module _ {D : Type 0} {g : Ghosts D} where
 
   pub rolled_back : (old new : Connections D g) → is_idle old.transaction ≡ false → IsGivenUp old new → StepsOn old statement.Rollback (Rows []) new
   rolled_back old new busy gone m shown =
-      let k = busy_first (files_of old) old.catalog (last_place m) old.transaction shown.first shown.transaction busy in
-      let is = rollback_outcome m (InTransactionOf false [] k.phase) (first_is m shown.first shown.others shown.connections ∙ k.is) in
+      let k = busy_first (files_of old) old.catalog m old.transaction shown.first shown.transaction busy in
+      let is = rollback_outcome m (InTransactionOf k.began k.points k.phase) (first_is m shown.first shown.others shown.connections ∙ k.is) in
       record {
         next = with_connection m 1 Idle;
         step = by_outcome (CannotStoreIn old statement.Rollback) m statement.Rollback refl shown.running (Gives [] (with_connection m 1 Idle)) (Rows []) (with_connection m 1 Idle) is (refl, refl);
@@ -157,15 +197,15 @@ module _ {D : Type 0} {g : Ghosts D} where
       all_now : IsGivenUp old new → IsUnchanged new.catalog
       all_now gone = gone.tables ∙ sym gone.committed
 
-      idle_now : IsGivenUp old new → IsTransaction (files_of new) new.catalog (last_place m) new.transaction Idle
-      idle_now gone = subst (λ (t : Transaction). IsTransaction (files_of new) new.catalog (last_place m) t Idle) (sym gone.idle) (refl, all_now gone)
+      idle_now : IsGivenUp old new → IsTransaction (files_of new) new.catalog m.history new.transaction Idle
+      idle_now gone = subst (λ (t : Transaction). IsTransaction (files_of new) new.catalog m.history t Idle) (sym gone.idle) (refl, all_now gone, gone.savepoints)
 
   -- ---- BEGIN
 
   pub begin_refused : (c : Connections D g) (mode : BeginMode) → is_idle c.transaction ≡ false → StepsOn c (statement.Begin mode) (Refused InTransaction) c
   begin_refused c mode busy m shown =
-      let k = busy_first (files_of c) c.catalog (last_place m) c.transaction shown.first shown.transaction busy in
-      let is = begin_outcome mode m (InTransactionOf false [] k.phase) (first_is m shown.first shown.others shown.connections ∙ k.is) in
+      let k = busy_first (files_of c) c.catalog m c.transaction shown.first shown.transaction busy in
+      let is = begin_outcome mode m (InTransactionOf k.began k.points k.phase) (first_is m shown.first shown.others shown.connections ∙ k.is) in
       record {
         next = m;
         step = by_outcome (CannotStoreIn c (statement.Begin mode)) m (statement.Begin mode) refl shown.running (RefusedBy (InTransaction ∷ [])) (Refused InTransaction) m is (InTransaction, (0, omega arith, refl), refl, refl);
@@ -182,20 +222,21 @@ module _ {D : Type 0} {g : Ghosts D} where
 
   pub begun_deferred : (old new : Connections D g) → is_idle old.transaction ≡ true → Begins old new transaction.Begun → StepsOn old (statement.Begin begins.Deferred) (Rows []) new
   begun_deferred old new idle begun m shown =
-      let k = idle_first (files_of old) old.catalog (last_place m) old.transaction shown.first shown.transaction idle in
+      let k = idle_first (files_of old) old.catalog m old.transaction shown.first shown.transaction idle in
       let is = begin_outcome begins.Deferred m Idle (first_is m shown.first shown.others shown.connections ∙ k) in
+      let was = none_idle old.transaction shown.first shown.transaction idle in
       let next = with_connection m 1 (InTransactionOf false [] NoSnapshot) in
       record {
         next = next;
         step = by_outcome (CannotStoreIn old (statement.Begin begins.Deferred)) m (statement.Begin begins.Deferred) refl shown.running (Gives [] next) (Rows []) next is (refl, refl);
-        shown = inr (moved old new m (InTransactionOf false [] NoSnapshot) shown (subst (ShowTheSame (files_of old)) (sym begun.files) (the_same (files_of old) shown.told)) begun.failed (ap committed_tables begun.catalog)
-            (subst (λ (t : Transaction). IsTransaction (files_of new) new.catalog (last_place m) t (InTransactionOf false [] NoSnapshot)) (sym begun.now)
-            (refl, subst IsUnchanged (sym begun.catalog) (committed_idle old.transaction shown.first shown.transaction idle))));
+        shown = inr (moved old new m (InTransactionOf false [] NoSnapshot) shown (subst (ShowTheSame (files_of old)) (sym begun.files) (the_same (files_of old) shown.told)) begun.failed (ap committed_in begun.catalog)
+            (subst (λ (t : Transaction). IsTransaction (files_of new) new.catalog m.history t (InTransactionOf false [] NoSnapshot)) (sym begun.now)
+            (begins_reading new.catalog (subst IsUnchanged (sym begun.catalog) was.0) (subst HasNoSavepoints (sym begun.catalog) was.1))));
         crash = crash_keeps old new m next shown (subst (ShowTheSame (files_of old)) (sym begun.files) (the_same (files_of old) shown.told));
       }
     where
-      committed_idle : (t : Transaction) (j : Connection) → IsTransaction (files_of old) old.catalog (last_place m) t j → is_idle t ≡ true → IsUnchanged old.catalog
-      committed_idle transaction.Idle j is idle = is.1
-      committed_idle transaction.Begun j is idle = absurd (false≢true idle)
-      committed_idle (transaction.Reading s) j is idle = absurd (false≢true idle)
-      committed_idle (transaction.Writing w) j is idle = absurd (false≢true idle)
+      none_idle : (t : Transaction) (j : Connection) → IsTransaction (files_of old) old.catalog m.history t j → is_idle t ≡ true → IsUnchanged old.catalog × HasNoSavepoints old.catalog
+      none_idle transaction.Idle j is idle = (is.1, is.2)
+      none_idle transaction.Begun j is idle = absurd (false≢true idle)
+      none_idle (transaction.Reading s) j is idle = absurd (false≢true idle)
+      none_idle (transaction.Writing w) j is idle = absurd (false≢true idle)

@@ -8,8 +8,8 @@ use Rattle.syntax.specs.declared.statement.Statement.{Statement}
 use Rattle.syntax.specs.declared.statement.Statement.TheVariants as statement
 use Rattle.wal.specs.declared.log.Log.{Log}
 use Rattle.catalog.specs.Database.{Database}
-use Rattle.catalog.specs.Listed.{committed_tables}
-use Rattle.catalog.specs.declared.tables.Catalogs.{Catalogs}
+use Rattle.session.specs.SavedTables.{committed_in}
+use Rattle.session.specs.declared.savepoints.SavedCatalogs.{SavedCatalogs}
 use Rattle.pager.specs.Views.{newest_view}
 use Rattle.pager.specs.declared.writer.Writer.{Writer}
 use Rattle.session.specs.Machine.{newest}
@@ -57,12 +57,12 @@ module _ {D : Type 0} {g : Ghosts D} where
     ]
 
     pub commit_refused_for : (result : Result ⊤ Fault) → mid.catalog ≡ old.catalog → has_failed_in mid ≡ has_failed_in old
-        → ((db was : Database) → has_failed_in mid ≡ false → CanApply mid w db → ShowsDatabase (newest_view (files_of mid)) (committed_tables mid.catalog) was → CommitsChanges mid w db result new left) → IfErr result (IsRefusedFor old statement.Commit)
+        → ((db was : Database) → has_failed_in mid ≡ false → CanApply mid w db → ShowsDatabase (newest_view (files_of mid)) (committed_in mid.catalog) was → CommitsChanges mid w db result new left) → IfErr result (IsRefusedFor old statement.Commit)
     commit_refused_for (Ok done) catalog failed commits = tt
     commit_refused_for (Err f) catalog failed commits = record {
       memory = λ memory. ap has_written was;
       full = λ m shown commit full.
           let in_writing = writes_in old mid m w shown was files catalog in
-          let stored = subst (λ (c : Catalogs). ShowsDatabase (newest_view (files_of mid)) (committed_tables c) (newest m)) (sym catalog) (subst (λ (l : Log D g). ShowsDatabase (newest_view l) (committed_tables old.catalog) (newest m)) (sym files) shown.stored) in
-          full_past in_writing.db f (commits in_writing.db (newest m) (failed ∙ shown.whole) in_writing.applies stored) full;
+          let stored = subst (λ (c : SavedCatalogs). ShowsDatabase (newest_view (files_of mid)) (committed_in c) (newest m)) (sym catalog) (subst (λ (l : Log D g). ShowsDatabase (newest_view l) (committed_in old.catalog) (newest m)) (sym files) shown.stored) in
+          full_past in_writing.on.db f (commits in_writing.on.db (newest m) (failed ∙ shown.whole) in_writing.applies stored) full;
     }

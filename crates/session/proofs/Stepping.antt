@@ -8,7 +8,7 @@ use Rattle.syntax.specs.declared.statement.BeginMode.{BeginMode}
 use Rattle.syntax.specs.declared.statement.BeginMode.TheVariants as begins
 use Rattle.syntax.specs.declared.statement.Statement.{Statement}
 use Rattle.syntax.specs.declared.statement.Statement.TheVariants as statement
-use Rattle.catalog.specs.Database.{Database}
+use Rattle.catalog.specs.Database.{Name, Database}
 use Rattle.session.specs.Supported.{StepSoFar, is_connection_supported}
 use Rattle.storage.specs.Forms.{is_supported}
 use Rattle.session.specs.Machine.{Machine, Connection, Idle, InTransactionOf, NoSnapshot, Writes, Reply, another, connection, is_writing, last_place, newest, with_connection}
@@ -69,3 +69,15 @@ begun_as begins.Immediate m = InTransactionOf false [] (Writes (last_place m) (n
 pub free_begin : (mode : BeginMode) (m : Machine) → another is_writing m 1 ≡ false → begun mode m 1 ≡ Gives [] (with_connection m 1 (begun_as mode m))
 free_begin begins.Deferred m free = refl
 free_begin begins.Immediate m free = ap (λ b. if b then RefusedBy (Busy ∷ []) else Gives [] (with_connection m 1 (begun_as begins.Immediate m))) free
+
+pub savepoint_outcome : (n : Name) (m : Machine) (k : Connection) → connection m 1 ≡ k → outcome m 1 (statement.Savepoint n) ≡ control (statement.Savepoint n) m 1 k
+unfolding outcome
+savepoint_outcome n m k is = ap (control (statement.Savepoint n) m 1) is
+
+pub release_outcome : (n : Name) (m : Machine) (k : Connection) → connection m 1 ≡ k → outcome m 1 (statement.Release n) ≡ control (statement.Release n) m 1 k
+unfolding outcome
+release_outcome n m k is = ap (control (statement.Release n) m 1) is
+
+pub return_outcome : (n : Name) (m : Machine) (k : Connection) → connection m 1 ≡ k → outcome m 1 (statement.RollbackTo n) ≡ control (statement.RollbackTo n) m 1 k
+unfolding outcome
+return_outcome n m k is = ap (control (statement.RollbackTo n) m 1) is

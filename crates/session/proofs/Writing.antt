@@ -1,8 +1,8 @@
 -- Statements that write, and COMMIT, are steps of the machine.
 use Rattle.std.proofs.Common.{◌≡◌, ◌⊎◌, ◌≤◌, ◌+◌, inl, inr, refl, sym, ap, subst, ◌∙◌, ℕ, List, [], length, take, true, false, arith}
-use Rattle.std.proofs.lemmas.List.{take_all}
+use Rattle.std.proofs.lemmas.List.{length-map}
 use Rattle.std.proofs.lemmas.Bool.{false≢true}
-use Rattle.std.specs.Prelude.{⊤, Result, Ok, Err, IfErr}
+use Rattle.std.specs.Prelude.{◌++◌, ⊤, Result, Ok, Err, IfErr, replicate, reverse}
 use Rattle.disk.specs.declared.device.Disk.{Ghosts}
 use Rattle.sqlval.specs.Refusals as refusal
 use Rattle.sqlval.specs.Refusals.{refusal_of}
@@ -12,8 +12,9 @@ use Rattle.syntax.specs.declared.statement.Statement.{Statement}
 use Rattle.wal.specs.declared.log.Log.{Log}
 use Rattle.wal.specs.declared.log.Snapshot.{Snapshot}
 use Rattle.catalog.specs.Database.{Database}
-use Rattle.catalog.specs.Listed.{IsUnchanged, committed_tables, current_tables}
-use Rattle.catalog.specs.declared.tables.Catalogs.{Catalogs}
+use Rattle.session.specs.SavedTables.{HasNoSavepoints, IsUnchanged, Savepoints, committed_in, current_in, savepoints_in}
+use Rattle.session.specs.Saving.{in_transaction, states_of}
+use Rattle.session.specs.declared.savepoints.SavedCatalogs.{SavedCatalogs}
 use Rattle.catalog.specs.declared.tables.Table.{Table}
 use Rattle.pages.specs.Map.{PageMap}
 use Rattle.pager.specs.Maps.{pages_in}
@@ -25,30 +26,33 @@ use Rattle.pager.specs.declared.writer.Writer.{Writer}
 use Rattle.session.specs.Supported.{StepSoFar, database_of}
 use Rattle.storage.specs.Forms.{is_supported}
 use Rattle.session.specs.ConnectionState.{files_of, has_failed_in}
-use Rattle.session.specs.Machine.{Machine, Connection, Idle, InTransactionOf, NoSnapshot, Reads, Writes, Reply, Rows, Refused, connection, last_place, newest}
+use Rattle.session.specs.Machine.{Machine, Connection, Idle, InTransactionOf, NoSnapshot, Reads, SavepointState, Writes, Reply, Rows, Refused, connection, last_place, newest}
 use Rattle.session.specs.Outcomes.{Outcome, outcome}
 use Rattle.storage.specs.Works.{Work, Makes, IsRefused, Undoes, Binds, Reaches, change_made}
 use Rattle.session.specs.Steps.{Allowed, after_commit}
 use Rattle.session.specs.Stored.{CannotStore, ShowsDatabase}
-use Rattle.session.specs.Representation.{CannotStoreIn, RepresentsRunning, IsTransaction, OnlyReads, ShowTheSame, StepsOn, StepsTo, done_reply, is_idle, is_reading, seen_in, with_transaction}
+use Rattle.session.specs.Representation.{CannotStoreIn, IsWritingIn, RepresentsRunning, IsTransaction, OnlyReads, ShowTheSame, StepsOn, StepsTo, done_reply, is_idle, is_reading, seen_in, with_transaction}
 use Rattle.session.specs.Applying.{CommitsChanges, EndsAlone, IsApplied, IsCommitCause, IsDropped, IsNotApplied, KeepsCommitted, Applies, CanApply, listing_of}
 use Rattle.storage.specs.Changing.{IsChangeRefusal, IsTooMuch}
 use Rattle.session.specs.Changing.{ChangesPages, KeepsListed, written}
+use Rattle.session.specs.Writers.{IsWriter}
 use Rattle.session.specs.declared.transactions.Connections.{Connections}
 use Rattle.session.specs.declared.transactions.Transaction.{Transaction}
 use Rattle.session.specs.declared.transactions.Transaction.TheVariants as transaction
 use Rattle.session.specs.declared.changes.Write.{Write}
-use Rattle.session.proofs.Beginning.{StartsWriting, writer_begins, writer_stores}
+use Rattle.session.proofs.Beginning.{StartsWriting, none_where_idle, writer_begins, writer_stores}
 use Rattle.session.proofs.CommitSteps.{committed_shown}
 use Rattle.session.proofs.CommitCrashes.{commit_crashes, doubt_left, doubt_crashes, doubted}
 use Rattle.session.proofs.Settled.{still_settled, crash_keeps}
 use Rattle.session.proofs.SeenPages.{at_newest}
 use Rattle.session.proofs.Selecting.{all_listed}
-use Rattle.session.proofs.Showing.{moved, still_shown, still_transaction}
+use Rattle.session.proofs.ReadingPhases.{ReadsIn, other_reading, reads_in}
+use Rattle.session.proofs.Showing.{moved, still_saved, still_shown, still_stored, still_transaction, still_writer}
 use Rattle.session.proofs.Stepping.{by_outcome, first_is}
-use Rattle.session.proofs.Marked.{went_back}
-use Rattle.pager.specs.Marks.{IsOverTheSame, now_of}
-use Rattle.session.proofs.Applying.{IsFinish, IsErrorCause, alone, finish_alone, finish_in, in_transaction, refused_step, worked_gives, working_on, write_outcome_of, writes_alone, writes_begun, writes_behind_reads}
+use Rattle.session.proofs.Marked.{moved_on, over_on, went_back}
+use Rattle.session.proofs.MarksAtBegin.{at_begin, marks_at_begin, shows_begin, states_at_begin, tables_at_begin}
+use Rattle.pager.specs.Marks.{Changes, IsOverTheSame, marks_of, now_of}
+use Rattle.session.proofs.Applying.{Begun, IsFinish, IsErrorCause, alone, finish_alone, finish_in, refused_step, worked_gives, working, working_on, write_outcome_of, writes_alone, writes_reading}
 
 -- ---- commits
 
@@ -80,22 +84,33 @@ why_of s v u db f same size (inl out) = inl out
 why_of s v u db f same size (inr (inl why)) = inr (inl why)
 why_of s v u db f same size (inr (inr is)) = inr (inr (cannot_store v u s db f same size is))
 
+abbrev pub begun_in : (catalog : SavedCatalogs) → List SavepointState → Begun
+begun_in catalog states = record { by_savepoint = (savepoints_in catalog).began; points = states }
+
 module _ {D : Type 0} {g : Ghosts D} where
   -- ---- what stays
 
   pub show_on : (a b c : Log D g) → ShowTheSame a b → ShowTheSame b c → ShowTheSame a c
   show_on a b c first second = record { told = second.told; known = second.known ∙ first.known; newest = second.newest ∙ first.newest; at = λ s. second.at s ∙ first.at s; db_file = second.db_file ∙ first.db_file; log_file = second.log_file ∙ first.log_file }
 
-  pub other_catalog : (files : Log D g) (a b : Catalogs) (last : ℕ) (t : Transaction) (k : Connection) → committed_tables b ≡ committed_tables a → current_tables b ≡ current_tables a → IsTransaction files a last t k → IsTransaction files b last t k
-  other_catalog files a b last transaction.Idle k same tables is = (is.0, tables ∙ is.1 ∙ sym same)
-  other_catalog files a b last transaction.Begun k same tables is = (is.0, tables ∙ is.1 ∙ sym same)
-  other_catalog files a b last (transaction.Reading s) k same tables is = (is.0, tables ∙ is.1 ∙ sym same, is.2)
-  other_catalog files a b last (transaction.Writing w) k same tables is = (is.0, is.1, is.2, subst (λ (ts : List Table). ShowsDatabase (view_of files w) ts is.0) (sym tables) is.3)
+  pub other_catalog : (files : Log D g) (a b : SavedCatalogs) (m : Machine) (t : Transaction) (k : Connection) → committed_in b ≡ committed_in a → current_in b ≡ current_in a → savepoints_in b ≡ savepoints_in a → IsTransaction files a m.history t k → IsTransaction files b m.history t k
+  other_catalog files a b m transaction.Idle k same tables savepoints is = (is.0, tables ∙ is.1 ∙ sym same, savepoints ∙ is.2)
+  other_catalog files a b m transaction.Begun k same tables savepoints is = other_reading a b NoSnapshot k same tables savepoints is
+  other_catalog files a b m (transaction.Reading s) k same tables savepoints is = (other_reading a b (Reads (last_place m)) k same tables savepoints is.0, is.1)
+  other_catalog files a b m (transaction.Writing w) k same tables savepoints is = record {
+    db = is.db;
+    points = is.points;
+    is = is.is ∙ ap (λ (s : Savepoints). InTransactionOf s.began (states_of is.points) (Writes (last_place m) is.db)) (sym savepoints);
+    may = is.may;
+    stored = subst (λ (ts : List Table). ShowsDatabase (view_of files w) ts is.db) (sym tables) is.stored;
+    saved = record { tables = ap (λ (s : Savepoints). s.points) savepoints ∙ is.saved.tables; hold = is.saved.hold };
+    marks = is.marks;
+  }
 
   -- the machine is shown still where its committed tables and the files are the same
   pub stays : (old new : Connections D g) (m : Machine) (shown : RepresentsRunning old m) → ShowTheSame (files_of old) (files_of new) → has_failed_in new ≡ has_failed_in old
-      → committed_tables new.catalog ≡ committed_tables old.catalog
-      → IsTransaction (files_of new) new.catalog (last_place m) new.transaction shown.first → RepresentsRunning new m
+      → committed_in new.catalog ≡ committed_in old.catalog
+      → IsTransaction (files_of new) new.catalog m.history new.transaction shown.first → RepresentsRunning new m
   stays old new m shown same failed tables is = record {
     running = shown.running;
     sure = shown.sure;
@@ -103,7 +118,7 @@ module _ {D : Type 0} {g : Ghosts D} where
     told = same.told;
     settled = still_settled (files_of old) (files_of new) same shown.settled;
     some = shown.some;
-    stored = subst (λ (v : View). ShowsDatabase v (committed_tables new.catalog) (newest m)) (sym same.newest)
+    stored = subst (λ (v : View). ShowsDatabase v (committed_in new.catalog) (newest m)) (sym same.newest)
         (subst (λ (ts : List Table). ShowsDatabase (newest_view (files_of old)) ts (newest m)) (sym tables) shown.stored);
     first = shown.first;
     others = shown.others;
@@ -115,7 +130,7 @@ module _ {D : Type 0} {g : Ghosts D} where
   -- ---- a change
 
   keeps : (old new : Connections D g) → has_failed_in new ≡ has_failed_in old → new.transaction ≡ old.transaction → KeepsListed (listing_of old) (listing_of new) → KeepsCommitted old new
-  keeps old new failed same kept = record { files = kept.files; failed = failed; transaction = same; tables = kept.tables }
+  keeps old new failed same kept = record { files = kept.files; failed = failed; transaction = same; tables = kept.tables; savepoints = kept.savepoints }
 
   -- what a change of the files and the catalog comes to for the connections that have them
   pub applied : (s : Statement) (old : Connections D g) (w : Writer) (db : Database) (r : Result ⊤ Fault) (new : Connections D g) (left : Writer) → has_failed_in new ≡ has_failed_in old → new.transaction ≡ old.transaction
@@ -144,7 +159,7 @@ module _ {D : Type 0} {g : Ghosts D} where
     pub sees : seen_in old.transaction (files_of old) ≡ newest_view (files_of old)
     pub database : database_of m (connection m 1) ≡ newest m
 
-  pub opens_alone : (old : Connections D g) (m : Machine) (shown : RepresentsRunning old m) (x : Write) (t : Transaction) → old.transaction ≡ t → is_idle t ≡ true → IsTransaction (files_of old) old.catalog (last_place m) t shown.first → Opening old m x (alone m)
+  pub opens_alone : (old : Connections D g) (m : Machine) (shown : RepresentsRunning old m) (x : Write) (t : Transaction) → old.transaction ≡ t → is_idle t ≡ true → IsTransaction (files_of old) old.catalog m.history t shown.first → Opening old m x (alone m)
   opens_alone old m shown x transaction.Idle is idle first = record {
     ends = finish_alone m;
     comes = write_outcome_of x m Idle (first_is m shown.first shown.others shown.connections ∙ first.0) ∙ writes_alone m shown.first shown.others shown.connections shown.idle (change_made (written x));
@@ -156,30 +171,28 @@ module _ {D : Type 0} {g : Ghosts D} where
   opens_alone old m shown x (transaction.Reading s) is idle first = absurd (false≢true idle)
   opens_alone old m shown x (transaction.Writing w) is idle first = absurd (false≢true idle)
 
-  pub opens_reading : (old : Connections D g) (m : Machine) (shown : RepresentsRunning old m) (x : Write) (t : Transaction) → old.transaction ≡ t → is_reading t ≡ true → IsTransaction (files_of old) old.catalog (last_place m) t shown.first → Opening old m x (in_transaction m)
-  opens_reading old m shown x transaction.Idle is reads first = absurd (false≢true reads)
-  opens_reading old m shown x transaction.Begun is reads first = record {
-    ends = finish_in m shown.first shown.others shown.connections;
-    comes = write_outcome_of x m (InTransactionOf false [] NoSnapshot) (first_is m shown.first shown.others shown.connections ∙ first.0) ∙ writes_begun m shown.first shown.others shown.connections shown.idle (change_made (written x));
-    all = first.1;
-    sees = ap (λ (t : Transaction). seen_in t (files_of old)) is;
-    database = ap (database_of m) (first_is m shown.first shown.others shown.connections ∙ first.0);
-  }
-  opens_reading old m shown x (transaction.Reading s) is reads first = record {
-    ends = finish_in m shown.first shown.others shown.connections;
-    comes = write_outcome_of x m (InTransactionOf false [] (Reads (last_place m))) (first_is m shown.first shown.others shown.connections ∙ first.0) ∙ writes_behind_reads m shown.first shown.others shown.connections shown.idle (change_made (written x));
-    all = first.1;
-    sees = ap (λ (t : Transaction). seen_in t (files_of old)) is;
-    database = ap (database_of m) (first_is m shown.first shown.others shown.connections ∙ first.0);
-  }
-  opens_reading old m shown x (transaction.Writing w) is reads first = absurd (false≢true reads)
+  opens_in : (old : Connections D g) (m : Machine) (shown : RepresentsRunning old m) (x : Write) (r : ReadsIn (files_of old) old.catalog m old.transaction shown.first) → Opening old m x (working (begun_in old.catalog (states_of r.first.points)) m)
+  opens_in old m shown x r =
+      let b = begun_in old.catalog (states_of r.first.points) in
+      let k = in_transaction old.catalog r.first.points r.phase in
+      record {
+        ends = finish_in b m;
+        comes = write_outcome_of x m k (first_is m shown.first shown.others shown.connections ∙ r.first.is) ∙ writes_reading m shown.first shown.others shown.connections shown.idle b r.phase r.is (change_made (written x));
+        all = r.first.all;
+        sees = r.seen;
+        database = ap (database_of m) (first_is m shown.first shown.others shown.connections ∙ r.first.is) ∙ r.is.sees b.by_savepoint b.points;
+      }
+
+  pub opens_reading : (old : Connections D g) (m : Machine) (shown : RepresentsRunning old m) (x : Write) → is_reading old.transaction ≡ true → (finish : Work → Outcome) × Opening old m x finish
+  opens_reading old m shown x reads = (_, opens_in old m shown x (reads_in (files_of old) old.catalog m old.transaction shown.first reads shown.transaction))
 
   -- where page 1 isn't read, when out of memory or by a disk
   pub not_begun : (old new : Connections D g) (x : Write) (f : Fault) → is_supported (written x) ≡ true → OnlyReads old new → ((m : Machine) → RepresentsRunning old m → (f ≡ fault.Memory) ⊎ (f ≡ fault.Io))
-      → (finish : Machine → Work → Outcome) → ((m : Machine) → RepresentsRunning old m → Opening old m x (finish m)) → StepsOn old (written x) (Refused (refusal_of f)) new
-  not_begun old new x f supported_forms reads why finish opens m shown =
-      let opened = opens m shown in
-      refused old new m x (finish m) shown (reads.files shown.told) (still_shown old new m shown (reads.files shown.told) reads.failed reads.catalog reads.transaction) supported_forms opened.ends (newest m) opened.database opened.comes f (short (why m shown))
+      → ((m : Machine) → RepresentsRunning old m → (finish : Work → Outcome) × Opening old m x finish) → StepsOn old (written x) (Refused (refusal_of f)) new
+  not_begun old new x f supported_forms reads why opens m shown =
+      let finish = (opens m shown).0 in
+      let opened = (opens m shown).1 in
+      refused old new m x finish shown (reads.files shown.told) (still_shown old new m shown (reads.files shown.told) reads.failed reads.catalog reads.transaction) supported_forms opened.ends (newest m) opened.database opened.comes f (short (why m shown))
     where
       short : (f ≡ fault.Memory) ⊎ (f ≡ fault.Io) → IsErrorCause (CannotStoreIn old (written x) (newest m)) (change_made (written x) (newest m)) f
       short out = inl (inl out)
@@ -192,8 +205,8 @@ module _ {D : Type 0} {g : Ghosts D} where
     told = start.files.told;
     settled = still_settled (files_of old) (files_of mid) start.files shown.settled;
     writer = writer_begins old (with_transaction mid (transaction.Writing w)) w s start shown.stored.served;
-    stored = subst (λ (c : Catalogs). ShowsDatabase (view_of (files_of mid) w) (current_tables c) (newest m)) (sym start.catalog)
-        (writer_stores old (with_transaction mid (transaction.Writing w)) w s (current_tables old.catalog) (newest m) start (all_listed old m shown all));
+    stored = subst (λ (c : SavedCatalogs). ShowsDatabase (view_of (files_of mid) w) (current_in c) (newest m)) (sym start.catalog)
+        (writer_stores old (with_transaction mid (transaction.Writing w)) w s (current_in old.catalog) (newest m) start (all_listed old m shown all));
   }
 
   -- a writer that has begun sees the pages of the newest commit
@@ -209,14 +222,14 @@ module _ {D : Type 0} {g : Ghosts D} where
   -- where the write after it is refused
   pub begun_refused : (old mid after : Connections D g) (w : Writer) (s : Snapshot) (x : Write) (f : Fault) → is_supported (written x) ≡ true → mid.transaction ≡ old.transaction
       → ((m : Machine) → RepresentsRunning old m → Started old mid w s) → ((db : Database) → CanApply mid w db → IsNotApplied (written x) mid w db after f)
-      → (finish : Machine → Work → Outcome) → ((m : Machine) → RepresentsRunning old m → Opening old m x (finish m)) → StepsOn old (written x) (Refused (refusal_of f)) after
-  begun_refused old mid after w s x f supported_forms beside starts applies finish opens m shown =
-      refused old after m x (finish m) shown same still supported_forms opened.ends (newest m) opened.database opened.comes f
+      → ((m : Machine) → RepresentsRunning old m → (finish : Work → Outcome) × Opening old m x finish) → StepsOn old (written x) (Refused (refusal_of f)) after
+  begun_refused old mid after w s x f supported_forms beside starts applies opens m shown =
+      refused old after m x (opens m shown).0 shown same still supported_forms opened.ends (newest m) opened.database opened.comes f
       (why_of (written x) (seen_in old.transaction (files_of old)) (view_of (files_of mid) w) (newest m) f
       (begun_pages old mid w s start ∙ ap pages_in (sym opened.sees)) (begun_size old mid w s start ∙ ap (λ (v : View). v.page_size) (sym opened.sees)) has.why)
     where
-      opened : Opening old m x (finish m)
-      opened = opens m shown
+      opened : Opening old m x (opens m shown).0
+      opened = (opens m shown).1
 
       start : Started old mid w s
       start = starts m shown
@@ -227,60 +240,103 @@ module _ {D : Type 0} {g : Ghosts D} where
       same : ShowTheSame (files_of old) (files_of after)
       same = show_on (files_of old) (files_of mid) (files_of after) start.files has.kept.files
 
-      committed : committed_tables after.catalog ≡ committed_tables old.catalog
-      committed = has.kept.tables ∙ ap committed_tables start.catalog
+      committed : committed_in after.catalog ≡ committed_in old.catalog
+      committed = has.kept.tables ∙ ap committed_in start.catalog
 
-      tables : current_tables after.catalog ≡ current_tables old.catalog
-      tables = has.tables ∙ ap current_tables start.catalog
+      tables : current_in after.catalog ≡ current_in old.catalog
+      tables = has.tables ∙ ap current_in start.catalog
 
       still : RepresentsRunning after m
       still = stays old after m shown same (has.kept.failed ∙ start.failed) committed
-          (subst (λ (t : Transaction). IsTransaction (files_of after) after.catalog (last_place m) t shown.first) (sym (has.kept.transaction ∙ beside))
-          (other_catalog (files_of after) old.catalog after.catalog (last_place m) old.transaction shown.first committed tables
-          (still_transaction (files_of old) (files_of after) old.catalog (last_place m) old.transaction shown.first same shown.transaction)))
+          (subst (λ (t : Transaction). IsTransaction (files_of after) after.catalog m.history t shown.first) (sym (has.kept.transaction ∙ beside))
+          (other_catalog (files_of after) old.catalog after.catalog m old.transaction shown.first committed tables (has.kept.savepoints ∙ ap savepoints_in start.catalog)
+          (still_transaction (files_of old) (files_of after) old.catalog m old.transaction shown.first same shown.transaction)))
+
+  -- a writer whose marks are set, one for each savepoint
+  pub record IsMarkedFrom (old : Connections D g) (begun marked : Writer) : Type 0 where
+    pub now : now_of marked ≡ now_of begun
+    pub marks : marks_of marked ≡ marks_of begun ++ replicate (length (savepoints_in old.catalog).points) (now_of begun)
+    pub stands : IsOverTheSame begun marked
 
   -- the first write of a transaction
-  pub begun_writes : (old mid after : Connections D g) (w left : Writer) (s : Snapshot) (x : Write) → is_supported (written x) ≡ true → is_reading old.transaction ≡ true
-      → ((m : Machine) → RepresentsRunning old m → Started old mid w s) → ((db : Database) → CanApply mid w db → IsApplied (written x) mid db after left)
+  pub begun_writes : (old mid after : Connections D g) (w marked left : Writer) (s : Snapshot) (x : Write) → is_supported (written x) ≡ true → is_reading old.transaction ≡ true
+      → ((m : Machine) → RepresentsRunning old m → Started old mid w s) → IsMarkedFrom old w marked → ((db : Database) → CanApply mid marked db → IsApplied (written x) mid db after left)
+      → marks_of left ≡ marks_of marked → IsOverTheSame marked left
       → StepsOn old (written x) (Rows []) (with_transaction after (transaction.Writing left))
-  begun_writes old mid after w left s x supported_forms reads starts applies m shown = record {
-    next = working_on m has.made;
-    step = by_outcome (CannotStoreIn old (written x)) m (written x) supported_forms shown.running (in_transaction m (change_made (written x) (newest m))) (Rows []) (working_on m has.made) opened.comes (worked_gives m has.made (change_made (written x) (newest m)) has.reaches);
-    shown = inr (moved old (with_transaction after (transaction.Writing left)) m (InTransactionOf false [] (Writes (last_place m) has.made)) shown
-        (show_on (files_of old) (files_of mid) (files_of after) start.files has.kept.files) (has.kept.failed ∙ start.failed)
-        (has.kept.tables ∙ ap committed_tables start.catalog)
-        (has.made, refl, has.applies.writer, has.applies.stored));
-    crash = crash_keeps old after m (working_on m has.made) shown (show_on (files_of old) (files_of mid) (files_of after) start.files has.kept.files);
+  begun_writes old mid after w marked left s x supported_forms reads starts sets applies marks stands m shown = record {
+    next = working_on b m has.made;
+    step = by_outcome (CannotStoreIn old (written x)) m (written x) supported_forms shown.running (working b m (change_made (written x) (newest m))) (Rows []) (working_on b m has.made) opened.comes (worked_gives b m has.made (change_made (written x) (newest m)) has.reaches);
+    shown = inr (moved old (with_transaction after (transaction.Writing left)) m (InTransactionOf b.by_savepoint b.points (Writes (last_place m) has.made)) shown
+        same (has.kept.failed ∙ start.failed) (has.kept.tables ∙ ap committed_in start.catalog)
+        (record {
+          db = has.made;
+          points = at_begin (now_of w) r.first.points;
+          is = ap (λ (k : Savepoints). InTransactionOf k.began b.points (Writes (last_place m) has.made)) (sym kept_points)
+              ∙ ap (λ (ss : List SavepointState). InTransactionOf (savepoints_in after.catalog).began (reverse ss) (Writes (last_place m) has.made)) (states_at_begin (now_of w) r.first.points);
+          may = has.applies.writer;
+          stored = has.applies.stored;
+          saved = record {
+            tables = ap (λ (k : Savepoints). k.points) kept_points ∙ r.first.saved.tables ∙ tables_at_begin (now_of w) r.first.points;
+            hold = shows_begin (files_of after) (committed_in old.catalog) (newest m) (now_of w) left back r.first.points r.first.saved.hold;
+          };
+          marks = marks ∙ sets.marks ∙ ap (λ (cs : List Changes). cs ++ replicate (length (savepoints_in old.catalog).points) (now_of w)) start.begun.marks
+              ∙ marks_at_begin (now_of w) r.first.points (length (savepoints_in old.catalog).points) (ap length r.first.saved.tables ∙ length-map r.first.points (λ p. p.tables));
+        }));
+    crash = crash_keeps old after m (working_on b m has.made) shown same;
   }
     where
-      opened : Opening old m x (in_transaction m)
-      opened = opens_reading old m shown x old.transaction refl reads shown.transaction
+      r : ReadsIn (files_of old) old.catalog m old.transaction shown.first
+      r = reads_in (files_of old) old.catalog m old.transaction shown.first reads shown.transaction
+
+      b : Begun
+      b = begun_in old.catalog (states_of r.first.points)
+
+      opened : Opening old m x (working b m)
+      opened = opens_in old m shown x r
 
       start : Started old mid w s
       start = starts m shown
 
+      works : CanApply mid w (newest m)
+      works = begun_works old mid m shown w s start opened.all
+
       has : IsApplied (written x) mid (newest m) after left
-      has = applies (newest m) (begun_works old mid m shown w s start opened.all)
+      has = applies (newest m) (moved_on mid w marked (newest m) sets.now sets.stands works)
+
+      same : ShowTheSame (files_of old) (files_of after)
+      same = show_on (files_of old) (files_of mid) (files_of after) start.files has.kept.files
+
+      kept_points : savepoints_in after.catalog ≡ savepoints_in old.catalog
+      kept_points = has.kept.savepoints ∙ ap savepoints_in start.catalog
+
+      back : (u : Writer) → now_of u ≡ now_of w → IsOverTheSame left u → IsWriter (files_of after) u × ShowsDatabase (view_of (files_of after) u) (committed_in old.catalog) (newest m)
+      back u now over =
+          let on = moved_on mid w u (newest m) now (over_on w left u (over_on w marked left sets.stands stands) over) works in (
+            still_writer (files_of mid) (files_of after) u has.kept.files on.writer,
+            subst (λ (ts : List Table). ShowsDatabase (view_of (files_of after) u) ts (newest m)) (ap current_in start.catalog ∙ opened.all)
+                (still_stored (files_of mid) (files_of after) u (current_in mid.catalog) (newest m) has.kept.files on.stored),
+          )
 
   -- ---- commits
 
   -- where its commit is refused, what it made is gone
-  pub dropped : (old after : Connections D g) (kept : Catalogs) (w left : Writer) (db : Database) (f : Fault) → committed_tables kept ≡ committed_tables after.catalog → current_tables kept ≡ committed_tables after.catalog
-      → CommitsChanges old w db (Err f) after left → EndsAlone old w db (Err f) (record after { catalog = kept })
-  dropped old after kept w left db f committed tables (inl io) = inl (record { io = io.io; failed = io.failed; held = io.held; db_left = io.db_left; log_left = io.log_left })
-  dropped old after kept w left db f committed tables (inr none) = inr (record {
+  pub dropped : (old after : Connections D g) (kept : SavedCatalogs) (w left : Writer) (db : Database) (f : Fault) → committed_in kept ≡ committed_in after.catalog → current_in kept ≡ committed_in after.catalog
+      → HasNoSavepoints kept → CommitsChanges old w db (Err f) after left → EndsAlone old w db (Err f) (record after { catalog = kept })
+  dropped old after kept w left db f committed tables gone (inl io) = inl (record { io = io.io; failed = io.failed; held = io.held; db_left = io.db_left; log_left = io.log_left })
+  dropped old after kept w left db f committed tables gone (inr none) = inr (record {
     why = none.why;
     files = none.kept.files;
     failed = none.kept.failed;
     transaction = none.kept.transaction;
     committed = committed ∙ none.kept.tables;
     tables = tables ∙ none.kept.tables;
+    savepoints = gone;
   })
 
   -- a statement of its own, after its work
   pub ended_alone : (old mid after new : Connections D g) (w left : Writer) (s : Snapshot) (x : Write) (result : Result ⊤ Fault) → is_supported (written x) ≡ true → is_idle old.transaction ≡ true → mid.transaction ≡ old.transaction
       → ((m : Machine) → RepresentsRunning old m → Started old mid w s) → ((db : Database) → CanApply mid w db → IsApplied (written x) mid db after left)
-      → ((db was : Database) → has_failed_in after ≡ false → CanApply after left db → ShowsDatabase (newest_view (files_of after)) (committed_tables after.catalog) was → EndsAlone after left db result new) → StepsOn old (written x) (done_reply result) new
+      → ((db was : Database) → has_failed_in after ≡ false → CanApply after left db → ShowsDatabase (newest_view (files_of after)) (committed_in after.catalog) was → EndsAlone after left db result new) → StepsOn old (written x) (done_reply result) new
   ended_alone old mid after new w left s x result supported_forms idle beside starts applies ends m shown = by_result result (ends has.made (newest m) (failed ∙ shown.whole) has.applies newest_stored)
     where
       opened : Opening old m x (alone m)
@@ -301,12 +357,15 @@ module _ {D : Type 0} {g : Ghosts D} where
       worked : ShowTheSame (files_of old) (files_of after)
       worked = show_on (files_of old) (files_of mid) (files_of after) start.files has.kept.files
 
-      committed_same : committed_tables after.catalog ≡ committed_tables old.catalog
-      committed_same = has.kept.tables ∙ ap committed_tables start.catalog
+      committed_same : committed_in after.catalog ≡ committed_in old.catalog
+      committed_same = has.kept.tables ∙ ap committed_in start.catalog
 
-      newest_stored : ShowsDatabase (newest_view (files_of after)) (committed_tables after.catalog) (newest m)
-      newest_stored = subst (λ (v : View). ShowsDatabase v (committed_tables after.catalog) (newest m)) (sym worked.newest)
+      newest_stored : ShowsDatabase (newest_view (files_of after)) (committed_in after.catalog) (newest m)
+      newest_stored = subst (λ (v : View). ShowsDatabase v (committed_in after.catalog) (newest m)) (sym worked.newest)
           (subst (λ (ts : List Table). ShowsDatabase (newest_view (files_of old)) ts (newest m)) (sym committed_same) shown.stored)
+
+      none_before : HasNoSavepoints old.catalog
+      none_before = (none_where_idle old m old.transaction shown.first shown.transaction idle).1
 
       same_gone : (f : Fault) → IsDropped after left new f → ShowTheSame (files_of old) (files_of new)
       same_gone f gone = show_on (files_of old) (files_of after) (files_of new) worked gone.files
@@ -314,12 +373,12 @@ module _ {D : Type 0} {g : Ghosts D} where
       dropped_shown : (f : Fault) → IsDropped after left new f → RepresentsRunning new m
       dropped_shown f gone =
           let same = same_gone f gone in
-          let committed : committed_tables new.catalog ≡ committed_tables old.catalog = gone.committed ∙ committed_same in
-          let whole : current_tables new.catalog ≡ current_tables old.catalog = gone.tables ∙ committed_same ∙ sym opened.all in
+          let committed : committed_in new.catalog ≡ committed_in old.catalog = gone.committed ∙ committed_same in
+          let whole : current_in new.catalog ≡ current_in old.catalog = gone.tables ∙ committed_same ∙ sym opened.all in
           stays old new m shown same (gone.failed ∙ failed) committed
-          (subst (λ (t : Transaction). IsTransaction (files_of new) new.catalog (last_place m) t shown.first) (sym (gone.transaction ∙ has.kept.transaction ∙ beside))
-          (other_catalog (files_of new) old.catalog new.catalog (last_place m) old.transaction shown.first committed whole
-          (still_transaction (files_of old) (files_of new) old.catalog (last_place m) old.transaction shown.first same shown.transaction)))
+          (subst (λ (t : Transaction). IsTransaction (files_of new) new.catalog m.history t shown.first) (sym (gone.transaction ∙ has.kept.transaction ∙ beside))
+          (other_catalog (files_of new) old.catalog new.catalog m old.transaction shown.first committed whole (gone.savepoints ∙ sym none_before)
+          (still_transaction (files_of old) (files_of new) old.catalog m old.transaction shown.first same shown.transaction)))
 
       short : (f : Fault) → IsCommitCause (files_of after) left f → IsErrorCause (CannotStoreIn old (written x) (newest m)) (change_made (written x) (newest m)) f
       short f (inl memory) = inl (inl (inl memory))
@@ -344,36 +403,54 @@ module _ {D : Type 0} {g : Ghosts D} where
   -- ---- a write of a transaction that writes
 
   pub wrote_on : (mid after : Connections D g) (writer left : Writer) (w : Write) (result : Result ⊤ Fault) → is_supported (written w) ≡ true
-      → ((db : Database) → CanApply mid writer db → Applies (written w) mid writer db result after left) → IfErr result (λ f. now_of left ≡ now_of writer) → IsOverTheSame writer left
+      → ((db : Database) → CanApply mid writer db → Applies (written w) mid writer db result after left) → IfErr result (λ f. now_of left ≡ now_of writer) → marks_of left ≡ marks_of writer → IsOverTheSame writer left
       → StepsOn (with_transaction mid (transaction.Writing writer)) (written w) (done_reply result) (with_transaction after (transaction.Writing left))
-  wrote_on mid after writer left w result supported_forms applies back over m shown = by_result result (applies t.0 here) back
+  wrote_on mid after writer left w result supported_forms applies back marks over m shown = by_result result (applies t.db here) back
     where
       old : Connections D g
       old = with_transaction mid (transaction.Writing writer)
 
-      t : IsTransaction (files_of mid) mid.catalog (last_place m) (transaction.Writing writer) shown.first
+      t : IsWritingIn (files_of mid) mid.catalog m.history writer shown.first
       t = shown.transaction
 
-      here : CanApply mid writer t.0
-      here = record { told = shown.told; settled = shown.settled; writer = t.2; stored = t.3 }
+      b : Begun
+      b = begun_in mid.catalog (states_of t.points)
 
-      comes : outcome m 1 (written w) ≡ in_transaction m (change_made (written w) t.0)
-      comes = write_outcome_of w m (InTransactionOf false [] (Writes (last_place m) t.0)) (first_is m shown.first shown.others shown.connections ∙ t.1)
+      here : CanApply mid writer t.db
+      here = record { told = shown.told; settled = shown.settled; writer = t.may; stored = t.stored }
 
-      by_result : (r : Result ⊤ Fault) → Applies (written w) mid writer t.0 r after left → IfErr r (λ f. now_of left ≡ now_of writer) → StepsTo old m 1 (written w) (done_reply r) (with_transaction after (transaction.Writing left))
+      comes : outcome m 1 (written w) ≡ working b m (change_made (written w) t.db)
+      comes = write_outcome_of w m (in_transaction mid.catalog t.points (Writes (last_place m) t.db)) (first_is m shown.first shown.others shown.connections ∙ t.is)
+
+      -- the writer has the savepoints that it had
+      goes_on : (k : Connection) (db : Database) → k ≡ in_transaction mid.catalog t.points (Writes (last_place m) db) → KeepsCommitted mid after → CanApply after left db → IsWritingIn (files_of after) after.catalog m.history left k
+      goes_on k db is kept on = record {
+        db = db;
+        points = t.points;
+        is = is ∙ ap (λ (s : Savepoints). InTransactionOf s.began (states_of t.points) (Writes (last_place m) db)) (sym kept.savepoints);
+        may = on.writer;
+        stored = on.stored;
+        saved = record {
+          tables = ap (λ (s : Savepoints). s.points) kept.savepoints ∙ t.saved.tables;
+          hold = (still_saved (files_of mid) (files_of after) mid.catalog (newest m) writer left t.points kept.files (λ u on. over_on writer left u over on) t.saved).hold;
+        };
+        marks = marks ∙ t.marks;
+      }
+
+      by_result : (r : Result ⊤ Fault) → Applies (written w) mid writer t.db r after left → IfErr r (λ f. now_of left ≡ now_of writer) → StepsTo old m 1 (written w) (done_reply r) (with_transaction after (transaction.Writing left))
       by_result (Ok done) has now = record {
-        next = working_on m has.made;
-        step = by_outcome (CannotStoreIn old (written w)) m (written w) supported_forms shown.running (in_transaction m (change_made (written w) t.0)) (Rows []) (working_on m has.made) comes (worked_gives m has.made (change_made (written w) t.0) has.reaches);
-        shown = inr (moved old (with_transaction after (transaction.Writing left)) m (InTransactionOf false [] (Writes (last_place m) has.made)) shown has.kept.files has.kept.failed
-            has.kept.tables (has.made, refl, has.applies.writer, has.applies.stored));
-        crash = crash_keeps old (with_transaction after (transaction.Writing left)) m (working_on m has.made) shown has.kept.files;
+        next = working_on b m has.made;
+        step = by_outcome (CannotStoreIn old (written w)) m (written w) supported_forms shown.running (working b m (change_made (written w) t.db)) (Rows []) (working_on b m has.made) comes (worked_gives b m has.made (change_made (written w) t.db) has.reaches);
+        shown = inr (moved old (with_transaction after (transaction.Writing left)) m (in_transaction mid.catalog t.points (Writes (last_place m) has.made)) shown has.kept.files has.kept.failed
+            has.kept.tables (goes_on (in_transaction mid.catalog t.points (Writes (last_place m) has.made)) has.made refl has.kept has.applies));
+        crash = crash_keeps old (with_transaction after (transaction.Writing left)) m (working_on b m has.made) shown has.kept.files;
       }
       by_result (Err f) has now =
-          let still = went_back (written w) mid after t.0 writer left f now over here has in
-          refused old (with_transaction after (transaction.Writing left)) m w (in_transaction m) shown has.kept.files
-          (stays old (with_transaction after (transaction.Writing left)) m shown has.kept.files has.kept.failed has.kept.tables (t.0, t.1, still.writer, still.stored))
-          supported_forms (finish_in m shown.first shown.others shown.connections) t.0 (ap (database_of m) (first_is m shown.first shown.others shown.connections ∙ t.1)) comes f
-          (why_of (written w) (view_of (files_of mid) writer) (view_of (files_of mid) writer) t.0 f refl refl has.why)
+          let still = went_back (written w) mid after t.db writer left f now over here has in
+          refused old (with_transaction after (transaction.Writing left)) m w (working b m) shown has.kept.files
+          (stays old (with_transaction after (transaction.Writing left)) m shown has.kept.files has.kept.failed has.kept.tables (goes_on shown.first t.db t.is has.kept still))
+          supported_forms (finish_in b m) t.db (ap (database_of m) (first_is m shown.first shown.others shown.connections ∙ t.is)) comes f
+          (why_of (written w) (view_of (files_of mid) writer) (view_of (files_of mid) writer) t.db f refl refl has.why)
 
   -- a step of the connections with the transaction that they have
   pub with_own : (c new : Connections D g) (t : Transaction) (s : Statement) (reply : Reply) → c.transaction ≡ t → StepsOn (with_transaction c t) s reply new → StepsOn c s reply new

@@ -7,12 +7,13 @@ use Rattle.disk.specs.File.{IsContentLeft}
 use Rattle.disk.specs.declared.device.Disk.{Ghosts}
 use Rattle.syntax.specs.declared.statement.Statement.{Statement}
 use Rattle.catalog.specs.Database.{Database}
-use Rattle.catalog.specs.Listed.{IsUnchanged, committed_tables, current_tables}
+use Rattle.session.specs.SavedTables.{HasNoSavepoints, IsUnchanged, committed_in, current_in, savepoints_in}
 use Rattle.wal.specs.LogState.{db_of, log_of, state_of}
 use Rattle.wal.specs.Refusals.{IsWithin}
 use Rattle.wal.specs.declared.log.Log.{Log}
 use Rattle.wal.specs.declared.pages.PageImage.{PageImage}
 use Rattle.pager.specs.Limits.{pages_of}
+use Rattle.pager.specs.Marks.{IsOverTheSame, marks_of}
 use Rattle.pager.specs.Pruning.{AreNew}
 use Rattle.pager.specs.Views.{Tells, changes_of, newest_view, view_at}
 use Rattle.pager.specs.Writers.{snapshot_of}
@@ -36,12 +37,13 @@ module _ {D : Type 0} {g : Ghosts D} where
   abbrev pub CanApply : Connections D g → Writer → Database → Type 0
   CanApply c = CanChange (listing_of c)
 
-  -- the files were read at most, no transaction has begun or ended, and the committed tables are what they were
+  -- the files were read at most, no transaction has begun or ended, and the committed tables and the savepoints are what they were
   pub record KeepsCommitted (old new : Connections D g) : Type 0 where
     pub files : ShowTheSame (files_of old) (files_of new)
     pub failed : has_failed_in new ≡ has_failed_in old
     pub transaction : new.transaction ≡ old.transaction
-    pub tables : committed_tables new.catalog ≡ committed_tables old.catalog
+    pub tables : committed_in new.catalog ≡ committed_in old.catalog
+    pub savepoints : savepoints_in new.catalog ≡ savepoints_in old.catalog
 
   -- the statement has made a database of this one, and the connections are as they were but for that
   pub record IsApplied (s : Statement) (old : Connections D g) (db : Database) (new : Connections D g) (left : Writer) : Type 0 where
@@ -53,7 +55,7 @@ module _ {D : Type 0} {g : Ghosts D} where
   -- the statement was refused, and the connections have what they had
   pub record IsNotApplied (s : Statement) (old : Connections D g) (writer : Writer) (db : Database) (new : Connections D g) (f : Fault) : Type 0 where
     pub kept : KeepsCommitted old new
-    pub tables : current_tables new.catalog ≡ current_tables old.catalog
+    pub tables : current_in new.catalog ≡ current_in old.catalog
     pub why : RefusesChange s (listing_of old) writer db f
 
   -- what a statement's write has come to; after a refusal the writer's pages may be any
@@ -63,20 +65,21 @@ module _ {D : Type 0} {g : Ghosts D} where
 
   -- ---- a commit
 
-  -- the database is the newest committed one, and all its tables are committed
+  -- the database is the newest committed one, all its tables are committed, and there is no savepoint
   pub record CommitsDatabase (old : Connections D g) (db : Database) (new : Connections D g) : Type 0 where
     pub told : Tells (files_of new)
     pub settled : IsSettled (files_of new)
     pub failed : has_failed_in new ≡ has_failed_in old
     pub transaction : new.transaction ≡ old.transaction
-    pub tables : current_tables new.catalog ≡ current_tables old.catalog
+    pub tables : current_in new.catalog ≡ current_in old.catalog
     pub all : IsUnchanged new.catalog
-    pub stored : ShowsDatabase (newest_view (files_of new)) (current_tables new.catalog) db
+    pub savepoints : HasNoSavepoints new.catalog
+    pub stored : ShowsDatabase (newest_view (files_of new)) (current_in new.catalog) db
 
   -- At each moment of a commit a crash leaves the database that was the newest before it, or this one.
   abbrev pub HoldsEither : Connections D g → Database → Connections D g → Type 0
   HoldsEither old db new =
-      (was : Database) → ShowsDatabase (newest_view (files_of old)) (committed_tables old.catalog) was → HoldThroughout (λ d. (d ≡ was) ⊎ (d ≡ db)) (files_of old) (files_of new)
+      (was : Database) → ShowsDatabase (newest_view (files_of old)) (committed_in old.catalog) was → HoldThroughout (λ d. (d ≡ was) ⊎ (d ≡ db)) (files_of old) (files_of new)
 
   -- a call of a disk has failed, so that it is open which of the two the files hold
   pub record IsInDoubt (old : Connections D g) (db : Database) (new : Connections D g) (f : Fault) : Type 0 where
@@ -96,12 +99,14 @@ module _ {D : Type 0} {g : Ghosts D} where
   abbrev pub IsCommitCause : Log D g → Writer → Fault → Type 0
   IsCommitCause files writer f = (f ≡ fault.Memory) ⊎ (f ≡ fault.Full) × IsPast files writer
 
-  -- nothing is committed, and the writer may commit later
+  -- nothing is committed, and the writer may commit later; it can go back to what it could go back to
   pub record IsUncommitted (old : Connections D g) (writer : Writer) (db : Database) (new : Connections D g) (left : Writer) (f : Fault) : Type 0 where
     pub why : IsCommitCause (files_of old) writer f
     pub kept : KeepsCommitted old new
-    pub tables : current_tables new.catalog ≡ current_tables old.catalog
+    pub tables : current_in new.catalog ≡ current_in old.catalog
     pub applies : CanApply new left db
+    pub marks : marks_of left ≡ marks_of writer
+    pub stands : IsOverTheSame writer left
 
   -- what a commit has come to; after a failed call of a disk nothing more is supported
   abbrev pub CommitsChanges : Connections D g → Writer → Database → Result ⊤ Fault → Connections D g → Writer → Type 0
@@ -114,13 +119,14 @@ module _ {D : Type 0} {g : Ghosts D} where
     pub transaction : new.transaction ≡ old.transaction
     pub catalog : new.catalog ≡ old.catalog
 
-  -- the connections after a commit was written: all their tables are committed
+  -- the connections after a commit was written: all their tables are committed, and there is no savepoint
   pub record IsAfterCommit (old : Connections D g) (files : Log D g) (next : Connections D g) : Type 0 where
     pub files_are : files_of next ≡ files
     pub failed : has_failed_in next ≡ has_failed_in old
     pub transaction : next.transaction ≡ old.transaction
-    pub current : current_tables next.catalog ≡ current_tables old.catalog
-    pub committed : committed_tables next.catalog ≡ current_tables old.catalog
+    pub current : current_in next.catalog ≡ current_in old.catalog
+    pub committed : committed_in next.catalog ≡ current_in old.catalog
+    pub savepoints : HasNoSavepoints next.catalog
 
   -- the connections after its writing was refused: they are marked where a call of a disk failed
   pub record IsAfterRefusal (old : Connections D g) (files : Log D g) (f : Fault) (next : Connections D g) : Type 0 where
@@ -134,14 +140,15 @@ module _ {D : Type 0} {g : Ghosts D} where
   WritesChanges old writer db (Ok done) files left = (next : Connections D g) → IsAfterCommit old files next → CommitsChanges old writer db (Ok done) next left
   WritesChanges old writer db (Err f) files left = (next : Connections D g) → IsAfterRefusal old files f next → CommitsChanges old writer db (Err f) next left
 
-  -- nothing is committed, and of the tables the committed ones are left
+  -- nothing is committed, of the tables the committed ones are left, and there is no savepoint
   pub record IsDropped (old : Connections D g) (writer : Writer) (new : Connections D g) (f : Fault) : Type 0 where
     pub why : IsCommitCause (files_of old) writer f
     pub files : ShowTheSame (files_of old) (files_of new)
     pub failed : has_failed_in new ≡ has_failed_in old
     pub transaction : new.transaction ≡ old.transaction
-    pub committed : committed_tables new.catalog ≡ committed_tables old.catalog
-    pub tables : current_tables new.catalog ≡ committed_tables old.catalog
+    pub committed : committed_in new.catalog ≡ committed_in old.catalog
+    pub tables : current_in new.catalog ≡ committed_in old.catalog
+    pub savepoints : HasNoSavepoints new.catalog
 
   -- what the commit of a statement of its own has come to
   abbrev pub EndsAlone : Connections D g → Writer → Database → Result ⊤ Fault → Connections D g → Type 0

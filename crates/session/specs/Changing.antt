@@ -7,9 +7,10 @@ use Rattle.syntax.specs.declared.create.NewObject.TheVariants as new
 use Rattle.syntax.specs.declared.statement.Statement.{Statement}
 use Rattle.syntax.specs.declared.statement.Statement.TheVariants as statement
 use Rattle.catalog.specs.Database.{Database}
-use Rattle.catalog.specs.Listed.{committed_tables, current_tables, tables_of}
+use Rattle.catalog.specs.Listed.{tables_of}
+use Rattle.session.specs.SavedTables.{committed_in, current_in, savepoints_in}
 use Rattle.catalog.specs.declared.tables.Catalog.{Catalog}
-use Rattle.catalog.specs.declared.tables.Catalogs.{Catalogs}
+use Rattle.session.specs.declared.savepoints.SavedCatalogs.{SavedCatalogs}
 use Rattle.wal.specs.declared.log.Log.{Log}
 use Rattle.pager.specs.Maps.{pages_in}
 use Rattle.pager.specs.Views.{Tells, view_of}
@@ -17,7 +18,8 @@ use Rattle.pager.specs.declared.writer.Writer.{Writer}
 use Rattle.session.specs.Holding.{IsSettled}
 use Rattle.storage.specs.Changing.{IsChangeRefusal}
 use Rattle.storage.specs.Works.{Reaches, change_made}
-use Rattle.session.specs.Representation.{IsWriter, ShowTheSame}
+use Rattle.session.specs.Representation.{ShowTheSame}
+use Rattle.session.specs.Writers.{IsWriter}
 use Rattle.session.specs.Stored.{ShowsDatabase}
 use Rattle.session.specs.declared.changes.Write.{Write}
 use Rattle.session.specs.declared.changes.Write.TheVariants as write
@@ -35,11 +37,11 @@ written (write.CreateTable sql d) = statement.Create (record { sql = sql.now; ob
 -- two files, and the catalogs of their tables
 pub record Listing (D : Type 0) (g : Ghosts D) : Type 0 where
   pub files : Log D g
-  pub catalog : Catalogs
+  pub catalog : SavedCatalogs
 
 module _ {D : Type 0} {g : Ghosts D} where
   -- these files with this catalog
-  abbrev pub listing : Log D g → Catalogs → Listing D g
+  abbrev pub listing : Log D g → SavedCatalogs → Listing D g
   listing files catalog = record { files = files; catalog = catalog }
 
   -- the writer's pages hold this database, whose tables the catalog lists
@@ -47,12 +49,13 @@ module _ {D : Type 0} {g : Ghosts D} where
     pub told : Tells l.files
     pub settled : IsSettled l.files
     pub writer : IsWriter l.files w
-    pub stored : ShowsDatabase (view_of l.files w) (current_tables l.catalog) db
+    pub stored : ShowsDatabase (view_of l.files w) (current_in l.catalog) db
 
-  -- the files were read at most, and the committed tables are what they were
+  -- the files were read at most, and the committed tables and the savepoints are what they were
   pub record KeepsListed (old new : Listing D g) : Type 0 where
     pub files : ShowTheSame old.files new.files
-    pub tables : committed_tables new.catalog ≡ committed_tables old.catalog
+    pub tables : committed_in new.catalog ≡ committed_in old.catalog
+    pub savepoints : savepoints_in new.catalog ≡ savepoints_in old.catalog
 
   -- the statement has made a database of this one
   pub record IsChangeMade (s : Statement) (old : Listing D g) (db : Database) (new : Listing D g) (left : Writer) : Type 0 where
@@ -68,13 +71,14 @@ module _ {D : Type 0} {g : Ghosts D} where
   -- the statement was refused, and the catalog has what it had
   pub record IsChangeRefused (s : Statement) (old : Listing D g) (writer : Writer) (db : Database) (new : Listing D g) (f : Fault) : Type 0 where
     pub kept : KeepsListed old new
-    pub tables : current_tables new.catalog ≡ current_tables old.catalog
+    pub tables : current_in new.catalog ≡ current_in old.catalog
     pub why : RefusesChange s old writer db f
 
   -- what a change of the writer's pages has come to that answers a catalog, whose tables are to be the current ones
   abbrev pub MakesCatalog : Statement → Listing D g → Writer → Database → Result Catalog Fault → Log D g → Writer → Type 0
   MakesCatalog s old writer db (Ok catalog) files left =
-      (next : Catalogs) → current_tables next ≡ tables_of catalog → committed_tables next ≡ committed_tables old.catalog
+      (next : SavedCatalogs) → current_in next ≡ tables_of catalog → committed_in next ≡ committed_in old.catalog
+      → savepoints_in next ≡ savepoints_in old.catalog
       → IsChangeMade s old db (listing files next) left
   MakesCatalog s old writer db (Err f) files left = IsChangeRefused s old writer db (listing files old.catalog) f
 

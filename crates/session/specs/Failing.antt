@@ -29,6 +29,12 @@ abbrev pub has_written : Transaction → Bool
 has_written (transaction.Writing writer) = true
 has_written _ = false
 
+-- it may end a transaction by a commit
+abbrev pub may_commit : Statement → Bool
+may_commit statement.Commit = true
+may_commit (statement.Release name) = true
+may_commit _ = false
+
 module _ {D : Type 0} {g : Ghosts D} where
   -- a call of one of the two disks has failed, as their counts say
   abbrev pub HasCallFailed : Log D g → Log D g → Type 0
@@ -49,6 +55,8 @@ module _ {D : Type 0} {g : Ghosts D} where
   may_want_memory c (statement.Begin mode) = is_immediate mode
   may_want_memory c statement.Commit = has_written c.transaction
   may_want_memory c statement.Rollback = false
+  may_want_memory c (statement.Release name) = has_written c.transaction
+  may_want_memory c (statement.RollbackTo name) = false
   may_want_memory c _ = true
 
   -- this transaction has written, and what its commit would write is past the limits
@@ -60,7 +68,7 @@ module _ {D : Type 0} {g : Ghosts D} where
   abbrev pub IsPastLimits : Connections D g → Type 0
   IsPastLimits c = IsPastIn (files_of c) c.transaction
 
-  -- A statement's refusal has its cause: `Memory` only where it may take memory, and `Full` of a COMMIT only past the limits.
+  -- A statement's refusal has its cause: `Memory` only where it may take memory, and `Full` of a COMMIT or a RELEASE only past the limits.
   pub record IsRefusedFor (c : Connections D g) (s : Statement) (f : Fault) : Type 0 where
     pub memory : f ≡ fault.Memory → IsTrue (may_want_memory c s)
-    pub full : (m : Machine) → RepresentsRunning c m → s ≡ statement.Commit → f ≡ fault.Full → IsPastLimits c
+    pub full : (m : Machine) → RepresentsRunning c m → may_commit s ≡ true → f ≡ fault.Full → IsPastLimits c

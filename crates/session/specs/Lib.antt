@@ -7,6 +7,9 @@ pub mod Crashes
 pub mod Texts
 pub mod ConnectionState
 pub mod Limits
+pub mod SavedTables
+pub mod Saving
+pub mod Writers
 pub mod Representation
 pub mod Stored
 pub mod Holding

@@ -4,7 +4,7 @@ use Rattle.syntax.specs.declared.change.Change.TheVariants as change
 use Rattle.syntax.specs.declared.statement.Statement.{Statement}
 use Rattle.syntax.specs.declared.statement.Statement.TheVariants as statement
 
--- whether a statement may be refused as `Full`: those that change the database, and COMMIT
+-- whether a statement may be refused as `Full`: those that change the database, COMMIT, and RELEASE, which may commit
 abbrev pub may_be_full : Statement → Bool
 may_be_full (statement.Create c) = true
 may_be_full (statement.Drop kind name) = true
@@ -12,4 +12,5 @@ may_be_full (statement.Change (change.Insert i)) = true
 may_be_full (statement.Change (change.Delete d)) = true
 may_be_full (statement.Change (change.Update u)) = true
 may_be_full statement.Commit = true
+may_be_full (statement.Release name) = true
 may_be_full _ = false

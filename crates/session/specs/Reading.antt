@@ -4,7 +4,7 @@ use Rattle.disk.specs.declared.device.Disk.{Ghosts}
 use Rattle.wal.specs.LogState.{state_of, seen_by}
 use Rattle.wal.specs.declared.log.Log.{Log}
 use Rattle.pager.specs.Views.{View, view_at, view_of}
-use Rattle.session.specs.Representation.{IsWriter}
+use Rattle.session.specs.Writers.{IsWriter}
 use Rattle.session.specs.declared.reads.Sight.{Sight}
 use Rattle.session.specs.declared.reads.Sight.TheVariants as sight
 

@@ -1,5 +1,5 @@
 -- Which machine the connections show.
-use Rattle.std.specs.Prelude.{◌≡◌, ◌⊎◌, ◌<◌, ◌≤◌, ⊤, ℕ, Bool, true, false, List, [], ◌∷◌, length, map, take, None, Result, Ok, Err, Vec, Contains}
+use Rattle.std.specs.Prelude.{◌≡◌, ◌⊎◌, ◌≤◌, ◌-◌, slice_get, unwrap_or, ⊤, ℕ, Bool, true, false, List, [], ◌∷◌, length, map, take, None, Result, Ok, Err, Vec, Contains}
 use Rattle.std.specs.declared.alloc.Global.{Global}
 use Rattle.smallvec.specs.SmallVec.{SmallVec}
 use Rattle.sqlval.specs.Refusals.{Refusal, refusal_of}
@@ -8,24 +8,27 @@ use Rattle.sqlval.specs.declared.value.Value.{Value}
 use Rattle.std.specs.List.{AllByRecursion}
 use Rattle.disk.specs.declared.device.Disk.{Ghosts}
 use Rattle.syntax.specs.declared.statement.Statement.{Statement}
+use Rattle.syntax.specs.declared.statement.Statement.TheVariants as statement
 use Rattle.wal.specs.declared.log.Log.{Log}
 use Rattle.wal.specs.declared.log.Snapshot.{Snapshot}
-use Rattle.wal.specs.LogState.{db_of, state_of, log_of, seen_by, size_of}
-use Rattle.catalog.specs.Listed.{IsUnchanged, committed_tables, current_tables}
-use Rattle.catalog.specs.declared.tables.Catalogs.{Catalogs}
+use Rattle.wal.specs.LogState.{db_of, state_of, log_of}
+use Rattle.session.specs.SavedTables.{HasNoSavepoints, IsUnchanged, committed_in, current_in}
+use Rattle.session.specs.Saving.{AreSaved, IsMarked, IsUnwritten, SavedAs, in_transaction}
+use Rattle.session.specs.declared.savepoints.SavedCatalogs.{SavedCatalogs}
 use Rattle.catalog.specs.Database.{Database}
 use Rattle.rowprog.specs.Rows.{values_of}
-use Rattle.pager.specs.Limits.{page_size_of}
+use Rattle.pager.specs.Marks.{Changes, marks_of}
 use Rattle.pager.specs.Views.{View, Tells, newest_view, view_at, view_of}
-use Rattle.pager.specs.Sound.{IsSound}
-use Rattle.pager.specs.Writers.{snapshot_of}
 use Rattle.pager.specs.declared.writer.Writer.{Writer}
+use Rattle.storage.specs.Forms.{is_supported}
 use Rattle.session.specs.Supported.{StepSoFar}
 use Rattle.session.specs.Holding.{HoldThroughout, IsLeftBy, IsSettled}
 use Rattle.session.specs.ConnectionState.{files_of, has_failed_in}
-use Rattle.session.specs.Machine.{Machine, Connection, Idle, InTransactionOf, NoSnapshot, Reads, Writes, Reply, Rows, Refused, last_place, newest}
+use Rattle.session.specs.Machine.{Machine, Connection, Idle, NoSnapshot, Phase, Reads, Writes, Reply, Rows, Refused, newest}
+use Rattle.session.specs.Outcomes.{outcome}
 use Rattle.session.specs.Crashes.{MayShow}
 use Rattle.session.specs.Stored.{CannotStore, ShowsDatabase}
+use Rattle.session.specs.Writers.{IsNewest, IsWriter}
 use Rattle.session.specs.declared.transactions.Connections.{Connections}
 use Rattle.session.specs.declared.transactions.Transaction.{Transaction}
 use Rattle.session.specs.declared.transactions.Transaction.TheVariants as transaction
@@ -55,26 +58,38 @@ is_reading transaction.Begun = true
 is_reading (transaction.Reading snapshot) = true
 is_reading _ = false
 
+-- the place of the newest of the committed databases, and that one
+abbrev pub last_in : List Database → ℕ
+last_in history = length history - 1
+
+abbrev pub newest_in : List Database → Database
+newest_in history = unwrap_or (slice_get history (last_in history)) []
+
+-- a transaction that hasn't written yet is in this phase, with its savepoints
+pub record IsReadingIn (catalog : SavedCatalogs) (phase : Phase) (k : Connection) : Type 0 where
+  pub points : List (SavedAs ⊤)
+  pub is : k ≡ in_transaction catalog points phase
+  pub all : IsUnchanged catalog
+  pub saved : AreSaved (IsUnwritten (committed_in catalog)) catalog points
+
 module _ {D : Type 0} {g : Ghosts D} where
-  -- the snapshot is of the newest commit
-  pub record IsNewest (files : Log D g) (snapshot : Snapshot) : Type 0 where
-    pub seen : seen_by snapshot ≡ (state_of files).frames
-    pub sized : size_of snapshot ≡ (state_of files).size
+  -- A transaction that has written works on the database that its writer shows, and its writer has a mark for each of its savepoints. These are the
+  -- committed databases.
+  pub record IsWritingIn (files : Log D g) (catalog : SavedCatalogs) (history : List Database) (writer : Writer) (k : Connection) : Type 0 where
+    pub db : Database
+    pub points : List (SavedAs Changes)
+    pub is : k ≡ in_transaction catalog points (Writes (last_in history) db)
+    pub may : IsWriter files writer
+    pub stored : ShowsDatabase (view_of files writer) (current_in catalog) db
+    pub saved : AreSaved (IsMarked files (newest_in history) writer) catalog points
+    pub marks : marks_of writer ≡ map (λ p. p.kept) points
 
-  -- the writer's changes can be committed over the newest commit
-  pub record IsWriter (files : Log D g) (writer : Writer) : Type 0 where
-    pub newest : IsNewest files (snapshot_of writer)
-    pub sound : IsSound writer
-    pub page_size : page_size_of writer ≡ (state_of files).page_size
-
-  -- How far the transaction of the first connection has come, where this is the place of the newest commit. It alone is supported so
-  -- far, so that commit is what it reads.
-  abbrev pub IsTransaction : Log D g → Catalogs → ℕ → Transaction → Connection → Type 0
-  IsTransaction files catalog last transaction.Idle k = (k ≡ Idle) × IsUnchanged catalog
-  IsTransaction files catalog last transaction.Begun k = (k ≡ InTransactionOf false [] NoSnapshot) × IsUnchanged catalog
-  IsTransaction files catalog last (transaction.Reading snapshot) k = (k ≡ InTransactionOf false [] (Reads last)) × IsUnchanged catalog × IsNewest files snapshot
-  IsTransaction files catalog last (transaction.Writing writer) k =
-      (db : Database) × (k ≡ InTransactionOf false [] (Writes last db)) × IsWriter files writer × ShowsDatabase (view_of files writer) (current_tables catalog) db
+  -- How far the transaction of the first connection has come. It alone is supported so far, so that the newest commit is what it reads.
+  abbrev pub IsTransaction : Log D g → SavedCatalogs → List Database → Transaction → Connection → Type 0
+  IsTransaction files catalog history transaction.Idle k = (k ≡ Idle) × IsUnchanged catalog × HasNoSavepoints catalog
+  IsTransaction files catalog history transaction.Begun k = IsReadingIn catalog NoSnapshot k
+  IsTransaction files catalog history (transaction.Reading snapshot) k = IsReadingIn catalog (Reads (last_in history)) k × IsNewest files snapshot
+  IsTransaction files catalog history (transaction.Writing writer) k = IsWritingIn files catalog history writer k
 
   -- The files hold the newest of the committed databases, the catalog lists its tables, and the first connection is where its
   -- transaction is.
@@ -85,12 +100,12 @@ module _ {D : Type 0} {g : Ghosts D} where
     pub told : Tells (files_of c)
     pub settled : IsSettled (files_of c)
     pub some : 1 ≤ length m.history
-    pub stored : ShowsDatabase (newest_view (files_of c)) (committed_tables c.catalog) (newest m)
+    pub stored : ShowsDatabase (newest_view (files_of c)) (committed_in c.catalog) (newest m)
     pub first : Connection
     pub others : List Connection
     pub connections : m.connections ≡ first ∷ others
     pub idle : AllByRecursion (λ k. k ≡ Idle) others
-    pub transaction : IsTransaction (files_of c) c.catalog (last_place m) c.transaction first
+    pub transaction : IsTransaction (files_of c) c.catalog m.history c.transaction first
 
   -- the connections with another transaction of the first
   abbrev pub with_transaction : Connections D g → Transaction → Connections D g
@@ -124,6 +139,10 @@ module _ {D : Type 0} {g : Ghosts D} where
   abbrev pub StepsOn : Connections D g → Statement → Reply → Connections D g → Type 0
   StepsOn old statement reply new = (m : Machine) → RepresentsRunning old m → StepsTo old m 1 statement reply new
 
+  -- the statement is supported, and comes to what COMMIT comes to
+  abbrev pub CommitsBy : Connections D g → Statement → Type 0
+  CommitsBy c s = (is_supported s ≡ true) × ((m : Machine) → RepresentsRunning c m → outcome m 1 s ≡ outcome m 1 statement.Commit)
+
   -- the files were read at most: they show what they showed
   pub record ShowTheSame (old new : Log D g) : Type 0 where
     pub told : Tells new
@@ -148,10 +167,11 @@ module _ {D : Type 0} {g : Ghosts D} where
     pub begun : is_begun old.transaction ≡ true → (snapshot : Snapshot) × (new.transaction ≡ transaction.Reading snapshot) × IsNewest (files_of old) snapshot
     pub other : is_begun old.transaction ≡ false → new.transaction ≡ old.transaction
 
-  -- the transaction is given up, and with it the tables that it made
+  -- the transaction is given up, and with it the tables that it made and its savepoints
   pub record IsGivenUp (old new : Connections D g) : Type 0 where
     pub files : files_of new ≡ files_of old
     pub failed : has_failed_in new ≡ has_failed_in old
     pub idle : new.transaction ≡ transaction.Idle
-    pub committed : committed_tables new.catalog ≡ committed_tables old.catalog
-    pub tables : current_tables new.catalog ≡ committed_tables old.catalog
+    pub committed : committed_in new.catalog ≡ committed_in old.catalog
+    pub tables : current_in new.catalog ≡ committed_in old.catalog
+    pub savepoints : HasNoSavepoints new.catalog

@@ -15,7 +15,8 @@ ghost use Rattle.session.specs.Representation.{ShowTheSame};
 ghost use Rattle.storage.specs.Schema.{IsCreateOf, WhereSupported};
 ghost use Rattle.storage.specs.Forms as forms;
 
-use catalog::{Catalog, Catalogs};
+use crate::savepoints::SavedCatalogs;
+use catalog::Catalog;
 use disk::Disk;
 use pager::{Writer, Writing};
 use sqlval::{Name, R, Text};
@@ -61,7 +62,7 @@ fn insert<D: Disk + Drop>(
     alloc: Global,
     log: &mut Log<D>,
     buffer: &mut Vec<u8>,
-    catalog: &Catalogs,
+    catalog: &SavedCatalogs,
     writer: &mut Writer,
     insert: &Insert,
 ) -> R<()>
@@ -88,7 +89,7 @@ fn delete<D: Disk + Drop>(
     alloc: Global,
     log: &mut Log<D>,
     buffer: &mut Vec<u8>,
-    catalog: &Catalogs,
+    catalog: &SavedCatalogs,
     writer: &mut Writer,
     delete: &Delete,
 ) -> R<()>
@@ -115,7 +116,7 @@ fn update<D: Disk + Drop>(
     alloc: Global,
     log: &mut Log<D>,
     buffer: &mut Vec<u8>,
-    catalog: &Catalogs,
+    catalog: &SavedCatalogs,
     writer: &mut Writer,
     update: &Update,
 ) -> R<()>
@@ -142,7 +143,7 @@ fn create_pages<D: Disk + Drop>(
     alloc: Global,
     log: &mut Log<D>,
     buffer: &mut Vec<u8>,
-    catalog: &Catalogs,
+    catalog: &SavedCatalogs,
     writer: &mut Writer,
     sql: &Text,
     table: &TableDefinition,
@@ -171,7 +172,7 @@ fn create_table<D: Disk + Drop>(
     alloc: Global,
     log: &mut Log<D>,
     buffer: &mut Vec<u8>,
-    catalog: &mut Catalogs,
+    catalog: &mut SavedCatalogs,
     writer: &mut Writer,
     sql: &Text,
     table: &TableDefinition,
@@ -198,7 +199,7 @@ fn drop_pages<D: Disk + Drop>(
     alloc: Global,
     log: &mut Log<D>,
     buffer: &mut Vec<u8>,
-    catalog: &Catalogs,
+    catalog: &SavedCatalogs,
     writer: &mut Writer,
     kind: ObjectKind,
     name: &Name,
@@ -225,7 +226,7 @@ fn drop_object<D: Disk + Drop>(
     alloc: Global,
     log: &mut Log<D>,
     buffer: &mut Vec<u8>,
-    catalog: &mut Catalogs,
+    catalog: &mut SavedCatalogs,
     writer: &mut Writer,
     kind: ObjectKind,
     name: &Name,
@@ -250,7 +251,7 @@ pub fn apply<D: Disk + Drop>(
     alloc: Global,
     log: &mut Log<D>,
     buffer: &mut Vec<u8>,
-    catalog: &mut Catalogs,
+    catalog: &mut SavedCatalogs,
     writer: &mut Writer,
     write: Write<'_>,
 ) -> R<()>

@@ -42,7 +42,10 @@ pub fn is_supported(statement: &Statement) -> bool
         | Statement::Drop(_, _)
         | Statement::Begin(_)
         | Statement::Commit
-        | Statement::Rollback => true,
+        | Statement::Rollback
+        | Statement::RollbackTo(_)
+        | Statement::Savepoint(_)
+        | Statement::Release(_) => true,
         _ => false,
     }
 }

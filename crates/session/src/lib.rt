@@ -5,7 +5,9 @@
 mod changes;
 mod forms;
 mod laws;
+mod marks;
 mod reads;
+mod savepoints;
 mod transactions;
 
 ghost use Rattle.session.specs.Laws.{LeavesOthers, RefusalsAddNothing};

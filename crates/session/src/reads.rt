@@ -10,7 +10,8 @@ ghost use Rattle.storage.specs.Reading.{AnswersRead};
 ghost use Rattle.storage.specs.Works.{read_on};
 ghost use Rattle.session.specs.ConnectionState.{HasCause};
 ghost use Rattle.session.specs.Reading.{IsSightOf, view_by};
-ghost use Rattle.session.specs.Representation.{IsWriter, ShowTheSame};
+ghost use Rattle.session.specs.Representation.{ShowTheSame};
+ghost use Rattle.session.specs.Writers.{IsWriter};
 ghost use Rattle.session.specs.Stored.{ShowsDatabase};
 
 use catalog::Catalog;

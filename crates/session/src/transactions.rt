@@ -1,6 +1,6 @@
 //! The connections: whose transaction reads what, and what is committed.
 
-ghost use Rattle.std.specs.Prelude.{◌≡◌, ◌&&◌, map, Ok, Err, IfErr, true, false, IsTrue, IsFalse};
+ghost use Rattle.std.specs.Prelude.{◌≡◌, ◌<◌, ◌&&◌, length, map, Ok, Err, IfErr, true, false, IsTrue, IsFalse};
 ghost use Rattle.sqlval.specs.declared.fault.Fault.TheVariants.{Memory};
 ghost use Rattle.pager.specs.Marks.{IsOverTheSame, marks_of, now_of};
 ghost use Rattle.pager.specs.Views.{Tells, newest_view};
@@ -10,7 +10,8 @@ ghost use Rattle.storage.specs.Schema.{KeepsItsText, WhereSupported};
 ghost use Rattle.session.specs.Stored.{ShowsDatabase};
 ghost use Rattle.storage.specs.Works.{read_on};
 ghost use Rattle.catalog.specs.Database.{Database};
-ghost use Rattle.catalog.specs.Listed.{committed_tables, current_tables, tables_of};
+ghost use Rattle.catalog.specs.Listed.{tables_of};
+ghost use Rattle.session.specs.SavedTables.{HasRoom, committed_in, current_in};
 ghost use Rattle.session.specs.Supported.{is_connection_supported};
 ghost use Rattle.storage.specs.Forms as forms;
 ghost use Rattle.wal.specs.LogState.{db_of, log_of};
@@ -22,12 +23,14 @@ ghost use Rattle.session.specs.Changing.{written};
 
 use crate::changes::{Write, apply, write_of};
 use crate::forms::is_supported;
+use crate::marks::{go_back, let_go, mark_times, save_marked};
 use crate::reads::{Sight, read};
-use catalog::{Catalog, Catalogs};
+use crate::savepoints::SavedCatalogs;
+use catalog::Catalog;
 use disk::Disk;
 use pager::Writer;
 use rowprog::Rows;
-use sqlval::{Fault, Feature, Misuse, R};
+use sqlval::{Fault, Feature, Misuse, Name, R};
 use std::alloc::Global;
 use std::mem;
 use syntax::{BeginMode, Query, Statement};
@@ -44,12 +47,34 @@ enum Transaction {
     Writing(Writer),
 }
 
+impl Transaction {
+    ghost use Rattle.session.specs.Saving.{GoesBackToMark, OnWriter, ReleasesMarks};
+
+    /// Goes back to a mark of its writer, where it has written; the mark stays.
+    fn back_to(&mut self, place: usize)
+        ensures { OnWriter (λ old new. place < length (marks_of old) → GoesBackToMark place old new) self.old self.new }
+    {
+        if let Transaction::Writing(writer) = self {
+            go_back(writer, place);
+        }
+    }
+
+    /// Lets go of a mark of its writer and of those set after it, where it has written.
+    fn release(&mut self, place: usize)
+        ensures { OnWriter (λ old new. place < length (marks_of old) → ReleasesMarks place old new) self.old self.new }
+    {
+        if let Transaction::Writing(writer) = self {
+            let_go(writer, place);
+        }
+    }
+}
+
 /// The connections of an open database. For now the first alone is supported.
 #[derive(Drop)]
 pub struct Connections<D: Disk + Drop> {
     alloc: Global,
     log: Log<D>,
-    catalog: Catalogs,
+    catalog: SavedCatalogs,
     transaction: Transaction,
     has_failed: bool,
     /// Where pages of the files are read.
@@ -70,7 +95,8 @@ fn is_io(fault: &Fault) -> bool
 }
 
 impl<D: Disk + Drop> Connections<D> {
-    ghost use Rattle.session.specs.Representation.{IsGivenUp, IsNewest, RepresentsRunning, OnlyReads, StartsReading, Steps, StepsOn, done_reply, is_begun, is_idle, is_reading, rows_reply, seen_in, with_transaction};
+    ghost use Rattle.session.specs.Representation.{CommitsBy, IsGivenUp, RepresentsRunning, OnlyReads, StartsReading, Steps, StepsOn, done_reply, is_begun, is_idle, is_reading, rows_reply, seen_in, with_transaction};
+    ghost use Rattle.session.specs.Writers.{IsNewest};
     ghost use Rattle.session.specs.declared.transactions.Transaction.TheVariants as transaction;
     ghost use Rattle.session.specs.Holding.{IsSettled};
     ghost use Rattle.session.specs.Machine.{Machine, fresh};
@@ -89,7 +115,7 @@ impl<D: Disk + Drop> Connections<D> {
         Connections {
             alloc,
             log,
-            catalog: Catalogs::new(catalog),
+            catalog: SavedCatalogs::new(alloc, catalog),
             transaction: Transaction::Idle,
             has_failed: false,
             buffer: Vec::new(alloc),
@@ -182,6 +208,9 @@ impl<D: Disk + Drop> Connections<D> {
             Statement::Begin(mode) => self.begin(*mode),
             Statement::Commit => self.commit(),
             Statement::Rollback => self.rollback(),
+            Statement::Savepoint(name) => self.savepoint(name),
+            Statement::Release(name) => self.release(name),
+            Statement::RollbackTo(name) => self.rollback_to(name),
             _ => match write_of(statement) {
                 Some(write) => self.write(write),
                 None => unsupported_form(),
@@ -208,6 +237,7 @@ impl<D: Disk + Drop> Connections<D> {
         ensures cause { HasCauseIn false result self.old self.new }
         ensures reads { ReadsFiles self.old self.new }
         ensures done { result ≡ Ok tt }
+        ensures begun { self.new ≡ with_transaction self.old transaction.Begun }
         ensures step { is_idle self.old.transaction ≡ true → StepsOn self.old (statement.Begin Deferred) (done_reply result) self.new }
     {
         self.transaction = Transaction::Begun;
@@ -260,7 +290,7 @@ impl<D: Disk + Drop> Connections<D> {
         ensures cause { HasCauseIn true result self.old self.new }
         ensures rest { KeepsAllButFiles self.old self.new }
         ensures writes { (db was : Database) → has_failed_in self.old ≡ false → CanApply self.old writer.old db
-            → ShowsDatabase (newest_view (files_of self.old)) (committed_tables self.old.catalog) was
+            → ShowsDatabase (newest_view (files_of self.old)) (committed_in self.old.catalog) was
             → WritesChanges self.old writer.old db result (files_of self.new) writer.new }
     {
         match writer.pruned(self.alloc, &mut self.log, &mut self.buffer)? {
@@ -277,7 +307,7 @@ impl<D: Disk + Drop> Connections<D> {
         ensures cause { HasCauseIn true result self.old self.new }
         ensures marks { MarksFailure result self.old self.new }
         ensures commits { (db was : Database) → has_failed_in self.old ≡ false → CanApply self.old writer.old db
-            → ShowsDatabase (newest_view (files_of self.old)) (committed_tables self.old.catalog) was
+            → ShowsDatabase (newest_view (files_of self.old)) (committed_in self.old.catalog) was
             → CommitsChanges self.old writer.old db result self.new writer.new }
     {
         if let Err(fault) = self.write_changes(writer) {
@@ -292,11 +322,15 @@ impl<D: Disk + Drop> Connections<D> {
         ensures cause { HasCauseIn true result self.old self.new }
         ensures marks { MarksFailure result self.old self.new }
         ensures refused { IfErr result (IsRefusedFor self.old statement.Commit) }
-        ensures step { StepsOn self.old statement.Commit (done_reply result) self.new }
+        // A step of COMMIT, and of a RELEASE that comes to the same.
+        ensures step { (s : Statement) → CommitsBy self.old s → StepsOn self.old s (done_reply result) self.new }
     {
         match mem::replace(&mut self.transaction, Transaction::Idle) {
             Transaction::Idle => Err(Fault::NoTransaction),
-            Transaction::Begun | Transaction::Reading(_) => Ok(()),
+            Transaction::Begun | Transaction::Reading(_) => {
+                self.catalog.rollback();
+                Ok(())
+            }
             Transaction::Writing(writer) => {
                 let mut writer = writer;
                 let result = self.commit_writer(&mut writer);
@@ -306,6 +340,92 @@ impl<D: Disk + Drop> Connections<D> {
                 result
             }
         }
+    }
+
+    /// Makes a savepoint. Outside a transaction it begins one.
+    fn savepoint(&mut self, name: &Name) -> R<()>
+        ensures cause { HasCauseIn false result self.old self.new }
+        ensures reads { ReadsFiles self.old self.new }
+        ensures step { StepsOn self.old (statement.Savepoint name.now) (done_reply result) self.new }
+    {
+        if self.catalog.is_full() {
+            return Err(Fault::TooLong);
+        }
+        let copy = name.copy(self.alloc)?;
+        match mem::replace(&mut self.transaction, Transaction::Idle) {
+            Transaction::Idle => self.begin_savepoint(copy),
+            Transaction::Writing(writer) => self.save_writing(writer, copy),
+            reading => self.save_reading(reading, copy),
+        }
+    }
+
+    /// Begins a transaction by a savepoint.
+    fn begin_savepoint(&mut self, name: Name) -> R<()>
+        ensures cause { HasCauseIn false result self.old self.new }
+        ensures reads { ReadsFiles self.old self.new }
+        ensures step { HasRoom self.old.catalog → is_idle self.old.transaction ≡ true
+            → StepsOn self.old (statement.Savepoint name) (done_reply result) self.new }
+    {
+        self.catalog.begin(name)?;
+        self.begin_deferred()
+    }
+
+    /// Makes a savepoint in a transaction that hasn't written yet, which was taken out of `self`.
+    fn save_reading(&mut self, reading: Transaction, name: Name) -> R<()>
+        ensures cause { HasCauseIn false result self.old self.new }
+        ensures reads { ReadsFiles self.old self.new }
+        ensures step { HasRoom self.old.catalog → is_reading reading ≡ true
+            → StepsOn (with_transaction self.old reading) (statement.Savepoint name) (done_reply result) self.new }
+    {
+        self.transaction = reading;
+        self.catalog.save(name)
+    }
+
+    /// Makes a savepoint in a transaction that has written, which was taken out of `self`.
+    fn save_writing(&mut self, writer: Writer, name: Name) -> R<()>
+        ensures cause { HasCauseIn false result self.old self.new }
+        ensures reads { ReadsFiles self.old self.new }
+        ensures step { HasRoom self.old.catalog
+            → StepsOn (with_transaction self.old (transaction.Writing writer)) (statement.Savepoint name) (done_reply result) self.new }
+    {
+        let mut writer = writer;
+        let result = save_marked(&mut self.catalog, &mut writer, name);
+        self.transaction = Transaction::Writing(writer);
+        result
+    }
+
+    /// Lets go of the newest savepoint of a name and of those made after it; the changes stay. The oldest one, where it began
+    /// the transaction, commits it.
+    fn release(&mut self, name: &Name) -> R<()>
+        ensures cause { HasCauseIn true result self.old self.new }
+        ensures marks { MarksFailure result self.old self.new }
+        ensures refused { IfErr result (IsRefusedFor self.old (statement.Release name.now)) }
+        ensures step { StepsOn self.old (statement.Release name.now) (done_reply result) self.new }
+    {
+        let Some(place) = self.catalog.place_of(name.as_str()) else {
+            return Err(Fault::NoSavepoint);
+        };
+        if self.catalog.begins_at(place) {
+            return self.commit();
+        }
+        self.catalog.release(place);
+        self.transaction.release(place);
+        Ok(())
+    }
+
+    /// Goes back to the newest savepoint of a name, which stays; those made after it are gone.
+    fn rollback_to(&mut self, name: &Name) -> R<()>
+        ensures cause { HasCauseIn false result self.old self.new }
+        ensures reads { ReadsFiles self.old self.new }
+        ensures refused { IfErr result (λ fault. fault ≡ Fault.NoSavepoint) }
+        ensures step { StepsOn self.old (statement.RollbackTo name.now) (done_reply result) self.new }
+    {
+        let Some(place) = self.catalog.place_of(name.as_str()) else {
+            return Err(Fault::NoSavepoint);
+        };
+        self.catalog.back_to(place);
+        self.transaction.back_to(place);
+        Ok(())
     }
 
     /// The snapshot that a statement reads on, except for the changes of its own transaction.
@@ -326,7 +446,7 @@ impl<D: Disk + Drop> Connections<D> {
         ensures cause { HasCauseIn false result self.old self.new }
         ensures reads { OnlyReads self.old self.new }
         ensures answered { (m : Machine) (db : Database) → RepresentsRunning self.old m
-            → ShowsDatabase (seen_in self.old.transaction (files_of self.old)) (current_tables self.old.catalog) db
+            → ShowsDatabase (seen_in self.old.transaction (files_of self.old)) (current_in self.old.catalog) db
             → AnswersRead (λ rows. map values_of rows.items) (read_on db query.now) result }
     {
         match &self.transaction {
@@ -432,7 +552,7 @@ impl<D: Disk + Drop> Connections<D> {
         ensures cause { HasCauseIn true result self.old self.new }
         ensures marks { MarksFailure result self.old self.new }
         ensures ends { (db was : Database) → has_failed_in self.old ≡ false → CanApply self.old writer db
-            → ShowsDatabase (newest_view (files_of self.old)) (committed_tables self.old.catalog) was
+            → ShowsDatabase (newest_view (files_of self.old)) (committed_in self.old.catalog) was
             → EndsAlone self.old writer db result self.new }
     {
         let mut writer = writer;
@@ -445,7 +565,7 @@ impl<D: Disk + Drop> Connections<D> {
         }
     }
 
-    /// The first change of a transaction takes the write right.
+    /// The first change of a transaction takes the write right, and sets a mark for each of its savepoints.
     fn start_writing(&mut self, write: Write<'_>) -> R<()>
         ensures cause { HasCauseIn true result self.old self.new }
         ensures reads { ReadsFiles self.old self.new }
@@ -454,6 +574,7 @@ impl<D: Disk + Drop> Connections<D> {
     {
         let snapshot = self.snapshot();
         let mut writer = Writer::begin(self.alloc, &mut self.log, snapshot)?;
+        mark_times(&mut writer, self.catalog.count())?;
         self.apply(&mut writer, write)?;
         self.transaction = Transaction::Writing(writer);
         Ok(())

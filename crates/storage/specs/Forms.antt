@@ -17,7 +17,7 @@ abbrev pub is_object_supported : NewObject → Bool
 is_object_supported (new.Table d) = is_table_supported d
 is_object_supported _ = false
 
--- tables, DROP, inserted rows, DELETE, UPDATE, queries, and transactions
+-- tables, DROP, inserted rows, DELETE, UPDATE, queries, transactions and their savepoints
 abbrev pub is_supported : Statement → Bool
 is_supported (statement.Create c) = is_object_supported c.object
 is_supported (statement.Drop kind name) = true
@@ -26,6 +26,9 @@ is_supported (statement.Select q) = true
 is_supported (statement.Begin mode) = true
 is_supported statement.Commit = true
 is_supported statement.Rollback = true
+is_supported (statement.RollbackTo name) = true
+is_supported (statement.Savepoint name) = true
+is_supported (statement.Release name) = true
 is_supported _ = false
 
 -- it asks for rows

@@ -12,4 +12,6 @@ mod replies;
 #[cfg(test)]
 mod same_files;
 #[cfg(test)]
+mod savepoints;
+#[cfg(test)]
 mod tree_crashes;

@@ -1,5 +1,5 @@
 use Rattle.std.proofs.Common.{rules}
-use Rattle.session.specs.Representation.{IsNewest}
+use Rattle.session.specs.Writers.{IsNewest}
 use Rattle.engine.proofs.LoadedFiles.{counted_under, counts_pages, finds_newest, keeps_files, newest_told, stored_under}
 use Rattle.engine.proofs.opening.load_files.Goals as goal
 

@@ -6,4 +6,4 @@ pub returns-clause-applies : goal.returns-clause-applies
 returns-clause-applies g c db on =
     noted _ (listing c.args.log.now c.args.catalog.now) (listing c.drop_pages.new.log c.change.new.self) c.args.writer.now c.drop_pages.new.writer c.note_schema.new.self db
     c.note_schema.ensures.noted c.note_schema.ensures.stands
-    (c.in_ok-left.ensures.applies db on c.change.new.self c.change.ensures.current c.change.ensures.committed)
+    (c.in_ok-left.ensures.applies db on c.change.new.self c.change.ensures.current c.change.ensures.committed c.change.ensures.savepoints)

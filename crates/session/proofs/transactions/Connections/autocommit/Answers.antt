@@ -1,7 +1,8 @@
 use Rattle.std.proofs.Common.{refl, sym, subst, arith}
 use Rattle.session.specs.ConnectionState.{files_of}
 use Rattle.session.specs.Machine.{Reply}
-use Rattle.session.specs.Representation.{IsNewest, StepsTo}
+use Rattle.session.specs.Representation.{StepsTo}
+use Rattle.session.specs.Writers.{IsNewest}
 use Rattle.session.specs.Changing.{written}
 use Rattle.session.proofs.Beginning.{done_refused, first_there}
 use Rattle.session.proofs.Showing.{read_files}
@@ -17,7 +18,7 @@ returns-in_err-writer-clause-step g c supported_forms keeps idle m shown =
     subst (λ (r : Reply). StepsTo old m 1 (written c.args.write) r new) (sym (done_refused c.from_residual.result c.in_err-writer.field-0.0 c.from_residual.ensures.1))
     (not_begun old new c.args.write c.in_err-writer.field-0.0 supported_forms (record { files = λ told. read_files _ _ told kept.0 kept.1 kept.2; failed = refl; catalog = refl; transaction = refl })
     (λ m shown. (let newest = (let n : IsNewest (files_of old) c.begin-newest.result = record { seen = c.begin-newest.ensures.seen; sized = c.begin-newest.ensures.size } in n) in c.in_err-writer.ensures.there shown.settled.found.page shown.told (omega (arith, newest.seen)) (first_there old m shown c.begin-newest.result newest)))
-    alone (λ m shown. opens_alone old m shown c.args.write old.transaction refl idle shown.transaction) m shown)
+    (λ m shown. (alone m, opens_alone old m shown c.args.write old.transaction refl idle shown.transaction)) m shown)
 
 pub returns-in_err-apply-clause-step : goal.returns-in_err-apply-clause-step
 returns-in_err-apply-clause-step g c supported_forms keeps idle m shown =
@@ -35,7 +36,7 @@ returns-in_err-apply-clause-step g c supported_forms keeps idle m shown =
       newest = newest;
       begun = c.in_ok-writer.ensures.begun shown.told (omega (arith, newest.seen)) (omega (arith, (first_there old m shown c.begin-newest.result newest).last));
     }))
-    (λ db applies. c.in_err-apply.ensures.applies db supported_forms keeps applies) alone (λ m shown. opens_alone old m shown c.args.write old.transaction refl idle shown.transaction) m shown)
+    (λ db applies. c.in_err-apply.ensures.applies db supported_forms keeps applies) (λ m shown. (alone m, opens_alone old m shown c.args.write old.transaction refl idle shown.transaction)) m shown)
 
 pub returns-clause-step : goal.returns-clause-step
 returns-clause-step g c supported_forms keeps idle =

@@ -1,7 +1,8 @@
 use Rattle.std.proofs.Common.{refl, sym, subst, arith}
 use Rattle.session.specs.ConnectionState.{files_of}
 use Rattle.session.specs.Machine.{Reply}
-use Rattle.session.specs.Representation.{IsNewest, StepsTo}
+use Rattle.session.specs.Representation.{StepsTo}
+use Rattle.session.specs.Writers.{IsNewest}
 use Rattle.syntax.specs.declared.statement.BeginMode.TheVariants as begins
 use Rattle.syntax.specs.declared.statement.Statement.TheVariants as statement
 use Rattle.session.proofs.Beginning.{begin_fails, begun_immediate, done_refused, first_there}

@@ -1,6 +1,6 @@
 use Rattle.std.proofs.Common.{refl, ◌∙◌, ap}
 use Rattle.std.specs.Prelude.{◌||◌}
-use Rattle.catalog.specs.Listed.{current_tables, committed_tables}
+use Rattle.session.specs.SavedTables.{committed_in, current_in}
 use Rattle.session.proofs.transactions.Connections.commit_writer.Goals as goal
 
 pub returns-in-Err-clause-commits : goal.returns-in-Err-clause-commits
@@ -22,6 +22,7 @@ returns-clause-commits g c db was whole applies stored =
       files_are = refl;
       failed = rest.failed;
       transaction = rest.transaction;
-      current = c.commit.ensures.current ∙ ap current_tables rest.catalog;
-      committed = c.commit.ensures.committed ∙ ap current_tables rest.catalog;
+      current = c.commit.ensures.current ∙ ap current_in rest.catalog;
+      committed = c.commit.ensures.committed ∙ ap current_in rest.catalog;
+      savepoints = c.commit.ensures.none;
     })

@@ -7,5 +7,5 @@ use Rattle.session.proofs.transactions.Connections.new.Goals as goal
 
 pub returns-clause-shown : goal.returns-clause-shown
 returns-clause-shown g c db told settled stored =
-    fresh_shown _ db refl refl told settled (c.new.ensures.current ∙ sym c.new.ensures.committed)
+    fresh_shown _ db refl refl told settled (c.new.ensures.current ∙ sym c.new.ensures.committed) c.new.ensures.none
     (subst (λ (ts : List Table). ShowsDatabase (newest_view c.args.log) ts db) (sym c.new.ensures.current) stored)

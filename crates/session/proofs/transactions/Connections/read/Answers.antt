@@ -1,5 +1,5 @@
 use Rattle.std.proofs.Common.{◌∙◌, sym, subst, arith, List}
-use Rattle.catalog.specs.Listed.{current_tables}
+use Rattle.session.specs.SavedTables.{current_in}
 use Rattle.catalog.specs.declared.tables.Table.{Table}
 use Rattle.pager.specs.Views.{View, view_at, view_of}
 use Rattle.session.specs.ConnectionState.{files_of}
@@ -13,9 +13,9 @@ use Rattle.session.proofs.transactions.Connections.read.Goals as goal
 pub returns-in-Writing-clause-answered : goal.returns-in-Writing-clause-answered
 returns-in-Writing-clause-answered g c m db shown stored =
     let self = c.args.self.now in
-    c.read.ensures.answered db shown.told (writer_of (files_of self) self.catalog (last_place m) self.transaction shown.first c.in-Writing.writer c.in-Writing.is shown.transaction)
+    c.read.ensures.answered db shown.told (writer_of (files_of self) self.catalog m self.transaction shown.first c.in-Writing.writer c.in-Writing.is shown.transaction)
     (subst (λ (ts : List Table). ShowsDatabase (view_of (files_of self) c.in-Writing.writer) ts db) (sym c.current.ensures)
-    (subst (λ (t : Transaction). ShowsDatabase (seen_in t (files_of self)) (current_tables self.catalog) db) c.in-Writing.is stored))
+    (subst (λ (t : Transaction). ShowsDatabase (seen_in t (files_of self)) (current_in self.catalog) db) c.in-Writing.is stored))
 
 pub returns-in_default-clause-answered : goal.returns-in_default-clause-answered
 returns-in_default-clause-answered g c m db shown stored =
@@ -23,4 +23,4 @@ returns-in_default-clause-answered g c m db shown stored =
     let newest = c.snapshot-snapshot.ensures.newest m shown in
     c.read-in_default.ensures.answered db shown.told (omega (arith, newest.seen))
     (subst (λ (ts : List Table). ShowsDatabase (view_at (files_of self) c.snapshot-snapshot.result) ts db) (sym c.current-in_default.ensures)
-    (subst (λ (v : View). ShowsDatabase v (current_tables self.catalog) db) (not_writing (files_of self) self.transaction c.in_default.not-Writing ∙ sym (at_newest (files_of self) c.snapshot-snapshot.result newest)) stored))
+    (subst (λ (v : View). ShowsDatabase v (current_in self.catalog) db) (not_writing (files_of self) self.transaction c.in_default.not-Writing ∙ sym (at_newest (files_of self) c.snapshot-snapshot.result newest)) stored))

@@ -1,10 +1,12 @@
-use Rattle.std.proofs.Common.{refl, sym, subst, arith}
+use Rattle.std.proofs.Common.{inl, refl, sym, ap, subst, ◌∙◌, ◌++◌, arith}
+use Rattle.std.specs.Prelude.{replicate}
+use Rattle.pager.specs.Marks.{marks_of, now_of}
+use Rattle.session.specs.Changing.{written}
 use Rattle.session.specs.Machine.{Reply}
 use Rattle.session.specs.Representation.{StepsTo}
-use Rattle.session.specs.Changing.{written}
 use Rattle.session.proofs.Beginning.{done_refused, first_there}
+use Rattle.session.proofs.Marked.{moved_on, under_mark}
 use Rattle.session.proofs.Showing.{read_files}
-use Rattle.session.proofs.Applying.{in_transaction}
 use Rattle.session.proofs.Writing.{begun_refused, begun_writes, not_begun, opens_reading}
 use Rattle.session.proofs.transactions.Connections.start_writing.Goals as goal
 
@@ -16,15 +18,27 @@ returns-in_err-writer-clause-step g c supported_forms keeps reads m shown =
     subst (λ (r : Reply). StepsTo old m 1 (written c.args.write) r new) (sym (done_refused c.from_residual.result c.in_err-writer.field-0.0 c.from_residual.ensures.1))
     (not_begun old new c.args.write c.in_err-writer.field-0.0 supported_forms (record { files = λ told. read_files _ _ told kept.0 kept.1 kept.2; failed = refl; catalog = refl; transaction = refl })
     (λ m shown. (let newest = c.snapshot-snapshot.ensures.newest m shown in c.in_err-writer.ensures.there shown.settled.found.page shown.told (omega (arith, newest.seen)) (first_there old m shown c.snapshot-snapshot.result newest)))
-    in_transaction (λ m shown. opens_reading old m shown c.args.write old.transaction refl reads shown.transaction) m shown)
+    (λ m shown. opens_reading old m shown c.args.write reads) m shown)
+
+pub returns-in_err-mark_times-clause-step : goal.returns-in_err-mark_times-clause-step
+returns-in_err-mark_times-clause-step g c supported_forms keeps reads m shown =
+    let old = c.args.self.now in
+    let new = record c.args.self.now { log = c.begin.new.log } in
+    let kept = c.in_ok-writer.ensures.kept in
+    subst (λ (r : Reply). StepsTo old m 1 (written c.args.write) r new) (sym (done_refused c.from_residual-in_err-mark_times.result c.in_err-mark_times.field-0.0 c.from_residual-in_err-mark_times.ensures.1))
+    (not_begun old new c.args.write c.in_err-mark_times.field-0.0 supported_forms (record { files = λ told. read_files _ _ told kept.0 kept.1 kept.2; failed = refl; catalog = refl; transaction = refl })
+    (λ m shown. inl c.in_err-mark_times.ensures.refused) (λ m shown. opens_reading old m shown c.args.write reads) m shown)
 
 pub returns-in_err-apply-clause-step : goal.returns-in_err-apply-clause-step
 returns-in_err-apply-clause-step g c supported_forms keeps reads m shown =
     let old = c.args.self.now in
     let mid = record c.args.self.now { log = c.begin.new.log } in
     let kept = c.in_ok-writer.ensures.kept in
+    let w = c.in_ok-writer.writer in
+    let marked = c.mark_times.new.writer in
+    let sets = c.in_ok-mark_times.ensures in
     subst (λ (r : Reply). StepsTo old m 1 (written c.args.write) r c.apply.new.self) (sym (done_refused c.from_residual-in_err-apply.result c.in_err-apply.field-0.0 c.from_residual-in_err-apply.ensures.1))
-    (begun_refused old mid c.apply.new.self c.in_ok-writer.writer c.snapshot-snapshot.result c.args.write c.in_err-apply.field-0.0 supported_forms refl
+    (begun_refused old mid c.apply.new.self w c.snapshot-snapshot.result c.args.write c.in_err-apply.field-0.0 supported_forms refl
     (λ m shown. (let newest = c.snapshot-snapshot.ensures.newest m shown in record {
       files = read_files _ _ shown.told kept.0 kept.1 kept.2;
       failed = refl;
@@ -34,14 +48,18 @@ returns-in_err-apply-clause-step g c supported_forms keeps reads m shown =
       newest = newest;
       begun = c.in_ok-writer.ensures.begun shown.told (omega (arith, newest.seen)) (omega (arith, (first_there old m shown c.snapshot-snapshot.result newest).last));
     }))
-    (λ db applies. c.in_err-apply.ensures.applies db supported_forms keeps applies) in_transaction (λ m shown. opens_reading old m shown c.args.write old.transaction refl reads shown.transaction) m shown)
+    (λ db applies. under_mark (written c.args.write) mid c.apply.new.self db w marked c.in_err-apply.field-0.0 sets.same sets.stands
+    (c.in_err-apply.ensures.applies db supported_forms keeps (moved_on mid w marked db sets.same sets.stands applies)))
+    (λ m shown. opens_reading old m shown c.args.write reads) m shown)
 
 pub returns-clause-step : goal.returns-clause-step
 returns-clause-step g c supported_forms keeps reads =
     let old = c.args.self.now in
     let mid = record c.args.self.now { log = c.begin.new.log } in
     let kept = c.in_ok-writer.ensures.kept in
-    begun_writes old mid c.apply.new.self c.in_ok-writer.writer c.apply.new.writer c.snapshot-snapshot.result c.args.write supported_forms reads
+    let sets = c.in_ok-mark_times.ensures in
+    let w = c.in_ok-writer.writer in
+    begun_writes old mid c.apply.new.self w c.mark_times.new.writer c.apply.new.writer c.snapshot-snapshot.result c.args.write supported_forms reads
     (λ m shown. (let newest = c.snapshot-snapshot.ensures.newest m shown in record {
       files = read_files _ _ shown.told kept.0 kept.1 kept.2;
       failed = refl;
@@ -51,4 +69,5 @@ returns-clause-step g c supported_forms keeps reads =
       newest = newest;
       begun = c.in_ok-writer.ensures.begun shown.told (omega (arith, newest.seen)) (omega (arith, (first_there old m shown c.snapshot-snapshot.result newest).last));
     }))
-    (λ db applies. c.in_ok-apply.ensures.applies db supported_forms keeps applies)
+    (record { now = sets.same; marks = sets.marked ∙ ap (λ n. marks_of w ++ replicate n (now_of w)) c.count.ensures; stands = sets.stands })
+    (λ db applies. c.in_ok-apply.ensures.applies db supported_forms keeps applies) c.in_ok-apply.ensures.marks c.in_ok-apply.ensures.stands

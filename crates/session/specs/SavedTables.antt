@@ -1,0 +1,93 @@
+-- The tables that a transaction sees, and those that its savepoints go back to (SQL As Understood By SQLite, "SAVEPOINT").
+use Rattle.std.specs.Prelude.{◌≡◌, ◌<◌, ◌+◌, ◌++◌, ℕ, Bool, true, false, List, [], ◌∷◌, length, drop, take, map, Option, option_map, nat_lt, slice_index_or, unwrap_or}
+use Rattle.std.specs.List.{list_any}
+use Rattle.sqlval.specs.Names.{is_same_name}
+use Rattle.catalog.specs.Database.{Name}
+use Rattle.catalog.specs.Listed as listed
+use Rattle.catalog.specs.Listed.{tables_of}
+use Rattle.catalog.specs.declared.tables.Catalog.{Catalog}
+use Rattle.catalog.specs.declared.tables.Table.{Table}
+use Rattle.session.specs.declared.savepoints.SavedCatalogs.{SavedCatalogs}
+use Rattle.session.specs.declared.savepoints.Savepoint.{Savepoint}
+
+-- a savepoint's name as it was written, and the tables that there were when it was made
+pub record SavedTables : Type 0 where
+  pub name : Name
+  pub tables : List Table
+
+-- what is kept of a transaction's savepoints: whether one of them began it, and each, the newest last
+pub record Savepoints : Type 0 where
+  pub began : Bool
+  pub points : List SavedTables
+
+-- these tables, or those that they were changed to
+abbrev pub changed_to : List Table → Option Catalog → List Table
+changed_to tables changed = unwrap_or (option_map tables_of changed) tables
+
+-- the tables after the changes of these savepoints
+abbrev pub tables_after : List Table → List Savepoint → List Table
+tables_after tables [] = tables
+tables_after tables (s ∷ ss) = tables_after (changed_to tables s.changed) ss
+
+-- each of these savepoints with the tables that there were when it was made
+abbrev pub saved_after : List Table → List Savepoint → List SavedTables
+saved_after tables [] = []
+saved_after tables (s ∷ ss) = record { name = s.name; tables = tables } ∷ saved_after (changed_to tables s.changed) ss
+
+-- the tables of the newest commit
+abbrev pub committed_in : SavedCatalogs → List Table
+committed_in saved = listed.committed_tables saved.catalogs
+
+-- the tables that an open transaction sees
+abbrev pub current_in : SavedCatalogs → List Table
+current_in saved = tables_after (listed.current_tables saved.catalogs) saved.savepoints.items
+
+-- its savepoints
+abbrev pub savepoints_in : SavedCatalogs → Savepoints
+savepoints_in saved = record { began = saved.began; points = saved_after (listed.current_tables saved.catalogs) saved.savepoints.items }
+
+-- the transaction has made and dropped no table
+abbrev pub IsUnchanged : SavedCatalogs → Type 0
+IsUnchanged saved = current_in saved ≡ committed_in saved
+
+-- there is no savepoint
+abbrev pub HasNoSavepoints : SavedCatalogs → Type 0
+HasNoSavepoints saved = savepoints_in saved ≡ record { began = false; points = [] }
+
+-- there may be one more
+abbrev pub HasRoom : SavedCatalogs → Type 0
+HasRoom saved = nat_lt 63 (length (savepoints_in saved).points) ≡ false
+
+-- the savepoints' names
+abbrev pub names_in : SavedCatalogs → List Name
+names_in saved = map (λ s. s.name) (savepoints_in saved).points
+
+-- this place has the name, and none after it has it
+pub record IsNewestNamed (name : Name) (names : List Name) (place : ℕ) : Type 0 where
+  pub within : place < length names
+  pub named : (d : Name) → is_same_name (slice_index_or names place d) name ≡ true
+  pub last : list_any (λ other. is_same_name other name) (drop (place + 1) names) ≡ false
+
+-- the tables and the savepoints are what they were
+pub record KeepsTables (old new : SavedCatalogs) : Type 0 where
+  pub current : current_in new ≡ current_in old
+  pub committed : committed_in new ≡ committed_in old
+  pub savepoints : savepoints_in new ≡ savepoints_in old
+
+-- the tables that there were at a savepoint are those that the transaction sees now, and it is the newest
+pub record GoesBackTo (place : ℕ) (old new : SavedCatalogs) : Type 0 where
+  pub current : (d : SavedTables) → current_in new ≡ (slice_index_or (savepoints_in old).points place d).tables
+  pub committed : committed_in new ≡ committed_in old
+  pub savepoints : savepoints_in new ≡ record { began = (savepoints_in old).began; points = take (place + 1) (savepoints_in old).points }
+
+-- a savepoint and those made after it are gone, and nothing else has changed
+pub record ReleasesFrom (place : ℕ) (old new : SavedCatalogs) : Type 0 where
+  pub current : current_in new ≡ current_in old
+  pub committed : committed_in new ≡ committed_in old
+  pub savepoints : savepoints_in new ≡ record { began = (savepoints_in old).began; points = take place (savepoints_in old).points }
+
+-- there is a newest savepoint of that name, which goes back to the tables that the transaction sees; whether it began the transaction
+pub record AddsSavepoint (name : Name) (began : Bool) (old new : SavedCatalogs) : Type 0 where
+  pub current : current_in new ≡ current_in old
+  pub committed : committed_in new ≡ committed_in old
+  pub savepoints : savepoints_in new ≡ record { began = began; points = (savepoints_in old).points ++ record { name = name; tables = current_in old } ∷ [] }

@@ -1,0 +1,208 @@
+//! The tables that a transaction sees, and its savepoints, each with the tables to which it goes back.
+
+ghost use Rattle.std.specs.Prelude.{◌≡◌, ◌<◌, ◌≤◌, ◌-◌, ◌==◌, ◌&&◌, length, map, nat_lt, IfErr, IfNone, IfSome, OnErr, OnOk, true, false};
+ghost use Rattle.std.specs.List.{list_any};
+ghost use Rattle.catalog.specs.Listed.{tables_of};
+ghost use Rattle.sqlval.specs.Names.{is_same_name};
+ghost use Rattle.sqlval.specs.declared.fault.Fault.TheVariants.{Memory};
+ghost use Rattle.session.specs.SavedTables.{changed_to, tables_after};
+
+use catalog::{Catalog, Catalogs};
+use sqlval::{Name, R};
+use std::alloc::Global;
+
+/// The most savepoints of a transaction.
+const MAX_SAVEPOINTS: usize = 64;
+
+/// A savepoint.
+#[derive(Drop)]
+pub struct Savepoint {
+    name: Name,
+    /// The tables as they were changed after this savepoint and before the next; `None` where they weren't.
+    changed: Option<Catalog>,
+}
+
+/// The tables of the newest commit, those that an open transaction sees, and its savepoints.
+#[derive(Drop)]
+pub struct SavedCatalogs {
+    /// What the transaction sees, except for the changes after its first savepoint.
+    catalogs: Catalogs,
+    /// The newest last.
+    savepoints: Vec<Savepoint>,
+    /// Whether a SAVEPOINT began the transaction.
+    began: bool,
+}
+
+impl SavedCatalogs {
+    ghost use Rattle.session.specs.SavedTables.{AddsSavepoint, GoesBackTo, HasNoSavepoints, IsNewestNamed, KeepsTables, ReleasesFrom, committed_in, current_in, names_in, savepoints_in};
+
+    /// No transaction has changed the tables, and there is no savepoint.
+    pub fn new(alloc: Global, committed: Catalog) -> SavedCatalogs
+        ensures current { current_in result ≡ tables_of committed }
+        ensures committed { committed_in result ≡ tables_of committed }
+        ensures none { HasNoSavepoints result }
+    {
+        SavedCatalogs {
+            catalogs: Catalogs::new(committed),
+            savepoints: Vec::new(alloc),
+            began: false,
+        }
+    }
+
+    /// The tables that the transaction sees.
+    pub fn current(&self) -> &Catalog
+        ensures { tables_of result.now ≡ current_in self.now }
+    {
+        latest(self.catalogs.current(), &self.savepoints)
+    }
+
+    /// The transaction sees these tables from now on.
+    pub fn change(&mut self, catalog: Catalog)
+        ensures current { current_in self.new ≡ tables_of catalog }
+        ensures committed { committed_in self.new ≡ committed_in self.old }
+        ensures savepoints { savepoints_in self.new ≡ savepoints_in self.old }
+    {
+        let count = self.savepoints.len();
+        if count == 0 {
+            self.catalogs.change(catalog);
+            return;
+        }
+        self.savepoints[count - 1].changed = Some(catalog);
+    }
+
+    /// Whether the transaction has as many savepoints as it may have.
+    pub fn is_full(&self) -> bool
+        ensures { result ≡ nat_lt 63 (length (savepoints_in self.now).points) }
+    {
+        self.savepoints.len() >= MAX_SAVEPOINTS
+    }
+
+    /// Whether the savepoint at a place began the transaction.
+    pub fn begins_at(&self, place: usize) -> bool
+        ensures { result ≡ (place == 0 && (savepoints_in self.now).began) }
+    {
+        place == 0 && self.began
+    }
+
+    /// How many savepoints there are.
+    pub fn count(&self) -> usize
+        ensures { result ≡ length (savepoints_in self.now).points }
+    {
+        self.savepoints.len()
+    }
+
+    /// The place of the newest savepoint of a name.
+    pub fn place_of(&self, name: &str) -> Option<usize>
+        ensures found { IfSome result (λ place. IsNewestNamed name.now (names_in self.now) place) }
+        ensures none { IfNone result (list_any (λ other. is_same_name other name.now) (names_in self.now) ≡ false) }
+    {
+        let mut place = self.savepoints.len();
+        'places: while place > 0 {
+            place -= 1;
+            if self.savepoints[place].name.is_same(name) {
+                return Some(place);
+            }
+        }
+        None
+    }
+
+    /// Adds a savepoint to the transaction. An `Err` changes nothing. (`Memory` alone.)
+    pub fn save(&mut self, name: Name) -> R<()>
+        ensures saved { OnOk result (AddsSavepoint name (savepoints_in self.old).began self.old self.new) }
+        ensures refused { IfErr result (λ fault. (fault ≡ Memory) × KeepsTables self.old self.new) }
+    {
+        self.savepoints.push(Savepoint {
+            name,
+            changed: None,
+        })?;
+        Ok(())
+    }
+
+    /// Adds the first savepoint, which begins the transaction. An `Err` changes nothing. (`Memory` alone.)
+    pub fn begin(&mut self, name: Name) -> R<()>
+        ensures saved { OnOk result (AddsSavepoint name true self.old self.new) }
+        ensures refused { IfErr result (λ fault. (fault ≡ Memory) × KeepsTables self.old self.new) }
+    {
+        self.save(name)?;
+        self.began = true;
+        Ok(())
+    }
+
+    /// Goes back to a savepoint, which stays; those made after it are gone.
+    pub fn back_to(&mut self, place: usize)
+        ensures { place < length (savepoints_in self.old).points → GoesBackTo place self.old self.new }
+    {
+        if place >= self.savepoints.len() {
+            return;
+        }
+        self.savepoints.truncate(place + 1);
+        self.savepoints[place].changed = None;
+    }
+
+    /// Lets go of a savepoint and of those made after it; what the transaction sees stays.
+    pub fn release(&mut self, place: usize)
+        requires { place ≤ length (savepoints_in self.old).points }
+        ensures { ReleasesFrom place self.old self.new }
+    {
+        'newest: while self.savepoints.len() > place {
+            self.release_newest();
+        }
+    }
+
+    /// Lets go of the newest savepoint.
+    fn release_newest(&mut self)
+        requires { 0 < length (savepoints_in self.old).points }
+        ensures { ReleasesFrom (length (savepoints_in self.old).points - 1) self.old self.new }
+    {
+        if let Some(newest) = self.savepoints.pop() {
+            let Savepoint { name: _, changed } = newest;
+            self.join(changed);
+        }
+    }
+
+    /// The transaction sees these tables from now on, where there are some.
+    fn join(&mut self, changed: Option<Catalog>)
+        ensures current { current_in self.new ≡ changed_to (current_in self.old) changed }
+        ensures committed { committed_in self.new ≡ committed_in self.old }
+        ensures savepoints { savepoints_in self.new ≡ savepoints_in self.old }
+    {
+        if let Some(catalog) = changed {
+            self.change(catalog);
+        }
+    }
+
+    /// What the transaction sees is committed, and its savepoints are gone.
+    pub fn commit(&mut self)
+        ensures current { current_in self.new ≡ current_in self.old }
+        ensures committed { committed_in self.new ≡ current_in self.old }
+        ensures none { HasNoSavepoints self.new }
+    {
+        self.release(0);
+        self.catalogs.commit();
+        self.began = false;
+    }
+
+    /// What the transaction has made and dropped is given up, with its savepoints.
+    pub fn rollback(&mut self)
+        ensures current { current_in self.new ≡ committed_in self.old }
+        ensures committed { committed_in self.new ≡ committed_in self.old }
+        ensures none { HasNoSavepoints self.new }
+    {
+        self.savepoints.clear();
+        self.catalogs.rollback();
+        self.began = false;
+    }
+}
+
+/// The tables after the changes of these savepoints.
+fn latest<'a>(before: &'a Catalog, savepoints: &'a [Savepoint]) -> &'a Catalog
+    ensures { tables_of result.now ≡ tables_after (tables_of before.now) savepoints.now }
+{
+    let mut latest = before;
+    'parts: for savepoint in savepoints {
+        if let Some(changed) = &savepoint.changed {
+            latest = changed;
+        }
+    }
+    latest
+}
