@@ -1,3 +1,4 @@
+mod Checking
 pub mod AsDefined
 pub mod Firsts
 pub mod Flows

@@ -29,7 +29,10 @@ fn check_argument(alloc: Global, aggregate: Aggregate, argument: &Term, env: Env
 {
     match aggregate {
         Aggregate::CountAll => Ok(()),
-        _ => check_value(aggregate, evaluate(alloc, argument, env)?.as_field()),
+        _ => {
+            let value = evaluate(alloc, argument, env)?;
+            check_value(aggregate, value.as_field())
+        }
     }
 }
 

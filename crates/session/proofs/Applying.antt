@@ -1,6 +1,5 @@
 -- What a statement that writes comes to, by what it makes of the database before it.
-use Rattle.std.proofs.Common.{◌≡◌, ◌⊎◌, inl, inr, refl, sym, ap, subst, ◌∙◌, ℕ, ◌==◌, Bool, true, false, List, [], ◌∷◌, if◌then◌else◌, arith}
-use Rattle.std.proofs.lemmas.Bool.Decides.{nat_tests}
+use Rattle.std.proofs.Common.{◌≡◌, ◌⊎◌, inl, inr, refl, sym, ap, subst, ◌∙◌, Bool, true, false, List, [], ◌∷◌, if◌then◌else◌}
 use Rattle.std.specs.Prelude.{◌&&◌}
 use Rattle.pages.specs.Calls.{IsOutsideOrFull}
 use Rattle.std.specs.List.{AllByRecursion}
@@ -20,7 +19,7 @@ use Rattle.session.specs.Changing.{written}
 use Rattle.session.specs.declared.changes.Write.{Write}
 use Rattle.session.specs.declared.changes.Write.TheVariants as write
 use Rattle.session.proofs.ReadingPhases.{IsReadingPhase}
-use Rattle.session.proofs.Stepping.{by_outcome, first_is, first_set, instead, no_other}
+use Rattle.session.proofs.Stepping.{by_outcome, instead, no_other}
 
 -- ---- in a transaction
 

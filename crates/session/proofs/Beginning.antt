@@ -1,5 +1,5 @@
 -- BEGIN IMMEDIATE is a step of the machine.
-use Rattle.std.proofs.Common.{◌≡◌, ◌⊎◌, ◌≤◌, inl, inr, refl, sym, ap, subst, ◌∙◌, ℕ, List, [], length, take, true, false, arith}
+use Rattle.std.proofs.Common.{◌≡◌, ◌⊎◌, inl, inr, refl, sym, ap, subst, ◌∙◌, ℕ, List, [], true}
 use Rattle.std.proofs.lemmas.Bool.{false≢true}
 use Rattle.std.specs.Prelude.{◌↔◌, ⊤, IsErrAnd, Result, Ok, Err}
 use Rattle.disk.specs.declared.device.Disk.{Ghosts}

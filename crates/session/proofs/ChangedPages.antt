@@ -1,7 +1,6 @@
 -- What a statement's change of a writer's pages comes to for the two files.
-use Rattle.std.proofs.Common.{◌≡◌, ◌∙◌, ◌≤◌, ◌*◌, ◌/◌, refl, sym, ap, subst, arith, ℕ, List, [], ◌∷◌, length, take, true}
-use Rattle.std.proofs.lemmas.List.{length-append, take-append-le}
-use Rattle.std.specs.Prelude.{⊤, Result, Ok, Err, IsTrue, MatchResult, OnErr, max, min}
+use Rattle.std.proofs.Common.{◌≡◌, ◌∙◌, ◌≤◌, ◌/◌, refl, sym, ap, subst, arith, ℕ, List, true}
+use Rattle.std.specs.Prelude.{⊤, Result, Ok, Err, IsTrue, OnErr, max}
 use Rattle.std.proofs.Math.Nat.{div-mul-le_self, mul-le-mul_left, mul-le-mul_right}
 use Rattle.sqlval.specs.declared.fault.Fault.{Fault}
 use Rattle.disk.specs.declared.device.Disk.{Ghosts}
@@ -12,16 +11,15 @@ use Rattle.session.specs.SavedTables.{committed_in, current_in, savepoints_in}
 use Rattle.catalog.specs.declared.tables.Catalog.{Catalog}
 use Rattle.session.specs.declared.savepoints.SavedCatalogs.{SavedCatalogs}
 use Rattle.catalog.specs.declared.tables.Table.{Table}
-use Rattle.wal.specs.LogState.{LogState, state_of}
+use Rattle.wal.specs.LogState.{LogState}
 use Rattle.wal.specs.Sizes.{IsSizeWithinLimits}
 use Rattle.wal.specs.declared.log.Log.{Log}
-use Rattle.wal.specs.declared.log.Snapshot.{Snapshot}
 use Rattle.pages.specs.Map.{PageMap}
 use Rattle.pager.specs.Limits.{page_size_of, pages_of}
 use Rattle.pager.specs.Maps.{pages_in}
 use Rattle.pager.specs.Sights.{UnderReader, UnderWriter, map_over, tells_writer, under_reader, under_writer}
-use Rattle.pager.specs.Sound.{IsSound, is_sound, most_of}
-use Rattle.pager.specs.Views.{Tells, View, after, changes_of, view_at, view_of}
+use Rattle.pager.specs.Sound.{IsSound, most_of}
+use Rattle.pager.specs.Views.{Tells, View, after, view_at, view_of}
 use Rattle.pager.specs.Writers.{snapshot_of}
 use Rattle.pager.specs.declared.writer.Writer.{Writer}
 use Rattle.pager.specs.Marks.{Changes, IsOverTheSame, now_of}
@@ -29,7 +27,7 @@ use Rattle.pager.proofs.Sounding.{sound_alike, sound_from, sound_to}
 use Rattle.pager.proofs.WriterSights.{map_told}
 use Rattle.storage.specs.Changing as pages
 use Rattle.storage.specs.Stored.{Stores}
-use Rattle.session.specs.Changing.{CanChange, ChangesPages, KeepsListed, Listing, MakesCatalog, listing}
+use Rattle.session.specs.Changing.{CanChange, ChangesPages, Listing, MakesCatalog, listing}
 use Rattle.session.specs.Representation.{ShowTheSame}
 use Rattle.session.specs.Writers.{IsNewest, IsWriter}
 use Rattle.session.specs.Stored.{ShowsDatabase}

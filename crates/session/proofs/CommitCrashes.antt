@@ -1,5 +1,5 @@
 -- What a crash leaves at the moments of a commit may be shown.
-use Rattle.std.proofs.Common.{◌≡◌, ◌⊎◌, inl, inr, refl, sym, ap, subst, ◌∙◌, List, [], ◌∷◌, ◌++◌, length, take, arith}
+use Rattle.std.proofs.Common.{◌≡◌, ◌⊎◌, inl, inr, refl, sym, ap, subst, ◌∙◌, List, [], ◌∷◌, ◌++◌, length, arith}
 use Rattle.std.specs.Prelude.{◌-◌, Some, slice_get, unwrap_or}
 use Rattle.std.proofs.lemmas.List.{length-append}
 use Rattle.disk.specs.File.{versions}
@@ -7,7 +7,7 @@ use Rattle.disk.specs.declared.device.Disk.{Ghosts}
 use Rattle.sqlval.specs.declared.fault.Fault.{Fault}
 use Rattle.wal.specs.LogState.{db_of, log_of}
 use Rattle.catalog.specs.Database.{Database}
-use Rattle.session.specs.SavedTables.{committed_in, current_in}
+use Rattle.session.specs.SavedTables.{committed_in}
 use Rattle.catalog.specs.declared.tables.Table.{Table}
 use Rattle.pager.specs.Views.{View, newest_view}
 use Rattle.session.specs.Holding.{HoldThroughout, IsLeftBy}

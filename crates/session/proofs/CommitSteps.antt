@@ -1,9 +1,9 @@
 -- COMMIT is a step of the machine.
-use Rattle.std.proofs.Common.{◌≡◌, ◌≤◌, inl, inr, refl, sym, ap, subst, ◌∙◌, List, [], ◌∷◌, length, take, true, false, arith}
+use Rattle.std.proofs.Common.{◌≡◌, inl, inr, refl, sym, ap, subst, ◌∙◌, List, [], ◌∷◌, true, false, arith}
 use Rattle.std.specs.Prelude.{⊤, Result, Ok, Err}
 use Rattle.std.specs.Result.{is_err}
 use Rattle.std.proofs.lemmas.Bool.{false≢true}
-use Rattle.std.proofs.lemmas.List.{length-append, take_all}
+use Rattle.std.proofs.lemmas.List.{length-append}
 use Rattle.disk.specs.declared.device.Disk.{Ghosts}
 use Rattle.sqlval.specs.Refusals as refusal
 use Rattle.sqlval.specs.Refusals.{Refusal, refusal_of}
@@ -15,14 +15,13 @@ use Rattle.session.specs.Saving.{in_transaction, states_of}
 use Rattle.session.specs.declared.savepoints.SavedCatalogs.{SavedCatalogs}
 use Rattle.catalog.specs.declared.tables.Table.{Table}
 use Rattle.wal.specs.declared.log.Log.{Log}
-use Rattle.wal.specs.declared.log.Snapshot.{Snapshot}
 use Rattle.pager.specs.Views.{Tells, View, newest_view, view_of}
 use Rattle.pager.specs.declared.writer.Writer.{Writer}
 use Rattle.session.specs.Supported.{StepSoFar}
 use Rattle.session.specs.Holding.{IsSettled}
 use Rattle.session.specs.ConnectionState.{files_of, has_failed_in}
 use Rattle.session.specs.Machine.{Machine, Idle, InTransactionOf, Reply, Rows, Refused, Writes, last_place, newest, with_connection}
-use Rattle.session.specs.Outcomes.{Commits, Gives, RefusedBy, commit_outcome, outcome}
+use Rattle.session.specs.Outcomes.{Commits, Gives, RefusedBy, outcome}
 use Rattle.session.specs.Representation.{CannotStoreIn, CommitsBy, IsGivenUp, IsWritingIn, RepresentsRunning, IsTransaction, ShowTheSame, StepsOn, StepsTo, done_reply, is_idle, is_reading}
 use Rattle.session.specs.Writers.{IsWriter}
 use Rattle.session.specs.Steps.{Allowed, after_commit, is_free}

@@ -1,5 +1,5 @@
 -- Page 1 of a view that shows a database, and views that differ in the header there.
-use Rattle.std.proofs.Common.{◌≡◌, ◌∙◌, ◌≤◌, ◌<◌, sym, ap, subst, arith, ℕ, List, length, drop}
+use Rattle.std.proofs.Common.{◌≡◌, ◌∙◌, ◌≤◌, sym, ap, subst, arith, ℕ, List, length, drop}
 use Rattle.std.specs.Prelude.{◌↔◌}
 use Rattle.sqlval.specs.PageSizes.{IsPageSize}
 use Rattle.dbheader.specs.Header.{IsHeader}
@@ -9,7 +9,7 @@ use Rattle.wal.specs.Sizes.{IsSizeWithinLimits}
 use Rattle.wal.proofs.Openable.{some_size}
 use Rattle.catalog.specs.Database.{Database}
 use Rattle.catalog.specs.declared.tables.Table.{Table}
-use Rattle.pages.specs.Map.{PageMap, page_at, Has}
+use Rattle.pages.specs.Map.{page_at, Has}
 use Rattle.pager.specs.Maps.{pages_in}
 use Rattle.pager.specs.Views.{IsViewPage, View, ViewHas}
 use Rattle.pager.specs.Writers.{IsHeaded}

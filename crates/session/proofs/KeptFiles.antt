@@ -1,6 +1,6 @@
 -- Calls of pages leave the files as they were.
 use Rattle.std.proofs.Common.{◌≡◌, ◌≤◌, refl, sym, ap, subst, arith, ℕ, List}
-use Rattle.std.specs.Prelude.{Option, Some, None, Bool, true, false, IsTrue, if◌then◌else◌}
+use Rattle.std.specs.Prelude.{Some, None, Bool, true, false, IsTrue, if◌then◌else◌}
 use Rattle.disk.specs.File.{File}
 use Rattle.disk.specs.declared.device.Disk.{Ghosts}
 use Rattle.walframe.specs.Accepted.{KeepsFile}

@@ -1,5 +1,5 @@
 -- A statement that writes under a mark of its writer.
-use Rattle.std.proofs.Common.{◌≡◌, ◌≤◌, inl, refl, sym, ap, subst, ◌∙◌, ℕ, List, [], ◌∷◌, ◌++◌, length, Result, Ok, Err}
+use Rattle.std.proofs.Common.{◌≡◌, inl, refl, sym, ap, subst, ◌∙◌, ℕ, List, [], ◌∷◌, ◌++◌, length, Result, Ok, Err}
 use Rattle.std.proofs.lemmas.List.{get_or_push}
 use Rattle.std.specs.Prelude.{⊤, IsErrAnd, slice_index_or}
 use Rattle.disk.specs.declared.device.Disk.{Ghosts}
@@ -8,7 +8,7 @@ use Rattle.sqlval.specs.declared.fault.Fault.TheVariants as fault
 use Rattle.syntax.specs.declared.statement.Statement.{Statement}
 use Rattle.wal.specs.declared.log.Log.{Log}
 use Rattle.catalog.specs.Database.{Database}
-use Rattle.session.specs.SavedTables.{committed_in, current_in}
+use Rattle.session.specs.SavedTables.{current_in}
 use Rattle.catalog.specs.declared.tables.Table.{Table}
 use Rattle.pager.specs.Limits.{pages_of}
 use Rattle.pager.specs.Marks.{Changes, IsOverTheSame, now_of}

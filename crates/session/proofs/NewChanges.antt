@@ -1,14 +1,12 @@
 -- The commit of those of a writer's pages that its snapshot doesn't show, after these were read.
-use Rattle.std.proofs.Common.{◌≡◌, ◌⊎◌, ◌≤◌, inl, inr, refl, sym, ap, subst, ◌∙◌, ℕ, List, [], length, false, arith}
+use Rattle.std.proofs.Common.{◌≡◌, ◌⊎◌, inl, inr, refl, sym, ap, subst, ◌∙◌, ℕ, List, [], length, false, arith}
 use Rattle.std.specs.Prelude.{⊤, IfErr, IsErrAnd, OnOk, Result, Ok, Err}
 use Rattle.sqlval.specs.Faults.{IsOutside}
 use Rattle.sqlval.specs.declared.fault.Fault.{Fault}
-use Rattle.sqlval.specs.declared.fault.Fault.TheVariants as fault
-use Rattle.disk.specs.File.{IsContentLeft, versions}
 use Rattle.disk.specs.declared.device.Disk.{Ghosts}
 use Rattle.disk.proofs.Current.{synced_left}
 use Rattle.pages.specs.Map.{PageMap, Has}
-use Rattle.wal.specs.LogState.{LogState, db_of, log_of, seen_by, state_of}
+use Rattle.wal.specs.LogState.{LogState, db_of, log_of, state_of}
 use Rattle.wal.specs.Refusals.{IsWithin}
 use Rattle.wal.specs.Sizes.{IsSizeWithinLimits}
 use Rattle.wal.specs.declared.log.Log.{Log}
@@ -18,7 +16,7 @@ use Rattle.session.specs.SavedTables.{committed_in, current_in, savepoints_in}
 use Rattle.catalog.specs.declared.tables.Table.{Table}
 use Rattle.dbheader.specs.declared.fields.Header.{Header}
 use Rattle.pager.specs.Commits.{CommitsPages, IsRefusedCommit, LeavesCommit, MayCommit}
-use Rattle.pager.specs.Limits.{page_size_of, pages_of}
+use Rattle.pager.specs.Limits.{pages_of}
 use Rattle.pager.specs.Maps.{pages_in}
 use Rattle.pager.specs.Pruning.{AreAllThere, AreNew, IsPruned}
 use Rattle.pager.specs.Views.{View, ViewHas, after, changes_of, newest_view, view_at, view_of}
@@ -28,8 +26,7 @@ use Rattle.pager.proofs.Mapping.{count_to, maps_alike, shows_mapped}
 use Rattle.pager.proofs.NewPages.{new_twice}
 use Rattle.storage.specs.Stored.{Stores}
 use Rattle.session.specs.ConnectionState.{files_of, has_failed_in, is_io}
-use Rattle.session.specs.Applying.{CanApply, CommitsChanges, CommitsDatabase, HoldsEither, IsAfterRefusal, IsCommitCause, IsInDoubt, IsPast, IsUncommitted, KeepsCommitted, WritesChanges}
-use Rattle.session.specs.Holding.{HoldThroughout, IsSettled}
+use Rattle.session.specs.Applying.{CanApply, CommitsChanges, CommitsDatabase, HoldsEither, IsAfterRefusal, IsCommitCause, IsInDoubt, IsPast, IsUncommitted, WritesChanges}
 use Rattle.session.specs.Representation.{ShowTheSame}
 use Rattle.session.specs.Writers.{IsNewest, IsWriter}
 use Rattle.session.specs.Stored.{ShowsDatabase}

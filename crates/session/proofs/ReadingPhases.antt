@@ -1,8 +1,8 @@
 -- A transaction that hasn't written yet, as the connections and as the machine have it.
-use Rattle.std.proofs.Common.{◌≡◌, refl, sym, ap, subst, ◌∙◌, ℕ, ◌==◌, Bool, true, false, List, [], ◌∷◌, length, arith}
+use Rattle.std.proofs.Common.{◌≡◌, refl, sym, ap, subst, ◌∙◌, ℕ, ◌==◌, Bool, true, List, [], ◌∷◌, length, arith}
 use Rattle.std.proofs.lemmas.Bool.{false≢true}
 use Rattle.std.proofs.lemmas.Bool.Decides.{nat_tests}
-use Rattle.std.specs.Prelude.{None, ⊤, if◌then◌else◌, nat_lt}
+use Rattle.std.specs.Prelude.{None, if◌then◌else◌, nat_lt}
 use Rattle.std.specs.List.{AllByRecursion}
 use Rattle.disk.specs.declared.device.Disk.{Ghosts}
 use Rattle.sqlval.specs.Names.{folded}
@@ -13,10 +13,10 @@ use Rattle.catalog.specs.declared.tables.Table.{Table}
 use Rattle.pager.specs.Views.{newest_view}
 use Rattle.storage.specs.Works.{Work}
 use Rattle.session.specs.Machine.{Machine, Connection, Idle, InTransactionOf, NoSnapshot, Phase, Reads, SavepointState, last_place, newest, with_connection}
-use Rattle.session.specs.Outcomes.{Outcome, Gives, RefusedBy, back_to, commit_outcome, saved, unless_busy, worked, write_outcome}
+use Rattle.session.specs.Outcomes.{Gives, RefusedBy, back_to, commit_outcome, saved, unless_busy, worked, write_outcome}
 use Rattle.session.specs.Representation.{IsReadingIn, IsTransaction, is_reading, seen_in}
-use Rattle.session.specs.SavedTables.{IsUnchanged, Savepoints, committed_in, current_in, savepoints_in}
-use Rattle.session.specs.Saving.{IsUnwritten, SavedAs, in_transaction, states_of}
+use Rattle.session.specs.SavedTables.{Savepoints, committed_in, current_in, savepoints_in}
+use Rattle.session.specs.Saving.{IsUnwritten, states_of}
 use Rattle.session.specs.Supported.{database_of}
 use Rattle.session.specs.declared.savepoints.SavedCatalogs.{SavedCatalogs}
 use Rattle.session.specs.declared.transactions.Transaction.{Transaction}

@@ -1,9 +1,8 @@
 -- The tables that savepoints go back to, after changes of the list of savepoints.
 use Rattle.std.proofs.Common.{◌≡◌, ◌<◌, ◌≤◌, refl, sym, ap, subst, ◌∙◌, ℕ, zero, suc, ◌+◌, ◌-◌, Bool, true, false, ◌||◌, List, [], ◌∷◌, ◌++◌, length, map, set, take, drop, get_or, arith}
-use Rattle.std.proofs.lemmas.List.{drop_more, get_or-map, get_or-take, length-map, length-take, length-take-le, length_push, nil_from_length, set_at, take-take, take_all, take_at, take_more}
-use Rattle.std.proofs.lemmas.Bool.Decides.{nat_tests}
+use Rattle.std.proofs.lemmas.List.{drop_more, get_or-map, get_or-take, length-map, length-take-le, length_push, nil_from_length, set_at, take-take, take_all, take_at, take_more}
 use Rattle.std.specs.List.{list_any}
-use Rattle.std.specs.Prelude.{None, Option, Some, Vec, nat_le, nat_lt}
+use Rattle.std.specs.Prelude.{None, Some, Vec}
 use Rattle.std.specs.declared.alloc.Global.{Global}
 use Rattle.sqlval.specs.Names.{is_same_name}
 use Rattle.catalog.specs.Database.{Name}
@@ -116,9 +115,6 @@ none_at_all ts ss n place low none =
     let start : 0 ≡ place = omega (arith, low) in
     ap (list_any (λ other. is_same_name other n)) (saved_names ts ss)
     ∙ ap (λ k. list_any (λ other. is_same_name other n) (drop k (map (λ (x : Savepoint). x.name) ss))) start ∙ none
-
-pub full_at : (n m : ℕ) → n ≡ m → nat_le 64 n ≡ nat_lt 63 m
-full_at n m is = grind (arith, nat_tests)
 
 -- ---- of the catalogs
 

@@ -1,26 +1,24 @@
 -- What the first connection is after its savepoints have changed.
-use Rattle.std.proofs.Common.{◌≡◌, ◌<◌, ◌≤◌, refl, sym, ap, subst, ◌∙◌, ℕ, ◌+◌, Bool, true, false, List, [], ◌∷◌, ◌++◌, length, map, take, get_or, arith}
+use Rattle.std.proofs.Common.{◌≡◌, ◌<◌, refl, sym, ap, subst, ◌∙◌, ℕ, ◌+◌, Bool, List, [], ◌∷◌, ◌++◌, length, map, take, get_or}
 use Rattle.std.proofs.lemmas.List.{get_or-map, length-map, length-reverse, map_push, take-map}
 use Rattle.std.specs.List.{AllByRecursion}
-use Rattle.std.specs.Prelude.{None, Option, Some, ⊤, reverse, unwrap_or}
+use Rattle.std.specs.Prelude.{None, Some, ⊤, unwrap_or}
 use Rattle.disk.specs.declared.device.Disk.{Ghosts}
 use Rattle.sqlval.specs.Names.{folded}
 use Rattle.wal.specs.declared.log.Log.{Log}
 use Rattle.catalog.specs.Database.{Name, Database}
 use Rattle.catalog.specs.declared.tables.Table.{Table}
 use Rattle.pager.specs.Marks.{Changes, IsOverTheSame, marks_of, now_of}
-use Rattle.pager.specs.Views.{Tells, view_of}
+use Rattle.pager.specs.Views.{view_of}
 use Rattle.pager.specs.declared.writer.Writer.{Writer}
 use Rattle.session.specs.Machine.{Machine, Connection, InTransactionOf, Phase, SavepointState, Writes, last_place, newest}
 use Rattle.session.specs.Representation.{IsReadingIn, IsWritingIn}
 use Rattle.session.specs.SavedTables.{AddsSavepoint, GoesBackTo, KeepsTables, ReleasesFrom, SavedTables, Savepoints, committed_in, current_in, names_in, savepoints_in}
 use Rattle.session.specs.Saving.{AddsMark, AreSaved, GoesBackToMark, IsMarked, IsUnwritten, KeepsWriter, ReleasesMarks, SavedAs, in_transaction, states_of}
 use Rattle.session.specs.Stored.{ShowsDatabase}
-use Rattle.session.specs.Writers.{IsWriter}
 use Rattle.session.specs.declared.savepoints.SavedCatalogs.{SavedCatalogs}
 use Rattle.session.proofs.Marked.{moved_view, moved_writer, over_on}
 use Rattle.session.proofs.SavedStates.{At, all_map, all_push, all_take, names, states_push}
-use Rattle.session.proofs.Showing.{still_saved, the_same}
 
 -- ---- lists of what is kept
 

@@ -1,7 +1,7 @@
 -- The savepoints of the machine, which has the newest first, by those that the connections keep.
-use Rattle.std.proofs.Common.{◌≡◌, ◌<◌, ◌≤◌, refl, sym, ap, subst, ◌∙◌, ℕ, zero, suc, ◌+◌, Bool, true, false, ◌||◌, List, [], ◌∷◌, ◌++◌, length, map, take, drop, get_or, arith}
+use Rattle.std.proofs.Common.{◌≡◌, ◌<◌, refl, sym, ap, ◌∙◌, ℕ, zero, suc, ◌+◌, Bool, true, false, ◌||◌, List, [], ◌∷◌, ◌++◌, length, map, take, drop, get_or, arith}
 use Rattle.std.proofs.lemmas.Bool.{false≢true}
-use Rattle.std.proofs.lemmas.List.{drop-map, get_or-map, length-map, map-append, map_push, reverse-append, take-append-drop, take_more}
+use Rattle.std.proofs.lemmas.List.{drop-map, get_or-map, length-map, map-append, map_push, reverse-append, take-append-drop}
 use Rattle.std.proofs.lemmas.Slice.Eq.{bytes_eq-Decides}
 use Rattle.std.proofs.lemmas.Str.Ascii.{lowercase-lowercase}
 use Rattle.std.specs.Char.{to_ascii_lowercase}
@@ -13,7 +13,7 @@ use Rattle.sqlval.specs.Names.{folded, is_same_name}
 use Rattle.catalog.specs.Database.{Name}
 use Rattle.session.specs.Machine.{SavepointState}
 use Rattle.session.specs.Outcomes.{from_name}
-use Rattle.session.specs.SavedTables.{IsNewestNamed, SavedTables}
+use Rattle.session.specs.SavedTables.{IsNewestNamed}
 use Rattle.session.specs.Saving.{IsOfName, SavedAs, states_of}
 
 -- ---- names

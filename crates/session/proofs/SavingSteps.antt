@@ -1,5 +1,5 @@
 -- SAVEPOINT, RELEASE and ROLLBACK TO are steps of the machine.
-use Rattle.std.proofs.Common.{◌≡◌, ◌⊎◌, ◌<◌, ◌≤◌, inl, inr, refl, sym, ap, subst, ◌∙◌, ℕ, ◌+◌, ◌==◌, Bool, true, false, List, [], ◌∷◌, length, take, ◌++◌, Option, Some, None, arith}
+use Rattle.std.proofs.Common.{◌≡◌, ◌⊎◌, ◌<◌, inl, inr, refl, sym, ap, subst, ◌∙◌, ℕ, ◌+◌, ◌==◌, Bool, true, false, List, [], ◌∷◌, length, take, ◌++◌, Option, Some, None, arith}
 use Rattle.std.proofs.lemmas.Bool.{false≢true}
 use Rattle.std.proofs.lemmas.Bool.Decides.{nat_tests}
 use Rattle.std.proofs.lemmas.List.{length-map, length-take-le}
@@ -20,12 +20,11 @@ use Rattle.pager.specs.Views.{Tells}
 use Rattle.pager.specs.declared.writer.Writer.{Writer}
 use Rattle.storage.specs.Forms.{is_supported}
 use Rattle.session.specs.ConnectionState.{files_of, has_failed_in}
-use Rattle.session.specs.Machine.{Machine, Connection, Idle, InTransactionOf, NoSnapshot, Phase, Reads, SavepointState, Writes, Rows, Refused, connection, last_place, newest, with_connection}
+use Rattle.session.specs.Machine.{Machine, Connection, Idle, InTransactionOf, NoSnapshot, Phase, Reads, SavepointState, Writes, Rows, Refused, last_place, newest, with_connection}
 use Rattle.session.specs.Outcomes.{Outcome, Gives, RefusedBy, back_to, commit_outcome, from_name, outcome, released, restored, saved}
 use Rattle.session.specs.Representation.{CannotStoreIn, CommitsBy, IsReadingIn, IsTransaction, IsWritingIn, RepresentsRunning, ShowTheSame, StepsOn, StepsTo, done_reply, is_idle, is_reading}
 use Rattle.session.specs.SavedTables.{AddsSavepoint, GoesBackTo, HasNoSavepoints, HasRoom, IsNewestNamed, KeepsTables, ReleasesFrom, SavedTables, Savepoints, committed_in, current_in, names_in, savepoints_in}
-use Rattle.session.specs.Saving.{AddsMark, AreSaved, GoesBackToMark, IsMarked, IsOfName, IsUnwritten, KeepsWriter, OnWriter, ReleasesMarks, SavedAs, in_transaction, states_of}
-use Rattle.session.specs.Steps.{Allowed}
+use Rattle.session.specs.Saving.{AddsMark, AreSaved, GoesBackToMark, IsOfName, KeepsWriter, OnWriter, ReleasesMarks, SavedAs, in_transaction, states_of}
 use Rattle.session.specs.declared.savepoints.SavedCatalogs.{SavedCatalogs}
 use Rattle.session.specs.declared.transactions.Connections.{Connections}
 use Rattle.session.specs.declared.transactions.Transaction.{Transaction}
@@ -33,7 +32,7 @@ use Rattle.session.specs.declared.transactions.Transaction.TheVariants as transa
 use Rattle.session.proofs.Beginning.{none_where_idle}
 use Rattle.session.proofs.ReadingPhases.{ReadsIn, reads_in}
 use Rattle.session.proofs.SavedPoints.{reading_adds, reading_takes, saved_count, saved_names_are, states_count, tables_at, unwritten, writing_adds, writing_goes_back, writing_keeps, writing_releases}
-use Rattle.session.proofs.SavedStates.{At, FromPlace, all_map, from_place, names, states_none}
+use Rattle.session.proofs.SavedStates.{FromPlace, all_map, from_place, states_none}
 use Rattle.session.proofs.Settled.{as_shown, crash_keeps}
 use Rattle.session.proofs.Showing.{idle_first, moved, still_transaction, the_same}
 use Rattle.session.proofs.Stepping.{by_outcome, first_is, commit_outcome_of, instead, release_outcome, return_outcome, savepoint_outcome}

@@ -1,7 +1,6 @@
 -- SELECT is a step of the machine.
-use Rattle.std.proofs.Common.{◌≡◌, ◌≤◌, inl, inr, refl, sym, ap, subst, ◌∙◌, ℕ, List, [], ◌∷◌, length, take, true, false, Ok, Err, arith}
+use Rattle.std.proofs.Common.{◌≡◌, inl, inr, refl, sym, ap, subst, ◌∙◌, List, [], ◌∷◌, false, Ok, Err, arith}
 use Rattle.std.specs.Prelude.{Contains, IsErrAnd, Result, Vec, map}
-use Rattle.std.proofs.lemmas.List.{take_all}
 use Rattle.disk.specs.declared.device.Disk.{Ghosts}
 use Rattle.sqlval.specs.Refusals as refusal
 use Rattle.sqlval.specs.Refusals.{Answer, Refusal, refusal_of}
@@ -19,7 +18,7 @@ use Rattle.rowprog.specs.Rows.{values_of}
 use Rattle.smallvec.specs.SmallVec.{SmallVec}
 use Rattle.std.specs.declared.alloc.Global.{Global}
 use Rattle.storage.specs.Reading.{AnswersRead}
-use Rattle.pager.specs.Views.{View, newest_view}
+use Rattle.pager.specs.Views.{newest_view}
 use Rattle.session.specs.Supported.{StepSoFar}
 use Rattle.session.specs.Holding.{HoldThroughout}
 use Rattle.session.specs.ConnectionState.{files_of}

@@ -1,5 +1,5 @@
 -- What a crash leaves of files that are settled, and of what a commit makes of them.
-use Rattle.std.proofs.Common.{◌≡◌, ◌⊎◌, ◌≤◌, inl, inr, refl, sym, ap, subst, ◌∙◌, ℕ, List, [], ◌∷◌, length, map, take, arith}
+use Rattle.std.proofs.Common.{◌≡◌, ◌⊎◌, ◌≤◌, inl, inr, refl, sym, ap, subst, ◌∙◌, ℕ, List, [], ◌∷◌, length, map, arith}
 use Rattle.std.specs.Prelude.{Option, Some, MatchOption, ⊤, None}
 use Rattle.disk.proofs.Current.{synced_left}
 use Rattle.disk.specs.File.{File, IsContentLeft, IsLeft, IsRun, IsSynced, OnDb, OnLog, Phase, Version, versions, whole}
@@ -14,7 +14,7 @@ use Rattle.wal.specs.Sizes.{IsViewSize}
 use Rattle.wal.specs.Crashes.{LeavesEither}
 use Rattle.wal.specs.declared.log.Log.{Log}
 use Rattle.catalog.specs.Database.{Database}
-use Rattle.session.specs.SavedTables.{committed_in, current_in}
+use Rattle.session.specs.SavedTables.{committed_in}
 use Rattle.catalog.specs.declared.tables.Table.{Table}
 use Rattle.pager.specs.Commits.{IsCommittedOver, LeavesCommit}
 use Rattle.pager.specs.Limits.{pages_of}

@@ -1,9 +1,7 @@
 -- What the connections show after a statement.
-use Rattle.std.proofs.Common.{◌≡◌, ◌<◌, ◌≤◌, inr, refl, sym, ap, subst, ◌∙◌, ℕ, Bool, List, [], ◌∷◌, length, take, true, false, arith}
+use Rattle.std.proofs.Common.{◌≡◌, inr, refl, sym, ap, subst, ◌∙◌, ℕ, Bool, List, [], ◌∷◌, true, false, arith}
 use Rattle.std.specs.Prelude.{⊤, unwrap_or}
 use Rattle.std.specs.List.{AllByRecursion}
-use Rattle.std.proofs.lemmas.List.{take_all, length-take, length-take-le}
-use Rattle.std.proofs.Math.Nat.{min-le_left}
 use Rattle.std.proofs.lemmas.Bool.{false≢true}
 use Rattle.disk.specs.declared.device.Disk.{Ghosts}
 use Rattle.sqlval.specs.Refusals.{InTransaction, NoTransaction}
@@ -22,7 +20,7 @@ use Rattle.wal.specs.Committed.{frames_under}
 use Rattle.wal.specs.LogState.{LogState, db_of, log_of, state_of, header_of, seen_by, size_of}
 use Rattle.wal.specs.declared.log.Snapshot.{Snapshot}
 use Rattle.pager.specs.Limits.{pages_of}
-use Rattle.pager.specs.Marks.{Changes, IsOverTheSame, now_of}
+use Rattle.pager.specs.Marks.{Changes, IsOverTheSame}
 use Rattle.pager.specs.Views.{View, Tells, after, changes_of, newest_view, view_of}
 use Rattle.pager.specs.Writers.{snapshot_of}
 use Rattle.pager.specs.declared.writer.Writer.{Writer}

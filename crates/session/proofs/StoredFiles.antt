@@ -16,14 +16,11 @@ use Rattle.tabletree.proofs.LeafTrees.{root_there}
 use Rattle.catalog.specs.Database.{Database}
 use Rattle.catalog.specs.declared.tables.Table.{Table}
 use Rattle.filecheck.specs.Files.{FilesStandFor}
-use Rattle.pager.specs.Maps.{pages_in}
 use Rattle.pager.specs.Views.{View, ViewHas}
 use Rattle.storage.specs.Language.{supported_language}
-use Rattle.storage.specs.Standing.{StandingStored}
 use Rattle.storage.specs.Stored.{Stores}
 use Rattle.session.specs.Holding.{IsFound, StoreFiles}
 use Rattle.session.specs.Meaning.{HeldFilesAreStored}
-use Rattle.session.specs.Stored.{ShowsDatabase}
 use Rattle.storage.proofs.StoredPages.{stored_if_standing}
 use Rattle.session.proofs.StandingViews.{ShowsEach, only_these}
 

@@ -1,5 +1,5 @@
 -- What follows for every statement.
-use Rattle.std.specs.Prelude.{◌≡◌, ◌<◌, ◌≤◌, ℕ, true, List, [], length, Option}
+use Rattle.std.specs.Prelude.{◌≡◌, ◌<◌, ◌≤◌, ℕ, List, length}
 use Rattle.sqlval.specs.Refusals.{Refusal}
 use Rattle.syntax.specs.declared.statement.Statement.{Statement}
 use Rattle.session.specs.Machine.{Machine, Reply, Refused, connection, committed}

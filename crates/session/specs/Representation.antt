@@ -1,5 +1,5 @@
 -- Which machine the connections show.
-use Rattle.std.specs.Prelude.{◌≡◌, ◌⊎◌, ◌≤◌, ◌-◌, slice_get, unwrap_or, ⊤, ℕ, Bool, true, false, List, [], ◌∷◌, length, map, take, None, Result, Ok, Err, Vec, Contains}
+use Rattle.std.specs.Prelude.{◌≡◌, ◌⊎◌, ◌≤◌, ◌-◌, slice_get, unwrap_or, ⊤, ℕ, Bool, true, false, List, [], ◌∷◌, length, map, None, Result, Ok, Err, Vec}
 use Rattle.std.specs.declared.alloc.Global.{Global}
 use Rattle.smallvec.specs.SmallVec.{SmallVec}
 use Rattle.sqlval.specs.Refusals.{Refusal, refusal_of}

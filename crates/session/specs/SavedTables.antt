@@ -20,6 +20,10 @@ pub record Savepoints : Type 0 where
   pub began : Bool
   pub points : List SavedTables
 
+-- a savepoint has this name
+abbrev pub is_called : Name → Savepoint → Bool
+is_called name s = is_same_name s.name name
+
 -- these tables, or those that they were changed to
 abbrev pub changed_to : List Table → Option Catalog → List Table
 changed_to tables changed = unwrap_or (option_map tables_of changed) tables

@@ -1,6 +1,6 @@
 //! The tables that a transaction sees, and its savepoints, each with the tables to which it goes back.
 
-ghost use Rattle.std.specs.Prelude.{◌≡◌, ◌<◌, ◌≤◌, ◌-◌, ◌==◌, ◌&&◌, length, map, nat_lt, IfErr, IfNone, IfSome, OnErr, OnOk, true, false};
+ghost use Rattle.std.specs.Prelude.{◌≡◌, ◌<◌, ◌≤◌, ◌-◌, ◌==◌, ◌&&◌, length, map, nat_lt, IfErr, IfNone, IfSome, OnOk, true, false};
 ghost use Rattle.std.specs.List.{list_any};
 ghost use Rattle.catalog.specs.Listed.{tables_of};
 ghost use Rattle.sqlval.specs.Names.{is_same_name};
@@ -20,6 +20,17 @@ pub struct Savepoint {
     name: Name,
     /// The tables as they were changed after this savepoint and before the next; `None` where they weren't.
     changed: Option<Catalog>,
+}
+
+impl Savepoint {
+    ghost use Rattle.session.specs.SavedTables.{is_called};
+
+    /// Whether this is its name, except for the case of letters.
+    fn is_called(&self, name: &str) -> bool
+        ensures { result ≡ is_called name.now self.now }
+    {
+        self.name.is_same(name)
+    }
 }
 
 /// The tables of the newest commit, those that an open transaction sees, and its savepoints.
@@ -74,7 +85,7 @@ impl SavedCatalogs {
     pub fn is_full(&self) -> bool
         ensures { result ≡ nat_lt 63 (length (savepoints_in self.now).points) }
     {
-        self.savepoints.len() >= MAX_SAVEPOINTS
+        self.count() >= MAX_SAVEPOINTS
     }
 
     /// Whether the savepoint at a place began the transaction.
@@ -99,7 +110,7 @@ impl SavedCatalogs {
         let mut place = self.savepoints.len();
         'places: while place > 0 {
             place -= 1;
-            if self.savepoints[place].name.is_same(name) {
+            if self.savepoints[place].is_called(name) {
                 return Some(place);
             }
         }

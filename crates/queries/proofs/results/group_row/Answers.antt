@@ -21,4 +21,4 @@ returns c =
     group_found c.args.reading.now (picked_rows c.args.env.sources.now c.args.picked.now) (seen c.args.env) c.in_ok-keys.keys c.requires
     (ap (values (seen c.args.env)) (sym c.as_slice.ensures) ∙ c.in_ok-keys.ensures)
     ((λ i. lists_checked (sym c.as_slice-2.ensures i) (sym c.as_slice-order.ensures i) (seen c.args.env)) ∙ c.in_ok-check_arguments.ensures)
-    ∙ (λ i. Ok ((sym c.new-results.ensures i, c.in_ok-keys.keys), picked_rows c.args.env.sources.now (sym (c.from_vec-picked.ensures ∙ c.in_ok-from_slice.ensures.items) i)))
+    ∙ (λ i. Ok ((sym c.new-results.ensures i, c.in_ok-keys.keys), picked_rows c.args.env.sources.now (sym c.in_ok-picked.ensures i)))

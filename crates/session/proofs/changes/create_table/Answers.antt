@@ -1,4 +1,3 @@
-use Rattle.std.proofs.Common.{◌∙◌}
 use Rattle.session.specs.Changing.{listing}
 use Rattle.session.proofs.ChangedPages.{noted}
 use Rattle.session.proofs.changes.create_table.Goals as goal

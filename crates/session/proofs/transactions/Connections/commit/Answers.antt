@@ -2,8 +2,6 @@ use Rattle.std.proofs.Common.{inl, inr, refl, sym, subst, ap, ◌∙◌}
 use Rattle.session.specs.Machine.{newest}
 use Rattle.session.specs.Representation.{IsGivenUp, StepsTo, done_reply, is_idle, is_reading}
 use Rattle.session.specs.declared.transactions.Connections.{Connections}
-use Rattle.syntax.specs.declared.statement.Statement.TheVariants as statement
-use Rattle.session.specs.declared.transactions.Transaction.TheVariants as transaction
 use Rattle.session.proofs.StatementCauses.{commit_refused_for}
 use Rattle.session.proofs.CommitSteps.{ended_reading, err_step, none_to_commit, ok_step, writes_in}
 use Rattle.session.proofs.transactions.Connections.commit.Goals as goal

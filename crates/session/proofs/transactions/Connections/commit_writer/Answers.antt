@@ -1,6 +1,6 @@
 use Rattle.std.proofs.Common.{refl, ◌∙◌, ap}
 use Rattle.std.specs.Prelude.{◌||◌}
-use Rattle.session.specs.SavedTables.{committed_in, current_in}
+use Rattle.session.specs.SavedTables.{current_in}
 use Rattle.session.proofs.transactions.Connections.commit_writer.Goals as goal
 
 pub returns-in-Err-clause-commits : goal.returns-in-Err-clause-commits

@@ -3,7 +3,6 @@ use Rattle.session.specs.SavedTables.{current_in}
 use Rattle.catalog.specs.declared.tables.Table.{Table}
 use Rattle.pager.specs.Views.{View, view_at, view_of}
 use Rattle.session.specs.ConnectionState.{files_of}
-use Rattle.session.specs.Machine.{last_place}
 use Rattle.session.specs.Representation.{seen_in}
 use Rattle.session.specs.Stored.{ShowsDatabase}
 use Rattle.session.specs.declared.transactions.Transaction.{Transaction}

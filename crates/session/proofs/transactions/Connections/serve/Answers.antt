@@ -1,4 +1,4 @@
-use Rattle.std.proofs.Common.{◌≡◌, subst, sym, true, List, map}
+use Rattle.std.proofs.Common.{subst, sym, List, map}
 use Rattle.syntax.specs.declared.statement.Statement.{Statement}
 use Rattle.smallvec.specs.SmallVec.{SmallVec}
 use Rattle.sqlval.specs.declared.value.Value.{Value}

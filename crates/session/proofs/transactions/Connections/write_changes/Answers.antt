@@ -1,4 +1,4 @@
-use Rattle.std.proofs.Common.{◌≤◌, sym, subst, arith}
+use Rattle.std.proofs.Common.{sym, subst, arith}
 use Rattle.wal.specs.declared.log.Snapshot.{Snapshot}
 use Rattle.pager.specs.Pruning.{AreNew, IsPruned, Prunes}
 use Rattle.pager.specs.Views.{View, changes_of, view_at}
