@@ -52,8 +52,7 @@ fn a_tree_that_was_split_is_taken_back(rt: HostRuntime) -> Result<(), Fail> {
     )?;
     let mut lines = Vec::new(alloc);
     lines.extend_from_slice(b"1 BEGIN\n1 SAVEPOINT s\n")?;
-    let after =
-        b"1 SELECT count(*) FROM t\n1 ROLLBACK TO s\n1 SELECT count(*) FROM t\n1 COMMIT\n";
+    let after = b"1 SELECT count(*) FROM t\n1 ROLLBACK TO s\n1 SELECT count(*) FROM t\n1 COMMIT\n";
     lines.extend_from_slice(&repeated(alloc, b"1 INSERT INTO t SELECT a FROM t\n", 6, after)?)?;
     let output = reply(alloc, &mut engine, &lines)?;
     assert!(rt; output == repeated(alloc, b"ok\n", 8, b"128\nok\nok\n2\nok\nok\n")?);
