@@ -1,0 +1,5 @@
+mod Sorting
+mod RowOrder
+mod Turning
+mod Looping
+pub mod Rows
