@@ -1,0 +1,5 @@
+use Rattle.plan.proofs.Others.{other_rows_fail}
+use Rattle.plan.proofs.other_rows_fail.Goals as goal
+
+pub returns : goal.returns
+returns c = other_rows_fail

@@ -1,0 +1,13 @@
+use Rattle.std.proofs.Common.{rules, ◌≡◌, true}
+use Rattle.bind.specs.Calm.{finds, parts}
+use Rattle.plan.specs.Seeking.{is_rowid, no_index}
+use Rattle.plan.proofs.Others.{or_found, or_none}
+use Rattle.plan.proofs.seeking.+asked.Goals as goal
+
+pub returns-in-Two-And-default-default-clause-found :
+    goal.returns-in-Two-And-default-default-clause-found
+returns-in-Two-And-default-default-clause-found t c =
+    let a = c.asked_in in
+    let b = c.asked_in-in-Two-And-default-default in
+    let both = or_found (is_rowid c.args.source) a.result b.result (parts c.deref.result.now) (parts c.deref-in-Two-And-default-default.result.now) a.ensures.found b.ensures.found in
+    search rules
