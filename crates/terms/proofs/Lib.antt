@@ -7,3 +7,4 @@ pub mod Limits
 pub mod Picked
 pub mod InOrder
 pub mod Quiet
+pub mod IntegerValues

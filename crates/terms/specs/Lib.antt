@@ -7,3 +7,4 @@ pub mod Terms
 pub mod Values
 pub mod Stored
 pub mod View
+pub mod TextSides

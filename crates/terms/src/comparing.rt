@@ -41,7 +41,7 @@ fn conversion(own: Option<Affinity>, other: Option<Affinity>) -> Affinity
 }
 
 /// Whether an order is such as a comparison asks.
-fn is_met(comparison: Comparison, order: Ordering) -> bool
+pub fn is_met(comparison: Comparison, order: Ordering) -> bool
     ensures { result ≡ meant.is_met comparison order }
 {
     match comparison {

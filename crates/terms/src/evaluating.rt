@@ -12,6 +12,7 @@ ghost use Rattle.terms.specs.Values as meant;
 use crate::collating::{collation, manner_alone, manner_of_two};
 use crate::comparing::{Manner, are_same, compare_by, of_bool};
 use crate::datum::Datum;
+use crate::integers::integer_holds;
 use crate::numbers::{absolute, calculate, negative, word};
 use crate::rows::Env;
 use crate::texts::{concatenate, length_of, lower, type_of, upper};
@@ -54,6 +55,9 @@ pub fn evaluate<'a>(alloc: Global, term: &'a Term, env: Env<'a>) -> R<Datum<'a>>
 pub fn holds(alloc: Global, term: &Term, env: Env<'_>) -> R<Option<bool>>
     ensures { Answers (meant.value term.now (seen env.entry) then meant.truth) result }
 {
+    if let Some(test) = integer_holds(term, env) {
+        return Ok(Some(test));
+    }
     truth(evaluate(alloc, term, env)?.as_field())
 }
 

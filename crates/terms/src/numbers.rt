@@ -21,21 +21,21 @@ pub fn word(number: i128) -> R<Value>
 }
 
 /// The exact difference.
-fn difference(x: i64, y: i64) -> i128
+pub fn difference(x: i64, y: i64) -> i128
     ensures { result ≡ x -ℤ y }
 {
     i128::from(x) - i128::from(y)
 }
 
 /// The exact product.
-fn product(x: i64, y: i64) -> i128
+pub fn product(x: i64, y: i64) -> i128
     ensures { result ≡ x *ℤ y }
 {
     i128::from(x) * i128::from(y)
 }
 
 /// The quotient, rounded toward zero.
-fn quotient(x: i64, y: i64) -> i128
+pub fn quotient(x: i64, y: i64) -> i128
     requires { y ≡ pos 0 → ⊥ }
     ensures { result ≡ int_div x y }
 {
@@ -43,7 +43,7 @@ fn quotient(x: i64, y: i64) -> i128
 }
 
 /// What the quotient leaves, with the sign of `x`.
-fn remainder(x: i64, y: i64) -> i128
+pub fn remainder(x: i64, y: i64) -> i128
     requires { y ≡ pos 0 → ⊥ }
     ensures { result ≡ int_rem x y }
 {
