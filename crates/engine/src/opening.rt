@@ -33,7 +33,7 @@ use loading::load;
 use pager::Reading;
 use parser::{parse, release};
 use rowprog::Rows;
-use session::Connections;
+use session::{Connections, Seats};
 use sqlval::limits::DATABASE_HEADER_LEN;
 use sqlval::{Fault, Misuse, R};
 use std::alloc::Global;
@@ -89,8 +89,15 @@ fn load_files<D: Disk + Drop>(alloc: Global, log: &mut Log<D>) -> R<Catalog>
     load(alloc, &mut pages, size)
 }
 
+/// Loads the tables of the newest snapshot, and makes the connections' seats. (What `load` refuses.)
+fn load_seats<D: Disk + Drop>(alloc: Global, log: &mut Log<D>) -> R<Seats>
+{
+    let catalog = load_files(alloc, log)?;
+    Seats::new(alloc, catalog)
+}
+
 /// Loads the tables of the newest snapshot, then truncates the log after its last committed frame.
-fn load_and_truncate<D: Disk + Drop>(alloc: Global, log: &mut Log<D>) -> R<Catalog>
+fn load_and_truncate<D: Disk + Drop>(alloc: Global, log: &mut Log<D>) -> R<Seats>
     ensures crash { IsFalse (state_of log.old).has_failed → HasPageSize (D.file (db_of log.old)).content (state_of log.old).page_size
         → IsTrue (D.tells (db_of log.old)) → IsTrue (D.tells (log_of log.old)) → IsSynced (D.file (db_of log.old))
         → IsSynced (D.file (log_of log.old))
@@ -111,9 +118,9 @@ fn load_and_truncate<D: Disk + Drop>(alloc: Global, log: &mut Log<D>) -> R<Catal
     ensures cause { HasCause false result log.old log.new }
     ensures not_blank { IfErr result (λ fault. fault ≡ Fault.Blank → ⊥) }
 {
-    let catalog = load_files(alloc, log)?;
+    let seats = load_seats(alloc, log)?;
     log.cut_tail()?;
-    Ok(catalog)
+    Ok(seats)
 }
 
 impl<D: Disk + Drop> Engine<D> {
@@ -161,9 +168,9 @@ impl<D: Disk + Drop> Engine<D> {
             salts,
         )?;
         match load_and_truncate(alloc, &mut log) {
-            Ok(catalog) => Ok(Engine {
+            Ok(seats) => Ok(Engine {
                 alloc,
-                connections: Connections::new(alloc, log, catalog),
+                connections: Connections::new(alloc, log, seats),
             }),
             Err(fault) => {
                 let (db, log) = log.into_disks();
@@ -221,7 +228,7 @@ impl<D: Disk + Drop> Engine<D> {
     pub(crate) fn give_up(&mut self)
         ensures { GivesUp self.old self.new }
     {
-        self.connections.give_up();
+        self.connections.give_up_all();
     }
 
     pub(crate) fn allocator(&self) -> Global {

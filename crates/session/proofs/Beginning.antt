@@ -33,8 +33,8 @@ use Rattle.pager.proofs.Sounding.{begun_is_sound}
 use Rattle.session.specs.Representation.{CannotStoreIn, RepresentsRunning, IsTransaction, OnlyReads, ShowTheSame, StepsOn, done_reply, is_idle}
 use Rattle.session.specs.Writers.{IsNewest, IsWriter}
 use Rattle.session.specs.declared.transactions.Connections.{Connections}
-use Rattle.session.specs.declared.transactions.Transaction.{Transaction}
-use Rattle.session.specs.declared.transactions.Transaction.TheVariants as transaction
+use Rattle.session.specs.declared.seats.Transaction.{Transaction}
+use Rattle.session.specs.declared.seats.Transaction.TheVariants as transaction
 use Rattle.session.proofs.SeenPages.{at_newest}
 use Rattle.session.proofs.Selecting.{all_listed}
 use Rattle.session.proofs.Settled.{crash_keeps}

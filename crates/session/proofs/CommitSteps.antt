@@ -28,8 +28,8 @@ use Rattle.session.specs.Steps.{Allowed, after_commit, is_free}
 use Rattle.session.specs.Stored.{ShowsDatabase}
 use Rattle.session.specs.Applying.{CommitsChanges, CommitsDatabase, HoldsEither, IsCommitCause, IsInDoubt, IsUncommitted, CanApply}
 use Rattle.session.specs.declared.transactions.Connections.{Connections}
-use Rattle.session.specs.declared.transactions.Transaction.{Transaction}
-use Rattle.session.specs.declared.transactions.Transaction.TheVariants as transaction
+use Rattle.session.specs.declared.seats.Transaction.{Transaction}
+use Rattle.session.specs.declared.seats.Transaction.TheVariants as transaction
 use Rattle.session.proofs.CommitCrashes.{commit_crashes, doubt_left, doubt_crashes, doubted, last_is}
 use Rattle.session.proofs.Settled.{crash_keeps}
 use Rattle.session.proofs.Showing.{Begins, idle_first, moved, still_saved, still_shown, the_same}

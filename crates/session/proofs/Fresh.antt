@@ -12,8 +12,8 @@ use Rattle.session.specs.Machine.{Idle, fresh, idle}
 use Rattle.session.specs.Representation.{RepresentsRunning, IsTransaction}
 use Rattle.session.specs.Stored.{ShowsDatabase}
 use Rattle.session.specs.declared.transactions.Connections.{Connections}
-use Rattle.session.specs.declared.transactions.Transaction.{Transaction}
-use Rattle.session.specs.declared.transactions.Transaction.TheVariants as transaction
+use Rattle.session.specs.declared.seats.Transaction.{Transaction}
+use Rattle.session.specs.declared.seats.Transaction.TheVariants as transaction
 
 all_idle : (n : ℕ) → AllByRecursion (λ k. k ≡ Idle) (idle n)
 all_idle zero = tt

@@ -19,8 +19,8 @@ use Rattle.session.specs.SavedTables.{Savepoints, committed_in, current_in, save
 use Rattle.session.specs.Saving.{IsUnwritten, states_of}
 use Rattle.session.specs.Supported.{database_of}
 use Rattle.session.specs.declared.savepoints.SavedCatalogs.{SavedCatalogs}
-use Rattle.session.specs.declared.transactions.Transaction.{Transaction}
-use Rattle.session.specs.declared.transactions.Transaction.TheVariants as transaction
+use Rattle.session.specs.declared.seats.Transaction.{Transaction}
+use Rattle.session.specs.declared.seats.Transaction.TheVariants as transaction
 
 itself : (n : ℕ) → (n == n) ≡ true
 itself n = grind (arith, nat_tests)

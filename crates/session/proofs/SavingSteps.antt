@@ -27,8 +27,8 @@ use Rattle.session.specs.SavedTables.{AddsSavepoint, GoesBackTo, HasNoSavepoints
 use Rattle.session.specs.Saving.{AddsMark, AreSaved, GoesBackToMark, IsOfName, KeepsWriter, OnWriter, ReleasesMarks, SavedAs, in_transaction, states_of}
 use Rattle.session.specs.declared.savepoints.SavedCatalogs.{SavedCatalogs}
 use Rattle.session.specs.declared.transactions.Connections.{Connections}
-use Rattle.session.specs.declared.transactions.Transaction.{Transaction}
-use Rattle.session.specs.declared.transactions.Transaction.TheVariants as transaction
+use Rattle.session.specs.declared.seats.Transaction.{Transaction}
+use Rattle.session.specs.declared.seats.Transaction.TheVariants as transaction
 use Rattle.session.proofs.Beginning.{none_where_idle}
 use Rattle.session.proofs.ReadingPhases.{ReadsIn, reads_in}
 use Rattle.session.proofs.SavedPoints.{reading_adds, reading_takes, saved_count, saved_names_are, states_count, tables_at, unwritten, writing_adds, writing_goes_back, writing_keeps, writing_releases}

@@ -12,8 +12,8 @@ use Rattle.pager.specs.declared.writer.Writer.{Writer}
 use Rattle.session.specs.Machine.{Connection, Machine}
 use Rattle.session.specs.Representation.{IsTransaction, seen_in}
 use Rattle.session.specs.Writers.{IsNewest, IsWriter}
-use Rattle.session.specs.declared.transactions.Transaction.{Transaction}
-use Rattle.session.specs.declared.transactions.Transaction.TheVariants as transaction
+use Rattle.session.specs.declared.seats.Transaction.{Transaction}
+use Rattle.session.specs.declared.seats.Transaction.TheVariants as transaction
 
 pub one_page : (view : View) (number : ℕ) (a b : List ℕ) → ViewHas view number a → ViewHas view number b → a ≡ b
 one_page view number a b = page_one view.db view.page_size view.frames number a b

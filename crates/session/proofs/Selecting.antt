@@ -31,8 +31,8 @@ use Rattle.session.specs.Stored.{ShowsDatabase}
 use Rattle.session.specs.Saving.{in_transaction}
 use Rattle.session.specs.Representation.{CannotStoreIn, IsReadingIn, RepresentsRunning, IsTransaction, OnlyReads, ShowTheSame, StartsReading, StepsOn, StepsTo, is_begun, rows_reply, seen_in}
 use Rattle.session.specs.declared.transactions.Connections.{Connections}
-use Rattle.session.specs.declared.transactions.Transaction.{Transaction}
-use Rattle.session.specs.declared.transactions.Transaction.TheVariants as transaction
+use Rattle.session.specs.declared.seats.Transaction.{Transaction}
+use Rattle.session.specs.declared.seats.Transaction.TheVariants as transaction
 use Rattle.session.proofs.Settled.{crash_keeps}
 use Rattle.session.proofs.Showing.{moved, still_newest, still_shown, the_same}
 use Rattle.session.proofs.Stepping.{by_outcome, first_is, instead, select_outcome}

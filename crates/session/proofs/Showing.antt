@@ -31,8 +31,8 @@ use Rattle.session.specs.Stored.{ShowsDatabase}
 use Rattle.session.specs.Representation.{CannotStoreIn, IsGivenUp, IsReadingIn, RepresentsRunning, IsTransaction, ShowTheSame, StepsOn, is_idle}
 use Rattle.session.specs.Writers.{IsNewest, IsWriter}
 use Rattle.session.specs.declared.transactions.Connections.{Connections}
-use Rattle.session.specs.declared.transactions.Transaction.{Transaction}
-use Rattle.session.specs.declared.transactions.Transaction.TheVariants as transaction
+use Rattle.session.specs.declared.seats.Transaction.{Transaction}
+use Rattle.session.specs.declared.seats.Transaction.TheVariants as transaction
 use Rattle.session.proofs.Settled.{as_shown, still_settled, crash_keeps}
 use Rattle.session.proofs.Stepping.{by_outcome, begin_outcome, first_is, first_set, rollback_outcome}
 

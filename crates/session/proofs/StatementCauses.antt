@@ -19,8 +19,8 @@ use Rattle.session.specs.Changing.{written}
 use Rattle.session.specs.ConnectionState.{files_of, has_failed_in}
 use Rattle.session.specs.Failing.{IsPastIn, IsPastLimits, IsRefusedFor, has_written}
 use Rattle.session.specs.declared.transactions.Connections.{Connections}
-use Rattle.session.specs.declared.transactions.Transaction.{Transaction}
-use Rattle.session.specs.declared.transactions.Transaction.TheVariants as transaction
+use Rattle.session.specs.declared.seats.Transaction.{Transaction}
+use Rattle.session.specs.declared.seats.Transaction.TheVariants as transaction
 use Rattle.session.specs.declared.changes.Write.{Write}
 use Rattle.session.specs.declared.changes.Write.TheVariants as write
 use Rattle.session.proofs.CommitSteps.{writes_in}

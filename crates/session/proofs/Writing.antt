@@ -37,8 +37,8 @@ use Rattle.storage.specs.Changing.{IsChangeRefusal, IsTooMuch}
 use Rattle.session.specs.Changing.{ChangesPages, KeepsListed, written}
 use Rattle.session.specs.Writers.{IsWriter}
 use Rattle.session.specs.declared.transactions.Connections.{Connections}
-use Rattle.session.specs.declared.transactions.Transaction.{Transaction}
-use Rattle.session.specs.declared.transactions.Transaction.TheVariants as transaction
+use Rattle.session.specs.declared.seats.Transaction.{Transaction}
+use Rattle.session.specs.declared.seats.Transaction.TheVariants as transaction
 use Rattle.session.specs.declared.changes.Write.{Write}
 use Rattle.session.proofs.Beginning.{StartsWriting, none_where_idle, writer_begins, writer_stores}
 use Rattle.session.proofs.CommitSteps.{committed_shown}

@@ -5,11 +5,13 @@ ghost use Rattle.std.specs.List.{list_any};
 ghost use Rattle.catalog.specs.Listed.{tables_of};
 ghost use Rattle.sqlval.specs.Names.{is_same_name};
 ghost use Rattle.sqlval.specs.declared.fault.Fault.TheVariants.{Memory};
-ghost use Rattle.session.specs.SavedTables.{changed_to, tables_after};
+ghost use Rattle.session.specs.SavedTables.{changed_to, tables_after, unchanged};
 
-use catalog::{Catalog, Catalogs};
+use catalog::Catalog;
 use sqlval::{Name, R};
 use std::alloc::Global;
+use std::mem;
+use std::rc::Rc;
 
 /// The most savepoints of a transaction.
 const MAX_SAVEPOINTS: usize = 64;
@@ -19,7 +21,7 @@ const MAX_SAVEPOINTS: usize = 64;
 pub struct Savepoint {
     name: Name,
     /// The tables as they were changed after this savepoint and before the next; `None` where they weren't.
-    changed: Option<Catalog>,
+    changed: Option<Rc<Catalog>>,
 }
 
 impl Savepoint {
@@ -33,11 +35,13 @@ impl Savepoint {
     }
 }
 
-/// The tables of the newest commit, those that an open transaction sees, and its savepoints.
+/// The tables that a connection's transaction found committed, those that it sees, and its savepoints.
 #[derive(Drop)]
 pub struct SavedCatalogs {
-    /// What the transaction sees, except for the changes after its first savepoint.
-    catalogs: Catalogs,
+    /// Those of its snapshot. Before it has one they say nothing.
+    committed: Rc<Catalog>,
+    /// The tables as they were changed before the first savepoint; `None` where they weren't.
+    changed: Option<Rc<Catalog>>,
     /// The newest last.
     savepoints: Vec<Savepoint>,
     /// Whether a SAVEPOINT began the transaction.
@@ -45,16 +49,17 @@ pub struct SavedCatalogs {
 }
 
 impl SavedCatalogs {
-    ghost use Rattle.session.specs.SavedTables.{AddsSavepoint, GoesBackTo, HasNoSavepoints, IsNewestNamed, KeepsTables, ReleasesFrom, committed_in, current_in, names_in, savepoints_in};
+    ghost use Rattle.session.specs.SavedTables.{AddsSavepoint, GoesBackTo, HasNoSavepoints, IsNewestNamed, IsUnchanged, KeepsTables, Rebases, ReleasesFrom, committed_in, current_in, names_in, savepoints_in};
 
     /// No transaction has changed the tables, and there is no savepoint.
-    pub fn new(alloc: Global, committed: Catalog) -> SavedCatalogs
-        ensures current { current_in result ≡ tables_of committed }
-        ensures committed { committed_in result ≡ tables_of committed }
+    pub fn new(alloc: Global, committed: Rc<Catalog>) -> SavedCatalogs
+        ensures current { current_in result ≡ tables_of committed.value }
+        ensures committed { committed_in result ≡ tables_of committed.value }
         ensures none { HasNoSavepoints result }
     {
         SavedCatalogs {
-            catalogs: Catalogs::new(committed),
+            committed,
+            changed: None,
             savepoints: Vec::new(alloc),
             began: false,
         }
@@ -64,18 +69,39 @@ impl SavedCatalogs {
     pub fn current(&self) -> &Catalog
         ensures { tables_of result.now ≡ current_in self.now }
     {
-        latest(self.catalogs.current(), &self.savepoints)
+        match &self.changed {
+            Some(changed) => latest(changed, &self.savepoints),
+            None => latest(&self.committed, &self.savepoints),
+        }
+    }
+
+    /// A transaction that has changed no table goes on from these, and so do its savepoints.
+    pub fn rebase(&mut self, newest: Rc<Catalog>)
+        ensures { Rebases (tables_of newest.value) self.old self.new }
+    {
+        self.committed = newest;
+        self.changed = None;
+        self.forget_changes();
+    }
+
+    /// The tables are those at the first savepoint again; the savepoints stay.
+    fn forget_changes(&mut self)
+        ensures { self.new ≡ record self.old { savepoints = record self.old.savepoints { items = map unchanged self.old.savepoints.items } } }
+    {
+        'savepoints: for savepoint in self.savepoints.iter_mut() {
+            savepoint.changed = None;
+        }
     }
 
     /// The transaction sees these tables from now on.
-    pub fn change(&mut self, catalog: Catalog)
-        ensures current { current_in self.new ≡ tables_of catalog }
+    pub fn change(&mut self, catalog: Rc<Catalog>)
+        ensures current { current_in self.new ≡ tables_of catalog.value }
         ensures committed { committed_in self.new ≡ committed_in self.old }
         ensures savepoints { savepoints_in self.new ≡ savepoints_in self.old }
     {
         let count = self.savepoints.len();
         if count == 0 {
-            self.catalogs.change(catalog);
+            self.changed = Some(catalog);
             return;
         }
         self.savepoints[count - 1].changed = Some(catalog);
@@ -172,7 +198,7 @@ impl SavedCatalogs {
     }
 
     /// The transaction sees these tables from now on, where there are some.
-    fn join(&mut self, changed: Option<Catalog>)
+    fn join(&mut self, changed: Option<Rc<Catalog>>)
         ensures current { current_in self.new ≡ changed_to (current_in self.old) changed }
         ensures committed { committed_in self.new ≡ committed_in self.old }
         ensures savepoints { savepoints_in self.new ≡ savepoints_in self.old }
@@ -182,14 +208,17 @@ impl SavedCatalogs {
         }
     }
 
-    /// What the transaction sees is committed, and its savepoints are gone.
-    pub fn commit(&mut self)
-        ensures current { current_in self.new ≡ current_in self.old }
-        ensures committed { committed_in self.new ≡ current_in self.old }
+    /// What the transaction sees are the newest tables, and its savepoints are gone. It keeps those that were the newest.
+    pub fn commit(&mut self, newest: &mut Rc<Catalog>)
+        ensures newest { tables_of newest.new.value ≡ current_in self.old }
+        ensures unchanged { IsUnchanged self.new }
         ensures none { HasNoSavepoints self.new }
     {
         self.release(0);
-        self.catalogs.commit();
+        if let Some(changed) = self.changed.take() {
+            self.committed = changed;
+        }
+        mem::swap(&mut self.committed, newest);
         self.began = false;
     }
 
@@ -200,7 +229,7 @@ impl SavedCatalogs {
         ensures none { HasNoSavepoints self.new }
     {
         self.savepoints.clear();
-        self.catalogs.rollback();
+        self.changed = None;
         self.began = false;
     }
 }

@@ -6,7 +6,7 @@ use Rattle.syntax.specs.declared.statement.Statement.TheVariants as statement
 use Rattle.session.specs.Machine.{Refused, Reply, Rows}
 use Rattle.session.specs.Representation.{StepsTo, done_reply, with_transaction}
 use Rattle.session.specs.declared.transactions.Connections.{Connections}
-use Rattle.session.specs.declared.transactions.Transaction.TheVariants as transaction
+use Rattle.session.specs.declared.seats.Transaction.TheVariants as transaction
 use Rattle.session.proofs.Beginning.{done_refused}
 use Rattle.session.proofs.SavingSteps.{out_of_memory, saved_first, still_so}
 use Rattle.session.proofs.transactions.Connections.begin_savepoint.Goals as goal

@@ -5,7 +5,7 @@ use Rattle.pager.specs.Views.{View, view_at, view_of}
 use Rattle.session.specs.ConnectionState.{files_of}
 use Rattle.session.specs.Representation.{seen_in}
 use Rattle.session.specs.Stored.{ShowsDatabase}
-use Rattle.session.specs.declared.transactions.Transaction.{Transaction}
+use Rattle.session.specs.declared.seats.Transaction.{Transaction}
 use Rattle.session.proofs.SeenPages.{at_newest, not_writing, writer_of}
 use Rattle.session.proofs.transactions.Connections.read.Goals as goal
 

@@ -1,6 +1,6 @@
 use Rattle.std.proofs.Common.{refl}
 use Rattle.session.specs.Representation.{with_transaction}
-use Rattle.session.specs.declared.transactions.Transaction.TheVariants as transaction
+use Rattle.session.specs.declared.seats.Transaction.TheVariants as transaction
 use Rattle.session.proofs.SavingSteps.{saves_writing}
 use Rattle.session.proofs.transactions.Connections.save_writing.Goals as goal
 

@@ -5,7 +5,7 @@ use Rattle.sqlval.specs.declared.fault.Fault.TheVariants as fault
 use Rattle.session.specs.Machine.{Reply}
 use Rattle.session.proofs.Beginning.{done_refused}
 use Rattle.session.specs.Representation.{StepsOn, StepsTo, done_reply, is_idle, with_transaction}
-use Rattle.session.specs.declared.transactions.Transaction.TheVariants as transaction
+use Rattle.session.specs.declared.seats.Transaction.TheVariants as transaction
 use Rattle.session.proofs.Writing.{reading_else, with_own}
 use Rattle.session.proofs.SavingSteps.{out_of_memory, too_many}
 use Rattle.session.proofs.transactions.Connections.savepoint.Goals as goal
