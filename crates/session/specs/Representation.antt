@@ -258,15 +258,10 @@ module _ {D : Type 0} {g : Ghosts D} where
     pub newest : newest_tables new ≡ newest_tables old
     pub trades : Trades (connection - 1) old.parked.items (record { transaction = old.transaction; catalog = old.catalog }) new.parked.items (record { transaction = new.transaction; catalog = new.catalog })
 
-  -- that connection is the present one now, and nothing else has changed
+  -- that connection is the present one now: the one that was is in its seat, and the new one has left its own
   pub record Switches (connection : ℕ) (old new : Connections D g) : Type 0 where
-    pub files : files_of new ≡ files_of old
-    pub failed : has_failed_in new ≡ has_failed_in old
-    pub newest : newest_tables new ≡ newest_tables old
-    pub present : new.connection ≡ connection
-    -- where both have a seat
-    pub parked : 1 ≤ connection → connection ≤ length old.parked.items → 1 ≤ old.connection → old.connection ≤ length old.parked.items → seats_in new ≡ seats_in old
-    pub count : length new.parked.items ≡ length old.parked.items
+    pub same : connection ≡ old.connection → new ≡ old
+    pub other : (connection ≡ old.connection → ⊥) → (mid : Connections D g) × TradesWith old.connection old mid × TradesWith connection (record mid { connection = connection }) new
 
   -- ---- what a statement begins with
 

@@ -22,6 +22,12 @@ module _ {D : Type 0} {g : Ghosts D} where
   is_stale files (transaction.Reading snapshot) = not (seen_by snapshot == (state_of files).frames && size_of snapshot == (state_of files).size)
   is_stale files _ = false
 
+  -- a transaction reads on this snapshot: its own, or the newest where it has none
+  abbrev pub SeesBy : Log D g → Transaction → Snapshot → Type 0
+  SeesBy files (transaction.Reading own) snapshot = snapshot ≡ own
+  SeesBy files (transaction.Writing writer) snapshot = snapshot ≡ snapshot_of writer
+  SeesBy files _ snapshot = IsNewest files snapshot
+
   -- the writer's changes can be committed over the newest commit
   pub record IsWriter (files : Log D g) (writer : Writer) : Type 0 where
     pub newest : IsNewest files (snapshot_of writer)

@@ -73,7 +73,7 @@ fn is_io(fault: &Fault) -> bool
 
 impl<D: Disk + Drop> Connections<D> {
     ghost use Rattle.session.specs.Representation.{AreGivenUp, CommitsBy, IsGivenUp, MayWrite, OnlyReads, RepresentsRunning, SeesNewest, StartsReading, Steps, StepsOn, Switches, TakesNewest, TradesWith, done_reply, first_write_refusal, has_no_snapshot, is_begun, is_idle, is_reading, rows_reply, seen_in, with_transaction};
-    ghost use Rattle.session.specs.Writers.{IsNewest, is_stale};
+    ghost use Rattle.session.specs.Writers.{SeesBy, is_stale};
     ghost use Rattle.session.specs.Seats.{AreFresh, holds_writer};
     ghost use Rattle.session.specs.declared.seats.Transaction.TheVariants as transaction;
     ghost use Rattle.session.specs.Holding.{IsSettled};
@@ -487,11 +487,7 @@ impl<D: Disk + Drop> Connections<D> {
 
     /// The snapshot that a statement reads on, except for the changes of its own transaction.
     fn snapshot(&self) -> Snapshot
-        ensures newest { (m : Machine) → RepresentsRunning self.now m → is_stale (files_of self.now) self.now.transaction ≡ false
-            → IsNewest (files_of self.now) result }
-        ensures sees { (m : Machine) → RepresentsRunning self.now m → SeesBy (files_of self.now) self.now.transaction result }
-        // A transaction that reads goes on with the snapshot that it has.
-        ensures same { (own : Snapshot) → self.now.transaction ≡ transaction.Reading own → result ≡ own }
+        ensures { SeesBy (files_of self.now) self.now.transaction result }
     {
         match &self.transaction {
             Transaction::Idle | Transaction::Begun => self.log.begin(),
