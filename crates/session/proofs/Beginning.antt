@@ -51,6 +51,12 @@ same_stores v w tables db sized long same held = record {
   served = subst (λ n. IsSizeWithinLimits n w.size) (sym sized) (subst (IsSizeWithinLimits v.page_size) (sym long) held.served);
 }
 
+pub no_snapshot_idle : (t : Transaction) → is_idle t ≡ true → has_no_snapshot t ≡ true
+no_snapshot_idle transaction.Idle is = refl
+no_snapshot_idle transaction.Begun is = refl
+no_snapshot_idle (transaction.Reading s) is = absurd (false≢true is)
+no_snapshot_idle (transaction.Writing w) is = absurd (false≢true is)
+
 module _ {D : Type 0} {g : Ghosts D} where
   -- what the newest commit left has a first page
   pub first_there : (c : Connections D g) (m : Machine) (shown : RepresentsRunning c m) (s : Snapshot) → IsNewest (files_of c) s → IsViewPage (view_at (files_of c) s) 1 shown.settled.found.page
@@ -96,12 +102,6 @@ module _ {D : Type 0} {g : Ghosts D} where
   -- the newest tables are those that a transaction without a snapshot sees
   pub newest_listed : (c : Connections D g) (m : Machine) (shown : RepresentsRunning c m) → committed_in c.catalog ≡ newest_tables c → ShowsDatabase (newest_view (files_of c)) (committed_in c.catalog) (newest m)
   newest_listed c m shown same = subst (λ (ts : List Table). ShowsDatabase (newest_view (files_of c)) ts (newest m)) (sym same) shown.stored
-
-  pub no_snapshot_idle : (t : Transaction) → is_idle t ≡ true → has_no_snapshot t ≡ true
-  no_snapshot_idle transaction.Idle is = refl
-  no_snapshot_idle transaction.Begun is = refl
-  no_snapshot_idle (transaction.Reading s) is = absurd (false≢true is)
-  no_snapshot_idle (transaction.Writing w) is = absurd (false≢true is)
 
   -- the writer that begins may commit over the newest commit
   pub writer_begins : (old new : Connections D g) (w : Writer) (s : Snapshot) → StartsWriting old new w s → IsSizeWithinLimits (newest_view (files_of old)).page_size (newest_view (files_of old)).size → IsWriter (files_of new) w

@@ -41,6 +41,16 @@ use Rattle.session.proofs.Marked.{over_on}
 use Rattle.session.proofs.ReadingPhases.{ReadsIn, reads_in}
 use Rattle.session.proofs.Stepping.{by_outcome, commit_outcome_of, instead}
 
+-- a committed database is where it was
+longer : (history : List Database) (db : Database) (i : ℕ) → i < length history → committed_at (history ++ db ∷ []) i ≡ committed_at history i
+longer [] db i within = absurd (omega (arith, within))
+longer (d ∷ history) db zero within = refl
+longer (d ∷ history) db (suc i) within = longer history db i (omega (arith, within))
+
+none_after : (p q : Bool) → (p || q) ≡ false → (p ≡ false) × (q ≡ false)
+none_after true q none = absurd (false≢true (sym none))
+none_after false q none = (refl, none)
+
 module _ {D : Type 0} {g : Ghosts D} where
   -- ---- nothing to commit
 
@@ -73,12 +83,6 @@ module _ {D : Type 0} {g : Ghosts D} where
 
   -- ---- what a commit shows
 
-  -- a committed database is where it was
-  longer : (history : List Database) (db : Database) (i : ℕ) → i < length history → committed_at (history ++ db ∷ []) i ≡ committed_at history i
-  longer [] db i within = absurd (omega (arith, within))
-  longer (d ∷ history) db zero within = refl
-  longer (d ∷ history) db (suc i) within = longer history db i (omega (arith, within))
-
   -- what another connection reads, it reads still
   older_parked : (old new : Log D g) (history : List Database) (db : Database) (catalog : SavedCatalogs) (t : Transaction) (k : Connection) → KeepsSnapshots old new → 1 ≤ length history → is_writing k ≡ false
       → IsTransaction old catalog history t k → IsTransaction new catalog (history ++ db ∷ []) t k
@@ -98,10 +102,6 @@ module _ {D : Type 0} {g : Ghosts D} where
         },
       )
   older_parked old new history db catalog (transaction.Writing w) k keeps some not is = absurd (false≢true (sym not ∙ ap is_writing is.is))
-
-  none_after : (p q : Bool) → (p || q) ≡ false → (p ≡ false) × (q ≡ false)
-  none_after true q none = absurd (false≢true (sym none))
-  none_after false q none = (refl, none)
 
   all_older : (old new : Log D g) (history : List Database) (db : Database) (ss : List Seat) (ks : List Connection) → KeepsSnapshots old new → 1 ≤ length history → list_any is_writing ks ≡ false
       → AreParked old history ss ks → AreParked new (history ++ db ∷ []) ss ks

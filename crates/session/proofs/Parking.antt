@@ -79,25 +79,22 @@ one_kept [] (suc i) k not one = tt
 one_kept (j ∷ ks) zero k not one = (λ is. absurd (false≢true (sym not ∙ is)), one.1)
 one_kept (j ∷ ks) (suc i) k not one = (λ is. any_set ks i k not (one.0 is), one_kept ks i k not one.1)
 
+some_writes : (ks : List Connection) (i : ℕ) → is_writing (unwrap_or (slice_get ks i) Idle) ≡ true → list_any is_writing ks ≡ false → ⊥
+some_writes [] zero is none = false≢true is
+some_writes [] (suc i) is none = false≢true is
+some_writes (k ∷ ks) zero is none = false≢true (sym (none_first (is_writing k) (list_any is_writing ks) none) ∙ is)
+some_writes (k ∷ ks) (suc i) is none = some_writes ks i is (none_after (is_writing k) (list_any is_writing ks) none)
+
 -- where one writes, no other does
 pub sole_is : (ks : List Connection) (i : ℕ) → HaveOneWriter ks → is_writing (unwrap_or (slice_get ks i) Idle) ≡ true → list_any is_writing (slice_set ks i Idle) ≡ false
 sole_is [] zero one is = refl
 sole_is [] (suc i) one is = refl
 sole_is (k ∷ ks) zero one is = one.0 is
-sole_is (k ∷ ks) (suc i) one is = by_first (is_writing k) refl
+sole_is (k ∷ ks) (suc i) one is = by_first (sole_is ks i one.1 is) (is_writing k) refl
   where
-    rest : list_any is_writing (slice_set ks i Idle) ≡ false
-    rest = sole_is ks i one.1 is
-
-    some_writes : (ks : List Connection) (i : ℕ) → is_writing (unwrap_or (slice_get ks i) Idle) ≡ true → list_any is_writing ks ≡ false → ⊥
-    some_writes [] zero is none = false≢true is
-    some_writes [] (suc i) is none = false≢true is
-    some_writes (k ∷ ks) zero is none = false≢true (sym (none_first (is_writing k) (list_any is_writing ks) none) ∙ is)
-    some_writes (k ∷ ks) (suc i) is none = some_writes ks i is (none_after (is_writing k) (list_any is_writing ks) none)
-
-    by_first : (b : Bool) → is_writing k ≡ b → list_any is_writing (k ∷ slice_set ks i Idle) ≡ false
-    by_first true here = absurd (some_writes ks i is (one.0 here))
-    by_first false here = ap (λ b. b || list_any is_writing (slice_set ks i Idle)) here ∙ rest
+    by_first : list_any is_writing (slice_set ks i Idle) ≡ false → (b : Bool) → is_writing k ≡ b → list_any is_writing (k ∷ slice_set ks i Idle) ≡ false
+    by_first rest true here = absurd (some_writes ks i is (one.0 here))
+    by_first rest false here = ap (λ b. b || list_any is_writing (slice_set ks i Idle)) here ∙ rest
 
 module _ {D : Type 0} {g : Ghosts D} where
   -- ---- seats

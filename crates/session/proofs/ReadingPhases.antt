@@ -52,7 +52,7 @@ pub record IsNewestPhase (m : Machine) (n : ℕ) (phase : Phase) : Type 0 where
 begun_newest : (m : Machine) (n : ℕ) → IsNewestPhase m n NoSnapshot
 begun_newest m n = record { writes = λ b ss work. refl }
 
-last_newest : (m : Machine) (n : ℕ) → IsNewestPhase m n (Reads (last_place m))
+pub last_newest : (m : Machine) (n : ℕ) → IsNewestPhase m n (Reads (last_place m))
 last_newest m n = record { writes = λ b ss work. ap (λ t. if t then unless_busy m n (worked m n b ss (last_place m) (work (newest m))) else RefusedBy (StaleSnapshot ∷ [])) (itself (last_place m)) }
 
 -- a write on an older one is refused

@@ -10,7 +10,7 @@ use Rattle.catalog.specs.Database.{Name}
 use Rattle.catalog.specs.Listed.{tables_of}
 use Rattle.catalog.specs.declared.tables.Catalog.{Catalog}
 use Rattle.catalog.specs.declared.tables.Table.{Table}
-use Rattle.session.specs.SavedTables.{AddsSavepoint, GoesBackTo, IsNewestNamed, ReleasesFrom, SavedTables, Savepoints, changed_to, committed_in, current_in, first_in, rebased, saved_after, savepoints_in, tables_after, unchanged}
+use Rattle.session.specs.SavedTables.{AddsSavepoint, GoesBackTo, IsNewestNamed, Rebases, ReleasesFrom, SavedTables, Savepoints, changed_to, committed_in, current_in, first_in, rebased, saved_after, savepoints_in, tables_after, unchanged}
 use Rattle.session.specs.declared.savepoints.SavedCatalogs.{SavedCatalogs}
 use Rattle.session.specs.declared.savepoints.Savepoint.{Savepoint}
 
@@ -193,3 +193,39 @@ after_unchanged ts (s ∷ ss) = after_unchanged ts ss
 pub saved_unchanged : (base ts : List Table) (ss : List Savepoint) → saved_after ts (map unchanged ss) ≡ map (λ (p : SavedTables). record { name = p.name; tables = ts }) (saved_after base ss)
 saved_unchanged base ts [] = refl
 saved_unchanged base ts (s ∷ ss) = ap (λ (ps : List SavedTables). saved_of s.name ts ∷ ps) (saved_unchanged (changed_to base s.changed) ts ss)
+
+pub rebased_is : (old new : SavedCatalogs) (newest : Rc Catalog Global) → new.committed ≡ newest → new.changed ≡ None → new.began ≡ old.began → new.savepoints.items ≡ map unchanged old.savepoints.items → Rebases (tables_of newest.value) old new
+rebased_is old new newest committed changed began items =
+    let ts = tables_of newest.value in
+    let first : first_in new ≡ ts = ap (changed_to (committed_in new)) changed ∙ ap (λ (c : Rc Catalog Global). tables_of c.value) committed in
+    record {
+      current = ap (λ (xs : List Table). tables_after xs new.savepoints.items) first ∙ ap (tables_after ts) items ∙ after_unchanged ts old.savepoints.items;
+      committed = ap (λ (c : Rc Catalog Global). tables_of c.value) committed;
+      savepoints = ap (λ b. kept_as b (saved_after (first_in new) new.savepoints.items)) began
+          ∙ ap (λ (xs : List Table). kept_as old.began (saved_after xs new.savepoints.items)) first
+          ∙ ap (λ (ss : List Savepoint). kept_as old.began (saved_after ts ss)) items
+          ∙ ap (kept_as old.began) (saved_unchanged (first_in old) ts old.savepoints.items);
+    }
+
+set_next : (xs : List Savepoint) (i : ℕ) (d : Savepoint) → i < length (take i (map unchanged xs) ++ drop i xs)
+    → set (take i (map unchanged xs) ++ drop i xs) i (unchanged (get_or (take i (map unchanged xs) ++ drop i xs) i d)) ≡ take (suc i) (map unchanged xs) ++ drop (suc i) xs
+set_next [] zero d within = absurd (omega (arith, within))
+set_next [] (suc i) d within = absurd (omega (arith, within))
+set_next (x ∷ xs) zero d within = refl
+set_next (x ∷ xs) (suc i) d within = ap (λ (ss : List Savepoint). unchanged x ∷ ss) (set_next xs i d (omega (arith, within)))
+
+-- a loop over savepoints that forgets the changes of each
+pub forgets_next : (xs items : List Savepoint) (i : ℕ) (d : Savepoint) → i < length items → items ≡ take i (map unchanged xs) ++ drop i xs → set items i (unchanged (get_or items i d)) ≡ take (i + 1) (map unchanged xs) ++ drop (i + 1) xs
+forgets_next xs items i d within is = ap (λ (ss : List Savepoint). set ss i (unchanged (get_or ss i d))) is ∙ set_next xs i d (omega (arith, within, ap length is))
+    ∙ ap (λ k. take k (map unchanged xs) ++ drop k xs) (let next : suc i ≡ i + 1 = omega arith in next)
+
+-- ---- no savepoints
+
+pub items_none : (s : SavedCatalogs) → (savepoints_in s).points ≡ [] → s.savepoints.items ≡ []
+items_none s none = nil_from_length s.savepoints.items (sym (saved_so s) ∙ ap length none)
+
+pub unchanged_so : (s : SavedCatalogs) → s.changed ≡ None → s.savepoints.items ≡ [] → current_in s ≡ committed_in s
+unchanged_so s changed items = ap (λ (ts : List Table). tables_after ts s.savepoints.items) (ap (changed_to (committed_in s)) changed) ∙ ap (tables_after (committed_in s)) items
+
+pub none_so : (s : SavedCatalogs) → s.began ≡ false → s.savepoints.items ≡ [] → savepoints_in s ≡ record { began = false; points = [] }
+none_so s began items = ap (λ b. kept_as b (saved_after (first_in s) s.savepoints.items)) began ∙ ap (λ (ss : List Savepoint). kept_as false (saved_after (first_in s) ss)) items

@@ -67,6 +67,16 @@ in_range n m sixteen is = (let within = numbers_within n is in omega (arith, six
     numbers_within : (n : ℕ) → is_connection n ≡ true → (1 ≤ n) × (n ≤ 16)
     numbers_within n is = grind (arith, nat_tests)
 
+-- the connection may be so: it doesn't write, or no other does
+abbrev pub IsLone : Machine → ℕ → Connection → Type 0
+IsLone m n k = (is_writing k ≡ false) ⊎ (another is_writing m n ≡ false)
+
+pub lone_set : (m : Machine) (n : ℕ) (k : Connection) → HaveOneWriter m.connections → IsLone m n k → HaveOneWriter (with_connection m n k).connections
+lone_set m n k one (inl not) = one_kept m.connections (n - 1) k not one
+lone_set m n k one (inr none) = one_set m.connections (n - 1) k none
+
+-- ---- the machine after a statement that commits nothing
+
 module _ {D : Type 0} {g : Ghosts D} where
   -- ---- what the present connection is
 
@@ -168,19 +178,9 @@ module _ {D : Type 0} {g : Ghosts D} where
 
   -- ---- one writer
 
-  -- the connection may be so: it doesn't write, or no other does
-  abbrev pub IsLone : Machine → ℕ → Connection → Type 0
-  IsLone m n k = (is_writing k ≡ false) ⊎ (another is_writing m n ≡ false)
-
   -- one that writes may go on
   pub lone_still : (c : Connections D g) (m : Machine) (shown : RepresentsRunning c m) → is_writing shown.present ≡ true → another is_writing m c.connection ≡ false
   lone_still c m shown is = sole_is m.connections (c.connection - 1) shown.sole (ap is_writing shown.is ∙ is)
-
-  pub lone_set : (m : Machine) (n : ℕ) (k : Connection) → HaveOneWriter m.connections → IsLone m n k → HaveOneWriter (with_connection m n k).connections
-  lone_set m n k one (inl not) = one_kept m.connections (n - 1) k not one
-  lone_set m n k one (inr none) = one_set m.connections (n - 1) k none
-
-  -- ---- the machine after a statement that commits nothing
 
   pub moved : (old new : Connections D g) (m : Machine) (k : Connection) (shown : RepresentsRunning old m) → ShowTheSame (files_of old) (files_of new) → beside_in new ≡ beside_in old → IsLone m old.connection k
       → IsTransaction (files_of new) new.catalog m.history new.transaction k → RepresentsRunning new (with_connection m old.connection k)

@@ -35,6 +35,34 @@ use Rattle.session.proofs.Showing.{in_range, stays, the_same}
 abbrev rebased_point : List Table → SavedAs ⊤ → SavedAs ⊤
 rebased_point tables p = record { state = p.state; tables = record { name = p.tables.name; tables = tables }; kept = p.kept }
 
+equal_numbers : (a b : ℕ) → (a == b) ≡ true → a ≡ b
+equal_numbers a b is = grind (arith, nat_tests)
+
+other_numbers : (a b : ℕ) → (a == b) ≡ false → a ≡ b → ⊥
+other_numbers a b is e = grind (arith, nat_tests)
+
+either_case : {P : Type 0} (a b : ℕ) → (a ≡ b → P) → ((a ≡ b → ⊥) → P) → P
+either_case {P = P} a b same other = by_test (a == b) refl
+  where
+    by_test : (t : Bool) → (a == b) ≡ t → P
+    by_test true is = same (equal_numbers a b is)
+    by_test false is = other (other_numbers a b is)
+
+in_seat : (x : Option Seat) (s : Seat) → x ≡ Some s → s.transaction ≡ unwrap_or (option_map (λ (r : Seat). r.transaction) x) transaction.Idle
+in_seat x s is = sym (ap (λ (y : Option Seat). unwrap_or (option_map (λ (r : Seat). r.transaction) y) transaction.Idle) is)
+
+states_same : (tables : List Table) (points : List (SavedAs ⊤)) → map (λ p. p.state) (map (rebased_point tables) points) ≡ map (λ p. p.state) points
+states_same tables [] = refl
+states_same tables (p ∷ ps) = ap (λ ss. p.state ∷ ss) (states_same tables ps)
+
+tables_same : (tables : List Table) (points : List (SavedAs ⊤)) → map (λ (p : SavedTables). record { name = p.name; tables = tables }) (map (λ p. p.tables) points) ≡ map (λ p. p.tables) (map (rebased_point tables) points)
+tables_same tables [] = refl
+tables_same tables (p ∷ ps) = ap (λ (ss : List SavedTables). record { name = p.tables.name; tables = tables } ∷ ss) (tables_same tables ps)
+
+all_unwritten : (old tables new : List Table) (points : List (SavedAs ⊤)) → tables ≡ new → AllByRecursion (IsUnwritten old) points → AllByRecursion (IsUnwritten new) (map (rebased_point tables) points)
+all_unwritten old tables new [] same all = tt
+all_unwritten old tables new (p ∷ ps) same all = (record { named = all.0.named; working = all.0.working; tables = same }, all_unwritten old tables new ps same all.1)
+
 module _ {D : Type 0} {g : Ghosts D} where
   -- ---- the present connection
 
@@ -102,19 +130,6 @@ module _ {D : Type 0} {g : Ghosts D} where
           (ap (λ (x : Option Connection). unwrap_or x Idle) (get_set m.connections (old.connection - 1) Idle (in_range old.connection m shown.sixteen shown.numbered)))
           (parked_get (files_of old) m.history old.parked.items (slice_set m.connections (old.connection - 1) Idle) (old.connection - 1) (present_seat mid) shown.parked (first.trades.got (there old.connection shown.numbered)))
 
-  either_case : {P : Type 0} (a b : ℕ) → (a ≡ b → P) → ((a ≡ b → ⊥) → P) → P
-  either_case a b same other = by_test (a == b) refl
-    where
-      by_test : (t : Bool) → (a == b) ≡ t → _
-      by_test true is = same (equal a b is)
-        where
-          equal : (a b : ℕ) → (a == b) ≡ true → a ≡ b
-          equal a b is = grind (arith, nat_tests)
-      by_test false is = other (λ e. unequal a b is e)
-        where
-          unequal : (a b : ℕ) → (a == b) ≡ false → a ≡ b → ⊥
-          unequal a b is e = grind (arith, nat_tests)
-
   pub switched_shown : (n : ℕ) (old new : Connections D g) (m : Machine) → is_connection n ≡ true → Switches n old new → RepresentsRunning old m → RepresentsRunning new m
   switched_shown n old new m is switch shown = either_case n old.connection
       (λ same. subst (λ (c : Connections D g). RepresentsRunning c m) (sym (switch.same same)) shown)
@@ -126,9 +141,6 @@ module _ {D : Type 0} {g : Ghosts D} where
     pub failed : has_failed_in new ≡ has_failed_in old
     pub number : new.connection ≡ n
     pub transaction : 1 ≤ n → n ≤ length old.parked.items → 1 ≤ old.connection → old.connection ≤ length old.parked.items → new.transaction ≡ transaction_of old n
-
-  in_seat : (x : Option Seat) (s : Seat) → x ≡ Some s → s.transaction ≡ unwrap_or (option_map (λ (r : Seat). r.transaction) x) transaction.Idle
-  in_seat x s is = sym (ap (λ (y : Option Seat). unwrap_or (option_map (λ (r : Seat). r.transaction) y) transaction.Idle) is)
 
   pub was_present : (n : ℕ) (old new : Connections D g) → Switches n old new → WasPresent n old new
   was_present n old new switch = either_case n old.connection
@@ -176,18 +188,6 @@ module _ {D : Type 0} {g : Ghosts D} where
       }
 
   -- ---- the newest tables
-
-  states_same : (tables : List Table) (points : List (SavedAs ⊤)) → map (λ p. p.state) (map (rebased_point tables) points) ≡ map (λ p. p.state) points
-  states_same tables [] = refl
-  states_same tables (p ∷ ps) = ap (λ ss. p.state ∷ ss) (states_same tables ps)
-
-  tables_same : (tables : List Table) (points : List (SavedAs ⊤)) → map (λ (p : SavedTables). record { name = p.name; tables = tables }) (map (λ p. p.tables) points) ≡ map (λ p. p.tables) (map (rebased_point tables) points)
-  tables_same tables [] = refl
-  tables_same tables (p ∷ ps) = ap (λ (ss : List SavedTables). record { name = p.tables.name; tables = tables } ∷ ss) (tables_same tables ps)
-
-  all_unwritten : (old tables new : List Table) (points : List (SavedAs ⊤)) → tables ≡ new → AllByRecursion (IsUnwritten old) points → AllByRecursion (IsUnwritten new) (map (rebased_point tables) points)
-  all_unwritten old tables new [] same all = tt
-  all_unwritten old tables new (p ∷ ps) same all = (record { named = all.0.named; working = all.0.working; tables = same }, all_unwritten old tables new ps same all.1)
 
   taken_transaction : (files : Log D g) (old new : SavedCatalogs) (history : List Database) (tables : List Table) (t : Transaction) (k : Connection) → has_no_snapshot t ≡ true → Rebases tables old new → IsTransaction files old history t k → IsTransaction files new history t k
   taken_transaction files old new history tables transaction.Idle k none takes is = (

@@ -35,6 +35,15 @@ may_commit statement.Commit = true
 may_commit (statement.Release name) = true
 may_commit _ = false
 
+-- whether a statement of a connection in this transaction may take memory
+abbrev pub may_want_memory : Transaction → Statement → Bool
+may_want_memory t (statement.Begin mode) = is_immediate mode
+may_want_memory t statement.Commit = has_written t
+may_want_memory t statement.Rollback = false
+may_want_memory t (statement.Release name) = has_written t
+may_want_memory t (statement.RollbackTo name) = false
+may_want_memory t _ = true
+
 module _ {D : Type 0} {g : Ghosts D} where
   -- a call of one of the two disks has failed, as their counts say
   abbrev pub HasCallFailed : Log D g → Log D g → Type 0
@@ -49,15 +58,6 @@ module _ {D : Type 0} {g : Ghosts D} where
   pub record MarksFailure {T : Type 0} (result : Result T Fault) (old new : Connections D g) : Type 0 where
     pub marked : IsFalse (has_failed_in old) → IsTrue (has_failed_in new) → (result ≡ Err fault.Io) × HasCallFailed (files_of old) (files_of new)
     pub unmarked : result ≡ Err fault.Io → IsFalse (has_failed_in new) → Tells (files_of old) → ShowTheSame (files_of old) (files_of new)
-
-  -- whether a statement of a connection in this transaction may take memory
-  abbrev pub may_want_memory : Transaction → Statement → Bool
-  may_want_memory t (statement.Begin mode) = is_immediate mode
-  may_want_memory t statement.Commit = has_written t
-  may_want_memory t statement.Rollback = false
-  may_want_memory t (statement.Release name) = has_written t
-  may_want_memory t (statement.RollbackTo name) = false
-  may_want_memory t _ = true
 
   -- this transaction has written, and what its commit would write is past the limits
   abbrev pub IsPastIn : Log D g → Transaction → Type 0

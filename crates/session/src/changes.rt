@@ -21,7 +21,6 @@ use disk::Disk;
 use pager::{Writer, Writing};
 use sqlval::{Name, R, Text};
 use std::alloc::Global;
-use std::rc::Rc;
 use syntax::{
     Change, Create, Delete, Insert, NewObject, ObjectKind, Statement, TableDefinition, Update,
 };
@@ -190,7 +189,7 @@ fn create_table<D: Disk + Drop>(
     ensures noted { OnOk result (IsTrue (makes_objects writer.new)) }
 {
     let made = create_pages(alloc, log, buffer, catalog, writer, sql, table)?;
-    catalog.change(Rc::new(alloc, made)?);
+    catalog.change_to(alloc, made)?;
     writer.note_schema();
     Ok(())
 }
@@ -242,7 +241,7 @@ fn drop_object<D: Disk + Drop>(
     ensures noted { OnOk result (IsTrue (makes_objects writer.new)) }
 {
     let left = drop_pages(alloc, log, buffer, catalog, writer, kind, name)?;
-    catalog.change(Rc::new(alloc, left)?);
+    catalog.change_to(alloc, left)?;
     writer.note_schema();
     Ok(())
 }

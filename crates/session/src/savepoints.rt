@@ -1,6 +1,6 @@
 //! The tables that a transaction sees, and its savepoints, each with the tables to which it goes back.
 
-ghost use Rattle.std.specs.Prelude.{◌≡◌, ◌<◌, ◌≤◌, ◌-◌, ◌==◌, ◌&&◌, length, map, nat_lt, IfErr, IfNone, IfSome, OnOk, true, false};
+ghost use Rattle.std.specs.Prelude.{◌≡◌, ◌<◌, ◌≤◌, ◌-◌, ◌==◌, ◌&&◌, length, map, nat_lt, IfErr, IfNone, IfSome, None, OnOk, true, false};
 ghost use Rattle.std.specs.List.{list_any};
 ghost use Rattle.catalog.specs.Listed.{tables_of};
 ghost use Rattle.sqlval.specs.Names.{is_same_name};
@@ -49,7 +49,7 @@ pub struct SavedCatalogs {
 }
 
 impl SavedCatalogs {
-    ghost use Rattle.session.specs.SavedTables.{AddsSavepoint, GoesBackTo, HasNoSavepoints, IsNewestNamed, IsUnchanged, KeepsTables, Rebases, ReleasesFrom, committed_in, current_in, names_in, savepoints_in};
+    ghost use Rattle.session.specs.SavedTables.{AddsSavepoint, GoesBackTo, HasNoSavepoints, IsNewestNamed, IsUnchanged, KeepsTables, Rebases, ReleasesFrom, committed_in, current_in, first_in, names_in, savepoints_in};
 
     /// No transaction has changed the tables, and there is no savepoint.
     pub fn new(alloc: Global, committed: Rc<Catalog>) -> SavedCatalogs
@@ -86,15 +86,28 @@ impl SavedCatalogs {
 
     /// The tables are those at the first savepoint again; the savepoints stay.
     fn forget_changes(&mut self)
-        ensures { self.new ≡ record self.old { savepoints = record self.old.savepoints { items = map unchanged self.old.savepoints.items } } }
+        ensures items { self.new.savepoints.items ≡ map unchanged self.old.savepoints.items }
+        ensures rest { (self.new.committed ≡ self.old.committed) × (self.new.changed ≡ self.old.changed) × (self.new.began ≡ self.old.began) }
     {
         'savepoints: for savepoint in self.savepoints.iter_mut() {
             savepoint.changed = None;
         }
     }
 
+    /// The transaction sees these tables from now on. An `Err` changes nothing. (`Memory` alone.)
+    pub fn change_to(&mut self, alloc: Global, tables: Catalog) -> R<()>
+        ensures current { OnOk result (current_in self.new ≡ tables_of tables) }
+        ensures committed { committed_in self.new ≡ committed_in self.old }
+        ensures savepoints { savepoints_in self.new ≡ savepoints_in self.old }
+        ensures refused { IfErr result (λ fault. (fault ≡ Memory) × (self.new ≡ self.old)) }
+    {
+        let shared = Rc::new(alloc, tables)?;
+        self.change(shared);
+        Ok(())
+    }
+
     /// The transaction sees these tables from now on.
-    pub fn change(&mut self, catalog: Rc<Catalog>)
+    fn change(&mut self, catalog: Rc<Catalog>)
         ensures current { current_in self.new ≡ tables_of catalog.value }
         ensures committed { committed_in self.new ≡ committed_in self.old }
         ensures savepoints { savepoints_in self.new ≡ savepoints_in self.old }
@@ -215,11 +228,20 @@ impl SavedCatalogs {
         ensures none { HasNoSavepoints self.new }
     {
         self.release(0);
+        self.settle_changes();
+        mem::swap(&mut self.committed, newest);
+        self.began = false;
+    }
+
+    /// The tables that were changed before the first savepoint are those that the transaction goes on from.
+    fn settle_changes(&mut self)
+        ensures committed { committed_in self.new ≡ first_in self.old }
+        ensures unchanged { self.new.changed ≡ None }
+        ensures savepoints { self.new.savepoints ≡ self.old.savepoints }
+    {
         if let Some(changed) = self.changed.take() {
             self.committed = changed;
         }
-        mem::swap(&mut self.committed, newest);
-        self.began = false;
     }
 
     /// What the transaction has made and dropped is given up, with its savepoints.

@@ -1,4 +1,5 @@
-use Rattle.std.proofs.Common.{refl, ◌∙◌, ap}
+use Rattle.std.proofs.Common.{refl, ◌∙◌, ap, Bool}
+use Rattle.session.specs.Representation.{Beside, beside_in}
 use Rattle.std.specs.Prelude.{◌||◌}
 use Rattle.session.specs.SavedTables.{current_in}
 use Rattle.session.proofs.transactions.Connections.commit_writer.Goals as goal

@@ -6,7 +6,9 @@ use Rattle.session.specs.Machine.{Reply}
 use Rattle.session.specs.Representation.{StepsTo}
 use Rattle.session.proofs.Beginning.{done_refused, first_there}
 use Rattle.session.proofs.Marked.{moved_on, under_mark}
+use Rattle.session.proofs.ReadingPhases.{newest_by}
 use Rattle.session.proofs.Showing.{read_files}
+use Rattle.session.specs.ConnectionState.{files_of}
 use Rattle.session.proofs.Writing.{begun_refused, begun_writes, not_begun, opens_reading}
 use Rattle.session.proofs.transactions.Connections.start_writing.Goals as goal
 
