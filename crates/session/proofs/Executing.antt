@@ -18,8 +18,9 @@ use Rattle.wal.specs.declared.log.Log.{Log}
 use Rattle.session.specs.ConnectionState.{files_of, first_refusal, has_failed_in}
 use Rattle.session.specs.Machine.{Machine, Reply, Refused}
 use Rattle.session.specs.Steps.{is_connection}
-use Rattle.session.specs.Failing.{IsPastIn, IsRefusedFor, IsRefusedHere, may_want_memory}
-use Rattle.session.specs.Representation.{CannotStoreIn, Represents, Steps, StepsOn, StepsOver, Switches, done_reply, rows_reply}
+use Rattle.pager.specs.Views.{Tells}
+use Rattle.session.specs.Failing.{HasCallFailed, IsPastIn, IsRefusedFor, IsRefusedHere, MarksFailure, may_want_memory}
+use Rattle.session.specs.Representation.{CannotStoreIn, Represents, ShowTheSame, Steps, StepsOn, StepsOver, Switches, done_reply, rows_reply}
 use Rattle.session.specs.declared.transactions.Connections.{Connections}
 use Rattle.session.proofs.Selecting.{Rowed}
 use Rattle.session.proofs.Settled.{as_shown}
@@ -144,4 +145,13 @@ module _ {D : Type 0} {g : Ghosts D} where
             let on = served_for old m n is (inr shown) in
             subst (λ (t : Transaction). IsPastIn (files_of old) t) same
             (subst (λ (l : Log D g). IsPastIn l mid.transaction) was.files (refused.full m (switched_shown n old mid m on.1 switch shown) commit full));
+      }
+
+  -- the engine is marked by what failed after it
+  pub marks_switched : {T : Type 0} (old mid new : Connections D g) (n : ℕ) (result : Result T Fault) → Switches n old mid → MarksFailure result mid new → MarksFailure result old new
+  marks_switched old mid new n result switch marks =
+      let was = was_present n old mid switch in
+      record {
+        marked = λ whole failed. (let is = marks.marked (was.failed ∙ whole) failed in (is.0, subst (λ (l : Log D g). HasCallFailed l (files_of new)) was.files is.1));
+        unmarked = λ io whole told. subst (λ (l : Log D g). ShowTheSame l (files_of new)) was.files (marks.unmarked io whole (subst Tells (sym was.files) told));
       }

@@ -202,7 +202,7 @@ module _ {D : Type 0} {g : Ghosts D} where
           let newest_s = still_newest (files_of mid) (files_of new) begun.0 same_files begun.2 in
           let stored : ShowsDatabase (newest_view (files_of new)) (committed_in new.catalog) (newest m) =
           subst (λ (v : View). ShowsDatabase v (committed_in new.catalog) (newest m)) (sym whole.newest)
-              (subst (λ (ts : List Table). ShowsDatabase (newest_view (files_of old)) ts (newest m)) (sym (ap committed_in (starts.catalog ∙ reads.catalog) ∙ same)) shown.stored) in
+          (subst (λ (ts : List Table). ShowsDatabase (newest_view (files_of old)) ts (newest m)) (sym (ap committed_in (starts.catalog ∙ reads.catalog) ∙ same)) shown.stored) in
           let seen : IsSnapshotOf (files_of new) (committed_in new.catalog) m.history (last_place m) begun.0 = record {
             shows = subst (λ (v : View). ShowsDatabase v (committed_in new.catalog) (newest m)) (sym (at_newest (files_of new) begun.0 newest_s)) stored;
             age = inl (refl, newest_s);

@@ -1,7 +1,6 @@
 -- The seats of the connections, each with its transaction and the tables of it (Isolation In SQLite).
 use Rattle.std.specs.Prelude.{◌≡◌, ◌<◌, ◌≤◌, ℕ, Bool, true, false, List, length, Some, slice_get, slice_set}
 use Rattle.std.specs.List.{AllByRecursion}
-use Rattle.catalog.specs.Listed.{tables_of}
 use Rattle.catalog.specs.declared.tables.Catalog.{Catalog}
 use Rattle.session.specs.SavedTables.{HasNoSavepoints, IsUnchanged}
 use Rattle.session.specs.declared.seats.Seat.{Seat}
@@ -30,9 +29,12 @@ pub record Trades (place : ℕ) (old : List Seat) (given : Seat) (new : List Sea
   pub got : place < length old → slice_get old place ≡ Some left
   pub stays : length old ≤ place → (new ≡ old) × (left ≡ given)
 
--- sixteen connections without transactions, of a database of these tables
-pub record AreFresh (tables : Catalog) (seats : Seats) : Type 0 where
-  pub newest : tables_of seats.newest.value ≡ tables_of tables
+-- the tables of the newest commit
+abbrev pub catalog_in : Seats → Catalog
+catalog_in seats = seats.newest.value
+
+-- sixteen connections without transactions
+pub record AreFresh (seats : Seats) : Type 0 where
   pub all : IsUnchanged seats.catalog
   pub savepoints : HasNoSavepoints seats.catalog
   pub idle : AllByRecursion IsIdleSeat seats.parked.items

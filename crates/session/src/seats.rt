@@ -145,11 +145,12 @@ pub struct Seats {
 }
 
 impl Seats {
-    ghost use Rattle.session.specs.Seats.{AreFresh};
+    ghost use Rattle.session.specs.Seats.{AreFresh, catalog_in};
 
     /// Sixteen idle connections of a database of these tables. (`Memory` alone.)
     pub fn new(alloc: Global, tables: Catalog) -> R<Seats>
-        ensures fresh { IfOk result (AreFresh tables) }
+        ensures fresh { IfOk result AreFresh }
+        ensures tables { IfOk result (λ seats. catalog_in seats ≡ tables) }
         ensures refused { IfErr result (λ fault. fault ≡ Memory) }
     {
         let newest = Rc::new(alloc, tables)?;

@@ -4,7 +4,6 @@ ghost use Rattle.std.specs.List.{list_any};
 ghost use Rattle.std.specs.Prelude.{◌≡◌, map, OnOk, Ok, Err, IfErr, true, false, IsTrue, IsFalse};
 ghost use Rattle.sqlval.specs.declared.fault.Fault.TheVariants.{Memory};
 ghost use Rattle.pager.specs.Marks.{IsOverTheSame, marks_of, now_of};
-ghost use Rattle.catalog.specs.declared.tables.Catalog.{Catalog};
 ghost use Rattle.pager.specs.Views.{Tells, newest_view};
 ghost use Rattle.storage.specs.Reading.{AnswersRead};
 ghost use Rattle.rowprog.specs.Rows.{values_of};
@@ -74,7 +73,7 @@ fn is_io(fault: &Fault) -> bool
 impl<D: Disk + Drop> Connections<D> {
     ghost use Rattle.session.specs.Representation.{AreGivenUp, CommitsBy, IsGivenUp, MayWrite, OnlyReads, RepresentsRunning, SeesNewest, StartsReading, Steps, StepsOn, Switches, TakesNewest, TradesWith, done_reply, first_write_refusal, has_no_snapshot, is_begun, is_idle, is_reading, rows_reply, seen_in, with_transaction};
     ghost use Rattle.session.specs.Writers.{SeesBy, is_stale};
-    ghost use Rattle.session.specs.Seats.{AreFresh, holds_writer};
+    ghost use Rattle.session.specs.Seats.{AreFresh, catalog_in, holds_writer};
     ghost use Rattle.session.specs.declared.seats.Transaction.TheVariants as transaction;
     ghost use Rattle.session.specs.Holding.{IsSettled};
     ghost use Rattle.session.specs.Machine.{Machine, fresh};
@@ -87,8 +86,8 @@ impl<D: Disk + Drop> Connections<D> {
         ensures files { files_of result ≡ log }
         ensures whole { IsFalse (has_failed_in result) }
         // Where the files hold a database and the catalog lists its tables, the connections represent its machine.
-        ensures shown { (db : Database) (tables : Catalog) → Tells log → IsSettled log → AreFresh tables seats
-            → ShowsDatabase (newest_view log) (tables_of tables) db → RepresentsRunning result (fresh db) }
+        ensures shown { (db : Database) → Tells log → IsSettled log → AreFresh seats
+            → ShowsDatabase (newest_view log) (tables_of (catalog_in seats)) db → RepresentsRunning result (fresh db) }
     {
         let Seats {
             newest,
@@ -185,7 +184,12 @@ impl<D: Disk + Drop> Connections<D> {
         ensures { TradesWith connection self.old self.new }
     {
         let place = connection.saturating_sub(1) as usize;
-        trade(&mut self.parked, place, &mut self.transaction, &mut self.catalog);
+        trade(
+            &mut self.parked,
+            place,
+            &mut self.transaction,
+            &mut self.catalog,
+        );
     }
 
     /// Whether another connection has the write right.
@@ -211,10 +215,7 @@ impl<D: Disk + Drop> Connections<D> {
     fn has_no_snapshot(&self) -> bool
         ensures { result ≡ has_no_snapshot self.now.transaction }
     {
-        matches!(
-            &self.transaction,
-            Transaction::Idle | Transaction::Begun
-        )
+        matches!(&self.transaction, Transaction::Idle | Transaction::Begun)
     }
 
     /// Executes a statement of the present connection.

@@ -1,7 +1,7 @@
 use Rattle.std.proofs.Common.{◌≡◌, sym, ap, subst}
 use Rattle.session.specs.Machine.{Reply}
 use Rattle.session.specs.Representation.{Steps, rows_reply}
-use Rattle.session.proofs.Executing.{refused_switched, steps_switched, unsupported_form}
+use Rattle.session.proofs.Executing.{marks_switched, refused_switched, steps_switched, unsupported_form}
 use Rattle.session.proofs.transactions.Connections.execute.Goals as goal
 
 pub returns-then-not-is_supported-clause-step : goal.returns-then-not-is_supported-clause-step
@@ -15,3 +15,6 @@ returns-clause-step g c keeps =
 
 pub returns-clause-refused : goal.returns-clause-refused
 returns-clause-refused g c = refused_switched c.args.self.now c.switch.new.self c.args.connection c.args.statement.now c.serve.result c.requires.free c.switch.ensures c.serve.ensures.refused
+
+pub returns-clause-marks : goal.returns-clause-marks
+returns-clause-marks g c = marks_switched c.args.self.now c.switch.new.self c.serve.new.self c.args.connection c.serve.result c.switch.ensures c.serve.ensures.marks
