@@ -1,7 +1,7 @@
 -- Files that hold a database are opened as holding it.
 use Rattle.sqlval.specs.PageSizes.{IsPageSize}
 use Rattle.std.proofs.Common.{◌≤◌, ◌≡◌, ◌⊎◌, ◌<◌, ◌+◌, ◌-◌, ◌^◌, ◌++◌, inl, inr, refl, sym, ap, subst, ◌∙◌, ℕ, zero, suc, Bool, List, [], ◌∷◌, length, map, arith}
-use Rattle.std.specs.Prelude.{⊤, Option, Some, None, Result, Ok, Err, IsTrue, IsErrAnd, MatchOption}
+use Rattle.std.specs.Prelude.{⊤, Option, Some, None, Result, Ok, Err, IfErr, IfOk, IsTrue, IsErrAnd, MatchOption}
 use Rattle.disk.specs.declared.device.Disk.{Ghosts}
 use Rattle.disk.specs.File.{IsSynced}
 use Rattle.sqlval.specs.declared.fault.Fault.{Fault}
@@ -38,7 +38,9 @@ use Rattle.session.specs.Stored.{ShowsDatabase}
 use Rattle.session.specs.declared.transactions.Connections.{Connections}
 use Rattle.engine.proofs.SameStored.{stores_same}
 use Rattle.session.proofs.Settled.{still_settled}
-use Rattle.engine.specs.Opening.{StartsWith}
+use Rattle.engine.specs.Opening.{SeatsList, StartsWith}
+use Rattle.session.specs.Seats.{AreFresh, catalog_in}
+use Rattle.session.specs.declared.seats.Seats.{Seats}
 use Rattle.sqlval.specs.Faults.{IsOrOutside, IsOutside}
 use Rattle.engine.proofs.Refusing.{open_why}
 use Rattle.loading.specs.Loading.{FindsDatabase}
@@ -155,6 +157,21 @@ known_held db log database known counted held sized counts is =
 abbrev seen_of : List ℕ → List Framed → LogState → View
 seen_of db frames known = record { db = db; frames = frames; page_size = known.page_size; size = known.size }
 
+-- ---- seats
+
+pub not_seated : (tables : List Table) (result : Result Seats Fault) (fault : Fault) → IsErrAnd result (λ e. e ≡ fault) → IsOutside fault → IsOrOutside (SeatsList tables) result
+not_seated tables (Ok seats) fault is why = absurd is
+not_seated tables (Err e) fault is why = subst IsOutside (sym is) why
+
+-- seats of a catalog that was loaded
+pub seats_list : (tables : List Table) (catalog : Catalog) (result : Result Seats Fault) → IfOk result AreFresh → IfOk result (λ seats. catalog_in seats ≡ catalog) → IfErr result (λ f. f ≡ Memory) → AreSameTables tables (tables_of catalog) → IsOrOutside (SeatsList tables) result
+seats_list tables catalog (Ok seats) fresh is short lists = record { listed = subst (λ (c : Catalog). AreSameTables tables (tables_of c)) (sym is) lists; fresh = fresh }
+seats_list tables catalog (Err f) fresh is short lists = inl short
+
+pub seats_find : (Finds : Catalog → Type 0) (catalog : Catalog) (result : Result Seats Fault) → IfOk result (λ seats. catalog_in seats ≡ catalog) → Finds catalog → IfOk result (λ seats. Finds (catalog_in seats))
+seats_find Finds catalog (Ok seats) is finds = subst Finds (sym is) finds
+seats_find Finds catalog (Err f) is finds = tt
+
 module _ {D : Type 0} {g : Ghosts D} where
   -- ---- what was opened
 
@@ -185,18 +202,19 @@ module _ {D : Type 0} {g : Ghosts D} where
   }
 
   -- files that were read at most, and whose log was cut then, start with what was listed
-  pub starts : (tables : List Table) (database : Database) (old mid new : Log D g) (catalog : Catalog) → ShowTheSame old mid → IsSettled old → ShowsDatabase (newest_view old) tables database
+  pub starts : (tables : List Table) (database : Database) (old mid new : Log D g) (seats : Seats) → ShowTheSame old mid → IsSettled old → ShowsDatabase (newest_view old) tables database
       → state_of new ≡ state_of mid → db_of new ≡ db_of mid → g.tells (log_of new) ≡ g.tells (log_of mid) → IsCut (state_of mid) (g.file (log_of mid)) (g.file (log_of new))
-      → AreSameTables tables (tables_of catalog) → StartsWith tables database new catalog
-  starts tables database old mid new catalog same settled stored known db tells cut lists = record {
-    listed = lists;
+      → SeatsList tables seats → StartsWith tables database new seats
+  starts tables database old mid new seats same settled stored known db tells cut lists = record {
+    listed = lists.listed;
+    fresh = lists.fresh;
     told = record { db = subst (λ (d : D). IsTrue (g.tells d)) (sym db) same.told.db; log = tells ∙ same.told.log; whole = ap (λ (k : LogState). k.has_failed) known ∙ same.told.whole };
     settled = cut_settled mid new known db cut (still_settled old mid same settled);
     stored = subst (λ (v : View). ShowsDatabase v tables database) (sym (cut_same mid new known db cut ∙ same.newest)) stored;
   }
 
-  pub not_started : (tables : List Table) (database : Database) (files : Log D g) (result : Result Catalog Fault) (fault : Fault) → IsErrAnd result (λ e. e ≡ fault) → IsOutside fault → IsOrOutside (StartsWith tables database files) result
-  not_started tables database files (Ok catalog) fault is why = absurd is
+  pub not_started : (tables : List Table) (database : Database) (files : Log D g) (result : Result Seats Fault) (fault : Fault) → IsErrAnd result (λ e. e ≡ fault) → IsOutside fault → IsOrOutside (StartsWith tables database files) result
+  not_started tables database files (Ok seats) fault is why = absurd is
   not_started tables database files (Err e) fault is why = subst IsOutside (sym is) why
 
   -- the files tell what they hold, and it is this
@@ -251,10 +269,10 @@ module _ {D : Type 0} {g : Ghosts D} where
   }
 
   -- what was started shows the database
-  pub starts_shown : (connections : Connections D g) (tables : List Table) (database : Database) (files : Log D g) (catalog : Catalog) → StartsWith tables database files catalog
-      → ((db : Database) → Tells files → IsSettled files → ShowsDatabase (newest_view files) (tables_of catalog) db → RepresentsRunning connections (fresh db)) → Represents connections (fresh database)
-  starts_shown connections tables database files catalog start shown =
-      inr (shown database start.told start.settled (record { stored = stores_same (pages_in (newest_view files)) (newest_view files).page_size tables (tables_of catalog) database start.listed start.stored.stored; served = start.stored.served }))
+  pub starts_shown : (connections : Connections D g) (tables : List Table) (database : Database) (files : Log D g) (seats : Seats) → StartsWith tables database files seats
+      → ((db : Database) → Tells files → IsSettled files → AreFresh seats → ShowsDatabase (newest_view files) (tables_of (catalog_in seats)) db → RepresentsRunning connections (fresh db)) → Represents connections (fresh database)
+  starts_shown connections tables database files seats start shown =
+      inr (shown database start.told start.settled start.fresh (record { stored = stores_same (pages_in (newest_view files)) (newest_view files).page_size tables (tables_of (catalog_in seats)) database start.listed start.stored.stored; served = start.stored.served }))
 
 -- contents that can be opened are refused when out of memory, or where a call fails
 pub not_opened : (has_called : Type 0) (page_size : ℕ) (counted : Option ℕ) (db log : List ℕ) (told_db told_log : Bool) (fault : Fault)

@@ -101,7 +101,7 @@ module _ {D : Type 0} {g : Ghosts D} where
   replies_mark (line ∷ lines) (reply ∷ replies) old new is = marks_on old is.0 new (answer_marks old _ reply is.0 is.1) (replies_mark lines replies is.0 new is.2)
 
   gone_marks : (old new : Engine D g) → GivesUp old new → MarksWhereCounted old new
-  gone_marks old new gives = still_marked old new gives.gone.files gives.gone.failed
+  gone_marks old new gives = still_marked old new gives.files gives.gone.failed
 
   pub run_marks : (old end new : Engine D g) (result : Result (Unit {0}) Fault) (given left before after : Option (List ℕ)) → OnOk result (HasServed old given left before after end) → OnErr result (HasServedInPart old given before after end) → GivesUp end new → MarksWhereCounted old new
   run_marks old end new (Ok done) given left before after served part gives = marks_on old end new (replies_mark served.lines served.replies old end served.are_replies) (gone_marks end new gives)

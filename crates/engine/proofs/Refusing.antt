@@ -15,8 +15,7 @@ an_answer x f h = cc
 
 -- what isn't supported isn't answered
 pub never_answered : {T : Type 0} (result : Result T Fault) → AnswersUnsupported result → IfOk result (λ x. ⊥)
-never_answered (Ok x) (inl e) = an_answer x _ e
-never_answered (Ok x) (inr e) = an_answer x _ e
+never_answered (Ok x) e = an_answer x _ e
 never_answered (Err f) u = tt
 
 pub full_of : {T : Type 0} (flag : Bool) (result : Result T Fault) (old new : ℕ × ℕ) → Causes result old new (IsTrue flag) → result ≡ Err Full → IsTrue flag

@@ -106,14 +106,14 @@ module _ {D : Type 0} {g : Ghosts D} where
   failed_of e m (inr shown) stopped = absurd (false≢true (sym shown.running ∙ stopped))
 
   abbrev TextStep : Engine D g → Machine → ℕ → List ℕ → Reply → Machine → Type 0
-  TextStep old m c text reply next = StepByText (λ before k s answer after. StepSoFar (CannotStoreIn old.connections s) before k s answer after) grammar m c text reply next
+  TextStep old m c text reply next = StepByText (λ before k s answer after. StepSoFar (CannotStoreIn old.connections c s) before k s answer after) grammar m c text reply next
 
   step_beside : (old : Engine D g) (m : Machine) (c : ℕ) (text : List ℕ) (reply : Reply) (next : Machine) → TextStep old m c text reply next → IsBeside m c next
   step_beside old m c text reply next (inl h) = moved m next m c h.2 (beside_itself m c)
   step_beside old m c text reply next (inr (inl h)) = moved m next m c h.3 (beside_itself m c)
   step_beside old m c text reply next (inr (inr (a, b, inl h))) = moved m next m c h.1 (beside_itself m c)
   step_beside old m c text reply next (inr (inr (a, b, inr (inl (r, why, is, same))))) = moved m next m c same (beside_itself m c)
-  step_beside old m c text reply next (inr (inr (a, b, inr (inr (d, s, reads, within, by))))) = so_far_beside (CannotStoreIn old.connections s) m c s reply next by
+  step_beside old m c text reply next (inr (inr (a, b, inr (inr (d, s, reads, within, by))))) = so_far_beside (CannotStoreIn old.connections c s) m c s reply next by
 
   -- the run, with what it keeps
   record Ran (old : Engine D g) (m : Machine) (lines : List (List ℕ)) (replies : List serving.Reply) (new : Engine D g) : Type 0 where

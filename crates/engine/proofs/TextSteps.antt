@@ -133,7 +133,7 @@ done = Ok tt
 
 module _ {D : Type 0} {g : Ghosts D} (e : Engine D g) (n : ℕ) (text : List ℕ) where
   abbrev Step : Machine → Reply → Machine → Type 0
-  Step m reply next = StepByText (λ before c s answer after. StepSoFar (CannotStoreIn e.connections s) before c s answer after) grammar m n text reply next
+  Step m reply next = StepByText (λ before c s answer after. StepSoFar (CannotStoreIn e.connections n s) before c s answer after) grammar m n text reply next
 
   stays : (m : Machine) (f : Fault) → EngineRepresents e m → Step m (Refused (refusal_of f)) m → StepsByTextTo e m n text (Refused (refusal_of f)) e
   stays m f shows step = record { next = m; step = step; shown = shows; crash = as_shown e.connections m shows }

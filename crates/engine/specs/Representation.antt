@@ -24,7 +24,7 @@ module _ {D : Type 0} {g : Ghosts D} where
   -- This is a step by a text from a machine to one that is shown after it; and at each moment a crash leaves a database that the step may show.
   pub record StepsByTextTo (old : Engine D g) (m : Machine) (connection : ℕ) (text : List ℕ) (reply : Reply) (new : Engine D g) : Type 0 where
     pub next : Machine
-    pub step : StepByText (λ before c s answer after. StepSoFar (CannotStoreIn old.connections s) before c s answer after) grammar m connection text reply next
+    pub step : StepByText (λ before c s answer after. StepSoFar (CannotStoreIn old.connections connection s) before c s answer after) grammar m connection text reply next
     pub shown : EngineRepresents new next
     pub crash : HoldThroughout (MayShow m next) (files_in old) (files_in new)
 

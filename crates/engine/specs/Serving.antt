@@ -8,8 +8,8 @@ use Rattle.sqlval.specs.declared.fault.Fault.TheVariants.{Failed}
 use Rattle.sqlval.specs.declared.value.Value.{Value}
 use Rattle.session.specs.Machine as machine
 use Rattle.session.specs.Holding.{HoldThroughout}
-use Rattle.session.specs.Machine.{Machine, Idle, Rows, Refused, with_connection}
-use Rattle.session.specs.Representation.{IsGivenUp}
+use Rattle.session.specs.Machine.{Machine, Rows, Refused, idle}
+use Rattle.session.specs.Representation.{AreGivenUp}
 use Rattle.session.specs.Crashes.{MayShowInRun}
 use Rattle.engine.specs.EngineState.{connections_of, has_failed_of}
 use Rattle.engine.specs.Failing.{MarksWhereCounted}
@@ -26,6 +26,10 @@ Reply = Result (List (List Value)) Fault
 abbrev pub machine_reply : Reply → machine.Reply
 machine_reply (Ok rows) = Rows rows
 machine_reply (Err fault) = Refused (refusal_of fault)
+
+-- the machine with 16 idle connections
+abbrev pub given_up : Machine → Machine
+given_up m = record m { connections = idle 16 }
 
 -- The line has no statement that could be executed, and the reply says why.
 pub record IsRefusedLine (line : List ℕ) (reply : Reply) : Type 0 where
@@ -130,18 +134,19 @@ module _ {D : Type 0} {g : Ghosts D} where
     pub read : IfSome given (BeginsWithLines lines)
     pub written : Between (EndsWithPart (output_text replies)) before after
 
-  -- The transaction that is open is given up: the files are as they were, and the machine has the first connection idle.
+  -- All open transactions are given up: the files are as they were, and the machine has its connections idle.
   pub record GivesUp (old new : Engine D g) : Type 0 where
-    pub gone : IsGivenUp (connections_of old) (connections_of new)
-    pub shown : (m : Machine) → EngineRepresents old m → EngineRepresents new (with_connection m 1 Idle)
+    pub files : files_in new ≡ files_in old
+    pub gone : AreGivenUp (connections_of old) (connections_of new)
+    pub shown : (m : Machine) → EngineRepresents old m → EngineRepresents new (given_up m)
 
-  -- All lines were served, and then the transaction given up.
+  -- All lines were served, and then all transactions given up.
   pub record HasRun (old : Engine D g) (given left before after : Option (List ℕ)) (new : Engine D g) : Type 0 where
     pub end : Engine D g
     pub served : HasServed old given left before after end
     pub gone : GivesUp end new
 
-  -- Lines were served in part, and then the transaction given up.
+  -- Lines were served in part, and then all transactions given up.
   pub record HasRunInPart (old : Engine D g) (given before after : Option (List ℕ)) (new : Engine D g) : Type 0 where
     pub end : Engine D g
     pub served : HasServedInPart old given before after end

@@ -1,6 +1,6 @@
 //! Opening a database file with its log.
 
-ghost use Rattle.std.specs.Prelude.{◌≡◌, ◌⊎◌, ◌&&◌, List, Ok, Err, IfOk, IfErr, OnOk, MatchResult, IsTrue, IsFalse, true, false};
+ghost use Rattle.std.specs.Prelude.{◌≡◌, ◌⊎◌, List, Ok, Err, IfOk, IfErr, OnOk, MatchResult, IsTrue, IsFalse, true, false};
 ghost use Rattle.dbheader.specs.Header.{IsHeader};
 ghost use Rattle.sqlval.specs.Faults.{IsOrOutside};
 ghost use Rattle.dbheader.specs.declared.fields.Header.{Header as FileHeader};
@@ -16,12 +16,12 @@ ghost use Rattle.walframe.specs.Accepted.{KeepsFile};
 ghost use Rattle.wal.specs.LogState.{db_of, state_of, log_of};
 ghost use Rattle.session.specs.ConnectionState.{HasCause};
 ghost use Rattle.engine.specs.Creating.{CountsIo, is_blank_content};
-ghost use Rattle.engine.specs.Opening.{HasPageSize, IsCutTo, KeepsFiles, KeepsFilesBut, LeavesOpened, ReadsHeader, StartsWith, TellsBlank};
+ghost use Rattle.engine.specs.Opening.{HasPageSize, IsCutTo, KeepsFiles, KeepsFilesBut, LeavesOpened, ReadsHeader, SeatsList, StartsWith, TellsBlank};
 ghost use Rattle.sqlval.specs.declared.fault.Fault.TheVariants.{Io};
 ghost use Rattle.disk.specs.Calls.{Rose};
 ghost use Rattle.syntax.specs.declared.statement.Statement.{Statement};
 ghost use Rattle.grammar.specs.Texts.{IsStatementText};
-ghost use Rattle.session.specs.Supported.{is_connection_supported};
+ghost use Rattle.session.specs.Seats.{AreFresh, catalog_in};
 ghost use Rattle.storage.specs.Forms as forms;
 ghost use Rattle.session.specs.Limits.{may_be_full};
 
@@ -33,7 +33,7 @@ use loading::load;
 use pager::Reading;
 use parser::{parse, release};
 use rowprog::Rows;
-use session::Connections;
+use session::{Connections, Seats};
 use sqlval::limits::DATABASE_HEADER_LEN;
 use sqlval::{Fault, Misuse, R};
 use std::alloc::Global;
@@ -89,8 +89,22 @@ fn load_files<D: Disk + Drop>(alloc: Global, log: &mut Log<D>) -> R<Catalog>
     load(alloc, &mut pages, size)
 }
 
+/// Loads the tables of the newest snapshot, and makes the seats of the connections. (What `load` refuses.)
+fn load_seats<D: Disk + Drop>(alloc: Global, log: &mut Log<D>) -> R<Seats>
+    ensures kept { KeepsFiles log.old log.new }
+    ensures listed { (tables : List Table) (database : Database) → Tells log.old → ShowsDatabase (newest_view log.old) tables database
+        → IsFound (newest_view log.old) → IsOrOutside (SeatsList tables) result }
+    ensures found { Tells log.old → IfOk result (λ seats. FindsDatabase (pages_in (newest_view log.old)) (newest_view log.old).page_size (catalog_in seats)) }
+    ensures fresh { IfOk result AreFresh }
+    ensures cause { HasCause false result log.old log.new }
+    ensures not_blank { IfErr result (λ fault. fault ≡ Fault.Blank → ⊥) }
+{
+    let catalog = load_files(alloc, log)?;
+    Seats::new(alloc, catalog)
+}
+
 /// Loads the tables of the newest snapshot, then truncates the log after its last committed frame.
-fn load_and_truncate<D: Disk + Drop>(alloc: Global, log: &mut Log<D>) -> R<Catalog>
+fn load_and_truncate<D: Disk + Drop>(alloc: Global, log: &mut Log<D>) -> R<Seats>
     ensures crash { IsFalse (state_of log.old).has_failed → HasPageSize (D.file (db_of log.old)).content (state_of log.old).page_size
         → IsTrue (D.tells (db_of log.old)) → IsTrue (D.tells (log_of log.old)) → IsSynced (D.file (db_of log.old))
         → IsSynced (D.file (log_of log.old))
@@ -104,16 +118,16 @@ fn load_and_truncate<D: Disk + Drop>(alloc: Global, log: &mut Log<D>) -> R<Catal
     ensures kept { IsTrue (D.tells (db_of log.old)) → IsTrue (D.tells (log_of log.old))
         → IfErr result (KeepsFilesBut Io (D.file (db_of log.old)) (D.file (log_of log.old)) (D.file (db_of log.new)) (D.file (log_of log.new))) }
     // Tables are loaded only of a database that the newest view holds.
-    ensures found { Tells log.old → IfOk result (FindsDatabase (pages_in (newest_view log.old)) (newest_view log.old).page_size) }
+    ensures found { Tells log.old → IfOk result (λ seats. FindsDatabase (pages_in (newest_view log.old)) (newest_view log.old).page_size (catalog_in seats)) }
     // Of settled files that hold a database the catalog lists the tables, and the files stay settled.
     ensures opens { (tables : List Table) (database : Database) → Tells log.old → IsSettled log.old
         → ShowsDatabase (newest_view log.old) tables database → IsOrOutside (StartsWith tables database log.new) result }
     ensures cause { HasCause false result log.old log.new }
     ensures not_blank { IfErr result (λ fault. fault ≡ Fault.Blank → ⊥) }
 {
-    let catalog = load_files(alloc, log)?;
+    let seats = load_seats(alloc, log)?;
     log.cut_tail()?;
-    Ok(catalog)
+    Ok(seats)
 }
 
 impl<D: Disk + Drop> Engine<D> {
@@ -161,9 +175,9 @@ impl<D: Disk + Drop> Engine<D> {
             salts,
         )?;
         match load_and_truncate(alloc, &mut log) {
-            Ok(catalog) => Ok(Engine {
+            Ok(seats) => Ok(Engine {
                 alloc,
-                connections: Connections::new(alloc, log, catalog),
+                connections: Connections::new(alloc, log, seats),
             }),
             Err(fault) => {
                 let (db, log) = log.into_disks();
@@ -191,9 +205,9 @@ impl<D: Disk + Drop> Engine<D> {
         ensures failed { IsTrue (has_failed_of self.old) → (result ≡ Err Fault.Failed) × (self.new ≡ self.old) }
         ensures numbered { IsFalse (has_failed_of self.old) → IsNoConnection connection
             → (result ≡ Err (Fault.Misuse Misuse.Connection)) × (self.new ≡ self.old) }
-        // A statement that isn't supported yet, by its form or its connection, is refused and changes nothing.
+        // A statement of a form that isn't supported yet is refused and changes nothing.
         ensures unsupported { (statement : Statement) → first_refusal (has_failed_of self.old) connection ≡ Ok tt
-            → IsStatementText text.now statement → IsFalse (forms.is_supported statement && is_connection_supported connection)
+            → IsStatementText text.now statement → IsFalse (forms.is_supported statement)
             → IfOk result (λ _. ⊥) × (self.new ≡ self.old) }
         // What the counts of the two disks' failed calls say of the answer, and of the mark of a failed engine.
         ensures counted { CountsFailures result self.old self.new }
@@ -221,7 +235,7 @@ impl<D: Disk + Drop> Engine<D> {
     pub(crate) fn give_up(&mut self)
         ensures { GivesUp self.old self.new }
     {
-        self.connections.give_up();
+        self.connections.give_up_all();
     }
 
     pub(crate) fn allocator(&self) -> Global {

@@ -1,8 +1,6 @@
 -- What a statement that writes comes to, by what it makes of the database before it.
-use Rattle.std.proofs.Common.{◌≡◌, ◌⊎◌, inl, inr, refl, sym, ap, subst, ◌∙◌, Bool, true, false, List, [], ◌∷◌, if◌then◌else◌}
-use Rattle.std.specs.Prelude.{◌&&◌}
+use Rattle.std.proofs.Common.{◌≡◌, ◌⊎◌, inl, inr, refl, sym, ap, subst, ◌∙◌, ℕ, Bool, true, false, List, [], ◌∷◌, if◌then◌else◌}
 use Rattle.pages.specs.Calls.{IsOutsideOrFull}
-use Rattle.std.specs.List.{AllByRecursion}
 use Rattle.sqlval.specs.Refusals as refusal
 use Rattle.sqlval.specs.Refusals.{Refusal, Busy, refusal_of}
 use Rattle.sqlval.specs.declared.fault.Fault.{Fault}
@@ -11,15 +9,15 @@ use Rattle.syntax.specs.declared.statement.Statement.{Statement}
 use Rattle.catalog.specs.Database.{Database}
 use Rattle.session.specs.Supported.{StepSoFar, database_of}
 use Rattle.storage.specs.Forms.{is_supported}
-use Rattle.session.specs.Machine.{Machine, Connection, Idle, InTransactionOf, Phase, SavepointState, Writes, Rows, Refused, connection, is_writing, last_place, newest, with_connection}
+use Rattle.session.specs.Machine.{Machine, Connection, Idle, InTransactionOf, Phase, SavepointState, Writes, Rows, Refused, connection, another, is_writing, last_place, newest, with_connection}
 use Rattle.session.specs.Outcomes.{Outcome, RefusedBy, outcome, unless_busy, worked, worked_alone, write_outcome}
 use Rattle.storage.specs.Works.{Work, Makes, IsRefused, Undoes, Binds, Reaches, RefusesWith, change_made}
-use Rattle.session.specs.Steps.{Allowed, Instead}
+use Rattle.session.specs.Steps.{Allowed, Instead, is_connection}
 use Rattle.session.specs.Changing.{written}
 use Rattle.session.specs.declared.changes.Write.{Write}
 use Rattle.session.specs.declared.changes.Write.TheVariants as write
-use Rattle.session.proofs.ReadingPhases.{IsReadingPhase}
-use Rattle.session.proofs.Stepping.{by_outcome, instead, no_other}
+use Rattle.session.proofs.ReadingPhases.{IsNewestPhase}
+use Rattle.session.proofs.Stepping.{by_outcome, instead}
 
 -- ---- in a transaction
 
@@ -29,51 +27,51 @@ pub record Begun : Type 0 where
   pub points : List SavepointState
 
 -- the machine whose first connection works on this database
-abbrev pub working_on : Begun → Machine → Database → Machine
-working_on b m db = with_connection m 1 (InTransactionOf b.by_savepoint b.points (Writes (last_place m) db))
+abbrev pub working_on : Begun → Machine → ℕ → Database → Machine
+working_on b m n db = with_connection m n (InTransactionOf b.by_savepoint b.points (Writes (last_place m) db))
 
-abbrev pub working : Begun → Machine → Work → Outcome
-working b m w = worked m 1 b.by_savepoint b.points (last_place m) w
+abbrev pub working : Begun → Machine → ℕ → Work → Outcome
+working b m n w = worked m n b.by_savepoint b.points (last_place m) w
 
-pub worked_gives : (b : Begun) (m : Machine) (made : Database) (w : Work) → Reaches w made → Allowed m 1 (working b m w) (Rows []) (working_on b m made)
-worked_gives b m made (Makes db) is = (refl, ap (working_on b m) (sym is))
-worked_gives b m made (IsRefused rs) is = absurd is
-worked_gives b m made (Undoes r) is = absurd is
-worked_gives b m made (Binds over ch w) is = inr (is.0, worked_gives b m made w is.1)
+pub worked_gives : (b : Begun) (m : Machine) (n : ℕ) (made : Database) (w : Work) → Reaches w made → Allowed m n (working b m n w) (Rows []) (working_on b m n made)
+worked_gives b m n made (Makes db) is = (refl, ap (working_on b m n) (sym is))
+worked_gives b m n made (IsRefused rs) is = absurd is
+worked_gives b m n made (Undoes r) is = absurd is
+worked_gives b m n made (Binds over ch w) is = inr (is.0, worked_gives b m n made w is.1)
 
 -- ---- what either end of a statement has in common
 
 -- what a statement's work comes to, for the connection
-pub record IsFinish (m : Machine) (finish : Work → Outcome) : Type 0 where
-  pub refuses : (r : Refusal) (w : Work) → RefusesWith w r → Allowed m 1 (finish w) (Refused r) m
+pub record IsFinish (m : Machine) (n : ℕ) (finish : Work → Outcome) : Type 0 where
+  pub refuses : (r : Refusal) (w : Work) → RefusesWith w r → Allowed m n (finish w) (Refused r) m
   pub io : (w : Work) → Instead m (finish w) (Refused refusal.Io) m
 
-module _ (b : Begun) (m : Machine) where
-  in_refuses : (r : Refusal) (w : Work) → RefusesWith w r → Allowed m 1 (working b m w) (Refused r) m
+module _ (b : Begun) (m : Machine) (n : ℕ) where
+  in_refuses : (r : Refusal) (w : Work) → RefusesWith w r → Allowed m n (working b m n w) (Refused r) m
   in_refuses r (Makes db) why = absurd why
   in_refuses r (IsRefused rs) why = (r, why, refl, refl)
   in_refuses r (Undoes s) why = absurd why
   in_refuses r (Binds over ch w) (inl bad) = inl (r, bad, refl, refl)
   in_refuses r (Binds over ch w) (inr rest) = inr (rest.0, in_refuses r w rest.1)
 
-  in_io : (w : Work) → Instead m (working b m w) (Refused refusal.Io) m
+  in_io : (w : Work) → Instead m (working b m n w) (Refused refusal.Io) m
   in_io (Makes db) = (inr (refl, refl), refl)
   in_io (IsRefused rs) = (inr (refl, refl), refl)
   in_io (Undoes r) = (inr (refl, refl), refl)
   in_io (Binds over ch w) = in_io w
 
-  pub finish_in : IsFinish m (working b m)
+  pub finish_in : IsFinish m n (working b m n)
   finish_in = record { refuses = in_refuses; io = in_io }
 
 abbrev pub alone : Machine → Work → Outcome
 alone m w = worked_alone w m
 
-alone_refuses : (m : Machine) (r : Refusal) (w : Work) → RefusesWith w r → Allowed m 1 (alone m w) (Refused r) m
-alone_refuses m r (Makes db) why = absurd why
-alone_refuses m r (IsRefused rs) why = (r, why, refl, refl)
-alone_refuses m r (Undoes s) why = absurd why
-alone_refuses m r (Binds over ch w) (inl bad) = inl (r, bad, refl, refl)
-alone_refuses m r (Binds over ch w) (inr rest) = inr (rest.0, alone_refuses m r w rest.1)
+alone_refuses : (m : Machine) (n : ℕ) (r : Refusal) (w : Work) → RefusesWith w r → Allowed m n (alone m w) (Refused r) m
+alone_refuses m n r (Makes db) why = absurd why
+alone_refuses m n r (IsRefused rs) why = (r, why, refl, refl)
+alone_refuses m n r (Undoes s) why = absurd why
+alone_refuses m n r (Binds over ch w) (inl bad) = inl (r, bad, refl, refl)
+alone_refuses m n r (Binds over ch w) (inr rest) = inr (rest.0, alone_refuses m n r w rest.1)
 
 alone_io : (m : Machine) (w : Work) → Instead m (alone m w) (Refused refusal.Io) m
 alone_io m (Makes db) = (inr (refl, refl), refl)
@@ -81,8 +79,8 @@ alone_io m (IsRefused rs) = (inr (refl, refl), refl)
 alone_io m (Undoes r) = (inr (refl, refl), refl)
 alone_io m (Binds over ch w) = alone_io m w
 
-pub finish_alone : (m : Machine) → IsFinish m (alone m)
-finish_alone m = record { refuses = alone_refuses m; io = alone_io m }
+pub finish_alone : (m : Machine) (n : ℕ) → IsFinish m n (alone m)
+finish_alone m n = record { refuses = alone_refuses m n; io = alone_io m }
 
 -- ---- a refused statement
 
@@ -90,34 +88,39 @@ finish_alone m = record { refuses = alone_refuses m; io = alone_io m }
 abbrev pub IsErrorCause : (Refusal → Type 0) → Work → Fault → Type 0
 IsErrorCause Unstored w f = IsOutsideOrFull f ⊎ (RefusesWith w (refusal_of f) ⊎ Unstored (refusal_of f))
 
-module _ (R : Database → Refusal → Type 0) (m : Machine) (s : Statement) (supported_forms : is_supported s ≡ true) (running : m.failed ≡ false) (finish : Work → Outcome) (ends : IsFinish m finish) (w : Work) (is : outcome m 1 s ≡ finish w) where
-  step_for : (e f : Fault) → f ≡ e → StepSoFar R m 1 s (Refused (refusal_of e)) m → StepSoFar R m 1 s (Refused (refusal_of f)) m
-  step_for e f same step = subst (λ (x : Fault). StepSoFar R m 1 s (Refused (refusal_of x)) m) (sym same) step
+module _ (R : Database → Refusal → Type 0) (m : Machine) (n : ℕ) (s : Statement) (supported_forms : is_supported s ≡ true) (running : m.failed ≡ false) (numbered : is_connection n ≡ true) (finish : Work → Outcome) (ends : IsFinish m n finish) (w : Work) (is : outcome m n s ≡ finish w) where
+  step_for : (e f : Fault) → f ≡ e → StepSoFar R m n s (Refused (refusal_of e)) m → StepSoFar R m n s (Refused (refusal_of f)) m
+  step_for e f same step = subst (λ (x : Fault). StepSoFar R m n s (Refused (refusal_of x)) m) (sym same) step
 
-  pub refused_step : (db : Database) → database_of m (connection m 1) ≡ db → (f : Fault) → IsErrorCause (R db) w f → StepSoFar R m 1 s (Refused (refusal_of f)) m
-  refused_step db sees f (inl (inl (inl memory))) = step_for fault.Memory f memory (instead R m s supported_forms running (finish w) (Refused refusal.Memory) is (inl refl, refl))
-  refused_step db sees f (inl (inl (inr io))) = step_for fault.Io f io (instead R m s supported_forms running (finish w) (Refused refusal.Io) is (ends.io w))
-  refused_step db sees f (inl (inr full)) = step_for fault.Full f full (instead R m s supported_forms running (finish w) (Refused refusal.Full) is (inl refl, refl))
-  refused_step db sees f (inr (inl why)) = by_outcome R m s supported_forms running (finish w) (Refused (refusal_of f)) m is (ends.refuses (refusal_of f) w why)
+  pub refused_step : (db : Database) → database_of m (connection m n) ≡ db → (f : Fault) → IsErrorCause (R db) w f → StepSoFar R m n s (Refused (refusal_of f)) m
+  refused_step db sees f (inl (inl (inl memory))) = step_for fault.Memory f memory (instead R m n s supported_forms running numbered (finish w) (Refused refusal.Memory) is (inl refl, refl))
+  refused_step db sees f (inl (inl (inr io))) = step_for fault.Io f io (instead R m n s supported_forms running numbered (finish w) (Refused refusal.Io) is (ends.io w))
+  refused_step db sees f (inl (inr full)) = step_for fault.Full f full (instead R m n s supported_forms running numbered (finish w) (Refused refusal.Full) is (inl refl, refl))
+  refused_step db sees f (inr (inl why)) = by_outcome R m n s supported_forms running numbered (finish w) (Refused (refusal_of f)) m is (ends.refuses (refusal_of f) w why)
   refused_step db sees f (inr (inr unstored)) =
-      inl (ap (λ b. b && true) supported_forms, inr (refusal_of f, refl, refl, running, subst (λ (d : Database). R d (refusal_of f)) (sym sees) unstored))
+      inl (supported_forms, inr (refusal_of f, refl, refl, running, subst (λ (d : Database). R d (refusal_of f)) (sym sees) unstored))
 
 -- ---- outcomes by what the first connection is
 
-pub write_outcome_of : (w : Write) (m : Machine) (k : Connection) → connection m 1 ≡ k → outcome m 1 (written w) ≡ write_outcome m 1 (change_made (written w)) k
+pub write_outcome_of : (w : Write) (m : Machine) (n : ℕ) (k : Connection) → connection m n ≡ k → outcome m n (written w) ≡ write_outcome m n (change_made (written w)) k
 unfolding outcome
-write_outcome_of (write.Insert i) m k is = ap (write_outcome m 1 (change_made (written (write.Insert i)))) is
-write_outcome_of (write.Delete d) m k is = ap (write_outcome m 1 (change_made (written (write.Delete d)))) is
-write_outcome_of (write.Update u) m k is = ap (write_outcome m 1 (change_made (written (write.Update u)))) is
-write_outcome_of (write.Drop kind name) m k is = ap (write_outcome m 1 (change_made (written (write.Drop kind name)))) is
-write_outcome_of (write.CreateTable sql d) m k is = ap (write_outcome m 1 (change_made (written (write.CreateTable sql d)))) is
+write_outcome_of (write.Insert i) m n k is = ap (write_outcome m n (change_made (written (write.Insert i)))) is
+write_outcome_of (write.Delete d) m n k is = ap (write_outcome m n (change_made (written (write.Delete d)))) is
+write_outcome_of (write.Update u) m n k is = ap (write_outcome m n (change_made (written (write.Update u)))) is
+write_outcome_of (write.Drop kind name) m n k is = ap (write_outcome m n (change_made (written (write.Drop kind name)))) is
+write_outcome_of (write.CreateTable sql d) m n k is = ap (write_outcome m n (change_made (written (write.CreateTable sql d)))) is
 
-module _ (m : Machine) (first : Connection) (others : List Connection) (are : m.connections ≡ first ∷ others) (idle : AllByRecursion (λ k. k ≡ Idle) others) where
-  not_busy : (o : Outcome) → unless_busy m 1 o ≡ o
-  not_busy o = ap (λ b. if b then RefusedBy (Busy ∷ []) else o) (no_other m first others are is_writing refl idle)
+module _ (m : Machine) (n : ℕ) (free : another is_writing m n ≡ false) where
+  not_busy : (o : Outcome) → unless_busy m n o ≡ o
+  not_busy o = ap (λ b. if b then RefusedBy (Busy ∷ []) else o) free
 
-  pub writes_alone : (work : Database → Work) → write_outcome m 1 work Idle ≡ alone m (work (newest m))
+  pub writes_alone : (work : Database → Work) → write_outcome m n work Idle ≡ alone m (work (newest m))
   writes_alone work = not_busy (alone m (work (newest m)))
 
-  pub writes_reading : (b : Begun) (phase : Phase) → IsReadingPhase m phase → (work : Database → Work) → write_outcome m 1 work (InTransactionOf b.by_savepoint b.points phase) ≡ working b m (work (newest m))
-  writes_reading b phase is work = is.writes b.by_savepoint b.points work ∙ not_busy (working b m (work (newest m)))
+  pub writes_reading : (b : Begun) (phase : Phase) → IsNewestPhase m n phase → (work : Database → Work) → write_outcome m n work (InTransactionOf b.by_savepoint b.points phase) ≡ working b m n (work (newest m))
+  writes_reading b phase is work = is.writes b.by_savepoint b.points work ∙ not_busy (working b m n (work (newest m)))
+
+-- ---- refused before the statement's work is looked at
+
+pub is_busy : (m : Machine) (n : ℕ) (o : Outcome) → another is_writing m n ≡ true → unless_busy m n o ≡ RefusedBy (Busy ∷ [])
+is_busy m n o busy = ap (λ b. if b then RefusedBy (Busy ∷ []) else o) busy

@@ -1,8 +1,9 @@
 -- What a statement's change of a writer's pages comes to for the two files.
-use Rattle.std.proofs.Common.{◌≡◌, ◌∙◌, ◌≤◌, ◌/◌, refl, sym, ap, subst, arith, ℕ, List, true}
-use Rattle.std.specs.Prelude.{⊤, Result, Ok, Err, IsTrue, OnErr, max}
+use Rattle.std.proofs.Common.{◌≡◌, ◌∙◌, ◌≤◌, ◌/◌, refl, sym, ap, subst, arith, ℕ, List, true, inl}
+use Rattle.std.specs.Prelude.{⊤, Result, Ok, Err, IsTrue, OnErr, max, IsErrAnd}
 use Rattle.std.proofs.Math.Nat.{div-mul-le_self, mul-le-mul_left, mul-le-mul_right}
 use Rattle.sqlval.specs.declared.fault.Fault.{Fault}
+use Rattle.sqlval.specs.declared.fault.Fault.TheVariants as fault
 use Rattle.disk.specs.declared.device.Disk.{Ghosts}
 use Rattle.syntax.specs.declared.statement.Statement.{Statement}
 use Rattle.catalog.specs.Database.{Database}
@@ -71,6 +72,16 @@ module _ {D : Type 0} {g : Ghosts D} where
       writer = noted_writer next.files v end now over has.applies.writer;
       stored = subst (λ (x : View). ShowsDatabase x (current_in next.catalog) has.made) (sym (noted_view next.files v end now over)) has.applies.stored;
     };
+  }
+
+  -- where the changed tables aren't shared, when out of memory
+  pub not_shared : (s : Statement) (old new : Log D g) (catalog next : SavedCatalogs) (w v : Writer) (db : Database) (r : Result ⊤ Fault) (f : Fault) → IsErrAnd r (λ e. e ≡ f) → f ≡ fault.Memory → next ≡ catalog → ShowTheSame old new
+      → ChangesPages s (listing old catalog) w db r (listing new next) v
+  not_shared s old new catalog next w v db (Ok done) f is memory kept same = absurd is
+  not_shared s old new catalog next w v db (Err e) f is memory kept same = record {
+    kept = record { files = same; tables = ap committed_in kept; savepoints = ap savepoints_in kept };
+    tables = ap current_in kept;
+    why = inl (inl (inl (is ∙ memory)));
   }
 
   -- a writer that changes the database of a catalog's tables has pages that tell their bytes

@@ -1,5 +1,5 @@
 -- What a crash leaves at the moments of a commit may be shown.
-use Rattle.std.proofs.Common.{◌≡◌, ◌⊎◌, inl, inr, refl, sym, ap, subst, ◌∙◌, List, [], ◌∷◌, ◌++◌, length, arith}
+use Rattle.std.proofs.Common.{◌≡◌, ◌⊎◌, inl, inr, refl, sym, ap, ◌∙◌, ℕ, List, [], ◌∷◌, ◌++◌, length, arith}
 use Rattle.std.specs.Prelude.{◌-◌, Some, slice_get, unwrap_or}
 use Rattle.std.proofs.lemmas.List.{length-append}
 use Rattle.disk.specs.File.{versions}
@@ -8,8 +8,7 @@ use Rattle.sqlval.specs.declared.fault.Fault.{Fault}
 use Rattle.wal.specs.LogState.{db_of, log_of}
 use Rattle.catalog.specs.Database.{Database}
 use Rattle.session.specs.SavedTables.{committed_in}
-use Rattle.catalog.specs.declared.tables.Table.{Table}
-use Rattle.pager.specs.Views.{View, newest_view}
+use Rattle.pager.specs.Views.{newest_view}
 use Rattle.session.specs.Holding.{HoldThroughout, IsLeftBy}
 use Rattle.session.specs.ConnectionState.{files_of}
 use Rattle.session.specs.Machine.{Machine, newest}
@@ -33,9 +32,9 @@ last_is history db = ap (λ n. unwrap_or (slice_get (history ++ db ∷ []) n) []
 abbrev pub doubted : Machine → Database → Machine
 doubted m db = record (fails m) { in_doubt = Some db }
 
-may_commit : (m : Machine) (made d : Database) → (d ≡ newest m) ⊎ (d ≡ made) → MayShow m (after_commit m 1 made) d
-may_commit m made d (inl was) = inl was
-may_commit m made d (inr is) = inr (inl (is ∙ sym (last_is m.history made)))
+may_commit : (m : Machine) (n : ℕ) (made d : Database) → (d ≡ newest m) ⊎ (d ≡ made) → MayShow m (after_commit m n made) d
+may_commit m n made d (inl was) = inl was
+may_commit m n made d (inr is) = inr (inl (is ∙ sym (last_is m.history made)))
 
 may_fail : (m : Machine) (made d : Database) → (d ≡ newest m) ⊎ (d ≡ made) → MayShow m (doubted m made) d
 may_fail m made d (inl was) = inl was
@@ -46,19 +45,18 @@ may_be_left m made d (inl was) = inl was
 may_be_left m made d (inr is) = inr (inr (inl (ap Some (sym is))))
 
 module _ {D : Type 0} {g : Ghosts D} where
-  -- The commit of connections whose files were read at most since the machine was shown, and whose committed tables are as they were then.
+  -- The commit of connections whose files were read at most since the machine was shown, and that have the newest tables still.
   module _ (old mid new : Connections D g) (m : Machine) (made : Database) (shown : RepresentsRunning old m) (same : ShowTheSame (files_of old) (files_of mid))
-      (tables : committed_in mid.catalog ≡ committed_in old.catalog) (held : HoldsEither mid made new) where
+      (base : ShowsDatabase (newest_view (files_of mid)) (committed_in mid.catalog) (newest m)) (held : HoldsEither mid made new) where
     abbrev Either : Database → Type 0
     Either d = (d ≡ newest m) ⊎ (d ≡ made)
 
     either : HoldThroughout Either (files_of mid) (files_of new)
-    either = held (newest m) (subst (λ (v : View). ShowsDatabase v (committed_in mid.catalog) (newest m)) (sym same.newest)
-        (subst (λ (ts : List Table). ShowsDatabase (newest_view (files_of old)) ts (newest m)) (sym tables) shown.stored))
+    either = held (newest m) base
 
-    pub commit_crashes : HoldThroughout (MayShow m (after_commit m 1 made)) (files_of old) (files_of new)
-    commit_crashes = held_from (MayShow m (after_commit m 1 made)) (files_of old) (files_of mid) (files_of new) same
-        (held_weaker Either (MayShow m (after_commit m 1 made)) (may_commit m made) (files_of mid) (files_of new) either)
+    pub commit_crashes : HoldThroughout (MayShow m (after_commit m old.connection made)) (files_of old) (files_of new)
+    commit_crashes = held_from (MayShow m (after_commit m old.connection made)) (files_of old) (files_of mid) (files_of new) same
+        (held_weaker Either (MayShow m (after_commit m old.connection made)) (may_commit m old.connection made) (files_of mid) (files_of new) either)
 
     pub doubt_crashes : HoldThroughout (MayShow m (doubted m made)) (files_of old) (files_of new)
     doubt_crashes = held_from (MayShow m (doubted m made)) (files_of old) (files_of mid) (files_of new) same

@@ -1,5 +1,5 @@
 -- What a commit of a writer's pages leaves of the database that they hold.
-use Rattle.std.proofs.Common.{◌≡◌, ◌⊎◌, ◌≤◌, inl, inr, refl, sym, ap, subst, ◌∙◌, List, length, false}
+use Rattle.std.proofs.Common.{◌≡◌, ◌⊎◌, ◌<◌, ◌≤◌, inl, inr, refl, sym, ap, subst, ◌∙◌, List, length, Bool, false}
 use Rattle.std.specs.Prelude.{Err}
 use Rattle.std.proofs.lemmas.Bool.{false≢true}
 use Rattle.disk.specs.File.{IsSynced}
@@ -11,7 +11,7 @@ use Rattle.wal.specs.LogState.{LogState, db_of, header_of, state_of, log_of, see
 use Rattle.wal.specs.Refusals.{IsWithin}
 use Rattle.wal.specs.declared.log.Log.{Log}
 use Rattle.catalog.specs.Database.{Database}
-use Rattle.session.specs.SavedTables.{HasNoSavepoints, committed_in, current_in, savepoints_in}
+use Rattle.session.specs.SavedTables.{committed_in, current_in, savepoints_in}
 use Rattle.session.specs.declared.savepoints.SavedCatalogs.{SavedCatalogs}
 use Rattle.catalog.specs.declared.tables.Table.{Table}
 use Rattle.pager.specs.Commits.{CommitsPages, IsCommittedOver, IsRefusedCommit, LeavesCommit, MayCommit}
@@ -22,10 +22,10 @@ use Rattle.pager.specs.Writers.{snapshot_of}
 use Rattle.pager.proofs.Backing.{back_sound}
 use Rattle.pager.specs.declared.writer.Writer.{Writer}
 use Rattle.session.specs.ConnectionState.{files_of, has_failed_in, is_io}
-use Rattle.session.specs.Representation.{ShowTheSame}
+use Rattle.session.specs.Representation.{Beside, ShowTheSame, beside_in}
 use Rattle.session.specs.Writers.{IsNewest, IsWriter}
 use Rattle.session.specs.Stored.{ShowsDatabase}
-use Rattle.session.specs.Applying.{CommitsChanges, CommitsDatabase, HoldsEither, IsCommitCause, IsUncommitted, CanApply}
+use Rattle.session.specs.Applying.{CommitsChanges, CommitsDatabase, HoldsEither, IsAfterCommit, IsCommitCause, IsUncommitted, CanApply}
 use Rattle.session.specs.declared.transactions.Connections.{Connections}
 use Rattle.session.proofs.FirstPages.{first_of, first_shown, shows_headed}
 use Rattle.session.proofs.Settled.{db_left, either_throughout, found_over, log_left, still_settled}
@@ -53,9 +53,8 @@ module _ {D : Type 0} {g : Ghosts D} where
   some_pages old w tables db held = (first_shown (view_of old w) tables db held).last
 
   pub has_committed : (old new : Connections D g) (w : Writer) (db : Database) (applies : CanApply old w db) → CommitsPages (files_of old) w (first_of (view_of (files_of old) w)) applies.stored.stored.header (files_of new)
-      → db_of (files_of new) ≡ db_of (files_of old) → has_failed_in new ≡ has_failed_in old → new.transaction ≡ old.transaction → current_in new.catalog ≡ current_in old.catalog
-      → committed_in new.catalog ≡ current_in old.catalog → HasNoSavepoints new.catalog → CommitsDatabase old db new
-  has_committed old new w db applies is db_same failed transaction tables all none = record {
+      → db_of (files_of new) ≡ db_of (files_of old) → (state_of (files_of old)).frames < (state_of (files_of new)).frames → IsAfterCommit old (files_of new) new → CommitsDatabase old db new
+  has_committed old new w db applies is db_same more next = record {
     told = is.tells;
     settled = record {
       db_synced = subst (λ (d : D). IsSynced (g.file d)) (sym db_same) applies.settled.db_synced;
@@ -63,12 +62,14 @@ module _ {D : Type 0} {g : Ghosts D} where
       commits = is.settled;
       found = found_over (files_of old) w (first_of (view_of (files_of old) w)) applies.stored.stored.header (newest_view (files_of new)) applies.settled.found is.db_is is.page_size_is is.left is.sized is.few (some_pages (files_of old) w (current_in old.catalog) db applies.stored);
     };
-    failed = failed;
-    transaction = transaction;
-    tables = tables;
-    all = tables ∙ sym all;
-    savepoints = none;
-    stored = subst (λ (ts : List Table). ShowsDatabase (newest_view (files_of new)) ts db) (sym tables) (stores_over (files_of old) w (current_in old.catalog) db applies.stored (newest_view (files_of new)) is.page_size_is is.left);
+    failed = next.failed;
+    connection = next.connection;
+    parked = next.parked;
+    transaction = next.transaction;
+    all = next.all;
+    savepoints = next.savepoints;
+    older = record { more = more; at = is.stay };
+    stored = subst (λ (ts : List Table). ShowsDatabase (newest_view (files_of new)) ts db) (sym next.newest) (stores_over (files_of old) w (current_in old.catalog) db applies.stored (newest_view (files_of new)) is.page_size_is is.left);
   }
 
   -- what a crash leaves of it
@@ -114,13 +115,13 @@ module _ {D : Type 0} {g : Ghosts D} where
           (subst (λ (v : View). ShowsDatabase (after v (changes_of left) (pages_of left)) (current_in old.catalog) db) (sym (same.at (snapshot_of left))) stores_left);
     }
 
-    uncommitted : IsCommitCause (files_of old) w f → (f ≡ fault.Io → ⊥) → has_failed_in new ≡ has_failed_in old → new.catalog ≡ old.catalog → new.transaction ≡ old.transaction → IsUncommitted old w db new left f
-    uncommitted why other failed catalog transaction =
+    uncommitted : IsCommitCause (files_of old) w f → (f ≡ fault.Io → ⊥) → beside_in new ≡ beside_in old → new.catalog ≡ old.catalog → new.transaction ≡ old.transaction → IsUncommitted old w db new left f
+    uncommitted why other beside catalog transaction =
         let files = is.files other in
         let same = same_files (files_of old) (files_of new) applies.told files.0 files.1 files.2 in
         record {
           why = why;
-          kept = record { files = same; failed = failed; transaction = transaction; tables = ap committed_in catalog; savepoints = ap savepoints_in catalog };
+          kept = record { files = same; beside = beside; transaction = transaction; tables = ap committed_in catalog; savepoints = ap savepoints_in catalog };
           tables = ap current_in catalog;
           applies = works_left same catalog;
           marks = is.marks;
@@ -128,16 +129,19 @@ module _ {D : Type 0} {g : Ghosts D} where
         }
 
     pub commit_refused : AreNew (view_at (files_of old) (snapshot_of w)) (changes_of w) (changes_of w) → db_of (files_of new) ≡ db_of (files_of old)
-        → (log_of (files_of new) ≡ log_of (files_of old)) ⊎ LeavesCommit (files_of old) w (first_of (view_of (files_of old) w)) applies.stored.stored.header (files_of new) → has_failed_in old ≡ false → has_failed_in new ≡ is_io f → new.catalog ≡ old.catalog → new.transaction ≡ old.transaction → CommitsChanges old w db (Err f) new left
-    commit_refused own db_same crash whole failed catalog transaction = by_why is.why
+        → (log_of (files_of new) ≡ log_of (files_of old)) ⊎ LeavesCommit (files_of old) w (first_of (view_of (files_of old) w)) applies.stored.stored.header (files_of new) → has_failed_in old ≡ false → beside_in new ≡ record (beside_in old) { failed = is_io f } → new.catalog ≡ old.catalog → new.transaction ≡ old.transaction → CommitsChanges old w db (Err f) new left
+    commit_refused own db_same crash whole beside catalog transaction = by_why is.why
       where
+        still_failed : (b : Bool) → b ≡ has_failed_in old → record (beside_in old) { failed = b } ≡ beside_in old
+        still_failed b same = ap (λ (x : Bool). record (beside_in old) { failed = x }) same
+
         by_why : (f ≡ fault.Memory) ⊎ ((f ≡ fault.Io) ⊎ ((f ≡ fault.Full) × (IsWithin (state_of (files_of old)) (length (changes_of w)) (pages_of w) → ⊥))) → CommitsChanges old w db (Err f) new left
-        by_why (inl memory) = inr (uncommitted (inl memory) (λ io. false≢true (ap is_io (sym memory ∙ io))) (failed ∙ ap is_io memory ∙ sym whole) catalog transaction)
+        by_why (inl memory) = inr (uncommitted (inl memory) (λ io. false≢true (ap is_io (sym memory ∙ io))) (beside ∙ still_failed (is_io f) (ap is_io memory ∙ sym whole)) catalog transaction)
         by_why (inr (inl io)) = inl (record {
           io = io;
-          failed = failed ∙ ap is_io io;
+          failed = ap (λ (b : Beside). b.failed) beside ∙ ap is_io io;
           held = commit_holds old new w db applies db_same crash;
           db_left = db_left (files_of old) (files_of new) applies.settled db_same;
           log_left = log_left (files_of old) (files_of new) w (first_of (view_of (files_of old) w)) applies.stored.stored.header applies.settled crash;
         })
-        by_why (inr (inr full)) = inr (uncommitted (inr (full.0, record { pages = changes_of w; are = own; past = full.1 })) (λ io. false≢true (ap is_io (sym full.0 ∙ io))) (failed ∙ ap is_io full.0 ∙ sym whole) catalog transaction)
+        by_why (inr (inr full)) = inr (uncommitted (inr (full.0, record { pages = changes_of w; are = own; past = full.1 })) (λ io. false≢true (ap is_io (sym full.0 ∙ io))) (beside ∙ still_failed (is_io f) (ap is_io full.0 ∙ sym whole)) catalog transaction)

@@ -1,6 +1,6 @@
 -- What is answered before a statement is looked at.
 use Rattle.std.proofs.Common.{◌≡◌, inl, inr, refl, sym, ap, subst, ◌∙◌, ℕ, ◌==◌, Bool, true, false, Ok, Err, arith}
-use Rattle.std.specs.Prelude.{◌&&◌, ◌||◌, nat_lt, IsErrAnd, Result, ⊤, if◌then◌else◌}
+use Rattle.std.specs.Prelude.{◌≤◌, ◌||◌, nat_lt, IfErr, IsErrAnd, IsTrue, Result, ⊤, if◌then◌else◌}
 use Rattle.std.proofs.lemmas.Bool.Decides.{nat_tests}
 use Rattle.disk.specs.declared.device.Disk.{Ghosts}
 use Rattle.sqlval.specs.Refusals as refusal
@@ -12,15 +12,20 @@ use Rattle.syntax.specs.declared.query.Query.{Query}
 use Rattle.syntax.specs.declared.statement.Statement.{Statement}
 use Rattle.syntax.specs.declared.statement.Statement.TheVariants as statement
 use Rattle.catalog.specs.Database.{Database}
-use Rattle.session.specs.Supported.{StepSoFar, is_connection_supported}
+use Rattle.session.specs.Supported.{StepSoFar}
 use Rattle.storage.specs.Forms.{is_query, is_supported}
-use Rattle.session.specs.ConnectionState.{first_refusal, has_failed_in}
+use Rattle.wal.specs.declared.log.Log.{Log}
+use Rattle.session.specs.ConnectionState.{files_of, first_refusal, has_failed_in}
 use Rattle.session.specs.Machine.{Machine, Reply, Refused}
 use Rattle.session.specs.Steps.{is_connection}
-use Rattle.session.specs.Representation.{CannotStoreIn, RepresentsRunning, Represents, Steps, StepsTo, done_reply, rows_reply}
+use Rattle.pager.specs.Views.{Tells}
+use Rattle.session.specs.Failing.{HasCallFailed, IsPastIn, IsRefusedFor, IsRefusedHere, MarksFailure, may_want_memory}
+use Rattle.session.specs.Representation.{CannotStoreIn, Represents, ShowTheSame, Steps, StepsOn, StepsOver, Switches, done_reply, rows_reply}
 use Rattle.session.specs.declared.transactions.Connections.{Connections}
 use Rattle.session.proofs.Selecting.{Rowed}
 use Rattle.session.proofs.Settled.{as_shown}
+use Rattle.session.proofs.Switching.{seat_there, steps_over, switched_shown, was_present}
+use Rattle.session.specs.declared.seats.Transaction.{Transaction}
 
 -- ---- the first refusals
 
@@ -36,10 +41,10 @@ either false go other = other refl
 
 module _ (R : Database → Refusal → Type 0) (m : Machine) (n : ℕ) (s : Statement) where
   failed_step : m.failed ≡ true → StepSoFar R m n s (Refused refusal.Failed) m
-  failed_step failed = either (is_supported s && is_connection_supported n) (λ is. inl (is, inl (inl (failed, refl, refl)))) (λ is. inr (is, refl, inl (failed, refl)))
+  failed_step failed = either (is_supported s) (λ is. inl (is, inl (inl (failed, refl, refl)))) (λ is. inr (is, refl, inl (failed, refl)))
 
   numbered_step : m.failed ≡ false → is_connection n ≡ false → StepSoFar R m n s (Refused refusal.Misuse) m
-  numbered_step running none = either (is_supported s && is_connection_supported n) (λ is. inl (is, inl (inr (inl (running, none, refl, refl))))) (λ is. inr (is, refl, inr (inl (running, none, refl))))
+  numbered_step running none = either (is_supported s) (λ is. inl (is, inl (inr (inl (running, none, refl, refl))))) (λ is. inr (is, refl, inr (inl (running, none, refl))))
 
 pub no_connection : (n : ℕ) → (n == 0 || nat_lt 16 n) ≡ true → is_connection n ≡ false
 no_connection n is = grind (arith, nat_tests)
@@ -53,8 +58,8 @@ one_fault a b is = cc
 pub not_both : (f : Fault) → done ≡ Err f → ⊥
 not_both f is = absurd cc
 
-another : (n : ℕ) → (n ≡ 1 → ⊥) → is_connection_supported n ≡ false
-another n other = grind (arith, nat_tests)
+within_connections : (n : ℕ) → is_connection n ≡ true → 1 ≤ n
+within_connections n is = grind (arith, nat_tests)
 
 pub first_by : (n : ℕ) → (n == 0 || nat_lt 16 n) ≡ true → first_refusal false n ≡ first_fault (fault.Misuse misuse.Connection)
 first_by n bad = ap (λ b. if b then first_fault (fault.Misuse misuse.Connection) else done) bad
@@ -90,43 +95,63 @@ module _ {D : Type 0} {g : Ghosts D} where
       whole : first_refusal false n ≡ done
       whole = ap (λ b. first_refusal b n) (sym shown.whole) ∙ is
 
-  pub done_supported : (c : Connections D g) (n : ℕ) → n ≡ 1 → first_refusal (has_failed_in c) n ≡ done → first_refusal (has_failed_in c) 1 ≡ done
-  done_supported c n one is = subst (λ (k : ℕ). first_refusal (has_failed_in c) k ≡ done) one is
-
-  stays_with : (c : Connections D g) (m : Machine) (n : ℕ) (s : Statement) (reply : Reply) → Represents c m → StepSoFar (CannotStoreIn c s) m n s reply m → StepsTo c m n s reply c
+  stays_with : (c : Connections D g) (m : Machine) (n : ℕ) (s : Statement) (reply : Reply) → Represents c m → StepSoFar (CannotStoreIn c n s) m n s reply m → StepsOver (CannotStoreIn c n s) c m n s reply c
   stays_with c m n s reply shows step = record { next = m; step = step; shown = shows; crash = as_shown c m shows }
 
   -- refused before the statement is looked at
   pub refused_first : (c : Connections D g) (n : ℕ) (s : Statement) (f : Fault) → first_refusal (has_failed_in c) n ≡ Err f → Steps c n s (Refused (refusal_of f)) c
   refused_first c n s f is m (inl failed) =
       let why : first_refusal true n ≡ Err f = ap (λ b. first_refusal b n) (sym failed.0) ∙ is in
-      subst (λ (e : Fault). StepsTo c m n s (Refused (refusal_of e)) c) (one_fault fault.Failed f why)
-      (stays_with c m n s (Refused refusal.Failed) (inl failed) (failed_step (CannotStoreIn c s) m n s failed.1))
+      subst (λ (e : Fault). StepsOver (CannotStoreIn c n s) c m n s (Refused (refusal_of e)) c) (one_fault fault.Failed f why)
+      (stays_with c m n s (Refused refusal.Failed) (inl failed) (failed_step (CannotStoreIn c n s) m n s failed.1))
   refused_first c n s f is m (inr shown) = either (n == 0 || nat_lt 16 n) none some
     where
       whole : first_refusal false n ≡ Err f
       whole = ap (λ b. first_refusal b n) (sym shown.whole) ∙ is
 
-      none : (n == 0 || nat_lt 16 n) ≡ true → StepsTo c m n s (Refused (refusal_of f)) c
-      none bad = subst (λ (e : Fault). StepsTo c m n s (Refused (refusal_of e)) c) (one_fault (fault.Misuse misuse.Connection) f (sym (first_by n bad) ∙ whole))
-          (stays_with c m n s (Refused refusal.Misuse) (inr shown) (numbered_step (CannotStoreIn c s) m n s shown.running (no_connection n bad)))
+      none : (n == 0 || nat_lt 16 n) ≡ true → StepsOver (CannotStoreIn c n s) c m n s (Refused (refusal_of f)) c
+      none bad = subst (λ (e : Fault). StepsOver (CannotStoreIn c n s) c m n s (Refused (refusal_of e)) c) (one_fault (fault.Misuse misuse.Connection) f (sym (first_by n bad) ∙ whole))
+          (stays_with c m n s (Refused refusal.Misuse) (inr shown) (numbered_step (CannotStoreIn c n s) m n s shown.running (no_connection n bad)))
 
-      some : (n == 0 || nat_lt 16 n) ≡ false → StepsTo c m n s (Refused (refusal_of f)) c
+      some : (n == 0 || nat_lt 16 n) ≡ false → StepsOver (CannotStoreIn c n s) c m n s (Refused (refusal_of f)) c
       some good = absurd (not_both f (sym (passes_by n good) ∙ whole))
 
-  -- a form that isn't supported, or a connection that isn't supported
-  unsupported : (c : Connections D g) (n : ℕ) (s : Statement) → first_refusal (has_failed_in c) n ≡ done → (is_supported s && is_connection_supported n) ≡ false → Steps c n s (Refused refusal.Unsupported) c
-  unsupported c n s first none m shows =
+  -- a form that isn't supported
+  pub unsupported_form : (c : Connections D g) (n : ℕ) (s : Statement) → first_refusal (has_failed_in c) n ≡ done → is_supported s ≡ false → Steps c n s (Refused refusal.Unsupported) c
+  unsupported_form c n s first none m shows =
       let on = served_for c m n first shows in
       stays_with c m n s (Refused refusal.Unsupported) shows (inr (none, refl, inr (inr (on.0, on.1, inl refl))))
 
-  pub unsupported_form : (c : Connections D g) (n : ℕ) (s : Statement) → first_refusal (has_failed_in c) n ≡ done → is_supported s ≡ false → Steps c n s (Refused refusal.Unsupported) c
-  unsupported_form c n s first none = unsupported c n s first (ap (λ b. b && is_connection_supported n) none)
-
-  pub not_served : (c : Connections D g) (n : ℕ) (s : Statement) → first_refusal (has_failed_in c) n ≡ done → is_supported s ≡ true → (n ≡ 1 → ⊥) → Steps c n s (Refused refusal.Unsupported) c
-  not_served c n s first supported_forms other = unsupported c n s first (ap (λ b. b && is_connection_supported n) supported_forms ∙ another n other)
-
   -- where no commit has failed, what is shown is shown whole
-  pub steps_from : (old new : Connections D g) (s : Statement) (reply : Reply) → first_refusal (has_failed_in old) 1 ≡ done → ((m : Machine) → RepresentsRunning old m → StepsTo old m 1 s reply new) → Steps old 1 s reply new
-  steps_from old new s reply is steps m (inl failed) = absurd (not_both fault.Failed (sym is ∙ ap (λ b. first_refusal b 1) failed.0))
-  steps_from old new s reply is steps m (inr shown) = steps m shown
+  pub steps_switched : (old mid new : Connections D g) (n : ℕ) (s : Statement) (reply : Reply) → first_refusal (has_failed_in old) n ≡ done → Switches n old mid → StepsOn mid s reply new → Steps old n s reply new
+  steps_switched old mid new n s reply is switch steps m (inl failed) = absurd (not_both fault.Failed (sym is ∙ ap (λ b. first_refusal b n) failed.0))
+  steps_switched old mid new n s reply is switch steps m (inr shown) =
+      let on = served_for old m n is (inr shown) in
+      let was = was_present n old mid switch in
+      let there = seat_there old m shown in
+      let bounds = within_connections n on.1 in
+      let own = within_connections old.connection shown.numbered in
+      steps_over old mid new m n s reply was.files was.number (was.transaction bounds (omega (arith, there n on.1, bounds)) own (omega (arith, there old.connection shown.numbered, own))) (steps m (switched_shown n old mid m on.1 switch shown))
+
+  -- the causes of refusals are those of the connection that became the present one
+  pub refused_switched : {T : Type 0} (old mid : Connections D g) (n : ℕ) (s : Statement) (result : Result T Fault) → first_refusal (has_failed_in old) n ≡ done → Switches n old mid → IfErr result (IsRefusedHere mid s) → IfErr result (IsRefusedFor old n s)
+  refused_switched old mid n s (Ok x) is switch refused = tt
+  refused_switched old mid n s (Err f) is switch refused = λ above below from to.
+      let was = was_present n old mid switch in
+      let same = was.transaction above below from to in
+      record {
+        memory = λ memory. subst (λ (t : Transaction). IsTrue (may_want_memory t s)) same (refused.memory memory);
+        full = λ m shown commit full.
+            let on = served_for old m n is (inr shown) in
+            subst (λ (t : Transaction). IsPastIn (files_of old) t) same
+            (subst (λ (l : Log D g). IsPastIn l mid.transaction) was.files (refused.full m (switched_shown n old mid m on.1 switch shown) commit full));
+      }
+
+  -- the engine is marked by what failed after it
+  pub marks_switched : {T : Type 0} (old mid new : Connections D g) (n : ℕ) (result : Result T Fault) → Switches n old mid → MarksFailure result mid new → MarksFailure result old new
+  marks_switched old mid new n result switch marks =
+      let was = was_present n old mid switch in
+      record {
+        marked = λ whole failed. (let is = marks.marked (was.failed ∙ whole) failed in (is.0, subst (λ (l : Log D g). HasCallFailed l (files_of new)) was.files is.1));
+        unmarked = λ io whole told. subst (λ (l : Log D g). ShowTheSame l (files_of new)) was.files (marks.unmarked io whole (subst Tells (sym was.files) told));
+      }

@@ -32,3 +32,6 @@ mod WellFormedRows
 pub mod StandingViews
 pub mod Standing
 pub mod StoredFiles
+pub mod Parking
+pub mod Switching
+pub mod FirstRefusals

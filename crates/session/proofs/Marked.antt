@@ -60,7 +60,7 @@ module _ {D : Type 0} {g : Ghosts D} where
   pub unmarked : (s : Statement) (c : Connections D g) (w v : Writer) (db : Database) (r : Result ⊤ Fault) (f : Fault) → IsErrAnd r (λ e. e ≡ f) → f ≡ fault.Memory → CanApply c w db → Applies s c w db r c v
   unmarked s c w v db (Ok done) f is memory on = absurd is
   unmarked s c w v db (Err e) f is memory on = record {
-    kept = record { files = the_same (files_of c) on.told; failed = refl; transaction = refl; tables = refl; savepoints = refl };
+    kept = record { files = the_same (files_of c) on.told; beside = refl; transaction = refl; tables = refl; savepoints = refl };
     tables = refl;
     why = inl (inl (inl (is ∙ memory)));
   }

@@ -1,12 +1,14 @@
 -- The commit of those of a writer's pages that its snapshot doesn't show, after these were read.
-use Rattle.std.proofs.Common.{◌≡◌, ◌⊎◌, inl, inr, refl, sym, ap, subst, ◌∙◌, ℕ, List, [], length, false, arith}
+use Rattle.std.proofs.Common.{◌≡◌, ◌⊎◌, inl, inr, refl, sym, ap, subst, ◌∙◌, ℕ, ◌<◌, ◌≤◌, Bool, List, [], ◌∷◌, length, false, arith}
 use Rattle.std.specs.Prelude.{⊤, IfErr, IsErrAnd, OnOk, Result, Ok, Err}
 use Rattle.sqlval.specs.Faults.{IsOutside}
 use Rattle.sqlval.specs.declared.fault.Fault.{Fault}
 use Rattle.disk.specs.declared.device.Disk.{Ghosts}
 use Rattle.disk.proofs.Current.{synced_left}
 use Rattle.pages.specs.Map.{PageMap, Has}
+use Rattle.wal.specs.Commits.{IsStateAfter, grown}
 use Rattle.wal.specs.LogState.{LogState, db_of, log_of, state_of}
+use Rattle.wal.specs.declared.pages.PageImage.{PageImage}
 use Rattle.wal.specs.Refusals.{IsWithin}
 use Rattle.wal.specs.Sizes.{IsSizeWithinLimits}
 use Rattle.wal.specs.declared.log.Log.{Log}
@@ -20,14 +22,14 @@ use Rattle.pager.specs.Limits.{pages_of}
 use Rattle.pager.specs.Maps.{pages_in}
 use Rattle.pager.specs.Pruning.{AreAllThere, AreNew, IsPruned}
 use Rattle.pager.specs.Views.{View, ViewHas, after, changes_of, newest_view, view_at, view_of}
-use Rattle.pager.specs.Writers.{seen, snapshot_of}
+use Rattle.pager.specs.Writers.{BeginAtPageOne, seen, snapshot_of}
 use Rattle.pager.specs.declared.writer.Writer.{Writer}
 use Rattle.pager.proofs.Mapping.{count_to, maps_alike, shows_mapped}
 use Rattle.pager.proofs.NewPages.{new_twice}
 use Rattle.storage.specs.Stored.{Stores}
 use Rattle.session.specs.ConnectionState.{files_of, has_failed_in, is_io}
-use Rattle.session.specs.Applying.{CanApply, CommitsChanges, CommitsDatabase, HoldsEither, IsAfterRefusal, IsCommitCause, IsInDoubt, IsPast, IsUncommitted, WritesChanges}
-use Rattle.session.specs.Representation.{ShowTheSame}
+use Rattle.session.specs.Applying.{CanApply, CommitsChanges, CommitsDatabase, HoldsEither, IsAfterCommit, IsAfterRefusal, IsCommitCause, IsInDoubt, IsPast, IsUncommitted, WritesChanges}
+use Rattle.session.specs.Representation.{Beside, ShowTheSame, beside_in}
 use Rattle.session.specs.Writers.{IsNewest, IsWriter}
 use Rattle.session.specs.Stored.{ShowsDatabase}
 use Rattle.session.specs.declared.transactions.Connections.{Connections}
@@ -72,11 +74,11 @@ module _ {D : Type 0} {g : Ghosts D} where
     mid_applies = still_applies (with_files old mid) same refl
 
     -- a refusal after which the files are as they were
-    pub left_so : (next : Connections D g) (f : Fault) → IsCommitCause (files_of old) w f → ShowTheSame (files_of old) (files_of next) → has_failed_in next ≡ has_failed_in old → next.transaction ≡ old.transaction
+    pub left_so : (next : Connections D g) (f : Fault) → IsCommitCause (files_of old) w f → ShowTheSame (files_of old) (files_of next) → beside_in next ≡ beside_in old → next.transaction ≡ old.transaction
         → committed_in next.catalog ≡ committed_in old.catalog → savepoints_in next.catalog ≡ savepoints_in old.catalog → current_in next.catalog ≡ current_in old.catalog → IsUncommitted old w db next w f
-    left_so next f why shows failed transaction committed points current = record {
+    left_so next f why shows beside transaction committed points current = record {
       why = why;
-      kept = record { files = shows; failed = failed; transaction = transaction; tables = committed; savepoints = points };
+      kept = record { files = shows; beside = beside; transaction = transaction; tables = committed; savepoints = points };
       tables = current;
       applies = still_applies next shows current;
       marks = refl;
@@ -85,13 +87,13 @@ module _ {D : Type 0} {g : Ghosts D} where
 
     -- where reading them was refused
     pub not_read : (next : Connections D g) (f : Fault) → IsOutside f → IsAfterRefusal old mid f next → CommitsChanges old w db (Err f) next w
-    not_read next f (inl memory) is = inr (left_so next f (inl memory) (subst (ShowTheSame (files_of old)) (sym is.files_are) same) (is.failed ∙ ap is_io memory ∙ sym whole) is.transaction (ap committed_in is.catalog) (ap savepoints_in is.catalog) (ap current_in is.catalog))
+    not_read next f (inl memory) is = inr (left_so next f (inl memory) (subst (ShowTheSame (files_of old)) (sym is.files_are) same) (is.beside ∙ ap (λ (b : Bool). record (beside_in old) { failed = b }) (ap is_io memory ∙ sym whole)) is.transaction (ap committed_in is.catalog) (ap savepoints_in is.catalog) (ap current_in is.catalog))
     not_read next f (inr io) is =
         let shows : ShowTheSame (files_of old) (files_of next) = subst (ShowTheSame (files_of old)) (sym is.files_are) same in
         let settled = still_settled (files_of old) (files_of next) shows applies.settled in
         inl (record {
           io = io;
-          failed = is.failed ∙ ap is_io io;
+          failed = ap (λ (b : Beside). b.failed) is.beside ∙ ap is_io io;
           held = λ first shown. ([], (settled_leaves (λ d. (d ≡ first) ⊎ (d ≡ db)) (files_of old) (committed_in old.catalog) first (inl refl) applies.settled shown, shows.db_file, shows.log_file));
           db_left = synced_left (g.file (db_of (files_of next))) settled.db_synced;
           log_left = synced_left (g.file (log_of (files_of next))) settled.log_synced;
@@ -102,7 +104,21 @@ module _ {D : Type 0} {g : Ghosts D} where
         (held first (subst (λ (v : View). ShowsDatabase v (committed_in old.catalog) first) (sym same.newest) shown))
 
     committed_over : (next : Connections D g) → CommitsDatabase (with_files old mid) db next → CommitsDatabase old db next
-    committed_over next is = record { told = is.told; settled = is.settled; failed = is.failed; transaction = is.transaction; tables = is.tables; all = is.all; savepoints = is.savepoints; stored = is.stored }
+    committed_over next is = record {
+      told = is.told;
+      settled = is.settled;
+      failed = is.failed;
+      connection = is.connection;
+      parked = is.parked;
+      transaction = is.transaction;
+      all = is.all;
+      savepoints = is.savepoints;
+      stored = is.stored;
+      older = record {
+        more = omega (arith, is.older.more, ap (λ (k : LogState). k.frames) same.known);
+        at = λ s within. is.older.at s (omega (arith, within, ap (λ (k : LogState). k.frames) same.known)) ∙ same.at s;
+      };
+    }
 
     doubt_over : (next : Connections D g) (f : Fault) → IsInDoubt (with_files old mid) db next f → IsInDoubt old db next f
     doubt_over next f is = record { io = is.io; failed = is.failed; held = held_over next is.held; db_left = is.db_left; log_left = is.log_left }
@@ -127,7 +143,7 @@ module _ {D : Type 0} {g : Ghosts D} where
     written_over (Err f) next left (inl doubt) = inl (doubt_over next f doubt)
     written_over (Err f) next left (inr none) = inr (record {
       why = cause_over w f (past_over w refl refl (λ pages are. are)) none.why;
-      kept = record { files = show_on (files_of old) mid (files_of next) same none.kept.files; failed = none.kept.failed; transaction = none.kept.transaction; tables = none.kept.tables; savepoints = none.kept.savepoints };
+      kept = record { files = show_on (files_of old) mid (files_of next) same none.kept.files; beside = none.kept.beside; transaction = none.kept.transaction; tables = none.kept.tables; savepoints = none.kept.savepoints };
       tables = none.tables;
       applies = none.applies;
       marks = none.marks;
@@ -174,7 +190,7 @@ module _ {D : Type 0} {g : Ghosts D} where
       pruned_over (Err f) next left (inl doubt) = inl (doubt_over next f doubt)
       pruned_over (Err f) next left (inr none) = inr (left_so next f
           (cause_over pruned f (past_over pruned is.snapshot is.size (λ pages are. new_twice (view_at (files_of old) (snapshot_of w)) (changes_of w) (changes_of pruned) pages is.changes are)) none.why)
-          (show_on (files_of old) mid (files_of next) same none.kept.files) none.kept.failed none.kept.transaction none.kept.tables none.kept.savepoints none.tables)
+          (show_on (files_of old) mid (files_of next) same none.kept.files) none.kept.beside none.kept.transaction none.kept.tables none.kept.savepoints none.tables)
 
     -- ---- what the call has come to
 
@@ -194,16 +210,36 @@ module _ {D : Type 0} {g : Ghosts D} where
       pub may : MayCommit mid v page header
       may = may_commit (with_files old mid) v db applies_now
 
+      -- a commit has a frame for each page, and page 1 is among them
+      some_changes : (ps : List PageImage) → BeginAtPageOne ps → 1 ≤ length ps
+      some_changes [] first = absurd first
+      some_changes (p ∷ ps) first = omega arith
+
+      more_frames : (new : Log D g) → state_of new ≡ grown (state_of mid) (length (changes_of v)) (pages_of v) → (state_of mid).frames < (state_of new).frames
+      more_frames new known = omega (arith, some_changes (changes_of v) applies_now.writer.sound.consistent.first, ap (λ (k : LogState). k.frames) known)
+
+      on_mid : {files : Log D g} (next : Connections D g) → IsAfterCommit old files next → IsAfterCommit (with_files old mid) (files_of next) next
+      on_mid next after = record {
+        files_are = refl;
+        failed = after.failed;
+        connection = after.connection;
+        parked = after.parked;
+        transaction = after.transaction;
+        newest = after.newest;
+        all = after.all;
+        savepoints = after.savepoints;
+      }
+
       pub ends : (result : Result ⊤ Fault) (new : Log D g) (left last : Writer) → OnOk result (CommitsPages mid v page header new) → IfErr result (IsRefusedCommit mid v page header new left) → db_of new ≡ db_of mid
-          → (log_of new ≡ log_of mid) ⊎ LeavesCommit mid v page header new
+          → IsStateAfter result (state_of mid) (length (changes_of v)) (pages_of v) (state_of new) → (log_of new ≡ log_of mid) ⊎ LeavesCommit mid v page header new
           → ((r : Result ⊤ Fault) (next : Connections D g) → CommitsChanges (with_files old mid) v db r next left → CommitsChanges old w db r next last) → WritesChanges old w db result new last
-      ends (Ok done) new left last commits refused db_same crash over = λ next after.
+      ends (Ok done) new left last commits refused db_same known crash over = λ next after.
           let made : CommitsPages mid v page header (files_of next) = subst (CommitsPages mid v page header) (sym after.files_are) commits in
           let same_db : db_of (files_of next) ≡ db_of mid = ap db_of after.files_are ∙ db_same in
           over (Ok done) next (
-            has_committed (with_files old mid) next v db applies_now made same_db after.failed after.transaction after.current after.committed after.savepoints,
+            has_committed (with_files old mid) next v db applies_now made same_db (more_frames (files_of next) (ap state_of after.files_are ∙ known)) (on_mid next after),
             commit_holds (with_files old mid) next v db applies_now same_db (subst (λ (l : Log D g). (log_of l ≡ log_of mid) ⊎ LeavesCommit mid v page header l) (sym after.files_are) crash),
           )
-      ends (Err f) new left last commits refused db_same crash over = λ next after.
+      ends (Err f) new left last commits refused db_same known crash over = λ next after.
           over (Err f) next (commit_refused (with_files old mid) next v left db f applies_now (subst (λ (l : Log D g). IsRefusedCommit mid v page header l left f) (sym after.files_are) refused) own (ap db_of after.files_are ∙ db_same)
-          (subst (λ (l : Log D g). (log_of l ≡ log_of mid) ⊎ LeavesCommit mid v page header l) (sym after.files_are) crash) whole after.failed after.catalog after.transaction)
+          (subst (λ (l : Log D g). (log_of l ≡ log_of mid) ⊎ LeavesCommit mid v page header l) (sym after.files_are) crash) whole after.beside after.catalog after.transaction)

@@ -4,12 +4,13 @@ use Rattle.std.proofs.lemmas.List.{drop_more, get_or-map, get_or-take, length-ma
 use Rattle.std.specs.List.{list_any}
 use Rattle.std.specs.Prelude.{None, Some, Vec}
 use Rattle.std.specs.declared.alloc.Global.{Global}
+use Rattle.std.specs.declared.rc.Rc.{Rc}
 use Rattle.sqlval.specs.Names.{is_same_name}
 use Rattle.catalog.specs.Database.{Name}
-use Rattle.catalog.specs.Listed.{current_tables, tables_of}
+use Rattle.catalog.specs.Listed.{tables_of}
 use Rattle.catalog.specs.declared.tables.Catalog.{Catalog}
 use Rattle.catalog.specs.declared.tables.Table.{Table}
-use Rattle.session.specs.SavedTables.{AddsSavepoint, GoesBackTo, IsNewestNamed, ReleasesFrom, SavedTables, Savepoints, changed_to, committed_in, current_in, saved_after, savepoints_in, tables_after}
+use Rattle.session.specs.SavedTables.{AddsSavepoint, GoesBackTo, IsNewestNamed, Rebases, ReleasesFrom, SavedTables, Savepoints, changed_to, committed_in, current_in, first_in, rebased, saved_after, savepoints_in, tables_after, unchanged}
 use Rattle.session.specs.declared.savepoints.SavedCatalogs.{SavedCatalogs}
 use Rattle.session.specs.declared.savepoints.Savepoint.{Savepoint}
 
@@ -61,7 +62,7 @@ saved_set ts ss n s within same =
     ∙ ap (saved_after ts) (sym (take_more ss n s within))
     ∙ saved_take (n + 1) ts ss
 
-pub after_changed : (ts : List Table) (ss : List Savepoint) (s : Savepoint) (c : Catalog) → s.changed ≡ Some c → tables_after ts (ss ++ s ∷ []) ≡ tables_of c
+pub after_changed : (ts : List Table) (ss : List Savepoint) (s : Savepoint) (c : Rc Catalog Global) → s.changed ≡ Some c → tables_after ts (ss ++ s ∷ []) ≡ tables_of c.value
 after_changed ts ss s c is = after_push ts ss s ∙ ap (changed_to (tables_after ts ss)) is
 
 pub after_none : (ts : List Table) (ss : List Savepoint) (s : Savepoint) → s.changed ≡ None → tables_after ts (ss ++ s ∷ []) ≡ tables_after ts ss
@@ -71,7 +72,7 @@ after_none ts ss s is = after_push ts ss s ∙ ap (changed_to (tables_after ts s
 last_set : (ss : List Savepoint) (n : ℕ) (s : Savepoint) → n + 1 ≡ length ss → set ss n s ≡ take n ss ++ s ∷ []
 last_set ss n s is = ap (λ (xs : List Savepoint). set xs n s) (sym (take_all (n + 1) ss (omega (arith, is)))) ∙ newest_set ss n s (omega (arith, is))
 
-pub set_current : (ts : List Table) (ss : List Savepoint) (n : ℕ) (s : Savepoint) (c : Catalog) → n + 1 ≡ length ss → s.changed ≡ Some c → tables_after ts (set ss n s) ≡ tables_of c
+pub set_current : (ts : List Table) (ss : List Savepoint) (n : ℕ) (s : Savepoint) (c : Rc Catalog Global) → n + 1 ≡ length ss → s.changed ≡ Some c → tables_after ts (set ss n s) ≡ tables_of c.value
 set_current ts ss n s c is changed = ap (tables_after ts) (last_set ss n s is) ∙ after_changed ts (take n ss) s c changed
 
 pub set_saved : (ts : List Table) (ss : List Savepoint) (n : ℕ) (s : Savepoint) → n + 1 ≡ length ss → s.name ≡ (get_or ss n s).name → saved_after ts (set ss n s) ≡ saved_after ts ss
@@ -123,7 +124,7 @@ kept_as began points = record { began = began; points = points }
 
 pub adds : (old : SavedCatalogs) (v : Vec Savepoint Global) (n : Name) → v.items ≡ old.savepoints.items ++ record { name = n; changed = None } ∷ [] → AddsSavepoint n old.began old (record old { savepoints = v })
 adds old v n is =
-    let ts = current_tables old.catalogs in
+    let ts = first_in old in
     let s : Savepoint = record { name = n; changed = None } in
     record {
       current = ap (tables_after ts) is ∙ after_none ts old.savepoints.items s refl;
@@ -134,7 +135,7 @@ adds old v n is =
 pub goes_back : (old : SavedCatalogs) (v : Vec Savepoint Global) (place : ℕ) (s : Savepoint) (cut : List Savepoint) → cut ≡ take (place + 1) old.savepoints.items → v.items ≡ set cut place s → s.changed ≡ None → s.name ≡ (get_or cut place s).name
     → place < length (savepoints_in old).points → GoesBackTo place old (record old { savepoints = v })
 goes_back old v place s cut taken is none same within =
-    let ts = current_tables old.catalogs in
+    let ts = first_in old in
     let ss = old.savepoints.items in
     let below : place < length ss = omega (arith, within, saved_length ts ss) in
     let items : v.items ≡ take place ss ++ s ∷ [] = is ∙ ap (λ (xs : List Savepoint). set xs place s) taken ∙ newest_set ss place s below in
@@ -148,7 +149,7 @@ goes_back old v place s cut taken is none same within =
 pub pops : (old : SavedCatalogs) (v : Vec Savepoint Global) (s : Savepoint) (new : SavedCatalogs) → old.savepoints.items ≡ v.items ++ s ∷ [] → current_in new ≡ changed_to (current_in (record old { savepoints = v })) s.changed
     → committed_in new ≡ committed_in old → savepoints_in new ≡ savepoints_in (record old { savepoints = v }) → ReleasesFrom (length (savepoints_in old).points - 1) old new
 pops old v s new is current committed savepoints =
-    let ts = current_tables old.catalogs in
+    let ts = first_in old in
     let count : length v.items ≡ length (savepoints_in old).points - 1 = omega (arith, saved_length ts old.savepoints.items, ap length is, length_push v.items s) in
     record {
       current = current ∙ sym (ap (tables_after ts) is ∙ after_push ts v.items s);
@@ -157,7 +158,7 @@ pops old v s new is current committed savepoints =
     }
 
 saved_so : (s : SavedCatalogs) → length (savepoints_in s).points ≡ length s.savepoints.items
-saved_so s = saved_length (current_tables s.catalogs) s.savepoints.items
+saved_so s = saved_length (first_in s) s.savepoints.items
 
 pub released_count : (old new : SavedCatalogs) → ReleasesFrom (length (savepoints_in old).points - 1) old new → length new.savepoints.items ≡ length old.savepoints.items - 1
 released_count old new is =
@@ -180,5 +181,51 @@ releases_on first old new before is =
           ∙ ap (λ k. kept_as first.began (take k (savepoints_in first).points)) count;
     }
 
-pub no_parts : (s : SavedCatalogs) → (savepoints_in s).points ≡ [] → current_in s ≡ current_tables s.catalogs
-no_parts s none = ap (tables_after (current_tables s.catalogs)) (nil_from_length s.savepoints.items (sym (saved_so s) ∙ ap length none))
+pub no_parts : (s : SavedCatalogs) → (savepoints_in s).points ≡ [] → current_in s ≡ first_in s
+no_parts s none = ap (tables_after (first_in s)) (nil_from_length s.savepoints.items (sym (saved_so s) ∙ ap length none))
+
+-- ---- other tables below savepoints after which none were changed
+
+pub after_unchanged : (ts : List Table) (ss : List Savepoint) → tables_after ts (map unchanged ss) ≡ ts
+after_unchanged ts [] = refl
+after_unchanged ts (s ∷ ss) = after_unchanged ts ss
+
+pub saved_unchanged : (base ts : List Table) (ss : List Savepoint) → saved_after ts (map unchanged ss) ≡ map (λ (p : SavedTables). record { name = p.name; tables = ts }) (saved_after base ss)
+saved_unchanged base ts [] = refl
+saved_unchanged base ts (s ∷ ss) = ap (λ (ps : List SavedTables). saved_of s.name ts ∷ ps) (saved_unchanged (changed_to base s.changed) ts ss)
+
+pub rebased_is : (old new : SavedCatalogs) (newest : Rc Catalog Global) → new.committed ≡ newest → new.changed ≡ None → new.began ≡ old.began → new.savepoints.items ≡ map unchanged old.savepoints.items → Rebases (tables_of newest.value) old new
+rebased_is old new newest committed changed began items =
+    let ts = tables_of newest.value in
+    let first : first_in new ≡ ts = ap (changed_to (committed_in new)) changed ∙ ap (λ (c : Rc Catalog Global). tables_of c.value) committed in
+    record {
+      current = ap (λ (xs : List Table). tables_after xs new.savepoints.items) first ∙ ap (tables_after ts) items ∙ after_unchanged ts old.savepoints.items;
+      committed = ap (λ (c : Rc Catalog Global). tables_of c.value) committed;
+      savepoints = ap (λ b. kept_as b (saved_after (first_in new) new.savepoints.items)) began
+          ∙ ap (λ (xs : List Table). kept_as old.began (saved_after xs new.savepoints.items)) first
+          ∙ ap (λ (ss : List Savepoint). kept_as old.began (saved_after ts ss)) items
+          ∙ ap (kept_as old.began) (saved_unchanged (first_in old) ts old.savepoints.items);
+    }
+
+set_next : (xs : List Savepoint) (i : ℕ) (d : Savepoint) → i < length (take i (map unchanged xs) ++ drop i xs)
+    → set (take i (map unchanged xs) ++ drop i xs) i (unchanged (get_or (take i (map unchanged xs) ++ drop i xs) i d)) ≡ take (suc i) (map unchanged xs) ++ drop (suc i) xs
+set_next [] zero d within = absurd (omega (arith, within))
+set_next [] (suc i) d within = absurd (omega (arith, within))
+set_next (x ∷ xs) zero d within = refl
+set_next (x ∷ xs) (suc i) d within = ap (λ (ss : List Savepoint). unchanged x ∷ ss) (set_next xs i d (omega (arith, within)))
+
+-- a loop over savepoints that forgets the changes of each
+pub forgets_next : (xs items : List Savepoint) (i : ℕ) (d : Savepoint) → i < length items → items ≡ take i (map unchanged xs) ++ drop i xs → set items i (unchanged (get_or items i d)) ≡ take (i + 1) (map unchanged xs) ++ drop (i + 1) xs
+forgets_next xs items i d within is = ap (λ (ss : List Savepoint). set ss i (unchanged (get_or ss i d))) is ∙ set_next xs i d (omega (arith, within, ap length is))
+    ∙ ap (λ k. take k (map unchanged xs) ++ drop k xs) (let next : suc i ≡ i + 1 = omega arith in next)
+
+-- ---- no savepoints
+
+pub items_none : (s : SavedCatalogs) → (savepoints_in s).points ≡ [] → s.savepoints.items ≡ []
+items_none s none = nil_from_length s.savepoints.items (sym (saved_so s) ∙ ap length none)
+
+pub unchanged_so : (s : SavedCatalogs) → s.changed ≡ None → s.savepoints.items ≡ [] → current_in s ≡ committed_in s
+unchanged_so s changed items = ap (λ (ts : List Table). tables_after ts s.savepoints.items) (ap (changed_to (committed_in s)) changed) ∙ ap (tables_after (committed_in s)) items
+
+pub none_so : (s : SavedCatalogs) → s.began ≡ false → s.savepoints.items ≡ [] → savepoints_in s ≡ record { began = false; points = [] }
+none_so s began items = ap (λ b. kept_as b (saved_after (first_in s) s.savepoints.items)) began ∙ ap (λ (ss : List Savepoint). kept_as false (saved_after (first_in s) ss)) items

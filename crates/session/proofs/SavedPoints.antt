@@ -9,7 +9,7 @@ use Rattle.wal.specs.declared.log.Log.{Log}
 use Rattle.catalog.specs.Database.{Name, Database}
 use Rattle.catalog.specs.declared.tables.Table.{Table}
 use Rattle.pager.specs.Marks.{Changes, IsOverTheSame, marks_of, now_of}
-use Rattle.pager.specs.Views.{view_of}
+use Rattle.pager.specs.Views.{newest_view, view_of}
 use Rattle.pager.specs.declared.writer.Writer.{Writer}
 use Rattle.session.specs.Machine.{Machine, Connection, InTransactionOf, Phase, SavepointState, Writes, last_place, newest}
 use Rattle.session.specs.Representation.{IsReadingIn, IsWritingIn}
@@ -100,6 +100,9 @@ module _ {D : Type 0} {g : Ghosts D} where
   stored_on files w v old new db now over tables stored =
       subst (λ (ts : List Table). ShowsDatabase (view_of files v) ts db) (sym tables) (subst (λ x. ShowsDatabase x old db) (sym (moved_view files w v now over)) stored)
 
+  on_base : (files : Log D g) (old new : SavedCatalogs) (m : Machine) → committed_in new ≡ committed_in old → ShowsDatabase (newest_view files) (committed_in old) (newest m) → ShowsDatabase (newest_view files) (committed_in new) (newest m)
+  on_base files old new m same base = subst (λ (ts : List Table). ShowsDatabase (newest_view files) ts (newest m)) (sym same) base
+
   pub writing_keeps : (files : Log D g) (old new : SavedCatalogs) (m : Machine) (w v : Writer) (k : Connection) → KeepsTables old new → KeepsWriter w v → IsWritingIn files old m.history w k → IsWritingIn files new m.history v k
   writing_keeps files old new m w v k keeps kept is = record {
     db = is.db;
@@ -109,6 +112,7 @@ module _ {D : Type 0} {g : Ghosts D} where
     stored = stored_on files w v (current_in old) (current_in new) is.db kept.now kept.stands keeps.current is.stored;
     saved = record { tables = ap (λ (s : Savepoints). s.points) keeps.savepoints ∙ is.saved.tables; hold = on_writer files (newest m) w v is.points kept.stands is.saved.hold };
     marks = kept.marks ∙ is.marks;
+    base = on_base files old new m keeps.committed is.base;
   }
 
   pub writing_adds : (files : Log D g) (old new : SavedCatalogs) (m : Machine) (w v : Writer) (n : Name) (k : Connection) (is : IsWritingIn files old m.history w k) → AddsSavepoint n (savepoints_in old).began old new → AddsMark w v
@@ -127,6 +131,7 @@ module _ {D : Type 0} {g : Ghosts D} where
           back = λ u now on. (let over = over_on w v u sets.stands on in (moved_writer files w u now over is.may, stored_on files w u (current_in old) (current_in old) is.db now over refl is.stored));
         }) is.saved.tables;
         marks = sets.marks ∙ ap (λ (cs : List Changes). cs ++ now_of w ∷ []) is.marks ∙ sym (map_push (λ q. q.kept) is.points p);
+        base = on_base files old new m adds.committed is.base;
       }
 
   pub writing_releases : (files : Log D g) (old new : SavedCatalogs) (m : Machine) (w v : Writer) (place : ℕ) (k : Connection) (is : IsWritingIn files old m.history w k) → ReleasesFrom place old new → ReleasesMarks place w v
@@ -139,6 +144,7 @@ module _ {D : Type 0} {g : Ghosts D} where
     stored = stored_on files w v (current_in old) (current_in new) is.db lets.now lets.stands releases.current is.stored;
     saved = saved_take old new is.points place (savepoints_in old).began releases.savepoints (record { tables = is.saved.tables; hold = on_writer files (newest m) w v is.points lets.stands is.saved.hold });
     marks = marks_take w v is.points place lets.marks is.marks;
+    base = on_base files old new m releases.committed is.base;
   }
 
   pub writing_goes_back : (files : Log D g) (old new : SavedCatalogs) (m : Machine) (w v : Writer) (place : ℕ) (k : Connection) (is : IsWritingIn files old m.history w k) (at : At (IsMarked files (newest m) w) is.points place) → place < length is.points
@@ -158,4 +164,5 @@ module _ {D : Type 0} {g : Ghosts D} where
         stored = subst (λ (ts : List Table). ShowsDatabase (view_of files v) ts db) (sym tables) shows.1;
         saved = saved_take old new is.points (place + 1) (savepoints_in old).began back.savepoints (record { tables = is.saved.tables; hold = on_writer files (newest m) w v is.points goes.stands is.saved.hold });
         marks = marks_take w v is.points (place + 1) goes.marks is.marks;
+        base = on_base files old new m back.committed is.base;
       }

@@ -14,7 +14,6 @@ use Rattle.wal.specs.Sizes.{IsViewSize}
 use Rattle.wal.specs.Crashes.{LeavesEither}
 use Rattle.wal.specs.declared.log.Log.{Log}
 use Rattle.catalog.specs.Database.{Database}
-use Rattle.session.specs.SavedTables.{committed_in}
 use Rattle.catalog.specs.declared.tables.Table.{Table}
 use Rattle.pager.specs.Commits.{IsCommittedOver, LeavesCommit}
 use Rattle.pager.specs.Limits.{pages_of}
@@ -24,7 +23,7 @@ use Rattle.session.specs.Holding.{HoldThroughout, IsFound, IsSettled, LeaveHeld}
 use Rattle.session.proofs.Standing.{held_if_stored}
 use Rattle.session.specs.ConnectionState.{files_of}
 use Rattle.session.specs.Machine.{Machine, newest}
-use Rattle.session.specs.Representation.{RepresentsRunning, ShowTheSame, Represents}
+use Rattle.session.specs.Representation.{RepresentsRunning, ShowTheSame, Represents, newest_tables}
 use Rattle.session.specs.Crashes.{MayShow}
 use Rattle.session.specs.Stored.{ShowsDatabase}
 use Rattle.session.specs.declared.transactions.Connections.{Connections}
@@ -80,11 +79,11 @@ module _ {D : Type 0} {g : Ghosts D} where
   -- nothing but the newest database is left where the files were read at most
   pub crash_keeps : (old new : Connections D g) (m next : Machine) → RepresentsRunning old m → ShowTheSame (files_of old) (files_of new) → HoldThroughout (MayShow m next) (files_of old) (files_of new)
   crash_keeps old new m next shown same =
-      ([], (settled_leaves (MayShow m next) (files_of old) (committed_in old.catalog) (newest m) (inl refl) shown.settled shown.stored, same.db_file, same.log_file))
+      ([], (settled_leaves (MayShow m next) (files_of old) (newest_tables old) (newest m) (inl refl) shown.settled shown.stored, same.db_file, same.log_file))
 
   pub left_shown : (c : Connections D g) (m : Machine) → Represents c m → LeaveHeld (MayShow m m) (versions (g.file (db_of (files_of c)))) (versions (g.file (log_of (files_of c))))
   left_shown c m (inl failed) = failed.2.held
-  left_shown c m (inr shown) = settled_leaves (MayShow m m) (files_of c) (committed_in c.catalog) (newest m) (inl refl) shown.settled shown.stored
+  left_shown c m (inr shown) = settled_leaves (MayShow m m) (files_of c) (newest_tables c) (newest m) (inl refl) shown.settled shown.stored
 
   pub as_shown : (c : Connections D g) (m : Machine) → Represents c m → HoldThroughout (MayShow m m) (files_of c) (files_of c)
   as_shown c m shows = ([], (left_shown c m shows, refl, refl))

@@ -1,8 +1,9 @@
 -- What the connections show after a statement.
-use Rattle.std.proofs.Common.{◌≡◌, inr, refl, sym, ap, subst, ◌∙◌, ℕ, Bool, List, [], ◌∷◌, true, false, arith}
-use Rattle.std.specs.Prelude.{⊤, unwrap_or}
+use Rattle.std.proofs.Common.{◌≡◌, ◌⊎◌, ◌<◌, ◌≤◌, inl, inr, refl, sym, ap, subst, ◌∙◌, ℕ, ◌-◌, Bool, List, [], ◌∷◌, length, true, false, arith}
+use Rattle.std.specs.Prelude.{⊤, Option, slice_set, unwrap_or}
 use Rattle.std.specs.List.{AllByRecursion}
 use Rattle.std.proofs.lemmas.Bool.{false≢true}
+use Rattle.std.proofs.lemmas.Bool.Decides.{nat_tests}
 use Rattle.disk.specs.declared.device.Disk.{Ghosts}
 use Rattle.sqlval.specs.Refusals.{InTransaction, NoTransaction}
 use Rattle.syntax.specs.declared.statement.BeginMode.{BeginMode}
@@ -24,17 +25,20 @@ use Rattle.pager.specs.Marks.{Changes, IsOverTheSame}
 use Rattle.pager.specs.Views.{View, Tells, after, changes_of, newest_view, view_of}
 use Rattle.pager.specs.Writers.{snapshot_of}
 use Rattle.pager.specs.declared.writer.Writer.{Writer}
-use Rattle.session.specs.ConnectionState.{files_of, has_failed_in}
-use Rattle.session.specs.Machine.{Machine, Connection, Idle, InTransactionOf, Phase, NoSnapshot, Reads, SavepointState, Writes, Rows, Refused, last_place, newest, with_connection}
+use Rattle.session.specs.ConnectionState.{files_of}
+use Rattle.session.specs.Machine.{Machine, Connection, Idle, InTransactionOf, Phase, NoSnapshot, Reads, SavepointState, Writes, Rows, Refused, another, connection, is_writing, last_place, newest, with_connection}
+use Rattle.session.specs.Steps.{is_connection}
 use Rattle.session.specs.Outcomes.{Gives, RefusedBy, begun}
 use Rattle.session.specs.Stored.{ShowsDatabase}
-use Rattle.session.specs.Representation.{CannotStoreIn, IsGivenUp, IsReadingIn, RepresentsRunning, IsTransaction, ShowTheSame, StepsOn, is_idle}
+use Rattle.session.specs.Representation.{AreParked, Beside, CannotStoreHere, HaveOneWriter, IsGivenUp, IsReadingIn, IsSnapshotOf, RepresentsRunning, IsTransaction, ShowTheSame, StepsOn, beside_in, committed_at, is_idle, newest_in, newest_tables}
+use Rattle.session.specs.declared.seats.Seat.{Seat}
+use Rattle.session.proofs.Parking.{get_set, one_kept, one_set, set_length, set_twice, sole_is}
 use Rattle.session.specs.Writers.{IsNewest, IsWriter}
 use Rattle.session.specs.declared.transactions.Connections.{Connections}
-use Rattle.session.specs.declared.transactions.Transaction.{Transaction}
-use Rattle.session.specs.declared.transactions.Transaction.TheVariants as transaction
+use Rattle.session.specs.declared.seats.Transaction.{Transaction}
+use Rattle.session.specs.declared.seats.Transaction.TheVariants as transaction
 use Rattle.session.proofs.Settled.{as_shown, still_settled, crash_keeps}
-use Rattle.session.proofs.Stepping.{by_outcome, begin_outcome, first_is, first_set, rollback_outcome}
+use Rattle.session.proofs.Stepping.{by_outcome, begin_outcome, rollback_outcome}
 
 -- a transaction that begins has no savepoint
 pub begins_in : (Kept : Type 0) (catalog : SavedCatalogs) (phase : Phase) → HasNoSavepoints catalog → InTransactionOf false [] phase ≡ in_transaction {Kept = Kept} catalog [] phase
@@ -56,8 +60,25 @@ newest_by d l k = record { db = d; frames = frames_under (header_of k) l k.frame
 abbrev at_by : List ℕ → List ℕ → LogState → Snapshot → View
 at_by d l k s = record { db = d; frames = frames_under (header_of k) l (seen_by s); page_size = k.page_size; size = size_of s }
 
+-- a connection has its place
+pub in_range : (n : ℕ) (m : Machine) → length m.connections ≡ 16 → is_connection n ≡ true → n - 1 < length m.connections
+in_range n m sixteen is = (let within = numbers_within n is in omega (arith, sixteen, within.0, within.1))
+  where
+    numbers_within : (n : ℕ) → is_connection n ≡ true → (1 ≤ n) × (n ≤ 16)
+    numbers_within n is = grind (arith, nat_tests)
+
+-- the connection may be so: it doesn't write, or no other does
+abbrev pub IsLone : Machine → ℕ → Connection → Type 0
+IsLone m n k = (is_writing k ≡ false) ⊎ (another is_writing m n ≡ false)
+
+pub lone_set : (m : Machine) (n : ℕ) (k : Connection) → HaveOneWriter m.connections → IsLone m n k → HaveOneWriter (with_connection m n k).connections
+lone_set m n k one (inl not) = one_kept m.connections (n - 1) k not one
+lone_set m n k one (inr none) = one_set m.connections (n - 1) k none
+
+-- ---- the machine after a statement that commits nothing
+
 module _ {D : Type 0} {g : Ghosts D} where
-  -- ---- what the first connection is
+  -- ---- what the present connection is
 
   pub idle_first : (files : Log D g) (catalog : SavedCatalogs) (m : Machine) (t : Transaction) (k : Connection) → IsTransaction files catalog m.history t k → is_idle t ≡ true → k ≡ Idle
   idle_first files catalog m transaction.Idle k is idle = is.0
@@ -68,7 +89,7 @@ module _ {D : Type 0} {g : Ghosts D} where
   pub busy_first : (files : Log D g) (catalog : SavedCatalogs) (m : Machine) (t : Transaction) (k : Connection) → IsTransaction files catalog m.history t k → is_idle t ≡ false → IsBusy k
   busy_first files catalog m transaction.Idle k is idle = absurd (false≢true (sym idle))
   busy_first files catalog m transaction.Begun k is idle = record { began = (savepoints_in catalog).began; points = states_of is.points; phase = NoSnapshot; is = is.is }
-  busy_first files catalog m (transaction.Reading s) k is idle = record { began = (savepoints_in catalog).began; points = states_of is.0.points; phase = Reads (last_place m); is = is.0.is }
+  busy_first files catalog m (transaction.Reading s) k is idle = record { began = (savepoints_in catalog).began; points = states_of is.1.points; phase = Reads is.0; is = is.1.is }
   busy_first files catalog m (transaction.Writing w) k is idle = record { began = (savepoints_in catalog).began; points = states_of is.points; phase = Writes (last_place m) is.db; is = is.is }
 
   -- ---- files that were read at most
@@ -113,100 +134,143 @@ module _ {D : Type 0} {g : Ghosts D} where
   pub still_saved : (old new : Log D g) (catalog : SavedCatalogs) (newest : Database) (w v : Writer) (points : List (SavedAs Changes)) → ShowTheSame old new → ((u : Writer) → IsOverTheSame v u → IsOverTheSame w u) → AreSaved (IsMarked old newest w) catalog points → AreSaved (IsMarked new newest v) catalog points
   still_saved old new catalog newest w v points same over saved = record { tables = saved.tables; hold = all_marked old new newest w v points same over saved.hold }
 
-  pub still_transaction : (old new : Log D g) (catalog : SavedCatalogs) (m : Machine) (t : Transaction) (k : Connection) → ShowTheSame old new → IsTransaction old catalog m.history t k → IsTransaction new catalog m.history t k
-  still_transaction old new catalog m transaction.Idle k same is = is
-  still_transaction old new catalog m transaction.Begun k same is = is
-  still_transaction old new catalog m (transaction.Reading s) k same is = (is.0, still_newest old new s same is.1)
-  still_transaction old new catalog m (transaction.Writing w) k same is = record {
+  still_snapshot : (old new : Log D g) (tables : List Table) (history : List Database) (i : ℕ) (s : Snapshot) → ShowTheSame old new → IsSnapshotOf old tables history i s → IsSnapshotOf new tables history i s
+  still_snapshot old new tables history i s same is = record {
+    shows = subst (λ (v : View). ShowsDatabase v tables (committed_at history i)) (sym (same.at s)) is.shows;
+    age = elim is.age [
+      | inl last ↦ inl (last.0, still_newest old new s same last.1)
+      | inr before ↦ inr (before.0, omega (arith, before.1, ap (λ (k : LogState). k.frames) same.known))
+    ];
+  }
+
+  pub still_transaction : (old new : Log D g) (catalog : SavedCatalogs) (history : List Database) (t : Transaction) (k : Connection) → ShowTheSame old new → IsTransaction old catalog history t k → IsTransaction new catalog history t k
+  still_transaction old new catalog history transaction.Idle k same is = is
+  still_transaction old new catalog history transaction.Begun k same is = is
+  still_transaction old new catalog history (transaction.Reading s) k same is = (is.0, is.1, still_snapshot old new (committed_in catalog) history is.0 s same is.2)
+  still_transaction old new catalog history (transaction.Writing w) k same is = record {
     db = is.db;
     points = is.points;
     is = is.is;
     may = still_writer old new w same is.may;
     stored = still_stored old new w (current_in catalog) is.db same is.stored;
-    saved = still_saved old new catalog (newest m) w w is.points same (λ v over. over) is.saved;
+    saved = still_saved old new catalog (newest_in history) w w is.points same (λ v over. over) is.saved;
     marks = is.marks;
+    base = subst (λ (v : View). ShowsDatabase v (committed_in catalog) (newest_in history)) (sym same.newest) is.base;
   }
 
-  -- ---- the machine after a statement that commits nothing
+  -- so are the connections that aren't present
+  pub still_parked : (old new : Log D g) (history : List Database) (ss : List Seat) (ks : List Connection) → ShowTheSame old new → AreParked old history ss ks → AreParked new history ss ks
+  still_parked old new history [] [] same are = tt
+  still_parked old new history [] (k ∷ ks) same are = absurd are
+  still_parked old new history (s ∷ ss) [] same are = absurd are
+  still_parked old new history (s ∷ ss) (k ∷ ks) same are = (still_transaction old new s.catalog history s.transaction k same are.0, still_parked old new history ss ks same are.1)
 
-  pub moved : (old new : Connections D g) (m : Machine) (k : Connection) (shown : RepresentsRunning old m) → ShowTheSame (files_of old) (files_of new) → has_failed_in new ≡ has_failed_in old
-      → committed_in new.catalog ≡ committed_in old.catalog
-      → IsTransaction (files_of new) new.catalog m.history new.transaction k → RepresentsRunning new (with_connection m 1 k)
-  moved old new m k shown same failed tables is = record {
-    running = shown.running;
-    sure = shown.sure;
-    whole = failed ∙ shown.whole;
-    told = same.told;
-    settled = still_settled (files_of old) (files_of new) same shown.settled;
-    some = shown.some;
-    stored = subst (λ (v : View). ShowsDatabase v (committed_in new.catalog) (newest m)) (sym same.newest)
-        (subst (λ (ts : List Table). ShowsDatabase (newest_view (files_of old)) ts (newest m)) (sym tables) shown.stored);
-    first = k;
-    others = shown.others;
-    connections = first_set m shown.first shown.others shown.connections k;
-    idle = shown.idle;
-    transaction = is;
-  }
+  -- where all that a statement leaves was left
+  parked_beside : (old new : Connections D g) (m : Machine) (shown : RepresentsRunning old m) → ShowTheSame (files_of old) (files_of new) → beside_in new ≡ beside_in old
+      → AreParked (files_of new) m.history new.parked.items (slice_set m.connections (new.connection - 1) Idle)
+  parked_beside old new m shown same beside =
+      subst (λ (b : Beside). AreParked (files_of new) m.history b.parked (slice_set m.connections (b.connection - 1) Idle)) (sym beside)
+      (still_parked (files_of old) (files_of new) m.history old.parked.items (slice_set m.connections (old.connection - 1) Idle) same shown.parked)
+
+  stored_beside : (old new : Connections D g) (m : Machine) (shown : RepresentsRunning old m) → ShowTheSame (files_of old) (files_of new) → beside_in new ≡ beside_in old → ShowsDatabase (newest_view (files_of new)) (newest_tables new) (newest m)
+  stored_beside old new m shown same beside = subst (λ (v : View). ShowsDatabase v (newest_tables new) (newest m)) (sym same.newest)
+      (subst (λ (b : Beside). ShowsDatabase (newest_view (files_of old)) b.newest (newest m)) (sym beside) shown.stored)
+
+  -- ---- one writer
+
+  -- one that writes may go on
+  pub lone_still : (c : Connections D g) (m : Machine) (shown : RepresentsRunning c m) → is_writing shown.present ≡ true → another is_writing m c.connection ≡ false
+  lone_still c m shown is = sole_is m.connections (c.connection - 1) shown.sole (ap is_writing shown.is ∙ is)
+
+  pub moved : (old new : Connections D g) (m : Machine) (k : Connection) (shown : RepresentsRunning old m) → ShowTheSame (files_of old) (files_of new) → beside_in new ≡ beside_in old → IsLone m old.connection k
+      → IsTransaction (files_of new) new.catalog m.history new.transaction k → RepresentsRunning new (with_connection m old.connection k)
+  moved old new m k shown same beside lone is =
+      let place = ap (λ (b : Beside). b.connection) beside in
+      record {
+        running = shown.running;
+        sure = shown.sure;
+        whole = ap (λ (b : Beside). b.failed) beside ∙ shown.whole;
+        told = same.told;
+        settled = still_settled (files_of old) (files_of new) same shown.settled;
+        some = shown.some;
+        stored = stored_beside old new m shown same beside;
+        sixteen = set_length m.connections (old.connection - 1) k ∙ shown.sixteen;
+        numbered = ap is_connection place ∙ shown.numbered;
+        present = k;
+        is = ap (λ n. connection (with_connection m old.connection k) n) place ∙ ap (λ (x : Option Connection). unwrap_or x Idle) (get_set m.connections (old.connection - 1) k (in_range old.connection m shown.sixteen shown.numbered));
+        transaction = is;
+        parked = subst (AreParked (files_of new) m.history new.parked.items) (set_over place) (parked_beside old new m shown same beside);
+        sole = lone_set m old.connection k shown.sole lone;
+      }
+    where
+      set_over : new.connection ≡ old.connection → slice_set m.connections (new.connection - 1) Idle ≡ slice_set (slice_set m.connections (old.connection - 1) k) (new.connection - 1) Idle
+      set_over place = sym (ap (λ n. slice_set (slice_set m.connections (old.connection - 1) k) (n - 1) Idle) place ∙ set_twice m.connections (old.connection - 1) k Idle ∙ ap (λ n. slice_set m.connections (n - 1) Idle) (sym place))
+
+  -- the machine is shown still where what the present connection is stays
+  pub stays : (old new : Connections D g) (m : Machine) (shown : RepresentsRunning old m) → ShowTheSame (files_of old) (files_of new) → beside_in new ≡ beside_in old
+      → IsTransaction (files_of new) new.catalog m.history new.transaction shown.present → RepresentsRunning new m
+  stays old new m shown same beside is =
+      let place = ap (λ (b : Beside). b.connection) beside in
+      record {
+        running = shown.running;
+        sure = shown.sure;
+        whole = ap (λ (b : Beside). b.failed) beside ∙ shown.whole;
+        told = same.told;
+        settled = still_settled (files_of old) (files_of new) same shown.settled;
+        some = shown.some;
+        stored = stored_beside old new m shown same beside;
+        sixteen = shown.sixteen;
+        numbered = ap is_connection place ∙ shown.numbered;
+        present = shown.present;
+        is = ap (connection m) place ∙ shown.is;
+        transaction = is;
+        parked = parked_beside old new m shown same beside;
+        sole = shown.sole;
+      }
 
   -- where the files alone were read
-  pub still_shown : (old new : Connections D g) (m : Machine) → RepresentsRunning old m → ShowTheSame (files_of old) (files_of new) → has_failed_in new ≡ has_failed_in old → new.catalog ≡ old.catalog → new.transaction ≡ old.transaction → RepresentsRunning new m
-  still_shown old new m shown same failed catalog now = record {
-    running = shown.running;
-    sure = shown.sure;
-    whole = failed ∙ shown.whole;
-    told = same.told;
-    settled = still_settled (files_of old) (files_of new) same shown.settled;
-    some = shown.some;
-    stored = subst (λ (v : View). ShowsDatabase v (committed_in new.catalog) (newest m)) (sym same.newest)
-        (subst (λ (c : SavedCatalogs). ShowsDatabase (newest_view (files_of old)) (committed_in c) (newest m)) (sym catalog) shown.stored);
-    first = shown.first;
-    others = shown.others;
-    connections = shown.connections;
-    idle = shown.idle;
-    transaction = subst (λ (t : Transaction). IsTransaction (files_of new) new.catalog m.history t shown.first) (sym now)
-        (subst (λ (c : SavedCatalogs). IsTransaction (files_of new) c m.history old.transaction shown.first) (sym catalog)
-        (still_transaction (files_of old) (files_of new) old.catalog m old.transaction shown.first same shown.transaction));
-  }
+  pub still_shown : (old new : Connections D g) (m : Machine) → RepresentsRunning old m → ShowTheSame (files_of old) (files_of new) → beside_in new ≡ beside_in old → new.catalog ≡ old.catalog → new.transaction ≡ old.transaction → RepresentsRunning new m
+  still_shown old new m shown same beside catalog now = stays old new m shown same beside
+      (subst (λ (t : Transaction). IsTransaction (files_of new) new.catalog m.history t shown.present) (sym now)
+      (subst (λ (c : SavedCatalogs). IsTransaction (files_of new) c m.history old.transaction shown.present) (sym catalog)
+      (still_transaction (files_of old) (files_of new) old.catalog m.history old.transaction shown.present same shown.transaction)))
 
   -- ---- ROLLBACK
 
   pub rollback_refused : (c : Connections D g) → is_idle c.transaction ≡ true → StepsOn c statement.Rollback (Refused NoTransaction) c
   rollback_refused c idle m shown =
-      let k = idle_first (files_of c) c.catalog m c.transaction shown.first shown.transaction idle in
-      let is = rollback_outcome m Idle (first_is m shown.first shown.others shown.connections ∙ k) in
+      let k = idle_first (files_of c) c.catalog m c.transaction shown.present shown.transaction idle in
+      let is = rollback_outcome m c.connection Idle (shown.is ∙ k) in
       record {
         next = m;
-        step = by_outcome (CannotStoreIn c statement.Rollback) m statement.Rollback refl shown.running (RefusedBy (NoTransaction ∷ [])) (Refused NoTransaction) m is (NoTransaction, (0, omega arith, refl), refl, refl);
+        step = by_outcome (CannotStoreHere c statement.Rollback) m c.connection statement.Rollback refl shown.running shown.numbered (RefusedBy (NoTransaction ∷ [])) (Refused NoTransaction) m is (NoTransaction, (0, omega arith, refl), refl, refl);
         shown = inr shown;
         crash = as_shown c m (inr shown);
       }
 
   pub rolled_back : (old new : Connections D g) → is_idle old.transaction ≡ false → IsGivenUp old new → StepsOn old statement.Rollback (Rows []) new
   rolled_back old new busy gone m shown =
-      let k = busy_first (files_of old) old.catalog m old.transaction shown.first shown.transaction busy in
-      let is = rollback_outcome m (InTransactionOf k.began k.points k.phase) (first_is m shown.first shown.others shown.connections ∙ k.is) in
+      let k = busy_first (files_of old) old.catalog m old.transaction shown.present shown.transaction busy in
+      let is = rollback_outcome m old.connection (InTransactionOf k.began k.points k.phase) (shown.is ∙ k.is) in
       record {
-        next = with_connection m 1 Idle;
-        step = by_outcome (CannotStoreIn old statement.Rollback) m statement.Rollback refl shown.running (Gives [] (with_connection m 1 Idle)) (Rows []) (with_connection m 1 Idle) is (refl, refl);
-        shown = inr (moved old new m Idle shown (subst (ShowTheSame (files_of old)) (sym gone.files) (the_same (files_of old) shown.told)) gone.failed gone.committed (idle_now gone));
-        crash = crash_keeps old new m (with_connection m 1 Idle) shown (subst (ShowTheSame (files_of old)) (sym gone.files) (the_same (files_of old) shown.told));
+        next = with_connection m old.connection Idle;
+        step = by_outcome (CannotStoreHere old statement.Rollback) m old.connection statement.Rollback refl shown.running shown.numbered (Gives [] (with_connection m old.connection Idle)) (Rows []) (with_connection m old.connection Idle) is (refl, refl);
+        shown = inr (moved old new m Idle shown (subst (ShowTheSame (files_of old)) (sym gone.files) (the_same (files_of old) shown.told)) gone.beside (inl refl) (idle_now gone));
+        crash = crash_keeps old new m (with_connection m old.connection Idle) shown (subst (ShowTheSame (files_of old)) (sym gone.files) (the_same (files_of old) shown.told));
       }
     where
-      all_now : IsGivenUp old new → IsUnchanged new.catalog
-      all_now gone = gone.tables ∙ sym gone.committed
-
       idle_now : IsGivenUp old new → IsTransaction (files_of new) new.catalog m.history new.transaction Idle
-      idle_now gone = subst (λ (t : Transaction). IsTransaction (files_of new) new.catalog m.history t Idle) (sym gone.idle) (refl, all_now gone, gone.savepoints)
+      idle_now gone = subst (λ (t : Transaction). IsTransaction (files_of new) new.catalog m.history t Idle) (sym gone.idle) (refl, gone.all, gone.savepoints)
 
   -- ---- BEGIN
 
   pub begin_refused : (c : Connections D g) (mode : BeginMode) → is_idle c.transaction ≡ false → StepsOn c (statement.Begin mode) (Refused InTransaction) c
   begin_refused c mode busy m shown =
-      let k = busy_first (files_of c) c.catalog m c.transaction shown.first shown.transaction busy in
-      let is = begin_outcome mode m (InTransactionOf k.began k.points k.phase) (first_is m shown.first shown.others shown.connections ∙ k.is) in
+      let k = busy_first (files_of c) c.catalog m c.transaction shown.present shown.transaction busy in
+      let is = begin_outcome mode m c.connection (InTransactionOf k.began k.points k.phase) (shown.is ∙ k.is) in
       record {
         next = m;
-        step = by_outcome (CannotStoreIn c (statement.Begin mode)) m (statement.Begin mode) refl shown.running (RefusedBy (InTransaction ∷ [])) (Refused InTransaction) m is (InTransaction, (0, omega arith, refl), refl, refl);
+        step = by_outcome (CannotStoreHere c (statement.Begin mode)) m c.connection (statement.Begin mode) refl shown.running shown.numbered (RefusedBy (InTransaction ∷ [])) (Refused InTransaction) m is (InTransaction, (0, omega arith, refl), refl, refl);
         shown = inr shown;
         crash = as_shown c m (inr shown);
       }
@@ -214,20 +278,20 @@ module _ {D : Type 0} {g : Ghosts D} where
   -- what changes where a transaction begins
   pub record Begins (old new : Connections D g) (t : Transaction) : Type 0 where
     pub files : files_of new ≡ files_of old
-    pub failed : has_failed_in new ≡ has_failed_in old
+    pub beside : beside_in new ≡ beside_in old
     pub catalog : new.catalog ≡ old.catalog
     pub now : new.transaction ≡ t
 
   pub begun_deferred : (old new : Connections D g) → is_idle old.transaction ≡ true → Begins old new transaction.Begun → StepsOn old (statement.Begin begins.Deferred) (Rows []) new
   begun_deferred old new idle begun m shown =
-      let k = idle_first (files_of old) old.catalog m old.transaction shown.first shown.transaction idle in
-      let is = begin_outcome begins.Deferred m Idle (first_is m shown.first shown.others shown.connections ∙ k) in
-      let was = none_idle old.transaction shown.first shown.transaction idle in
-      let next = with_connection m 1 (InTransactionOf false [] NoSnapshot) in
+      let k = idle_first (files_of old) old.catalog m old.transaction shown.present shown.transaction idle in
+      let is = begin_outcome begins.Deferred m old.connection Idle (shown.is ∙ k) in
+      let was = none_idle old.transaction shown.present shown.transaction idle in
+      let next = with_connection m old.connection (InTransactionOf false [] NoSnapshot) in
       record {
         next = next;
-        step = by_outcome (CannotStoreIn old (statement.Begin begins.Deferred)) m (statement.Begin begins.Deferred) refl shown.running (Gives [] next) (Rows []) next is (refl, refl);
-        shown = inr (moved old new m (InTransactionOf false [] NoSnapshot) shown (subst (ShowTheSame (files_of old)) (sym begun.files) (the_same (files_of old) shown.told)) begun.failed (ap committed_in begun.catalog)
+        step = by_outcome (CannotStoreHere old (statement.Begin begins.Deferred)) m old.connection (statement.Begin begins.Deferred) refl shown.running shown.numbered (Gives [] next) (Rows []) next is (refl, refl);
+        shown = inr (moved old new m (InTransactionOf false [] NoSnapshot) shown (subst (ShowTheSame (files_of old)) (sym begun.files) (the_same (files_of old) shown.told)) begun.beside (inl refl)
             (subst (λ (t : Transaction). IsTransaction (files_of new) new.catalog m.history t (InTransactionOf false [] NoSnapshot)) (sym begun.now)
             (begins_reading new.catalog (subst IsUnchanged (sym begun.catalog) was.0) (subst HasNoSavepoints (sym begun.catalog) was.1))));
         crash = crash_keeps old new m next shown (subst (ShowTheSame (files_of old)) (sym begun.files) (the_same (files_of old) shown.told));

@@ -17,10 +17,10 @@ use Rattle.session.specs.Stored.{ShowsDatabase}
 use Rattle.session.specs.Applying.{CanApply, CommitsChanges, IsPast}
 use Rattle.session.specs.Changing.{written}
 use Rattle.session.specs.ConnectionState.{files_of, has_failed_in}
-use Rattle.session.specs.Failing.{IsPastIn, IsPastLimits, IsRefusedFor, has_written}
+use Rattle.session.specs.Failing.{IsPastIn, IsPastLimits, IsRefusedHere, has_written}
 use Rattle.session.specs.declared.transactions.Connections.{Connections}
-use Rattle.session.specs.declared.transactions.Transaction.{Transaction}
-use Rattle.session.specs.declared.transactions.Transaction.TheVariants as transaction
+use Rattle.session.specs.declared.seats.Transaction.{Transaction}
+use Rattle.session.specs.declared.seats.Transaction.TheVariants as transaction
 use Rattle.session.specs.declared.changes.Write.{Write}
 use Rattle.session.specs.declared.changes.Write.TheVariants as write
 use Rattle.session.proofs.CommitSteps.{writes_in}
@@ -33,14 +33,14 @@ memory_not_full bad = absurd cc
 
 module _ {D : Type 0} {g : Ghosts D} where
   -- a change may take memory, and is no COMMIT
-  change_refused : (c : Connections D g) (w : Write) (s : Statement) (f : Fault) → written w ≡ s → IsRefusedFor c s f
-  change_refused c (write.Insert i) s f is = subst (λ t. IsRefusedFor c t f) is (record { memory = λ memory. refl; full = λ m shown commit full. absurd cc })
-  change_refused c (write.Delete d) s f is = subst (λ t. IsRefusedFor c t f) is (record { memory = λ memory. refl; full = λ m shown commit full. absurd cc })
-  change_refused c (write.Update u) s f is = subst (λ t. IsRefusedFor c t f) is (record { memory = λ memory. refl; full = λ m shown commit full. absurd cc })
-  change_refused c (write.Drop kind name) s f is = subst (λ t. IsRefusedFor c t f) is (record { memory = λ memory. refl; full = λ m shown commit full. absurd cc })
-  change_refused c (write.CreateTable sql d) s f is = subst (λ t. IsRefusedFor c t f) is (record { memory = λ memory. refl; full = λ m shown commit full. absurd cc })
+  change_refused : (c : Connections D g) (w : Write) (s : Statement) (f : Fault) → written w ≡ s → IsRefusedHere c s f
+  change_refused c (write.Insert i) s f is = subst (λ t. IsRefusedHere c t f) is (record { memory = λ memory. refl; full = λ m shown commit full. absurd cc })
+  change_refused c (write.Delete d) s f is = subst (λ t. IsRefusedHere c t f) is (record { memory = λ memory. refl; full = λ m shown commit full. absurd cc })
+  change_refused c (write.Update u) s f is = subst (λ t. IsRefusedHere c t f) is (record { memory = λ memory. refl; full = λ m shown commit full. absurd cc })
+  change_refused c (write.Drop kind name) s f is = subst (λ t. IsRefusedHere c t f) is (record { memory = λ memory. refl; full = λ m shown commit full. absurd cc })
+  change_refused c (write.CreateTable sql d) s f is = subst (λ t. IsRefusedHere c t f) is (record { memory = λ memory. refl; full = λ m shown commit full. absurd cc })
 
-  pub changes_refused : {T : Type 0} (c : Connections D g) (w : Write) (s : Statement) (result : Result T Fault) → written w ≡ s → IfErr result (IsRefusedFor c s)
+  pub changes_refused : {T : Type 0} (c : Connections D g) (w : Write) (s : Statement) (result : Result T Fault) → written w ≡ s → IfErr result (IsRefusedHere c s)
   changes_refused c w s (Ok x) is = tt
   changes_refused c w s (Err f) is = change_refused c w s f is
 
@@ -57,12 +57,11 @@ module _ {D : Type 0} {g : Ghosts D} where
     ]
 
     pub commit_refused_for : (result : Result ⊤ Fault) → mid.catalog ≡ old.catalog → has_failed_in mid ≡ has_failed_in old
-        → ((db was : Database) → has_failed_in mid ≡ false → CanApply mid w db → ShowsDatabase (newest_view (files_of mid)) (committed_in mid.catalog) was → CommitsChanges mid w db result new left) → IfErr result (IsRefusedFor old statement.Commit)
+        → ((db was : Database) → has_failed_in mid ≡ false → CanApply mid w db → ShowsDatabase (newest_view (files_of mid)) (committed_in mid.catalog) was → CommitsChanges mid w db result new left) → IfErr result (IsRefusedHere old statement.Commit)
     commit_refused_for (Ok done) catalog failed commits = tt
     commit_refused_for (Err f) catalog failed commits = record {
       memory = λ memory. ap has_written was;
       full = λ m shown commit full.
           let in_writing = writes_in old mid m w shown was files catalog in
-          let stored = subst (λ (c : SavedCatalogs). ShowsDatabase (newest_view (files_of mid)) (committed_in c) (newest m)) (sym catalog) (subst (λ (l : Log D g). ShowsDatabase (newest_view l) (committed_in old.catalog) (newest m)) (sym files) shown.stored) in
-          full_past in_writing.on.db f (commits in_writing.on.db (newest m) (failed ∙ shown.whole) in_writing.applies stored) full;
+          full_past in_writing.on.db f (commits in_writing.on.db (newest m) (failed ∙ shown.whole) in_writing.applies in_writing.base) full;
     }

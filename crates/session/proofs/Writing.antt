@@ -26,29 +26,28 @@ use Rattle.pager.specs.declared.writer.Writer.{Writer}
 use Rattle.session.specs.Supported.{StepSoFar, database_of}
 use Rattle.storage.specs.Forms.{is_supported}
 use Rattle.session.specs.ConnectionState.{files_of, has_failed_in}
-use Rattle.session.specs.Machine.{Machine, Connection, Idle, InTransactionOf, NoSnapshot, Reads, SavepointState, Writes, Reply, Rows, Refused, connection, last_place, newest}
+use Rattle.session.specs.Machine.{Machine, Connection, Idle, InTransactionOf, NoSnapshot, Reads, SavepointState, Writes, Reply, Rows, Refused, connection, is_writing, last_place, newest}
 use Rattle.session.specs.Outcomes.{Outcome, outcome}
 use Rattle.storage.specs.Works.{Work, Makes, IsRefused, Undoes, Binds, Reaches, change_made}
 use Rattle.session.specs.Steps.{Allowed, after_commit}
 use Rattle.session.specs.Stored.{CannotStore, ShowsDatabase}
-use Rattle.session.specs.Representation.{CannotStoreIn, IsWritingIn, RepresentsRunning, IsTransaction, OnlyReads, ShowTheSame, StepsOn, StepsTo, done_reply, is_idle, is_reading, seen_in, with_transaction}
+use Rattle.session.specs.Representation.{Beside, CannotStoreHere, IsSnapshotOf, IsWritingIn, MayWrite, RepresentsRunning, IsTransaction, OnlyReads, ShowTheSame, StepsOn, StepsTo, beside_in, done_reply, has_no_snapshot, is_idle, is_reading, seen_in, with_transaction}
 use Rattle.session.specs.Applying.{CommitsChanges, EndsAlone, IsApplied, IsCommitCause, IsDropped, IsNotApplied, KeepsCommitted, Applies, CanApply, listing_of}
 use Rattle.storage.specs.Changing.{IsChangeRefusal, IsTooMuch}
 use Rattle.session.specs.Changing.{ChangesPages, KeepsListed, written}
 use Rattle.session.specs.Writers.{IsWriter}
 use Rattle.session.specs.declared.transactions.Connections.{Connections}
-use Rattle.session.specs.declared.transactions.Transaction.{Transaction}
-use Rattle.session.specs.declared.transactions.Transaction.TheVariants as transaction
+use Rattle.session.specs.declared.seats.Transaction.{Transaction}
+use Rattle.session.specs.declared.seats.Transaction.TheVariants as transaction
 use Rattle.session.specs.declared.changes.Write.{Write}
-use Rattle.session.proofs.Beginning.{StartsWriting, none_where_idle, writer_begins, writer_stores}
+use Rattle.session.proofs.Beginning.{StartsWriting, free_of, newest_listed, none_where_idle, writer_begins, writer_stores}
 use Rattle.session.proofs.CommitSteps.{committed_shown}
 use Rattle.session.proofs.CommitCrashes.{commit_crashes, doubt_left, doubt_crashes, doubted}
 use Rattle.session.proofs.Settled.{still_settled, crash_keeps}
 use Rattle.session.proofs.SeenPages.{at_newest}
-use Rattle.session.proofs.Selecting.{all_listed}
-use Rattle.session.proofs.ReadingPhases.{ReadsIn, other_reading, reads_in}
-use Rattle.session.proofs.Showing.{moved, still_saved, still_shown, still_stored, still_transaction, still_writer}
-use Rattle.session.proofs.Stepping.{by_outcome, first_is}
+use Rattle.session.proofs.ReadingPhases.{ReadsNewest, other_reading, reads_newest}
+use Rattle.session.proofs.Showing.{lone_still, moved, stays, still_saved, still_shown, still_stored, still_transaction, still_writer}
+use Rattle.session.proofs.Stepping.{by_outcome}
 use Rattle.session.proofs.Marked.{moved_on, over_on, went_back}
 use Rattle.session.proofs.MarksAtBegin.{at_begin, marks_at_begin, shows_begin, states_at_begin, tables_at_begin}
 use Rattle.pager.specs.Marks.{Changes, IsOverTheSame, marks_of, now_of}
@@ -57,17 +56,17 @@ use Rattle.session.proofs.Applying.{Begun, IsFinish, IsErrorCause, alone, finish
 -- ---- commits
 
 -- a commit of a statement of its own
-alone_commits : (m : Machine) (made : Database) (w : Work) → Reaches w made → Allowed m 1 (alone m w) (Rows []) (after_commit m 1 made)
-alone_commits m made (Makes db) is = (refl, inl (ap (after_commit m 1) (sym is)))
-alone_commits m made (IsRefused rs) is = absurd is
-alone_commits m made (Undoes r) is = absurd is
-alone_commits m made (Binds over ch w) is = inr (is.0, alone_commits m made w is.1)
+alone_commits : (m : Machine) (n : ℕ) (made : Database) (w : Work) → Reaches w made → Allowed m n (alone m w) (Rows []) (after_commit m n made)
+alone_commits m n made (Makes db) is = (refl, inl (ap (after_commit m n) (sym is)))
+alone_commits m n made (IsRefused rs) is = absurd is
+alone_commits m n made (Undoes r) is = absurd is
+alone_commits m n made (Binds over ch w) is = inr (is.0, alone_commits m n made w is.1)
 
-alone_doubts : (m : Machine) (made : Database) (w : Work) → Reaches w made → Allowed m 1 (alone m w) (Refused refusal.Io) (doubted m made)
-alone_doubts m made (Makes db) is = (refl, inr (ap (doubted m) (sym is)))
-alone_doubts m made (IsRefused rs) is = absurd is
-alone_doubts m made (Undoes r) is = absurd is
-alone_doubts m made (Binds over ch w) is = inr (is.0, alone_doubts m made w is.1)
+alone_doubts : (m : Machine) (n : ℕ) (made : Database) (w : Work) → Reaches w made → Allowed m n (alone m w) (Refused refusal.Io) (doubted m made)
+alone_doubts m n made (Makes db) is = (refl, inr (ap (doubted m) (sym is)))
+alone_doubts m n made (IsRefused rs) is = absurd is
+alone_doubts m n made (Undoes r) is = absurd is
+alone_doubts m n made (Binds over ch w) is = inr (is.0, alone_doubts m n made w is.1)
 
 idle_now : (t : Transaction) → is_idle t ≡ true → t ≡ transaction.Idle
 idle_now transaction.Idle is = refl
@@ -96,7 +95,8 @@ module _ {D : Type 0} {g : Ghosts D} where
   pub other_catalog : (files : Log D g) (a b : SavedCatalogs) (m : Machine) (t : Transaction) (k : Connection) → committed_in b ≡ committed_in a → current_in b ≡ current_in a → savepoints_in b ≡ savepoints_in a → IsTransaction files a m.history t k → IsTransaction files b m.history t k
   other_catalog files a b m transaction.Idle k same tables savepoints is = (is.0, tables ∙ is.1 ∙ sym same, savepoints ∙ is.2)
   other_catalog files a b m transaction.Begun k same tables savepoints is = other_reading a b NoSnapshot k same tables savepoints is
-  other_catalog files a b m (transaction.Reading s) k same tables savepoints is = (other_reading a b (Reads (last_place m)) k same tables savepoints is.0, is.1)
+  other_catalog files a b m (transaction.Reading s) k same tables savepoints is =
+      (is.0, other_reading a b (Reads is.0) k same tables savepoints is.1, subst (λ (ts : List Table). IsSnapshotOf files ts m.history is.0 s) (sym same) is.2)
   other_catalog files a b m (transaction.Writing w) k same tables savepoints is = record {
     db = is.db;
     points = is.points;
@@ -105,46 +105,27 @@ module _ {D : Type 0} {g : Ghosts D} where
     stored = subst (λ (ts : List Table). ShowsDatabase (view_of files w) ts is.db) (sym tables) is.stored;
     saved = record { tables = ap (λ (s : Savepoints). s.points) savepoints ∙ is.saved.tables; hold = is.saved.hold };
     marks = is.marks;
-  }
-
-  -- the machine is shown still where its committed tables and the files are the same
-  pub stays : (old new : Connections D g) (m : Machine) (shown : RepresentsRunning old m) → ShowTheSame (files_of old) (files_of new) → has_failed_in new ≡ has_failed_in old
-      → committed_in new.catalog ≡ committed_in old.catalog
-      → IsTransaction (files_of new) new.catalog m.history new.transaction shown.first → RepresentsRunning new m
-  stays old new m shown same failed tables is = record {
-    running = shown.running;
-    sure = shown.sure;
-    whole = failed ∙ shown.whole;
-    told = same.told;
-    settled = still_settled (files_of old) (files_of new) same shown.settled;
-    some = shown.some;
-    stored = subst (λ (v : View). ShowsDatabase v (committed_in new.catalog) (newest m)) (sym same.newest)
-        (subst (λ (ts : List Table). ShowsDatabase (newest_view (files_of old)) ts (newest m)) (sym tables) shown.stored);
-    first = shown.first;
-    others = shown.others;
-    connections = shown.connections;
-    idle = shown.idle;
-    transaction = is;
+    base = subst (λ (ts : List Table). ShowsDatabase (newest_view files) ts (newest m)) (sym same) is.base;
   }
 
   -- ---- a change
 
-  keeps : (old new : Connections D g) → has_failed_in new ≡ has_failed_in old → new.transaction ≡ old.transaction → KeepsListed (listing_of old) (listing_of new) → KeepsCommitted old new
-  keeps old new failed same kept = record { files = kept.files; failed = failed; transaction = same; tables = kept.tables; savepoints = kept.savepoints }
+  keeps : (old new : Connections D g) → beside_in new ≡ beside_in old → new.transaction ≡ old.transaction → KeepsListed (listing_of old) (listing_of new) → KeepsCommitted old new
+  keeps old new beside same kept = record { files = kept.files; beside = beside; transaction = same; tables = kept.tables; savepoints = kept.savepoints }
 
   -- what a change of the files and the catalog comes to for the connections that have them
-  pub applied : (s : Statement) (old : Connections D g) (w : Writer) (db : Database) (r : Result ⊤ Fault) (new : Connections D g) (left : Writer) → has_failed_in new ≡ has_failed_in old → new.transaction ≡ old.transaction
+  pub applied : (s : Statement) (old : Connections D g) (w : Writer) (db : Database) (r : Result ⊤ Fault) (new : Connections D g) (left : Writer) → beside_in new ≡ beside_in old → new.transaction ≡ old.transaction
       → ChangesPages s (listing_of old) w db r (listing_of new) left → Applies s old w db r new left
-  applied s old w db (Ok done) new left failed same has = record { kept = keeps old new failed same has.kept; made = has.made; reaches = has.reaches; applies = has.applies }
-  applied s old w db (Err f) new left failed same has = record { kept = keeps old new failed same has.kept; tables = has.tables; why = has.why }
+  applied s old w db (Ok done) new left beside same has = record { kept = keeps old new beside same has.kept; made = has.made; reaches = has.reaches; applies = has.applies }
+  applied s old w db (Err f) new left beside same has = record { kept = keeps old new beside same has.kept; tables = has.tables; why = has.why }
 
   -- ---- refusals
 
-  refused : (old new : Connections D g) (m : Machine) (w : Write) (finish : Work → Outcome) → RepresentsRunning old m → ShowTheSame (files_of old) (files_of new) → RepresentsRunning new m → is_supported (written w) ≡ true → (ends : IsFinish m finish) (db : Database)
-      → database_of m (connection m 1) ≡ db → outcome m 1 (written w) ≡ finish (change_made (written w) db) → (f : Fault) → IsErrorCause (CannotStoreIn old (written w) db) (change_made (written w) db) f → StepsTo old m 1 (written w) (Refused (refusal_of f)) new
+  refused : (old new : Connections D g) (m : Machine) (w : Write) (finish : Work → Outcome) → RepresentsRunning old m → ShowTheSame (files_of old) (files_of new) → RepresentsRunning new m → is_supported (written w) ≡ true → (ends : IsFinish m old.connection finish) (db : Database)
+      → database_of m (connection m old.connection) ≡ db → outcome m old.connection (written w) ≡ finish (change_made (written w) db) → (f : Fault) → IsErrorCause (CannotStoreHere old (written w) db) (change_made (written w) db) f → StepsTo old m (written w) (Refused (refusal_of f)) new
   refused old new m w finish before same behind supported_forms ends db sees is f why = record {
     next = m;
-    step = refused_step (CannotStoreIn old (written w)) m (written w) supported_forms before.running finish ends (change_made (written w) db) is db sees f why;
+    step = refused_step (CannotStoreHere old (written w)) m old.connection (written w) supported_forms before.running before.numbered finish ends (change_made (written w) db) is db sees f why;
     shown = inr behind;
     crash = crash_keeps old new m m before same;
   }
@@ -153,38 +134,45 @@ module _ {D : Type 0} {g : Ghosts D} where
 
   -- what a statement comes to that works on the newest commit
   pub record Opening (old : Connections D g) (m : Machine) (x : Write) (finish : Work → Outcome) : Type 0 where
-    pub ends : IsFinish m finish
-    pub comes : outcome m 1 (written x) ≡ finish (change_made (written x) (newest m))
+    pub ends : IsFinish m old.connection finish
+    pub comes : outcome m old.connection (written x) ≡ finish (change_made (written x) (newest m))
     pub all : IsUnchanged old.catalog
+    pub base : ShowsDatabase (newest_view (files_of old)) (committed_in old.catalog) (newest m)
     pub sees : seen_in old.transaction (files_of old) ≡ newest_view (files_of old)
-    pub database : database_of m (connection m 1) ≡ newest m
+    pub database : database_of m (connection m old.connection) ≡ newest m
 
-  pub opens_alone : (old : Connections D g) (m : Machine) (shown : RepresentsRunning old m) (x : Write) (t : Transaction) → old.transaction ≡ t → is_idle t ≡ true → IsTransaction (files_of old) old.catalog m.history t shown.first → Opening old m x (alone m)
-  opens_alone old m shown x transaction.Idle is idle first = record {
-    ends = finish_alone m;
-    comes = write_outcome_of x m Idle (first_is m shown.first shown.others shown.connections ∙ first.0) ∙ writes_alone m shown.first shown.others shown.connections shown.idle (change_made (written x));
+  pub opens_alone : (old : Connections D g) (m : Machine) (shown : RepresentsRunning old m) (x : Write) (t : Transaction) → MayWrite old → old.transaction ≡ t → is_idle t ≡ true → IsTransaction (files_of old) old.catalog m.history t shown.present → Opening old m x (alone m)
+  opens_alone old m shown x transaction.Idle may is idle first = record {
+    ends = finish_alone m old.connection;
+    comes = write_outcome_of x m old.connection Idle (shown.is ∙ first.0) ∙ writes_alone m old.connection (free_of old m shown may.free) (change_made (written x));
     all = first.1;
+    base = newest_listed old m shown (may.newest (ap has_no_snapshot is));
     sees = ap (λ (t : Transaction). seen_in t (files_of old)) is;
-    database = ap (database_of m) (first_is m shown.first shown.others shown.connections ∙ first.0);
+    database = ap (database_of m) (shown.is ∙ first.0);
   }
-  opens_alone old m shown x transaction.Begun is idle first = absurd (false≢true idle)
-  opens_alone old m shown x (transaction.Reading s) is idle first = absurd (false≢true idle)
-  opens_alone old m shown x (transaction.Writing w) is idle first = absurd (false≢true idle)
+  opens_alone old m shown x transaction.Begun may is idle first = absurd (false≢true idle)
+  opens_alone old m shown x (transaction.Reading s) may is idle first = absurd (false≢true idle)
+  opens_alone old m shown x (transaction.Writing w) may is idle first = absurd (false≢true idle)
 
-  opens_in : (old : Connections D g) (m : Machine) (shown : RepresentsRunning old m) (x : Write) (r : ReadsIn (files_of old) old.catalog m old.transaction shown.first) → Opening old m x (working (begun_in old.catalog (states_of r.first.points)) m)
-  opens_in old m shown x r =
+  opens_in : (old : Connections D g) (m : Machine) (shown : RepresentsRunning old m) (x : Write) → MayWrite old → (r : ReadsNewest (files_of old) old.catalog m old.connection old.transaction shown.present)
+      → Opening old m x (working (begun_in old.catalog (states_of r.first.points)) m old.connection)
+  opens_in old m shown x may r =
       let b = begun_in old.catalog (states_of r.first.points) in
       let k = in_transaction old.catalog r.first.points r.phase in
       record {
-        ends = finish_in b m;
-        comes = write_outcome_of x m k (first_is m shown.first shown.others shown.connections ∙ r.first.is) ∙ writes_reading m shown.first shown.others shown.connections shown.idle b r.phase r.is (change_made (written x));
+        ends = finish_in b m old.connection;
+        comes = write_outcome_of x m old.connection k (shown.is ∙ r.first.is) ∙ writes_reading m old.connection (free_of old m shown may.free) b r.phase r.is (change_made (written x));
         all = r.first.all;
+        base = r.base;
         sees = r.seen;
-        database = ap (database_of m) (first_is m shown.first shown.others shown.connections ∙ r.first.is) ∙ r.is.sees b.by_savepoint b.points;
+        database = ap (database_of m) (shown.is ∙ r.first.is) ∙ r.sees b.by_savepoint b.points;
       }
 
-  pub opens_reading : (old : Connections D g) (m : Machine) (shown : RepresentsRunning old m) (x : Write) → is_reading old.transaction ≡ true → (finish : Work → Outcome) × Opening old m x finish
-  opens_reading old m shown x reads = (_, opens_in old m shown x (reads_in (files_of old) old.catalog m old.transaction shown.first reads shown.transaction))
+  reads_on : (old : Connections D g) (m : Machine) (shown : RepresentsRunning old m) → is_reading old.transaction ≡ true → MayWrite old → ReadsNewest (files_of old) old.catalog m old.connection old.transaction shown.present
+  reads_on old m shown reads may = reads_newest (files_of old) old.catalog m old.connection old.transaction shown.present reads may.fresh (λ none. newest_listed old m shown (may.newest none)) shown.transaction
+
+  pub opens_reading : (old : Connections D g) (m : Machine) (shown : RepresentsRunning old m) (x : Write) → is_reading old.transaction ≡ true → MayWrite old → (finish : Work → Outcome) × Opening old m x finish
+  opens_reading old m shown x reads may = (_, opens_in old m shown x may (reads_on old m shown reads may))
 
   -- where page 1 isn't read, when out of memory or by a disk
   pub not_begun : (old new : Connections D g) (x : Write) (f : Fault) → is_supported (written x) ≡ true → OnlyReads old new → ((m : Machine) → RepresentsRunning old m → (f ≡ fault.Memory) ⊎ (f ≡ fault.Io))
@@ -192,22 +180,25 @@ module _ {D : Type 0} {g : Ghosts D} where
   not_begun old new x f supported_forms reads why opens m shown =
       let finish = (opens m shown).0 in
       let opened = (opens m shown).1 in
-      refused old new m x finish shown (reads.files shown.told) (still_shown old new m shown (reads.files shown.told) reads.failed reads.catalog reads.transaction) supported_forms opened.ends (newest m) opened.database opened.comes f (short (why m shown))
+      refused old new m x finish shown (reads.files shown.told) (still_shown old new m shown (reads.files shown.told) reads.beside reads.catalog reads.transaction) supported_forms opened.ends (newest m) opened.database opened.comes f (short (why m shown))
     where
-      short : (f ≡ fault.Memory) ⊎ (f ≡ fault.Io) → IsErrorCause (CannotStoreIn old (written x) (newest m)) (change_made (written x) (newest m)) f
+      short : (f ≡ fault.Memory) ⊎ (f ≡ fault.Io) → IsErrorCause (CannotStoreHere old (written x) (newest m)) (change_made (written x) (newest m)) f
       short out = inl (inl out)
 
   abbrev pub Started : Connections D g → Connections D g → Writer → Snapshot → Type 0
   Started old mid w s = StartsWriting old (with_transaction mid (transaction.Writing w)) w s
 
-  begun_works : (old mid : Connections D g) (m : Machine) (shown : RepresentsRunning old m) (w : Writer) (s : Snapshot) → Started old mid w s → IsUnchanged old.catalog → CanApply mid w (newest m)
-  begun_works old mid m shown w s start all = record {
+  begun_works : (old mid : Connections D g) (m : Machine) (shown : RepresentsRunning old m) (w : Writer) (s : Snapshot) → Started old mid w s → ShowsDatabase (newest_view (files_of old)) (current_in old.catalog) (newest m) → CanApply mid w (newest m)
+  begun_works old mid m shown w s start base = record {
     told = start.files.told;
     settled = still_settled (files_of old) (files_of mid) start.files shown.settled;
     writer = writer_begins old (with_transaction mid (transaction.Writing w)) w s start shown.stored.served;
     stored = subst (λ (c : SavedCatalogs). ShowsDatabase (view_of (files_of mid) w) (current_in c) (newest m)) (sym start.catalog)
-        (writer_stores old (with_transaction mid (transaction.Writing w)) w s (current_in old.catalog) (newest m) start (all_listed old m shown all));
+        (writer_stores old (with_transaction mid (transaction.Writing w)) w s (current_in old.catalog) (newest m) start base);
   }
+
+  listed_on : (c : Connections D g) (m : Machine) → IsUnchanged c.catalog → ShowsDatabase (newest_view (files_of c)) (committed_in c.catalog) (newest m) → ShowsDatabase (newest_view (files_of c)) (current_in c.catalog) (newest m)
+  listed_on c m all base = subst (λ (ts : List Table). ShowsDatabase (newest_view (files_of c)) ts (newest m)) (sym all) base
 
   -- a writer that has begun sees the pages of the newest commit
   begun_pages : (old mid : Connections D g) (w : Writer) (s : Snapshot) → Started old mid w s → pages_in (view_of (files_of mid) w) ≡ pages_in (newest_view (files_of old))
@@ -235,7 +226,7 @@ module _ {D : Type 0} {g : Ghosts D} where
       start = starts m shown
 
       has : IsNotApplied (written x) mid w (newest m) after f
-      has = applies (newest m) (begun_works old mid m shown w s start opened.all)
+      has = applies (newest m) (begun_works old mid m shown w s start (listed_on old m opened.all opened.base))
 
       same : ShowTheSame (files_of old) (files_of after)
       same = show_on (files_of old) (files_of mid) (files_of after) start.files has.kept.files
@@ -247,10 +238,10 @@ module _ {D : Type 0} {g : Ghosts D} where
       tables = has.tables ∙ ap current_in start.catalog
 
       still : RepresentsRunning after m
-      still = stays old after m shown same (has.kept.failed ∙ start.failed) committed
-          (subst (λ (t : Transaction). IsTransaction (files_of after) after.catalog m.history t shown.first) (sym (has.kept.transaction ∙ beside))
-          (other_catalog (files_of after) old.catalog after.catalog m old.transaction shown.first committed tables (has.kept.savepoints ∙ ap savepoints_in start.catalog)
-          (still_transaction (files_of old) (files_of after) old.catalog m old.transaction shown.first same shown.transaction)))
+      still = stays old after m shown same (has.kept.beside ∙ start.beside)
+          (subst (λ (t : Transaction). IsTransaction (files_of after) after.catalog m.history t shown.present) (sym (has.kept.transaction ∙ beside))
+          (other_catalog (files_of after) old.catalog after.catalog m old.transaction shown.present committed tables (has.kept.savepoints ∙ ap savepoints_in start.catalog)
+          (still_transaction (files_of old) (files_of after) old.catalog m.history old.transaction shown.present same shown.transaction)))
 
   -- a writer whose marks are set, one for each savepoint
   pub record IsMarkedFrom (old : Connections D g) (begun marked : Writer) : Type 0 where
@@ -259,15 +250,15 @@ module _ {D : Type 0} {g : Ghosts D} where
     pub stands : IsOverTheSame begun marked
 
   -- the first write of a transaction
-  pub begun_writes : (old mid after : Connections D g) (w marked left : Writer) (s : Snapshot) (x : Write) → is_supported (written x) ≡ true → is_reading old.transaction ≡ true
+  pub begun_writes : (old mid after : Connections D g) (w marked left : Writer) (s : Snapshot) (x : Write) → is_supported (written x) ≡ true → is_reading old.transaction ≡ true → MayWrite old
       → ((m : Machine) → RepresentsRunning old m → Started old mid w s) → IsMarkedFrom old w marked → ((db : Database) → CanApply mid marked db → IsApplied (written x) mid db after left)
       → marks_of left ≡ marks_of marked → IsOverTheSame marked left
       → StepsOn old (written x) (Rows []) (with_transaction after (transaction.Writing left))
-  begun_writes old mid after w marked left s x supported_forms reads starts sets applies marks stands m shown = record {
-    next = working_on b m has.made;
-    step = by_outcome (CannotStoreIn old (written x)) m (written x) supported_forms shown.running (working b m (change_made (written x) (newest m))) (Rows []) (working_on b m has.made) opened.comes (worked_gives b m has.made (change_made (written x) (newest m)) has.reaches);
+  begun_writes old mid after w marked left s x supported_forms reads may starts sets applies marks stands m shown = record {
+    next = working_on b m old.connection has.made;
+    step = by_outcome (CannotStoreHere old (written x)) m old.connection (written x) supported_forms shown.running shown.numbered (working b m old.connection (change_made (written x) (newest m))) (Rows []) (working_on b m old.connection has.made) opened.comes (worked_gives b m old.connection has.made (change_made (written x) (newest m)) has.reaches);
     shown = inr (moved old (with_transaction after (transaction.Writing left)) m (InTransactionOf b.by_savepoint b.points (Writes (last_place m) has.made)) shown
-        same (has.kept.failed ∙ start.failed) (has.kept.tables ∙ ap committed_in start.catalog)
+        same (has.kept.beside ∙ start.beside) (inr (free_of old m shown may.free))
         (record {
           db = has.made;
           points = at_begin (now_of w) r.first.points;
@@ -281,24 +272,26 @@ module _ {D : Type 0} {g : Ghosts D} where
           };
           marks = marks ∙ sets.marks ∙ ap (λ (cs : List Changes). cs ++ replicate (length (savepoints_in old.catalog).points) (now_of w)) start.begun.marks
               ∙ marks_at_begin (now_of w) r.first.points (length (savepoints_in old.catalog).points) (ap length r.first.saved.tables ∙ length-map r.first.points (λ p. p.tables));
+          base = subst (λ (v : View). ShowsDatabase v (committed_in after.catalog) (newest m)) (sym same.newest)
+              (subst (λ (ts : List Table). ShowsDatabase (newest_view (files_of old)) ts (newest m)) (sym (has.kept.tables ∙ ap committed_in start.catalog)) opened.base);
         }));
-    crash = crash_keeps old after m (working_on b m has.made) shown same;
+    crash = crash_keeps old after m (working_on b m old.connection has.made) shown same;
   }
     where
-      r : ReadsIn (files_of old) old.catalog m old.transaction shown.first
-      r = reads_in (files_of old) old.catalog m old.transaction shown.first reads shown.transaction
+      r : ReadsNewest (files_of old) old.catalog m old.connection old.transaction shown.present
+      r = reads_on old m shown reads may
 
       b : Begun
       b = begun_in old.catalog (states_of r.first.points)
 
-      opened : Opening old m x (working b m)
-      opened = opens_in old m shown x r
+      opened : Opening old m x (working b m old.connection)
+      opened = opens_in old m shown x may r
 
       start : Started old mid w s
       start = starts m shown
 
       works : CanApply mid w (newest m)
-      works = begun_works old mid m shown w s start opened.all
+      works = begun_works old mid m shown w s start (listed_on old m opened.all opened.base)
 
       has : IsApplied (written x) mid (newest m) after left
       has = applies (newest m) (moved_on mid w marked (newest m) sets.now sets.stands works)
@@ -326,7 +319,7 @@ module _ {D : Type 0} {g : Ghosts D} where
   dropped old after kept w left db f committed tables gone (inr none) = inr (record {
     why = none.why;
     files = none.kept.files;
-    failed = none.kept.failed;
+    beside = none.kept.beside;
     transaction = none.kept.transaction;
     committed = committed ∙ none.kept.tables;
     tables = tables ∙ none.kept.tables;
@@ -334,22 +327,22 @@ module _ {D : Type 0} {g : Ghosts D} where
   })
 
   -- a statement of its own, after its work
-  pub ended_alone : (old mid after new : Connections D g) (w left : Writer) (s : Snapshot) (x : Write) (result : Result ⊤ Fault) → is_supported (written x) ≡ true → is_idle old.transaction ≡ true → mid.transaction ≡ old.transaction
+  pub ended_alone : (old mid after new : Connections D g) (w left : Writer) (s : Snapshot) (x : Write) (result : Result ⊤ Fault) → is_supported (written x) ≡ true → is_idle old.transaction ≡ true → MayWrite old → mid.transaction ≡ old.transaction
       → ((m : Machine) → RepresentsRunning old m → Started old mid w s) → ((db : Database) → CanApply mid w db → IsApplied (written x) mid db after left)
       → ((db was : Database) → has_failed_in after ≡ false → CanApply after left db → ShowsDatabase (newest_view (files_of after)) (committed_in after.catalog) was → EndsAlone after left db result new) → StepsOn old (written x) (done_reply result) new
-  ended_alone old mid after new w left s x result supported_forms idle beside starts applies ends m shown = by_result result (ends has.made (newest m) (failed ∙ shown.whole) has.applies newest_stored)
+  ended_alone old mid after new w left s x result supported_forms idle may beside starts applies ends m shown = by_result result (ends has.made (newest m) (ap (λ (b : Beside). b.failed) left_beside ∙ shown.whole) has.applies newest_stored)
     where
       opened : Opening old m x (alone m)
-      opened = opens_alone old m shown x old.transaction refl idle shown.transaction
+      opened = opens_alone old m shown x old.transaction may refl idle shown.transaction
 
       start : Started old mid w s
       start = starts m shown
 
       has : IsApplied (written x) mid (newest m) after left
-      has = applies (newest m) (begun_works old mid m shown w s start opened.all)
+      has = applies (newest m) (begun_works old mid m shown w s start (listed_on old m opened.all opened.base))
 
-      failed : has_failed_in after ≡ has_failed_in old
-      failed = has.kept.failed ∙ start.failed
+      left_beside : beside_in after ≡ beside_in old
+      left_beside = has.kept.beside ∙ start.beside
 
       is_alone : after.transaction ≡ transaction.Idle
       is_alone = has.kept.transaction ∙ beside ∙ idle_now old.transaction idle
@@ -362,10 +355,10 @@ module _ {D : Type 0} {g : Ghosts D} where
 
       newest_stored : ShowsDatabase (newest_view (files_of after)) (committed_in after.catalog) (newest m)
       newest_stored = subst (λ (v : View). ShowsDatabase v (committed_in after.catalog) (newest m)) (sym worked.newest)
-          (subst (λ (ts : List Table). ShowsDatabase (newest_view (files_of old)) ts (newest m)) (sym committed_same) shown.stored)
+          (subst (λ (ts : List Table). ShowsDatabase (newest_view (files_of old)) ts (newest m)) (sym committed_same) opened.base)
 
       none_before : HasNoSavepoints old.catalog
-      none_before = (none_where_idle old m old.transaction shown.first shown.transaction idle).1
+      none_before = (none_where_idle old m old.transaction shown.present shown.transaction idle).1
 
       same_gone : (f : Fault) → IsDropped after left new f → ShowTheSame (files_of old) (files_of new)
       same_gone f gone = show_on (files_of old) (files_of after) (files_of new) worked gone.files
@@ -375,28 +368,28 @@ module _ {D : Type 0} {g : Ghosts D} where
           let same = same_gone f gone in
           let committed : committed_in new.catalog ≡ committed_in old.catalog = gone.committed ∙ committed_same in
           let whole : current_in new.catalog ≡ current_in old.catalog = gone.tables ∙ committed_same ∙ sym opened.all in
-          stays old new m shown same (gone.failed ∙ failed) committed
-          (subst (λ (t : Transaction). IsTransaction (files_of new) new.catalog m.history t shown.first) (sym (gone.transaction ∙ has.kept.transaction ∙ beside))
-          (other_catalog (files_of new) old.catalog new.catalog m old.transaction shown.first committed whole (gone.savepoints ∙ sym none_before)
-          (still_transaction (files_of old) (files_of new) old.catalog m old.transaction shown.first same shown.transaction)))
+          stays old new m shown same (gone.beside ∙ left_beside)
+          (subst (λ (t : Transaction). IsTransaction (files_of new) new.catalog m.history t shown.present) (sym (gone.transaction ∙ has.kept.transaction ∙ beside))
+          (other_catalog (files_of new) old.catalog new.catalog m old.transaction shown.present committed whole (gone.savepoints ∙ sym none_before)
+          (still_transaction (files_of old) (files_of new) old.catalog m.history old.transaction shown.present same shown.transaction)))
 
-      short : (f : Fault) → IsCommitCause (files_of after) left f → IsErrorCause (CannotStoreIn old (written x) (newest m)) (change_made (written x) (newest m)) f
+      short : (f : Fault) → IsCommitCause (files_of after) left f → IsErrorCause (CannotStoreHere old (written x) (newest m)) (change_made (written x) (newest m)) f
       short f (inl memory) = inl (inl (inl memory))
       short f (inr full) = inl (inr full.0)
 
-      by_result : (r : Result ⊤ Fault) → EndsAlone after left has.made r new → StepsTo old m 1 (written x) (done_reply r) new
+      by_result : (r : Result ⊤ Fault) → EndsAlone after left has.made r new → StepsTo old m (written x) (done_reply r) new
       by_result (Ok done) ended = record {
-        next = after_commit m 1 has.made;
-        step = by_outcome (CannotStoreIn old (written x)) m (written x) supported_forms shown.running (alone m (change_made (written x) (newest m))) (Rows []) (after_commit m 1 has.made) opened.comes (alone_commits m has.made (change_made (written x) (newest m)) has.reaches);
-        shown = inr (committed_shown old after new m shown has.made failed ended.0 (ended.0.transaction ∙ is_alone));
-        crash = commit_crashes old after new m has.made shown worked committed_same ended.1;
+        next = after_commit m old.connection has.made;
+        step = by_outcome (CannotStoreHere old (written x)) m old.connection (written x) supported_forms shown.running shown.numbered (alone m (change_made (written x) (newest m))) (Rows []) (after_commit m old.connection has.made) opened.comes (alone_commits m old.connection has.made (change_made (written x) (newest m)) has.reaches);
+        shown = inr (committed_shown old after new m shown has.made worked left_beside ended.0 (ended.0.transaction ∙ is_alone) (free_of old m shown may.free));
+        crash = commit_crashes old after new m has.made shown worked newest_stored ended.1;
       }
       by_result (Err f) (inl io) = record {
         next = doubted m has.made;
-        step = subst (λ (e : Fault). StepSoFar (CannotStoreIn old (written x)) m 1 (written x) (Refused (refusal_of e)) (doubted m has.made)) (sym io.io)
-            (by_outcome (CannotStoreIn old (written x)) m (written x) supported_forms shown.running (alone m (change_made (written x) (newest m))) (Refused refusal.Io) (doubted m has.made) opened.comes (alone_doubts m has.made (change_made (written x) (newest m)) has.reaches));
-        shown = inl (io.failed, refl, doubt_left old after new m has.made shown worked committed_same io.held f io);
-        crash = doubt_crashes old after new m has.made shown worked committed_same io.held;
+        step = subst (λ (e : Fault). StepSoFar (CannotStoreHere old (written x)) m old.connection (written x) (Refused (refusal_of e)) (doubted m has.made)) (sym io.io)
+            (by_outcome (CannotStoreHere old (written x)) m old.connection (written x) supported_forms shown.running shown.numbered (alone m (change_made (written x) (newest m))) (Refused refusal.Io) (doubted m has.made) opened.comes (alone_doubts m old.connection has.made (change_made (written x) (newest m)) has.reaches));
+        shown = inl (io.failed, refl, doubt_left old after new m has.made shown worked newest_stored io.held f io);
+        crash = doubt_crashes old after new m has.made shown worked newest_stored io.held;
       }
       by_result (Err f) (inr gone) = refused old new m x (alone m) shown (same_gone f gone) (dropped_shown f gone) supported_forms opened.ends (newest m) opened.database opened.comes f (short f gone.why)
 
@@ -410,7 +403,7 @@ module _ {D : Type 0} {g : Ghosts D} where
       old : Connections D g
       old = with_transaction mid (transaction.Writing writer)
 
-      t : IsWritingIn (files_of mid) mid.catalog m.history writer shown.first
+      t : IsWritingIn (files_of mid) mid.catalog m.history writer shown.present
       t = shown.transaction
 
       b : Begun
@@ -419,8 +412,8 @@ module _ {D : Type 0} {g : Ghosts D} where
       here : CanApply mid writer t.db
       here = record { told = shown.told; settled = shown.settled; writer = t.may; stored = t.stored }
 
-      comes : outcome m 1 (written w) ≡ working b m (change_made (written w) t.db)
-      comes = write_outcome_of w m (in_transaction mid.catalog t.points (Writes (last_place m) t.db)) (first_is m shown.first shown.others shown.connections ∙ t.is)
+      comes : outcome m old.connection (written w) ≡ working b m old.connection (change_made (written w) t.db)
+      comes = write_outcome_of w m old.connection (in_transaction mid.catalog t.points (Writes (last_place m) t.db)) (shown.is ∙ t.is)
 
       -- the writer has the savepoints that it had
       goes_on : (k : Connection) (db : Database) → k ≡ in_transaction mid.catalog t.points (Writes (last_place m) db) → KeepsCommitted mid after → CanApply after left db → IsWritingIn (files_of after) after.catalog m.history left k
@@ -435,21 +428,23 @@ module _ {D : Type 0} {g : Ghosts D} where
           hold = (still_saved (files_of mid) (files_of after) mid.catalog (newest m) writer left t.points kept.files (λ u on. over_on writer left u over on) t.saved).hold;
         };
         marks = marks ∙ t.marks;
+        base = subst (λ (v : View). ShowsDatabase v (committed_in after.catalog) (newest m)) (sym kept.files.newest)
+            (subst (λ (ts : List Table). ShowsDatabase (newest_view (files_of mid)) ts (newest m)) (sym kept.tables) t.base);
       }
 
-      by_result : (r : Result ⊤ Fault) → Applies (written w) mid writer t.db r after left → IfErr r (λ f. now_of left ≡ now_of writer) → StepsTo old m 1 (written w) (done_reply r) (with_transaction after (transaction.Writing left))
+      by_result : (r : Result ⊤ Fault) → Applies (written w) mid writer t.db r after left → IfErr r (λ f. now_of left ≡ now_of writer) → StepsTo old m (written w) (done_reply r) (with_transaction after (transaction.Writing left))
       by_result (Ok done) has now = record {
-        next = working_on b m has.made;
-        step = by_outcome (CannotStoreIn old (written w)) m (written w) supported_forms shown.running (working b m (change_made (written w) t.db)) (Rows []) (working_on b m has.made) comes (worked_gives b m has.made (change_made (written w) t.db) has.reaches);
-        shown = inr (moved old (with_transaction after (transaction.Writing left)) m (in_transaction mid.catalog t.points (Writes (last_place m) has.made)) shown has.kept.files has.kept.failed
-            has.kept.tables (goes_on (in_transaction mid.catalog t.points (Writes (last_place m) has.made)) has.made refl has.kept has.applies));
-        crash = crash_keeps old (with_transaction after (transaction.Writing left)) m (working_on b m has.made) shown has.kept.files;
+        next = working_on b m old.connection has.made;
+        step = by_outcome (CannotStoreHere old (written w)) m old.connection (written w) supported_forms shown.running shown.numbered (working b m old.connection (change_made (written w) t.db)) (Rows []) (working_on b m old.connection has.made) comes (worked_gives b m old.connection has.made (change_made (written w) t.db) has.reaches);
+        shown = inr (moved old (with_transaction after (transaction.Writing left)) m (in_transaction mid.catalog t.points (Writes (last_place m) has.made)) shown has.kept.files has.kept.beside
+            (inr (lone_still old m shown (ap is_writing t.is))) (goes_on (in_transaction mid.catalog t.points (Writes (last_place m) has.made)) has.made refl has.kept has.applies));
+        crash = crash_keeps old (with_transaction after (transaction.Writing left)) m (working_on b m old.connection has.made) shown has.kept.files;
       }
       by_result (Err f) has now =
           let still = went_back (written w) mid after t.db writer left f now over here has in
-          refused old (with_transaction after (transaction.Writing left)) m w (working b m) shown has.kept.files
-          (stays old (with_transaction after (transaction.Writing left)) m shown has.kept.files has.kept.failed has.kept.tables (goes_on shown.first t.db t.is has.kept still))
-          supported_forms (finish_in b m) t.db (ap (database_of m) (first_is m shown.first shown.others shown.connections ∙ t.is)) comes f
+          refused old (with_transaction after (transaction.Writing left)) m w (working b m old.connection) shown has.kept.files
+          (stays old (with_transaction after (transaction.Writing left)) m shown has.kept.files has.kept.beside (goes_on shown.present t.db t.is has.kept still))
+          supported_forms (finish_in b m old.connection) t.db (ap (database_of m) (shown.is ∙ t.is)) comes f
           (why_of (written w) (view_of (files_of mid) writer) (view_of (files_of mid) writer) t.db f refl refl has.why)
 
   -- a step of the connections with the transaction that they have

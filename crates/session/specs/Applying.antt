@@ -1,6 +1,6 @@
 -- What a statement makes of the database that its connection works on, and what a commit makes of that (SQL As Understood By
 -- SQLite, "BEGIN TRANSACTION").
-use Rattle.std.specs.Prelude.{◌≡◌, ◌⊎◌, ⊤, true, List, length, Result, Ok, Err}
+use Rattle.std.specs.Prelude.{◌≡◌, ◌⊎◌, ◌<◌, ◌≤◌, ⊤, true, List, length, Result, Ok, Err}
 use Rattle.sqlval.specs.declared.fault.Fault.{Fault}
 use Rattle.sqlval.specs.declared.fault.Fault.TheVariants as fault
 use Rattle.disk.specs.File.{IsContentLeft}
@@ -8,9 +8,10 @@ use Rattle.disk.specs.declared.device.Disk.{Ghosts}
 use Rattle.syntax.specs.declared.statement.Statement.{Statement}
 use Rattle.catalog.specs.Database.{Database}
 use Rattle.session.specs.SavedTables.{HasNoSavepoints, IsUnchanged, committed_in, current_in, savepoints_in}
-use Rattle.wal.specs.LogState.{db_of, log_of, state_of}
+use Rattle.wal.specs.LogState.{db_of, log_of, seen_by, state_of}
 use Rattle.wal.specs.Refusals.{IsWithin}
 use Rattle.wal.specs.declared.log.Log.{Log}
+use Rattle.wal.specs.declared.log.Snapshot.{Snapshot}
 use Rattle.wal.specs.declared.pages.PageImage.{PageImage}
 use Rattle.pager.specs.Limits.{pages_of}
 use Rattle.pager.specs.Marks.{IsOverTheSame, marks_of}
@@ -22,7 +23,7 @@ use Rattle.session.specs.Changing.{Listing, CanChange, RefusesChange, listing}
 use Rattle.storage.specs.Works.{Reaches, change_made}
 use Rattle.session.specs.Holding.{HoldThroughout, IsSettled}
 use Rattle.session.specs.ConnectionState.{files_of, has_failed_in, is_io}
-use Rattle.session.specs.Representation.{ShowTheSame}
+use Rattle.session.specs.Representation.{Beside, ShowTheSame, beside_in, newest_tables}
 use Rattle.session.specs.Stored.{ShowsDatabase}
 use Rattle.session.specs.declared.transactions.Connections.{Connections}
 
@@ -40,7 +41,7 @@ module _ {D : Type 0} {g : Ghosts D} where
   -- the files were read at most, no transaction has begun or ended, and the committed tables and the savepoints are what they were
   pub record KeepsCommitted (old new : Connections D g) : Type 0 where
     pub files : ShowTheSame (files_of old) (files_of new)
-    pub failed : has_failed_in new ≡ has_failed_in old
+    pub beside : beside_in new ≡ beside_in old
     pub transaction : new.transaction ≡ old.transaction
     pub tables : committed_in new.catalog ≡ committed_in old.catalog
     pub savepoints : savepoints_in new.catalog ≡ savepoints_in old.catalog
@@ -65,16 +66,23 @@ module _ {D : Type 0} {g : Ghosts D} where
 
   -- ---- a commit
 
-  -- the database is the newest committed one, all its tables are committed, and there is no savepoint
+  -- there are more frames, and each snapshot sees what it saw
+  pub record KeepsSnapshots (old new : Log D g) : Type 0 where
+    pub more : (state_of old).frames < (state_of new).frames
+    pub at : (snapshot : Snapshot) → seen_by snapshot ≤ (state_of old).frames → view_at new snapshot ≡ view_at old snapshot
+
+  -- the database is the newest committed one, the present connection has no savepoint, and the others see what they saw
   pub record CommitsDatabase (old : Connections D g) (db : Database) (new : Connections D g) : Type 0 where
     pub told : Tells (files_of new)
     pub settled : IsSettled (files_of new)
     pub failed : has_failed_in new ≡ has_failed_in old
+    pub connection : new.connection ≡ old.connection
+    pub parked : new.parked.items ≡ old.parked.items
     pub transaction : new.transaction ≡ old.transaction
-    pub tables : current_in new.catalog ≡ current_in old.catalog
     pub all : IsUnchanged new.catalog
     pub savepoints : HasNoSavepoints new.catalog
-    pub stored : ShowsDatabase (newest_view (files_of new)) (current_in new.catalog) db
+    pub stored : ShowsDatabase (newest_view (files_of new)) (newest_tables new) db
+    pub older : KeepsSnapshots (files_of old) (files_of new)
 
   -- At each moment of a commit a crash leaves the database that was the newest before it, or this one.
   abbrev pub HoldsEither : Connections D g → Database → Connections D g → Type 0
@@ -115,23 +123,25 @@ module _ {D : Type 0} {g : Ghosts D} where
 
   -- nothing differs but the files
   pub record KeepsAllButFiles (old new : Connections D g) : Type 0 where
-    pub failed : has_failed_in new ≡ has_failed_in old
+    pub beside : beside_in new ≡ beside_in old
     pub transaction : new.transaction ≡ old.transaction
     pub catalog : new.catalog ≡ old.catalog
 
-  -- the connections after a commit was written: all their tables are committed, and there is no savepoint
+  -- the connections after a commit was written: what the transaction saw are the newest tables, and there is no savepoint
   pub record IsAfterCommit (old : Connections D g) (files : Log D g) (next : Connections D g) : Type 0 where
     pub files_are : files_of next ≡ files
     pub failed : has_failed_in next ≡ has_failed_in old
+    pub connection : next.connection ≡ old.connection
+    pub parked : next.parked.items ≡ old.parked.items
     pub transaction : next.transaction ≡ old.transaction
-    pub current : current_in next.catalog ≡ current_in old.catalog
-    pub committed : committed_in next.catalog ≡ current_in old.catalog
+    pub newest : newest_tables next ≡ current_in old.catalog
+    pub all : IsUnchanged next.catalog
     pub savepoints : HasNoSavepoints next.catalog
 
   -- the connections after its writing was refused: they are marked where a call of a disk failed
   pub record IsAfterRefusal (old : Connections D g) (files : Log D g) (f : Fault) (next : Connections D g) : Type 0 where
     pub files_are : files_of next ≡ files
-    pub failed : has_failed_in next ≡ is_io f
+    pub beside : beside_in next ≡ record (beside_in old) { failed = is_io f }
     pub transaction : next.transaction ≡ old.transaction
     pub catalog : next.catalog ≡ old.catalog
 
@@ -144,7 +154,7 @@ module _ {D : Type 0} {g : Ghosts D} where
   pub record IsDropped (old : Connections D g) (writer : Writer) (new : Connections D g) (f : Fault) : Type 0 where
     pub why : IsCommitCause (files_of old) writer f
     pub files : ShowTheSame (files_of old) (files_of new)
-    pub failed : has_failed_in new ≡ has_failed_in old
+    pub beside : beside_in new ≡ beside_in old
     pub transaction : new.transaction ≡ old.transaction
     pub committed : committed_in new.catalog ≡ committed_in old.catalog
     pub tables : current_in new.catalog ≡ committed_in old.catalog

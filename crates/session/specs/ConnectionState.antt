@@ -23,9 +23,9 @@ abbrev pub is_io : Fault → Bool
 is_io Io = true
 is_io _ = false
 
--- refused as a form or as a connection that isn't supported yet
+-- refused as a form that isn't supported yet
 abbrev pub AnswersUnsupported : {A : Type 0} → Result A Fault → Type 0
-AnswersUnsupported result = (result ≡ Err (Unsupported feature.StatementForm)) ⊎ (result ≡ Err (Unsupported feature.Connection))
+AnswersUnsupported result = result ≡ Err (Unsupported feature.StatementForm)
 
 module _ {D : Type 0} {g : Ghosts D} where
   -- The counts of the two files' failed calls haven't fallen. A refusal has its cause: `Io` comes only where one of them rose, `Full` only

@@ -1,5 +1,5 @@
 -- Which refusals have which causes, and when the engine is marked as failed.
-use Rattle.std.specs.Prelude.{◌≡◌, ◌⊎◌, Bool, true, false, IsTrue, IsFalse, Result, Err}
+use Rattle.std.specs.Prelude.{◌≡◌, ◌⊎◌, ◌≤◌, ℕ, length, Bool, true, false, IsTrue, IsFalse, Result, Err}
 use Rattle.disk.specs.Calls.{Rose}
 use Rattle.disk.specs.declared.device.Disk.{Ghosts}
 use Rattle.sqlval.specs.declared.fault.Fault.{Fault}
@@ -14,10 +14,10 @@ use Rattle.pager.specs.Views.{Tells}
 use Rattle.session.specs.Applying.{IsPast}
 use Rattle.session.specs.ConnectionState.{files_of, has_failed_in}
 use Rattle.session.specs.Machine.{Machine}
-use Rattle.session.specs.Representation.{RepresentsRunning, ShowTheSame}
+use Rattle.session.specs.Representation.{RepresentsRunning, ShowTheSame, transaction_of}
 use Rattle.session.specs.declared.transactions.Connections.{Connections}
-use Rattle.session.specs.declared.transactions.Transaction.{Transaction}
-use Rattle.session.specs.declared.transactions.Transaction.TheVariants as transaction
+use Rattle.session.specs.declared.seats.Transaction.{Transaction}
+use Rattle.session.specs.declared.seats.Transaction.TheVariants as transaction
 
 -- it takes the write right at once
 abbrev pub is_immediate : BeginMode → Bool
@@ -35,6 +35,15 @@ may_commit statement.Commit = true
 may_commit (statement.Release name) = true
 may_commit _ = false
 
+-- whether a statement of a connection in this transaction may take memory
+abbrev pub may_want_memory : Transaction → Statement → Bool
+may_want_memory t (statement.Begin mode) = is_immediate mode
+may_want_memory t statement.Commit = has_written t
+may_want_memory t statement.Rollback = false
+may_want_memory t (statement.Release name) = has_written t
+may_want_memory t (statement.RollbackTo name) = false
+may_want_memory t _ = true
+
 module _ {D : Type 0} {g : Ghosts D} where
   -- a call of one of the two disks has failed, as their counts say
   abbrev pub HasCallFailed : Log D g → Log D g → Type 0
@@ -50,25 +59,26 @@ module _ {D : Type 0} {g : Ghosts D} where
     pub marked : IsFalse (has_failed_in old) → IsTrue (has_failed_in new) → (result ≡ Err fault.Io) × HasCallFailed (files_of old) (files_of new)
     pub unmarked : result ≡ Err fault.Io → IsFalse (has_failed_in new) → Tells (files_of old) → ShowTheSame (files_of old) (files_of new)
 
-  -- whether executing a statement may take memory
-  abbrev pub may_want_memory : Connections D g → Statement → Bool
-  may_want_memory c (statement.Begin mode) = is_immediate mode
-  may_want_memory c statement.Commit = has_written c.transaction
-  may_want_memory c statement.Rollback = false
-  may_want_memory c (statement.Release name) = has_written c.transaction
-  may_want_memory c (statement.RollbackTo name) = false
-  may_want_memory c _ = true
-
   -- this transaction has written, and what its commit would write is past the limits
   abbrev pub IsPastIn : Log D g → Transaction → Type 0
   IsPastIn files (transaction.Writing writer) = IsPast files writer
   IsPastIn files _ = ⊥
 
-  -- the same of the open transaction
+  -- the same of the present connection's
   abbrev pub IsPastLimits : Connections D g → Type 0
   IsPastLimits c = IsPastIn (files_of c) c.transaction
 
-  -- A statement's refusal has its cause: `Memory` only where it may take memory, and `Full` of a COMMIT or a RELEASE only past the limits.
-  pub record IsRefusedFor (c : Connections D g) (s : Statement) (f : Fault) : Type 0 where
-    pub memory : f ≡ fault.Memory → IsTrue (may_want_memory c s)
-    pub full : (m : Machine) → RepresentsRunning c m → may_commit s ≡ true → f ≡ fault.Full → IsPastLimits c
+  -- A statement's refusal, of a connection in this transaction, has its cause: `Memory` only where it may take memory, and `Full` of a COMMIT
+  -- or a RELEASE only past the limits.
+  pub record IsRefusedIn (c : Connections D g) (t : Transaction) (s : Statement) (f : Fault) : Type 0 where
+    pub memory : f ≡ fault.Memory → IsTrue (may_want_memory t s)
+    pub full : (m : Machine) → RepresentsRunning c m → may_commit s ≡ true → f ≡ fault.Full → IsPastIn (files_of c) t
+
+  -- the same of the present connection
+  abbrev pub IsRefusedHere : Connections D g → Statement → Fault → Type 0
+  IsRefusedHere c = IsRefusedIn c c.transaction
+
+  -- the same of a connection, where both it and the present one have a seat
+  abbrev pub IsRefusedFor : Connections D g → ℕ → Statement → Fault → Type 0
+  IsRefusedFor c connection s f =
+      1 ≤ connection → connection ≤ length c.parked.items → 1 ≤ c.connection → c.connection ≤ length c.parked.items → IsRefusedIn c (transaction_of c connection) s f

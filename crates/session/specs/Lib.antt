@@ -8,6 +8,7 @@ pub mod Texts
 pub mod ConnectionState
 pub mod Limits
 pub mod SavedTables
+pub mod Seats
 pub mod Saving
 pub mod Writers
 pub mod Representation

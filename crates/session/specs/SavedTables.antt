@@ -1,11 +1,12 @@
 -- The tables that a transaction sees, and those that its savepoints go back to (SQL As Understood By SQLite, "SAVEPOINT").
-use Rattle.std.specs.Prelude.{◌≡◌, ◌<◌, ◌+◌, ◌++◌, ℕ, Bool, true, false, List, [], ◌∷◌, length, drop, take, map, Option, option_map, nat_lt, slice_index_or, unwrap_or}
+use Rattle.std.specs.Prelude.{◌≡◌, ◌<◌, ◌+◌, ◌++◌, ℕ, Bool, true, false, List, [], ◌∷◌, length, drop, take, map, None, Option, option_map, nat_lt, slice_index_or, unwrap_or}
 use Rattle.std.specs.List.{list_any}
 use Rattle.sqlval.specs.Names.{is_same_name}
 use Rattle.catalog.specs.Database.{Name}
-use Rattle.catalog.specs.Listed as listed
 use Rattle.catalog.specs.Listed.{tables_of}
 use Rattle.catalog.specs.declared.tables.Catalog.{Catalog}
+use Rattle.std.specs.declared.alloc.Global.{Global}
+use Rattle.std.specs.declared.rc.Rc.{Rc}
 use Rattle.catalog.specs.declared.tables.Table.{Table}
 use Rattle.session.specs.declared.savepoints.SavedCatalogs.{SavedCatalogs}
 use Rattle.session.specs.declared.savepoints.Savepoint.{Savepoint}
@@ -25,8 +26,8 @@ abbrev pub is_called : Name → Savepoint → Bool
 is_called name s = is_same_name s.name name
 
 -- these tables, or those that they were changed to
-abbrev pub changed_to : List Table → Option Catalog → List Table
-changed_to tables changed = unwrap_or (option_map tables_of changed) tables
+abbrev pub changed_to : List Table → Option (Rc Catalog Global) → List Table
+changed_to tables changed = unwrap_or (option_map (λ shared. tables_of shared.value) changed) tables
 
 -- the tables after the changes of these savepoints
 abbrev pub tables_after : List Table → List Savepoint → List Table
@@ -38,17 +39,21 @@ abbrev pub saved_after : List Table → List Savepoint → List SavedTables
 saved_after tables [] = []
 saved_after tables (s ∷ ss) = record { name = s.name; tables = tables } ∷ saved_after (changed_to tables s.changed) ss
 
--- the tables of the newest commit
+-- the tables of the snapshot that the transaction reads on
 abbrev pub committed_in : SavedCatalogs → List Table
-committed_in saved = listed.committed_tables saved.catalogs
+committed_in saved = tables_of saved.committed.value
+
+-- the tables as they were changed before the first savepoint
+abbrev pub first_in : SavedCatalogs → List Table
+first_in saved = changed_to (committed_in saved) saved.changed
 
 -- the tables that an open transaction sees
 abbrev pub current_in : SavedCatalogs → List Table
-current_in saved = tables_after (listed.current_tables saved.catalogs) saved.savepoints.items
+current_in saved = tables_after (first_in saved) saved.savepoints.items
 
 -- its savepoints
 abbrev pub savepoints_in : SavedCatalogs → Savepoints
-savepoints_in saved = record { began = saved.began; points = saved_after (listed.current_tables saved.catalogs) saved.savepoints.items }
+savepoints_in saved = record { began = saved.began; points = saved_after (first_in saved) saved.savepoints.items }
 
 -- the transaction has made and dropped no table
 abbrev pub IsUnchanged : SavedCatalogs → Type 0
@@ -95,3 +100,17 @@ pub record AddsSavepoint (name : Name) (began : Bool) (old new : SavedCatalogs) 
   pub current : current_in new ≡ current_in old
   pub committed : committed_in new ≡ committed_in old
   pub savepoints : savepoints_in new ≡ record { began = began; points = (savepoints_in old).points ++ record { name = name; tables = current_in old } ∷ [] }
+
+-- a savepoint after which the tables weren't changed
+abbrev pub unchanged : Savepoint → Savepoint
+unchanged s = record s { changed = None }
+
+-- the savepoints, where there were these tables when each was made
+abbrev pub rebased : List Table → Savepoints → Savepoints
+rebased tables saved = record { began = saved.began; points = map (λ p. record { name = p.name; tables = tables }) saved.points }
+
+-- the transaction, and each of its savepoints, goes on from these tables
+pub record Rebases (tables : List Table) (old new : SavedCatalogs) : Type 0 where
+  pub current : current_in new ≡ tables
+  pub committed : committed_in new ≡ tables
+  pub savepoints : savepoints_in new ≡ rebased tables (savepoints_in old)

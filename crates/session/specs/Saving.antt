@@ -14,8 +14,8 @@ use Rattle.session.specs.SavedTables.{SavedTables, savepoints_in}
 use Rattle.session.specs.Stored.{ShowsDatabase}
 use Rattle.session.specs.Writers.{IsWriter}
 use Rattle.session.specs.declared.savepoints.SavedCatalogs.{SavedCatalogs}
-use Rattle.session.specs.declared.transactions.Transaction.{Transaction}
-use Rattle.session.specs.declared.transactions.Transaction.TheVariants as transaction
+use Rattle.session.specs.declared.seats.Transaction.{Transaction}
+use Rattle.session.specs.declared.seats.Transaction.TheVariants as transaction
 
 -- a savepoint of the machine, what is kept of its tables, and what else is kept of it
 pub record SavedAs (Kept : Type 0) : Type 0 where

@@ -1,15 +1,11 @@
 -- A step while not all forms of the grammar are supported.
-use Rattle.std.specs.Prelude.{◌≡◌, Bool, true, false, ◌&&◌, ◌⊎◌, ℕ, ◌==◌}
+use Rattle.std.specs.Prelude.{◌≡◌, Bool, true, false, ◌⊎◌, ℕ}
 use Rattle.sqlval.specs.Refusals.{Refusal, Memory, Misuse, Unsupported, Failed}
 use Rattle.syntax.specs.declared.statement.Statement.{Statement}
 use Rattle.catalog.specs.Database.{Database}
 use Rattle.storage.specs.Forms.{is_supported}
 use Rattle.session.specs.Machine.{Machine, Connection, InTransactionOf, Reads, Writes, Reply, Refused, committed, connection, newest}
 use Rattle.session.specs.Steps.{Step, is_connection}
-
--- the connections that are supported so far
-abbrev pub is_connection_supported : ℕ → Bool
-is_connection_supported c = c == 1
 
 -- the database that a connection's statement sees
 abbrev pub database_of : Machine → Connection → Database
@@ -22,9 +18,9 @@ database_of m _ = newest m
 -- its place.
 abbrev pub StepSoFar : (Database → Refusal → Type 0) → Machine → ℕ → Statement → Reply → Machine → Type 0
 StepSoFar CannotStore m c s reply new =
-    ((is_supported s && is_connection_supported c) ≡ true) × (Step m c s reply new
+    (is_supported s ≡ true) × (Step m c s reply new
     ⊎ (r : Refusal) × (reply ≡ Refused r) × (new ≡ m) × (m.failed ≡ false) × CannotStore (database_of m (connection m c)) r)
-    ⊎ ((is_supported s && is_connection_supported c) ≡ false) × (new ≡ m) × (
+    ⊎ (is_supported s ≡ false) × (new ≡ m) × (
     (m.failed ≡ true) × (reply ≡ Refused Failed)
     ⊎ (m.failed ≡ false) × (is_connection c ≡ false) × (reply ≡ Refused Misuse)
     ⊎ (m.failed ≡ false) × (is_connection c ≡ true) × ((reply ≡ Refused Unsupported) ⊎ (reply ≡ Refused Memory)))

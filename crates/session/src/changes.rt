@@ -189,7 +189,7 @@ fn create_table<D: Disk + Drop>(
     ensures noted { OnOk result (IsTrue (makes_objects writer.new)) }
 {
     let made = create_pages(alloc, log, buffer, catalog, writer, sql, table)?;
-    catalog.change(made);
+    catalog.change_to(alloc, made)?;
     writer.note_schema();
     Ok(())
 }
@@ -241,7 +241,7 @@ fn drop_object<D: Disk + Drop>(
     ensures noted { OnOk result (IsTrue (makes_objects writer.new)) }
 {
     let left = drop_pages(alloc, log, buffer, catalog, writer, kind, name)?;
-    catalog.change(left);
+    catalog.change_to(alloc, left)?;
     writer.note_schema();
     Ok(())
 }

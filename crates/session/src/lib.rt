@@ -8,12 +8,14 @@ mod laws;
 mod marks;
 mod reads;
 mod savepoints;
+mod seats;
 mod transactions;
 
 ghost use Rattle.session.specs.Laws.{LeavesOthers, RefusalsAddNothing};
 
 pub use forms::{is_supported, is_table_supported};
 pub use laws::stored_files_hold;
+pub use seats::Seats;
 pub use transactions::Connections;
 
 /// A refused statement commits nothing.

@@ -1,15 +1,17 @@
 //! The tables that a transaction sees, and its savepoints, each with the tables to which it goes back.
 
-ghost use Rattle.std.specs.Prelude.{◌≡◌, ◌<◌, ◌≤◌, ◌-◌, ◌==◌, ◌&&◌, length, map, nat_lt, IfErr, IfNone, IfSome, OnOk, true, false};
+ghost use Rattle.std.specs.Prelude.{◌≡◌, ◌<◌, ◌≤◌, ◌-◌, ◌==◌, ◌&&◌, length, map, nat_lt, IfErr, IfNone, IfSome, None, OnOk, true, false};
 ghost use Rattle.std.specs.List.{list_any};
 ghost use Rattle.catalog.specs.Listed.{tables_of};
 ghost use Rattle.sqlval.specs.Names.{is_same_name};
 ghost use Rattle.sqlval.specs.declared.fault.Fault.TheVariants.{Memory};
-ghost use Rattle.session.specs.SavedTables.{changed_to, tables_after};
+ghost use Rattle.session.specs.SavedTables.{changed_to, tables_after, unchanged};
 
-use catalog::{Catalog, Catalogs};
+use catalog::Catalog;
 use sqlval::{Name, R};
 use std::alloc::Global;
+use std::mem;
+use std::rc::Rc;
 
 /// The most savepoints of a transaction.
 const MAX_SAVEPOINTS: usize = 64;
@@ -19,7 +21,7 @@ const MAX_SAVEPOINTS: usize = 64;
 pub struct Savepoint {
     name: Name,
     /// The tables as they were changed after this savepoint and before the next; `None` where they weren't.
-    changed: Option<Catalog>,
+    changed: Option<Rc<Catalog>>,
 }
 
 impl Savepoint {
@@ -33,11 +35,13 @@ impl Savepoint {
     }
 }
 
-/// The tables of the newest commit, those that an open transaction sees, and its savepoints.
+/// The tables that a connection's transaction found committed, those that it sees, and its savepoints.
 #[derive(Drop)]
 pub struct SavedCatalogs {
-    /// What the transaction sees, except for the changes after its first savepoint.
-    catalogs: Catalogs,
+    /// Those of its snapshot. Before it has one they say nothing.
+    committed: Rc<Catalog>,
+    /// The tables as they were changed before the first savepoint; `None` where they weren't.
+    changed: Option<Rc<Catalog>>,
     /// The newest last.
     savepoints: Vec<Savepoint>,
     /// Whether a SAVEPOINT began the transaction.
@@ -45,16 +49,17 @@ pub struct SavedCatalogs {
 }
 
 impl SavedCatalogs {
-    ghost use Rattle.session.specs.SavedTables.{AddsSavepoint, GoesBackTo, HasNoSavepoints, IsNewestNamed, KeepsTables, ReleasesFrom, committed_in, current_in, names_in, savepoints_in};
+    ghost use Rattle.session.specs.SavedTables.{AddsSavepoint, GoesBackTo, HasNoSavepoints, IsNewestNamed, IsUnchanged, KeepsTables, Rebases, ReleasesFrom, committed_in, current_in, first_in, names_in, savepoints_in};
 
     /// No transaction has changed the tables, and there is no savepoint.
-    pub fn new(alloc: Global, committed: Catalog) -> SavedCatalogs
-        ensures current { current_in result ≡ tables_of committed }
-        ensures committed { committed_in result ≡ tables_of committed }
+    pub fn new(alloc: Global, committed: Rc<Catalog>) -> SavedCatalogs
+        ensures current { current_in result ≡ tables_of committed.value }
+        ensures committed { committed_in result ≡ tables_of committed.value }
         ensures none { HasNoSavepoints result }
     {
         SavedCatalogs {
-            catalogs: Catalogs::new(committed),
+            committed,
+            changed: None,
             savepoints: Vec::new(alloc),
             began: false,
         }
@@ -64,18 +69,52 @@ impl SavedCatalogs {
     pub fn current(&self) -> &Catalog
         ensures { tables_of result.now ≡ current_in self.now }
     {
-        latest(self.catalogs.current(), &self.savepoints)
+        match &self.changed {
+            Some(changed) => latest(changed, &self.savepoints),
+            None => latest(&self.committed, &self.savepoints),
+        }
+    }
+
+    /// A transaction that has changed no table goes on from these, and so do its savepoints.
+    pub fn rebase(&mut self, newest: Rc<Catalog>)
+        ensures { Rebases (tables_of newest.value) self.old self.new }
+    {
+        self.committed = newest;
+        self.changed = None;
+        self.forget_changes();
+    }
+
+    /// The tables are those at the first savepoint again; the savepoints stay.
+    fn forget_changes(&mut self)
+        ensures items { self.new.savepoints.items ≡ map unchanged self.old.savepoints.items }
+        ensures rest { (self.new.committed ≡ self.old.committed) × (self.new.changed ≡ self.old.changed) × (self.new.began ≡ self.old.began) }
+    {
+        'savepoints: for savepoint in self.savepoints.iter_mut() {
+            savepoint.changed = None;
+        }
+    }
+
+    /// The transaction sees these tables from now on. An `Err` changes nothing. (`Memory` alone.)
+    pub fn change_to(&mut self, alloc: Global, tables: Catalog) -> R<()>
+        ensures current { OnOk result (current_in self.new ≡ tables_of tables) }
+        ensures committed { committed_in self.new ≡ committed_in self.old }
+        ensures savepoints { savepoints_in self.new ≡ savepoints_in self.old }
+        ensures refused { IfErr result (λ fault. (fault ≡ Memory) × (self.new ≡ self.old)) }
+    {
+        let shared = Rc::new(alloc, tables)?;
+        self.change(shared);
+        Ok(())
     }
 
     /// The transaction sees these tables from now on.
-    pub fn change(&mut self, catalog: Catalog)
-        ensures current { current_in self.new ≡ tables_of catalog }
+    fn change(&mut self, catalog: Rc<Catalog>)
+        ensures current { current_in self.new ≡ tables_of catalog.value }
         ensures committed { committed_in self.new ≡ committed_in self.old }
         ensures savepoints { savepoints_in self.new ≡ savepoints_in self.old }
     {
         let count = self.savepoints.len();
         if count == 0 {
-            self.catalogs.change(catalog);
+            self.changed = Some(catalog);
             return;
         }
         self.savepoints[count - 1].changed = Some(catalog);
@@ -172,7 +211,7 @@ impl SavedCatalogs {
     }
 
     /// The transaction sees these tables from now on, where there are some.
-    fn join(&mut self, changed: Option<Catalog>)
+    fn join(&mut self, changed: Option<Rc<Catalog>>)
         ensures current { current_in self.new ≡ changed_to (current_in self.old) changed }
         ensures committed { committed_in self.new ≡ committed_in self.old }
         ensures savepoints { savepoints_in self.new ≡ savepoints_in self.old }
@@ -182,15 +221,27 @@ impl SavedCatalogs {
         }
     }
 
-    /// What the transaction sees is committed, and its savepoints are gone.
-    pub fn commit(&mut self)
-        ensures current { current_in self.new ≡ current_in self.old }
-        ensures committed { committed_in self.new ≡ current_in self.old }
+    /// What the transaction sees are the newest tables, and its savepoints are gone. It keeps those that were the newest.
+    pub fn commit(&mut self, newest: &mut Rc<Catalog>)
+        ensures newest { tables_of newest.new.value ≡ current_in self.old }
+        ensures unchanged { IsUnchanged self.new }
         ensures none { HasNoSavepoints self.new }
     {
         self.release(0);
-        self.catalogs.commit();
+        self.settle_changes();
+        mem::swap(&mut self.committed, newest);
         self.began = false;
+    }
+
+    /// The tables that were changed before the first savepoint are those that the transaction goes on from.
+    fn settle_changes(&mut self)
+        ensures committed { committed_in self.new ≡ first_in self.old }
+        ensures unchanged { self.new.changed ≡ None }
+        ensures savepoints { self.new.savepoints ≡ self.old.savepoints }
+    {
+        if let Some(changed) = self.changed.take() {
+            self.committed = changed;
+        }
     }
 
     /// What the transaction has made and dropped is given up, with its savepoints.
@@ -200,7 +251,7 @@ impl SavedCatalogs {
         ensures none { HasNoSavepoints self.new }
     {
         self.savepoints.clear();
-        self.catalogs.rollback();
+        self.changed = None;
         self.began = false;
     }
 }

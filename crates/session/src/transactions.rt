@@ -1,6 +1,7 @@
 //! The connections: whose transaction reads what, and what is committed.
 
-ghost use Rattle.std.specs.Prelude.{◌≡◌, ◌<◌, ◌&&◌, length, map, Ok, Err, IfErr, true, false, IsTrue, IsFalse};
+ghost use Rattle.std.specs.List.{list_any};
+ghost use Rattle.std.specs.Prelude.{◌≡◌, map, OnOk, Ok, Err, IfErr, true, false, IsTrue, IsFalse};
 ghost use Rattle.sqlval.specs.declared.fault.Fault.TheVariants.{Memory};
 ghost use Rattle.pager.specs.Marks.{IsOverTheSame, marks_of, now_of};
 ghost use Rattle.pager.specs.Views.{Tells, newest_view};
@@ -12,12 +13,11 @@ ghost use Rattle.storage.specs.Works.{read_on};
 ghost use Rattle.catalog.specs.Database.{Database};
 ghost use Rattle.catalog.specs.Listed.{tables_of};
 ghost use Rattle.session.specs.SavedTables.{HasRoom, committed_in, current_in};
-ghost use Rattle.session.specs.Supported.{is_connection_supported};
 ghost use Rattle.storage.specs.Forms as forms;
 ghost use Rattle.wal.specs.LogState.{db_of, log_of};
 ghost use Rattle.session.specs.ConnectionState.{is_io};
 ghost use Rattle.session.specs.Limits.{may_be_full};
-ghost use Rattle.session.specs.Failing.{IsRefusedFor, MarksFailure, ReadsFiles, is_immediate};
+ghost use Rattle.session.specs.Failing.{IsRefusedFor, IsRefusedHere, MarksFailure, ReadsFiles, is_immediate};
 ghost use Rattle.session.specs.Applying.{CommitsChanges, EndsAlone, Applies, CanApply, KeepsAllButFiles, WritesChanges};
 ghost use Rattle.session.specs.Changing.{written};
 
@@ -26,6 +26,7 @@ use crate::forms::is_supported;
 use crate::marks::{go_back, let_go, mark_times, save_marked};
 use crate::reads::{Sight, read};
 use crate::savepoints::SavedCatalogs;
+use crate::seats::{Seat, Seats, Transaction, any_holds_writer, give_up_seats, trade};
 use catalog::Catalog;
 use disk::Disk;
 use pager::Writer;
@@ -33,49 +34,24 @@ use rowprog::Rows;
 use sqlval::{Fault, Feature, Misuse, Name, R};
 use std::alloc::Global;
 use std::mem;
+use std::rc::Rc;
 use syntax::{BeginMode, Query, Statement};
 use wal::{Log, Snapshot};
 
-/// The state of a transaction.
-#[derive(Drop)]
-enum Transaction {
-    /// No transaction.
-    Idle,
-    /// After BEGIN, with nothing read or written yet.
-    Begun,
-    Reading(Snapshot),
-    Writing(Writer),
-}
-
-impl Transaction {
-    ghost use Rattle.session.specs.Saving.{GoesBackToMark, OnWriter, ReleasesMarks};
-
-    /// Goes back to a mark of its writer, where it has written; the mark stays.
-    fn back_to(&mut self, place: usize)
-        ensures { OnWriter (λ old new. place < length (marks_of old) → GoesBackToMark place old new) self.old self.new }
-    {
-        if let Transaction::Writing(writer) = self {
-            go_back(writer, place);
-        }
-    }
-
-    /// Lets go of a mark of its writer and of those set after it, where it has written.
-    fn release(&mut self, place: usize)
-        ensures { OnWriter (λ old new. place < length (marks_of old) → ReleasesMarks place old new) self.old self.new }
-    {
-        if let Transaction::Writing(writer) = self {
-            let_go(writer, place);
-        }
-    }
-}
-
-/// The connections of an open database. For now the first alone is supported.
+/// The sixteen connections of an open database.
 #[derive(Drop)]
 pub struct Connections<D: Disk + Drop> {
     alloc: Global,
     log: Log<D>,
+    /// The tables of the newest commit.
+    newest: Rc<Catalog>,
+    /// Whose statement runs, or ran last: the present connection, from 1 on.
+    connection: u32,
+    /// Its tables.
     catalog: SavedCatalogs,
     transaction: Transaction,
+    /// The others, each at the place before its number; at that of the present one stands an idle one.
+    parked: Vec<Seat>,
     has_failed: bool,
     /// Where pages of the files are read.
     buffer: Vec<u8>,
@@ -95,9 +71,10 @@ fn is_io(fault: &Fault) -> bool
 }
 
 impl<D: Disk + Drop> Connections<D> {
-    ghost use Rattle.session.specs.Representation.{CommitsBy, IsGivenUp, RepresentsRunning, OnlyReads, StartsReading, Steps, StepsOn, done_reply, is_begun, is_idle, is_reading, rows_reply, seen_in, with_transaction};
-    ghost use Rattle.session.specs.Writers.{IsNewest};
-    ghost use Rattle.session.specs.declared.transactions.Transaction.TheVariants as transaction;
+    ghost use Rattle.session.specs.Representation.{AreGivenUp, CommitsBy, IsGivenUp, MayWrite, OnlyReads, RepresentsRunning, SeesNewest, StartsReading, Steps, StepsOn, Switches, TakesNewest, TradesWith, done_reply, first_write_refusal, has_no_snapshot, is_begun, is_idle, is_reading, rows_reply, seen_in, with_transaction};
+    ghost use Rattle.session.specs.Writers.{SeesBy, is_stale};
+    ghost use Rattle.session.specs.Seats.{AreFresh, catalog_in, holds_writer};
+    ghost use Rattle.session.specs.declared.seats.Transaction.TheVariants as transaction;
     ghost use Rattle.session.specs.Holding.{IsSettled};
     ghost use Rattle.session.specs.Machine.{Machine, fresh};
     ghost use Rattle.syntax.specs.declared.statement.BeginMode.TheVariants.{Deferred, Immediate};
@@ -105,18 +82,26 @@ impl<D: Disk + Drop> Connections<D> {
     ghost use Rattle.session.specs.ConnectionState.{AnswersUnsupported, HasCauseIn, files_of, first_refusal, has_failed_in};
 
     /// The connections of a database whose schema is read, all of them idle.
-    pub fn new(alloc: Global, log: Log<D>, catalog: Catalog) -> Connections<D>
+    pub fn new(alloc: Global, log: Log<D>, seats: Seats) -> Connections<D>
         ensures files { files_of result ≡ log }
         ensures whole { IsFalse (has_failed_in result) }
         // Where the files hold a database and the catalog lists its tables, the connections represent its machine.
-        ensures shown { (db : Database) → Tells log → IsSettled log
-            → ShowsDatabase (newest_view log) (tables_of catalog) db → RepresentsRunning result (fresh db) }
+        ensures shown { (db : Database) → Tells log → IsSettled log → AreFresh seats
+            → ShowsDatabase (newest_view log) (tables_of (catalog_in seats)) db → RepresentsRunning result (fresh db) }
     {
+        let Seats {
+            newest,
+            catalog,
+            parked,
+        } = seats;
         Connections {
             alloc,
             log,
-            catalog: SavedCatalogs::new(alloc, catalog),
+            newest,
+            connection: 1,
+            catalog,
             transaction: Transaction::Idle,
+            parked,
             has_failed: false,
             buffer: Vec::new(alloc),
         }
@@ -130,8 +115,11 @@ impl<D: Disk + Drop> Connections<D> {
         let Connections {
             alloc: _,
             log,
+            newest: _,
+            connection: _,
             catalog: _,
             transaction: _,
+            parked: _,
             has_failed: _,
             buffer: _,
         } = self;
@@ -163,30 +151,78 @@ impl<D: Disk + Drop> Connections<D> {
     pub fn execute(&mut self, connection: u32, statement: &Statement) -> R<Rows>
         // `check` is the test.
         requires free { first_refusal (has_failed_in self.old) connection ≡ Ok tt }
-        // What isn't supported yet, a form or a connection, is refused as such, and changes nothing.
-        ensures unsupported { IsFalse (forms.is_supported statement.now && is_connection_supported connection)
-            → AnswersUnsupported result × (self.new ≡ self.old) }
+        // A form that isn't supported yet is refused as such, and changes nothing.
+        ensures unsupported { IsFalse (forms.is_supported statement.now) → AnswersUnsupported result × (self.new ≡ self.old) }
         ensures cause { HasCauseIn (may_be_full statement.now) result self.old self.new }
         ensures marks { MarksFailure result self.old self.new }
         // Memory is short only where it is taken, and a COMMIT is refused as `Full` only past the limits.
-        ensures refused { IfErr result (IsRefusedFor self.old statement.now) }
+        ensures refused { IfErr result (IsRefusedFor self.old connection statement.now) }
         // The reply is a step of each machine that was represented, and the machine after it is represented then. (A CREATE carries its own text.)
         ensures step { KeepsItsText statement.now → Steps self.old connection statement.now (rows_reply result) self.new }
     {
         if !is_supported(statement) {
             return unsupported_form();
         }
-        if connection != 1 {
-            return Err(Fault::Unsupported(Feature::Connection));
-        }
+        self.switch(connection);
         self.serve(statement)
     }
 
-    /// Executes a statement of the first connection.
+    /// Makes a connection the present one.
+    fn switch(&mut self, connection: u32)
+        ensures { Switches connection self.old self.new }
+    {
+        if connection == self.connection {
+            return;
+        }
+        self.trade(self.connection);
+        self.connection = connection;
+        self.trade(connection);
+    }
+
+    /// Trades the present connection's state for that of the seat of a number.
+    fn trade(&mut self, connection: u32)
+        ensures { TradesWith connection self.old self.new }
+    {
+        let place = connection.saturating_sub(1) as usize;
+        trade(
+            &mut self.parked,
+            place,
+            &mut self.transaction,
+            &mut self.catalog,
+        );
+    }
+
+    /// Whether another connection has the write right.
+    fn is_busy(&self) -> bool
+        ensures { result ≡ list_any holds_writer self.now.parked.items }
+    {
+        any_holds_writer(&self.parked)
+    }
+
+    /// A transaction that has no snapshot yet sees the newest tables from now on. (`Memory` alone.)
+    fn take_newest(&mut self) -> R<()>
+        ensures taken { OnOk result (TakesNewest self.old self.new) }
+        ensures refused { IfErr result (λ fault. (fault ≡ Memory) × (self.new ≡ self.old)) }
+    {
+        if self.has_no_snapshot() {
+            let newest = self.newest.clone()?;
+            self.catalog.rebase(newest);
+        }
+        Ok(())
+    }
+
+    /// Whether the transaction, if there is one, has neither read nor written yet.
+    fn has_no_snapshot(&self) -> bool
+        ensures { result ≡ has_no_snapshot self.now.transaction }
+    {
+        matches!(&self.transaction, Transaction::Idle | Transaction::Begun)
+    }
+
+    /// Executes a statement of the present connection.
     fn serve(&mut self, statement: &Statement) -> R<Rows>
         ensures cause { HasCauseIn (may_be_full statement.now) result self.old self.new }
         ensures marks { MarksFailure result self.old self.new }
-        ensures refused { IfErr result (IsRefusedFor self.old statement.now) }
+        ensures refused { IfErr result (IsRefusedHere self.old statement.now) }
         ensures step { WhereSupported statement.now (StepsOn self.old statement.now (rows_reply result) self.new) }
     {
         if let Statement::Select(query) = statement {
@@ -200,7 +236,7 @@ impl<D: Disk + Drop> Connections<D> {
     fn change(&mut self, statement: &Statement) -> R<()>
         ensures cause { HasCauseIn (may_be_full statement.now) result self.old self.new }
         ensures marks { MarksFailure result self.old self.new }
-        ensures refused { IfErr result (IsRefusedFor self.old statement.now) }
+        ensures refused { IfErr result (IsRefusedHere self.old statement.now) }
         ensures step { WhereSupported statement.now (forms.is_query statement.now ≡ false
             → StepsOn self.old statement.now (done_reply result) self.new) }
     {
@@ -250,6 +286,20 @@ impl<D: Disk + Drop> Connections<D> {
         ensures reads { ReadsFiles self.old self.new }
         ensures step { is_idle self.old.transaction ≡ true → StepsOn self.old (statement.Begin Immediate) (done_reply result) self.new }
     {
+        if self.is_busy() {
+            return Err(Fault::Busy);
+        }
+        self.take_newest()?;
+        self.begin_writing()
+    }
+
+    /// Begins a transaction that writes on the newest commit, where no other connection writes.
+    fn begin_writing(&mut self) -> R<()>
+        ensures cause { HasCauseIn false result self.old self.new }
+        ensures reads { ReadsFiles self.old self.new }
+        ensures step { is_idle self.old.transaction ≡ true → MayWrite self.old
+            → StepsOn self.old (statement.Begin Immediate) (done_reply result) self.new }
+    {
         let newest = self.log.begin();
         let writer = Writer::begin(self.alloc, &mut self.log, newest)?;
         self.transaction = Transaction::Writing(writer);
@@ -276,13 +326,21 @@ impl<D: Disk + Drop> Connections<D> {
         Ok(())
     }
 
-    /// Drops the open transaction, if any.
-    pub fn give_up(&mut self)
-        ensures files { files_of self.new ≡ files_of self.old }
-        ensures gone { IsGivenUp self.old self.new }
+    /// Drops the present connection's transaction, if any.
+    fn give_up(&mut self)
+        ensures { IsGivenUp self.old self.new }
     {
         self.catalog.rollback();
         self.transaction = Transaction::Idle;
+    }
+
+    /// Drops all open transactions.
+    pub fn give_up_all(&mut self)
+        ensures files { files_of self.new ≡ files_of self.old }
+        ensures gone { AreGivenUp self.old self.new }
+    {
+        self.give_up();
+        give_up_seats(&mut self.parked);
     }
 
     /// Writes those of a writer's pages that its snapshot doesn't show, as one commit. (What `pruned` and `commit` of `Writer` refuse.)
@@ -314,14 +372,14 @@ impl<D: Disk + Drop> Connections<D> {
             self.has_failed |= is_io(&fault);
             return Err(fault);
         }
-        self.catalog.commit();
+        self.catalog.commit(&mut self.newest);
         Ok(())
     }
 
     fn commit(&mut self) -> R<()>
         ensures cause { HasCauseIn true result self.old self.new }
         ensures marks { MarksFailure result self.old self.new }
-        ensures refused { IfErr result (IsRefusedFor self.old statement.Commit) }
+        ensures refused { IfErr result (IsRefusedHere self.old statement.Commit) }
         // A step of COMMIT, and of a RELEASE that comes to the same.
         ensures step { (s : Statement) → CommitsBy self.old s → StepsOn self.old s (done_reply result) self.new }
     {
@@ -399,7 +457,7 @@ impl<D: Disk + Drop> Connections<D> {
     fn release(&mut self, name: &Name) -> R<()>
         ensures cause { HasCauseIn true result self.old self.new }
         ensures marks { MarksFailure result self.old self.new }
-        ensures refused { IfErr result (IsRefusedFor self.old (statement.Release name.now)) }
+        ensures refused { IfErr result (IsRefusedHere self.old (statement.Release name.now)) }
         ensures step { StepsOn self.old (statement.Release name.now) (done_reply result) self.new }
     {
         let Some(place) = self.catalog.place_of(name.as_str()) else {
@@ -430,9 +488,7 @@ impl<D: Disk + Drop> Connections<D> {
 
     /// The snapshot that a statement reads on, except for the changes of its own transaction.
     fn snapshot(&self) -> Snapshot
-        ensures newest { (m : Machine) → RepresentsRunning self.now m → IsNewest (files_of self.now) result }
-        // A transaction that reads goes on with the snapshot that it has.
-        ensures same { (own : Snapshot) → self.now.transaction ≡ transaction.Reading own → result ≡ own }
+        ensures { SeesBy (files_of self.now) self.now.transaction result }
     {
         match &self.transaction {
             Transaction::Idle | Transaction::Begun => self.log.begin(),
@@ -493,6 +549,16 @@ impl<D: Disk + Drop> Connections<D> {
         ensures reads { ReadsFiles self.old self.new }
         ensures step { StepsOn self.old (statement.Select query.now) (rows_reply result) self.new }
     {
+        self.take_newest()?;
+        self.select_seen(query)
+    }
+
+    /// The rows of a query, where a transaction without a snapshot sees the newest tables.
+    fn select_seen(&mut self, query: &Query) -> R<Rows>
+        ensures cause { HasCauseIn false result self.old self.new }
+        ensures reads { ReadsFiles self.old self.new }
+        ensures step { SeesNewest self.old → StepsOn self.old (statement.Select query.now) (rows_reply result) self.new }
+    {
         let rows = self.read(query)?;
         self.begin_reading();
         Ok(rows)
@@ -532,13 +598,52 @@ impl<D: Disk + Drop> Connections<D> {
             → StepsOn (with_transaction self.old reading) (written write.entry) (done_reply result) self.new) }
     {
         self.transaction = reading;
+        self.may_write()?;
+        self.take_newest()?;
         self.start_writing(write)
+    }
+
+    /// Refuses a write on a snapshot that isn't the newest, or where another connection has the write right.
+    fn may_write(&self) -> R<()>
+        ensures { result ≡ first_write_refusal self.now }
+    {
+        if self.is_stale() {
+            return Err(Fault::StaleSnapshot);
+        }
+        if self.is_busy() {
+            return Err(Fault::Busy);
+        }
+        Ok(())
+    }
+
+    /// Whether the transaction reads on a snapshot that isn't the newest.
+    fn is_stale(&self) -> bool
+        ensures { result ≡ is_stale (files_of self.now) self.now.transaction }
+    {
+        match &self.transaction {
+            Transaction::Reading(snapshot) => *snapshot != self.log.begin(),
+            _ => false,
+        }
     }
 
     fn autocommit(&mut self, write: Write<'_>) -> R<()>
         ensures cause { HasCauseIn true result self.old self.new }
         ensures marks { MarksFailure result self.old self.new }
         ensures step { WhereSupported (written write.entry) (is_idle self.old.transaction ≡ true
+            → StepsOn self.old (written write.entry) (done_reply result) self.new) }
+    {
+        if self.is_busy() {
+            return Err(Fault::Busy);
+        }
+        self.take_newest()?;
+        self.write_alone(write)
+    }
+
+    /// Changes the newest database in a transaction of the statement's own, where no other connection writes.
+    fn write_alone(&mut self, write: Write<'_>) -> R<()>
+        ensures cause { HasCauseIn true result self.old self.new }
+        ensures marks { MarksFailure result self.old self.new }
+        ensures step { WhereSupported (written write.entry) (is_idle self.old.transaction ≡ true → MayWrite self.old
             → StepsOn self.old (written write.entry) (done_reply result) self.new) }
     {
         let newest = self.log.begin();
@@ -569,7 +674,7 @@ impl<D: Disk + Drop> Connections<D> {
     fn start_writing(&mut self, write: Write<'_>) -> R<()>
         ensures cause { HasCauseIn true result self.old self.new }
         ensures reads { ReadsFiles self.old self.new }
-        ensures step { WhereSupported (written write.entry) (is_reading self.old.transaction ≡ true
+        ensures step { WhereSupported (written write.entry) (is_reading self.old.transaction ≡ true → MayWrite self.old
             → StepsOn self.old (written write.entry) (done_reply result) self.new) }
     {
         let snapshot = self.snapshot();

@@ -1,7 +1,6 @@
-use Rattle.std.proofs.Common.{ap, subst, sym, IsFalse, ◌&&◌}
+use Rattle.std.proofs.Common.{ap, subst, sym, IsFalse}
 use Rattle.syntax.specs.declared.statement.Statement.{Statement}
 use Rattle.storage.specs.Forms as forms
-use Rattle.session.specs.Supported.{is_connection_supported}
 use Rattle.session.specs.Machine.{Reply}
 use Rattle.session.specs.Representation.{rows_reply}
 use Rattle.session.proofs.Executing.{refused_as}
@@ -34,7 +33,7 @@ returns-clause-full g c is = (c.in_ok-statement.statement, c.in_ok-statement.ens
 pub returns-clause-unsupported : goal.returns-clause-unsupported
 returns-clause-unsupported g c = λ statement first is unsupported.
     let same = one_text exact_statement c.args.text.now c.in_ok-statement.statement statement c.in_ok-statement.ensures.found.0 is in
-    let kept = c.execute-rows.ensures.unsupported (subst (λ (s : Statement). IsFalse (forms.is_supported s && is_connection_supported c.args.connection)) (sym same) unsupported) in
+    let kept = c.execute-rows.ensures.unsupported (subst (λ (s : Statement). IsFalse (forms.is_supported s)) (sym same) unsupported) in
     (never_answered c.execute-rows.result kept.0, ap (λ connections. record c.args.self.now { connections = connections }) kept.1)
 
 pub returns-in_err-check-clause-step : goal.returns-in_err-check-clause-step

@@ -9,6 +9,7 @@ use Rattle.dbheader.specs.Header.{IsHeader}
 use Rattle.wal.specs.Opened.{CanOpen}
 use Rattle.wal.specs.Sizes.{IsSizeWithinLimits}
 use Rattle.catalog.specs.Listed.{tables_of}
+use Rattle.session.specs.Seats.{catalog_in}
 use Rattle.pager.specs.Views.{Tells, newest_view}
 use Rattle.engine.specs.Creating.{is_blank_content}
 use Rattle.engine.specs.Opening.{HasPageSize, IsCutTo, TellsBlank, KeepsFilesBut, LeavesOpened, Opens}
@@ -143,13 +144,13 @@ returns-in-Ok-load_and_truncate g c =
             let served = subst (λ n. IsSizeWithinLimits n (state_of opened).size) (sym c.in_ok-log.ensures.known.page_size_is) c.in_ok-log.ensures.known.served in
             let found = c.in-Ok-load_and_truncate.ensures.found tells in
             let head_is = subst (λ (bytes : List ℕ). IsHeader bytes c.in-Ok.header) (synced.db_kept.same told_db ∙ sym (were.db_kept.same told_db)) (c.in-Ok.ensures.found (told told_db)) in
-            let view = found_view opened _ _ c.in-Ok-load_and_truncate.catalog found head_is c.counted_size.ensures c.in_ok-log.ensures.known.page_size_is known in
+            let view = found_view opened _ _ (catalog_in c.in-Ok-load_and_truncate.seats) found head_is c.counted_size.ensures c.in_ok-log.ensures.known.page_size_is known in
             let settled = opened_settled opened _ (newest_view opened) refl view (db_synced told_db) (log_synced told_log) known in
             record {
               database = found.database;
               held = held_if_stored _ _ found.database
-                  (held_as _ _ (file c.args.db).content (file c.args.log).content found.database (sym (were.db_kept.same told_db)) (sym (were.log_kept.same told_log)) (found_held opened _ c.in-Ok-load_and_truncate.catalog found served view known));
-              shown = starts_shown _ (tables_of c.in-Ok-load_and_truncate.catalog) found.database c.load_and_truncate.new.log _ (c.in-Ok-load_and_truncate.ensures.opens (tables_of c.in-Ok-load_and_truncate.catalog) found.database tells settled (record { stored = found.stored; served = served })) c.new.ensures.shown;
+                  (held_as _ _ (file c.args.db).content (file c.args.log).content found.database (sym (were.db_kept.same told_db)) (sym (were.log_kept.same told_log)) (found_held opened _ (catalog_in c.in-Ok-load_and_truncate.seats) found served view known));
+              shown = starts_shown _ (tables_of (catalog_in c.in-Ok-load_and_truncate.seats)) found.database c.load_and_truncate.new.log _ (c.in-Ok-load_and_truncate.ensures.opens (tables_of (catalog_in c.in-Ok-load_and_truncate.seats)) found.database tells settled (record { stored = found.stored; served = served })) c.new.ensures.shown;
             };
         whole = c.new.ensures.whole;
         not_blank = λ told_db blank. c.in-Ok.ensures.blank (told told_db) (ap is_blank_content (synced.db_kept.same told_db) ∙ blank);

@@ -1,13 +1,13 @@
 use Rattle.std.proofs.Common.{◌<◌, ◌+◌, refl, ap, ◌∙◌, length, None, arith}
 use Rattle.std.proofs.lemmas.List.{get_or_default, length-take-le}
-use Rattle.catalog.specs.Listed.{current_tables}
+use Rattle.session.specs.SavedTables.{first_in}
 use Rattle.session.specs.declared.savepoints.Savepoint.{Savepoint}
 use Rattle.session.proofs.SavedLists.{goes_back, saved_length}
 use Rattle.session.proofs.savepoints.SavedCatalogs.back_to.Goals as goal
 
 pub returns-then-place-len : goal.returns-then-place-len
 returns-then-place-len c = λ within.
-    absurd (omega (arith, within, c.if-place-len.true, c.len.ensures, c.args.self.now.savepoints.ok.0, saved_length (current_tables c.args.self.now.catalogs) c.args.self.now.savepoints.items))
+    absurd (omega (arith, within, c.if-place-len.true, c.len.ensures, c.args.self.now.savepoints.ok.0, saved_length (first_in c.args.self.now) c.args.self.now.savepoints.items))
 
 pub returns : goal.returns
 returns c = λ within.

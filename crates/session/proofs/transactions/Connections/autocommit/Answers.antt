@@ -1,56 +1,23 @@
-use Rattle.std.proofs.Common.{refl, sym, subst, arith}
-use Rattle.session.specs.ConnectionState.{files_of}
-use Rattle.session.specs.Machine.{Reply}
-use Rattle.session.specs.Representation.{StepsTo}
-use Rattle.session.specs.Writers.{IsNewest}
+use Rattle.std.proofs.Common.{refl, sym, ap, subst, ◌∙◌}
 use Rattle.session.specs.Changing.{written}
-use Rattle.session.proofs.Beginning.{done_refused, first_there}
-use Rattle.session.proofs.Showing.{read_files}
-use Rattle.session.proofs.Applying.{alone}
-use Rattle.session.proofs.Writing.{begun_refused, ended_alone, not_begun, opens_alone}
+use Rattle.session.specs.Machine.{Reply}
+use Rattle.session.specs.Representation.{StepsTo, done_reply, is_idle}
+use Rattle.session.proofs.Beginning.{done_refused}
+use Rattle.session.proofs.FirstRefusals.{busy_alone, may_when_idle, short_of}
+use Rattle.session.proofs.Switching.{after_taking}
 use Rattle.session.proofs.transactions.Connections.autocommit.Goals as goal
 
-pub returns-in_err-writer-clause-step : goal.returns-in_err-writer-clause-step
-returns-in_err-writer-clause-step g c supported_forms keeps idle m shown =
-    let old = c.args.self.now in
-    let new = record c.args.self.now { log = c.begin.new.log } in
-    let kept = c.in_err-writer.ensures.kept in
-    subst (λ (r : Reply). StepsTo old m 1 (written c.args.write) r new) (sym (done_refused c.from_residual.result c.in_err-writer.field-0.0 c.from_residual.ensures.1))
-    (not_begun old new c.args.write c.in_err-writer.field-0.0 supported_forms (record { files = λ told. read_files _ _ told kept.0 kept.1 kept.2; failed = refl; catalog = refl; transaction = refl })
-    (λ m shown. (let newest = (let n : IsNewest (files_of old) c.begin-newest.result = record { seen = c.begin-newest.ensures.seen; sized = c.begin-newest.ensures.size } in n) in c.in_err-writer.ensures.there shown.settled.found.page shown.told (omega (arith, newest.seen)) (first_there old m shown c.begin-newest.result newest)))
-    (λ m shown. (alone m, opens_alone old m shown c.args.write old.transaction refl idle shown.transaction)) m shown)
+pub returns-then-is_busy-clause-step : goal.returns-then-is_busy-clause-step
+returns-then-is_busy-clause-step g c supported_forms keeps idle = busy_alone c.args.self.now c.args.write supported_forms idle (sym c.is_busy.ensures ∙ c.if-is_busy.true)
 
-pub returns-in_err-apply-clause-step : goal.returns-in_err-apply-clause-step
-returns-in_err-apply-clause-step g c supported_forms keeps idle m shown =
-    let old = c.args.self.now in
-    let mid = record c.args.self.now { log = c.begin.new.log } in
-    let kept = c.in_ok-writer.ensures.kept in
-    subst (λ (r : Reply). StepsTo old m 1 (written c.args.write) r c.apply.new.self) (sym (done_refused c.from_residual-in_err-apply.result c.in_err-apply.field-0.0 c.from_residual-in_err-apply.ensures.1))
-    (begun_refused old mid c.apply.new.self c.in_ok-writer.writer c.begin-newest.result c.args.write c.in_err-apply.field-0.0 supported_forms refl
-    (λ m shown. (let newest = (let n : IsNewest (files_of old) c.begin-newest.result = record { seen = c.begin-newest.ensures.seen; sized = c.begin-newest.ensures.size } in n) in record {
-      files = read_files _ _ shown.told kept.0 kept.1 kept.2;
-      failed = refl;
-      catalog = refl;
-      now = refl;
-      stands = c.in_ok-writer.ensures.stands;
-      newest = newest;
-      begun = c.in_ok-writer.ensures.begun shown.told (omega (arith, newest.seen)) (omega (arith, (first_there old m shown c.begin-newest.result newest).last));
-    }))
-    (λ db applies. c.in_err-apply.ensures.applies db supported_forms keeps applies) (λ m shown. (alone m, opens_alone old m shown c.args.write old.transaction refl idle shown.transaction)) m shown)
+pub returns-in_err-take_newest-clause-step : goal.returns-in_err-take_newest-clause-step
+returns-in_err-take_newest-clause-step g c supported_forms keeps idle m shown =
+    subst (λ (r : Reply). StepsTo c.args.self.now m (written c.args.write) r c.take_newest.new.self) (sym (done_refused c.from_residual.result c.in_err-take_newest.field-0.0 c.from_residual.ensures.1))
+    (short_of c.args.self.now c.take_newest.new.self (written c.args.write) c.in_err-take_newest.field-0.0 supported_forms c.in_err-take_newest.ensures.refused.0 c.in_err-take_newest.ensures.refused.1 m shown)
 
 pub returns-clause-step : goal.returns-clause-step
 returns-clause-step g c supported_forms keeps idle =
     let old = c.args.self.now in
-    let mid = record c.args.self.now { log = c.begin.new.log } in
-    let kept = c.in_ok-writer.ensures.kept in
-    ended_alone old mid c.apply.new.self c.commit_autocommit.new.self c.in_ok-writer.writer c.apply.new.writer c.begin-newest.result c.args.write c.commit_autocommit.result supported_forms idle refl
-    (λ m shown. (let newest = (let n : IsNewest (files_of old) c.begin-newest.result = record { seen = c.begin-newest.ensures.seen; sized = c.begin-newest.ensures.size } in n) in record {
-      files = read_files _ _ shown.told kept.0 kept.1 kept.2;
-      failed = refl;
-      catalog = refl;
-      now = refl;
-      stands = c.in_ok-writer.ensures.stands;
-      newest = newest;
-      begun = c.in_ok-writer.ensures.begun shown.told (omega (arith, newest.seen)) (omega (arith, (first_there old m shown c.begin-newest.result newest).last));
-    }))
-    (λ db applies. c.in_ok-apply.ensures.applies db supported_forms keeps applies) (λ db was whole applies stored. c.commit_autocommit.ensures.ends db was whole applies stored)
+    let takes = c.in_ok-take_newest.ensures.taken in
+    after_taking old c.take_newest.new.self c.write_alone.new.self (written c.args.write) (done_reply c.write_alone.result) takes
+    (c.write_alone.ensures.step supported_forms keeps (ap is_idle takes.transaction ∙ idle) (may_when_idle old c.take_newest.new.self idle (sym c.is_busy.ensures ∙ c.if-is_busy.false) takes))

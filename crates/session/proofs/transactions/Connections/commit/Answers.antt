@@ -10,13 +10,13 @@ use Rattle.session.proofs.transactions.Connections.commit.Goals.{then-is_err, el
 pub returns-in-Idle-clause-step : goal.returns-in-Idle-clause-step
 returns-in-Idle-clause-step g c s commits =
     let idle = sym c.replace.ensures.value ∙ c.in-Idle.is in
-    none_to_commit c.args.self.now _ s commits (ap is_idle idle) (record { files = refl; failed = refl; catalog = refl; now = c.replace.ensures.after ∙ sym idle })
+    none_to_commit c.args.self.now _ s commits (ap is_idle idle) (record { files = refl; beside = refl; catalog = refl; now = c.replace.ensures.after ∙ sym idle })
 
 pub returns-in-Begun-clause-step : goal.returns-in-Begun-clause-step
 returns-in-Begun-clause-step g c s commits =
     let old = c.args.self.now in
     let new = record old { transaction = c.replace.new.dest; catalog = c.rollback.new.self } in
-    let ends : IsGivenUp old new = record { files = refl; failed = refl; idle = c.replace.ensures.after; committed = c.rollback.ensures.committed; tables = c.rollback.ensures.current; savepoints = c.rollback.ensures.none } in
+    let ends : IsGivenUp old new = record { files = refl; beside = refl; idle = c.replace.ensures.after; all = c.rollback.ensures.current ∙ sym c.rollback.ensures.committed; savepoints = c.rollback.ensures.none } in
     elim c.in-Begun.is [
       | inl begun ↦ ended_reading old new s commits (ap is_reading (sym c.replace.ensures.value ∙ begun)) ends
       | inr reading ↦ ended_reading old new s commits (ap is_reading (sym c.replace.ensures.value ∙ reading.1)) ends
@@ -30,10 +30,10 @@ returns-after-is_err-clause-step g c s commits m shown =
     let left = c.commit_writer-result.new.writer in
     let result = c.commit_writer-result.result in
     let in_writing = writes_in old mid m c.in-Writing.writer shown (sym c.replace.ensures.value ∙ c.in-Writing.is) refl refl in
-    let has = c.commit_writer-result.ensures.commits in_writing.on.db (newest m) shown.whole in_writing.applies shown.stored in
+    let has = c.commit_writer-result.ensures.commits in_writing.on.db (newest m) shown.whole in_writing.applies in_writing.base in
     elim c.if-is_err.branch [
-      | then-is_err w ↦ subst (λ (k : Connections g.row.D.Denot g.D.Disk). StepsTo old m 1 s (done_reply result) k) (sym w.self-is) (err_step old mid new m c.in-Writing.writer in_writing s commits result left (sym w.if-is_err.ensures.value) refl refl refl has)
-      | else-is_err w ↦ subst (λ (k : Connections g.row.D.Denot g.D.Disk). StepsTo old m 1 s (done_reply result) k) (sym w.self-is) (ok_step old mid new m c.in-Writing.writer in_writing s commits result left (sym w.if-is_err.ensures.value) refl c.replace.ensures.after has)
+      | then-is_err w ↦ subst (λ (k : Connections g.row.D.Denot g.D.Disk). StepsTo old m s (done_reply result) k) (sym w.self-is) (err_step old mid new m c.in-Writing.writer in_writing s commits result left (sym w.if-is_err.ensures.value) refl refl refl has)
+      | else-is_err w ↦ subst (λ (k : Connections g.row.D.Denot g.D.Disk). StepsTo old m s (done_reply result) k) (sym w.self-is) (ok_step old mid new m c.in-Writing.writer in_writing s commits result left (sym w.if-is_err.ensures.value) refl c.replace.ensures.after has)
     ]
 
 pub returns-after-is_err-clause-refused : goal.returns-after-is_err-clause-refused

@@ -1,4 +1,5 @@
-use Rattle.std.proofs.Common.{refl, ◌∙◌, ap}
+use Rattle.std.proofs.Common.{refl, ◌∙◌, ap, Bool}
+use Rattle.session.specs.Representation.{Beside, beside_in}
 use Rattle.std.specs.Prelude.{◌||◌}
 use Rattle.session.specs.SavedTables.{current_in}
 use Rattle.session.proofs.transactions.Connections.commit_writer.Goals as goal
@@ -9,7 +10,7 @@ returns-in-Err-clause-commits g c db was whole applies stored =
     let rest = c.write_changes.ensures.rest in
     c.in-Err.ensures.writes db was whole applies stored (record mid { has_failed = mid.has_failed || c.is_io.result }) (record {
       files_are = refl;
-      failed = ap (λ b. b || c.is_io.result) (rest.failed ∙ whole) ∙ c.is_io.ensures;
+      beside = ap (λ (b : Beside). record b { failed = b.failed || c.is_io.result }) rest.beside ∙ ap (λ (b : Bool). record (beside_in c.args.self.now) { failed = b }) (ap (λ b. b || c.is_io.result) whole ∙ c.is_io.ensures);
       transaction = rest.transaction;
       catalog = rest.catalog;
     })
@@ -18,11 +19,13 @@ pub returns-clause-commits : goal.returns-clause-commits
 returns-clause-commits g c db was whole applies stored =
     let mid = c.write_changes.new.self in
     let rest = c.write_changes.ensures.rest in
-    c.in_default.ensures.writes db was whole applies stored (record mid { catalog = c.commit.new.self }) (record {
+    c.in_default.ensures.writes db was whole applies stored (record mid { catalog = c.commit.new.self; newest = c.commit.new.newest }) (record {
       files_are = refl;
-      failed = rest.failed;
+      failed = ap (λ (b : Beside). b.failed) rest.beside;
+      connection = ap (λ (b : Beside). b.connection) rest.beside;
+      parked = ap (λ (b : Beside). b.parked) rest.beside;
       transaction = rest.transaction;
-      current = c.commit.ensures.current ∙ ap current_in rest.catalog;
-      committed = c.commit.ensures.committed ∙ ap current_in rest.catalog;
+      newest = c.commit.ensures.newest ∙ ap current_in rest.catalog;
+      all = c.commit.ensures.unchanged;
       savepoints = c.commit.ensures.none;
     })

@@ -20,4 +20,4 @@ returns-then-begins_at-clause-step g c =
 pub returns-clause-step : goal.returns-clause-step
 returns-clause-step g c =
     let named = subst (λ (n : Name). IsNewestNamed n (names_in c.args.self.now.catalog) c.in-Some.place) c.as_str.ensures c.in-Some.ensures.found in
-    released_step c.args.self.now _ c.args.name.now c.in-Some.place named (sym c.begins_at.ensures ∙ c.if-begins_at.false) (record { files = refl; failed = refl }) c.release.ensures c.release-2.ensures
+    released_step c.args.self.now _ c.args.name.now c.in-Some.place named (sym c.begins_at.ensures ∙ c.if-begins_at.false) (record { files = refl; beside = refl }) c.release.ensures c.release-2.ensures

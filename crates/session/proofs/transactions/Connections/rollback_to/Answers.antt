@@ -15,4 +15,4 @@ pub returns-clause-step : goal.returns-clause-step
 returns-clause-step g c =
     let named = subst (λ (n : Name). IsNewestNamed n (names_in c.args.self.now.catalog) c.in-Some.place) c.as_str.ensures c.in-Some.ensures.found in
     let within : c.in-Some.place < length (savepoints_in c.args.self.now.catalog).points = omega (arith, named.within, length-map (savepoints_in c.args.self.now.catalog).points (λ (p : SavedTables). p.name)) in
-    returned_step c.args.self.now _ c.args.name.now c.in-Some.place named (record { files = refl; failed = refl }) (c.back_to.ensures within) c.back_to-2.ensures
+    returned_step c.args.self.now _ c.args.name.now c.in-Some.place named (record { files = refl; beside = refl }) (c.back_to.ensures within) c.back_to-2.ensures

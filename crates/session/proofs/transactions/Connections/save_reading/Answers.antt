@@ -5,4 +5,4 @@ use Rattle.session.proofs.transactions.Connections.save_reading.Goals as goal
 
 pub returns-clause-step : goal.returns-clause-step
 returns-clause-step g c room reads =
-    saves_reading (with_transaction c.args.self.now c.args.reading) _ c.args.name c.save.result reads room (record { files = refl; failed = refl }) c.save.ensures.saved c.save.ensures.refused refl
+    saves_reading (with_transaction c.args.self.now c.args.reading) _ c.args.name c.save.result reads room (record { files = refl; beside = refl }) c.save.ensures.saved c.save.ensures.refused refl

@@ -5,7 +5,7 @@ use Rattle.sqlval.specs.declared.fault.Fault.TheVariants as fault
 use Rattle.session.specs.Machine.{Reply}
 use Rattle.session.proofs.Beginning.{done_refused}
 use Rattle.session.specs.Representation.{StepsOn, StepsTo, done_reply, is_idle, with_transaction}
-use Rattle.session.specs.declared.transactions.Transaction.TheVariants as transaction
+use Rattle.session.specs.declared.seats.Transaction.TheVariants as transaction
 use Rattle.session.proofs.Writing.{reading_else, with_own}
 use Rattle.session.proofs.SavingSteps.{out_of_memory, too_many}
 use Rattle.session.proofs.transactions.Connections.savepoint.Goals as goal
@@ -17,7 +17,7 @@ pub returns-in_err-copy-clause-step : goal.returns-in_err-copy-clause-step
 returns-in_err-copy-clause-step g c m shown =
     let old = c.args.self.now in
     let s = statement.Savepoint c.args.name.now in
-    subst (λ (r : Reply). StepsTo old m 1 s r old) (sym (done_refused c.from_residual.result fault.Memory c.from_residual.ensures.1)) (out_of_memory old old s refl m shown (record { files = refl; failed = refl }) shown)
+    subst (λ (r : Reply). StepsTo old m s r old) (sym (done_refused c.from_residual.result fault.Memory c.from_residual.ensures.1)) (out_of_memory old old s refl m shown (record { files = refl; beside = refl }) shown)
 
 pub returns-in-Idle-clause-step : goal.returns-in-Idle-clause-step
 returns-in-Idle-clause-step g c =

@@ -1,15 +1,18 @@
-use Rattle.std.proofs.Common.{sym, subst}
+use Rattle.std.proofs.Common.{refl, sym, subst}
 use Rattle.session.specs.Machine.{Reply}
-use Rattle.session.specs.Representation.{StepsTo}
+use Rattle.session.specs.Representation.{StepsTo, rows_reply}
 use Rattle.syntax.specs.declared.statement.Statement.TheVariants as statement
-use Rattle.session.proofs.Selecting.{refused_reply, select_gives, select_refused}
+use Rattle.session.proofs.FirstRefusals.{short_of}
+use Rattle.session.proofs.Selecting.{refused_reply}
+use Rattle.session.proofs.Switching.{after_taking, taken_newest}
 use Rattle.session.proofs.transactions.Connections.select.Goals as goal
 
-pub returns-in_err-rows-clause-step : goal.returns-in_err-rows-clause-step
-returns-in_err-rows-clause-step g c m shown =
-    subst (λ (r : Reply). StepsTo c.args.self.now m 1 (statement.Select c.args.query.now) r c.read.new.self) (sym (refused_reply c.from_residual.result c.in_err-rows.field-0.0 c.from_residual.ensures.1))
-    (select_refused c.args.self.now c.read.new.self c.args.query.now c.in_err-rows.field-0.0 c.read.ensures.reads (λ m db shown stored. c.in_err-rows.ensures.answered m db shown stored) m shown)
+pub returns-in_err-take_newest-clause-step : goal.returns-in_err-take_newest-clause-step
+returns-in_err-take_newest-clause-step g c m shown =
+    subst (λ (r : Reply). StepsTo c.args.self.now m (statement.Select c.args.query.now) r c.take_newest.new.self) (sym (refused_reply c.from_residual.result c.in_err-take_newest.field-0.0 c.from_residual.ensures.1))
+    (short_of c.args.self.now c.take_newest.new.self (statement.Select c.args.query.now) c.in_err-take_newest.field-0.0 refl c.in_err-take_newest.ensures.refused.0 c.in_err-take_newest.ensures.refused.1 m shown)
 
 pub returns-clause-step : goal.returns-clause-step
 returns-clause-step g c =
-    select_gives c.args.self.now c.read.new.self c.begin_reading.new.self c.args.query.now _ c.read.ensures.reads c.begin_reading.ensures (λ m db shown stored. c.in_ok-rows.ensures.answered m db shown stored)
+    after_taking c.args.self.now c.take_newest.new.self c.select_seen.new.self (statement.Select c.args.query.now) (rows_reply c.select_seen.result) c.in_ok-take_newest.ensures.taken
+    (c.select_seen.ensures.step (taken_newest c.args.self.now c.take_newest.new.self c.in_ok-take_newest.ensures.taken))

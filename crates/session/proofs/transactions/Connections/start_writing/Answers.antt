@@ -6,42 +6,44 @@ use Rattle.session.specs.Machine.{Reply}
 use Rattle.session.specs.Representation.{StepsTo}
 use Rattle.session.proofs.Beginning.{done_refused, first_there}
 use Rattle.session.proofs.Marked.{moved_on, under_mark}
+use Rattle.session.proofs.ReadingPhases.{newest_by}
 use Rattle.session.proofs.Showing.{read_files}
+use Rattle.session.specs.ConnectionState.{files_of}
 use Rattle.session.proofs.Writing.{begun_refused, begun_writes, not_begun, opens_reading}
 use Rattle.session.proofs.transactions.Connections.start_writing.Goals as goal
 
 pub returns-in_err-writer-clause-step : goal.returns-in_err-writer-clause-step
-returns-in_err-writer-clause-step g c supported_forms keeps reads m shown =
+returns-in_err-writer-clause-step g c supported_forms keeps reads may m shown =
     let old = c.args.self.now in
     let new = record c.args.self.now { log = c.begin.new.log } in
     let kept = c.in_err-writer.ensures.kept in
-    subst (λ (r : Reply). StepsTo old m 1 (written c.args.write) r new) (sym (done_refused c.from_residual.result c.in_err-writer.field-0.0 c.from_residual.ensures.1))
-    (not_begun old new c.args.write c.in_err-writer.field-0.0 supported_forms (record { files = λ told. read_files _ _ told kept.0 kept.1 kept.2; failed = refl; catalog = refl; transaction = refl })
-    (λ m shown. (let newest = c.snapshot-snapshot.ensures.newest m shown in c.in_err-writer.ensures.there shown.settled.found.page shown.told (omega (arith, newest.seen)) (first_there old m shown c.snapshot-snapshot.result newest)))
-    (λ m shown. opens_reading old m shown c.args.write reads) m shown)
+    subst (λ (r : Reply). StepsTo old m (written c.args.write) r new) (sym (done_refused c.from_residual.result c.in_err-writer.field-0.0 c.from_residual.ensures.1))
+    (not_begun old new c.args.write c.in_err-writer.field-0.0 supported_forms (record { files = λ told. read_files _ _ told kept.0 kept.1 kept.2; beside = refl; catalog = refl; transaction = refl })
+    (λ m shown. (let newest = newest_by (files_of old) old.transaction c.snapshot-snapshot.result reads may.fresh c.snapshot-snapshot.ensures in c.in_err-writer.ensures.there shown.settled.found.page shown.told (omega (arith, newest.seen)) (first_there old m shown c.snapshot-snapshot.result newest)))
+    (λ m shown. opens_reading old m shown c.args.write reads may) m shown)
 
 pub returns-in_err-mark_times-clause-step : goal.returns-in_err-mark_times-clause-step
-returns-in_err-mark_times-clause-step g c supported_forms keeps reads m shown =
+returns-in_err-mark_times-clause-step g c supported_forms keeps reads may m shown =
     let old = c.args.self.now in
     let new = record c.args.self.now { log = c.begin.new.log } in
     let kept = c.in_ok-writer.ensures.kept in
-    subst (λ (r : Reply). StepsTo old m 1 (written c.args.write) r new) (sym (done_refused c.from_residual-in_err-mark_times.result c.in_err-mark_times.field-0.0 c.from_residual-in_err-mark_times.ensures.1))
-    (not_begun old new c.args.write c.in_err-mark_times.field-0.0 supported_forms (record { files = λ told. read_files _ _ told kept.0 kept.1 kept.2; failed = refl; catalog = refl; transaction = refl })
-    (λ m shown. inl c.in_err-mark_times.ensures.refused) (λ m shown. opens_reading old m shown c.args.write reads) m shown)
+    subst (λ (r : Reply). StepsTo old m (written c.args.write) r new) (sym (done_refused c.from_residual-in_err-mark_times.result c.in_err-mark_times.field-0.0 c.from_residual-in_err-mark_times.ensures.1))
+    (not_begun old new c.args.write c.in_err-mark_times.field-0.0 supported_forms (record { files = λ told. read_files _ _ told kept.0 kept.1 kept.2; beside = refl; catalog = refl; transaction = refl })
+    (λ m shown. inl c.in_err-mark_times.ensures.refused) (λ m shown. opens_reading old m shown c.args.write reads may) m shown)
 
 pub returns-in_err-apply-clause-step : goal.returns-in_err-apply-clause-step
-returns-in_err-apply-clause-step g c supported_forms keeps reads m shown =
+returns-in_err-apply-clause-step g c supported_forms keeps reads may m shown =
     let old = c.args.self.now in
     let mid = record c.args.self.now { log = c.begin.new.log } in
     let kept = c.in_ok-writer.ensures.kept in
     let w = c.in_ok-writer.writer in
     let marked = c.mark_times.new.writer in
     let sets = c.in_ok-mark_times.ensures in
-    subst (λ (r : Reply). StepsTo old m 1 (written c.args.write) r c.apply.new.self) (sym (done_refused c.from_residual-in_err-apply.result c.in_err-apply.field-0.0 c.from_residual-in_err-apply.ensures.1))
+    subst (λ (r : Reply). StepsTo old m (written c.args.write) r c.apply.new.self) (sym (done_refused c.from_residual-in_err-apply.result c.in_err-apply.field-0.0 c.from_residual-in_err-apply.ensures.1))
     (begun_refused old mid c.apply.new.self w c.snapshot-snapshot.result c.args.write c.in_err-apply.field-0.0 supported_forms refl
-    (λ m shown. (let newest = c.snapshot-snapshot.ensures.newest m shown in record {
+    (λ m shown. (let newest = newest_by (files_of old) old.transaction c.snapshot-snapshot.result reads may.fresh c.snapshot-snapshot.ensures in record {
       files = read_files _ _ shown.told kept.0 kept.1 kept.2;
-      failed = refl;
+      beside = refl;
       catalog = refl;
       now = refl;
       stands = c.in_ok-writer.ensures.stands;
@@ -50,19 +52,19 @@ returns-in_err-apply-clause-step g c supported_forms keeps reads m shown =
     }))
     (λ db applies. under_mark (written c.args.write) mid c.apply.new.self db w marked c.in_err-apply.field-0.0 sets.same sets.stands
     (c.in_err-apply.ensures.applies db supported_forms keeps (moved_on mid w marked db sets.same sets.stands applies)))
-    (λ m shown. opens_reading old m shown c.args.write reads) m shown)
+    (λ m shown. opens_reading old m shown c.args.write reads may) m shown)
 
 pub returns-clause-step : goal.returns-clause-step
-returns-clause-step g c supported_forms keeps reads =
+returns-clause-step g c supported_forms keeps reads may =
     let old = c.args.self.now in
     let mid = record c.args.self.now { log = c.begin.new.log } in
     let kept = c.in_ok-writer.ensures.kept in
     let sets = c.in_ok-mark_times.ensures in
     let w = c.in_ok-writer.writer in
-    begun_writes old mid c.apply.new.self w c.mark_times.new.writer c.apply.new.writer c.snapshot-snapshot.result c.args.write supported_forms reads
-    (λ m shown. (let newest = c.snapshot-snapshot.ensures.newest m shown in record {
+    begun_writes old mid c.apply.new.self w c.mark_times.new.writer c.apply.new.writer c.snapshot-snapshot.result c.args.write supported_forms reads may
+    (λ m shown. (let newest = newest_by (files_of old) old.transaction c.snapshot-snapshot.result reads may.fresh c.snapshot-snapshot.ensures in record {
       files = read_files _ _ shown.told kept.0 kept.1 kept.2;
-      failed = refl;
+      beside = refl;
       catalog = refl;
       now = refl;
       stands = c.in_ok-writer.ensures.stands;

@@ -34,7 +34,7 @@ returns-in-None-clause-writes g c db was whole applies stored =
     let p = page old mid w db was whole applies stored same w now own in
     let h = header old mid w db was whole applies stored same w now own in
     let m = may old mid w db was whole applies stored same w now own in
-    ends old mid w db was whole applies stored same w now own c.commit.result c.commit.new.log c.commit.new.self c.commit.new.self (c.commit.ensures.commits p h m) (c.commit.ensures.refused p h m) c.commit.ensures.disks.db (c.commit.ensures.crash p h m)
+    ends old mid w db was whole applies stored same w now own c.commit.result c.commit.new.log c.commit.new.self c.commit.new.self (c.commit.ensures.commits p h m) (c.commit.ensures.refused p h m) c.commit.ensures.disks.db (c.commit.ensures.known p h m) (c.commit.ensures.crash p h m)
     (λ r next is. written_over old mid w db was whole applies stored same r next c.commit.new.self is)
 
 pub returns-in-Some-clause-writes : goal.returns-in-Some-clause-writes
@@ -55,5 +55,5 @@ returns-in-Some-clause-writes g c db was whole applies stored =
     let h = header old mid w db was whole applies stored same v now own in
     let m = may old mid w db was whole applies stored same v now own in
     let commit = c.commit-in-Some in
-    ends old mid w db was whole applies stored same v now own commit.result commit.new.log commit.new.self w (commit.ensures.commits p h m) (commit.ensures.refused p h m) commit.ensures.disks.db (commit.ensures.crash p h m)
+    ends old mid w db was whole applies stored same v now own commit.result commit.new.log commit.new.self w (commit.ensures.commits p h m) (commit.ensures.refused p h m) commit.ensures.disks.db (commit.ensures.known p h m) (commit.ensures.crash p h m)
     (λ r next is. pruned_over old mid w db was whole applies stored same v pruned r next commit.new.self is)

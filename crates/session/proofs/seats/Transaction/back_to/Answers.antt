@@ -1,9 +1,9 @@
 use Rattle.std.proofs.Common.{◌<◌, refl, subst, sym, length}
 use Rattle.pager.specs.Marks.{marks_of}
 use Rattle.session.specs.Saving.{GoesBackToMark, OnWriter}
-use Rattle.session.specs.declared.transactions.Transaction.{Transaction}
-use Rattle.session.specs.declared.transactions.Transaction.TheVariants as transaction
-use Rattle.session.proofs.transactions.Transaction.back_to.Goals as goal
+use Rattle.session.specs.declared.seats.Transaction.{Transaction}
+use Rattle.session.specs.declared.seats.Transaction.TheVariants as transaction
+use Rattle.session.proofs.seats.Transaction.back_to.Goals as goal
 
 pub returns-in-Writing : goal.returns-in-Writing
 returns-in-Writing c =

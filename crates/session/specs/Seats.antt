@@ -1,0 +1,41 @@
+-- The seats of the connections, each with its transaction and the tables of it (Isolation In SQLite).
+use Rattle.std.specs.Prelude.{◌≡◌, ◌<◌, ◌≤◌, ℕ, Bool, true, false, List, length, Some, slice_get, slice_set}
+use Rattle.std.specs.List.{AllByRecursion}
+use Rattle.catalog.specs.declared.tables.Catalog.{Catalog}
+use Rattle.session.specs.SavedTables.{HasNoSavepoints, IsUnchanged}
+use Rattle.session.specs.declared.seats.Seat.{Seat}
+use Rattle.session.specs.declared.seats.Seats.{Seats}
+use Rattle.session.specs.declared.seats.Transaction.{Transaction}
+use Rattle.session.specs.declared.seats.Transaction.TheVariants as transaction
+
+-- the transaction has the write right
+abbrev pub is_writer : Transaction → Bool
+is_writer (transaction.Writing writer) = true
+is_writer _ = false
+
+-- the same of that of a seat
+abbrev pub holds_writer : Seat → Bool
+holds_writer seat = is_writer seat.transaction
+
+-- it has no transaction
+pub record IsIdleSeat (seat : Seat) : Type 0 where
+  pub idle : seat.transaction ≡ transaction.Idle
+  pub all : IsUnchanged seat.catalog
+  pub savepoints : HasNoSavepoints seat.catalog
+
+-- The seat at this place is the one that was given, and the one that stood there is left. Where there is no such place, all stays.
+pub record Trades (place : ℕ) (old : List Seat) (given : Seat) (new : List Seat) (left : Seat) : Type 0 where
+  pub set : place < length old → new ≡ slice_set old place given
+  pub got : place < length old → slice_get old place ≡ Some left
+  pub stays : length old ≤ place → (new ≡ old) × (left ≡ given)
+
+-- the tables of the newest commit
+abbrev pub catalog_in : Seats → Catalog
+catalog_in seats = seats.newest.value
+
+-- sixteen connections without transactions
+pub record AreFresh (seats : Seats) : Type 0 where
+  pub all : IsUnchanged seats.catalog
+  pub savepoints : HasNoSavepoints seats.catalog
+  pub idle : AllByRecursion IsIdleSeat seats.parked.items
+  pub count : length seats.parked.items ≡ 16
