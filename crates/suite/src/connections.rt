@@ -22,7 +22,8 @@ fn one_connection_writes(rt: HostRuntime) -> Result<(), Fail> {
     let lines =
         b"1 CREATE TABLE t(a)\n1 BEGIN IMMEDIATE\n2 INSERT INTO t VALUES (1)\n2 BEGIN IMMEDIATE\n2 BEGIN\n2 INSERT INTO t VALUES (1)\n1 COMMIT\n2 INSERT INTO t VALUES (1)\n2 COMMIT\n16 SELECT a FROM t\n";
     let output = reply(alloc, &mut engine, lines)?;
-    let replies = b"ok\nok\nerror E12 Busy\nerror E12 Busy\nok\nerror E12 Busy\nok\nok\nok\n1\nok\n";
+    let replies =
+        b"ok\nok\nerror E12 Busy\nerror E12 Busy\nok\nerror E12 Busy\nok\nok\nok\n1\nok\n";
     assert!(rt; output.as_slice() == replies.as_slice());
     Ok(())
 }
