@@ -82,7 +82,7 @@ fn rejected_lines_do_not_end_the_run(rt: HostRuntime) -> Result<(), Fail> {
     let output = reply(alloc, &mut engine, &lines)?;
     assert!(rt;
         output.as_slice()
-            == b"error E11 Misuse\nerror E11 Misuse\n2\nok\nerror E11 Misuse\nerror E25 TooLong\nerror E4 Unsupported\nerror E4 Unsupported\n3\nok\n".as_slice()
+            == b"error E11 Misuse\nerror E11 Misuse\n2\nok\nerror E11 Misuse\nerror E25 TooLong\n1\nok\nerror E4 Unsupported\n3\nok\n".as_slice()
     );
     Ok(())
 }
