@@ -15,6 +15,10 @@ use Rattle.indexing.specs.declared.entries.IndexColumn.{IndexColumn}
 abbrev pub column_of : IndexColumn → ℕ × Collation
 column_of column = (column.place, column.collation)
 
+-- the collation of a column
+abbrev pub collation_of : IndexColumn → Collation
+collation_of column = column.collation
+
 -- the value at a place, NULL past the last
 abbrev pub value_or_null : List Value → ℕ → Value
 value_or_null values place = unwrap_or (slice_get values place) Null
