@@ -1,0 +1,4 @@
+pub mod Ranks
+pub mod RowEntries
+pub mod Comparing
+pub mod Checked
