@@ -8,9 +8,9 @@ use Rattle.pages.specs.Map.{PageMap}
 use Rattle.bind.specs.declared.queries.BoundSource.{BoundSource}
 use Rattle.indextree.specs.Entries.{Entry}
 use Rattle.indexing.specs.Calls.{AreThose, ChecksEntries, ComparesEntries, SortsEntries}
-use Rattle.indexes.specs.Entries.{entries_of_rows}
+use Rattle.indexing.specs.Entries.{entries_of_rows}
 use Rattle.indexing.specs.Ranking.{collation_of, column_of}
-use Rattle.indexes.specs.declared.columns.IndexColumn.{IndexColumn}
+use Rattle.indexing.specs.declared.entries.IndexColumn.{IndexColumn}
 
 -- the table's rows aren't read
 pub rows_not_read : (pages : PageMap) (size root : ℕ) (table : BoundSource) (columns : List IndexColumn) (fault : Fault) (result : Result ⊤ Fault) → SortsEntries pages size table columns (Err fault)

@@ -14,9 +14,9 @@ use Rattle.rowprog.specs.Rows.{TableRow}
 use Rattle.rowprog.specs.Sources.{LoadsRows, as_source}
 use Rattle.indextree.specs.Entries.{Entry, entry_cmp}
 use Rattle.indexing.specs.Calls.{SortsEntries}
-use Rattle.indexes.specs.Entries.{indexed, entries_of_rows}
+use Rattle.indexing.specs.Entries.{indexed, entries_of_rows}
 use Rattle.indexing.specs.Ranking.{column_of, value_or_null, indexed_of, ranked}
-use Rattle.indexes.specs.declared.columns.IndexColumn.{IndexColumn}
+use Rattle.indexing.specs.declared.entries.IndexColumn.{IndexColumn}
 use Rattle.indexing.proofs.Ranks.{IsWhole, collations, ranks, sorted_same}
 
 here : (values : List Value) (place : ℕ) → value_or_null values place ≡ slice_index_or values place Null

@@ -11,9 +11,9 @@ use Rattle.rowprog.specs.Rows.{TableRow}
 use Rattle.rowprog.specs.Trees.{HasRows}
 use Rattle.indextree.specs.Entries.{Entry}
 use Rattle.indextree.specs.Tree.{IsIndexTree}
-use Rattle.indexes.specs.Entries.{entries_of_rows}
+use Rattle.indexing.specs.Entries.{entries_of_rows}
 use Rattle.indexing.specs.Ranking.{collation_of, column_of}
-use Rattle.indexes.specs.declared.columns.IndexColumn.{IndexColumn}
+use Rattle.indexing.specs.declared.entries.IndexColumn.{IndexColumn}
 
 -- Of a tree of rows these are the entries, in order; or memory was short, or a disk's call failed.
 abbrev pub SortsEntries : PageMap → ℕ → BoundSource → List IndexColumn → Result (List Entry) Fault → Type 0

@@ -9,7 +9,7 @@ use Rattle.sqlval.specs.declared.value.Value.{Value}
 use Rattle.sqlval.specs.declared.value.Value.TheVariants.{Null}
 use Rattle.terms.specs.Values.{Row}
 use Rattle.indextree.specs.Entries.{Entry}
-use Rattle.indexes.specs.declared.columns.IndexColumn.{IndexColumn}
+use Rattle.indexing.specs.declared.entries.IndexColumn.{IndexColumn}
 
 -- a column of an index: its place in a row, and its collation
 abbrev pub column_of : IndexColumn → ℕ × Collation

@@ -10,9 +10,8 @@ ghost use Rattle.indextree.specs.Entries.{Entry};
 ghost use Rattle.indexing.specs.Calls.{ChecksEntries, ComparesEntries, Tells};
 ghost use Rattle.indexing.specs.Ranking.{collation_of};
 
-use crate::entries::sorted_entries;
+use crate::entries::{IndexColumn, sorted_entries};
 use bind::BoundSource;
-use indexes::IndexColumn;
 use indextree::Cursor;
 use pages::Pages;
 use record::Record;

@@ -10,13 +10,19 @@ ghost use Rattle.indexing.specs.Calls.{SortsEntries};
 ghost use Rattle.indexing.specs.Ranking.{indexed_of, ranked, value_or_null};
 
 use bind::BoundSource;
-use indexes::IndexColumn;
 use pages::Pages;
 use rowprog::source_rows;
 use sqlval::{Collation, Fault, Field, Many, R, Value, compare_fields};
 use std::alloc::Global;
 use std::cmp::Ordering;
 use terms::SourceRow;
+
+/// A column that an index has: its place in a row of the table, counted from 0, and the collation that it is sorted by.
+#[derive(Clone, Copy)]
+pub struct IndexColumn {
+    pub place: usize,
+    pub collation: Collation,
+}
 
 /// The value at a place, NULL past the last.
 fn value_in(values: &[Value], place: usize) -> Field<'_>

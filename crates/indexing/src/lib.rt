@@ -5,4 +5,4 @@ mod checking;
 mod entries;
 
 pub use checking::check_entries;
-pub use entries::sorted_entries;
+pub use entries::{IndexColumn, sorted_entries};
