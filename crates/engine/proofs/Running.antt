@@ -11,7 +11,6 @@ use Rattle.session.specs.Supported.{StepSoFar}
 use Rattle.session.specs.Holding.{HoldThroughout, LeaveHeld}
 use Rattle.session.specs.Laws.{IsBeside}
 use Rattle.session.specs.Machine.{Machine, Reply, committed, last_place, newest}
-use Rattle.session.specs.Representation.{CannotStoreIn}
 use Rattle.session.specs.Crashes.{MayShow, MayShowInRun}
 use Rattle.session.specs.Texts.{StepByText}
 use Rattle.session.proofs.Besides.{beside_itself, moved, others_stay_beside}
@@ -31,10 +30,10 @@ record IsSound (m : Machine) : Type 0 where
   some : 1 ≤ length m.history
   sure : m.failed ≡ false → m.in_doubt ≡ None
 
-so_far_beside : (R : Database → Refusal → Type 0) (m : Machine) (c : ℕ) (s : Statement) (reply : Reply) (new : Machine) → StepSoFar R m c s reply new → IsBeside m c new
-so_far_beside R m c s reply new (inl (is, inl step)) = others_stay_beside m c s reply new step
-so_far_beside R m c s reply new (inl (is, inr h)) = moved m new m c h.2 (beside_itself m c)
-so_far_beside R m c s reply new (inr h) = moved m new m c h.1 (beside_itself m c)
+so_far_beside : (m : Machine) (c : ℕ) (s : Statement) (reply : Reply) (new : Machine) → StepSoFar m c s reply new → IsBeside m c new
+so_far_beside m c s reply new (inl (is, inl step)) = others_stay_beside m c s reply new step
+so_far_beside m c s reply new (inl (is, inr h)) = moved m new m c h.2 (beside_itself m c)
+so_far_beside m c s reply new (inr h) = moved m new m c h.1 (beside_itself m c)
 
 -- what is at a place
 at_place : (dbs : List Database) (i : ℕ) → i < length dbs → slice_get dbs i ≡ Some (unwrap_or (slice_get dbs i) [])
@@ -106,14 +105,14 @@ module _ {D : Type 0} {g : Ghosts D} where
   failed_of e m (inr shown) stopped = absurd (false≢true (sym shown.running ∙ stopped))
 
   abbrev TextStep : Engine D g → Machine → ℕ → List ℕ → Reply → Machine → Type 0
-  TextStep old m c text reply next = StepByText (λ before k s answer after. StepSoFar (CannotStoreIn old.connections c s) before k s answer after) grammar m c text reply next
+  TextStep old m c text reply next = StepByText (λ before k s answer after. StepSoFar before k s answer after) grammar m c text reply next
 
   step_beside : (old : Engine D g) (m : Machine) (c : ℕ) (text : List ℕ) (reply : Reply) (next : Machine) → TextStep old m c text reply next → IsBeside m c next
   step_beside old m c text reply next (inl h) = moved m next m c h.2 (beside_itself m c)
   step_beside old m c text reply next (inr (inl h)) = moved m next m c h.3 (beside_itself m c)
   step_beside old m c text reply next (inr (inr (a, b, inl h))) = moved m next m c h.1 (beside_itself m c)
   step_beside old m c text reply next (inr (inr (a, b, inr (inl (r, why, is, same))))) = moved m next m c same (beside_itself m c)
-  step_beside old m c text reply next (inr (inr (a, b, inr (inr (d, s, reads, within, by))))) = so_far_beside (CannotStoreIn old.connections c s) m c s reply next by
+  step_beside old m c text reply next (inr (inr (a, b, inr (inr (d, s, reads, within, by))))) = so_far_beside m c s reply next by
 
   -- the run, with what it keeps
   record Ran (old : Engine D g) (m : Machine) (lines : List (List ℕ)) (replies : List serving.Reply) (new : Engine D g) : Type 0 where

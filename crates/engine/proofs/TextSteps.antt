@@ -22,7 +22,7 @@ use Rattle.session.specs.Supported.{StepSoFar}
 use Rattle.session.specs.ConnectionState.{first_refusal}
 use Rattle.session.specs.Machine.{Machine, Reply, Refused}
 use Rattle.storage.specs.Schema.{KeepsItsText}
-use Rattle.session.specs.Representation.{CannotStoreIn, Steps}
+use Rattle.session.specs.Representation.{Steps}
 use Rattle.session.specs.Steps.{is_connection}
 use Rattle.session.specs.Texts.{IsCandidate, IsTextFault, StepByText, is_long}
 use Rattle.session.specs.declared.transactions.Connections.{Connections}
@@ -133,7 +133,7 @@ done = Ok tt
 
 module _ {D : Type 0} {g : Ghosts D} (e : Engine D g) (n : ℕ) (text : List ℕ) where
   abbrev Step : Machine → Reply → Machine → Type 0
-  Step m reply next = StepByText (λ before c s answer after. StepSoFar (CannotStoreIn e.connections n s) before c s answer after) grammar m n text reply next
+  Step m reply next = StepByText (λ before c s answer after. StepSoFar before c s answer after) grammar m n text reply next
 
   stays : (m : Machine) (f : Fault) → EngineRepresents e m → Step m (Refused (refusal_of f)) m → StepsByTextTo e m n text (Refused (refusal_of f)) e
   stays m f shows step = record { next = m; step = step; shown = shows; crash = as_shown e.connections m shows }

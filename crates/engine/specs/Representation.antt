@@ -5,7 +5,7 @@ use Rattle.session.specs.Supported.{StepSoFar}
 use Rattle.session.specs.Holding.{HoldThroughout}
 use Rattle.session.specs.ConnectionState.{files_of}
 use Rattle.session.specs.Machine.{Machine, Reply}
-use Rattle.session.specs.Representation.{CannotStoreIn, Represents}
+use Rattle.session.specs.Representation.{Represents}
 use Rattle.session.specs.Crashes.{MayShow}
 use Rattle.session.specs.Texts.{StepByText}
 use Rattle.wal.specs.declared.log.Log.{Log}
@@ -24,7 +24,7 @@ module _ {D : Type 0} {g : Ghosts D} where
   -- This is a step by a text from a machine to one that is shown after it; and at each moment a crash leaves a database that the step may show.
   pub record StepsByTextTo (old : Engine D g) (m : Machine) (connection : ℕ) (text : List ℕ) (reply : Reply) (new : Engine D g) : Type 0 where
     pub next : Machine
-    pub step : StepByText (λ before c s answer after. StepSoFar (CannotStoreIn old.connections connection s) before c s answer after) grammar m connection text reply next
+    pub step : StepByText (λ before c s answer after. StepSoFar before c s answer after) grammar m connection text reply next
     pub shown : EngineRepresents new next
     pub crash : HoldThroughout (MayShow m next) (files_in old) (files_in new)
 

@@ -7,7 +7,7 @@ use Rattle.sqlval.specs.declared.fault.Fault.{Fault}
 use Rattle.sqlval.specs.declared.fault.Fault.TheVariants as fault
 use Rattle.syntax.specs.declared.statement.Statement.{Statement}
 use Rattle.catalog.specs.Database.{Database}
-use Rattle.session.specs.Supported.{StepSoFar, database_of}
+use Rattle.session.specs.Supported.{CannotStore, StepSoFar, database_of}
 use Rattle.storage.specs.Forms.{is_supported}
 use Rattle.session.specs.Machine.{Machine, Connection, Idle, InTransactionOf, Phase, SavepointState, Writes, Rows, Refused, connection, another, is_writing, last_place, newest, with_connection}
 use Rattle.session.specs.Outcomes.{Outcome, RefusedBy, outcome, unless_busy, worked, worked_alone, write_outcome}
@@ -88,17 +88,17 @@ finish_alone m n = record { refuses = alone_refuses m n; io = alone_io m }
 abbrev pub IsErrorCause : (Refusal → Type 0) → Work → Fault → Type 0
 IsErrorCause Unstored w f = IsOutsideOrFull f ⊎ (RefusesWith w (refusal_of f) ⊎ Unstored (refusal_of f))
 
-module _ (R : Database → Refusal → Type 0) (m : Machine) (n : ℕ) (s : Statement) (supported_forms : is_supported s ≡ true) (running : m.failed ≡ false) (numbered : is_connection n ≡ true) (finish : Work → Outcome) (ends : IsFinish m n finish) (w : Work) (is : outcome m n s ≡ finish w) where
-  step_for : (e f : Fault) → f ≡ e → StepSoFar R m n s (Refused (refusal_of e)) m → StepSoFar R m n s (Refused (refusal_of f)) m
-  step_for e f same step = subst (λ (x : Fault). StepSoFar R m n s (Refused (refusal_of x)) m) (sym same) step
+module _ (m : Machine) (n : ℕ) (s : Statement) (supported_forms : is_supported s ≡ true) (running : m.failed ≡ false) (numbered : is_connection n ≡ true) (finish : Work → Outcome) (ends : IsFinish m n finish) (w : Work) (is : outcome m n s ≡ finish w) where
+  step_for : (e f : Fault) → f ≡ e → StepSoFar m n s (Refused (refusal_of e)) m → StepSoFar m n s (Refused (refusal_of f)) m
+  step_for e f same step = subst (λ (x : Fault). StepSoFar m n s (Refused (refusal_of x)) m) (sym same) step
 
-  pub refused_step : (db : Database) → database_of m (connection m n) ≡ db → (f : Fault) → IsErrorCause (R db) w f → StepSoFar R m n s (Refused (refusal_of f)) m
-  refused_step db sees f (inl (inl (inl memory))) = step_for fault.Memory f memory (instead R m n s supported_forms running numbered (finish w) (Refused refusal.Memory) is (inl refl, refl))
-  refused_step db sees f (inl (inl (inr io))) = step_for fault.Io f io (instead R m n s supported_forms running numbered (finish w) (Refused refusal.Io) is (ends.io w))
-  refused_step db sees f (inl (inr full)) = step_for fault.Full f full (instead R m n s supported_forms running numbered (finish w) (Refused refusal.Full) is (inl refl, refl))
-  refused_step db sees f (inr (inl why)) = by_outcome R m n s supported_forms running numbered (finish w) (Refused (refusal_of f)) m is (ends.refuses (refusal_of f) w why)
+  pub refused_step : (db : Database) → database_of m (connection m n) ≡ db → (f : Fault) → IsErrorCause (CannotStore s db) w f → StepSoFar m n s (Refused (refusal_of f)) m
+  refused_step db sees f (inl (inl (inl memory))) = step_for fault.Memory f memory (instead m n s supported_forms running numbered (finish w) (Refused refusal.Memory) is (inl refl, refl))
+  refused_step db sees f (inl (inl (inr io))) = step_for fault.Io f io (instead m n s supported_forms running numbered (finish w) (Refused refusal.Io) is (ends.io w))
+  refused_step db sees f (inl (inr full)) = step_for fault.Full f full (instead m n s supported_forms running numbered (finish w) (Refused refusal.Full) is (inl refl, refl))
+  refused_step db sees f (inr (inl why)) = by_outcome m n s supported_forms running numbered (finish w) (Refused (refusal_of f)) m is (ends.refuses (refusal_of f) w why)
   refused_step db sees f (inr (inr unstored)) =
-      inl (supported_forms, inr (refusal_of f, refl, refl, running, subst (λ (d : Database). R d (refusal_of f)) (sym sees) unstored))
+      inl (supported_forms, inr (refusal_of f, refl, refl, running, subst (λ (d : Database). CannotStore s d (refusal_of f)) (sym sees) unstored))
 
 -- ---- outcomes by what the first connection is
 

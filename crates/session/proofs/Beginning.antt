@@ -31,7 +31,7 @@ use Rattle.pages.specs.Map.{PageMap}
 use Rattle.pager.specs.Maps.{pages_in}
 use Rattle.pager.proofs.Mapping.{maps_alike}
 use Rattle.pager.proofs.Sounding.{begun_is_sound}
-use Rattle.session.specs.Representation.{CannotStoreHere, RepresentsRunning, IsTransaction, MayWrite, OnlyReads, ShowTheSame, StepsOn, beside_in, done_reply, has_no_snapshot, is_idle, newest_tables}
+use Rattle.session.specs.Representation.{RepresentsRunning, IsTransaction, MayWrite, OnlyReads, ShowTheSame, StepsOn, beside_in, done_reply, has_no_snapshot, is_idle, newest_tables}
 use Rattle.session.specs.Seats.{holds_writer}
 use Rattle.session.specs.Writers.{IsNewest, IsWriter}
 use Rattle.session.specs.declared.transactions.Connections.{Connections}
@@ -92,7 +92,7 @@ module _ {D : Type 0} {g : Ghosts D} where
   pub begin_busy : (c : Connections D g) → is_idle c.transaction ≡ true → list_any holds_writer c.parked.items ≡ true → StepsOn c (statement.Begin begins.Immediate) (Refused refusal.Busy) c
   begin_busy c idle busy m shown = record {
     next = m;
-    step = by_outcome (CannotStoreHere c (statement.Begin begins.Immediate)) m c.connection (statement.Begin begins.Immediate) refl shown.running shown.numbered (RefusedBy (refusal.Busy ∷ [])) (Refused refusal.Busy) m
+    step = by_outcome m c.connection (statement.Begin begins.Immediate) refl shown.running shown.numbered (RefusedBy (refusal.Busy ∷ [])) (Refused refusal.Busy) m
         (immediate_outcome c m shown idle ∙ busy_begin m c.connection (sym (busy_so (files_of c) m.history c.parked.items (slice_set m.connections (c.connection - 1) Idle) shown.parked) ∙ busy))
         (refusal.Busy, (0, omega arith, refl), refl, refl);
     shown = inr shown;
@@ -129,7 +129,7 @@ module _ {D : Type 0} {g : Ghosts D} where
       let base = newest_listed old m shown (may.newest (no_snapshot_idle old.transaction idle)) in
       record {
         next = next;
-        step = by_outcome (CannotStoreHere old (statement.Begin begins.Immediate)) m old.connection (statement.Begin begins.Immediate) refl shown.running shown.numbered (Gives [] next) (Rows []) next (free_outcome old m shown idle may) (refl, refl);
+        step = by_outcome m old.connection (statement.Begin begins.Immediate) refl shown.running shown.numbered (Gives [] next) (Rows []) next (free_outcome old m shown idle may) (refl, refl);
         shown = inr (moved old new m (begun_as begins.Immediate m) shown start.files start.beside (inr (free_of old m shown may.free))
             (subst (λ (t : Transaction). IsTransaction (files_of new) new.catalog m.history t (begun_as begins.Immediate m)) (sym start.now) (record {
               db = newest m;
@@ -158,11 +158,11 @@ module _ {D : Type 0} {g : Ghosts D} where
       outcome_is : outcome m old.connection (statement.Begin begins.Immediate) ≡ Gives [] (with_connection m old.connection (begun_as begins.Immediate m))
       outcome_is = free_outcome old m shown idle may
 
-      by_why : (f ≡ fault.Memory) ⊎ (f ≡ fault.Io) → StepSoFar (CannotStoreHere old (statement.Begin begins.Immediate)) m old.connection (statement.Begin begins.Immediate) (Refused (refusal_of f)) m
-      by_why (inl memory) = subst (λ (e : Fault). StepSoFar (CannotStoreHere old (statement.Begin begins.Immediate)) m old.connection (statement.Begin begins.Immediate) (Refused (refusal_of e)) m) (sym memory)
-          (instead (CannotStoreHere old (statement.Begin begins.Immediate)) m old.connection (statement.Begin begins.Immediate) refl shown.running shown.numbered _ (Refused refusal.Memory) outcome_is (inl refl, refl))
-      by_why (inr io) = subst (λ (e : Fault). StepSoFar (CannotStoreHere old (statement.Begin begins.Immediate)) m old.connection (statement.Begin begins.Immediate) (Refused (refusal_of e)) m) (sym io)
-          (instead (CannotStoreHere old (statement.Begin begins.Immediate)) m old.connection (statement.Begin begins.Immediate) refl shown.running shown.numbered _ (Refused refusal.Io) outcome_is (inr (refl, refl), refl))
+      by_why : (f ≡ fault.Memory) ⊎ (f ≡ fault.Io) → StepSoFar m old.connection (statement.Begin begins.Immediate) (Refused (refusal_of f)) m
+      by_why (inl memory) = subst (λ (e : Fault). StepSoFar m old.connection (statement.Begin begins.Immediate) (Refused (refusal_of e)) m) (sym memory)
+          (instead m old.connection (statement.Begin begins.Immediate) refl shown.running shown.numbered _ (Refused refusal.Memory) outcome_is (inl refl, refl))
+      by_why (inr io) = subst (λ (e : Fault). StepSoFar m old.connection (statement.Begin begins.Immediate) (Refused (refusal_of e)) m) (sym io)
+          (instead m old.connection (statement.Begin begins.Immediate) refl shown.running shown.numbered _ (Refused refusal.Io) outcome_is (inr (refl, refl), refl))
 
 pub done_refused : (result : Result ⊤ Fault) (f : Fault) → IsErrAnd result (λ e. e ≡ f) → done_reply result ≡ Refused (refusal_of f)
 done_refused (Ok x) f is = absurd is

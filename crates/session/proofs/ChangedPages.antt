@@ -132,12 +132,6 @@ module _ {D : Type 0} {g : Ghosts D} where
       served = served_now same is;
     }
 
-    refused_over : (s : Statement) (catalog : SavedCatalogs) (db : Database) (f : Fault) → (on : CanChange (listing old catalog) w db)
-        → pages.IsChangeRefusal s (map_over (under_reader old (snapshot_of w) a b) w) (page_size_of w) db f → pages.IsChangeRefusal s (pages_in (view_of old w)) (view_of old w).page_size db f
-    refused_over s catalog db f on why =
-        subst (λ (map : PageMap). pages.IsChangeRefusal s map (view_of old w).page_size db f) (map_told old w a b on.told)
-        (subst (λ (p : ℕ). pages.IsChangeRefusal s (map_over (under_reader old (snapshot_of w) a b) w) p db f) on.writer.page_size why)
-
     -- what a change of the pages comes to
     pub changed : (s : Statement) (catalog next : SavedCatalogs) (db : Database) (r : Result ⊤ Fault) → CanChange (listing old catalog) w db
         → committed_in next ≡ committed_in catalog → savepoints_in next ≡ savepoints_in catalog
@@ -159,7 +153,7 @@ module _ {D : Type 0} {g : Ghosts D} where
           };
         }
     changed s catalog next db (Err f) on keeps points makes refused =
-        record { kept = record { files = shows_same on.told; tables = keeps; savepoints = points }; tables = refused; why = refused_over s catalog db f on (makes db (stored_over old catalog w db a b on)) }
+        record { kept = record { files = shows_same on.told; tables = keeps; savepoints = points }; tables = refused; why = makes db (stored_over old catalog w db a b on) }
 
     -- the same where the change answers a catalog
     pub changed_to : (s : Statement) (catalog : SavedCatalogs) (db : Database) (tables : List Table) (r : Result Catalog Fault) → CanChange (listing old catalog) w db → tables ≡ current_in catalog

@@ -24,7 +24,7 @@ use Rattle.session.specs.Holding.{IsSettled}
 use Rattle.session.specs.ConnectionState.{files_of}
 use Rattle.session.specs.Machine.{Machine, Connection, Idle, InTransactionOf, Reply, Rows, Refused, Writes, another, connection, is_writing, last_place, newest, with_connection}
 use Rattle.session.specs.Outcomes.{Commits, Gives, RefusedBy, outcome}
-use Rattle.session.specs.Representation.{AreParked, Beside, CannotStoreHere, CommitsBy, IsGivenUp, IsWritingIn, RepresentsRunning, IsTransaction, ShowTheSame, StepsOn, StepsTo, beside_in, committed_at, done_reply, is_idle, is_reading, newest_tables}
+use Rattle.session.specs.Representation.{AreParked, Beside, CommitsBy, IsGivenUp, IsWritingIn, RepresentsRunning, IsTransaction, ShowTheSame, StepsOn, StepsTo, beside_in, committed_at, done_reply, is_idle, is_reading, newest_tables}
 use Rattle.session.specs.declared.seats.Seat.{Seat}
 use Rattle.session.specs.Writers.{IsWriter}
 use Rattle.session.specs.Steps.{Allowed, after_commit, is_connection, is_free}
@@ -60,7 +60,7 @@ module _ {D : Type 0} {g : Ghosts D} where
       let is = commits.1 m shown ∙ commit_outcome_of m old.connection Idle (shown.is ∙ k) in
       record {
         next = m;
-        step = by_outcome (CannotStoreHere old s) m old.connection s commits.0 shown.running shown.numbered (RefusedBy (refusal.NoTransaction ∷ [])) (Refused refusal.NoTransaction) m is (refusal.NoTransaction, (0, omega arith, refl), refl, refl);
+        step = by_outcome m old.connection s commits.0 shown.running shown.numbered (RefusedBy (refusal.NoTransaction ∷ [])) (Refused refusal.NoTransaction) m is (refusal.NoTransaction, (0, omega arith, refl), refl, refl);
         shown = inr (still_shown old new m shown (subst (ShowTheSame (files_of old)) (sym same.files) (the_same (files_of old) shown.told)) same.beside same.catalog same.now);
         crash = crash_keeps old new m m shown (subst (ShowTheSame (files_of old)) (sym same.files) (the_same (files_of old) shown.told));
       }
@@ -69,7 +69,7 @@ module _ {D : Type 0} {g : Ghosts D} where
   pub ended_reading : (old new : Connections D g) (s : Statement) → CommitsBy old s → is_reading old.transaction ≡ true → IsGivenUp old new → StepsOn old s (Rows []) new
   ended_reading old new s commits reads ends m shown = record {
     next = with_connection m old.connection Idle;
-    step = by_outcome (CannotStoreHere old s) m old.connection s commits.0 shown.running shown.numbered (Gives [] (with_connection m old.connection Idle)) (Rows []) (with_connection m old.connection Idle) is (refl, refl);
+    step = by_outcome m old.connection s commits.0 shown.running shown.numbered (Gives [] (with_connection m old.connection Idle)) (Rows []) (with_connection m old.connection Idle) is (refl, refl);
     shown = inr (moved old new m Idle shown (subst (ShowTheSame (files_of old)) (sym ends.files) (the_same (files_of old) shown.told)) ends.beside (inl refl)
         (subst (λ (t : Transaction). IsTransaction (files_of new) new.catalog m.history t Idle) (sym ends.idle) (refl, ends.all, ends.savepoints)));
     crash = crash_keeps old new m (with_connection m old.connection Idle) shown (subst (ShowTheSame (files_of old)) (sym ends.files) (the_same (files_of old) shown.told));
@@ -174,8 +174,8 @@ module _ {D : Type 0} {g : Ghosts D} where
     commits_it : outcome m old.connection s ≡ Commits false in_writing.on.db
     commits_it = commits.1 m in_writing.shown ∙ commit_outcome_of m old.connection (in_transaction old.catalog in_writing.on.points (Writes (last_place m) in_writing.on.db)) (in_writing.shown.is ∙ in_writing.on.is)
 
-    step_to : (reply : Reply) (next : Machine) → Allowed m old.connection (Commits false in_writing.on.db) reply next → StepSoFar (CannotStoreHere old s) m old.connection s reply next
-    step_to reply next allowed = by_outcome (CannotStoreHere old s) m old.connection s commits.0 in_writing.shown.running in_writing.shown.numbered (Commits false in_writing.on.db) reply next commits_it allowed
+    step_to : (reply : Reply) (next : Machine) → Allowed m old.connection (Commits false in_writing.on.db) reply next → StepSoFar m old.connection s reply next
+    step_to reply next allowed = by_outcome m old.connection s commits.0 in_writing.shown.running in_writing.shown.numbered (Commits false in_writing.on.db) reply next commits_it allowed
 
     -- no other connection writes
     alone_writes : another is_writing m old.connection ≡ false
@@ -230,7 +230,7 @@ module _ {D : Type 0} {g : Ghosts D} where
     instead_step : (left : Writer) (r : Refusal) → is_free r ≡ true → ShowTheSame (files_of old) (files_of new) → RepresentsRunning (writing_on new left) m → StepsTo old m s (Refused r) (writing_on new left)
     instead_step left r free same shown = record {
       next = m;
-      step = instead (CannotStoreHere old s) m old.connection s commits.0 in_writing.shown.running in_writing.shown.numbered (Commits false in_writing.on.db) (Refused r) commits_it (inl free, refl);
+      step = instead m old.connection s commits.0 in_writing.shown.running in_writing.shown.numbered (Commits false in_writing.on.db) (Refused r) commits_it (inl free, refl);
       shown = inr shown;
       crash = crash_keeps old new m m in_writing.shown same;
     }

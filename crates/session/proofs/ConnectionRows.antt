@@ -133,19 +133,14 @@ unfolding outcome
 inserted = inr (inr (refl, refl, inl (inr (no_faults_behind one (insert t (number 1 ∷ [])) refl refl, (refl, inl refl)))))
 
 -- so it is while not all is built; a form that isn't is refused
-pub inserted_so_far : StepSoFar (λ db r. ⊥) (fresh one) 1 (add 1) (Rows []) (after_commit (fresh one) 1 (with_object one t (table (col a ∷ []) ((pos 1, i 1) ∷ []))))
+pub inserted_so_far : StepSoFar (fresh one) 1 (add 1) (Rows []) (after_commit (fresh one) 1 (with_object one t (table (col a ∷ []) ((pos 1, i 1) ∷ []))))
 inserted_so_far = inl (refl, inl inserted)
-
--- where what it makes can't be stored, the statement is refused and nothing changes
-pub not_stored_so_far : StepSoFar (λ db r. ⊤) (fresh one) 1 (add 1) (Refused Unsupported) (fresh one)
-unfolding outcome
-not_stored_so_far = inl (refl, inr (Unsupported, refl, refl, refl, tt))
 
 -- CREATE INDEX x ON t(a)
 abbrev indexing : Statement
 indexing = statement.Create (record { sql = []; object = new.Index (record { is_unique = false; name = x; table = t; columns = record { name = a; collation = None } ∷ [] }) })
 
-pub unsupported_form : StepSoFar (λ db r. ⊥) (fresh one) 1 indexing (Refused Unsupported) (fresh one)
+pub unsupported_form : StepSoFar (fresh one) 1 indexing (Refused Unsupported) (fresh one)
 unsupported_form = inr (refl, refl, inr (inr (refl, refl, inl refl)))
 
 -- g AFTER DELETE ON t WHEN OLD.a = 99: DELETE FROM nosuch. DELETE FROM t, where t has no row

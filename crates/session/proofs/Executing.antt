@@ -20,7 +20,7 @@ use Rattle.session.specs.Machine.{Machine, Reply, Refused}
 use Rattle.session.specs.Steps.{is_connection}
 use Rattle.pager.specs.Views.{Tells}
 use Rattle.session.specs.Failing.{HasCallFailed, IsPastIn, IsRefusedFor, IsRefusedHere, MarksFailure, may_want_memory}
-use Rattle.session.specs.Representation.{CannotStoreIn, Represents, ShowTheSame, Steps, StepsOn, StepsOver, Switches, done_reply, rows_reply}
+use Rattle.session.specs.Representation.{Represents, ShowTheSame, Steps, StepsOn, StepsOver, Switches, done_reply, rows_reply}
 use Rattle.session.specs.declared.transactions.Connections.{Connections}
 use Rattle.session.proofs.Selecting.{Rowed}
 use Rattle.session.proofs.Settled.{as_shown}
@@ -39,11 +39,11 @@ pub either : {P : Type 0} (b : Bool) → (b ≡ true → P) → (b ≡ false →
 either true go other = go refl
 either false go other = other refl
 
-module _ (R : Database → Refusal → Type 0) (m : Machine) (n : ℕ) (s : Statement) where
-  failed_step : m.failed ≡ true → StepSoFar R m n s (Refused refusal.Failed) m
+module _ (m : Machine) (n : ℕ) (s : Statement) where
+  failed_step : m.failed ≡ true → StepSoFar m n s (Refused refusal.Failed) m
   failed_step failed = either (is_supported s) (λ is. inl (is, inl (inl (failed, refl, refl)))) (λ is. inr (is, refl, inl (failed, refl)))
 
-  numbered_step : m.failed ≡ false → is_connection n ≡ false → StepSoFar R m n s (Refused refusal.Misuse) m
+  numbered_step : m.failed ≡ false → is_connection n ≡ false → StepSoFar m n s (Refused refusal.Misuse) m
   numbered_step running none = either (is_supported s) (λ is. inl (is, inl (inr (inl (running, none, refl, refl))))) (λ is. inr (is, refl, inr (inl (running, none, refl))))
 
 pub no_connection : (n : ℕ) → (n == 0 || nat_lt 16 n) ≡ true → is_connection n ≡ false
@@ -95,25 +95,25 @@ module _ {D : Type 0} {g : Ghosts D} where
       whole : first_refusal false n ≡ done
       whole = ap (λ b. first_refusal b n) (sym shown.whole) ∙ is
 
-  stays_with : (c : Connections D g) (m : Machine) (n : ℕ) (s : Statement) (reply : Reply) → Represents c m → StepSoFar (CannotStoreIn c n s) m n s reply m → StepsOver (CannotStoreIn c n s) c m n s reply c
+  stays_with : (c : Connections D g) (m : Machine) (n : ℕ) (s : Statement) (reply : Reply) → Represents c m → StepSoFar m n s reply m → StepsOver c m n s reply c
   stays_with c m n s reply shows step = record { next = m; step = step; shown = shows; crash = as_shown c m shows }
 
   -- refused before the statement is looked at
   pub refused_first : (c : Connections D g) (n : ℕ) (s : Statement) (f : Fault) → first_refusal (has_failed_in c) n ≡ Err f → Steps c n s (Refused (refusal_of f)) c
   refused_first c n s f is m (inl failed) =
       let why : first_refusal true n ≡ Err f = ap (λ b. first_refusal b n) (sym failed.0) ∙ is in
-      subst (λ (e : Fault). StepsOver (CannotStoreIn c n s) c m n s (Refused (refusal_of e)) c) (one_fault fault.Failed f why)
-      (stays_with c m n s (Refused refusal.Failed) (inl failed) (failed_step (CannotStoreIn c n s) m n s failed.1))
+      subst (λ (e : Fault). StepsOver c m n s (Refused (refusal_of e)) c) (one_fault fault.Failed f why)
+      (stays_with c m n s (Refused refusal.Failed) (inl failed) (failed_step m n s failed.1))
   refused_first c n s f is m (inr shown) = either (n == 0 || nat_lt 16 n) none some
     where
       whole : first_refusal false n ≡ Err f
       whole = ap (λ b. first_refusal b n) (sym shown.whole) ∙ is
 
-      none : (n == 0 || nat_lt 16 n) ≡ true → StepsOver (CannotStoreIn c n s) c m n s (Refused (refusal_of f)) c
-      none bad = subst (λ (e : Fault). StepsOver (CannotStoreIn c n s) c m n s (Refused (refusal_of e)) c) (one_fault (fault.Misuse misuse.Connection) f (sym (first_by n bad) ∙ whole))
-          (stays_with c m n s (Refused refusal.Misuse) (inr shown) (numbered_step (CannotStoreIn c n s) m n s shown.running (no_connection n bad)))
+      none : (n == 0 || nat_lt 16 n) ≡ true → StepsOver c m n s (Refused (refusal_of f)) c
+      none bad = subst (λ (e : Fault). StepsOver c m n s (Refused (refusal_of e)) c) (one_fault (fault.Misuse misuse.Connection) f (sym (first_by n bad) ∙ whole))
+          (stays_with c m n s (Refused refusal.Misuse) (inr shown) (numbered_step m n s shown.running (no_connection n bad)))
 
-      some : (n == 0 || nat_lt 16 n) ≡ false → StepsOver (CannotStoreIn c n s) c m n s (Refused (refusal_of f)) c
+      some : (n == 0 || nat_lt 16 n) ≡ false → StepsOver c m n s (Refused (refusal_of f)) c
       some good = absurd (not_both f (sym (passes_by n good) ∙ whole))
 
   -- a form that isn't supported

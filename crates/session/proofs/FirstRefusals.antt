@@ -16,7 +16,7 @@ use Rattle.session.specs.Changing.{written}
 use Rattle.session.specs.ConnectionState.{files_of}
 use Rattle.session.specs.Machine.{Connection, Idle, Machine, NoSnapshot, Reads, Refused, another, is_writing, last_place, newest}
 use Rattle.session.specs.Outcomes.{RefusedBy, outcome, worked, worked_alone}
-use Rattle.session.specs.Representation.{Beside, CannotStoreHere, IsTransaction, MayWrite, RepresentsRunning, StepsOn, StepsTo, TakesNewest, first_write_refusal, is_idle, is_reading}
+use Rattle.session.specs.Representation.{Beside, IsTransaction, MayWrite, RepresentsRunning, StepsOn, StepsTo, TakesNewest, first_write_refusal, is_idle, is_reading}
 use Rattle.session.specs.Saving.{in_transaction, states_of}
 use Rattle.session.specs.SavedTables.{savepoints_in}
 use Rattle.session.specs.Seats.{holds_writer}
@@ -82,7 +82,7 @@ module _ {D : Type 0} {g : Ghosts D} where
       subst (λ (c : Connections D g). StepsTo old m s (Refused (refusal_of f)) c) (sym same)
       (subst (λ (e : Fault). StepsTo old m s (Refused (refusal_of e)) old) (sym memory) (record {
         next = m;
-        step = instead (CannotStoreHere old s) m old.connection s supported shown.running shown.numbered (outcome m old.connection s) (Refused refusal.Memory) refl (inl refl, refl);
+        step = instead m old.connection s supported shown.running shown.numbered (outcome m old.connection s) (Refused refusal.Memory) refl (inl refl, refl);
         shown = inr shown;
         crash = as_shown old m (inr shown);
       }))
@@ -92,7 +92,7 @@ module _ {D : Type 0} {g : Ghosts D} where
   refused_so : (c : Connections D g) (m : Machine) (shown : RepresentsRunning c m) (s : Statement) (r : Refusal) → is_supported s ≡ true → outcome m c.connection s ≡ RefusedBy (r ∷ []) → StepsTo c m s (Refused r) c
   refused_so c m shown s r supported comes = record {
     next = m;
-    step = by_outcome (CannotStoreHere c s) m c.connection s supported shown.running shown.numbered (RefusedBy (r ∷ [])) (Refused r) m comes (r, (0, omega arith, refl), refl, refl);
+    step = by_outcome m c.connection s supported shown.running shown.numbered (RefusedBy (r ∷ [])) (Refused r) m comes (r, (0, omega arith, refl), refl, refl);
     shown = inr shown;
     crash = as_shown c m (inr shown);
   }

@@ -35,3 +35,4 @@ pub mod StoredFiles
 pub mod Parking
 pub mod Switching
 pub mod FirstRefusals
+mod Turning

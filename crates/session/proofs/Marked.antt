@@ -18,7 +18,6 @@ use Rattle.pager.specs.declared.writer.Writer.{Writer}
 use Rattle.pager.proofs.Backing.{back_sound}
 use Rattle.pager.specs.Maps.{pages_in}
 use Rattle.session.specs.Applying.{IsApplied, IsNotApplied, Applies, CanApply}
-use Rattle.storage.specs.Changing.{IsChangeRefusal}
 use Rattle.session.specs.ConnectionState.{files_of}
 use Rattle.session.specs.Writers.{IsNewest, IsWriter}
 use Rattle.session.specs.Stored.{ShowsDatabase}
@@ -69,16 +68,8 @@ module _ {D : Type 0} {g : Ghosts D} where
   pub released : (s : Statement) (old new : Connections D g) (db : Database) (left end : Writer) → now_of end ≡ now_of left → IsOverTheSame left end → IsApplied s old db new left → IsApplied s old db new end
   released s old new db left end now over has = record { kept = has.kept; made = has.made; reaches = has.reaches; applies = moved_on new left end has.made now over has.applies }
 
-  -- a statement that was refused under a mark
-  pub under_mark : (s : Statement) (old new : Connections D g) (db : Database) (w v : Writer) (f : Fault) → now_of v ≡ now_of w → IsOverTheSame w v → IsNotApplied s old v db new f → IsNotApplied s old w db new f
-  under_mark s old new db w v f marked stands has = record {
-    kept = has.kept;
-    tables = has.tables;
-    why = subst (λ (x : View). IsChangeRefusal s (pages_in x) x.page_size db f) (moved_view (files_of old) w v marked stands) has.why;
-  }
-
   -- what the connections and a writer have that went back to what it had
-  pub went_back : (s : Statement) (old new : Connections D g) (db : Database) (w end : Writer) (f : Fault) → now_of end ≡ now_of w → IsOverTheSame w end → CanApply old w db → IsNotApplied s old w db new f → CanApply new end db
+  pub went_back : (s : Statement) (old new : Connections D g) (db : Database) (w end : Writer) (f : Fault) → now_of end ≡ now_of w → IsOverTheSame w end → CanApply old w db → IsNotApplied s old db new f → CanApply new end db
   went_back s old new db w end f now over on has =
       moved_on new w end db now over (record {
         told = has.kept.files.told;

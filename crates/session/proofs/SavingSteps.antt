@@ -22,7 +22,7 @@ use Rattle.storage.specs.Forms.{is_supported}
 use Rattle.session.specs.ConnectionState.{files_of}
 use Rattle.session.specs.Machine.{Machine, Connection, Idle, InTransactionOf, NoSnapshot, Phase, Reads, SavepointState, Writes, Rows, Refused, is_writing, last_place, newest, with_connection}
 use Rattle.session.specs.Outcomes.{Outcome, Gives, RefusedBy, back_to, commit_outcome, from_name, outcome, released, restored, saved}
-use Rattle.session.specs.Representation.{CannotStoreHere, CommitsBy, IsReadingIn, IsTransaction, IsWritingIn, RepresentsRunning, ShowTheSame, StepsOn, StepsTo, beside_in, done_reply, is_idle, is_reading}
+use Rattle.session.specs.Representation.{CommitsBy, IsReadingIn, IsTransaction, IsWritingIn, RepresentsRunning, ShowTheSame, StepsOn, StepsTo, beside_in, done_reply, is_idle, is_reading}
 use Rattle.session.specs.SavedTables.{AddsSavepoint, GoesBackTo, HasNoSavepoints, HasRoom, IsNewestNamed, KeepsTables, ReleasesFrom, SavedTables, Savepoints, committed_in, current_in, names_in, savepoints_in}
 use Rattle.session.specs.Saving.{AddsMark, AreSaved, GoesBackToMark, IsOfName, KeepsWriter, OnWriter, ReleasesMarks, SavedAs, in_transaction, states_of}
 use Rattle.session.specs.declared.savepoints.SavedCatalogs.{SavedCatalogs}
@@ -98,7 +98,7 @@ module _ {D : Type 0} {g : Ghosts D} where
       → KeepsFiles old new → IsTransaction (files_of old) new.catalog m.history new.transaction k → StepsTo old m s (Rows []) new
   done_step old new m shown s supported k lone comes kept is = record {
     next = with_connection m old.connection k;
-    step = by_outcome (CannotStoreHere old s) m old.connection s supported shown.running shown.numbered (Gives [] (with_connection m old.connection k)) (Rows []) (with_connection m old.connection k) comes (refl, refl);
+    step = by_outcome m old.connection s supported shown.running shown.numbered (Gives [] (with_connection m old.connection k)) (Rows []) (with_connection m old.connection k) comes (refl, refl);
     shown = inr (moved old new m k shown (same_files old new kept shown.told) kept.beside lone (subst (λ (l : Log D g). IsTransaction l new.catalog m.history new.transaction k) (sym kept.files) is));
     crash = crash_keeps old new m (with_connection m old.connection k) shown (same_files old new kept shown.told);
   }
@@ -107,7 +107,7 @@ module _ {D : Type 0} {g : Ghosts D} where
   refused_step : (c : Connections D g) (m : Machine) (shown : RepresentsRunning c m) (s : Statement) → is_supported s ≡ true → (r : Refusal) → outcome m c.connection s ≡ RefusedBy (r ∷ []) → StepsTo c m s (Refused r) c
   refused_step c m shown s supported r comes = record {
     next = m;
-    step = by_outcome (CannotStoreHere c s) m c.connection s supported shown.running shown.numbered (RefusedBy (r ∷ [])) (Refused r) m comes (r, (0, omega arith, refl), refl, refl);
+    step = by_outcome m c.connection s supported shown.running shown.numbered (RefusedBy (r ∷ [])) (Refused r) m comes (r, (0, omega arith, refl), refl, refl);
     shown = inr shown;
     crash = as_shown c m (inr shown);
   }
@@ -147,7 +147,7 @@ module _ {D : Type 0} {g : Ghosts D} where
   pub out_of_memory : (old new : Connections D g) (s : Statement) → is_supported s ≡ true → (m : Machine) → RepresentsRunning old m → KeepsFiles old new → RepresentsRunning new m → StepsTo old m s (Refused refusal.Memory) new
   out_of_memory old new s supported m shown kept still = record {
     next = m;
-    step = instead (CannotStoreHere old s) m old.connection s supported shown.running shown.numbered (outcome m old.connection s) (Refused refusal.Memory) refl (inl refl, refl);
+    step = instead m old.connection s supported shown.running shown.numbered (outcome m old.connection s) (Refused refusal.Memory) refl (inl refl, refl);
     shown = inr still;
     crash = crash_keeps old new m m shown (same_files old new kept shown.told);
   }

@@ -29,7 +29,7 @@ use Rattle.session.specs.Steps.{Allowed, Instead}
 use Rattle.session.specs.Crashes.{MayShow}
 use Rattle.session.specs.Stored.{ShowsDatabase}
 use Rattle.session.specs.Saving.{in_transaction}
-use Rattle.session.specs.Representation.{CannotStoreHere, IsReadingIn, IsSnapshotOf, RepresentsRunning, IsTransaction, OnlyReads, SeesNewest, ShowTheSame, StartsReading, StepsOn, StepsTo, has_no_snapshot, is_begun, newest_tables, rows_reply, seen_in}
+use Rattle.session.specs.Representation.{IsReadingIn, IsSnapshotOf, RepresentsRunning, IsTransaction, OnlyReads, SeesNewest, ShowTheSame, StartsReading, StepsOn, StepsTo, has_no_snapshot, is_begun, newest_tables, rows_reply, seen_in}
 use Rattle.session.proofs.SeenPages.{at_newest}
 use Rattle.session.specs.declared.transactions.Connections.{Connections}
 use Rattle.session.specs.declared.seats.Transaction.{Transaction}
@@ -149,15 +149,15 @@ module _ {D : Type 0} {g : Ghosts D} where
 
   -- ---- a call that answered
 
-  select_step : (c : Connections D g) (m : Machine) (shown : RepresentsRunning c m) (q : Query) (f : Fault) → (s : Sees c m) → Answered (read_on s.db q) (Err f) → StepSoFar (CannotStoreHere c (statement.Select q)) m c.connection (statement.Select q) (Refused (refusal_of f)) m
-  select_step c m shown q f s (inl (inl memory)) = subst (λ (e : Fault). StepSoFar (CannotStoreHere c (statement.Select q)) m c.connection (statement.Select q) (Refused (refusal_of e)) m) (sym memory)
-      (instead (CannotStoreHere c (statement.Select q)) m c.connection (statement.Select q) refl shown.running shown.numbered _ (Refused refusal.Memory) (s.is q) (given_memory m s.next (read_on s.db q)))
-  select_step c m shown q f s (inl (inr io)) = subst (λ (e : Fault). StepSoFar (CannotStoreHere c (statement.Select q)) m c.connection (statement.Select q) (Refused (refusal_of e)) m) (sym io)
-      (instead (CannotStoreHere c (statement.Select q)) m c.connection (statement.Select q) refl shown.running shown.numbered _ (Refused refusal.Io) (s.is q) (given_io m s.next (read_on s.db q)))
+  select_step : (c : Connections D g) (m : Machine) (shown : RepresentsRunning c m) (q : Query) (f : Fault) → (s : Sees c m) → Answered (read_on s.db q) (Err f) → StepSoFar m c.connection (statement.Select q) (Refused (refusal_of f)) m
+  select_step c m shown q f s (inl (inl memory)) = subst (λ (e : Fault). StepSoFar m c.connection (statement.Select q) (Refused (refusal_of e)) m) (sym memory)
+      (instead m c.connection (statement.Select q) refl shown.running shown.numbered _ (Refused refusal.Memory) (s.is q) (given_memory m s.next (read_on s.db q)))
+  select_step c m shown q f s (inl (inr io)) = subst (λ (e : Fault). StepSoFar m c.connection (statement.Select q) (Refused (refusal_of e)) m) (sym io)
+      (instead m c.connection (statement.Select q) refl shown.running shown.numbered _ (Refused refusal.Io) (s.is q) (given_io m s.next (read_on s.db q)))
   select_step c m shown q f s (inr (inl has)) =
-      by_outcome (CannotStoreHere c (statement.Select q)) m c.connection (statement.Select q) refl shown.running shown.numbered _ (Refused (refusal_of f)) m (s.is q) (given_fault m s.next c.connection (refusal_of f) (read_on s.db q) has)
+      by_outcome m c.connection (statement.Select q) refl shown.running shown.numbered _ (Refused (refusal_of f)) m (s.is q) (given_fault m s.next c.connection (refusal_of f) (read_on s.db q) has)
   select_step c m shown q f s (inr (inr refused)) =
-      by_outcome (CannotStoreHere c (statement.Select q)) m c.connection (statement.Select q) refl shown.running shown.numbered _ (Refused (refusal_of f)) m (s.is q) (given_refusal m s.next c.connection f (read_on s.db q) refused)
+      by_outcome m c.connection (statement.Select q) refl shown.running shown.numbered _ (Refused (refusal_of f)) m (s.is q) (given_refusal m s.next c.connection f (read_on s.db q) refused)
 
   -- a refused SELECT
   pub select_refused : (old new : Connections D g) (q : Query) (f : Fault) → SeesNewest old → OnlyReads old new
@@ -186,8 +186,8 @@ module _ {D : Type 0} {g : Ghosts D} where
       crash_of : (next : Machine) → HoldThroughout (MayShow m next) (files_of old) (files_of new)
       crash_of next = crash_keeps old new m next shown (subst (ShowTheSame (files_of old)) (sym starts.files) (reads.files shown.told))
 
-      step_of : (s : Sees old m) → StepSoFar (CannotStoreHere old (statement.Select q)) m old.connection (statement.Select q) (Rows rows) s.next
-      step_of s = by_outcome (CannotStoreHere old (statement.Select q)) m old.connection (statement.Select q) refl shown.running shown.numbered _ (Rows rows) s.next (s.is q) (given_rows m s.next old.connection rows (read_on s.db q) (answered m s.db shown s.stored))
+      step_of : (s : Sees old m) → StepSoFar m old.connection (statement.Select q) (Rows rows) s.next
+      step_of s = by_outcome m old.connection (statement.Select q) refl shown.running shown.numbered _ (Rows rows) s.next (s.is q) (given_rows m s.next old.connection rows (read_on s.db q) (answered m s.db shown s.stored))
 
       other_shown : (t : Transaction) → old.transaction ≡ t → is_begun t ≡ false → RepresentsRunning new m
       other_shown t is begun = still_shown mid new m mid_shown same_files starts.beside starts.catalog (starts.other (ap is_begun (reads.transaction ∙ is) ∙ begun))

@@ -16,11 +16,11 @@ use Rattle.session.specs.Steps.{Allowed, Instead, is_connection}
 
 -- ---- what a step may be
 
-module _ (R : Database → Refusal → Type 0) (m : Machine) (n : ℕ) (s : Statement) (supported_forms : is_supported s ≡ true) (running : m.failed ≡ false) (numbered : is_connection n ≡ true) where
-  pub by_outcome : (o : Outcome) (reply : Reply) (next : Machine) → outcome m n s ≡ o → Allowed m n o reply next → StepSoFar R m n s reply next
+module _ (m : Machine) (n : ℕ) (s : Statement) (supported_forms : is_supported s ≡ true) (running : m.failed ≡ false) (numbered : is_connection n ≡ true) where
+  pub by_outcome : (o : Outcome) (reply : Reply) (next : Machine) → outcome m n s ≡ o → Allowed m n o reply next → StepSoFar m n s reply next
   by_outcome o reply next is allowed = inl (supported_forms, inl (inr (inr (running, numbered, inl (subst (λ x. Allowed m n x reply next) (sym is) allowed)))))
 
-  pub instead : (o : Outcome) (reply : Reply) → outcome m n s ≡ o → Instead m o reply m → StepSoFar R m n s reply m
+  pub instead : (o : Outcome) (reply : Reply) → outcome m n s ≡ o → Instead m o reply m → StepSoFar m n s reply m
   instead o reply is free = inl (supported_forms, inl (inr (inr (running, numbered, inr (subst (λ x. Instead m x reply m) (sym is) free)))))
 
 -- ---- outcomes by what the connection is

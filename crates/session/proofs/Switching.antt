@@ -15,12 +15,12 @@ use Rattle.session.specs.ConnectionState.{files_of, has_failed_in}
 use Rattle.session.specs.Crashes.{MayShow}
 use Rattle.session.specs.Holding.{HoldThroughout, IsSettled}
 use Rattle.session.specs.Machine.{Connection, Idle, InTransactionOf, Machine, NoSnapshot, Reply, connection, newest}
-use Rattle.session.specs.Representation.{AreParked, Beside, CannotStoreHere, CannotStoreIn, IsReadingIn, IsTransaction, RepresentsRunning, SeesNewest, ShowTheSame, StepsOn, StepsOver, StepsTo, Switches, TakesNewest, TradesWith, beside_in, has_no_snapshot, newest_tables, seats_in, seen_in, transaction_of}
+use Rattle.session.specs.Representation.{AreParked, Beside, IsReadingIn, IsTransaction, RepresentsRunning, SeesNewest, ShowTheSame, StepsOn, StepsOver, StepsTo, Switches, TakesNewest, TradesWith, beside_in, has_no_snapshot, newest_tables, seats_in, seen_in, transaction_of}
 use Rattle.session.specs.SavedTables.{Rebases, SavedTables, Savepoints, committed_in, current_in, rebased, savepoints_in}
 use Rattle.session.specs.Saving.{AreSaved, IsUnwritten, SavedAs, states_of}
 use Rattle.session.specs.Seats.{Trades}
 use Rattle.session.specs.Steps.{is_connection}
-use Rattle.session.specs.Stored.{CannotStore, ShowsDatabase}
+use Rattle.session.specs.Stored.{ShowsDatabase}
 use Rattle.session.specs.Supported.{StepSoFar}
 use Rattle.session.specs.declared.savepoints.SavedCatalogs.{SavedCatalogs}
 use Rattle.session.specs.declared.seats.Seat.{Seat}
@@ -166,11 +166,10 @@ module _ {D : Type 0} {g : Ghosts D} where
 
   -- ---- steps of the connections from before
 
-  pub steps_over : (old mid new : Connections D g) (m : Machine) (n : ℕ) (s : Statement) (reply : Reply) → files_of mid ≡ files_of old → mid.connection ≡ n → mid.transaction ≡ transaction_of old n → StepsTo mid m s reply new → StepsOver (CannotStoreIn old n s) old m n s reply new
+  pub steps_over : (old mid new : Connections D g) (m : Machine) (n : ℕ) (s : Statement) (reply : Reply) → files_of mid ≡ files_of old → mid.connection ≡ n → mid.transaction ≡ transaction_of old n → StepsTo mid m s reply new → StepsOver old m n s reply new
   steps_over old mid new m n s reply files number own step = record {
     next = step.next;
-    step = subst (λ k. StepSoFar (CannotStoreIn old n s) m k s reply step.next) number
-        (subst (λ (v : View). StepSoFar (CannotStore v s) m mid.connection s reply step.next) (λ i. seen_in (own i) (files i)) step.step);
+    step = subst (λ k. StepSoFar m k s reply step.next) number step.step;
     shown = step.shown;
     crash = subst (λ (l : Log D g). HoldThroughout (MayShow m step.next) l (files_of new)) files step.crash;
   }
@@ -181,8 +180,7 @@ module _ {D : Type 0} {g : Ghosts D} where
       let step = steps m (shows m shown) in
       record {
         next = step.next;
-        step = subst (λ k. StepSoFar (CannotStoreHere old s) m k s reply step.next) number
-            (subst (λ (v : View). StepSoFar (CannotStore v s) m mid.connection s reply step.next) (λ i. seen_in (own i) (files i)) step.step);
+        step = subst (λ k. StepSoFar m k s reply step.next) number step.step;
         shown = step.shown;
         crash = subst (λ (l : Log D g). HoldThroughout (MayShow m step.next) l (files_of new)) files step.crash;
       }

@@ -23,15 +23,15 @@ use Rattle.wal.specs.LogState.{LogState}
 use Rattle.pager.specs.Views.{View, newest_view, view_at, view_of}
 use Rattle.pager.specs.Writers.{seen}
 use Rattle.pager.specs.declared.writer.Writer.{Writer}
-use Rattle.session.specs.Supported.{StepSoFar, database_of}
+use Rattle.session.specs.Supported.{CannotStore, StepSoFar, database_of}
 use Rattle.storage.specs.Forms.{is_supported}
 use Rattle.session.specs.ConnectionState.{files_of, has_failed_in}
 use Rattle.session.specs.Machine.{Machine, Connection, Idle, InTransactionOf, NoSnapshot, Reads, SavepointState, Writes, Reply, Rows, Refused, connection, is_writing, last_place, newest}
 use Rattle.session.specs.Outcomes.{Outcome, outcome}
 use Rattle.storage.specs.Works.{Work, Makes, IsRefused, Undoes, Binds, Reaches, change_made}
 use Rattle.session.specs.Steps.{Allowed, after_commit}
-use Rattle.session.specs.Stored.{CannotStore, ShowsDatabase}
-use Rattle.session.specs.Representation.{Beside, CannotStoreHere, IsSnapshotOf, IsWritingIn, MayWrite, RepresentsRunning, IsTransaction, OnlyReads, ShowTheSame, StepsOn, StepsTo, beside_in, done_reply, has_no_snapshot, is_idle, is_reading, seen_in, with_transaction}
+use Rattle.session.specs.Stored.{ShowsDatabase}
+use Rattle.session.specs.Representation.{Beside, IsSnapshotOf, IsWritingIn, MayWrite, RepresentsRunning, IsTransaction, OnlyReads, ShowTheSame, StepsOn, StepsTo, beside_in, done_reply, has_no_snapshot, is_idle, is_reading, seen_in, with_transaction}
 use Rattle.session.specs.Applying.{CommitsChanges, EndsAlone, IsApplied, IsCommitCause, IsDropped, IsNotApplied, KeepsCommitted, Applies, CanApply, listing_of}
 use Rattle.storage.specs.Changing.{IsChangeRefusal, IsTooMuch}
 use Rattle.session.specs.Changing.{ChangesPages, KeepsListed, written}
@@ -74,14 +74,11 @@ idle_now transaction.Begun is = absurd (false≢true is)
 idle_now (transaction.Reading r) is = absurd (false≢true is)
 idle_now (transaction.Writing v) is = absurd (false≢true is)
 
--- what can't be stored in the pages that a writer sees, can't in others that are the same
-cannot_store : (v u : View) (s : Statement) (db : Database) (f : Fault) → pages_in u ≡ pages_in v → u.page_size ≡ v.page_size → IsTooMuch s (pages_in u) u.page_size db f → CannotStore v s db (refusal_of f)
-cannot_store v u s db f same size is = (f, refl, subst (λ (map : PageMap). IsTooMuch s map v.page_size db f) same (subst (λ (n : ℕ). IsTooMuch s (pages_in u) n db f) size is))
-
-why_of : (s : Statement) (v u : View) (db : Database) (f : Fault) → pages_in u ≡ pages_in v → u.page_size ≡ v.page_size → IsChangeRefusal s (pages_in u) u.page_size db f → IsErrorCause (CannotStore v s db) (change_made s db) f
-why_of s v u db f same size (inl out) = inl out
-why_of s v u db f same size (inr (inl why)) = inr (inl why)
-why_of s v u db f same size (inr (inr is)) = inr (inr (cannot_store v u s db f same size is))
+-- why a change was refused, as a step says it
+why_of : (s : Statement) (db : Database) (f : Fault) → IsChangeRefusal s db f → IsErrorCause (CannotStore s db) (change_made s db) f
+why_of s db f (inl out) = inl out
+why_of s db f (inr (inl why)) = inr (inl why)
+why_of s db f (inr (inr is)) = inr (inr (f, refl, is))
 
 abbrev pub begun_in : (catalog : SavedCatalogs) → List SavepointState → Begun
 begun_in catalog states = record { by_savepoint = (savepoints_in catalog).began; points = states }
@@ -122,10 +119,10 @@ module _ {D : Type 0} {g : Ghosts D} where
   -- ---- refusals
 
   refused : (old new : Connections D g) (m : Machine) (w : Write) (finish : Work → Outcome) → RepresentsRunning old m → ShowTheSame (files_of old) (files_of new) → RepresentsRunning new m → is_supported (written w) ≡ true → (ends : IsFinish m old.connection finish) (db : Database)
-      → database_of m (connection m old.connection) ≡ db → outcome m old.connection (written w) ≡ finish (change_made (written w) db) → (f : Fault) → IsErrorCause (CannotStoreHere old (written w) db) (change_made (written w) db) f → StepsTo old m (written w) (Refused (refusal_of f)) new
+      → database_of m (connection m old.connection) ≡ db → outcome m old.connection (written w) ≡ finish (change_made (written w) db) → (f : Fault) → IsErrorCause (CannotStore (written w) db) (change_made (written w) db) f → StepsTo old m (written w) (Refused (refusal_of f)) new
   refused old new m w finish before same behind supported_forms ends db sees is f why = record {
     next = m;
-    step = refused_step (CannotStoreHere old (written w)) m old.connection (written w) supported_forms before.running before.numbered finish ends (change_made (written w) db) is db sees f why;
+    step = refused_step m old.connection (written w) supported_forms before.running before.numbered finish ends (change_made (written w) db) is db sees f why;
     shown = inr behind;
     crash = crash_keeps old new m m before same;
   }
@@ -138,7 +135,6 @@ module _ {D : Type 0} {g : Ghosts D} where
     pub comes : outcome m old.connection (written x) ≡ finish (change_made (written x) (newest m))
     pub all : IsUnchanged old.catalog
     pub base : ShowsDatabase (newest_view (files_of old)) (committed_in old.catalog) (newest m)
-    pub sees : seen_in old.transaction (files_of old) ≡ newest_view (files_of old)
     pub database : database_of m (connection m old.connection) ≡ newest m
 
   pub opens_alone : (old : Connections D g) (m : Machine) (shown : RepresentsRunning old m) (x : Write) (t : Transaction) → MayWrite old → old.transaction ≡ t → is_idle t ≡ true → IsTransaction (files_of old) old.catalog m.history t shown.present → Opening old m x (alone m)
@@ -147,7 +143,6 @@ module _ {D : Type 0} {g : Ghosts D} where
     comes = write_outcome_of x m old.connection Idle (shown.is ∙ first.0) ∙ writes_alone m old.connection (free_of old m shown may.free) (change_made (written x));
     all = first.1;
     base = newest_listed old m shown (may.newest (ap has_no_snapshot is));
-    sees = ap (λ (t : Transaction). seen_in t (files_of old)) is;
     database = ap (database_of m) (shown.is ∙ first.0);
   }
   opens_alone old m shown x transaction.Begun may is idle first = absurd (false≢true idle)
@@ -164,7 +159,6 @@ module _ {D : Type 0} {g : Ghosts D} where
         comes = write_outcome_of x m old.connection k (shown.is ∙ r.first.is) ∙ writes_reading m old.connection (free_of old m shown may.free) b r.phase r.is (change_made (written x));
         all = r.first.all;
         base = r.base;
-        sees = r.seen;
         database = ap (database_of m) (shown.is ∙ r.first.is) ∙ r.sees b.by_savepoint b.points;
       }
 
@@ -182,7 +176,7 @@ module _ {D : Type 0} {g : Ghosts D} where
       let opened = (opens m shown).1 in
       refused old new m x finish shown (reads.files shown.told) (still_shown old new m shown (reads.files shown.told) reads.beside reads.catalog reads.transaction) supported_forms opened.ends (newest m) opened.database opened.comes f (short (why m shown))
     where
-      short : (f ≡ fault.Memory) ⊎ (f ≡ fault.Io) → IsErrorCause (CannotStoreHere old (written x) (newest m)) (change_made (written x) (newest m)) f
+      short : (f ≡ fault.Memory) ⊎ (f ≡ fault.Io) → IsErrorCause (CannotStore (written x) (newest m)) (change_made (written x) (newest m)) f
       short out = inl (inl out)
 
   abbrev pub Started : Connections D g → Connections D g → Writer → Snapshot → Type 0
@@ -201,23 +195,13 @@ module _ {D : Type 0} {g : Ghosts D} where
   listed_on c m all base = subst (λ (ts : List Table). ShowsDatabase (newest_view (files_of c)) ts (newest m)) (sym all) base
 
   -- a writer that has begun sees the pages of the newest commit
-  begun_pages : (old mid : Connections D g) (w : Writer) (s : Snapshot) → Started old mid w s → pages_in (view_of (files_of mid) w) ≡ pages_in (newest_view (files_of old))
-  begun_pages old mid w s start =
-      ap (λ (v : View). pages_in (seen v w)) (ap (view_at (files_of mid)) start.stands ∙ start.files.at s)
-      ∙ maps_alike (seen (view_at (files_of old) s) w) (view_at (files_of old) s) start.begun.size start.begun.sees
-      ∙ ap pages_in (at_newest (files_of old) s start.newest)
-
-  begun_size : (old mid : Connections D g) (w : Writer) (s : Snapshot) → Started old mid w s → (view_of (files_of mid) w).page_size ≡ (newest_view (files_of old)).page_size
-  begun_size old mid w s start = ap (λ (k : LogState). k.page_size) start.files.known
-
   -- where the write after it is refused
   pub begun_refused : (old mid after : Connections D g) (w : Writer) (s : Snapshot) (x : Write) (f : Fault) → is_supported (written x) ≡ true → mid.transaction ≡ old.transaction
-      → ((m : Machine) → RepresentsRunning old m → Started old mid w s) → ((db : Database) → CanApply mid w db → IsNotApplied (written x) mid w db after f)
+      → ((m : Machine) → RepresentsRunning old m → Started old mid w s) → ((db : Database) → CanApply mid w db → IsNotApplied (written x) mid db after f)
       → ((m : Machine) → RepresentsRunning old m → (finish : Work → Outcome) × Opening old m x finish) → StepsOn old (written x) (Refused (refusal_of f)) after
   begun_refused old mid after w s x f supported_forms beside starts applies opens m shown =
       refused old after m x (opens m shown).0 shown same still supported_forms opened.ends (newest m) opened.database opened.comes f
-      (why_of (written x) (seen_in old.transaction (files_of old)) (view_of (files_of mid) w) (newest m) f
-      (begun_pages old mid w s start ∙ ap pages_in (sym opened.sees)) (begun_size old mid w s start ∙ ap (λ (v : View). v.page_size) (sym opened.sees)) has.why)
+      (why_of (written x) (newest m) f has.why)
     where
       opened : Opening old m x (opens m shown).0
       opened = (opens m shown).1
@@ -225,7 +209,7 @@ module _ {D : Type 0} {g : Ghosts D} where
       start : Started old mid w s
       start = starts m shown
 
-      has : IsNotApplied (written x) mid w (newest m) after f
+      has : IsNotApplied (written x) mid (newest m) after f
       has = applies (newest m) (begun_works old mid m shown w s start (listed_on old m opened.all opened.base))
 
       same : ShowTheSame (files_of old) (files_of after)
@@ -256,7 +240,7 @@ module _ {D : Type 0} {g : Ghosts D} where
       → StepsOn old (written x) (Rows []) (with_transaction after (transaction.Writing left))
   begun_writes old mid after w marked left s x supported_forms reads may starts sets applies marks stands m shown = record {
     next = working_on b m old.connection has.made;
-    step = by_outcome (CannotStoreHere old (written x)) m old.connection (written x) supported_forms shown.running shown.numbered (working b m old.connection (change_made (written x) (newest m))) (Rows []) (working_on b m old.connection has.made) opened.comes (worked_gives b m old.connection has.made (change_made (written x) (newest m)) has.reaches);
+    step = by_outcome m old.connection (written x) supported_forms shown.running shown.numbered (working b m old.connection (change_made (written x) (newest m))) (Rows []) (working_on b m old.connection has.made) opened.comes (worked_gives b m old.connection has.made (change_made (written x) (newest m)) has.reaches);
     shown = inr (moved old (with_transaction after (transaction.Writing left)) m (InTransactionOf b.by_savepoint b.points (Writes (last_place m) has.made)) shown
         same (has.kept.beside ∙ start.beside) (inr (free_of old m shown may.free))
         (record {
@@ -373,21 +357,21 @@ module _ {D : Type 0} {g : Ghosts D} where
           (other_catalog (files_of new) old.catalog new.catalog m old.transaction shown.present committed whole (gone.savepoints ∙ sym none_before)
           (still_transaction (files_of old) (files_of new) old.catalog m.history old.transaction shown.present same shown.transaction)))
 
-      short : (f : Fault) → IsCommitCause (files_of after) left f → IsErrorCause (CannotStoreHere old (written x) (newest m)) (change_made (written x) (newest m)) f
+      short : (f : Fault) → IsCommitCause (files_of after) left f → IsErrorCause (CannotStore (written x) (newest m)) (change_made (written x) (newest m)) f
       short f (inl memory) = inl (inl (inl memory))
       short f (inr full) = inl (inr full.0)
 
       by_result : (r : Result ⊤ Fault) → EndsAlone after left has.made r new → StepsTo old m (written x) (done_reply r) new
       by_result (Ok done) ended = record {
         next = after_commit m old.connection has.made;
-        step = by_outcome (CannotStoreHere old (written x)) m old.connection (written x) supported_forms shown.running shown.numbered (alone m (change_made (written x) (newest m))) (Rows []) (after_commit m old.connection has.made) opened.comes (alone_commits m old.connection has.made (change_made (written x) (newest m)) has.reaches);
+        step = by_outcome m old.connection (written x) supported_forms shown.running shown.numbered (alone m (change_made (written x) (newest m))) (Rows []) (after_commit m old.connection has.made) opened.comes (alone_commits m old.connection has.made (change_made (written x) (newest m)) has.reaches);
         shown = inr (committed_shown old after new m shown has.made worked left_beside ended.0 (ended.0.transaction ∙ is_alone) (free_of old m shown may.free));
         crash = commit_crashes old after new m has.made shown worked newest_stored ended.1;
       }
       by_result (Err f) (inl io) = record {
         next = doubted m has.made;
-        step = subst (λ (e : Fault). StepSoFar (CannotStoreHere old (written x)) m old.connection (written x) (Refused (refusal_of e)) (doubted m has.made)) (sym io.io)
-            (by_outcome (CannotStoreHere old (written x)) m old.connection (written x) supported_forms shown.running shown.numbered (alone m (change_made (written x) (newest m))) (Refused refusal.Io) (doubted m has.made) opened.comes (alone_doubts m old.connection has.made (change_made (written x) (newest m)) has.reaches));
+        step = subst (λ (e : Fault). StepSoFar m old.connection (written x) (Refused (refusal_of e)) (doubted m has.made)) (sym io.io)
+            (by_outcome m old.connection (written x) supported_forms shown.running shown.numbered (alone m (change_made (written x) (newest m))) (Refused refusal.Io) (doubted m has.made) opened.comes (alone_doubts m old.connection has.made (change_made (written x) (newest m)) has.reaches));
         shown = inl (io.failed, refl, doubt_left old after new m has.made shown worked newest_stored io.held f io);
         crash = doubt_crashes old after new m has.made shown worked newest_stored io.held;
       }
@@ -435,7 +419,7 @@ module _ {D : Type 0} {g : Ghosts D} where
       by_result : (r : Result ⊤ Fault) → Applies (written w) mid writer t.db r after left → IfErr r (λ f. now_of left ≡ now_of writer) → StepsTo old m (written w) (done_reply r) (with_transaction after (transaction.Writing left))
       by_result (Ok done) has now = record {
         next = working_on b m old.connection has.made;
-        step = by_outcome (CannotStoreHere old (written w)) m old.connection (written w) supported_forms shown.running shown.numbered (working b m old.connection (change_made (written w) t.db)) (Rows []) (working_on b m old.connection has.made) comes (worked_gives b m old.connection has.made (change_made (written w) t.db) has.reaches);
+        step = by_outcome m old.connection (written w) supported_forms shown.running shown.numbered (working b m old.connection (change_made (written w) t.db)) (Rows []) (working_on b m old.connection has.made) comes (worked_gives b m old.connection has.made (change_made (written w) t.db) has.reaches);
         shown = inr (moved old (with_transaction after (transaction.Writing left)) m (in_transaction mid.catalog t.points (Writes (last_place m) has.made)) shown has.kept.files has.kept.beside
             (inr (lone_still old m shown (ap is_writing t.is))) (goes_on (in_transaction mid.catalog t.points (Writes (last_place m) has.made)) has.made refl has.kept has.applies));
         crash = crash_keeps old (with_transaction after (transaction.Writing left)) m (working_on b m old.connection has.made) shown has.kept.files;
@@ -445,7 +429,7 @@ module _ {D : Type 0} {g : Ghosts D} where
           refused old (with_transaction after (transaction.Writing left)) m w (working b m old.connection) shown has.kept.files
           (stays old (with_transaction after (transaction.Writing left)) m shown has.kept.files has.kept.beside (goes_on shown.present t.db t.is has.kept still))
           supported_forms (finish_in b m old.connection) t.db (ap (database_of m) (shown.is ∙ t.is)) comes f
-          (why_of (written w) (view_of (files_of mid) writer) (view_of (files_of mid) writer) t.db f refl refl has.why)
+          (why_of (written w) t.db f has.why)
 
   -- a step of the connections with the transaction that they have
   pub with_own : (c new : Connections D g) (t : Transaction) (s : Statement) (reply : Reply) → c.transaction ≡ t → StepsOn (with_transaction c t) s reply new → StepsOn c s reply new

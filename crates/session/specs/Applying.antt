@@ -19,7 +19,8 @@ use Rattle.pager.specs.Pruning.{AreNew}
 use Rattle.pager.specs.Views.{Tells, changes_of, newest_view, view_at}
 use Rattle.pager.specs.Writers.{snapshot_of}
 use Rattle.pager.specs.declared.writer.Writer.{Writer}
-use Rattle.session.specs.Changing.{Listing, CanChange, RefusesChange, listing}
+use Rattle.storage.specs.Changing.{IsChangeRefusal}
+use Rattle.session.specs.Changing.{Listing, CanChange, listing}
 use Rattle.storage.specs.Works.{Reaches, change_made}
 use Rattle.session.specs.Holding.{HoldThroughout, IsSettled}
 use Rattle.session.specs.ConnectionState.{files_of, has_failed_in, is_io}
@@ -54,15 +55,15 @@ module _ {D : Type 0} {g : Ghosts D} where
     pub applies : CanApply new left made
 
   -- the statement was refused, and the connections have what they had
-  pub record IsNotApplied (s : Statement) (old : Connections D g) (writer : Writer) (db : Database) (new : Connections D g) (f : Fault) : Type 0 where
+  pub record IsNotApplied (s : Statement) (old : Connections D g) (db : Database) (new : Connections D g) (f : Fault) : Type 0 where
     pub kept : KeepsCommitted old new
     pub tables : current_in new.catalog ≡ current_in old.catalog
-    pub why : RefusesChange s (listing_of old) writer db f
+    pub why : IsChangeRefusal s db f
 
   -- what a statement's write has come to; after a refusal the writer's pages may be any
   abbrev pub Applies : Statement → Connections D g → Writer → Database → Result ⊤ Fault → Connections D g → Writer → Type 0
   Applies s old writer db (Ok done) new left = IsApplied s old db new left
-  Applies s old writer db (Err f) new left = IsNotApplied s old writer db new f
+  Applies s old writer db (Err f) new left = IsNotApplied s old db new f
 
   -- ---- a commit
 

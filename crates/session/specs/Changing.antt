@@ -64,15 +64,11 @@ module _ {D : Type 0} {g : Ghosts D} where
     pub reaches : Reaches (change_made s db) made
     pub applies : CanChange new left made
 
-  -- why a statement makes nothing of the writer's pages
-  abbrev pub RefusesChange : Statement → Listing D g → Writer → Database → Fault → Type 0
-  RefusesChange s l w db = IsChangeRefusal s (pages_in (view_of l.files w)) (view_of l.files w).page_size db
-
   -- the statement was refused, and the catalog has what it had
-  pub record IsChangeRefused (s : Statement) (old : Listing D g) (writer : Writer) (db : Database) (new : Listing D g) (f : Fault) : Type 0 where
+  pub record IsChangeRefused (s : Statement) (old : Listing D g) (db : Database) (new : Listing D g) (f : Fault) : Type 0 where
     pub kept : KeepsListed old new
     pub tables : current_in new.catalog ≡ current_in old.catalog
-    pub why : RefusesChange s old writer db f
+    pub why : IsChangeRefusal s db f
 
   -- what a change of the writer's pages has come to that answers a catalog, whose tables are to be the current ones
   abbrev pub MakesCatalog : Statement → Listing D g → Writer → Database → Result Catalog Fault → Log D g → Writer → Type 0
@@ -80,9 +76,9 @@ module _ {D : Type 0} {g : Ghosts D} where
       (next : SavedCatalogs) → current_in next ≡ tables_of catalog → committed_in next ≡ committed_in old.catalog
       → savepoints_in next ≡ savepoints_in old.catalog
       → IsChangeMade s old db (listing files next) left
-  MakesCatalog s old writer db (Err f) files left = IsChangeRefused s old writer db (listing files old.catalog) f
+  MakesCatalog s old writer db (Err f) files left = IsChangeRefused s old db (listing files old.catalog) f
 
   -- what a statement's change of the writer's pages has come to; after a refusal they may be any
   abbrev pub ChangesPages : Statement → Listing D g → Writer → Database → Result ⊤ Fault → Listing D g → Writer → Type 0
   ChangesPages s old writer db (Ok done) new left = IsChangeMade s old db new left
-  ChangesPages s old writer db (Err f) new left = IsChangeRefused s old writer db new f
+  ChangesPages s old writer db (Err f) new left = IsChangeRefused s old db new f

@@ -20,3 +20,4 @@ pub mod Applying
 pub mod Failing
 pub mod WellFormed
 pub mod Meaning
+pub mod Calls

@@ -33,7 +33,7 @@ use Rattle.session.specs.Machine.{Machine, Connection, Idle, NoSnapshot, Phase, 
 use Rattle.session.specs.Steps.{is_connection}
 use Rattle.session.specs.Outcomes.{outcome}
 use Rattle.session.specs.Crashes.{MayShow}
-use Rattle.session.specs.Stored.{CannotStore, ShowsDatabase}
+use Rattle.session.specs.Stored.{ShowsDatabase}
 use Rattle.session.specs.Writers.{IsNewest, IsWriter, is_stale}
 use Rattle.session.specs.declared.transactions.Connections.{Connections}
 use Rattle.session.specs.declared.seats.Transaction.{Transaction}
@@ -178,27 +178,20 @@ module _ {D : Type 0} {g : Ghosts D} where
   seen_in (transaction.Reading snapshot) files = view_at files snapshot
   seen_in _ files = newest_view files
 
-  -- the same of the pages that a connection sees, and of those that the present one sees
-  abbrev pub CannotStoreIn : Connections D g → ℕ → Statement → Database → Refusal → Type 0
-  CannotStoreIn c connection = CannotStore (seen_in (transaction_of c connection) (files_of c))
-
-  abbrev pub CannotStoreHere : Connections D g → Statement → Database → Refusal → Type 0
-  CannotStoreHere c = CannotStore (seen_in c.transaction (files_of c))
-
   -- This is a step from a machine to one that is shown after it, and at each moment of it a crash leaves a database that they may show.
-  pub record StepsOver (Unstored : Database → Refusal → Type 0) (old : Connections D g) (m : Machine) (connection : ℕ) (statement : Statement) (reply : Reply) (new : Connections D g) : Type 0 where
+  pub record StepsOver (old : Connections D g) (m : Machine) (connection : ℕ) (statement : Statement) (reply : Reply) (new : Connections D g) : Type 0 where
     pub next : Machine
-    pub step : StepSoFar Unstored m connection statement reply next
+    pub step : StepSoFar m connection statement reply next
     pub shown : Represents new next
     pub crash : HoldThroughout (MayShow m next) (files_of old) (files_of new)
 
   -- From each machine that was shown it is a step, and the machine after it is shown.
   abbrev pub Steps : Connections D g → ℕ → Statement → Reply → Connections D g → Type 0
-  Steps old connection statement reply new = (m : Machine) → Represents old m → StepsOver (CannotStoreIn old connection statement) old m connection statement reply new
+  Steps old connection statement reply new = (m : Machine) → Represents old m → StepsOver old m connection statement reply new
 
   -- the same of the present connection, where no commit has failed
   abbrev pub StepsTo : Connections D g → Machine → Statement → Reply → Connections D g → Type 0
-  StepsTo old m statement reply new = StepsOver (CannotStoreHere old statement) old m old.connection statement reply new
+  StepsTo old m statement reply new = StepsOver old m old.connection statement reply new
 
   abbrev pub StepsOn : Connections D g → Statement → Reply → Connections D g → Type 0
   StepsOn old statement reply new = (m : Machine) → RepresentsRunning old m → StepsTo old m statement reply new

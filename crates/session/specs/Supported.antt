@@ -1,8 +1,10 @@
 -- A step while not all forms of the grammar are supported.
 use Rattle.std.specs.Prelude.{◌≡◌, Bool, true, false, ◌⊎◌, ℕ}
-use Rattle.sqlval.specs.Refusals.{Refusal, Memory, Misuse, Unsupported, Failed}
+use Rattle.sqlval.specs.Refusals.{Refusal, Memory, Misuse, Unsupported, Failed, refusal_of}
+use Rattle.sqlval.specs.declared.fault.Fault.{Fault}
 use Rattle.syntax.specs.declared.statement.Statement.{Statement}
 use Rattle.catalog.specs.Database.{Database}
+use Rattle.storage.specs.Changing.{IsTooMuch}
 use Rattle.storage.specs.Forms.{is_supported}
 use Rattle.session.specs.Machine.{Machine, Connection, InTransactionOf, Reads, Writes, Reply, Refused, committed, connection, newest}
 use Rattle.session.specs.Steps.{Step, is_connection}
@@ -13,13 +15,16 @@ database_of m (InTransactionOf b ss (Writes i db)) = db
 database_of m (InTransactionOf b ss (Reads i)) = committed m i
 database_of m _ = newest m
 
--- The step so far, where `CannotStore` says for which refusal what the statement makes of a database can't be stored. Such a statement is
--- refused so, and what isn't supported as unsupported, after the engine's failure and the connection's number; lack of memory may stand in
--- its place.
-abbrev pub StepSoFar : (Database → Refusal → Type 0) → Machine → ℕ → Statement → Reply → Machine → Type 0
-StepSoFar CannotStore m c s reply new =
+-- what the statement makes of the database can't be stored, and is refused so
+abbrev pub CannotStore : Statement → Database → Refusal → Type 0
+CannotStore s db r = (f : Fault) × (r ≡ refusal_of f) × IsTooMuch s db f
+
+-- The step so far. Where what the statement makes of what it sees can't be stored, it is refused so, and what isn't supported as
+-- unsupported, after the engine's failure and the connection's number; lack of memory may stand in its place.
+abbrev pub StepSoFar : Machine → ℕ → Statement → Reply → Machine → Type 0
+StepSoFar m c s reply new =
     (is_supported s ≡ true) × (Step m c s reply new
-    ⊎ (r : Refusal) × (reply ≡ Refused r) × (new ≡ m) × (m.failed ≡ false) × CannotStore (database_of m (connection m c)) r)
+    ⊎ (r : Refusal) × (reply ≡ Refused r) × (new ≡ m) × (m.failed ≡ false) × CannotStore s (database_of m (connection m c)) r)
     ⊎ (is_supported s ≡ false) × (new ≡ m) × (
     (m.failed ≡ true) × (reply ≡ Refused Failed)
     ⊎ (m.failed ≡ false) × (is_connection c ≡ false) × (reply ≡ Refused Misuse)

@@ -2,6 +2,7 @@
 //! defines it.
 #![tactic(auto)]
 
+mod calls;
 mod changes;
 mod forms;
 mod laws;

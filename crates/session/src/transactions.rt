@@ -168,7 +168,7 @@ impl<D: Disk + Drop> Connections<D> {
     }
 
     /// Makes a connection the present one.
-    fn switch(&mut self, connection: u32)
+    pub(crate) fn switch(&mut self, connection: u32)
         ensures { Switches connection self.old self.new }
     {
         if connection == self.connection {
@@ -241,12 +241,12 @@ impl<D: Disk + Drop> Connections<D> {
             → StepsOn self.old statement.now (done_reply result) self.new) }
     {
         match statement {
-            Statement::Begin(mode) => self.begin(*mode),
-            Statement::Commit => self.commit(),
-            Statement::Rollback => self.rollback(),
-            Statement::Savepoint(name) => self.savepoint(name),
-            Statement::Release(name) => self.release(name),
-            Statement::RollbackTo(name) => self.rollback_to(name),
+            Statement::Begin(mode) => self.begin_here(*mode),
+            Statement::Commit => self.commit_here(),
+            Statement::Rollback => self.rollback_here(),
+            Statement::Savepoint(name) => self.savepoint_here(name),
+            Statement::Release(name) => self.release_here(name),
+            Statement::RollbackTo(name) => self.rollback_to_here(name),
             _ => match write_of(statement) {
                 Some(write) => self.write(write),
                 None => unsupported_form(),
@@ -254,7 +254,7 @@ impl<D: Disk + Drop> Connections<D> {
         }
     }
 
-    fn begin(&mut self, mode: BeginMode) -> R<()>
+    pub(crate) fn begin_here(&mut self, mode: BeginMode) -> R<()>
         ensures cause { HasCauseIn false result self.old self.new }
         ensures reads { ReadsFiles self.old self.new }
         ensures memory { IfErr result (λ fault. fault ≡ Memory → IsTrue (is_immediate mode)) }
@@ -265,7 +265,7 @@ impl<D: Disk + Drop> Connections<D> {
         }
         match mode {
             BeginMode::Deferred => self.begin_deferred(),
-            BeginMode::Immediate => self.begin_immediate(),
+            BeginMode::Immediate => self.begin_immediate_here(),
         }
     }
 
@@ -281,7 +281,7 @@ impl<D: Disk + Drop> Connections<D> {
     }
 
     /// Takes the write right.
-    fn begin_immediate(&mut self) -> R<()>
+    fn begin_immediate_here(&mut self) -> R<()>
         ensures cause { HasCauseIn false result self.old self.new }
         ensures reads { ReadsFiles self.old self.new }
         ensures step { is_idle self.old.transaction ≡ true → StepsOn self.old (statement.Begin Immediate) (done_reply result) self.new }
@@ -313,10 +313,10 @@ impl<D: Disk + Drop> Connections<D> {
         matches!(&self.transaction, Transaction::Idle)
     }
 
-    fn rollback(&mut self) -> R<()>
+    pub(crate) fn rollback_here(&mut self) -> R<()>
         ensures cause { HasCauseIn false result self.old self.new }
         ensures reads { ReadsFiles self.old self.new }
-        ensures memory { IfErr result (λ fault. fault ≡ Memory → ⊥) }
+        ensures refused { IfErr result (λ fault. fault ≡ Fault.NoTransaction) }
         ensures step { StepsOn self.old statement.Rollback (done_reply result) self.new }
     {
         if self.is_idle() {
@@ -376,7 +376,7 @@ impl<D: Disk + Drop> Connections<D> {
         Ok(())
     }
 
-    fn commit(&mut self) -> R<()>
+    pub(crate) fn commit_here(&mut self) -> R<()>
         ensures cause { HasCauseIn true result self.old self.new }
         ensures marks { MarksFailure result self.old self.new }
         ensures refused { IfErr result (IsRefusedHere self.old statement.Commit) }
@@ -401,7 +401,7 @@ impl<D: Disk + Drop> Connections<D> {
     }
 
     /// Makes a savepoint. Outside a transaction it begins one.
-    fn savepoint(&mut self, name: &Name) -> R<()>
+    pub(crate) fn savepoint_here(&mut self, name: &Name) -> R<()>
         ensures cause { HasCauseIn false result self.old self.new }
         ensures reads { ReadsFiles self.old self.new }
         ensures step { StepsOn self.old (statement.Savepoint name.now) (done_reply result) self.new }
@@ -454,7 +454,7 @@ impl<D: Disk + Drop> Connections<D> {
 
     /// Lets go of the newest savepoint of a name and of those made after it; the changes stay. The oldest one, where it began
     /// the transaction, commits it.
-    fn release(&mut self, name: &Name) -> R<()>
+    pub(crate) fn release_here(&mut self, name: &Name) -> R<()>
         ensures cause { HasCauseIn true result self.old self.new }
         ensures marks { MarksFailure result self.old self.new }
         ensures refused { IfErr result (IsRefusedHere self.old (statement.Release name.now)) }
@@ -464,7 +464,7 @@ impl<D: Disk + Drop> Connections<D> {
             return Err(Fault::NoSavepoint);
         };
         if self.catalog.begins_at(place) {
-            return self.commit();
+            return self.commit_here();
         }
         self.catalog.release(place);
         self.transaction.release(place);
@@ -472,7 +472,7 @@ impl<D: Disk + Drop> Connections<D> {
     }
 
     /// Goes back to the newest savepoint of a name, which stays; those made after it are gone.
-    fn rollback_to(&mut self, name: &Name) -> R<()>
+    pub(crate) fn rollback_to_here(&mut self, name: &Name) -> R<()>
         ensures cause { HasCauseIn false result self.old self.new }
         ensures reads { ReadsFiles self.old self.new }
         ensures refused { IfErr result (λ fault. fault ≡ Fault.NoSavepoint) }

@@ -126,11 +126,11 @@ module _ (laws : Laws) (pages : PageMap) (size : ℕ) (tables : List Table) (db 
   resolved : (found : Option Table) → table_named d.table tables ≡ found → resolve_change db no_outer (kind.Delete d) ≡ resolved_by d (looked_up found)
   resolved found named = ap (resolved_by d) (known_listed held.rows_at tables db held.lists d.table ∙ ap looked_up named)
 
-  refused_so : (f : Fault) → Contains (faults (resolve_change db no_outer (kind.Delete d))) (refusal_of f) → IsChangeRefusal (deleting d) pages size db f
+  refused_so : (f : Fault) → Contains (faults (resolve_change db no_outer (kind.Delete d))) (refusal_of f) → IsChangeRefusal (deleting d) db f
   refused_so f has = inr (inl (inl ((laws.binds db (kind.Delete d) (refusal_of f) held.only).1 has)))
 
   -- a name that no table has
-  pub name_refused : (f : Fault) → (f ≡ fault.Memory) ⊎ (refusal_of f ≡ NoSuch) × (table_named d.table tables ≡ None) → IsChangeRefusal (deleting d) pages size db f
+  pub name_refused : (f : Fault) → (f ≡ fault.Memory) ⊎ (refusal_of f ≡ NoSuch) × (table_named d.table tables ≡ None) → IsChangeRefusal (deleting d) db f
   name_refused f (inl memory) = inl (inl (inl memory))
   name_refused f (inr (is, none)) =
       refused_so f (subst (λ (k : Checked Resolved). Contains (faults k) (refusal_of f)) (sym (resolved None none)) (subst (Contains (faults (resolved_by d (looked_up None)))) (sym is) (first_fault NoSuch _)))
@@ -140,7 +140,7 @@ module _ (laws : Laws) (pages : PageMap) (size : ℕ) (tables : List Table) (db 
     condition_of = resolve_filter (source_seen d.table t ∷ []) d.condition
 
     -- a condition whose names are refused
-    pub where_refused : (f : Fault) → IsFaultOf (faults condition_of) f → IsChangeRefusal (deleting d) pages size db f
+    pub where_refused : (f : Fault) → IsFaultOf (faults condition_of) f → IsChangeRefusal (deleting d) db f
     where_refused f (inl memory) = inl (inl (inl memory))
     where_refused f (inr has) = refused_so f (subst (λ (k : Checked Resolved). Contains (faults k) (refusal_of f)) (sym (resolved (Some t) named)) (known_fault (folded d.table) condition_of (refusal_of f) has))
 
@@ -166,7 +166,7 @@ module _ (laws : Laws) (pages : PageMap) (size : ℕ) (tables : List Table) (db 
       reaches : (made : Database) → change db (kind.Delete d) ≡ Ok made → Reaches (change_made (deleting d) db) made
       reaches made e = (not_refused, subst (λ (a : Answer Database). Reaches (of_answer a) made) (sym e) refl)
 
-      refuses : (f : Fault) → change db (kind.Delete d) ≡ Err (refusal_of f) → IsChangeRefusal (deleting d) pages size db f
+      refuses : (f : Fault) → change db (kind.Delete d) ≡ Err (refusal_of f) → IsChangeRefusal (deleting d) db f
       refuses f e = inr (inl (inr (not_refused, subst (λ (a : Answer Database). RefusesWith (of_answer a) (refusal_of f)) (sym e) (as_refused f))))
 
       stored : (new : PageMap) (left : List TableRow) (entries : List Entry) → BecomesRows pages new size t.root entries owned.split.at.used held.free
@@ -184,7 +184,7 @@ module _ (laws : Laws) (pages : PageMap) (size : ℕ) (tables : List Table) (db 
       listed = listed_table held.rows_at tables db d.table t held.lists named
 
     abbrev Makes : PageMap → Result ⊤ Fault → Type 0
-    Makes new result = MatchResult result (λ done. IsMade (deleting d) db new size tables) (IsChangeRefusal (deleting d) pages size db)
+    Makes new result = MatchResult result (λ done. IsMade (deleting d) db new size tables) (IsChangeRefusal (deleting d) db)
 
     clear_makes : condition_of ≡ Meant None [] → (new : PageMap) (result : Result ⊤ Fault) → ClearsTree pages new size t.root result → Makes new result
     clear_makes known new (Ok done) clears =
@@ -226,7 +226,7 @@ module _ (laws : Laws) (pages : PageMap) (size : ℕ) (tables : List Table) (db 
           }
       take_makes new (Err f) takes = by (takes (held.rows_at t.root) o.split.is.entries o.split.at.used held.free (tree_stands (Some c) known) o.split.is.each)
         where
-          by : IsTakeRefusal c (held.rows_at t.root) f → IsChangeRefusal (deleting d) pages size db f
+          by : IsTakeRefusal c (held.rows_at t.root) f → IsChangeRefusal (deleting d) db f
           by (inl outside) = inl outside
           by (inr e) = refuses (Some c) known f (change_is (Err (refusal_of f)) e)
 

@@ -75,13 +75,13 @@ module _ (old : PageMap) (size : ℕ) (tables : List Table) (db : Database) (hel
   found_as : (t : Option Table) → table_named n tables ≡ t → object db n ≡ option_map (λ u. ATable (plain_table u (held.rows_at u.root))) t
   found_as t named = held.lists n ∙ ap (option_map (λ u. ATable (plain_table u (held.rows_at u.root)))) named
 
-  pub no_table : (f : Fault) → (f ≡ fault.Memory) ⊎ (refusal_of f ≡ NoSuch) × (table_named n tables ≡ None) → IsChangeRefusal (dropping kind.Table n) old size db f
+  pub no_table : (f : Fault) → (f ≡ fault.Memory) ⊎ (refusal_of f ≡ NoSuch) × (table_named n tables ≡ None) → IsChangeRefusal (dropping kind.Table n) db f
   no_table f (inl memory) = inl (inl (inl memory))
   no_table f (inr (is, none)) = inr (inl (subst (RefusesWith (change_made (dropping kind.Table n) db)) (sym is)
       (subst (λ (o : Option Object). RefusesWith (of_known (dropped db kind.Table n o)) NoSuch) (sym (found_as None none)) (0, omega arith, refl))))
 
   -- there are no objects but tables
-  pub no_other : (k : ObjectKind) → (k ≡ kind.Table → ⊥) → (f : Fault) → (f ≡ fault.Memory) ⊎ (refusal_of f ≡ NoSuch) → IsChangeRefusal (dropping k n) old size db f
+  pub no_other : (k : ObjectKind) → (k ≡ kind.Table → ⊥) → (f : Fault) → (f ≡ fault.Memory) ⊎ (refusal_of f ≡ NoSuch) → IsChangeRefusal (dropping k n) db f
   no_other k other f (inl memory) = inl (inl (inl memory))
   no_other k other f (inr is) = inr (inl (subst (RefusesWith (change_made (dropping k n) db)) (sym is)
       (subst (λ (o : Option Object). RefusesWith (of_known (dropped db k n o)) NoSuch) (sym (found_as (table_named n tables) refl)) (by_kind k other (table_named n tables)))))
@@ -106,7 +106,7 @@ module _ (laws : Laws) (old : PageMap) (size : ℕ) (tables : List Table) (db : 
   schema_stands = laws.stand old size schema held.owners [] held.owners 1 held.schema held.schema_used held.free held.shared refl refl page_size
 
   -- its row isn't taken out
-  pub not_taken : (f : Fault) → IsOutsideOrFull f → IsChangeRefusal (dropping kind.Table n) old size db f
+  pub not_taken : (f : Fault) → IsOutsideOrFull f → IsChangeRefusal (dropping kind.Table n) db f
   not_taken f full = inl full
 
   -- ---- the table of the name

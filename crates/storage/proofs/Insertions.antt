@@ -92,7 +92,7 @@ abbrev work : Insert → Database → Refusal → Type 0
 work i db r = RefusesWith (change_made (inserting i) db) r
 
 pub target_refused : (laws : Laws) (pages : PageMap) (size : ℕ) (tables : List Table) (db : Database) (held : Stores pages size tables db) (i : Insert) (f : Fault) → IsTargetFault tables i f
-    → IsChangeRefusal (inserting i) pages size db f
+    → IsChangeRefusal (inserting i) db f
 target_refused laws pages size tables db held i f (inl memory) = inl (inl (inl memory))
 target_refused laws pages size tables db held i f (inr (inl (e, none))) =
     inr (inl (inl ((laws.binds db (kind.Insert i) (refusal_of f) held.only).1
@@ -166,7 +166,7 @@ module _ (laws : Laws) (pages : PageMap) (size : ℕ) (tables : List Table) (db 
   stands_so : (given_as : Given) → source_known db n i ≡ Meant given_as [] → resolve_change db no_outer (kind.Insert i) ≡ Meant (Inserts (folded i.table) (value_places t i.columns) given_as) []
   stands_so given_as e = source_stands db i.table i.source t found once i.columns given_as columns (subst (λ m. source_known db m i ≡ Meant given_as []) n_is e)
 
-  pub rows_refused : (f : Fault) → AnswersRead {X = List (List Value)} (λ rows. rows) (given_on db n i.source) (Err f) → IsChangeRefusal (inserting i) pages size db f
+  pub rows_refused : (f : Fault) → AnswersRead {X = List (List Value)} (λ rows. rows) (given_on db n i.source) (Err f) → IsChangeRefusal (inserting i) db f
   rows_refused f (inl outside) = inl (inl outside)
   rows_refused f (inr (inl has)) = inr (inl (inl ((laws.binds db (kind.Insert i) (refusal_of f) held.only).1
       (source_refused db i.table i.source t found once i.columns (refusal_of f) (subst (λ m. Contains (faults (source_known db m i)) (refusal_of f)) n_is (in_it (source_known db n i) has))))))
@@ -306,7 +306,7 @@ module _ (laws : Laws) (pages : PageMap) (size : ℕ) (tables : List Table) (db 
     long = λ all. too_long (all_behind (λ row. AreStorable row.1) (held.rows_at t.root) added all);
   }
 
-  put_refused : (f : Fault) → IsPutRefusal t.columns places given (held.rows_at t.root) f → IsChangeRefusal (inserting i) pages size db f
+  put_refused : (f : Fault) → IsPutRefusal t.columns places given (held.rows_at t.root) f → IsChangeRefusal (inserting i) db f
   put_refused f (inl outside) = inl outside
   put_refused f (inr (inl as_rows)) = inr (inl (refused f as_rows))
   put_refused f (inr (inr too_long)) =
@@ -320,7 +320,7 @@ module _ (laws : Laws) (pages : PageMap) (size : ℕ) (tables : List Table) (db 
 
   -- what the call that puts the rows comes to
   pub put_makes : (new : PageMap) (result : Result ⊤ Fault) → PutsRows pages new size t.root t.columns places given result
-      → MatchResult result (λ done. IsMade (inserting i) db new size tables) (IsChangeRefusal (inserting i) pages size db)
+      → MatchResult result (λ done. IsMade (inserting i) db new size tables) (IsChangeRefusal (inserting i) db)
   put_makes new (Ok done) puts =
       let put = puts (held.rows_at t.root) owned.split.is.entries owned.split.at.used held.free beside owned.split.is.each in
       let m = made put.added put.answer in

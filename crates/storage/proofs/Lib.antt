@@ -28,5 +28,6 @@ pub mod StoredTrees
 pub mod Telling
 pub mod TreePages
 pub mod Untelling
+mod RowsBetween
 pub mod Updates
 pub mod WrittenRows

@@ -117,11 +117,11 @@ module _ (laws : Laws) (pages : PageMap) (size : ℕ) (tables : List Table) (db 
   resolved : (found : Option Table) → table_named u.table tables ≡ found → resolve_change db no_outer (kind.Update u) ≡ resolved_by u (looked_up found)
   resolved found named = ap (resolved_by u) (known_listed held.rows_at tables db held.lists u.table ∙ ap looked_up named)
 
-  refused_so : (f : Fault) → Contains (faults (resolve_change db no_outer (kind.Update u))) (refusal_of f) → IsChangeRefusal (updating u) pages size db f
+  refused_so : (f : Fault) → Contains (faults (resolve_change db no_outer (kind.Update u))) (refusal_of f) → IsChangeRefusal (updating u) db f
   refused_so f has = inr (inl (inl ((laws.binds db (kind.Update u) (refusal_of f) held.only).1 has)))
 
   -- a name that no table has
-  pub name_refused : (f : Fault) → (f ≡ fault.Memory) ⊎ (refusal_of f ≡ NoSuch) × (table_named u.table tables ≡ None) → IsChangeRefusal (updating u) pages size db f
+  pub name_refused : (f : Fault) → (f ≡ fault.Memory) ⊎ (refusal_of f ≡ NoSuch) × (table_named u.table tables ≡ None) → IsChangeRefusal (updating u) db f
   name_refused f (inl memory) = inl (inl (inl memory))
   name_refused f (inr (is, none)) =
       refused_so f (subst (λ (k : Checked Resolved). Contains (faults k) (refusal_of f)) (sym (resolved None none)) (subst (Contains (faults (resolved_by u (looked_up None)))) (sym is) (first_fault NoSuch _)))
@@ -144,7 +144,7 @@ module _ (laws : Laws) (pages : PageMap) (size : ℕ) (tables : List Table) (db 
 
     -- the columns that SET names, or its expressions, are refused
     pub sets_refused : (f : Fault) → (f ≡ fault.Memory) ⊎ (IsListRefusal t.columns (Some (columns_set u.assignments)) (refusal_of f) ⊎ Contains (faults (sets_known t.columns scope u.assignments)) (refusal_of f))
-        → IsChangeRefusal (updating u) pages size db f
+        → IsChangeRefusal (updating u) db f
     sets_refused f (inl memory) = inl (inl (inl memory))
     sets_refused f (inr why) =
         refused_so f (subst (λ (rs : List Refusal). Contains rs (refusal_of f)) (sym faults_are) (Contains-append_left (faults sets_meant) (faults condition_of) (refusal_of f)
@@ -166,7 +166,7 @@ module _ (laws : Laws) (pages : PageMap) (size : ℕ) (tables : List Table) (db 
             (subst (λ (rs : List Refusal). Contains rs (refusal_of f)) (same_faults t.columns scope u.assignments) has)
 
     -- a condition whose names are refused
-    pub where_refused : (f : Fault) → IsFaultOf (faults condition_of) f → IsChangeRefusal (updating u) pages size db f
+    pub where_refused : (f : Fault) → IsFaultOf (faults condition_of) f → IsChangeRefusal (updating u) db f
     where_refused f (inl memory) = inl (inl (inl memory))
     where_refused f (inr has) = refused_so f (subst (λ (rs : List Refusal). Contains rs (refusal_of f)) (sym faults_are) (Contains-append_right (faults sets_meant) (faults condition_of) (refusal_of f) has))
 
@@ -198,7 +198,7 @@ module _ (laws : Laws) (pages : PageMap) (size : ℕ) (tables : List Table) (db 
       reaches : (made : Database) → change db (kind.Update u) ≡ Ok made → Reaches (change_made (updating u) db) made
       reaches made e = (not_refused, subst (λ (a : Answer Database). Reaches (of_answer a) made) (sym e) refl)
 
-      refuses : (f : Fault) → change db (kind.Update u) ≡ Err (refusal_of f) → IsChangeRefusal (updating u) pages size db f
+      refuses : (f : Fault) → change db (kind.Update u) ≡ Err (refusal_of f) → IsChangeRefusal (updating u) db f
       refuses f e = inr (inl (inr (not_refused, subst (λ (a : Answer Database). RefusesWith (of_answer a) (refusal_of f)) (sym e) (as_refused f))))
 
       lists_now : (now : List TableRow) → Lists (rows_with held.rows_at t.root now) tables (with_now now)
@@ -233,7 +233,7 @@ module _ (laws : Laws) (pages : PageMap) (size : ℕ) (tables : List Table) (db 
 
       -- what the call that sets the rows comes to
       pub set_makes : (new : PageMap) (result : Result ⊤ Fault) → SetsRows pages new size t.root t.columns sets condition result
-          → MatchResult result (λ done. IsMade (updating u) db new size tables) (IsChangeRefusal (updating u) pages size db)
+          → MatchResult result (λ done. IsMade (updating u) db new size tables) (IsChangeRefusal (updating u) db)
       set_makes new (Ok done) set_so =
           let set = set_so (held.rows_at t.root) owned.split.is.entries owned.split.at.used held.free tree_stands owned.split.is.each in
           record {
@@ -243,7 +243,7 @@ module _ (laws : Laws) (pages : PageMap) (size : ℕ) (tables : List Table) (db 
           }
       set_makes new (Err f) set_so = by (set_so (held.rows_at t.root) owned.split.is.entries owned.split.at.used held.free tree_stands owned.split.is.each)
         where
-          by : IsSetRefusal t.columns sets condition (held.rows_at t.root) f → IsChangeRefusal (updating u) pages size db f
+          by : IsSetRefusal t.columns sets condition (held.rows_at t.root) f → IsChangeRefusal (updating u) db f
           by (inl outside) = inl outside
           by (inr (inl e)) = refuses f (change_is (Err (refusal_of f)) e)
           by (inr (inr long)) = inr (inr (record {

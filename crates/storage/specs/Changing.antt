@@ -1,5 +1,5 @@
 -- What a statement's change makes of the pages that hold a database (SQL As Understood By SQLite, "CREATE TABLE", "INSERT").
-use Rattle.std.specs.Prelude.{◌≡◌, ◌⊎◌, ◌-◌, ◌^◌, ℕ, pos, List, Some, Result, MatchResult}
+use Rattle.std.specs.Prelude.{◌≡◌, ◌⊎◌, ℕ, List, Some, Result, MatchResult}
 use Rattle.sqlval.specs.Refusals.{refusal_of}
 use Rattle.sqlval.specs.declared.fault.Fault.{Fault}
 use Rattle.sqlval.specs.declared.fault.Fault.TheVariants as fault
@@ -8,11 +8,8 @@ use Rattle.syntax.specs.declared.create.NewObject.TheVariants as new
 use Rattle.syntax.specs.declared.statement.Statement.{Statement}
 use Rattle.syntax.specs.declared.statement.Statement.TheVariants as statement
 use Rattle.record.specs.Writing.{AreStorable}
-use Rattle.page.specs.Leaf.{Entry}
 use Rattle.pages.specs.Calls.{IsOutsideOrFull}
 use Rattle.pages.specs.Map.{PageMap}
-use Rattle.tabletree.specs.Rows.{last_rowid}
-use Rattle.tabletree.specs.Tree.{IsTableTree}
 use Rattle.catalog.specs.Database.{ATable, Database, Name, object}
 use Rattle.catalog.specs.Listed.{plain_table}
 use Rattle.catalog.specs.declared.tables.Table.{Table}
@@ -38,13 +35,6 @@ pub record HasLongRow (db : Database) : Type 0 where
   pub is : object db name ≡ Some (ATable (plain_table table rows))
   pub long : AllStorable rows → ⊥
 
--- the schema table has a row of the greatest rowid
-pub record IsSchemaFull (map : PageMap) (size : ℕ) : Type 0 where
-  pub rows : List Entry
-  pub used : List ℕ
-  pub tree : IsTableTree map size 1 rows used
-  pub last : last_rowid rows ≡ Some (pos (2 ^ 63 - 1))
-
 abbrev MakesLongText : List ℕ → NewObject → Type 0
 MakesLongText sql (new.Table d) = (root : ℕ) × (AreStorable (schema_row d.name d.name root sql) → ⊥)
 MakesLongText sql _ = ⊥
@@ -54,19 +44,19 @@ abbrev pub HasLongText : Statement → Type 0
 HasLongText (statement.Create c) = MakesLongText c.sql c.object
 HasLongText _ = ⊥
 
--- the statement's database can't be stored: a row is too long for a record, or the schema table has no rowid left
-pub record IsTooMuch (s : Statement) (map : PageMap) (size : ℕ) (db : Database) (f : Fault) : Type 0 where
+-- the statement's database can't be stored: a row is too long for a record
+pub record IsTooMuch (s : Statement) (db : Database) (f : Fault) : Type 0 where
   pub is : f ≡ fault.TooLong
   pub made : Database
   pub reaches : Reaches (change_made s db) made
-  pub why : HasLongRow made ⊎ (HasLongText s ⊎ IsSchemaFull map size)
+  pub why : HasLongRow made ⊎ HasLongText s
 
 -- Why a statement makes nothing: out of memory or of pages, by a disk, as its work is refused, or because what it makes can't be stored.
-abbrev pub IsChangeRefusal : Statement → PageMap → ℕ → Database → Fault → Type 0
-IsChangeRefusal s map size db f = IsOutsideOrFull f ⊎ (RefusesWith (change_made s db) (refusal_of f) ⊎ IsTooMuch s map size db f)
+abbrev pub IsChangeRefusal : Statement → Database → Fault → Type 0
+IsChangeRefusal s db f = IsOutsideOrFull f ⊎ (RefusesWith (change_made s db) (refusal_of f) ⊎ IsTooMuch s db f)
 
 -- What a statement's change comes to, where the pages hold a database of these tables. `tables_by` says which tables there are after a call
 -- that answered.
 abbrev pub MakesChange : {X : Type 0} → (X → List Table) → Statement → PageMap → PageMap → ℕ → List Table → Result X Fault → Type 0
 MakesChange tables_by s old new size before result = (db : Database) → Stores old size before db
-    → MatchResult result (λ x. IsMade s db new size (tables_by x)) (IsChangeRefusal s old size db)
+    → MatchResult result (λ x. IsMade s db new size (tables_by x)) (IsChangeRefusal s db)

@@ -1,6 +1,6 @@
 //! CREATE TABLE.
 
-ghost use Rattle.std.specs.Prelude.{◌≡◌, ◌⊎◌, true, IsTrue, IfOk, IfErr, MatchOption, ◌+ℤ◌, pos, ◌^◌, ◌-◌, Some};
+ghost use Rattle.std.specs.Prelude.{◌≡◌, ◌⊎◌, true, IsTrue, IfOk, IfErr};
 ghost use Rattle.sqlval.specs.Faults.{IsNotDiskFault};
 ghost use Rattle.sqlval.specs.Refusals.{refusal_of};
 ghost use Rattle.pages.specs.Calls.{Causes};
@@ -23,7 +23,7 @@ use record::encode_row;
 use sqlval::{Damage, Fault, Misuse, Name, R, Text, Value};
 use std::alloc::Global;
 use syntax::TableDefinition;
-use tabletree::{insert, last, new_tree, rows_come_last, table_trees_stay};
+use tabletree::{insert, new_tree, table_trees_stay};
 
 /// The page of a tree that isn't made yet.
 const NO_PAGE: u32 = 0;
@@ -67,37 +67,24 @@ fn table_of(alloc: Global, catalog: &Catalog, definition: &TableDefinition) -> R
     })
 }
 
-/// The rowid after the last, or 1. (`TooLong` after the greatest of all.)
-fn rowid_after(last: Option<i64>) -> R<i64>
-    ensures next { IfOk result (λ rowid. MatchOption last (rowid ≡ pos 1) (λ before. rowid ≡ before +ℤ pos 1)) }
-    ensures full { IfErr result (λ fault. (fault ≡ Fault.TooLong) × (last ≡ Some (pos (2 ^ 63 - 1)))) }
-{
-    match last {
-        None => Ok(1),
-        Some(last) => last.checked_add(1).ok_or(Fault::TooLong),
-    }
-}
-
-/// Adds a row of these values to the schema table, after its rows, and answers its rowid. (`TooLong` if no record can hold them or no rowid is
-/// left; what `last` and `insert` refuse.)
-fn add_row<P: WritePages>(alloc: Global, pages: &mut P, values: &[Value]) -> R<i64>
+/// Adds a row of these values to the schema table, at a rowid that none has. (`TooLong` if no record can hold them; what `insert` refuses;
+/// `Damaged(Order, 1)` if there is such a row.)
+fn add_row<P: WritePages>(alloc: Global, pages: &mut P, rowid: i64, values: &[Value]) -> R<()>
     ensures added { IsTrue (P.Pages.tells (P.Pages.below pages.old))
-        → AddsRow (P.Pages.map pages.old) (P.Pages.map pages.new) (P.Pages.limits (P.Pages.below pages.old)).page values.now result }
+        → AddsRow (P.Pages.map pages.old) (P.Pages.map pages.new) (P.Pages.limits (P.Pages.below pages.old)).page rowid values.now result }
     ensures kept { P.Pages.below pages.new ≡ P.Pages.below pages.old }
     ensures causes { Causes result (P.Pages.failures pages.old) (P.Pages.failures pages.new)
         (P.Pages.count pages.new ≡ (P.Pages.limits (P.Pages.below pages.new)).most) }
 {
-    rows_come_last();
     let payload = encode_row(alloc, values)?;
-    let rowid = rowid_after(last(pages, SCHEMA)?)?;
     if !insert(alloc, pages, SCHEMA, rowid, &payload)? {
         return Err(Fault::Damaged(Damage::Order, SCHEMA));
     }
-    Ok(rowid)
+    Ok(())
 }
 
 /// Makes a table: its row in the schema table, and a tree without rows. Answers the catalog with it. (`Misuse(ReservedName)`, `Exists`, and
-/// what `columns_of` refuses; `TooLong` if the schema table has no rowid left. Then some pages may have changed.)
+/// what `columns_of` refuses; `TooLong` if no record can hold its row. Then some pages may have changed.)
 pub fn create_table<P: WritePages>(
     alloc: Global,
     pages: &mut P,
@@ -122,6 +109,8 @@ pub fn create_table<P: WritePages>(
     let mut table = table_of(alloc, catalog, definition)?;
     table.root = new_tree(alloc, pages)?;
     let values = schema_values(alloc, &definition.name, table.root, sql)?;
-    table.rowid = add_row(alloc, pages, &values)?;
-    catalog.with(alloc, table)
+    let free = catalog.free_rowid();
+    table.rowid = free.rowid;
+    add_row(alloc, pages, free.rowid, &values)?;
+    catalog.with(alloc, free.place, table)
 }

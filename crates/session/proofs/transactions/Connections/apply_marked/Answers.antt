@@ -1,7 +1,7 @@
 use Rattle.std.proofs.Common.{◌∙◌}
 use Rattle.pager.specs.Marks.{marks_of, now_of}
 use Rattle.session.specs.Changing.{written}
-use Rattle.session.proofs.Marked.{at_last_mark, moved_on, released, under_mark, unmarked}
+use Rattle.session.proofs.Marked.{at_last_mark, moved_on, released, unmarked}
 use Rattle.session.proofs.transactions.Connections.apply_marked.Goals as goal
 
 pub returns-in_err-place-clause-applies : goal.returns-in_err-place-clause-applies
@@ -24,4 +24,4 @@ returns-in-Err-clause-applies g c db supported_forms text on =
     let old = c.args.self.now in
     let set = c.in_ok-place.ensures in
     let here = moved_on old c.args.writer.now c.mark.new.self db set.same set.stands on in
-    under_mark (written c.args.write) old c.apply.new.self db c.args.writer.now c.mark.new.self c.in-Err.fault set.same set.stands (c.in-Err.ensures.applies db supported_forms text here)
+    c.in-Err.ensures.applies db supported_forms text here

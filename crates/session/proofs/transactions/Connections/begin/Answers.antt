@@ -1,6 +1,15 @@
-use Rattle.std.proofs.Common.{sym, ◌∙◌}
-use Rattle.session.proofs.Showing.{begin_refused}
+use Rattle.std.proofs.Common.{refl}
+use Rattle.sqlval.specs.declared.fault.Fault.TheVariants as fault
+use Rattle.syntax.specs.declared.statement.BeginMode.TheVariants as begins
+use Rattle.syntax.specs.declared.statement.Statement.TheVariants as statement
+use Rattle.session.proofs.Turning.{call_made, first_only, memory_alone, not_memory, only_so, reads_mark, refused_call}
 use Rattle.session.proofs.transactions.Connections.begin.Goals as goal
 
-pub returns-then-not-is_idle-clause-step : goal.returns-then-not-is_idle-clause-step
-returns-then-not-is_idle-clause-step g c = begin_refused c.args.self.now c.args.mode (sym c.is_idle.ensures ∙ c.if-not-is_idle.true)
+pub returns-in_err-turn_to : goal.returns-in_err-turn_to
+returns-in_err-turn_to g c =
+    record { call = refused_call c.args.self.now c.turn_to.new.self c.args.connection (statement.Begin begins.Deferred) c.in_err-turn_to.field-0.0 c.from_residual.result c.from_residual.ensures.1 c.in_err-turn_to.ensures.refused }
+
+pub returns : goal.returns
+returns g c =
+    record { call = call_made c.args.self.now c.turn_to.new.self c.begin_here.new.self c.args.connection (statement.Begin begins.Deferred) c.begin_here.result c.in_ok-turn_to.ensures.free c.in_ok-turn_to.ensures.turned c.begin_here.ensures.step
+    c.begin_here.ensures.cause (reads_mark _ _ _ c.begin_here.ensures.reads) (memory_alone _ (statement.Begin begins.Deferred) c.begin_here.result refl c.begin_here.ensures.memory) }

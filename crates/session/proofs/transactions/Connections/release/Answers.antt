@@ -1,23 +1,15 @@
-use Rattle.std.proofs.Common.{◌≡◌, ◌∙◌, refl, subst, sym, false}
-use Rattle.std.specs.List.{list_any}
-use Rattle.sqlval.specs.Names.{is_same_name}
+use Rattle.std.proofs.Common.{refl}
+use Rattle.sqlval.specs.declared.fault.Fault.TheVariants as fault
+use Rattle.syntax.specs.declared.statement.BeginMode.TheVariants as begins
 use Rattle.syntax.specs.declared.statement.Statement.TheVariants as statement
-use Rattle.catalog.specs.Database.{Name}
-use Rattle.session.specs.SavedTables.{IsNewestNamed, names_in, savepoints_in}
-use Rattle.session.proofs.SavingSteps.{both_so, none_to_release, release_commits, released_step}
+use Rattle.session.proofs.Turning.{call_made, first_only, memory_alone, not_memory, only_so, reads_mark, refused_call}
 use Rattle.session.proofs.transactions.Connections.release.Goals as goal
 
-pub returns-in_default-clause-step : goal.returns-in_default-clause-step
-returns-in_default-clause-step g c =
-    none_to_release c.args.self.now c.args.name.now (subst (λ (n : Name). list_any (λ other. is_same_name other n) (names_in c.args.self.now.catalog) ≡ false) c.as_str.ensures c.in_default.ensures.none)
+pub returns-in_err-turn_to : goal.returns-in_err-turn_to
+returns-in_err-turn_to g c =
+    record { call = refused_call c.args.self.now c.turn_to.new.self c.args.connection (statement.Release c.args.name.now) c.in_err-turn_to.field-0.0 c.from_residual.result c.from_residual.ensures.1 c.in_err-turn_to.ensures.refused }
 
-pub returns-then-begins_at-clause-step : goal.returns-then-begins_at-clause-step
-returns-then-begins_at-clause-step g c =
-    let named = subst (λ (n : Name). IsNewestNamed n (names_in c.args.self.now.catalog) c.in-Some.place) c.as_str.ensures c.in-Some.ensures.found in
-    let first = both_so c.in-Some.place (savepoints_in c.args.self.now.catalog).began (sym c.begins_at.ensures ∙ c.if-begins_at.true) in
-    c.commit.ensures.step (statement.Release c.args.name.now) (release_commits c.args.self.now c.args.name.now c.in-Some.place named first.0 first.1)
-
-pub returns-clause-step : goal.returns-clause-step
-returns-clause-step g c =
-    let named = subst (λ (n : Name). IsNewestNamed n (names_in c.args.self.now.catalog) c.in-Some.place) c.as_str.ensures c.in-Some.ensures.found in
-    released_step c.args.self.now _ c.args.name.now c.in-Some.place named (sym c.begins_at.ensures ∙ c.if-begins_at.false) (record { files = refl; beside = refl }) c.release.ensures c.release-2.ensures
+pub returns : goal.returns
+returns g c =
+    record { call = call_made c.args.self.now c.turn_to.new.self c.release_here.new.self c.args.connection (statement.Release c.args.name.now) c.release_here.result c.in_ok-turn_to.ensures.free c.in_ok-turn_to.ensures.turned c.release_here.ensures.step
+    c.release_here.ensures.cause (c.release_here.ensures.marks) (c.release_here.ensures.refused) }

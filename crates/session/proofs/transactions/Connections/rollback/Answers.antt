@@ -1,9 +1,21 @@
-use Rattle.std.proofs.Common.{sym, ◌∙◌}
-use Rattle.session.proofs.Showing.{rollback_refused, rolled_back}
+use Rattle.std.proofs.Common.{refl}
+use Rattle.sqlval.specs.declared.fault.Fault.TheVariants as fault
+use Rattle.syntax.specs.declared.statement.BeginMode.TheVariants as begins
+use Rattle.syntax.specs.declared.statement.Statement.TheVariants as statement
+use Rattle.session.proofs.Turning.{call_made, first_only, memory_alone, not_memory, only_so, reads_mark, refused_call}
 use Rattle.session.proofs.transactions.Connections.rollback.Goals as goal
 
-pub returns-then-is_idle-clause-step : goal.returns-then-is_idle-clause-step
-returns-then-is_idle-clause-step g c = rollback_refused c.args.self.now (sym c.is_idle.ensures ∙ c.if-is_idle.true)
+pub returns-in_err-turn_to-clause-call : goal.returns-in_err-turn_to-clause-call
+returns-in_err-turn_to-clause-call g c =
+    refused_call c.args.self.now c.turn_to.new.self c.args.connection statement.Rollback c.in_err-turn_to.field-0.0 c.from_residual.result c.from_residual.ensures.1 c.in_err-turn_to.ensures.refused
 
-pub returns-clause-step : goal.returns-clause-step
-returns-clause-step g c = rolled_back c.args.self.now c.give_up.new.self (sym c.is_idle.ensures ∙ c.if-is_idle.false) c.give_up.ensures
+pub returns-clause-call : goal.returns-clause-call
+returns-clause-call g c =
+    call_made c.args.self.now c.turn_to.new.self c.rollback_here.new.self c.args.connection statement.Rollback c.rollback_here.result c.in_ok-turn_to.ensures.free c.in_ok-turn_to.ensures.turned c.rollback_here.ensures.step
+    c.rollback_here.ensures.cause (reads_mark _ _ _ c.rollback_here.ensures.reads) (not_memory _ statement.Rollback fault.NoTransaction c.rollback_here.result refl (λ e. absurd cc) c.rollback_here.ensures.refused)
+
+pub returns-in_err-turn_to-clause-only : goal.returns-in_err-turn_to-clause-only
+returns-in_err-turn_to-clause-only g c = first_only fault.NoTransaction c.args.self.now c.args.connection c.in_err-turn_to.field-0.0 c.from_residual.result c.from_residual.ensures.1 c.in_err-turn_to.ensures.refused.0
+
+pub returns-clause-only : goal.returns-clause-only
+returns-clause-only g c = only_so fault.NoTransaction c.args.self.now c.args.connection c.rollback_here.result c.rollback_here.ensures.refused

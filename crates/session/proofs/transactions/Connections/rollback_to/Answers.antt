@@ -1,18 +1,21 @@
-use Rattle.std.proofs.Common.{◌≡◌, ◌<◌, refl, subst, false, length, arith}
-use Rattle.std.proofs.lemmas.List.{length-map}
-use Rattle.std.specs.List.{list_any}
-use Rattle.sqlval.specs.Names.{is_same_name}
-use Rattle.catalog.specs.Database.{Name}
-use Rattle.session.specs.SavedTables.{IsNewestNamed, SavedTables, names_in, savepoints_in}
-use Rattle.session.proofs.SavingSteps.{none_to_go_back, returned_step}
+use Rattle.std.proofs.Common.{refl}
+use Rattle.sqlval.specs.declared.fault.Fault.TheVariants as fault
+use Rattle.syntax.specs.declared.statement.BeginMode.TheVariants as begins
+use Rattle.syntax.specs.declared.statement.Statement.TheVariants as statement
+use Rattle.session.proofs.Turning.{call_made, first_only, memory_alone, not_memory, only_so, reads_mark, refused_call}
 use Rattle.session.proofs.transactions.Connections.rollback_to.Goals as goal
 
-pub returns-in_default-clause-step : goal.returns-in_default-clause-step
-returns-in_default-clause-step g c =
-    none_to_go_back c.args.self.now c.args.name.now (subst (λ (n : Name). list_any (λ other. is_same_name other n) (names_in c.args.self.now.catalog) ≡ false) c.as_str.ensures c.in_default.ensures.none)
+pub returns-in_err-turn_to-clause-call : goal.returns-in_err-turn_to-clause-call
+returns-in_err-turn_to-clause-call g c =
+    refused_call c.args.self.now c.turn_to.new.self c.args.connection (statement.RollbackTo c.args.name.now) c.in_err-turn_to.field-0.0 c.from_residual.result c.from_residual.ensures.1 c.in_err-turn_to.ensures.refused
 
-pub returns-clause-step : goal.returns-clause-step
-returns-clause-step g c =
-    let named = subst (λ (n : Name). IsNewestNamed n (names_in c.args.self.now.catalog) c.in-Some.place) c.as_str.ensures c.in-Some.ensures.found in
-    let within : c.in-Some.place < length (savepoints_in c.args.self.now.catalog).points = omega (arith, named.within, length-map (savepoints_in c.args.self.now.catalog).points (λ (p : SavedTables). p.name)) in
-    returned_step c.args.self.now _ c.args.name.now c.in-Some.place named (record { files = refl; beside = refl }) (c.back_to.ensures within) c.back_to-2.ensures
+pub returns-clause-call : goal.returns-clause-call
+returns-clause-call g c =
+    call_made c.args.self.now c.turn_to.new.self c.rollback_to_here.new.self c.args.connection (statement.RollbackTo c.args.name.now) c.rollback_to_here.result c.in_ok-turn_to.ensures.free c.in_ok-turn_to.ensures.turned c.rollback_to_here.ensures.step
+    c.rollback_to_here.ensures.cause (reads_mark _ _ _ c.rollback_to_here.ensures.reads) (not_memory _ (statement.RollbackTo c.args.name.now) fault.NoSavepoint c.rollback_to_here.result refl (λ e. absurd cc) c.rollback_to_here.ensures.refused)
+
+pub returns-in_err-turn_to-clause-only : goal.returns-in_err-turn_to-clause-only
+returns-in_err-turn_to-clause-only g c = first_only fault.NoSavepoint c.args.self.now c.args.connection c.in_err-turn_to.field-0.0 c.from_residual.result c.from_residual.ensures.1 c.in_err-turn_to.ensures.refused.0
+
+pub returns-clause-only : goal.returns-clause-only
+returns-clause-only g c = only_so fault.NoSavepoint c.args.self.now c.args.connection c.rollback_to_here.result c.rollback_to_here.ensures.refused

@@ -5,7 +5,7 @@ use Rattle.session.specs.Changing.{written}
 use Rattle.session.specs.Machine.{Reply}
 use Rattle.session.specs.Representation.{StepsTo}
 use Rattle.session.proofs.Beginning.{done_refused, first_there}
-use Rattle.session.proofs.Marked.{moved_on, under_mark}
+use Rattle.session.proofs.Marked.{moved_on}
 use Rattle.session.proofs.ReadingPhases.{newest_by}
 use Rattle.session.proofs.Showing.{read_files}
 use Rattle.session.specs.ConnectionState.{files_of}
@@ -50,8 +50,7 @@ returns-in_err-apply-clause-step g c supported_forms keeps reads may m shown =
       newest = newest;
       begun = c.in_ok-writer.ensures.begun shown.told (omega (arith, newest.seen)) (omega (arith, (first_there old m shown c.snapshot-snapshot.result newest).last));
     }))
-    (λ db applies. under_mark (written c.args.write) mid c.apply.new.self db w marked c.in_err-apply.field-0.0 sets.same sets.stands
-    (c.in_err-apply.ensures.applies db supported_forms keeps (moved_on mid w marked db sets.same sets.stands applies)))
+    (λ db applies. c.in_err-apply.ensures.applies db supported_forms keeps (moved_on mid w marked db sets.same sets.stands applies))
     (λ m shown. opens_reading old m shown c.args.write reads may) m shown)
 
 pub returns-clause-step : goal.returns-clause-step
