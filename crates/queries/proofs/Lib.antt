@@ -10,6 +10,7 @@ pub mod Kept
 pub mod KeyOrders
 pub mod Levels
 pub mod Loaded
+pub mod PartRows
 pub mod Places
 pub mod Quiet
 pub mod Runs

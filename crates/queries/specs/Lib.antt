@@ -3,4 +3,5 @@ pub mod Checks
 pub mod Groups
 pub mod Nesting
 pub mod Numbers
+pub mod Parts
 pub mod Sorting

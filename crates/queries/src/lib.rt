@@ -6,12 +6,14 @@ mod arguments;
 mod distinct;
 mod grouping;
 mod nesting;
+mod parts;
 mod results;
 mod sorting;
 
 ghost use Rattle.queries.specs.Answers.{LoadsBeside};
 
-pub use answering::answer;
+pub use answering::{answer, finish};
+pub use parts::{GivenRows, give_rows, is_row_by_row, rows_are_given_in_parts};
 
 /// Lists of rows that are loaded by the sources' names stand beside the sources' conditions.
 pub fn rows_are_loaded_beside_conditions()

@@ -5,5 +5,5 @@ pub mod RowLemmas
 pub mod RowOrder
 pub mod Steps
 mod SourceRows
-mod TreeAnswers
+pub mod TreeAnswers
 pub mod TreeOrder

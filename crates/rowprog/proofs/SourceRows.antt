@@ -1,6 +1,7 @@
 -- The rows of a tree, as a query's source has them.
 use Rattle.std.proofs.Common.{◌≡◌, ◌⊎◌, inl, inr, refl, sym, ap, subst, ◌∙◌, ℕ, ℤ, ◌++◌, List, [], ◌∷◌, map, Ok, Err}
-use Rattle.std.specs.Prelude.{Result, IsErrAnd}
+use Rattle.std.specs.Prelude.{Option, Result, IsErrAnd, ⊤}
+use Rattle.std.proofs.lemmas.List.{map-append}
 use Rattle.sqlval.specs.Faults.{IsNotDiskFault, IsOutside}
 use Rattle.sqlval.specs.Gives.{Refuses}
 use Rattle.sqlval.specs.declared.fault.Fault.{Fault}
@@ -10,15 +11,17 @@ use Rattle.record.specs.Columns.{HoldsValues}
 use Rattle.page.specs.Leaf.{Entry}
 use Rattle.pages.specs.Map.{PageMap, AreWhole}
 use Rattle.treepage.specs.Cells.{Pairwise}
+use Rattle.tabletree.specs.Rows.{rows_from}
+use Rattle.tabletree.specs.Scanning.{GivesBatch}
 use Rattle.tabletree.specs.Tree.{IsTableTree}
 use Rattle.terms.specs.Values.{Row}
 use Rattle.bind.specs.declared.queries.BoundSource.{BoundSource}
 use Rattle.rowprog.specs.Answers.{◌and◌, every, left, with_front}
 use Rattle.rowprog.specs.Rows.{IsRow, TableRow}
-use Rattle.rowprog.specs.Sources.{LoadsRows, as_held, as_source, source_at}
+use Rattle.rowprog.specs.Sources.{GivesRows, LoadsRows, as_held, as_source, source_at}
 use Rattle.rowprog.proofs.Calm.{rows_calm}
 use Rattle.rowprog.proofs.RowLemmas.{ok_is}
-use Rattle.rowprog.proofs.Steps.{refused_so}
+use Rattle.rowprog.proofs.Steps.{begins, refused_so}
 
 abbrev fine : {A : Type 0} → A → Result A Fault
 fine x = Ok x
@@ -71,3 +74,29 @@ left_calm entries front fault refuses = elim (refused_so fault (left source_at e
   | inl memory ↦ rows_calm fault (inl memory)
   | inr is ↦ absurd (no_both (front ++ map as_held entries) fault (sym (front_held front entries) ∙ is))
 ]
+
+-- ---- the next rows
+
+-- added to none, the rows of a batch are these
+pub batch_held : (batch : List Entry) (front found : List Row) → front ≡ [] → left source_at batch front ≡ Ok found → found ≡ map as_held batch
+batch_held batch front found none is =
+    ok_is (sym is ∙ (ap (λ (f : List Row). left source_at batch f) none ∙ (begins source_at batch ∙ every_held batch)))
+
+pub next_given : (pages : PageMap) (size root : ℕ) (next later : Option ℤ) (batch : List Entry) (found : List Row) → found ≡ map as_held batch → GivesBatch pages size root next later batch (Ok tt) → GivesRows pages size root next later (Ok found)
+next_given pages size root next later batch found is gives entries used whole tree =
+    ap (map as_held) (gives entries used whole tree).0 ∙ (map-append as_held batch (rows_from later entries) ∙ ap (λ (f : List Row). f ++ map as_held (rows_from later entries)) (sym is))
+
+pub next_unread : (pages : PageMap) (size root : ℕ) (next later : Option ℤ) (batch : List Entry) (fault : Fault) (result : Result (List Row) Fault) → IsErrAnd result (λ e. e ≡ fault)
+    → GivesBatch pages size root next later batch (Err fault) → GivesRows pages size root next later result
+next_unread pages size root next later batch fault (Ok x) same gives = absurd same
+next_unread pages size root next later batch fault (Err e) same gives = λ entries used whole tree. subst IsOutside (sym same) (gives entries used whole tree)
+
+-- only for want of memory is a row not added
+pub next_unheld : (pages : PageMap) (size root : ℕ) (next later : Option ℤ) (batch : List Entry) (front : List Row) (fault : Fault) (result : Result (List Row) Fault) → IsErrAnd result (λ e. e ≡ fault)
+    → Refuses fault (left source_at batch front) → GivesRows pages size root next later result
+next_unheld pages size root next later batch front fault (Ok x) same refuses = absurd same
+next_unheld pages size root next later batch front fault (Err e) same refuses = λ entries used whole tree.
+    subst IsOutside (sym same) (elim (refused_so fault (left source_at batch front) refuses) [
+      | inl memory ↦ inl memory
+      | inr is ↦ absurd (no_both (front ++ map as_held batch) fault (sym (front_held front batch) ∙ is))
+    ])

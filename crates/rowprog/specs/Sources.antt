@@ -1,14 +1,17 @@
 -- The rows of a table as a query's source has them.
-use Rattle.std.specs.Prelude.{◌≡◌, ℕ, List, map, Result, Ok, MatchResult}
+use Rattle.std.specs.Prelude.{◌≡◌, ℕ, ℤ, ◌++◌, List, map, Option, Result, Ok, MatchResult}
 use Rattle.sqlval.specs.Faults.{IsOutside}
 use Rattle.sqlval.specs.declared.fault.Fault.{Fault}
 use Rattle.sqlval.specs.declared.value.Value.TheVariants.{Int}
 use Rattle.record.specs.Columns.{values_in}
 use Rattle.page.specs.Leaf.{Entry}
 use Rattle.pages.specs.Map.{PageMap, AreWhole}
+use Rattle.treepage.specs.Cells.{Pairwise}
+use Rattle.tabletree.specs.Rows.{rows_from}
+use Rattle.tabletree.specs.Tree.{IsTableTree}
 use Rattle.terms.specs.Values.{Row}
 use Rattle.bind.specs.declared.queries.BoundSource.{BoundSource}
-use Rattle.rowprog.specs.Rows.{TableRow}
+use Rattle.rowprog.specs.Rows.{IsRow, TableRow}
 use Rattle.rowprog.specs.Trees.{HasRows}
 
 -- a row with its rowid as a value
@@ -27,3 +30,13 @@ source_at entry = Ok (as_held entry)
 abbrev pub LoadsRows : PageMap → ℕ → BoundSource → Result (List Row) Fault → Type 0
 LoadsRows pages size table result = (rows : List TableRow) → AreWhole size pages → HasRows pages size table.root table.width rows
     → MatchResult result (λ found. found ≡ map as_source rows) IsOutside
+
+-- Of a tree these are the next rows that come, as a source has them, and the others come later; or memory was short, or a disk's call
+-- failed.
+abbrev pub GivesRows : PageMap → ℕ → ℕ → Option ℤ → Option ℤ → Result (List Row) Fault → Type 0
+GivesRows pages size root next later result = (entries : List Entry) (used : List ℕ) → AreWhole size pages → IsTableTree pages size root entries used
+    → MatchResult result (λ found. map as_held (rows_from next entries) ≡ found ++ map as_held (rows_from later entries)) IsOutside
+
+-- Entries that are rows of a table are held as these.
+abbrev pub HoldRows : Type 0
+HoldRows = (width : ℕ) (entries : List Entry) (rows : List TableRow) → Pairwise (IsRow width) entries rows → map as_held entries ≡ map as_source rows

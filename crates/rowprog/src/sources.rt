@@ -1,11 +1,11 @@
 //! The rows of a table as a query's source.
 
-ghost use Rattle.std.specs.Prelude.{◌≡◌, IfErr, IsTrue};
+ghost use Rattle.std.specs.Prelude.{◌≡◌, [], IfErr, IfOk, IsTrue};
 ghost use Rattle.sqlval.specs.Gives.{Gives};
 ghost use Rattle.pages.specs.Calls.{Stays};
-ghost use Rattle.tabletree.specs.Scanning.{entry_in};
+ghost use Rattle.tabletree.specs.Scanning.{IsForward, entry_in};
 ghost use Rattle.rowprog.specs.Answers.{left};
-ghost use Rattle.rowprog.specs.Sources.{LoadsRows, source_at};
+ghost use Rattle.rowprog.specs.Sources.{GivesRows, HoldRows, LoadsRows, source_at};
 
 use bind::BoundSource;
 use pages::Pages;
@@ -48,4 +48,41 @@ pub fn source_rows<P: Pages>(alloc: Global, pages: &mut P, table: BoundSource) -
         add_source_rows(alloc, &batch, &mut rows)?;
     }
     Ok(rows)
+}
+
+/// A list of no rows, in the memory of these.
+fn emptied(rows: Many<SourceRow>) -> Many<SourceRow>
+    ensures { result ≡ [] }
+{
+    let mut items = rows.into_vec();
+    items.clear();
+    Many::from_vec(items)
+}
+
+/// The next rows of a table's tree, in the memory of others: at least one, unless the cursor is at the end. (What `Cursor::next_batch`
+/// refuses.)
+pub fn next_source_rows<P: Pages>(
+    alloc: Global,
+    pages: &mut P,
+    cursor: &mut Cursor,
+    batch: &mut Batch,
+    rows: Many<SourceRow>,
+) -> R<Many<SourceRow>>
+    ensures given { IsTrue (P.Pages.tells (P.Pages.below pages.old))
+        → GivesRows (P.Pages.map pages.old) (P.Pages.limits (P.Pages.below pages.old)).page cursor.old.root cursor.old.next cursor.new.next result }
+    ensures forward { IfOk result (λ rows. IsForward cursor.old.next cursor.new.next) }
+    ensures root { cursor.new.root ≡ cursor.old.root }
+    ensures stays { Stays P.Pages.below P.Pages.map P.Pages.count P.Pages.failures result pages.old pages.new }
+{
+    let mut next = emptied(rows);
+    cursor.next_batch(pages, batch)?;
+    add_source_rows(alloc, batch, &mut next)?;
+    Ok(next)
+}
+
+/// Entries that are rows of a table are held as these.
+pub fn rows_are_held()
+    ensures { HoldRows }
+{
+    records_hold_their_values();
 }

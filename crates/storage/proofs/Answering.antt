@@ -11,7 +11,7 @@ use Rattle.terms.specs.Outcome.{AnswersBy}
 use Rattle.rowprog.specs.Trees.{AnswersOrFails}
 use Rattle.storage.specs.Reading.{AnswersRead}
 
-abbrev Rows : Type 0
+abbrev pub Rows : Type 0
 Rows = List (List Value)
 
 pub answers : {X : Type 0} (view : X → Rows) (answer : Answer Rows) (result : Result X Fault) → AnswersBy view answer result → AnswersOrFails view answer result

@@ -25,6 +25,7 @@ pub mod StoredObjects
 pub mod StoredPages
 pub mod StoredTables
 pub mod StoredTrees
+pub mod StreamedRows
 pub mod Telling
 pub mod TreePages
 pub mod Untelling

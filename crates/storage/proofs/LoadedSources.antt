@@ -140,6 +140,12 @@ have_rows pages size tables db stored (s ∷ ss) (p ∷ ps) placed = (at (table_
 
 -- ---- its answer
 
+-- a query comes to what it comes to over the rows of its sources
+pub answer_over : (law : LoadsBeside) (rows_at : ℕ → List TableRow) (tables : List Table) (db : Database) (reading : Reading) (places : List BoundSource) → Lists rows_at tables db → ArePlaced tables reading.sources places
+    → answer_of db [] reading ≡ rows_over reading [] (beside_rows reading.sources (rows_in rows_at places))
+answer_over law rows_at tables db reading places lists placed =
+    ap (λ a. a then rows_over reading []) (law (all_rows db) reading.sources ∙ ap (λ (a : Answer (List (List Row))). a then λ lists. Ok (beside_rows reading.sources lists)) (sources_loaded rows_at tables db lists reading.sources places placed))
+
 pub rows_answered : {X : Type 0} (view : X → List (List _)) (law : LoadsBeside) (rows_at : ℕ → List TableRow) (tables : List Table) (db : Database) (reading : Reading) (places : List BoundSource) (sources : List (List Row)) (result : Result X Fault)
     → Lists rows_at tables db → ArePlaced tables reading.sources places → sources ≡ rows_in rows_at places
     → (length sources ≡ length reading.sources → AnswersBy view (rows_over reading [] (beside_rows reading.sources sources)) result) → AnswersOrFails view (answer_of db [] reading) result
@@ -147,9 +153,7 @@ rows_answered view law rows_at tables db reading places sources result lists pla
     answers view (answer_of db [] reading) result (subst (λ a. AnswersBy view a result) (sym over) (gives (ap length are ∙ as_many rows_at tables reading.sources places placed)))
   where
     over : answer_of db [] reading ≡ rows_over reading [] (beside_rows reading.sources sources)
-    over =
-        ap (λ a. a then rows_over reading []) (law (all_rows db) reading.sources ∙ ap (λ (a : Answer (List (List Row))). a then λ lists. Ok (beside_rows reading.sources lists)) (sources_loaded rows_at tables db lists reading.sources places placed))
-        ∙ ap (λ (l : List (List Row)). rows_over reading [] (beside_rows reading.sources l)) (sym are)
+    over = answer_over law rows_at tables db reading places lists placed ∙ ap (λ (l : List (List Row)). rows_over reading [] (beside_rows reading.sources l)) (sym are)
 
 -- a refusal of its names is one of reading it
 pub unnamed : (db : Database) (q : Query) (f : Fault) → IsFaultOf (faults (resolve_query (look_up db) [] q)) f → IsFaultOf (faults (read_on db q)) f

@@ -1,5 +1,5 @@
 -- What a query answers (SQL As Understood By SQLite, "SELECT").
-use Rattle.std.specs.Prelude.{◌≡◌, ◌⊎◌, ℕ, false, List, [], map, Contains, MatchResult, Result, Ok, Err}
+use Rattle.std.specs.Prelude.{◌≡◌, ◌⊎◌, ℕ, false, List, [], ◌∷◌, map, Contains, MatchResult, Result, Ok, Err}
 use Rattle.std.specs.List.{AllByRecursion}
 use Rattle.sqlval.specs.Faults.{IsOutside}
 use Rattle.sqlval.specs.Refusals.{Answer, refusal_of}
@@ -16,7 +16,9 @@ use Rattle.bind.specs.declared.queries.BoundSource.{BoundSource}
 use Rattle.bind.specs.declared.reading.Reading.{Reading}
 use Rattle.rowprog.specs.Rows.{TableRow}
 use Rattle.rowprog.specs.Sources.{as_source}
-use Rattle.rowprog.specs.Trees.{HasRows}
+use Rattle.rowprog.specs.Trees.{AnswersOrFails, HasRows}
+use Rattle.bind.specs.Readings.{rows_over}
+use Rattle.queries.specs.Nesting.{beside_rows}
 
 -- What a call answered of a query, seen by `view`, is what reading it comes to, or one of its refusals; or memory was short, or a disk's
 -- call failed.
@@ -40,3 +42,9 @@ rows_in rows_at tables = map (λ t. map as_source (rows_at t.root)) tables
 abbrev pub LoadsAll : {X : Type 0} → (X → List (List Row)) → PageMap → ℕ → List BoundSource → Result X Fault → Type 0
 LoadsAll view pages size tables result = (rows_at : ℕ → List TableRow) → AreWhole size pages → HaveRows pages size rows_at tables
     → MatchResult result (λ x. view x ≡ rows_in rows_at tables) IsOutside
+
+-- What a call answered, seen by `view`, is what a query comes to over the rows of its only source, where its tree has some; or one of its
+-- refusals.
+abbrev pub Streams : {X : Type 0} → (X → List (List Value)) → PageMap → ℕ → Reading → BoundSource → Result X Fault → Type 0
+Streams view pages size reading table result = (rows : List TableRow) → AreWhole size pages → HasRows pages size table.root table.width rows
+    → AnswersOrFails view (rows_over reading [] (beside_rows reading.sources (map as_source rows ∷ []))) result

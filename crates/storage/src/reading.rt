@@ -1,6 +1,6 @@
 //! The rows of a query.
 
-ghost use Rattle.std.specs.Prelude.{◌≡◌, [], length, map, IfOk, IsTrue, List};
+ghost use Rattle.std.specs.Prelude.{◌≡◌, ◌∷◌, [], length, map, true, IfOk, IfSome, IsTrue, List};
 ghost use Rattle.pages.specs.Calls.{Stays};
 ghost use Rattle.catalog.specs.Database.{Database};
 ghost use Rattle.catalog.specs.Listed.{tables_of};
@@ -8,21 +8,26 @@ ghost use Rattle.catalog.specs.declared.tables.Table.{Table as Listed};
 ghost use Rattle.bind.specs.Views.{answer_of};
 ghost use Rattle.querybinder.specs.Named.{ArePlaced};
 ghost use Rattle.queries.specs.Answers.{HaveWidth};
+ghost use Rattle.queries.specs.Parts.{is_row_by_row as row_by_row};
 ghost use Rattle.rowprog.specs.Rows.{values_of};
 ghost use Rattle.rowprog.specs.Trees.{AnswersOrFails};
-ghost use Rattle.storage.specs.Reading.{AnswersRead, LoadsAll};
+ghost use Rattle.storage.specs.Reading.{AnswersRead, LoadsAll, Streams};
 ghost use Rattle.storage.specs.Stored.{Stores};
 ghost use Rattle.storage.specs.Works.{read_on};
 
-use bind::BoundSource;
+use bind::{BoundSource, Reading};
 use catalog::Catalog;
 use pages::Pages;
-use queries::{answer, rows_are_loaded_beside_conditions};
+use queries::{
+    GivenRows, answer, finish, give_rows, is_row_by_row, rows_are_given_in_parts,
+    rows_are_loaded_beside_conditions,
+};
 use querybinder::{BoundReading, bind_reading};
-use rowprog::{Rows, source_rows};
+use rowprog::{Rows, next_source_rows, rows_are_held, source_rows};
 use sqlval::{Many, R};
 use std::alloc::Global;
 use syntax::Query;
+use tabletree::{Batch, Cursor};
 use terms::SourceRow;
 
 /// The rows of these tables, each table's by rising rowid. (What `source_rows` refuses.)
@@ -44,8 +49,8 @@ fn load_sources<P: Pages>(
     Ok(sources)
 }
 
-/// The rows of a query whose names are looked up. (What `source_rows` and `answer` refuse.)
-pub(crate) fn bound_rows<P: Pages>(alloc: Global, pages: &mut P, bound: &BoundReading) -> R<Rows>
+/// The rows of a query whose sources are loaded whole. (What `source_rows` and `answer` refuse.)
+fn loaded_rows<P: Pages>(alloc: Global, pages: &mut P, bound: &BoundReading) -> R<Rows>
     ensures answered { (tables : List Listed) (db : Database) → IsTrue (P.Pages.tells (P.Pages.below pages.old))
         → Stores (P.Pages.map pages.old) (P.Pages.limits (P.Pages.below pages.old)).page tables db
         → ArePlaced tables bound.now.reading.sources bound.now.tables
@@ -56,6 +61,60 @@ pub(crate) fn bound_rows<P: Pages>(alloc: Global, pages: &mut P, bound: &BoundRe
     rows_are_loaded_beside_conditions();
     let sources = load_sources(alloc, pages, bound.tables.as_slice())?;
     answer(alloc, &bound.reading, &sources)
+}
+
+/// The rows of a query that is row by row: its source's tree is read leaf by leaf, and no more of it is held than one leaf. (What
+/// `next_source_rows`, `give_rows` and `finish` refuse.)
+fn streamed_rows<P: Pages>(
+    alloc: Global,
+    pages: &mut P,
+    reading: &Reading,
+    table: BoundSource,
+) -> R<Rows>
+    requires { row_by_row reading.now ≡ true }
+    ensures answered { IsTrue (P.Pages.tells (P.Pages.below pages.old))
+        → Streams (λ rows. map values_of rows.items) (P.Pages.map pages.old) (P.Pages.limits (P.Pages.below pages.old)).page reading.now table result }
+    ensures wide { IfOk result (λ rows. HaveWidth (length reading.now.results) (map values_of rows.items)) }
+    ensures stays { Stays P.Pages.below P.Pages.map P.Pages.count P.Pages.failures result pages.old pages.new }
+{
+    rows_are_given_in_parts();
+    rows_are_held();
+    let mut found = GivenRows::new(alloc);
+    let mut rows = Many::new(alloc);
+    let mut batch = Batch::new(alloc);
+    let mut cursor = Cursor::new(table.root);
+    'leaves: while cursor.next.is_some() {
+        rows = next_source_rows(alloc, pages, &mut cursor, &mut batch, rows)?;
+        give_rows(alloc, reading, &rows, &mut found)?;
+    }
+    finish(alloc, reading, found)
+}
+
+/// The table of a query that is row by row.
+fn only_table(bound: &BoundReading) -> Option<BoundSource>
+    ensures row_by_row { IfSome result (λ table. row_by_row bound.now.reading ≡ true) }
+    ensures only { IfSome result (λ table. bound.now.tables ≡ table ∷ []) }
+{
+    match bound.tables.as_slice() {
+        [table] if is_row_by_row(&bound.reading) => Some(*table),
+        _ => None,
+    }
+}
+
+/// The rows of a query whose names are looked up. (What `loaded_rows` and `streamed_rows` refuse.)
+pub(crate) fn bound_rows<P: Pages>(alloc: Global, pages: &mut P, bound: &BoundReading) -> R<Rows>
+    ensures answered { (tables : List Listed) (db : Database) → IsTrue (P.Pages.tells (P.Pages.below pages.old))
+        → Stores (P.Pages.map pages.old) (P.Pages.limits (P.Pages.below pages.old)).page tables db
+        → ArePlaced tables bound.now.reading.sources bound.now.tables
+        → AnswersOrFails (λ rows. map values_of rows.items) (answer_of db [] bound.now.reading) result }
+    ensures wide { IfOk result (λ rows. HaveWidth (length bound.now.reading.results) (map values_of rows.items)) }
+    ensures stays { Stays P.Pages.below P.Pages.map P.Pages.count P.Pages.failures result pages.old pages.new }
+{
+    rows_are_loaded_beside_conditions();
+    let Some(table) = only_table(bound) else {
+        return loaded_rows(alloc, pages, bound);
+    };
+    streamed_rows(alloc, pages, &bound.reading, table)
 }
 
 /// The rows of a query. (What `bind_reading`, `source_rows` and `answer` refuse.)

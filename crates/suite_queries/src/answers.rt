@@ -1,9 +1,9 @@
 //! Queries over t(a), which holds 2, 1, 2 and 3, and u(c, d), which holds (2, 8), (2, 7) and (4, 9).
 
 use bind::{Condition, Reading};
-use queries::answer;
+use queries::{GivenRows, answer, finish, give_rows, is_row_by_row};
 use record::encode_row;
-use sqlval::{Collation, Fault, Many, Name, R, Row, Value};
+use sqlval::{Collation, Fault, Many, Misuse, Name, R, Row, Value};
 use std::alloc::Global;
 use std::test::*;
 use terms::{Aggregate, Arithmetic, Comparison, Node, Place, SourceRow, Term, TwoSided};
@@ -232,5 +232,58 @@ fn a_sum_past_64_bits_is_refused(rt: HostRuntime) -> Result<(), Fail> {
         .results
         .push(two(alloc, add, integer(i64::MAX), cell(0, 0))?)?;
     assert!(rt; matches!(over_t(alloc, &query), Err(Fault::RealRefused)));
+    Ok(())
+}
+
+/// What the query answers over t and once more t, given one after the other.
+fn over_parts(alloc: Global, query: &Reading) -> R<Vec<Row>> {
+    let mut found = GivenRows::new(alloc);
+    give_rows(alloc, query, &rows_of_t(alloc)?, &mut found)?;
+    give_rows(alloc, query, &rows_of_t(alloc)?, &mut found)?;
+    finish(alloc, query, found)
+}
+
+#[test]
+fn parts_are_sorted_and_counted_as_one(rt: HostRuntime) -> Result<(), Fail> {
+    let alloc = rt.alloc();
+    let mut query = from_t(alloc)?;
+    query.order.push((cell(0, 0), false))?;
+    query.limit = Some(3);
+    query.offset = 1;
+    query.results.push(cell(0, 0))?;
+    query.results.push(integer(0))?;
+    let rows = over_parts(alloc, &query)?;
+    let wanted = [(Some(1), Some(0)), (Some(2), Some(0)), (Some(2), Some(0))];
+    assert!(rt; are_pairs(rows.as_slice(), &wanted));
+    Ok(())
+}
+
+#[test]
+fn a_part_is_refused_for_its_first_row(rt: HostRuntime) -> Result<(), Fail> {
+    let alloc = rt.alloc();
+    let mut query = from_t(alloc)?;
+    let add = TwoSided::Calculate(Arithmetic::Add);
+    query
+        .results
+        .push(two(alloc, add, integer(i64::MAX), cell(0, 0))?)?;
+    assert!(rt; matches!(over_parts(alloc, &query), Err(Fault::RealRefused)));
+    Ok(())
+}
+
+#[test]
+fn joins_and_groups_are_not_given_row_by_row(rt: HostRuntime) -> Result<(), Fail> {
+    let alloc = rt.alloc();
+    let joined = from_both(alloc)?;
+    let mut grouped = from_t(alloc)?;
+    grouped.is_grouped = true;
+    assert!(rt; is_row_by_row(&from_t(alloc)?));
+    assert!(rt; !is_row_by_row(&joined));
+    assert!(rt; !is_row_by_row(&grouped));
+    assert!(rt;
+        matches!(
+            over_parts(alloc, &grouped),
+            Err(Fault::Misuse(Misuse::Count))
+        )
+    );
     Ok(())
 }
