@@ -29,7 +29,7 @@ fn with_numbers(alloc: Global, found: Vec<FoundRow>) -> R<Vec<Numbered>>
     ensures numbers { IfOk result (λ rows. rows.items ≡ numbered_from 0 found.items) }
     ensures refused { IfErr result (λ fault. fault ≡ Fault.Memory) }
 {
-    let mut rows = Vec::new(alloc);
+    let mut rows = Vec::with_capacity(alloc, found.len())?;
     'rows: for row in found {
         let number = count_of(&rows);
         rows.push(Numbered { number, row })?;
@@ -42,7 +42,7 @@ fn rows_alone(alloc: Global, numbered: Vec<Numbered>) -> R<Vec<FoundRow>>
     ensures rows { IfOk result (λ rows. rows.items ≡ map row_in numbered.items) }
     ensures refused { IfErr result (λ fault. fault ≡ Fault.Memory) }
 {
-    let mut rows = Vec::new(alloc);
+    let mut rows = Vec::with_capacity(alloc, numbered.len())?;
     'rows: for item in numbered {
         rows.push(item.row)?;
     }

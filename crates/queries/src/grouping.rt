@@ -23,7 +23,7 @@ fn places_of(alloc: Global, rows: &[FoundRow]) -> R<Vec<RowPlaces>>
     ensures places { IfOk result (λ places. places.items ≡ map (λ r. r.picked) rows.now) }
     ensures refused { IfErr result (λ fault. fault ≡ Fault.Memory) }
 {
-    let mut places = Vec::new(alloc);
+    let mut places = Vec::with_capacity(alloc, rows.len())?;
     'rows: for row in rows {
         places.push(RowPlaces::from_slice(alloc, row.picked.as_slice())?)?;
     }

@@ -29,22 +29,22 @@ pub struct FoundRow {
 fn values_of(alloc: Global, terms: &[Term], env: Env<'_>) -> R<Many<Value>>
     ensures { AnswersBy (λ vs. vs) (meant.values (seen env.entry) terms.now) result }
 {
-    let mut values = Many::new(alloc);
+    let mut values = Vec::with_capacity(alloc, terms.len())?;
     'terms: for term in terms {
         values.push(evaluate(alloc, term, env)?.into_value(alloc)?)?;
     }
-    Ok(values)
+    Ok(Many::from_vec(values))
 }
 
 /// The values of the expressions of ORDER BY, from left to right.
 fn order_values(alloc: Global, order: &[(Term, bool)], env: Env<'_>) -> R<Many<Value>>
     ensures { AnswersBy (λ vs. vs) (meant.values (seen env.entry) (map (λ o. o.0) order.now)) result }
 {
-    let mut values = Many::new(alloc);
+    let mut values = Vec::with_capacity(alloc, order.len())?;
     'terms: for (term, _) in order {
         values.push(evaluate(alloc, term, env)?.into_value(alloc)?)?;
     }
-    Ok(values)
+    Ok(Many::from_vec(values))
 }
 
 /// A row of the answer: its results, and then what it is sorted by.

@@ -7,4 +7,5 @@ pub mod Limits
 pub mod Picked
 pub mod InOrder
 pub mod Quiet
+pub mod Truths
 pub mod IntegerValues

@@ -24,8 +24,8 @@ use std::alloc::Global;
 
 /// The value of an expression, or its first refusal.
 #[cycle(evaluate)]
-pub fn evaluate<'a>(alloc: Global, term: &'a Term, env: Env<'a>) -> R<Datum<'a>>
-    ensures { AnswersBy datum (meant.value term.now (seen env.entry)) result }
+pub fn evaluate<'a>(alloc: Global, term: &'a Term, env: &Env<'a>) -> R<Datum<'a>>
+    ensures { AnswersBy datum (meant.value term.now (seen env.now)) result }
 {
     match &term.node {
         Node::Const(value) => Ok(Datum::Lent(value.as_field())),
@@ -50,10 +50,23 @@ pub fn evaluate<'a>(alloc: Global, term: &'a Term, env: Env<'a>) -> R<Datum<'a>>
     }
 }
 
-/// Whether an expression is true, or neither true nor false.
+/// Whether an expression is true, or neither true nor false: AND and OR make no value of it.
 #[cycle(evaluate)]
-pub fn holds(alloc: Global, term: &Term, env: Env<'_>) -> R<Option<bool>>
-    ensures { Answers (meant.value term.now (seen env.entry) then meant.truth) result }
+#[tactic(auto, using(crate::proofs::Truths::truth_again))]
+pub fn holds<'a>(alloc: Global, term: &'a Term, env: &Env<'a>) -> R<Option<bool>>
+    ensures { Answers (meant.value term.now (seen env.now) then meant.truth) result }
+{
+    match &term.node {
+        Node::Two(TwoSided::And, left, right) => joined(alloc, false, left, right, env),
+        Node::Two(TwoSided::Or, left, right) => joined(alloc, true, left, right, env),
+        _ => value_holds(alloc, term, env),
+    }
+}
+
+/// The same by its value, or without it where it is an integer.
+#[cycle(evaluate)]
+fn value_holds<'a>(alloc: Global, term: &'a Term, env: &Env<'a>) -> R<Option<bool>>
+    ensures { Answers (meant.value term.now (seen env.now) then meant.truth) result }
 {
     if let Some(test) = integer_holds(term, env) {
         return Ok(Some(test));
@@ -63,8 +76,8 @@ pub fn holds(alloc: Global, term: &Term, env: Env<'_>) -> R<Option<bool>>
 
 /// A minus or NOT.
 #[cycle(evaluate)]
-fn of_one(alloc: Global, operator: OneSided, operand: &Term, env: Env<'_>) -> R<Value>
-    ensures { Answers (meant.value (tree.One operator operand.now) (seen env.entry)) result }
+fn of_one<'a>(alloc: Global, operator: OneSided, operand: &'a Term, env: &Env<'a>) -> R<Value>
+    ensures { Answers (meant.value (tree.One operator operand.now) (seen env.now)) result }
 {
     match operator {
         OneSided::Negated => minus(alloc, operand, env),
@@ -74,8 +87,8 @@ fn of_one(alloc: Global, operator: OneSided, operand: &Term, env: Env<'_>) -> R<
 
 /// A minus; right before a number it may make the least number of 64 bits.
 #[cycle(evaluate)]
-fn minus(alloc: Global, operand: &Term, env: Env<'_>) -> R<Value>
-    ensures { Answers (meant.value (tree.One OneSided.Negated operand.now) (seen env.entry)) result }
+fn minus<'a>(alloc: Global, operand: &'a Term, env: &Env<'a>) -> R<Value>
+    ensures { Answers (meant.value (tree.One OneSided.Negated operand.now) (seen env.now)) result }
 {
     match &operand.node {
         Node::Digits(number) => word(-i128::from(*number)),
@@ -85,8 +98,14 @@ fn minus(alloc: Global, operand: &Term, env: Env<'_>) -> R<Value>
 
 /// An operator between two operands; the left one is evaluated first.
 #[cycle(evaluate)]
-fn of_two(alloc: Global, operator: TwoSided, left: &Term, right: &Term, env: Env<'_>) -> R<Value>
-    ensures { Answers (meant.value (tree.Two operator left.now right.now) (seen env.entry)) result }
+fn of_two<'a>(
+    alloc: Global,
+    operator: TwoSided,
+    left: &'a Term,
+    right: &'a Term,
+    env: &Env<'a>,
+) -> R<Value>
+    ensures { Answers (meant.value (tree.Two operator left.now right.now) (seen env.now)) result }
 {
     match operator {
         TwoSided::Compare(operator) => comparison(alloc, operator, left, right, env),
@@ -101,9 +120,15 @@ fn of_two(alloc: Global, operator: TwoSided, left: &Term, right: &Term, env: Env
 
 /// AND and OR: the second side is evaluated only where the first doesn't decide.
 #[cycle(evaluate)]
-fn joined(alloc: Global, is_or: bool, left: &Term, right: &Term, env: Env<'_>) -> R<Option<bool>>
+fn joined<'a>(
+    alloc: Global,
+    is_or: bool,
+    left: &'a Term,
+    right: &'a Term,
+    env: &Env<'a>,
+) -> R<Option<bool>>
     ensures { AnswersBy meant.of_truth
-        (meant.value (tree.Two (if is_or then TwoSided.Or else TwoSided.And) left.now right.now) (seen env.entry)) result }
+        (meant.value (tree.Two (if is_or then TwoSided.Or else TwoSided.And) left.now right.now) (seen env.now)) result }
 {
     let first = holds(alloc, left, env)?;
     if first == Some(is_or) {
@@ -119,14 +144,14 @@ fn joined(alloc: Global, is_or: bool, left: &Term, right: &Term, env: Env<'_>) -
 
 /// An operator on numbers.
 #[cycle(evaluate)]
-fn calculation(
+fn calculation<'a>(
     alloc: Global,
     operator: Arithmetic,
-    left: &Term,
-    right: &Term,
-    env: Env<'_>,
+    left: &'a Term,
+    right: &'a Term,
+    env: &Env<'a>,
 ) -> R<Value>
-    ensures { Answers (meant.value (tree.Two (TwoSided.Calculate operator) left.now right.now) (seen env.entry)) result }
+    ensures { Answers (meant.value (tree.Two (TwoSided.Calculate operator) left.now right.now) (seen env.now)) result }
 {
     let first = evaluate(alloc, left, env)?;
     let second = evaluate(alloc, right, env)?;
@@ -135,8 +160,8 @@ fn calculation(
 
 /// `||`.
 #[cycle(evaluate)]
-fn concatenation(alloc: Global, left: &Term, right: &Term, env: Env<'_>) -> R<Value>
-    ensures { Answers (meant.value (tree.Two TwoSided.Concatenate left.now right.now) (seen env.entry)) result }
+fn concatenation<'a>(alloc: Global, left: &'a Term, right: &'a Term, env: &Env<'a>) -> R<Value>
+    ensures { Answers (meant.value (tree.Two TwoSided.Concatenate left.now right.now) (seen env.now)) result }
 {
     let first = evaluate(alloc, left, env)?;
     let second = evaluate(alloc, right, env)?;
@@ -145,14 +170,14 @@ fn concatenation(alloc: Global, left: &Term, right: &Term, env: Env<'_>) -> R<Va
 
 /// A comparison: 1, 0 or NULL.
 #[cycle(evaluate)]
-fn comparison(
+fn comparison<'a>(
     alloc: Global,
     operator: Comparison,
-    left: &Term,
-    right: &Term,
-    env: Env<'_>,
+    left: &'a Term,
+    right: &'a Term,
+    env: &Env<'a>,
 ) -> R<Value>
-    ensures { Answers (meant.value (tree.Two (TwoSided.Compare operator) left.now right.now) (seen env.entry)) result }
+    ensures { Answers (meant.value (tree.Two (TwoSided.Compare operator) left.now right.now) (seen env.now)) result }
 {
     let first = evaluate(alloc, left, env)?;
     let second = evaluate(alloc, right, env)?;
@@ -162,9 +187,15 @@ fn comparison(
 
 /// IS and IS NOT.
 #[cycle(evaluate)]
-fn identity(alloc: Global, is_not: bool, left: &Term, right: &Term, env: Env<'_>) -> R<bool>
+fn identity<'a>(
+    alloc: Global,
+    is_not: bool,
+    left: &'a Term,
+    right: &'a Term,
+    env: &Env<'a>,
+) -> R<bool>
     ensures { AnswersBy meant.of_bool
-        (meant.value (tree.Two (if is_not then TwoSided.IsNot else TwoSided.Is) left.now right.now) (seen env.entry)) result }
+        (meant.value (tree.Two (if is_not then TwoSided.IsNot else TwoSided.Is) left.now right.now) (seen env.now)) result }
 {
     let first = evaluate(alloc, left, env)?;
     let second = evaluate(alloc, right, env)?;
@@ -175,15 +206,15 @@ fn identity(alloc: Global, is_not: bool, left: &Term, right: &Term, env: Env<'_>
 
 /// How an operand's value stands to another expression's.
 #[cycle(evaluate)]
-fn side(
+fn side<'a>(
     alloc: Global,
     comparison: Comparison,
     manner: Manner,
     value: Field<'_>,
-    term: &Term,
-    env: Env<'_>,
+    term: &'a Term,
+    env: &Env<'a>,
 ) -> R<Option<bool>>
-    ensures { Answers (compared_to comparison manner (value_of value.entry) (meant.value term.now (seen env.entry))) result }
+    ensures { Answers (compared_to comparison manner (value_of value.entry) (meant.value term.now (seen env.now))) result }
 {
     let other = evaluate(alloc, term, env)?;
     let outcome = compare_by(alloc, comparison, manner, value, other.as_field())?;
@@ -192,17 +223,17 @@ fn side(
 
 /// Whether an operand of this manner and value equals another expression.
 #[cycle(evaluate)]
-fn equals(
+fn equals<'a>(
     alloc: Global,
-    operand: &Term,
+    operand: &'a Term,
     manner: Manner,
     value: Field<'_>,
-    term: &Term,
-    env: Env<'_>,
+    term: &'a Term,
+    env: &Env<'a>,
 ) -> R<Option<bool>>
     requires { manner ≡ alone operand.now }
     ensures { Answers
-        (compared_to Comparison.Equal (alone operand.now) (value_of value.entry) (meant.value term.now (seen env.entry))) result }
+        (compared_to Comparison.Equal (alone operand.now) (value_of value.entry) (meant.value term.now (seen env.now))) result }
 {
     side(alloc, Comparison::Equal, manner, value, term, env)
 }
@@ -210,15 +241,15 @@ fn equals(
 /// Whether a value is among those of a list: false, or NULL beside a NULL.
 #[cycle(evaluate)]
 #[tactic(auto, using(crate::proofs::Among::begins, crate::proofs::Items::item_falls))]
-fn found_among(
+fn found_among<'a>(
     alloc: Global,
-    operand: &Term,
+    operand: &'a Term,
     value: Field<'_>,
-    list: &[Term],
-    env: Env<'_>,
+    list: &'a [Term],
+    env: &Env<'a>,
 ) -> R<Option<bool>>
     ensures { AnswersBy meant.of_truth
-        (meant.value_among operand.now (value_of value.entry) (terms list.now) (seen env.entry)) result }
+        (meant.value_among operand.now (value_of value.entry) (terms list.now) (seen env.now)) result }
 {
     let manner = manner_alone(operand);
     let mut so_far = Some(false);
@@ -234,8 +265,14 @@ fn found_among(
 
 /// IN and NOT IN.
 #[cycle(evaluate)]
-fn among(alloc: Global, is_negated: bool, operand: &Term, list: &[Term], env: Env<'_>) -> R<Value>
-    ensures { Answers (meant.value (tree.In is_negated operand.now (terms list.now)) (seen env.entry)) result }
+fn among<'a>(
+    alloc: Global,
+    is_negated: bool,
+    operand: &'a Term,
+    list: &'a [Term],
+    env: &Env<'a>,
+) -> R<Value>
+    ensures { Answers (meant.value (tree.In is_negated operand.now (terms list.now)) (seen env.now)) result }
 {
     let value = evaluate(alloc, operand, env)?;
     let found = found_among(alloc, operand, value.as_field(), list, env)?;
@@ -244,17 +281,17 @@ fn among(alloc: Global, is_negated: bool, operand: &Term, list: &[Term], env: En
 
 /// Whether `>=` holds of the least, and then `<=` of the greatest.
 #[cycle(evaluate)]
-fn within(
+fn within<'a>(
     alloc: Global,
-    operand: &Term,
+    operand: &'a Term,
     value: Field<'_>,
-    low: &Term,
-    high: &Term,
-    env: Env<'_>,
+    low: &'a Term,
+    high: &'a Term,
+    env: &Env<'a>,
 ) -> R<Option<bool>>
     ensures { Answers (both_sides
-        (compared_to Comparison.GreaterOrEqual (manner_of operand.now low.now) (value_of value.entry) (meant.value low.now (seen env.entry)))
-        (compared_to Comparison.LessOrEqual (manner_of operand.now high.now) (value_of value.entry) (meant.value high.now (seen env.entry))))
+        (compared_to Comparison.GreaterOrEqual (manner_of operand.now low.now) (value_of value.entry) (meant.value low.now (seen env.now)))
+        (compared_to Comparison.LessOrEqual (manner_of operand.now high.now) (value_of value.entry) (meant.value high.now (seen env.now))))
         result }
 {
     let from = manner_of_two(operand, low);
@@ -270,16 +307,16 @@ fn within(
 /// BETWEEN and NOT BETWEEN.
 #[cycle(evaluate)]
 #[tactic(auto, using(crate::proofs::Limits::in_limits))]
-fn between(
+fn between<'a>(
     alloc: Global,
     is_negated: bool,
-    operand: &Term,
-    low: &Term,
-    high: &Term,
-    env: Env<'_>,
+    operand: &'a Term,
+    low: &'a Term,
+    high: &'a Term,
+    env: &Env<'a>,
 ) -> R<Value>
     ensures { Answers
-        (meant.value (tree.Between is_negated operand.now low.now high.now) (seen env.entry)) result }
+        (meant.value (tree.Between is_negated operand.now low.now high.now) (seen env.now)) result }
 {
     let value = evaluate(alloc, operand, env)?;
     let is_within = within(alloc, operand, value.as_field(), low, high, env)?;
@@ -288,8 +325,8 @@ fn between(
 
 /// A function of one row.
 #[cycle(evaluate)]
-fn call<'a>(alloc: Global, function: Function, list: &'a [Term], env: Env<'a>) -> R<Datum<'a>>
-    ensures { AnswersBy datum (meant.value (tree.Apply function (terms list.now)) (seen env.entry)) result }
+fn call<'a>(alloc: Global, function: Function, list: &'a [Term], env: &Env<'a>) -> R<Datum<'a>>
+    ensures { AnswersBy datum (meant.value (tree.Apply function (terms list.now)) (seen env.now)) result }
 {
     match function {
         Function::Coalesce => first_value(alloc, list, env),
@@ -300,8 +337,8 @@ fn call<'a>(alloc: Global, function: Function, list: &'a [Term], env: Env<'a>) -
 /// The first value that isn't NULL.
 #[cycle(evaluate)]
 #[tactic(auto, using(crate::proofs::Items::item_falls))]
-fn first_value<'a>(alloc: Global, list: &'a [Term], env: Env<'a>) -> R<Datum<'a>>
-    ensures { AnswersBy datum (meant.first_value (terms list.now) (seen env.entry)) result }
+fn first_value<'a>(alloc: Global, list: &'a [Term], env: &Env<'a>) -> R<Datum<'a>>
+    ensures { AnswersBy datum (meant.first_value (terms list.now) (seen env.now)) result }
 {
     'terms: for term in list {
         let found = evaluate(alloc, term, env)?;
@@ -314,9 +351,9 @@ fn first_value<'a>(alloc: Global, list: &'a [Term], env: Env<'a>) -> R<Datum<'a>
 
 /// What a function of one argument makes of it.
 #[cycle(evaluate)]
-fn call_of_one(alloc: Global, function: Function, list: &[Term], env: Env<'_>) -> R<Value>
+fn call_of_one<'a>(alloc: Global, function: Function, list: &'a [Term], env: &Env<'a>) -> R<Value>
     ensures { Answers
-        (meant.value_of_one (terms list.now) (seen env.entry) then meant.applied_to_one function) result }
+        (meant.value_of_one (terms list.now) (seen env.now) then meant.applied_to_one function) result }
 {
     let argument = first_argument(alloc, list, env)?;
     match function {
@@ -331,8 +368,8 @@ fn call_of_one(alloc: Global, function: Function, list: &[Term], env: Env<'_>) -
 
 /// The value of a function's first argument.
 #[cycle(evaluate)]
-fn first_argument<'a>(alloc: Global, list: &'a [Term], env: Env<'a>) -> R<Datum<'a>>
-    ensures { AnswersBy datum (meant.value_of_one (terms list.now) (seen env.entry)) result }
+fn first_argument<'a>(alloc: Global, list: &'a [Term], env: &Env<'a>) -> R<Datum<'a>>
+    ensures { AnswersBy datum (meant.value_of_one (terms list.now) (seen env.now)) result }
 {
     match list {
         [] => Ok(Datum::Made(Value::Null)),
@@ -342,8 +379,8 @@ fn first_argument<'a>(alloc: Global, list: &'a [Term], env: Env<'a>) -> R<Datum<
 
 /// An aggregate over the group's rows.
 #[cycle(evaluate)]
-fn total(alloc: Global, aggregate: Aggregate, argument: &Term, env: Env<'_>) -> R<Value>
-    ensures { Answers (meant.value (tree.Total aggregate argument.now) (seen env.entry)) result }
+fn total<'a>(alloc: Global, aggregate: Aggregate, argument: &'a Term, env: &Env<'a>) -> R<Value>
+    ensures { Answers (meant.value (tree.Total aggregate argument.now) (seen env.now)) result }
 {
     match aggregate {
         Aggregate::CountAll => count_word(env.group.len()),
@@ -353,9 +390,14 @@ fn total(alloc: Global, aggregate: Aggregate, argument: &Term, env: Env<'_>) -> 
 
 /// An aggregate of an argument that is evaluated at each of the group's rows first.
 #[cycle(evaluate)]
-fn over_group(alloc: Global, aggregate: Aggregate, argument: &Term, env: Env<'_>) -> R<Value>
+fn over_group<'a>(
+    alloc: Global,
+    aggregate: Aggregate,
+    argument: &'a Term,
+    env: &Env<'a>,
+) -> R<Value>
     ensures { Answers
-        (at_each argument.now (seen env.entry).group then meant.aggregated aggregate (tree.collation argument.now)) result }
+        (at_each argument.now (seen env.now).group then meant.aggregated aggregate (tree.collation argument.now)) result }
 {
     let values = values_of_group(alloc, argument, env)?;
     aggregated(alloc, aggregate, collation(argument), values.as_slice())
@@ -363,12 +405,12 @@ fn over_group(alloc: Global, aggregate: Aggregate, argument: &Term, env: Env<'_>
 
 /// The values of an expression at the group's rows.
 #[cycle(evaluate)]
-fn values_of_group<'a>(alloc: Global, term: &'a Term, env: Env<'a>) -> R<Vec<Datum<'a>>>
-    ensures { AnswersBy (λ found. map datum found.items) (at_each term.now (seen env.entry).group) result }
+fn values_of_group<'a>(alloc: Global, term: &'a Term, env: &Env<'a>) -> R<Vec<Datum<'a>>>
+    ensures { AnswersBy (λ found. map datum found.items) (at_each term.now (seen env.now).group) result }
 {
-    let mut found = Vec::new(alloc);
+    let mut found = Vec::with_capacity(alloc, env.group.len())?;
     'rows: for picked in env.group {
-        let value = evaluate(alloc, term, env.row_of_group(picked.as_slice()))?;
+        let value = evaluate(alloc, term, &env.row_of_group(picked.as_slice()))?;
         found.push(value)?;
     }
     Ok(found)

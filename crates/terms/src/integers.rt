@@ -6,7 +6,7 @@ ghost use Rattle.sqlval.specs.Fields.{value_of};
 ghost use Rattle.sqlval.specs.Refusals.{◌then◌};
 ghost use Rattle.sqlval.specs.declared.value.Value.TheVariants as the;
 ghost use Rattle.terms.specs.TextSides.{is_text};
-ghost use Rattle.terms.specs.Outcome.{AnswersBy};
+ghost use Rattle.terms.specs.Outcome.{Answers, AnswersBy};
 ghost use Rattle.terms.specs.Rows.{datum, seen};
 ghost use Rattle.terms.specs.Terms as tree;
 ghost use Rattle.terms.specs.Values as meant;
@@ -71,8 +71,8 @@ fn number_of(is_true: bool) -> i64
 /// What an operator makes of two expressions that are integers.
 #[cycle(integer)]
 #[tactic(auto, using(crate::proofs::IntegerValues::both_calculated))]
-fn calculated(operator: Arithmetic, left: &Term, right: &Term, env: Env<'_>) -> Option<i64>
-    ensures { IfSome result (λ number. meant.value (tree.Two (operator_of.Calculate operator) left.now right.now) (seen env.entry) ≡ Ok (the.Int number)) }
+fn calculated(operator: Arithmetic, left: &Term, right: &Term, env: &Env<'_>) -> Option<i64>
+    ensures { IfSome result (λ number. meant.value (tree.Two (operator_of.Calculate operator) left.now right.now) (seen env.now) ≡ Ok (the.Int number)) }
 {
     let x = integer(left, env)?;
     let y = integer(right, env)?;
@@ -82,8 +82,8 @@ fn calculated(operator: Arithmetic, left: &Term, right: &Term, env: Env<'_>) -> 
 /// How two expressions that are integers stand to each other, 1 or 0; None beside a text's affinity.
 #[cycle(integer)]
 #[tactic(auto, using(crate::proofs::IntegerValues::both_compared))]
-fn compared(operator: Comparison, left: &Term, right: &Term, env: Env<'_>) -> Option<i64>
-    ensures { IfSome result (λ number. meant.value (tree.Two (operator_of.Compare operator) left.now right.now) (seen env.entry) ≡ Ok (the.Int number)) }
+fn compared(operator: Comparison, left: &Term, right: &Term, env: &Env<'_>) -> Option<i64>
+    ensures { IfSome result (λ number. meant.value (tree.Two (operator_of.Compare operator) left.now right.now) (seen env.now) ≡ Ok (the.Int number)) }
 {
     if is_text(affinity(left)) || is_text(affinity(right)) {
         return None;
@@ -96,8 +96,8 @@ fn compared(operator: Comparison, left: &Term, right: &Term, env: Env<'_>) -> Op
 /// The integer that an expression is: of a column, a literal, or of operators and comparisons over such. None where it is none, or may be
 /// refused.
 #[cycle(integer)]
-fn integer(term: &Term, env: Env<'_>) -> Option<i64>
-    ensures { IfSome result (λ number. meant.value term.now (seen env.entry) ≡ Ok (the.Int number)) }
+fn integer(term: &Term, env: &Env<'_>) -> Option<i64>
+    ensures { IfSome result (λ number. meant.value term.now (seen env.now) ≡ Ok (the.Int number)) }
 {
     match &term.node {
         Node::Digits(number) => fitting(i128::from(*number)),
@@ -115,8 +115,8 @@ fn integer(term: &Term, env: Env<'_>) -> Option<i64>
 
 /// Whether an expression that is an integer is true.
 #[tactic(auto, using(crate::proofs::IntegerValues::is_true))]
-pub fn integer_holds(term: &Term, env: Env<'_>) -> Option<bool>
-    ensures { IfSome result (λ test. (meant.value term.now (seen env.entry) then meant.truth) ≡ Ok (Some test)) }
+pub fn integer_holds(term: &Term, env: &Env<'_>) -> Option<bool>
+    ensures { IfSome result (λ test. (meant.value term.now (seen env.now) then meant.truth) ≡ Ok (Some test)) }
 {
     Some(integer(term, env)? != 0)
 }
@@ -125,8 +125,15 @@ pub fn integer_holds(term: &Term, env: Env<'_>) -> Option<bool>
 pub fn evaluate<'a>(alloc: Global, term: &'a Term, env: Env<'a>) -> R<Datum<'a>>
     ensures { AnswersBy datum (meant.value term.now (seen env.entry)) result }
 {
-    if let Some(number) = integer(term, env) {
+    if let Some(number) = integer(term, &env) {
         return Ok(Datum::Lent(Field::Int(number)));
     }
-    evaluating::evaluate(alloc, term, env)
+    evaluating::evaluate(alloc, term, &env)
+}
+
+/// Whether an expression is true, or neither true nor false; or its first refusal.
+pub fn holds(alloc: Global, term: &Term, env: Env<'_>) -> R<Option<bool>>
+    ensures { Answers (meant.value term.now (seen env.entry) then meant.truth) result }
+{
+    evaluating::holds(alloc, term, &env)
 }

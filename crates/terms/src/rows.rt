@@ -107,16 +107,16 @@ fn key_at(keys: &[Value], index: usize) -> Field<'_>
 
 impl<'a> Env<'a> {
     /// The row of a source.
-    fn row(self, source: usize) -> Option<&'a SourceRow>
-        ensures { option_map (λ r. r.now) result ≡ row_of self.entry.sources.now self.entry.picked.now source }
+    fn row(&self, source: usize) -> Option<&'a SourceRow>
+        ensures { option_map (λ r. r.now) result ≡ row_of self.now.sources.now self.now.picked.now source }
     {
         let rows = self.sources.get(source)?;
         rows.as_slice().get(*self.picked.get(source)?)
     }
 
     /// The value of a source at a place.
-    pub fn cell(self, source: usize, place: Place) -> Field<'a>
-        ensures { value_of result ≡ meant.cell (seen self.entry) source place }
+    pub fn cell(&self, source: usize, place: Place) -> Field<'a>
+        ensures { value_of result ≡ meant.cell (seen self.now) source place }
     {
         match self.row(source) {
             Some(row) => row.at(place),
@@ -125,15 +125,15 @@ impl<'a> Env<'a> {
     }
 
     /// The group's key at a place.
-    pub fn key(self, place: usize) -> Field<'a>
-        ensures { value_of result ≡ unwrap_or (slice_get (seen self.entry).keys place) Null }
+    pub fn key(&self, place: usize) -> Field<'a>
+        ensures { value_of result ≡ unwrap_or (slice_get (seen self.now).keys place) Null }
     {
         key_at(self.keys, place)
     }
 
     /// One row of the group by itself.
-    pub fn row_of_group(self, picked: &'a [usize]) -> Env<'a>
-        ensures { seen result ≡ record { rows = picked_rows self.entry.sources.now picked.now; group = []; keys = [] } }
+    pub fn row_of_group(&self, picked: &'a [usize]) -> Env<'a>
+        ensures { seen result ≡ record { rows = picked_rows self.now.sources.now picked.now; group = []; keys = [] } }
     {
         Env {
             sources: self.sources,

@@ -7,4 +7,4 @@ use Rattle.terms.proofs.InOrder.{left}
 use Rattle.queries.proofs.results.order_values.Given as goal
 
 abbrev pub invariant-terms : goal.invariant-terms
-invariant-terms l = left (λ t. value t (seen l.env)) (map (λ o. o.0) (drop l.term-index l.order)) l.values ≡ values (seen l.env) (map (λ o. o.0) l.order)
+invariant-terms l = left (λ t. value t (seen l.env)) (map (λ o. o.0) (drop l.term-index l.order)) l.values.items ≡ values (seen l.env) (map (λ o. o.0) l.order)

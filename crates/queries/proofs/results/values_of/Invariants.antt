@@ -7,4 +7,4 @@ use Rattle.terms.proofs.InOrder.{left}
 use Rattle.queries.proofs.results.values_of.Given as goal
 
 abbrev pub invariant-terms : goal.invariant-terms
-invariant-terms l = left (λ t. value t (seen l.env)) (drop l.term-index l.terms) l.values ≡ values (seen l.env) l.terms
+invariant-terms l = left (λ t. value t (seen l.env)) (drop l.term-index l.terms) l.values.items ≡ values (seen l.env) l.terms

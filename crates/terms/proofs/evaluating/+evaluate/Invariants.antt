@@ -9,64 +9,67 @@ use Rattle.terms.proofs.Groups.{onto}
 use Rattle.terms.proofs.evaluating.+evaluate.Given as goal
 
 abbrev pub decreases-evaluate : goal.decreases-evaluate
-decreases-evaluate l = size l.term.now * 4
+decreases-evaluate l = size l.term.now * 8
 
 abbrev pub decreases-holds : goal.decreases-holds
-decreases-holds l = size l.term.now * 4 + 1
+decreases-holds l = size l.term.now * 8 + 2
+
+abbrev pub decreases-value_holds : goal.decreases-value_holds
+decreases-value_holds l = size l.term.now * 8 + 1
 
 abbrev pub decreases-of_one : goal.decreases-of_one
-decreases-of_one l = size l.operand.now * 4 + 3
+decreases-of_one l = size l.operand.now * 8 + 3
 
 abbrev pub decreases-minus : goal.decreases-minus
-decreases-minus l = size l.operand.now * 4 + 2
+decreases-minus l = size l.operand.now * 8 + 2
 
 abbrev pub decreases-joined : goal.decreases-joined
-decreases-joined l = (size l.left.now + size l.right.now) * 4 + 2
+decreases-joined l = (size l.left.now + size l.right.now) * 8 + 3
 
 abbrev pub decreases-calculation : goal.decreases-calculation
-decreases-calculation l = (size l.left.now + size l.right.now) * 4 + 2
+decreases-calculation l = (size l.left.now + size l.right.now) * 8 + 2
 
 abbrev pub decreases-concatenation : goal.decreases-concatenation
-decreases-concatenation l = (size l.left.now + size l.right.now) * 4 + 2
+decreases-concatenation l = (size l.left.now + size l.right.now) * 8 + 2
 
 abbrev pub decreases-comparison : goal.decreases-comparison
-decreases-comparison l = (size l.left.now + size l.right.now) * 4 + 2
+decreases-comparison l = (size l.left.now + size l.right.now) * 8 + 2
 
 abbrev pub decreases-identity : goal.decreases-identity
-decreases-identity l = (size l.left.now + size l.right.now) * 4 + 2
+decreases-identity l = (size l.left.now + size l.right.now) * 8 + 2
 
 abbrev pub decreases-of_two : goal.decreases-of_two
-decreases-of_two l = (size l.left.now + size l.right.now) * 4 + 3
+decreases-of_two l = (size l.left.now + size l.right.now) * 8 + 4
 
 abbrev pub decreases-found_among : goal.decreases-found_among
-decreases-found_among l = size_in (terms l.list.now) * 4 + 2
+decreases-found_among l = size_in (terms l.list.now) * 8 + 2
 
 abbrev pub decreases-among : goal.decreases-among
-decreases-among l = (size l.operand.now + size_in (terms l.list.now)) * 4 + 3
+decreases-among l = (size l.operand.now + size_in (terms l.list.now)) * 8 + 3
 
 abbrev pub decreases-equals : goal.decreases-equals
-decreases-equals l = size l.term.now * 4 + 2
+decreases-equals l = size l.term.now * 8 + 2
 
 abbrev pub decreases-within : goal.decreases-within
-decreases-within l = (size l.low.now + size l.high.now) * 4 + 2
+decreases-within l = (size l.low.now + size l.high.now) * 8 + 2
 
 abbrev pub decreases-between : goal.decreases-between
-decreases-between l = (size l.operand.now + size l.low.now + size l.high.now) * 4 + 3
+decreases-between l = (size l.operand.now + size l.low.now + size l.high.now) * 8 + 3
 
 abbrev pub decreases-side : goal.decreases-side
-decreases-side l = size l.term.now * 4 + 1
+decreases-side l = size l.term.now * 8 + 1
 
 abbrev pub decreases-first_argument : goal.decreases-first_argument
-decreases-first_argument l = size_in (terms l.list.now) * 4 + 1
+decreases-first_argument l = size_in (terms l.list.now) * 8 + 1
 
 abbrev pub decreases-first_value : goal.decreases-first_value
-decreases-first_value l = size_in (terms l.list.now) * 4 + 1
+decreases-first_value l = size_in (terms l.list.now) * 8 + 1
 
 abbrev pub decreases-call_of_one : goal.decreases-call_of_one
-decreases-call_of_one l = size_in (terms l.list.now) * 4 + 2
+decreases-call_of_one l = size_in (terms l.list.now) * 8 + 2
 
 abbrev pub decreases-call : goal.decreases-call
-decreases-call l = size_in (terms l.list.now) * 4 + 3
+decreases-call l = size_in (terms l.list.now) * 8 + 3
 
 -- what is left decides
 abbrev pub invariant-first_value-terms : goal.invariant-first_value-terms
@@ -78,13 +81,13 @@ invariant-found_among-terms l =
     together l.so_far (value_among l.operand (value_of l.value) (terms (drop l.term-index l.list)) (seen l.env)) ≡ value_among l.operand (value_of l.value) (terms l.list) (seen l.env)
 
 abbrev pub decreases-total : goal.decreases-total
-decreases-total l = size l.argument.now * 4 + 3
+decreases-total l = size l.argument.now * 8 + 3
 
 abbrev pub decreases-over_group : goal.decreases-over_group
-decreases-over_group l = size l.argument.now * 4 + 2
+decreases-over_group l = size l.argument.now * 8 + 2
 
 abbrev pub decreases-values_of_group : goal.decreases-values_of_group
-decreases-values_of_group l = size l.term.now * 4 + 1
+decreases-values_of_group l = size l.term.now * 8 + 1
 
 -- what is left of the group decides
 abbrev pub invariant-values_of_group-rows : goal.invariant-values_of_group-rows

@@ -6,8 +6,8 @@ use Rattle.terms.proofs.rows.Env.cell.Goals as goal
 
 pub returns-in-Some : goal.returns-in-Some
 returns-in-Some c =
-    c.at.ensures ∙ (ap (λ o. at_row o c.args.place) (ap (option_map (λ r. r.now)) (sym c.in-Some.is) ∙ c.row.ensures) ∙ picked_cell c.args.self.sources.now c.args.self.picked.now c.args.source c.args.place)
+    c.at.ensures ∙ (ap (λ o. at_row o c.args.place) (ap (option_map (λ r. r.now)) (sym c.in-Some.is) ∙ c.row.ensures) ∙ picked_cell c.args.self.now.sources.now c.args.self.now.picked.now c.args.source c.args.place)
 
 pub returns-in-None : goal.returns-in-None
 returns-in-None c =
-    ap (λ o. at_row o c.args.place) (ap (option_map (λ r. r.now)) (sym c.in-None.is) ∙ c.row.ensures) ∙ picked_cell c.args.self.sources.now c.args.self.picked.now c.args.source c.args.place
+    ap (λ o. at_row o c.args.place) (ap (option_map (λ r. r.now)) (sym c.in-None.is) ∙ c.row.ensures) ∙ picked_cell c.args.self.now.sources.now c.args.self.now.picked.now c.args.source c.args.place
