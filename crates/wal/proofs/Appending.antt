@@ -15,10 +15,11 @@ use Rattle.walframe.specs.Sums.{words, zero_sum}
 use Rattle.walframe.proofs.Fronts.{header_in_front, start_more, start_rises, frame_front_same, sum_to_front}
 use Rattle.walframe.proofs.Laws.{all_written, carried_fits, header_back}
 use Rattle.walframe.proofs.Reading.{heads_len}
-use Rattle.wal.specs.declared.index.Index.{Index}
+use Rattle.walindex.specs.declared.index.Index.{Index}
 use Rattle.wal.specs.declared.pages.PageImage.{PageImage}
 use Rattle.wal.specs.Committed.{HasCommitted, framed_to, frames_under}
-use Rattle.wal.specs.Index.{frames_of, EachFrame, IsIndexTo, IsOldOrNew, IsPageNumber, HasFrame, HasEach, KeepsFrames}
+use Rattle.walindex.specs.Index.{frames_of, IsPageNumber, HasFrame}
+use Rattle.wal.specs.Indexed.{EachFrame, IsIndexTo, IsOldOrNew, HasEach, KeepsFrames}
 use Rattle.wal.specs.Pages.{ArePages, framed, numbers_of}
 use Rattle.disk.specs.File.{File, IsSynced}
 use Rattle.wal.specs.LogState.{LogState}
@@ -219,7 +220,7 @@ committed h b mark size sum more index next pages log new stands front indexed g
 
     old_page : (p j : ℕ) → 1 ≤ p → j < length (frames_of index p) → IsOfPage h new p (get_or (frames_of index p) j 0)
     old_page p j known lt =
-        let bounds = indexed.each p j known lt in
+        let bounds = indexed p j known lt in
         old_head (get_or (frames_of index p) j 0 - 1) (omega (arith, bounds.0, bounds.1)) ∙ stands.pages p j known lt
 
 -- what was written of a commit

@@ -6,7 +6,7 @@ use Rattle.disk.proofs.Moments.{always_weaker}
 use Rattle.walframe.specs.declared.sums.Sum.{Sum}
 use Rattle.walframe.specs.Accepted.{sum_to}
 use Rattle.walframe.specs.Written.{Framed, written}
-use Rattle.wal.specs.declared.index.Index.{Index}
+use Rattle.walindex.specs.declared.index.Index.{Index}
 use Rattle.wal.specs.Commits.{commits_of}
 use Rattle.wal.specs.Crashes.{LeavesEither, LeavesWriting, WritesCommit}
 use Rattle.wal.specs.LogState.{LogState}

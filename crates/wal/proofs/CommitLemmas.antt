@@ -1,9 +1,7 @@
 -- The frames of a commit.
-use Rattle.sqlval.specs.PageSizes.{IsPageSize, is_size}
-use Rattle.std.proofs.Common.{◌≡◌, ◌⊎◌, inl, inr, ◌<◌, ◌≤◌, ◌+◌, ◌-◌, ◌^◌, ℕ, zero, suc, List, [], ◌∷◌, ◌++◌, Bool, true, false, length, map, take, drop, get_or, refl, sym, ◌∙◌, ap, subst, arith}
-use Rattle.std.specs.Prelude.{◌||◌}
+use Rattle.sqlval.specs.PageSizes.{is_size}
+use Rattle.std.proofs.Common.{◌≡◌, ◌<◌, ◌≤◌, ◌+◌, ◌-◌, ◌^◌, ℕ, zero, suc, List, [], ◌∷◌, ◌++◌, length, map, take, drop, get_or, refl, sym, ◌∙◌, ap, subst, arith}
 use Rattle.std.proofs.lemmas.List.{append_assoc, drop_more, take_rest}
-use Rattle.std.proofs.lemmas.Bool.{eqb-true}
 use Rattle.walframe.specs.declared.frame.FrameHeader.{FrameHeader}
 use Rattle.walframe.specs.declared.log_header.LogHeader.{LogHeader}
 use Rattle.walframe.specs.declared.sums.Sum.{Sum}

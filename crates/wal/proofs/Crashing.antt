@@ -14,7 +14,7 @@ use Rattle.walframe.specs.Accepted.{IsFrame, frame_start, frame_at, head_at, sum
 use Rattle.walframe.specs.Written.{Framed}
 use Rattle.walframe.proofs.Fronts.{is_frame_front, frame_front_same, start_rises}
 use Rattle.walframe.proofs.Reading.{sum_from, salts_from, sum_same, salts_same}
-use Rattle.wal.specs.declared.index.Index.{Index}
+use Rattle.walindex.specs.declared.index.Index.{Index}
 use Rattle.wal.specs.Chains.{BeginsWith}
 use Rattle.wal.specs.Committed.{IsAcceptedAt, HasCommitted, HasCommits, framed_at, framed_to, frames_under}
 use Rattle.wal.specs.Stands.{LogStands, header_where, front_at, log_front, log_end}

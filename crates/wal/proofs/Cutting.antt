@@ -8,10 +8,11 @@ use Rattle.walframe.specs.declared.frame.FrameHeader.{FrameHeader}
 use Rattle.walframe.specs.declared.sums.Sum.{Sum}
 use Rattle.walframe.specs.Log.{header_in}
 use Rattle.walframe.specs.Accepted.{frame_start, head_at, sum_to}
-use Rattle.wal.specs.declared.index.Index.{Index}
+use Rattle.walindex.specs.declared.index.Index.{Index}
 use Rattle.wal.specs.Committed.{HasCommits, AreCommitted, framed_to, frames_under}
 use Rattle.wal.specs.Commits.{IsCut}
-use Rattle.wal.specs.Index.{frames_of, IsIndexTo, IsPageNumber, HasFrame}
+use Rattle.walindex.specs.Index.{frames_of, IsPageNumber, HasFrame}
+use Rattle.wal.specs.Indexed.{IsIndexTo}
 use Rattle.wal.specs.LogState.{state_in}
 use Rattle.wal.specs.declared.state.State.{State}
 use Rattle.wal.specs.Stands.{LogStands, header_where, log_end}
@@ -31,7 +32,7 @@ stands_cut h true mark end sum index log stands indexed is_end = subst (λ (n : 
   committed = λ yes. record { each = front.is.each; ends = front.is.ends; rest = λ k past right. absurd (no_frame_past h cut mark k front.is.start past (right k (omega arith))) };
   sum_is = front.sum_is;
   pages = λ p k known lt.
-      let bounds = indexed.each p k known lt in
+      let bounds = indexed p k known lt in
       ap (λ (g : FrameHeader). g.page) (front.heads (get_or (frames_of index p) k 0 - 1) (omega (arith, bounds.0, bounds.1))) ∙ stands.pages p k known lt;
   all = λ k lt number missing.
       let same : (head_at h cut k).page ≡ (head_at h log k).page = ap (λ (g : FrameHeader). g.page) (front.heads k lt) in
@@ -49,7 +50,7 @@ stands_cut h false mark end sum index log stands indexed is_end = subst (λ (n :
   none = stands.none;
   committed = λ yes. (let bad : false ≡ true = yes in cc);
   sum_is = stands.sum_is ∙ ap (sum_to h log) (stands.none refl) ∙ ap (sum_to h (take 0 log)) (sym (stands.none refl));
-  pages = λ p k known lt. (let bounds = indexed.each p k known lt in absurd (omega (arith, bounds.0, bounds.1, stands.none refl)));
+  pages = λ p k known lt. (let bounds = indexed p k known lt in absurd (omega (arith, bounds.0, bounds.1, stands.none refl)));
   all = λ k lt number missing. absurd (omega (arith, lt, stands.none refl));
 })
 

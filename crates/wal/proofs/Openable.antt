@@ -1,11 +1,10 @@
 -- Why files are not opened, where the contents can be opened.
 use Rattle.sqlval.proofs.PageSizeLemmas.{by_size}
 use Rattle.sqlval.specs.PageSizes.{IsPageSize}
-use Rattle.std.proofs.Common.{◌≡◌, inl, inr, ◌<◌, ◌≤◌, ◌/◌, ℕ, zero, suc, List, [], ◌∷◌, length, refl, sym, ◌∙◌, ap, subst, arith}
+use Rattle.std.proofs.Common.{◌≡◌, inl, inr, ◌<◌, ◌/◌, ℕ, zero, suc, List, [], ◌∷◌, length, refl, sym, ◌∙◌, ap, subst, arith}
 use Rattle.std.specs.Prelude.{Option, Some, None, Result, Ok, Err, MatchOption, IfErr, IsErrAnd}
 use Rattle.std.proofs.Math.Nat.{mul-div_cancel}
 use Rattle.std.proofs.lemmas.Bool.{cases_lt}
-use Rattle.disk.specs.Calls.{Rose}
 use Rattle.sqlval.specs.declared.fault.Fault.{Fault}
 use Rattle.sqlval.specs.declared.fault.Fault.TheVariants.{Memory, Io, Damaged, Unsupported, NotADatabase, Full, Syntax, NoSuch, Exists, Ambiguous, Misuse, Busy, StaleSnapshot, NoTransaction, InTransaction, NoSavepoint, NotNull, Unique, Check, Raised, RealRefused, TypeRefused, RowidFull, RowidMismatch, TooLong, RowChangedBefore, ViewReadOnly, Blank, Failed}
 use Rattle.sqlval.specs.declared.fault.Damage.TheVariants.{Header, Size, Page, Cell, FreeSpace, Record, Order, Depth, UsedTwice, Unused, Freelist, Schema, Index}

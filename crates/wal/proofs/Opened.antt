@@ -12,8 +12,9 @@ use Rattle.walframe.specs.declared.sums.Sum.{Sum}
 use Rattle.walframe.specs.Log.{header_in, header_sum, header_by, order_told, number_at}
 use Rattle.walframe.specs.Accepted.{IsFrame, HasAccepted, IsCommitted, IsScanOf, ReadsNone, frame_start, frame_at, head_at, heads_to, sum_to}
 use Rattle.walframe.proofs.Reading.{heads_len}
-use Rattle.wal.specs.declared.index.Index.{Index}
-use Rattle.wal.specs.Index.{frames_of, EachFrame, IsIndexTo, IsOfHead, IsPageNumber, HasFrame, HasEach, pages_said}
+use Rattle.walindex.specs.declared.index.Index.{Index}
+use Rattle.walindex.specs.Index.{frames_of, IsPageNumber, HasFrame}
+use Rattle.wal.specs.Indexed.{EachFrame, IsIndexTo, IsOfHead, HasEach, pages_said}
 use Rattle.wal.specs.Committed.{HasCommitted, AreCommitted}
 use Rattle.wal.specs.Sizes.{IsViewSize}
 use Rattle.wal.specs.View.{heads}
@@ -74,7 +75,7 @@ opened log scan None h b sum index is sums indexed pages has =
       none = λ no. none;
       committed = λ yes. (let bad : true ≡ false = sym yes ∙ is.begun in cc);
       sum_is = sums ∙ ap (sum_to h log) (sym none);
-      pages = λ p k known lt. (let bad = indexed.each p k known lt in absurd (omega (arith, bad.0, bad.1, none)));
+      pages = λ p k known lt. (let bad = indexed p k known lt in absurd (omega (arith, bad.0, bad.1, none)));
       all = λ k lt number missing. absurd (omega (arith, lt, none));
     }
 opened log scan (Some g) h b sum index is sums indexed pages has =
@@ -86,7 +87,7 @@ opened log scan (Some g) h b sum index is sums indexed pages has =
       sum_is = sums ∙ is.reads.sum;
       pages = λ p k known lt.
           let f = get_or (frames_of index p) k 0 in
-          let bounds = indexed.each p k known lt in
+          let bounds = indexed p k known lt in
           let d : FrameHeader = record { page = 0; size = 0 } in
           ap (λ (e : FrameHeader). e.page) (sym (heads_get g log (length scan.frames.items) (f - 1) d (omega (arith, bounds.0, bounds.1))) ∙ ap (λ (l : List FrameHeader). get_or l (f - 1) d) (sym is.reads.frames))
           ∙ pages p k known lt d;

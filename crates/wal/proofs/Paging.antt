@@ -4,8 +4,9 @@ use Rattle.std.specs.Prelude.{Some, None, if◌then◌else◌}
 use Rattle.walframe.specs.declared.log_header.LogHeader.{LogHeader}
 use Rattle.walframe.specs.declared.sums.Sum.{Sum}
 use Rattle.walframe.specs.Accepted.{frame_start, head_at}
-use Rattle.wal.specs.declared.index.Index.{Index}
-use Rattle.wal.specs.Index.{frames_of, IsIndexTo, FindsFrame, FindsNone}
+use Rattle.walindex.specs.declared.index.Index.{Index}
+use Rattle.walindex.specs.Index.{frames_of, FindsFrame, FindsNone}
+use Rattle.wal.specs.Indexed.{IsIndexTo}
 use Rattle.wal.specs.Stands.{LogStands}
 use Rattle.wal.specs.View.{IsPage, IsInFile, HasNoFrame}
 use Rattle.wal.proofs.Opened.{page_of_frame}
@@ -16,13 +17,13 @@ pub found_page : (h : LogHeader) (b : Bool) (mark seen : ℕ) (sum : Sum) (index
 found_page h b mark seen sum index db log bytes number frame at size stands indexed found until few is_at is_size is = by_header b stands
   where
     bounds : (1 ≤ frame) × (frame ≤ mark)
-    bounds = let is_old = indexed.each number found.place found.known found.within in (omega (arith, is_old.0, found.is), omega (arith, is_old.1, found.is))
+    bounds = let is_old = indexed number found.has.place found.known found.has.within in (omega (arith, is_old.0, found.has.is), omega (arith, is_old.1, found.has.is))
 
     no_later : (c : Bool) → LogStands h c mark sum index log → (j : ℕ) → frame - 1 < j → j < seen → (head_at h log j).page ≡ number → ⊥
     no_later c there j later lt of_page = there.all j (omega (arith, lt, until)) (omega (arith, of_page, found.known), omega (arith, of_page, few)) (λ has.
         let same : frames_of index (head_at h log j).page ≡ frames_of index number = ap (frames_of index) of_page in
         let is_frame : get_or (frames_of index number) has.place 0 ≡ j + 1 = ap (λ (l : List ℕ). get_or l has.place 0) (sym same) ∙ has.is in
-        omega (arith, later, lt, is_frame, bounds.0, found.newest has.place (omega (arith, has.within, ap length same)) (omega (arith, is_frame, lt))))
+        omega (arith, later, lt, is_frame, bounds.0, found.newest (j + 1) (record { place = has.place; within = omega (arith, has.within, ap length same); is = is_frame }) (omega (arith, lt))))
 
     by_header : (c : Bool) → LogStands h c mark sum index log → IsPage db log size (if c then Some h else None) seen number bytes
     by_header false there = absurd (omega (arith, bounds.0, bounds.1, there.none refl))
@@ -30,7 +31,7 @@ found_page h b mark seen sum index db log bytes number frame at size stands inde
       frame - 1,
       record {
         within = omega (arith, bounds.0, found.seen);
-        page = ap (λ (n : ℕ). (head_at h log (n - 1)).page) found.is ∙ there.pages number found.place found.known found.within;
+        page = ap (λ (n : ℕ). (head_at h log (n - 1)).page) (sym found.has.is) ∙ there.pages number found.has.place found.known found.has.within;
         last = no_later true there;
       },
       page_of_frame h log bytes (frame - 1) at size is_at is_size is,
@@ -45,7 +46,7 @@ filed_page h b mark seen sum index db log bytes number size stands none until kn
     no_frame c stands k lt of_page = stands.all k (omega (arith, lt, until)) (omega (arith, of_page, known), omega (arith, of_page, few)) (λ has.
         let same : frames_of index (head_at h log k).page ≡ frames_of index number = ap (frames_of index) of_page in
         let is_frame : get_or (frames_of index number) has.place 0 ≡ k + 1 = ap (λ (l : List ℕ). get_or l has.place 0) (sym same) ∙ has.is in
-        omega (arith, lt, is_frame, none known has.place (omega (arith, has.within, ap length same))))
+        omega (arith, lt, none known (k + 1) (record { place = has.place; within = omega (arith, has.within, ap length same); is = is_frame })))
 
     by_header : (c : Bool) → LogStands h c mark sum index log → IsPage db log size (if c then Some h else None) seen number bytes
     by_header false stands = there
@@ -60,7 +61,7 @@ missing_page h b mark seen sum index db log bytes number size stands none until 
     no_frame c stands k lt of_page = stands.all k (omega (arith, lt, until)) (omega (arith, of_page, known), omega (arith, of_page, few)) (λ has.
         let same : frames_of index (head_at h log k).page ≡ frames_of index number = ap (frames_of index) of_page in
         let is_frame : get_or (frames_of index number) has.place 0 ≡ k + 1 = ap (λ (l : List ℕ). get_or l has.place 0) (sym same) ∙ has.is in
-        omega (arith, lt, is_frame, none known has.place (omega (arith, has.within, ap length same))))
+        omega (arith, lt, none known (k + 1) (record { place = has.place; within = omega (arith, has.within, ap length same); is = is_frame })))
 
     by_header : (c : Bool) → LogStands h c mark sum index log → IsPage db log size (if c then Some h else None) seen number bytes → ⊥
     by_header false stands filed = omega (arith, short, filed.whole)

@@ -1,58 +1,12 @@
--- What an index has room for, and which frames it has.
-use Rattle.std.proofs.Common.{◌≡◌, inl, inr, ◌<◌, ◌≤◌, ◌+◌, ℕ, zero, suc, List, [], ◌∷◌, ◌++◌, Bool, true, Vec, length, map, set, get_or, vec_len, vec_capacity, refl, sym, ◌∙◌, ap, subst, arith, length-append}
-use Rattle.std.specs.Prelude.{if◌then◌else◌}
-use Rattle.std.specs.declared.alloc.Global.{Global}
-use Rattle.std.proofs.lemmas.List.{length-map, map-append, map-set, get_or-map, get_or-set_same, get_or-set_other, get_or_append_left, get_or_push, get_or_past}
-use Rattle.std.proofs.lemmas.Bool.{cases_eq, cases_lt}
-use Rattle.wal.specs.declared.index.Index.{Index}
+-- Which frames an index has, and room for which pages.
+use Rattle.std.proofs.Common.{◌≡◌, inl, inr, ◌<◌, ◌+◌, ℕ, zero, suc, List, [], ◌∷◌, length, get_or, sym, ◌∙◌, ap, subst, arith, length-append}
+use Rattle.std.proofs.lemmas.List.{get_or_append_left}
+use Rattle.std.proofs.lemmas.Bool.{cases_lt}
+use Rattle.walindex.specs.declared.index.Index.{Index}
 use Rattle.wal.specs.declared.pages.PageImage.{PageImage}
-use Rattle.wal.specs.Index.{frames_of, SameFrames, AddsFrame, IsPageNumber, HasFrame, KeepsFrames, HasEach, room_in, room_for, KeepsRoom, KeepsRoomBut, HasRooms, IsStrict}
+use Rattle.walindex.specs.Index.{frames_of, SameFrames, AddsFrame, IsPageNumber, HasFrame, room_for, KeepsRoom, KeepsRoomBut}
+use Rattle.wal.specs.Indexed.{KeepsFrames, HasEach, HasRooms, IsStrict}
 use Rattle.wal.specs.Pages.{ArePages, numbers_of}
-
-abbrev Row : Type 0
-Row = Vec ℕ Global
-
-abbrev room_at : List Row → ℕ → ℕ
-room_at rows i = get_or (map room_in rows) i 0
-
--- one row more
-pub room_pushed : (rows : List Row) (v : Row) (j : ℕ) → room_at rows j ≤ room_at (rows ++ v ∷ []) j
-room_pushed rows v j = elim (cases_lt j (length rows)) [
-  | inl before ↦ omega (arith, ap (λ (l : List ℕ). get_or l j 0) (map-append room_in rows (v ∷ [])), get_or_append_left (map room_in rows) (room_in v ∷ []) 0 j (omega (arith, before, length-map rows room_in)))
-  | inr past ↦ omega (arith, get_or_past (map room_in rows) j 0 (omega (arith, past, length-map rows room_in)))
-]
-
--- a row that was changed
-pub room_changed : (rows : List Row) (i : ℕ) (v : Row) → i < length rows → room_at (set rows i v) i ≡ room_in v
-room_changed rows i v lt = ap (λ (l : List ℕ). get_or l i 0) (map-set room_in rows i v) ∙ get_or-set_same (map room_in rows) i (room_in v) 0 (omega (arith, lt, length-map rows room_in))
-
-pub room_elsewhere : (rows : List Row) (i : ℕ) (v : Row) (j : ℕ) → (j ≡ i → ⊥) → room_at (set rows i v) j ≡ room_at rows j
-room_elsewhere rows i v j other = ap (λ (l : List ℕ). get_or l j 0) (map-set room_in rows i v) ∙ get_or-set_other (map room_in rows) i j (room_in v) 0 other
-
-pub room_was : (rows : List Row) (i : ℕ) (w : Row) → i < length rows → w ≡ get_or rows i w → room_at rows i ≡ room_in w
-room_was rows i w lt is = get_or-map room_in rows i w 0 lt ∙ ap room_in (sym is)
-
-pub room_kept : (rows : List Row) (i : ℕ) (v w : Row) → i < length rows → w ≡ get_or rows i w → room_in w ≤ room_in v → (j : ℕ) → room_at rows j ≤ room_at (set rows i v) j
-room_kept rows i v w lt is more j = elim (cases_eq j i) [
-  | inl same ↦ omega (arith, more, ap (room_at rows) same, ap (room_at (set rows i v)) same, room_changed rows i v lt, room_was rows i w lt is)
-  | inr other ↦ omega (arith, room_elsewhere rows i v j other)
-]
-
--- where there was room, the frame was pushed
-pub pushed_in : (rows : List Row) (i : ℕ) (v w : Row) (f : ℕ) (ok : Bool) → i < length rows → w ≡ get_or rows i w → v.items ≡ (if ok then w.items ++ f ∷ [] else w.items) → (vec_len w < vec_capacity w → ok ≡ true) → 0 < room_at rows i
-    → get_or (map (λ (r : Row). r.items) (set rows i v)) i [] ≡ w.items ++ f ∷ []
-pushed_in rows i v w f ok lt is items succeeds room =
-    let yes : ok ≡ true = succeeds (omega (arith, room, room_was rows i w lt is)) in
-    ap (λ (l : List (List ℕ)). get_or l i []) (map-set (λ (r : Row). r.items) rows i v)
-    ∙ get_or-set_same (map (λ (r : Row). r.items) rows) i v.items [] (omega (arith, lt, length-map rows (λ (r : Row). r.items)))
-    ∙ items ∙ ap (λ (b : Bool). if b then w.items ++ f ∷ [] else w.items) yes
-
-pub has_last : (index : Index) (page frame : ℕ) (fs : List ℕ) → frames_of index page ≡ fs ++ frame ∷ [] → HasFrame index page frame
-has_last index page frame fs is = record {
-  place = length fs;
-  within = omega (arith, ap length is, length-append fs (frame ∷ []));
-  is = ap (λ (l : List ℕ). get_or l (length fs) 0) is ∙ get_or_push fs frame 0 (length fs) refl;
-}
 
 pub kept_by_same : (old new : Index) → SameFrames old new → KeepsFrames old new
 kept_by_same old new same p f known has = record {

@@ -3,8 +3,8 @@ use Rattle.std.proofs.Common.{◌≡◌, ◌∙◌, ◌+◌, ℕ, List, Bool, tr
 use Rattle.walframe.specs.declared.log_header.LogHeader.{LogHeader}
 use Rattle.walframe.specs.declared.sums.Sum.{Sum}
 use Rattle.walframe.specs.Accepted.{frame_start, head_at}
-use Rattle.wal.specs.declared.index.Index.{Index}
-use Rattle.wal.specs.Index.{SameFrames}
+use Rattle.walindex.specs.declared.index.Index.{Index}
+use Rattle.walindex.specs.Index.{SameFrames}
 use Rattle.wal.specs.declared.state.State.{State}
 use Rattle.wal.specs.LogState.{state_in}
 use Rattle.wal.specs.State.{SameState}

@@ -1,4 +1,4 @@
-pub mod Index
+pub mod Indexed
 pub mod Pages
 pub mod Committed
 pub mod Stands

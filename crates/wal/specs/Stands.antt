@@ -5,8 +5,9 @@ use Rattle.walframe.specs.declared.sums.Sum.{Sum}
 use Rattle.walframe.specs.Log.{header_in, header_bytes}
 use Rattle.walframe.specs.Accepted.{frame_start, head_at, sum_to}
 use Rattle.wal.specs.Committed.{HasCommitted}
-use Rattle.wal.specs.declared.index.Index.{Index}
-use Rattle.wal.specs.Index.{EachFrame, IsPageNumber, Misses}
+use Rattle.walindex.specs.declared.index.Index.{Index}
+use Rattle.walindex.specs.Index.{IsPageNumber}
+use Rattle.wal.specs.Indexed.{EachFrame, Misses}
 
 -- a frame is one of the log's, of that page
 abbrev pub IsOfPage : LogHeader → List ℕ → ℕ → ℕ → Type 0

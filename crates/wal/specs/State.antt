@@ -3,7 +3,8 @@ use Rattle.std.specs.Prelude.{◌≡◌, ◌<◌, ◌≤◌, ◌+◌, ℕ, List,
 use Rattle.walframe.specs.declared.sums.Sum.{Sum}
 use Rattle.wal.specs.declared.pages.PageImage.{PageImage}
 use Rattle.wal.specs.declared.state.State.{State}
-use Rattle.wal.specs.Index.{frames_of, SameFrames, IsOldOrNew, HasEach, KeepsFrames}
+use Rattle.walindex.specs.Index.{frames_of, SameFrames}
+use Rattle.wal.specs.Indexed.{IsOldOrNew, HasEach, KeepsFrames}
 use Rattle.wal.specs.Pages.{numbers_of}
 
 -- everything but the index, and it has the frames that it had

@@ -2,7 +2,7 @@
 #![tactic(auto)]
 
 mod committing;
-mod index;
+mod indexed;
 mod laws;
 mod log;
 mod opening;

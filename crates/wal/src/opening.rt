@@ -11,7 +11,7 @@ ghost use Rattle.wal.specs.LogState.{state_in};
 ghost use Rattle.wal.specs.Refusals.{IsOpenRefusal};
 ghost use Rattle.wal.specs.Stands.{LogStands};
 
-use crate::index::Index;
+use crate::indexed::index_of;
 use crate::log::{Log, Refused, Synced};
 use crate::state::{State, is_within_limits};
 use disk::Disk;
@@ -141,7 +141,7 @@ fn recover<D: Disk>(
         mark: scanned.frames.len() as u32,
         sum: sum_of(&scanned, &header),
         size,
-        index: Index::of_frames(alloc, &scanned.frames)?,
+        index: index_of(alloc, &scanned.frames)?,
     })
 }
 

@@ -4,17 +4,18 @@ ghost use Rattle.sqlval.specs.PageSizes.{is_size};
 ghost use Rattle.std.specs.Prelude.{◌≡◌, ◌<◌, ◌≤◌, ◌+◌, ◌-◌, ◌*◌, ◌++◌, ◌↔◌, ℕ, length, IsTrue, IfOk, IfErr, OnOk};
 ghost use Rattle.walframe.specs.Accepted.{frame_start};
 ghost use Rattle.walframe.specs.Written.{SaltsFit, written, sum_after};
-ghost use Rattle.wal.specs.Index.{IsIndexTo, HasRooms, IsStrict};
+ghost use Rattle.wal.specs.Indexed.{IsIndexTo, HasRooms, IsStrict};
 ghost use Rattle.wal.specs.Sizes.{IsSizeWithinLimits, IsWithinLimits};
 ghost use Rattle.wal.specs.Stands.{log_end};
 ghost use Rattle.wal.specs.Pages.{framed, size_before, numbers_of};
 
-use crate::index::Index;
+use crate::indexed::{add_all, reserve_all};
 use crate::pages::PageImage;
 use sqlval::limits::{MAX_DATABASE_BYTES, MAX_FRAMES, MAX_PAGES};
 use sqlval::{Fault, R};
 use std::alloc::{AllocError, Global};
 use walframe::{FrameHeader, LogHeader, Sum};
+use walindex::Index;
 
 /// Whether a database of `size` pages is within the limits.
 pub fn is_within_limits(size: u32, page_size: u32) -> bool
@@ -97,7 +98,7 @@ impl State {
         ensures same { SameState self.old self.new }
         ensures room { OnOk result (HasRooms 0 (length pages.now) (numbers_of pages.now) self.new.index) }
     {
-        self.index.reserve_all(alloc, pages)
+        reserve_all(alloc, &mut self.index, pages)
     }
 
     /// Appends the frames of these pages to `bytes`, the last with the size, and returns the sums carried over them.
@@ -132,7 +133,7 @@ impl State {
         requires size { IsSizeWithinLimits self.old.page_size size }
         ensures { Admits pages.now size sum self.old self.new }
     {
-        self.index.add_all(pages, self.mark);
+        add_all(&mut self.index, pages, self.mark);
         self.mark += pages.len() as u32;
         self.size = size;
         self.sum = sum;

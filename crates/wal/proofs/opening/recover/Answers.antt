@@ -3,7 +3,7 @@ use Rattle.std.proofs.Common.{◌≡◌, ◌∙◌, List, ℕ, true, false, leng
 use Rattle.disk.specs.File.{File}
 use Rattle.walframe.specs.declared.frame.FrameHeader.{FrameHeader}
 use Rattle.walframe.specs.Accepted.{IsScan}
-use Rattle.wal.specs.Index.{IsIndexTo, EachFrame, IsOfHead, HasEach, pages_said}
+use Rattle.wal.specs.Indexed.{IsIndexTo, EachFrame, IsOfHead, HasEach, pages_said}
 use Rattle.wal.specs.Sizes.{IsViewSize, IsSizeWithinLimits}
 use Rattle.wal.specs.Stands.{LogStands}
 use Rattle.sqlval.proofs.PageSizeLemmas.{size_is}
@@ -56,11 +56,11 @@ returns-clause-log g c told =
       size = size_is _ (ap is_size c.in_ok-header.ensures.size ∙ search rules);
     } in
     let frames = c.deref-2.ensures.value in
-    subst (λ (n : ℕ). LogStands c.in_ok-header.header c.is_some-is_begun.result n c.sum_of.result c.in_ok-of_frames.field-0 log) (omega (arith, c.len-2.ensures, c.in_ok-scanned.scanned.frames.ok)) (
-    opened log scan scan.header c.in_ok-header.header c.is_some-is_begun.result c.sum_of.result c.in_ok-of_frames.field-0 read c.sum_of.ensures
-    (subst (λ (l : List FrameHeader). IsIndexTo (length l) c.in_ok-of_frames.field-0) frames c.in_ok-of_frames.ensures.indexed)
-    (subst (λ (l : List FrameHeader). EachFrame (IsOfHead l) c.in_ok-of_frames.field-0) frames c.in_ok-of_frames.ensures.pages)
-    (subst (λ (l : List FrameHeader). HasEach 0 (pages_said l) (length l) c.in_ok-of_frames.field-0) frames c.in_ok-of_frames.ensures.all))
+    subst (λ (n : ℕ). LogStands c.in_ok-header.header c.is_some-is_begun.result n c.sum_of.result c.in_ok-index_of.field-0 log) (omega (arith, c.len-2.ensures, c.in_ok-scanned.scanned.frames.ok)) (
+    opened log scan scan.header c.in_ok-header.header c.is_some-is_begun.result c.sum_of.result c.in_ok-index_of.field-0 read c.sum_of.ensures
+    (subst (λ (l : List FrameHeader). IsIndexTo (length l) c.in_ok-index_of.field-0) frames c.in_ok-index_of.ensures.indexed)
+    (subst (λ (l : List FrameHeader). EachFrame (IsOfHead l) c.in_ok-index_of.field-0) frames c.in_ok-index_of.ensures.pages)
+    (subst (λ (l : List FrameHeader). HasEach 0 (pages_said l) (length l) c.in_ok-index_of.field-0) frames c.in_ok-index_of.ensures.all))
 
 pub returns-clause-view : goal.returns-clause-view
 returns-clause-view g c told_db told =

@@ -1,0 +1,4 @@
+pub mod Rows
+pub mod Index
+pub mod Lesser
+pub mod Marks
