@@ -25,7 +25,7 @@ pub struct TableRow {
 }
 
 /// The collations of an index's columns. (`Memory`.)
-pub(crate) fn collations_of(alloc: Global, columns: &[IndexColumn]) -> R<Vec<Collation>>
+pub fn collations_of(alloc: Global, columns: &[IndexColumn]) -> R<Vec<Collation>>
     ensures found { IfOk result (λ them. them.items ≡ map (λ column. column.collation) columns.now) }
     ensures refused { IfErr result (λ fault. fault ≡ Fault.Memory) }
 {
@@ -48,8 +48,8 @@ fn value_at(alloc: Global, values: &[Value], place: usize) -> R<Value>
     }
 }
 
-/// The values of the indexed columns. (`Memory`.)
-fn key_of(alloc: Global, columns: &[IndexColumn], values: &[Value]) -> R<Vec<Value>>
+/// The values of the indexed columns, NULL past the last value. (`Memory`.)
+pub fn key_of(alloc: Global, columns: &[IndexColumn], values: &[Value]) -> R<Vec<Value>>
     ensures key { IfOk result (λ key. key.items ≡ map (λ column. slice_index_or values.now column.place Null) columns.now) }
     ensures refused { IfErr result (λ fault. fault ≡ Fault.Memory) }
 {

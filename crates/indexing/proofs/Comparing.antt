@@ -1,11 +1,11 @@
 -- The entries of an index's tree are compared with others, batch by batch.
-use Rattle.std.proofs.Common.{◌≡◌, ◌⊎◌, inl, inr, ◌+◌, ◌≤◌, ◌<◌, refl, sym, ap, subst, ◌∙◌, ℕ, zero, suc, Bool, true, false, cond, List, [], ◌∷◌, ◌++◌, length, map, take, drop, filter, slice_index_or, IsTrue, Ok, Err, arith}
-use Rattle.std.proofs.lemmas.List.{append-nil, length-take, take_all, take_at, drop_at, take-append-drop}
+use Rattle.std.proofs.Common.{◌≡◌, inl, inr, ◌+◌, ◌≤◌, ◌<◌, refl, sym, ap, subst, ◌∙◌, ℕ, zero, suc, Bool, true, false, cond, List, [], ◌∷◌, ◌++◌, length, map, take, drop, slice_index_or, IsTrue, Ok, Err, arith}
+use Rattle.std.proofs.lemmas.List.{length-take, take_all, take_at, drop_at, take-append-drop}
 use Rattle.std.specs.Prelude.{Result, ⊤, IsErrAnd, not}
 use Rattle.std.specs.Ordering.{is_eq, is_gt}
 use Rattle.std.specs.declared.cmp.Ordering.{Ordering}
 use Rattle.std.specs.declared.cmp.Ordering.TheVariants.{Less, Equal, Greater}
-use Rattle.sqlval.specs.Faults.{IsOrMemory, IsOutside}
+use Rattle.sqlval.specs.Faults.{IsOrMemory}
 use Rattle.sqlval.specs.Gives.{Refuses}
 use Rattle.sqlval.specs.Lists.{SortKey, keys_cmp}
 use Rattle.sqlval.specs.Order.{order}
@@ -23,7 +23,7 @@ use Rattle.pages.specs.Calls.{Limits, Stays}
 use Rattle.pages.specs.Map.{PageMap, AreWhole}
 use Rattle.treepage.specs.Cells.{Pairwise}
 use Rattle.overflow.proofs.ReadChains.{unrefused}
-use Rattle.indextree.specs.Entries.{Entry, entries_from, entry_cmp, keys_of}
+use Rattle.indextree.specs.Entries.{Entry, entries_from, keys_of}
 use Rattle.indextree.specs.Scanning.{GivesBatch, coming}
 use Rattle.indextree.specs.Tree.{IsIndexTree}
 use Rattle.indexing.specs.Calls.{AreThose, ComparesEntries, Tells}

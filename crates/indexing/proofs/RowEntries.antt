@@ -1,5 +1,5 @@
 -- The entries of rows.
-use Rattle.std.proofs.Common.{◌≡◌, ◌++◌, ◌+◌, refl, sym, ap, subst, Ok, Err, ◌∙◌, ℕ, zero, suc, List, [], ◌∷◌, length, map, slice_index_or, arith}
+use Rattle.std.proofs.Common.{◌≡◌, ◌++◌, refl, sym, ap, subst, Ok, Err, ◌∙◌, ℕ, suc, List, [], ◌∷◌, map, slice_index_or}
 use Rattle.std.specs.List.{AllByRecursion}
 use Rattle.std.specs.Prelude.{Result, IsErrAnd}
 use Rattle.sqlval.specs.Faults.{IsOutside}
@@ -14,36 +14,29 @@ use Rattle.rowprog.specs.Rows.{TableRow}
 use Rattle.rowprog.specs.Sources.{LoadsRows, as_source}
 use Rattle.indextree.specs.Entries.{Entry, entry_cmp}
 use Rattle.indexing.specs.Calls.{SortsEntries}
-use Rattle.indexing.specs.Entries.{indexed, entries_of_rows}
-use Rattle.indexing.specs.Ranking.{column_of, value_or_null, indexed_of, ranked}
-use Rattle.indexing.specs.declared.entries.IndexColumn.{IndexColumn}
+use Rattle.indexes.specs.Entries.{indexed, entries_of_rows}
+use Rattle.indexes.specs.Keeping.{columns_in}
+use Rattle.indexing.specs.Ranking.{indexed_of, ranked}
+use Rattle.indexes.specs.declared.columns.IndexColumn.{IndexColumn}
 use Rattle.indexing.proofs.Ranks.{IsWhole, collations, ranks, sorted_same}
 
-here : (values : List Value) (place : ℕ) → value_or_null values place ≡ slice_index_or values place Null
-here [] zero = refl
-here [] (suc place) = refl
-here (value ∷ values) zero = refl
-here (value ∷ values) (suc place) = here values place
-
-columns_same : (values : List Value) (columns : List IndexColumn) → map (λ column. value_or_null values column.place) columns ≡ map (λ column. slice_index_or values column.0 Null) (map column_of columns)
+columns_same : (values : List Value) (columns : List IndexColumn) → map (λ column. slice_index_or values column.place Null) columns ≡ map (λ column. slice_index_or values column.0 Null) (columns_in columns)
 columns_same values [] = refl
-columns_same values (column ∷ columns) =
-    ap (λ (v : Value). v ∷ map (λ column. value_or_null values column.place) columns) (here values column.place)
-    ∙ ap (λ (l : List Value). slice_index_or values column.place Null ∷ l) (columns_same values columns)
+columns_same values (column ∷ columns) = ap (λ (l : List Value). slice_index_or values column.place Null ∷ l) (columns_same values columns)
 
 -- the entries of rows as a source has them
-pub rows_same : (columns : List IndexColumn) (rows : List TableRow) → map (indexed_of columns) (map as_source rows) ≡ map (indexed (map column_of columns)) rows
+pub rows_same : (columns : List IndexColumn) (rows : List TableRow) → map (indexed_of columns) (map as_source rows) ≡ map (indexed (columns_in columns)) rows
 rows_same columns [] = refl
 rows_same columns (row ∷ rows) =
     ap (λ (l : List Value). (l ++ Int row.0 ∷ []) ∷ map (indexed_of columns) (map as_source rows)) (columns_same row.1 columns)
-    ∙ ap (λ (l : List Entry). indexed (map column_of columns) row ∷ l) (rows_same columns rows)
+    ∙ ap (λ (l : List Entry). indexed (columns_in columns) row ∷ l) (rows_same columns rows)
 
-collations_same : (columns : List IndexColumn) → collations columns ≡ map (λ column. column.1) (map column_of columns)
+collations_same : (columns : List IndexColumn) → collations columns ≡ map (λ column. column.1) (columns_in columns)
 collations_same [] = refl
 collations_same (column ∷ columns) = ap (λ l. column.collation ∷ l) (collations_same columns)
 
 -- the entry of a row is whole
-pub is_whole : (values : List Value) (rowid : Value) (columns : List IndexColumn) → IsWhole columns (map (λ column. value_or_null values column.place) columns ++ rowid ∷ [])
+pub is_whole : (values : List Value) (rowid : Value) (columns : List IndexColumn) → IsWhole columns (map (λ column. slice_index_or values column.place Null) columns ++ rowid ∷ [])
 is_whole values rowid [] = refl
 is_whole values rowid (column ∷ columns) = ap suc (is_whole values rowid columns)
 
@@ -52,10 +45,10 @@ all_whole columns [] = tt
 all_whole columns (row ∷ rows) = (is_whole row.values row.rowid columns, all_whole columns rows)
 
 -- sorted entries of a table's rows are those of an index
-pub sorted_rows : (columns : List IndexColumn) (rows : List TableRow) → sorted (ranked 0 columns) (map (indexed_of columns) (map as_source rows)) ≡ entries_of_rows (map column_of columns) rows
+pub sorted_rows : (columns : List IndexColumn) (rows : List TableRow) → sorted (ranked 0 columns) (map (indexed_of columns) (map as_source rows)) ≡ entries_of_rows (columns_in columns) rows
 sorted_rows columns rows =
     sorted_same (IsWhole columns) (ranked 0 columns) (entry_cmp (collations columns)) (ranks columns) (map (indexed_of columns) (map as_source rows)) (all_whole columns (map as_source rows))
-    ∙ (ap (sorted (entry_cmp (collations columns))) (rows_same columns rows) ∙ ap (λ l. sorted (entry_cmp l) (map (indexed (map column_of columns)) rows)) (collations_same columns))
+    ∙ (ap (sorted (entry_cmp (collations columns))) (rows_same columns rows) ∙ ap (λ l. sorted (entry_cmp l) (map (indexed (columns_in columns)) rows)) (collations_same columns))
 
 abbrev fine : {A : Type 0} → A → Result A Fault
 fine x = Ok x

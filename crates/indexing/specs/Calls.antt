@@ -11,14 +11,14 @@ use Rattle.rowprog.specs.Rows.{TableRow}
 use Rattle.rowprog.specs.Trees.{HasRows}
 use Rattle.indextree.specs.Entries.{Entry}
 use Rattle.indextree.specs.Tree.{IsIndexTree}
-use Rattle.indexing.specs.Entries.{entries_of_rows}
-use Rattle.indexing.specs.Ranking.{collation_of, column_of}
-use Rattle.indexing.specs.declared.entries.IndexColumn.{IndexColumn}
+use Rattle.indexes.specs.Entries.{entries_of_rows}
+use Rattle.indexes.specs.Keeping.{columns_in}
+use Rattle.indexes.specs.declared.columns.IndexColumn.{IndexColumn}
 
 -- Of a tree of rows these are the entries, in order; or memory was short, or a disk's call failed.
 abbrev pub SortsEntries : PageMap → ℕ → BoundSource → List IndexColumn → Result (List Entry) Fault → Type 0
 SortsEntries pages size table columns result = (rows : List TableRow) → AreWhole size pages → HasRows pages size table.root table.width rows
-    → MatchResult result (λ found. found ≡ entries_of_rows (map column_of columns) rows) IsOutside
+    → MatchResult result (λ found. found ≡ entries_of_rows (columns_in columns) rows) IsOutside
 
 -- ---- entries that are compared
 
@@ -41,5 +41,5 @@ ComparesEntries pages size root columns should result = (there : List Entry) (us
 -- the entries of the index's tree under the root were compared with those of the table's rows
 abbrev pub ChecksEntries : PageMap → ℕ → ℕ → BoundSource → List IndexColumn → Result ⊤ Fault → Type 0
 ChecksEntries pages size root table columns result = (there : List Entry) (used : List ℕ) (rows : List TableRow) → AreWhole size pages
-    → IsIndexTree pages size root (map collation_of columns) there used → HasRows pages size table.root table.width rows
-    → AreThose root there (entries_of_rows (map column_of columns) rows) result
+    → IsIndexTree pages size root (map (λ column. column.collation) columns) there used → HasRows pages size table.root table.width rows
+    → AreThose root there (entries_of_rows (columns_in columns) rows) result

@@ -1,3 +1,3 @@
-pub mod Entries
 pub mod Ranking
 pub mod Calls
+pub mod Making

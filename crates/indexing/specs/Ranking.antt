@@ -1,23 +1,14 @@
 -- How entries are made and compared.
-use Rattle.std.specs.Prelude.{ℕ, ◌+◌, List, [], ◌∷◌, ◌++◌, map, slice_get, unwrap_or}
+use Rattle.std.specs.Prelude.{ℕ, ◌+◌, List, [], ◌∷◌, ◌++◌, map, slice_get, slice_index_or, unwrap_or}
 use Rattle.std.specs.Ordering.{ordering_then}
 use Rattle.std.specs.declared.cmp.Ordering.{Ordering}
 use Rattle.sqlval.specs.Order.{order}
-use Rattle.sqlval.specs.declared.collation.Collation.{Collation}
 use Rattle.sqlval.specs.declared.collation.Collation.TheVariants.{Binary}
 use Rattle.sqlval.specs.declared.value.Value.{Value}
 use Rattle.sqlval.specs.declared.value.Value.TheVariants.{Null}
 use Rattle.terms.specs.Values.{Row}
 use Rattle.indextree.specs.Entries.{Entry}
-use Rattle.indexing.specs.declared.entries.IndexColumn.{IndexColumn}
-
--- a column of an index: its place in a row, and its collation
-abbrev pub column_of : IndexColumn → ℕ × Collation
-column_of column = (column.place, column.collation)
-
--- the collation of a column
-abbrev pub collation_of : IndexColumn → Collation
-collation_of column = column.collation
+use Rattle.indexes.specs.declared.columns.IndexColumn.{IndexColumn}
 
 -- the value at a place, NULL past the last
 abbrev pub value_or_null : List Value → ℕ → Value
@@ -25,7 +16,7 @@ value_or_null values place = unwrap_or (slice_get values place) Null
 
 -- the entry of a row as a query's source has it
 abbrev pub indexed_of : List IndexColumn → Row → Entry
-indexed_of columns row = map (λ column. value_or_null row.values column.place) columns ++ row.rowid ∷ []
+indexed_of columns row = map (λ column. slice_index_or row.values column.place Null) columns ++ row.rowid ∷ []
 
 -- by the columns, the first of which has its value at this place of an entry, then by the rowid; a missing value is NULL
 abbrev pub ranked : ℕ → List IndexColumn → Entry → Entry → Ordering

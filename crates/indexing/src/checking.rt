@@ -8,27 +8,15 @@ ghost use Rattle.record.specs.Record.{IsRecord};
 ghost use Rattle.treepage.specs.Cells.{Pairwise};
 ghost use Rattle.indextree.specs.Entries.{Entry};
 ghost use Rattle.indexing.specs.Calls.{ChecksEntries, ComparesEntries, Tells};
-ghost use Rattle.indexing.specs.Ranking.{collation_of};
 
-use crate::entries::{IndexColumn, sorted_entries};
+use crate::entries::sorted_entries;
 use bind::BoundSource;
+use indexes::{IndexColumn, collations_of};
 use indextree::Cursor;
 use pages::Pages;
 use record::Record;
 use sqlval::{Collation, Damage, Fault, Field, Many, R, Value, compare_fields};
 use std::alloc::Global;
-
-/// The collations of columns. (`Memory`.)
-pub(crate) fn collations_of(alloc: Global, columns: &[IndexColumn]) -> R<Vec<Collation>>
-    ensures are { IfOk result (λ collations. collations.items ≡ map collation_of columns.now) }
-    ensures refused { IfErr result (λ fault. fault ≡ Fault.Memory) }
-{
-    let mut collations = Vec::new(alloc);
-    'columns: for column in columns {
-        collations.push(column.collation)?;
-    }
-    Ok(collations)
-}
 
 /// Whether two values are one.
 fn is_same(a: Field<'_>, b: Field<'_>) -> bool

@@ -1,6 +1,6 @@
 //! The entries of an index, read from its table's rows.
 
-ghost use Rattle.std.specs.Prelude.{◌≡◌, IsTrue, IfOk, IfErr, OnOk, length, map, slice_get, unwrap_or};
+ghost use Rattle.std.specs.Prelude.{◌≡◌, IsTrue, IfOk, IfErr, OnOk, map, slice_get, unwrap_or};
 ghost use Rattle.sqlval.specs.Lists.{sorted};
 ghost use Rattle.sqlval.specs.Order.{order};
 ghost use Rattle.sqlval.specs.declared.value.Value.TheVariants.{Null};
@@ -10,19 +10,13 @@ ghost use Rattle.indexing.specs.Calls.{SortsEntries};
 ghost use Rattle.indexing.specs.Ranking.{indexed_of, ranked, value_or_null};
 
 use bind::BoundSource;
+use indexes::{IndexColumn, key_of};
 use pages::Pages;
 use rowprog::source_rows;
 use sqlval::{Collation, Fault, Field, Many, R, Value, compare_fields};
 use std::alloc::Global;
 use std::cmp::Ordering;
 use terms::SourceRow;
-
-/// A column that an index has: its place in a row of the table, counted from 0, and the collation that it is sorted by.
-#[derive(Clone, Copy)]
-pub struct IndexColumn {
-    pub place: usize,
-    pub collation: Collation,
-}
 
 /// The value at a place, NULL past the last.
 fn value_in(values: &[Value], place: usize) -> Field<'_>
@@ -50,12 +44,9 @@ fn entry_of(alloc: Global, row: &SourceRow, columns: &[IndexColumn]) -> R<Many<V
     ensures refused { IfErr result (λ fault. fault ≡ Fault.Memory) }
 {
     let values = row.values(alloc)?;
-    let mut entry = Many::new(alloc);
-    'columns: for column in columns {
-        entry.push(value_in(values.as_slice(), column.place).to_value(alloc)?)?;
-    }
+    let mut entry = key_of(alloc, columns, values.as_slice())?;
     entry.push(rowid_in(row))?;
-    Ok(entry)
+    Ok(Many::from_vec(entry))
 }
 
 /// The entries of rows, in the order of the rows. (`Memory`.)

@@ -1,5 +1,7 @@
 pub mod EntryRows
 pub mod Staying
+pub mod LastEntries
+mod Fillings
 mod Readings
 mod Comparisons
 mod Orders

@@ -9,3 +9,4 @@ pub mod Joining
 pub mod Removing
 pub mod Lowering
 pub mod Scanning
+pub mod Filling

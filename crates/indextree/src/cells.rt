@@ -32,7 +32,7 @@ pub(crate) fn at_page(fault: Fault, number: u32) -> Fault
 }
 
 /// The longest payload that lies whole in a cell, in bytes, where a page has so many.
-pub(crate) fn most_in(page_size: usize) -> usize
+pub fn most_in(page_size: usize) -> usize
     ensures { result ≡ index_most page_size }
 {
     let room = page_size.saturating_sub(12);

@@ -50,7 +50,7 @@ fn compare_field(
 }
 
 /// The order of a key and an entry. (`Memory`.)
-fn compare_entry(alloc: Global, key: Key<'_>, entry: &Record<'_>) -> R<Ordering>
+pub fn compare_entry(alloc: Global, key: Key<'_>, entry: &Record<'_>) -> R<Ordering>
     ensures is { IfOk result (λ order. order ≡ entry_cmp key.entry.columns.now key.entry.values.now entry.now) }
     ensures refused { IfErr result (λ fault. fault ≡ Fault.Memory) }
 {

@@ -4,6 +4,7 @@
 
 mod cells;
 mod comparing;
+mod filling;
 mod freeing;
 mod growing;
 mod inserting;
@@ -14,7 +15,9 @@ mod placing;
 mod removing;
 mod scanning;
 
-pub use comparing::{Key, order};
+pub use cells::most_in;
+pub use comparing::{Key, compare_entry, order};
+pub use filling::fill_tree;
 pub use freeing::{clear, free_tree, new_tree};
 pub use inserting::insert;
 pub use laws::index_trees_stay;

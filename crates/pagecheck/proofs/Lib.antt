@@ -1,4 +1,5 @@
 pub mod Parting
+pub mod Going
 pub mod Running
 pub mod Links
 pub mod TailChains
@@ -13,3 +14,7 @@ pub mod Bounds
 pub mod TreeChecks
 pub mod Trunking
 pub mod AllMarked
+pub mod Turns
+pub mod EntryChecks
+pub mod OrderedTrees
+pub mod WholeIndexes

@@ -1,20 +1,19 @@
 -- The payloads of a leaf's rows, and the chains over which they go on.
-use Rattle.std.proofs.Common.{◌≡◌, ◌+◌, ◌≤◌, ◌<◌, ℕ, ℤ, ◌<ℤ◌, List, [], ◌∷◌, ◌++◌, length, take, drop, nat_le, if◌then◌else◌, refl, sym, ap, subst, ◌∙◌, arith}
+use Rattle.std.proofs.Common.{◌≡◌, ◌+◌, ◌≤◌, ◌<◌, ◌^◌, ℕ, ℤ, ◌<ℤ◌, List, [], ◌∷◌, ◌++◌, length, take, drop, nat_le, if◌then◌else◌, refl, sym, ap, subst, ◌∙◌, arith}
 use Rattle.std.proofs.lemmas.Bool.Decides.{nat_tests}
 use Rattle.std.proofs.lemmas.List.{append-nil, length-append, length-drop, length-take, take_all, drop_all, take_at, drop_at}
 use Rattle.std.specs.Int.{w32, to_be_bytes}
 use Rattle.std.specs.List.{flat_map}
-use Rattle.page.specs.Leaf.{Entry}
 use Rattle.pages.specs.Counting.{occurs}
 use Rattle.pages.specs.Map.{PageMap}
 use Rattle.treepage.specs.Cells.{Pairwise}
 use Rattle.treepage.specs.Node.{Local}
-use Rattle.treepage.specs.Payload.{least, fitted, local_size, table_most}
+use Rattle.treepage.specs.Payload.{least, fitted, local_size, table_most, index_most}
 use Rattle.overflow.specs.Chains.{IsChain, first_link, next_of}
 use Rattle.tabletree.specs.Tree.{Held, IsHeldAs, Rises}
 use Rattle.tabletree.proofs.SameRows.{split}
 use Rattle.pagecheck.specs.Subtrees.{RisesAs}
-use Rattle.pagecheck.specs.Tails.{Chain, IsTailOn, IsTail, IsShort, IsLong, AreTails}
+use Rattle.pagecheck.specs.Tails.{Chain, IsTailOn, IsTail, IsShort, IsLong, AreTails, IsCellOf}
 use Rattle.pagecheck.specs.declared.chains.Tail.{Tail}
 use Rattle.pagecheck.proofs.Links.{pages_on, one_number, none_left}
 use Rattle.pagecheck.proofs.Parting.{occurs_append}
@@ -24,129 +23,156 @@ pages_for held = held.pages
 
 -- ---- sizes
 
-local_whole : (usable size : ℕ) → size ≤ table_most usable → local_size usable (table_most usable) size ≡ size
-local_whole usable size le = grind (arith, nat_tests)
+local_whole : (usable most size : ℕ) → size ≤ most → local_size usable most size ≡ size
+local_whole usable most size le = grind (arith, nat_tests)
 
 local_cases : (most fit low size : ℕ) → low ≤ most → most < size → (if nat_le size most then size else (if nat_le fit most then fit else low)) < size
 local_cases most fit low size le lt = grind (arith, nat_tests)
 
-least_most : (usable : ℕ) → 512 ≤ usable → least usable ≤ table_most usable
-least_most usable large = omega (arith, large)
+-- the least part of a payload is no longer than the longest that lies whole in a cell
+pub least_in_table : (usable : ℕ) → 512 ≤ usable → least usable ≤ table_most usable
+least_in_table usable large = omega (arith, large)
+
+pub least_in_index : (usable : ℕ) → 512 ≤ usable → least usable ≤ index_most usable
+least_in_index usable large = omega (arith, large)
 
 -- of a payload that goes on, a part lies elsewhere
-pub local_part : (usable size : ℕ) → 512 ≤ usable → table_most usable < size → local_size usable (table_most usable) size < size
-local_part usable size large lt = local_cases (table_most usable) (fitted usable size) (least usable) size (least_most usable large) lt
+local_part : (usable most size : ℕ) → least usable ≤ most → most < size → local_size usable most size < size
+local_part usable most size low lt = local_cases most (fitted usable size) (least usable) size low lt
 
--- ---- one row
+-- ---- one payload
 
--- The chains have the pages of a row.
+-- The chains have the pages of a payload.
 pub record HasChains (map : PageMap) (size : ℕ) (tails : List Tail) (pages : List ℕ) : Type 0 where
   pub chains : List Chain
   pub on : Pairwise (IsTailOn map size) tails chains
   pub as_often : (n : ℕ) → occurs n (flat_map pages_on chains) ≡ occurs n pages
 
-short_chains : (map : PageMap) (size : ℕ) (said : ℤ × Local) (held : Held) → IsHeldAs map size said held → IsShort size said.1 → HasChains map size [] held.pages
-short_chains map size said held is short =
-    let le : length held.row.payload ≤ table_most size = (let a = is.size in let b = short.fits in omega (arith, a, b)) in
-    let all = local_whole size (length held.row.payload) le in
-    let none : length (drop (local_size size (table_most size) (length held.row.payload)) held.row.payload) ≡ 0 =
-    length-drop (local_size size (table_most size) (length held.row.payload)) held.row.payload ∙ omega (arith, all) in
-    let empty : held.pages ≡ [] = none_left map size _ held.pages is.payload.chain none in
-    record { chains = []; on = tt; as_often = λ n. sym (ap (occurs n) empty) }
+-- A payload has the pages of these chains.
+pub record HasPayload (map : PageMap) (size most : ℕ) (said : Local) (pages : List ℕ) : Type 0 where
+  pub payload : List ℕ
+  pub over : List ℕ
+  pub is : IsCellOf map size most said payload over
+  pub as_often : (n : ℕ) → occurs n over ≡ occurs n pages
 
-long_chains : (map : PageMap) (size : ℕ) (said : ℤ × Local) (tail : Tail) (row : Entry) (pages : List ℕ) → 512 ≤ size → IsHeldAs map size said (record { row = row; pages = pages }) → IsLong size said.1 tail
-    → HasChains map size (tail ∷ []) pages
-long_chains map size said tail row pages large is long =
-    let count = is.size in
-    let local = local_size size (table_most size) (length row.payload) in
-    let local_is : local_size size (table_most size) said.1.size ≡ local = ap (local_size size (table_most size)) count in
-    let part = local_part size said.1.size large long.long in
-    let front : length long.here ≡ length (take local row.payload) = long.here_is ∙ (local_is ∙ sym (length-take local row.payload ∙ omega (arith, part, local_is, count))) in
-    let links = (split long.here (to_be_bytes w32 tail.first) (take local row.payload) (first_link pages) front (sym long.parts ∙ is.payload.parts)).1 in
-    let first = first_page (drop local row.payload) pages links is.payload.chain in
-    let left : length (drop local row.payload) ≡ tail.size = length-drop local row.payload ∙ (let l = long.left in omega (arith, l, local_is, count)) in
-    record {
-      chains = record { bytes = drop local row.payload; pages = pages } ∷ [];
-      on = (record { is = is.payload.chain; first_is = first; long = left }, tt);
-      as_often = λ n. ap (occurs n) (append-nil pages);
-    }
-  where
-    first_page : (bytes pages : List ℕ) → to_be_bytes w32 tail.first ≡ first_link pages → IsChain map size bytes pages → next_of pages ≡ tail.first
-    first_page bytes [] links chain = absurd (let none = ap length links in omega (arith, none))
-    first_page bytes (page ∷ pages) links chain =
-        sym (one_number tail.first page [] [] long.near chain.0.near (append-nil (to_be_bytes w32 tail.first) ∙ (links ∙ sym (append-nil (to_be_bytes w32 page)))))
+module _ (map : PageMap) (size most : ℕ) (low : least size ≤ most) (said : Local) where
+  short_chains : (payload pages : List ℕ) → IsCellOf map size most said payload pages → IsShort size most said → HasChains map size [] pages
+  short_chains payload pages is short =
+      let le : length payload ≤ most = (let a = is.long in let b = short.fits in omega (arith, a, b)) in
+      let all = local_whole size most (length payload) le in
+      let none : length (drop (local_size size most (length payload)) payload) ≡ 0 =
+      length-drop (local_size size most (length payload)) payload ∙ omega (arith, all) in
+      let empty : pages ≡ [] = none_left map size _ pages is.is.chain none in
+      record { chains = []; on = tt; as_often = λ n. sym (ap (occurs n) empty) }
+
+  first_page : (tail : Tail) → tail.first < 2 ^ 32 → (bytes pages : List ℕ) → to_be_bytes w32 tail.first ≡ first_link pages → IsChain map size bytes pages → next_of pages ≡ tail.first
+  first_page tail near bytes [] links chain = absurd (let none = ap length links in omega (arith, none))
+  first_page tail near bytes (page ∷ pages) links chain =
+      sym (one_number tail.first page [] [] near chain.0.near (append-nil (to_be_bytes w32 tail.first) ∙ (links ∙ sym (append-nil (to_be_bytes w32 page)))))
+
+  long_chains : (tail : Tail) (payload pages : List ℕ) → IsCellOf map size most said payload pages → IsLong size most said tail → HasChains map size (tail ∷ []) pages
+  long_chains tail payload pages is long =
+      let count = is.long in
+      let local = local_size size most (length payload) in
+      let local_is : local_size size most said.size ≡ local = ap (local_size size most) count in
+      let part = local_part size most said.size low long.long in
+      let front : length long.here ≡ length (take local payload) = long.here_is ∙ (local_is ∙ sym (length-take local payload ∙ omega (arith, part, local_is, count))) in
+      let links = (split long.here (to_be_bytes w32 tail.first) (take local payload) (first_link pages) front (sym long.parts ∙ is.is.parts)).1 in
+      let first = first_page tail long.near (drop local payload) pages links is.is.chain in
+      let left : length (drop local payload) ≡ tail.size = length-drop local payload ∙ (let l = long.left in omega (arith, l, local_is, count)) in
+      record {
+        chains = record { bytes = drop local payload; pages = pages } ∷ [];
+        on = (record { is = is.is.chain; first_is = first; long = left }, tt);
+        as_often = λ n. ap (occurs n) (append-nil pages);
+      }
+
+  -- a payload goes on over these chains
+  pub payload_chains : (tails : List Tail) (payload pages : List ℕ) → IsCellOf map size most said payload pages → IsTail size most said tails → HasChains map size tails pages
+  payload_chains [] payload pages is tail = short_chains payload pages is tail
+  payload_chains (tail ∷ []) payload pages is long = long_chains tail payload pages is long
+  payload_chains (tail ∷ more ∷ tails) payload pages is none = absurd none
+
+  short_payload : IsShort size most said → HasPayload map size most said []
+  short_payload short =
+      let le : length said.bytes ≤ most = (let a = short.whole in let b = short.fits in omega (arith, a, b)) in
+      let all = local_whole size most (length said.bytes) le in
+      record {
+        payload = said.bytes;
+        over = [];
+        is = record {
+          long = sym short.whole;
+          is = record {
+            parts = sym (append-nil (take (local_size size most (length said.bytes)) said.bytes) ∙ (ap (λ n. take n said.bytes) all ∙ take_all (length said.bytes) said.bytes (omega arith)));
+            chain = ap (λ n. drop n said.bytes) all ∙ drop_all (length said.bytes) said.bytes (omega arith);
+          };
+        };
+        as_often = λ n. refl;
+      }
+
+  links_to : (tail : Tail) (bytes pages : List ℕ) → next_of pages ≡ tail.first → 0 < length bytes → IsChain map size bytes pages → to_be_bytes w32 tail.first ≡ first_link pages
+  links_to tail bytes [] first some chain = absurd (let none = ap length chain in omega (arith, none, some))
+  links_to tail bytes (page ∷ pages) first some chain = ap (to_be_bytes w32) (sym first)
+
+  long_payload : (tail : Tail) (bytes pages : List ℕ) → IsLong size most said tail → IsTailOn map size tail (record { bytes = bytes; pages = pages }) → HasPayload map size most said pages
+  long_payload tail bytes pages long on =
+      let part = local_part size most said.size low long.long in
+      let both = length-append long.here bytes in
+      let here = long.here_is in
+      let left = long.left in
+      let rest = on.long in
+      let count : length (long.here ++ bytes) ≡ said.size = omega (arith, both, here, left, rest, part) in
+      let local_is : local_size size most (length (long.here ++ bytes)) ≡ length long.here = ap (local_size size most) count ∙ sym here in
+      let front : take (local_size size most (length (long.here ++ bytes))) (long.here ++ bytes) ≡ long.here = ap (λ n. take n (long.here ++ bytes)) local_is ∙ take_at long.here bytes (length long.here) refl in
+      let behind : drop (local_size size most (length (long.here ++ bytes))) (long.here ++ bytes) ≡ bytes = ap (λ n. drop n (long.here ++ bytes)) local_is ∙ drop_at long.here bytes (length long.here) refl in
+      let some : 0 < length bytes = omega (arith, rest, left, part) in
+      record {
+        payload = long.here ++ bytes;
+        over = pages;
+        is = record {
+          long = sym count;
+          is = record {
+            parts = long.parts ∙ (ap (λ (l : List ℕ). l ++ to_be_bytes w32 tail.first) (sym front)
+                ∙ ap (λ (l : List ℕ). take (local_size size most (length (long.here ++ bytes))) (long.here ++ bytes) ++ l) (links_to tail bytes pages on.first_is some on.is));
+            chain = subst (λ (l : List ℕ). IsChain map size l pages) (sym behind) on.is;
+          };
+        };
+        as_often = λ n. refl;
+      }
+
+  -- the chains of a payload's tails make the payload
+  pub chains_payload : (tails : List Tail) (chains : List Chain) → IsTail size most said tails → Pairwise (IsTailOn map size) tails chains → HasPayload map size most said (flat_map pages_on chains)
+  chains_payload [] [] short on = short_payload short
+  chains_payload [] (chain ∷ chains) short on = absurd on
+  chains_payload (tail ∷ []) [] long on = absurd on
+  chains_payload (tail ∷ []) (chain ∷ []) long on =
+      let made = long_payload tail chain.bytes chain.pages long on.0 in
+      record { payload = made.payload; over = made.over; is = made.is; as_often = λ n. made.as_often n ∙ sym (ap (occurs n) (append-nil chain.pages)) }
+  chains_payload (tail ∷ []) (chain ∷ other ∷ chains) long on = absurd on.1
+  chains_payload (tail ∷ more ∷ tails) chains none on = absurd none
+
+-- ---- one row
 
 -- the row that a leaf tells goes on over these chains
-row_chains : (map : PageMap) (size : ℕ) (said : ℤ × Local) (tails : List Tail) (held : Held) → 512 ≤ size → IsHeldAs map size said held → IsTail size said.1 tails → HasChains map size tails held.pages
-row_chains map size said [] held large is tail = short_chains map size said held is tail
-row_chains map size said (tail ∷ []) held large is long = long_chains map size said tail held.row held.pages large is long
-row_chains map size said (tail ∷ more ∷ tails) held large is none = absurd none
+row_chains : (map : PageMap) (size : ℕ) (said : ℤ × Local) (tails : List Tail) (held : Held) → 512 ≤ size → IsHeldAs map size said held → IsTail size (table_most size) said.1 tails → HasChains map size tails held.pages
+row_chains map size said tails held large is tail =
+    payload_chains map size (table_most size) (least_in_table size large) said.1 tails held.row.payload held.pages (record { long = is.size; is = is.payload }) tail
 
 -- A row has the pages of these chains.
-pub record HasRow (map : PageMap) (size : ℕ) (said : ℤ × Local) (pages : List ℕ) : Type 0 where
+record HasRow (map : PageMap) (size : ℕ) (said : ℤ × Local) (pages : List ℕ) : Type 0 where
   pub held : Held
   pub is : IsHeldAs map size said held
   pub as_often : (n : ℕ) → occurs n held.pages ≡ occurs n pages
 
-short_row : (map : PageMap) (size : ℕ) (said : ℤ × Local) → IsShort size said.1 → HasRow map size said []
-short_row map size said short =
-    let le : length said.1.bytes ≤ table_most size = (let a = short.whole in let b = short.fits in omega (arith, a, b)) in
-    let all = local_whole size (length said.1.bytes) le in
-    record {
-      held = record { row = record { rowid = said.0; payload = said.1.bytes }; pages = [] };
-      is = record {
-        rowid = refl;
-        size = sym short.whole;
-        payload = record {
-          parts = sym (append-nil (take (local_size size (table_most size) (length said.1.bytes)) said.1.bytes) ∙ (ap (λ n. take n said.1.bytes) all ∙ take_all (length said.1.bytes) said.1.bytes (omega arith)));
-          chain = ap (λ n. drop n said.1.bytes) all ∙ drop_all (length said.1.bytes) said.1.bytes (omega arith);
-        };
-      };
-      as_often = λ n. refl;
-    }
-
-long_row : (map : PageMap) (size : ℕ) (said : ℤ × Local) (tail : Tail) (bytes pages : List ℕ) → 512 ≤ size → IsLong size said.1 tail → IsTailOn map size tail (record { bytes = bytes; pages = pages })
-    → HasRow map size said pages
-long_row map size said tail bytes pages large long on =
-    let part = local_part size said.1.size large long.long in
-    let both = length-append long.here bytes in
-    let here = long.here_is in
-    let left = long.left in
-    let rest = on.long in
-    let count : length (long.here ++ bytes) ≡ said.1.size = omega (arith, both, here, left, rest, part) in
-    let local_is : local_size size (table_most size) (length (long.here ++ bytes)) ≡ length long.here = ap (local_size size (table_most size)) count ∙ sym here in
-    let front : take (local_size size (table_most size) (length (long.here ++ bytes))) (long.here ++ bytes) ≡ long.here = ap (λ n. take n (long.here ++ bytes)) local_is ∙ take_at long.here bytes (length long.here) refl in
-    let behind : drop (local_size size (table_most size) (length (long.here ++ bytes))) (long.here ++ bytes) ≡ bytes = ap (λ n. drop n (long.here ++ bytes)) local_is ∙ drop_at long.here bytes (length long.here) refl in
-    let some : 0 < length bytes = omega (arith, rest, left, part) in
-    record {
-      held = record { row = record { rowid = said.0; payload = long.here ++ bytes }; pages = pages };
-      is = record {
-        rowid = refl;
-        size = sym count;
-        payload = record {
-          parts = long.parts ∙ (ap (λ (l : List ℕ). l ++ to_be_bytes w32 tail.first) (sym front)
-              ∙ ap (λ (l : List ℕ). take (local_size size (table_most size) (length (long.here ++ bytes))) (long.here ++ bytes) ++ l) (links pages on.first_is some on.is));
-          chain = subst (λ (l : List ℕ). IsChain map size l pages) (sym behind) on.is;
-        };
-      };
-      as_often = λ n. refl;
-    }
-  where
-    links : (pages : List ℕ) → next_of pages ≡ tail.first → 0 < length bytes → IsChain map size bytes pages → to_be_bytes w32 tail.first ≡ first_link pages
-    links [] first some chain = absurd (let none = ap length chain in omega (arith, none, some))
-    links (page ∷ pages) first some chain = ap (to_be_bytes w32) (sym first)
-
 -- the chains of a row's tails make the row
-chains_row : (map : PageMap) (size : ℕ) (said : ℤ × Local) (tails : List Tail) (chains : List Chain) → 512 ≤ size → IsTail size said.1 tails → Pairwise (IsTailOn map size) tails chains
+chains_row : (map : PageMap) (size : ℕ) (said : ℤ × Local) (tails : List Tail) (chains : List Chain) → 512 ≤ size → IsTail size (table_most size) said.1 tails → Pairwise (IsTailOn map size) tails chains
     → HasRow map size said (flat_map pages_on chains)
-chains_row map size said [] [] large short on = short_row map size said short
-chains_row map size said [] (chain ∷ chains) large short on = absurd on
-chains_row map size said (tail ∷ []) [] large long on = absurd on
-chains_row map size said (tail ∷ []) (chain ∷ []) large long on =
-    let row = long_row map size said tail chain.bytes chain.pages large long on.0 in
-    record { held = row.held; is = row.is; as_often = λ n. row.as_often n ∙ sym (ap (occurs n) (append-nil chain.pages)) }
-chains_row map size said (tail ∷ []) (chain ∷ other ∷ chains) large long on = absurd on.1
-chains_row map size said (tail ∷ more ∷ tails) chains large none on = absurd none
+chains_row map size said tails chains large tail on =
+    let made = chains_payload map size (table_most size) (least_in_table size large) said.1 tails chains tail on in
+    record {
+      held = record { row = record { rowid = said.0; payload = made.payload }; pages = made.over };
+      is = record { rowid = refl; size = made.is.long; payload = made.is.is };
+      as_often = made.as_often;
+    }
 
 -- ---- all rows
 

@@ -17,7 +17,7 @@ pub record HasRows (usable : ℕ) (low above high : ℤ) (index : ℕ) (said : L
 pub no_rows : (usable : ℕ) (low high : ℤ) (said : List (ℤ × Local)) → HasRows usable low low high 0 said []
 no_rows usable low high said = record { tails_are = refl; rises = λ r. r; rose = λ r. r }
 
-pub tails_append : (usable : ℕ) (rows : List (ℤ × Local)) (row : ℤ × Local) (tails more : List Tail) → AreTails usable rows tails → IsTail usable row.1 more
+pub tails_append : (usable : ℕ) (rows : List (ℤ × Local)) (row : ℤ × Local) (tails more : List Tail) → AreTails usable rows tails → IsTail usable (table_most usable) row.1 more
     → AreTails usable (rows ++ row ∷ []) (tails ++ more)
 tails_append usable [] row tails more are is = (more, [], ap (λ (l : List Tail). l ++ more) are ∙ sym (append-nil more), is, refl)
 tails_append usable (first ∷ rows) row tails more are is =
@@ -35,7 +35,7 @@ left_more (row ∷ said) (suc index) d lt = left_more said index d (omega (arith
 
 -- one more row was read
 pub one_row : (usable : ℕ) (low above high : ℤ) (index : ℕ) (said : List (ℤ × Local)) (tails more : List Tail) (row : ℤ × Local) → HasRows usable low above high index said tails
-    → index < length said → row ≡ slice_index_or said index row → above <ℤ row.0 → IsTail usable row.1 more → HasRows usable low row.0 high (suc index) said (tails ++ more)
+    → index < length said → row ≡ slice_index_or said index row → above <ℤ row.0 → IsTail usable (table_most usable) row.1 more → HasRows usable low row.0 high (suc index) said (tails ++ more)
 one_row usable low above high index said tails more row has lt is lower tail =
     let left : drop index said ≡ row ∷ drop (suc index) said = left_more said index row lt ∙ ap (λ (r : ℤ × Local). r ∷ drop (suc index) said) (sym is) in
     record {
@@ -79,10 +79,11 @@ held_in usable (cell ∷ cells) (row ∷ said) zero d all lt = all.0.held
 held_in usable (cell ∷ cells) (row ∷ said) (suc index) d all lt = held_in usable cells said index d all.1 (omega (arith, lt))
 
 pub row_held : (page : List ℕ) (start usable : ℕ) (said : List (ℤ × Local)) (index : ℕ) (row : ℤ × Local) → IsNode page start (Rows said) → length page ≡ usable → index < length said
-    → row ≡ slice_index_or said index row → length row.1.bytes ≡ held_size usable (table_most usable) row.1.size
-row_held page start usable said index row is long lt at =
-    subst (λ (r : ℤ × Local). length r.1.bytes ≡ held_size usable (table_most usable) r.1.size) (sym at)
-    (held_in usable is.cells said index row (subst (λ (u : ℕ). Pairwise (IsRowCell u) is.cells said) long is.say) lt)
+    → row ≡ slice_index_or said index row → (most : ℕ) → most ≡ table_most usable → length row.1.bytes ≡ held_size usable most row.1.size
+row_held page start usable said index row is long lt at most most_is =
+    subst (λ (n : ℕ). length row.1.bytes ≡ held_size usable n row.1.size) (sym most_is)
+    (subst (λ (r : ℤ × Local). length r.1.bytes ≡ held_size usable (table_most usable) r.1.size) (sym at)
+    (held_in usable is.cells said index row (subst (λ (u : ℕ). Pairwise (IsRowCell u) is.cells said) long is.say) lt))
 
 -- the same for bounds that are equal
 pub plain_rows : (usable index : ℕ) (said : List (ℤ × Local)) (tails : List Tail) (a b c low above high : ℤ) → a ≡ low → b ≡ above → c ≡ high → HasRows usable a b c index said tails

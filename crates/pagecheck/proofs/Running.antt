@@ -1,60 +1,34 @@
--- Loops that check one thing after the other.
-use Rattle.std.proofs.Common.{◌≡◌, ℕ, Bool, List, length, refl, ◌∙◌, arith, Err}
-use Rattle.std.specs.Prelude.{⊤, Result, IsErrAnd}
+-- Loops that check one thing after the other, and keep marks alone.
+use Rattle.std.proofs.Common.{◌≡◌, ℕ, Bool, List, length}
+use Rattle.std.specs.Prelude.{⊤, Result}
 use Rattle.sqlval.specs.declared.fault.Fault.{Fault}
 use Rattle.pages.specs.Calls.{Limits, Stays}
 use Rattle.pages.specs.Map.{PageMap}
-use Rattle.overflow.proofs.ReadChains.{unrefused, stays_after, stays_done, stays_refused}
 use Rattle.pagecheck.specs.Checks.{CanMark}
 use Rattle.pagecheck.specs.Exact.{AreTold}
-use Rattle.pagecheck.proofs.Parting.{told_after, can_after}
+use Rattle.pagecheck.proofs.Going as going
 
 -- What a check says of the marks before and after it, on these pages.
 abbrev pub Says : Type 1
-Says = PageMap → ℕ → List Bool → List Bool → Result ⊤ Fault → Type 0
+Says = going.Says (List Bool)
+
+abbrev pub marks_alone : List Bool → List Bool
+marks_alone marks = marks
 
 module _ {P K : Type 0} (below : P → K) (tells : K → Bool) (limits : K → Limits) (bytes : P → PageMap) (count : P → ℕ) (failures : P → ℕ × ℕ) where
   -- What was checked up to here: what is left decides.
-  pub record HasChecked (start now : P) (before marks : List Bool) (Whole Rest : Says) : Type 0 where
-    pub stays : Stays below bytes count failures unrefused start now
-    pub long : length marks ≡ length before
-    pub decides : (map : PageMap) (size : ℕ) → AreTold below tells limits bytes start map size → CanMark map size before
-        → (after : List Bool) (result : Result ⊤ Fault) → Rest map size marks after result → Whole map size before after result
-
-  -- nothing was checked yet
-  pub begun : (start : P) (before : List Bool) (Whole : Says) → HasChecked start start before before Whole Whole
-  begun start before Whole = record {
-    stays = record { kept = refl; same = refl; counted = refl; causes = record { db = omega arith; log = omega arith; why = tt } };
-    long = refl;
-    decides = λ map size told can after result rest. rest;
-  }
+  abbrev pub HasChecked : P → P → List Bool → List Bool → Says → Says → Type 0
+  HasChecked = going.HasChecked below tells limits bytes count failures marks_alone
 
   module _ (start now : P) (before marks : List Bool) (Whole Rest : Says) (has : HasChecked start now before marks Whole Rest) where
-    pub told_now : (map : PageMap) (size : ℕ) → AreTold below tells limits bytes start map size → AreTold below tells limits bytes now map size
-    told_now map size told = told_after below tells limits bytes start now map size has.stays.kept has.stays.same told
-
-    pub can_now : (map : PageMap) (size : ℕ) → CanMark map size before → CanMark map size marks
-    can_now map size can = can_after map size before marks has.long can
-
     -- one more thing was checked
-    pub goes_on : {S : Type 0} (call : Result S Fault) (next : P) (then : List Bool) (After : Says) → Stays below bytes count failures call now next → length then ≡ length marks
+    pub goes_on : {T : Type 0} (call : Result T Fault) (next : P) (then : List Bool) (After : Says) → Stays below bytes count failures call now next → length then ≡ length marks
         → ((map : PageMap) (size : ℕ) → AreTold below tells limits bytes now map size → CanMark map size marks → (after : List Bool) (result : Result ⊤ Fault) → After map size then after result → Rest map size marks after result)
         → HasChecked start next before then Whole After
-    goes_on call next then After stays same step = record {
-      stays = stays_done below bytes count failures call start next (stays_after below bytes count failures unrefused call start now next has.stays stays);
-      long = same ∙ has.long;
-      decides = λ map size told can after result rest. has.decides map size told can after result (step map size (told_now map size told) (can_now map size can) after result rest);
-    }
+    goes_on call next then After stays same step = going.goes_on below tells limits bytes count failures marks_alone start now before marks Whole Rest has call next then After stays same step
 
     -- the last thing is checked, or one is refused
     pub ends : (after : List Bool) (result : Result ⊤ Fault)
         → ((map : PageMap) (size : ℕ) → AreTold below tells limits bytes now map size → CanMark map size marks → Rest map size marks after result)
         → (map : PageMap) (size : ℕ) → AreTold below tells limits bytes start map size → CanMark map size before → Whole map size before after result
-    ends after result last map size told can = has.decides map size told can after result (last map size (told_now map size told) (can_now map size can))
-
-    pub stays_then : {T : Type 0} (result : Result T Fault) (next : P) → Stays below bytes count failures result now next → Stays below bytes count failures result start next
-    stays_then result next stays = stays_after below bytes count failures unrefused result start now next has.stays stays
-
-    pub stays_stopped : {S : Type 0} (fault : Fault) (result : Result ⊤ Fault) (next : P) → Stays below bytes count failures {T = S} (Err fault) now next → IsErrAnd result (λ e. e ≡ fault)
-        → Stays below bytes count failures result start next
-    stays_stopped {S} fault result next stays is = stays_then result next (stays_refused {S = S} below bytes count failures fault result now next stays is)
+    ends after result last map size told can = going.ends below tells limits bytes count failures marks_alone start now before marks Whole Rest has after result last map size told can

@@ -9,9 +9,10 @@ use Rattle.tabletree.specs.Tree.{rows_of, pages_of}
 use Rattle.pagecheck.specs.Checks.{IsChecked, IsUnmarked, MarksTree}
 use Rattle.pagecheck.specs.Exact.{Checks}
 use Rattle.pagecheck.specs.Subtrees.{IsSubtree, FindsDepth}
+use Rattle.pagecheck.proofs.LeftEdge.{table_edge}
 use Rattle.pagecheck.proofs.Bounds.{before_all, last_rowid, within_all}
 
-at_most_one : (b : Bool) → (if b then 1 else 0) ≤ 1
+pub at_most_one : (b : Bool) → (if b then 1 else 0) ≤ 1
 at_most_one true = omega arith
 at_most_one false = omega arith
 
@@ -42,26 +43,26 @@ tree_found map size root depth low high old new (Ok done) few check =
 tree_found map size root depth low high old new (Err fault) few check = tt
 
 -- where a tree that isn't marked lies under the root, the check is refused for nothing else
-pub tree_only : (map : PageMap) (size root depth : ℕ) (old new : List Bool) (result : Result ⊤ Fault) → FindsDepth map size root (Ok depth)
+pub tree_only : (map : PageMap) (size root depth : ℕ) (old new : List Bool) (result : Result ⊤ Fault) → FindsDepth map root (Ok depth)
     → Checks (IsSubtree map size root depth before_all last_rowid) (pages_of depth) old new result → IsUnmarked map size root old → IfErr result IsOutside
 tree_only map size root depth old new (Ok done) finds check is = tt
 tree_only map size root depth old new (Err fault) finds check is =
     let t = is.tree in
-    let same : depth ≡ t.depth = finds t.depth t.tree t.shallow t.root_is t.lies in
+    let same : depth ≡ t.depth = finds t.depth t.shallow (table_edge map size root t.depth t.tree t.root_is t.lies) in
     let there = subst (λ (d : ℕ). Checks (IsSubtree map size root d before_all last_rowid) (pages_of d) old new (Err fault)) same check in
     there t.tree (record { top_is = t.root_is; lies = t.lies; sorted = within_all map size t.depth t.low t.high t.tree t.lies t.sorted })
     (λ n. let u = is.apart n in let e = ap (occurs n) t.used_are in omega (arith, u, e))
 
-pub depth_refused : (map : PageMap) (size root : ℕ) (old : List Bool) (fault : Fault) (result : Result ⊤ Fault) → FindsDepth map size root (Err fault) → IsUnmarked map size root old → IsErrAnd result (λ e. e ≡ fault) → IfErr result IsOutside
+pub depth_refused : (map : PageMap) (size root : ℕ) (old : List Bool) (fault : Fault) (result : Result ⊤ Fault) → FindsDepth map root (Err fault) → IsUnmarked map size root old → IsErrAnd result (λ e. e ≡ fault) → IfErr result IsOutside
 depth_refused map size root old fault (Ok done) finds is refused = absurd refused
-depth_refused map size root old fault (Err e) finds is refused = (let t = is.tree in subst IsOutside (sym refused) (finds t.depth t.tree t.shallow t.root_is t.lies))
+depth_refused map size root old fault (Err e) finds is refused = (let t = is.tree in subst IsOutside (sym refused) (finds t.depth t.shallow (table_edge map size root t.depth t.tree t.root_is t.lies)))
 
 -- of any tree under the root none of whose pages was marked these are the pages
-pub tree_same : (map : PageMap) (size root depth : ℕ) (old new : List Bool) (result : Result ⊤ Fault) → FindsDepth map size root (Ok depth)
+pub tree_same : (map : PageMap) (size root depth : ℕ) (old new : List Bool) (result : Result ⊤ Fault) → FindsDepth map root (Ok depth)
     → Checks (IsSubtree map size root depth before_all last_rowid) (pages_of depth) old new result → OnOk result (MarksTree map size root old new)
 tree_same map size root depth old new (Err fault) finds check = tt
 tree_same map size root depth old new (Ok done) finds check = λ rows used tree free.
-    (let same : depth ≡ tree.depth = finds tree.depth tree.tree tree.shallow tree.root_is tree.lies in
+    (let same : depth ≡ tree.depth = finds tree.depth tree.shallow (table_edge map size root tree.depth tree.tree tree.root_is tree.lies) in
     let there = subst (λ (d : ℕ). Checks (IsSubtree map size root d before_all last_rowid) (pages_of d) old new (Ok tt)) same check in
     let marked = there.1 tree.tree (record { top_is = tree.root_is; lies = tree.lies; sorted = within_all map size tree.depth tree.low tree.high tree.tree tree.lies tree.sorted })
     (λ n. let u = free n in let e = ap (occurs n) tree.used_are in omega (arith, u, e)) in

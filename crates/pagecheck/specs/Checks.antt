@@ -1,11 +1,14 @@
 -- What the checks of a tree and of the freelist say.
 use Rattle.std.specs.Prelude.{◌≡◌, ◌≤◌, ◌+◌, ℕ, suc, Bool, List, length}
 use Rattle.sqlval.specs.PageSizes.{IsPageSize}
+use Rattle.sqlval.specs.declared.collation.Collation.{Collation}
 use Rattle.page.specs.Leaf.{Entry}
 use Rattle.pages.specs.Map.{PageMap, AreWhole}
 use Rattle.pages.specs.Counting.{occurs}
 use Rattle.freelist.specs.Freelist.{Trunk, IsFreelist, pages_of}
 use Rattle.tabletree.specs.Tree.{IsTableTree}
+use Rattle.indextree.specs.Entries.{Entry as IndexEntry}
+use Rattle.indextree.specs.Tree.{IsIndexTree}
 use Rattle.pagecheck.specs.Marks.{mark_of, Marks, AreUnmarked}
 
 -- The pages are whole, and there is a mark for each, and for page 0, which isn't one.
@@ -32,6 +35,25 @@ pub record IsUnmarked (map : PageMap) (size root : ℕ) (marks : List Bool) : Ty
 abbrev pub MarksTree : PageMap → ℕ → ℕ → List Bool → List Bool → Type 0
 MarksTree map size root old new =
     (rows : List Entry) (used : List ℕ) → IsTableTree map size root rows used → AreUnmarked old used → Marks old new used
+
+-- Under the root is an index's tree of these columns; none of its pages was marked before, and exactly these are marked then.
+pub record IsCheckedIndex (map : PageMap) (size root : ℕ) (columns : List Collation) (old new : List Bool) : Type 0 where
+  pub entries : List IndexEntry
+  pub used : List ℕ
+  pub tree : IsIndexTree map size root columns entries used
+  pub marks : Marks old new used
+
+-- Under the root is an index's tree of these columns, none of whose pages is marked.
+pub record IsUnmarkedIndex (map : PageMap) (size root : ℕ) (columns : List Collation) (marks : List Bool) : Type 0 where
+  pub entries : List IndexEntry
+  pub used : List ℕ
+  pub tree : IsIndexTree map size root columns entries used
+  pub apart : (n : ℕ) → mark_of n marks + occurs n used ≤ 1
+
+-- of any index's tree of these columns under the root none of whose pages was marked, exactly its pages were marked
+abbrev pub MarksIndex : PageMap → ℕ → ℕ → List Collation → List Bool → List Bool → Type 0
+MarksIndex map size root columns old new =
+    (entries : List IndexEntry) (used : List ℕ) → IsIndexTree map size root columns entries used → AreUnmarked old used → Marks old new used
 
 -- The trunk page begins a freelist of so many pages; none of them was marked before, and exactly these are marked then.
 pub record IsCheckedList (map : PageMap) (size first count : ℕ) (old new : List Bool) : Type 0 where

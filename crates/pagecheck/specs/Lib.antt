@@ -4,3 +4,5 @@ pub mod Exact
 pub mod Tails
 pub mod Subtrees
 pub mod Trunks
+pub mod InOrder
+pub mod IndexTrees

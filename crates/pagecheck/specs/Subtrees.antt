@@ -1,5 +1,5 @@
 -- Subtrees under a page, and what the pages of a table's tree say.
-use Rattle.std.specs.Prelude.{◌≡◌, ◌<◌, ℕ, ℤ, ◌<ℤ◌, ◌≤ℤ◌, List, [], ◌∷◌, length, map, Option, Some, None, Result, Ok, Err, MatchResult}
+use Rattle.std.specs.Prelude.{◌≡◌, ◌<◌, ℕ, zero, suc, ℤ, ◌<ℤ◌, ◌≤ℤ◌, List, [], ◌∷◌, length, map, Option, Some, None, Result, Ok, Err, MatchResult}
 use Rattle.sqlval.specs.declared.fault.Fault.{Fault}
 use Rattle.sqlval.specs.Faults.{IsOutside}
 use Rattle.pages.specs.Map.{PageMap, page_at}
@@ -67,20 +67,24 @@ ReadsBranch map page (Err fault) = (kids : List (ℕ × ℤ)) (last : ℕ) → S
 
 -- ---- the left edge
 
--- the first child of a page of a table's tree, and none of a leaf
-abbrev pub first_child : Node → Option (Option ℕ)
-first_child (Rows rows) = Some None
-first_child (Keys [] last) = Some (Some last)
-first_child (Keys (kid ∷ kids) last) = Some (Some kid.0)
+-- the first child of a tree's page, and none of a leaf
+abbrev pub first_child : Node → Option ℕ
+first_child (Rows rows) = None
+first_child (Keys [] last) = Some last
+first_child (Keys (kid ∷ kids) last) = Some kid.0
 first_child (Entries entries) = None
-first_child (Between kids last) = None
+first_child (Between [] last) = Some last
+first_child (Between (kid ∷ kids) last) = Some kid.0
 
--- where the page is one of a table's tree, its first child was found; or memory was short, or a disk's call failed
+-- under the page stands a leaf, after so many interior pages down the left edge
+abbrev pub IsLeftEdge : PageMap → ℕ → ℕ → Type 0
+IsLeftEdge map page zero = (node : Node) × Says map page node × (first_child node ≡ None)
+IsLeftEdge map page (suc depth) = (node : Node) × (child : ℕ) × Says map page node × (first_child node ≡ Some child) × IsLeftEdge map child depth
+
+-- the first child of a page was found; or memory was short, or a disk's call failed
 abbrev pub FindsLeft : PageMap → ℕ → Result (Option ℕ) Fault → Type 0
-FindsLeft map page result = (node : Node) (left : Option ℕ) → Says map page node → first_child node ≡ Some left
-    → MatchResult result (λ l. l ≡ left) IsOutside
+FindsLeft map page result = (node : Node) → Says map page node → MatchResult result (λ left. left ≡ first_child node) IsOutside
 
--- where a tree lies under the page, its depth was found; or memory was short, or a disk's call failed
-abbrev pub FindsDepth : PageMap → ℕ → ℕ → Result ℕ Fault → Type 0
-FindsDepth map size page result = (depth : ℕ) (t : Tree depth) → depth < 20 → top depth t ≡ page → Lies map size depth t
-    → MatchResult result (λ d. d ≡ depth) IsOutside
+-- it was found after how many interior pages a leaf stands; or memory was short, or a disk's call failed
+abbrev pub FindsDepth : PageMap → ℕ → Result ℕ Fault → Type 0
+FindsDepth map page result = (depth : ℕ) → depth < 20 → IsLeftEdge map page depth → MatchResult result (λ d. d ≡ depth) IsOutside

@@ -6,13 +6,13 @@ use Rattle.sqlval.specs.declared.fault.Fault.TheVariants.{Memory}
 use Rattle.sqlval.specs.Faults.{IsOutside}
 use Rattle.pages.specs.Map.{PageMap, page_at, Has}
 use Rattle.treepage.specs.Node.{Local}
-use Rattle.treepage.specs.Payload.{table_most, local_size}
-use Rattle.overflow.specs.Chains.{IsChain, next_of}
-use Rattle.pagecheck.specs.Exact.{alone}
+use Rattle.treepage.specs.Payload.{table_most, index_most, local_size}
+use Rattle.overflow.specs.Chains.{IsChain, IsPayload, next_of}
+use Rattle.pagecheck.specs.Exact.{Checks, alone}
 use Rattle.pagecheck.specs.Marks.{Marks, AreUnmarked}
 use Rattle.pagecheck.specs.declared.chains.Tail.{Tail}
 
--- the bytes that lie on a chain, and its pages
+-- bytes, and the pages of their chain
 pub record Chain : Type 0 where
   pub bytes : List ℕ
   pub pages : List ℕ
@@ -29,36 +29,54 @@ IsTailOn map size tail chain = IsChainFrom map size tail.first tail.size chain
 
 -- ---- tails of cells
 
--- A payload lies whole in its cell.
-pub record IsShort (usable : ℕ) (local : Local) : Type 0 where
-  pub fits : local.size ≤ table_most usable
+-- A payload lies whole in its cell, where at most so many bytes may.
+pub record IsShort (usable most : ℕ) (local : Local) : Type 0 where
+  pub fits : local.size ≤ most
   pub whole : length local.bytes ≡ local.size
 
 -- A payload begins in its cell, and goes on over a chain of overflow pages.
-pub record IsLong (usable : ℕ) (local : Local) (tail : Tail) : Type 0 where
-  pub long : table_most usable < local.size
+pub record IsLong (usable most : ℕ) (local : Local) (tail : Tail) : Type 0 where
+  pub long : most < local.size
   pub near : tail.first < 2 ^ 32
   pub here : List ℕ
   pub parts : local.bytes ≡ here ++ to_be_bytes w32 tail.first
-  pub here_is : length here ≡ local_size usable (table_most usable) local.size
-  pub left : tail.size ≡ local.size - local_size usable (table_most usable) local.size
+  pub here_is : length here ≡ local_size usable most local.size
+  pub left : tail.size ≡ local.size - local_size usable most local.size
 
 -- what goes on of a payload: nothing, or one tail
-abbrev pub IsTail : ℕ → Local → List Tail → Type 0
-IsTail usable local [] = IsShort usable local
-IsTail usable local (tail ∷ []) = IsLong usable local tail
-IsTail usable local (tail ∷ more ∷ tails) = ⊥
+abbrev pub IsTail : ℕ → ℕ → Local → List Tail → Type 0
+IsTail usable most local [] = IsShort usable most local
+IsTail usable most local (tail ∷ []) = IsLong usable most local tail
+IsTail usable most local (tail ∷ more ∷ tails) = ⊥
 
 -- These tails are those of the rows, in order.
 abbrev pub AreTails : ℕ → List (ℤ × Local) → List Tail → Type 0
 AreTails usable [] tails = tails ≡ []
 AreTails usable (row ∷ rows) tails =
-    (first : List Tail) × (rest : List Tail) × (tails ≡ first ++ rest) × IsTail usable row.1 first × AreTails usable rows rest
+    (first : List Tail) × (rest : List Tail) × (tails ≡ first ++ rest) × IsTail usable (table_most usable) row.1 first × AreTails usable rows rest
 
 -- the tail of a payload stands behind others; or memory was short
-abbrev pub AddsTail : ℕ → Local → List Tail → List Tail → Result ⊤ Fault → Type 0
-AddsTail usable local old new result =
-    MatchResult result (λ done. (tails : List Tail) × (new ≡ old ++ tails) × IsTail usable local tails) (λ fault. fault ≡ Memory)
+abbrev pub AddsTail : ℕ → ℕ → Local → List Tail → List Tail → Result ⊤ Fault → Type 0
+AddsTail usable most local old new result =
+    MatchResult result (λ done. (tails : List Tail) × (new ≡ old ++ tails) × IsTail usable most local tails) (λ fault. fault ≡ Memory)
+
+-- ---- payloads
+
+-- A cell tells how long a payload is, and begins it; it goes on over these pages.
+pub record IsCellOf (map : PageMap) (size most : ℕ) (said : Local) (payload pages : List ℕ) : Type 0 where
+  pub long : said.size ≡ length payload
+  pub is : IsPayload map size most said.bytes payload pages
+
+-- a payload of an index's entry, and the pages over which it goes on
+abbrev pub IsEntryOf : PageMap → ℕ → Local → Chain → Type 0
+IsEntryOf map size said whole = IsCellOf map size (index_most size) said whole.bytes whole.pages
+
+-- A check of the payload of an index's entry, as `Checks` is. Where it passes, it answers the payload.
+abbrev pub ChecksPayload : {X : Type 0} → (X → List ℕ) → PageMap → ℕ → Local → List Bool → List Bool → Result X Fault → Type 0
+ChecksPayload view map size said old new (Ok x) =
+    Checks (IsEntryOf map size said) (λ whole. whole.pages) old new (Ok tt) × ((whole : Chain) → IsEntryOf map size said whole → view x ≡ whole.bytes)
+ChecksPayload view map size said old new (Err fault) =
+    (whole : Chain) → IsEntryOf map size said whole → AreUnmarked old whole.pages → IsOutside fault
 
 -- ---- one page of a chain
 

@@ -1,6 +1,6 @@
 //! Reading an interior page: its children with their keys, and the way down the left edge.
 
-ghost use Rattle.std.specs.Prelude.{◌≡◌, ◌<◌, ℕ, ℤ, List, Option, Some, IfOk, IfErr, MatchResult};
+ghost use Rattle.std.specs.Prelude.{◌≡◌, ◌<◌, ℕ, ℤ, List, Ok, IfOk, IfErr, MatchResult};
 ghost use Rattle.sqlval.specs.Faults.{IsNotDiskFault};
 ghost use Rattle.pages.specs.Calls.{Stays};
 ghost use Rattle.pages.specs.Counting as counting;
@@ -82,26 +82,23 @@ pub(crate) fn read_kids<P: Pages>(
     }
 }
 
-/// The first child of a page of these bytes, or None for a leaf. (`Damaged` for one that is no page of a table's tree.)
+/// The first child of a page of these bytes, or None for a leaf. (`Damaged` for one that is no page of a tree.)
 fn left_in(bytes: &[u8], number: u32) -> R<Option<u32>>
-    ensures only { (node : Node) (left : Option ℕ) → IsNode bytes.now (counting.start_of number) node → first_child node ≡ Some left
-        → result ≡ Ok left }
+    ensures only { (node : Node) → IsNode bytes.now (counting.start_of number) node → result ≡ Ok (first_child node) }
     ensures not_disk { IfErr result IsNotDiskFault }
 {
     let page = TreePage::over(bytes, start_of(number))?;
+    if page.len() == 0 {
+        return Ok(page.last_child());
+    }
     match page.kind() {
-        Kind::TableLeaf => Ok(None),
-        Kind::TableInterior => {
-            if page.len() == 0 {
-                return Ok(Some(page.last_child().ok_or(Fault::Damaged(Damage::Page, 0))?));
-            }
-            Ok(Some(page.key(0)?.child))
-        }
-        Kind::IndexLeaf | Kind::IndexInterior => Err(Fault::Damaged(Damage::Page, 0)),
+        Kind::TableInterior => Ok(Some(page.key(0)?.child)),
+        Kind::IndexInterior => Ok(Some(page.between(0)?.child)),
+        Kind::TableLeaf | Kind::IndexLeaf => Ok(None),
     }
 }
 
-/// The first child of a page, or None for a leaf. (What `load` refuses; `Damaged` for a page that is none of a table's tree.)
+/// The first child of a page, or None for a leaf. (What `load` refuses; `Damaged` for a page that is none of a tree.)
 fn left_child<P: Pages>(pages: &mut P, page: u32) -> R<Option<u32>>
     ensures found { (map : PageMap) (size : ℕ)
         → AreTold P.Pages.below P.Pages.tells P.Pages.limits P.Pages.map pages.old map size → AreWhole size map
@@ -115,13 +112,13 @@ fn left_child<P: Pages>(pages: &mut P, page: u32) -> R<Option<u32>>
     }
 }
 
-/// How many interior pages stand on the way down the left edge. (What `load` refuses; `Damaged` for a page that is none of a table's
-/// tree; `Damaged(Depth, root)` if the way has more than 20 pages.)
+/// How many interior pages stand on the way down the left edge. (What `load` refuses; `Damaged` for a page that is none of a tree;
+/// `Damaged(Depth, root)` if the way has more than 20 pages.)
 pub(crate) fn depth_of<P: Pages>(pages: &mut P, root: u32) -> R<u32>
     ensures few { IfOk result (λ depth. depth < 20) }
     ensures found { (map : PageMap) (size : ℕ)
         → AreTold P.Pages.below P.Pages.tells P.Pages.limits P.Pages.map pages.old map size → AreWhole size map
-        → FindsDepth map size root result }
+        → FindsDepth map root result }
     ensures stays { Stays P.Pages.below P.Pages.map P.Pages.count P.Pages.failures result pages.old pages.new }
 {
     let mut page = root;

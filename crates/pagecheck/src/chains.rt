@@ -1,18 +1,23 @@
 //! The check of chains of overflow pages.
 
-ghost use Rattle.std.specs.Prelude.{◌≡◌, ℕ, length};
+ghost use Rattle.std.specs.Prelude.{◌≡◌, ℕ, length, IfErr};
 ghost use Rattle.std.specs.List.{flat_map};
+ghost use Rattle.sqlval.specs.Faults.{IsNotDiskFault};
 ghost use Rattle.pages.specs.Calls.{Stays};
 ghost use Rattle.pages.specs.Map.{PageMap};
 ghost use Rattle.treepage.specs.Cells.{Pairwise};
+ghost use Rattle.treepage.specs.Payload.{held_size};
+ghost use Rattle.treepage.specs.Reading.{local_of};
 ghost use Rattle.pagecheck.specs.Checks.{CanMark};
 ghost use Rattle.pagecheck.specs.Exact.{AreTold, Checks};
-ghost use Rattle.pagecheck.specs.Tails.{IsChainFrom, IsTailOn, ChecksLink};
+ghost use Rattle.pagecheck.specs.Tails.{AddsTail, IsTailOn, ChecksLink};
 
 use crate::bytes::number_at;
+use crate::local::local_len;
 use crate::marking::mark;
 use pages::Pages;
 use sqlval::{Damage, Fault, R};
+use treepage::Local;
 
 /// Where a payload goes on over a chain of overflow pages.
 #[derive(Clone, Copy)]
@@ -21,6 +26,25 @@ pub struct Tail {
     pub first: u32,
     /// How many bytes lie on the chain.
     pub size: u64,
+}
+
+/// Adds the tail of a payload, if it goes on over overflow pages: at most `most` bytes may lie in its cell. (`Memory`; `Damaged(Cell,
+/// 0)` if its cell tells no overflow page.)
+pub(crate) fn add_tail(tails: &mut Vec<Tail>, usable: u64, most: u64, payload: Local<'_>) -> R<()>
+    ensures added { length payload.entry.bytes.now ≡ held_size usable most payload.entry.size
+        → AddsTail usable most (local_of payload.entry) tails.old.items tails.new.items result }
+    ensures not_disk { IfErr result IsNotDiskFault }
+{
+    if payload.size <= most {
+        return Ok(());
+    }
+    let local = local_len(usable, most, payload.size);
+    let Some(first) = number_at(payload.bytes, local as usize) else {
+        return Err(Fault::Damaged(Damage::Cell, 0));
+    };
+    let size = payload.size.saturating_sub(local);
+    tails.push(Tail { first, size })?;
+    Ok(())
 }
 
 /// Marks an overflow page, and answers the next one that it tells, or 0 at the end. (What `mark` and `load` refuse; `Damaged(Cell,

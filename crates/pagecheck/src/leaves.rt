@@ -1,43 +1,21 @@
 //! Reading a leaf: the order of its rowids, and where its payloads go on.
 
-ghost use Rattle.std.specs.Prelude.{◌≡◌, ℕ, ℤ, List, ◌++◌, length, IfOk, IfErr, OnOk};
+ghost use Rattle.std.specs.Prelude.{◌≡◌, ℕ, ℤ, List, length, IfOk, IfErr};
 ghost use Rattle.sqlval.specs.Faults.{IsNotDiskFault};
 ghost use Rattle.pages.specs.Calls.{Stays};
 ghost use Rattle.pages.specs.Counting as counting;
 ghost use Rattle.pages.specs.Map.{PageMap, AreWhole};
 ghost use Rattle.treepage.specs.Node.{Local as LocalIs, Rows, IsNode};
-ghost use Rattle.treepage.specs.Payload.{held_size, table_most};
-ghost use Rattle.treepage.specs.Reading.{local_of};
 ghost use Rattle.pagecheck.specs.Exact.{AreTold};
-ghost use Rattle.pagecheck.specs.Tails.{AddsTail, AreTails};
+ghost use Rattle.pagecheck.specs.Tails.{AreTails};
 ghost use Rattle.pagecheck.specs.Subtrees.{IsLeafWith, ReadsLeaf, RisesAs};
 
-use crate::bytes::{at_page, number_at, start_of};
-use crate::chains::Tail;
-use crate::local::local_len;
+use crate::bytes::{at_page, start_of};
+use crate::chains::{Tail, add_tail};
 use pages::Pages;
 use sqlval::{Damage, Fault, R};
 use std::alloc::Global;
-use treepage::{Kind, Local, TreePage};
-
-/// Adds the tail of a payload, if it goes on over overflow pages. (`Memory`; `Damaged(Cell, 0)` if its cell tells no overflow page.)
-fn add_tail(tails: &mut Vec<Tail>, usable: usize, payload: Local<'_>) -> R<()>
-    ensures added { length payload.entry.bytes.now ≡ held_size usable (table_most usable) payload.entry.size
-        → AddsTail usable (local_of payload.entry) tails.old.items tails.new.items result }
-    ensures not_disk { IfErr result IsNotDiskFault }
-{
-    let most = usable.saturating_sub(35) as u64;
-    if payload.size <= most {
-        return Ok(());
-    }
-    let local = local_len(usable as u64, most, payload.size);
-    let Some(first) = number_at(payload.bytes, local as usize) else {
-        return Err(Fault::Damaged(Damage::Cell, 0));
-    };
-    let size = payload.size.saturating_sub(local);
-    tails.push(Tail { first, size })?;
-    Ok(())
-}
+use treepage::{Kind, TreePage};
 
 /// A rowid, as a number with room on both sides.
 pub(crate) fn wide(rowid: i64) -> i128
@@ -60,6 +38,7 @@ fn tails_of(
         → RisesAs low said high → IfErr result (λ fault. fault ≡ Fault.Memory) }
     ensures not_disk { IfErr result IsNotDiskFault }
 {
+    let most = usable.saturating_sub(35) as u64;
     let mut tails = Vec::new(alloc);
     let mut above = low;
     'rows: for index in 0..page.len() {
@@ -69,7 +48,7 @@ fn tails_of(
             return Err(Fault::Damaged(Damage::Order, 0));
         }
         above = rowid;
-        add_tail(&mut tails, usable, row.payload)?;
+        add_tail(&mut tails, usable as u64, most, row.payload)?;
     }
     if above > high {
         return Err(Fault::Damaged(Damage::Order, 0));

@@ -5,10 +5,13 @@ mod branches;
 mod bytes;
 mod chains;
 mod checking;
+mod entries;
 mod leaves;
 mod lists;
 mod local;
 mod marking;
+mod ordered;
 
 pub use checking::check_tree;
 pub use lists::{are_all_marked, check_freelist};
+pub use ordered::check_index_tree;

@@ -1,8 +1,7 @@
-use Rattle.std.proofs.Common.{rules, Bool, ◌≡◌, ◌<◌, ℕ, List, length, map, take, slice_index_or, refl, sym, arith}
+use Rattle.std.proofs.Common.{rules, Bool, ◌≡◌, ◌<◌, ℕ, List, length, map, take, slice_index_or, refl, arith}
 use Rattle.std.proofs.Common.{Vec, Global}
-use Rattle.indextree.specs.Entries.{Entry}
 use Rattle.indexing.specs.Calls.{Tells}
-use Rattle.indexing.proofs.Comparing.{AreSoFar, as_long, too_many, not_told, there, differs, one_more, all_those}
+use Rattle.indexing.proofs.Comparing.{as_long, too_many, not_told, there, differs, one_more, all_those}
 use Rattle.indexing.proofs.checking.are_first.Goals as goal
 
 abbrev items_of : Vec ℕ Global → List ℕ

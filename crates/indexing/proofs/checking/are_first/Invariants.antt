@@ -1,8 +1,5 @@
 -- the records so far are those of the first entries
-use Rattle.std.proofs.Common.{List, map, take}
-use Rattle.record.specs.Record.{IsRecord}
-use Rattle.treepage.specs.Cells.{Pairwise}
-use Rattle.indextree.specs.Entries.{Entry}
+use Rattle.std.proofs.Common.{map}
 use Rattle.indexing.proofs.Comparing.{AreSoFar}
 use Rattle.indexing.proofs.checking.are_first.Given as goal
 

@@ -1,5 +1,4 @@
-use Rattle.std.proofs.Common.{rules, ◌≡◌, map, sym, ap, subst, ◌∙◌}
-use Rattle.indexing.specs.Ranking.{collation_of}
+use Rattle.std.proofs.Common.{rules, ◌≡◌, map}
 use Rattle.indexing.proofs.Checked.{rows_not_read, entries_checked}
 use Rattle.indexing.proofs.checking.check_entries.Goals as goal
 
@@ -16,7 +15,7 @@ pub returns-clause-checked : goal.returns-clause-checked
 returns-clause-checked g c = λ told.
     (let gs = g.P.Pages in
     let stays = c.in_ok-entries.ensures.stays in
-    let columns : c.as_slice.result.now ≡ map collation_of c.args.columns.now = search rules in
+    let columns : c.as_slice.result.now ≡ map (λ column. column.collation) c.args.columns.now = search rules in
     let entries : c.as_slice-2.result.now ≡ c.in_ok-entries.entries = search rules in
     entries_checked gs.below gs.tells gs.limits gs.map c.args.pages.now c.sorted_entries.new.pages c.args.root c.args.table c.args.columns.now c.as_slice.result.now columns c.as_slice-2.result.now c.in_ok-entries.entries entries
     c.compare_with.result stays.kept stays.same (c.in_ok-entries.ensures.sorted told) c.compare_with.ensures.compared told)

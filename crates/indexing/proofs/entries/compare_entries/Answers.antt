@@ -1,6 +1,5 @@
-use Rattle.std.proofs.Common.{rules, ◌≡◌, ◌<◌, length, slice_index_or, refl, sym, ap, ◌∙◌, true, false, arith}
-use Rattle.std.specs.Ordering.{is_ne}
-use Rattle.indexing.proofs.Ranks.{IsLeft, decides, leaves, rowid_decides}
+use Rattle.std.proofs.Common.{rules, refl, arith}
+use Rattle.indexing.proofs.Ranks.{decides, leaves, rowid_decides}
 use Rattle.indexing.proofs.entries.compare_entries.Goals as goal
 
 pub columns-init : goal.columns-init

@@ -1,6 +1,5 @@
-use Rattle.std.proofs.Common.{rules, ◌≡◌, ◌∙◌, ap, map}
-use Rattle.sqlval.specs.Lists.{sorted}
-use Rattle.indexing.specs.Ranking.{indexed_of, ranked}
+use Rattle.std.proofs.Common.{◌∙◌, ap, map}
+use Rattle.indexing.specs.Ranking.{indexed_of}
 use Rattle.indexing.proofs.RowEntries.{not_sorted, are_sorted}
 use Rattle.indexing.proofs.entries.sorted_entries.Goals as goal
 
