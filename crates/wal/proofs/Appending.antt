@@ -1,8 +1,8 @@
 -- A log of committed frames, and frames that were written after them.
 use Rattle.sqlval.specs.PageSizes.{IsPageSize}
-use Rattle.std.proofs.Common.{◌≡◌, inl, inr, ◌<◌, ◌≤◌, ◌+◌, ◌-◌, ℕ, suc, List, [], ◌++◌, Bool, true, false, length, map, take, drop, get_or, refl, sym, ◌∙◌, ap, subst, arith, length-append, length-take}
+use Rattle.std.proofs.Common.{◌≡◌, ◌⊎◌, inl, inr, ◌<◌, ◌≤◌, ◌+◌, ◌-◌, ℕ, suc, List, [], ◌++◌, Bool, true, false, length, map, take, drop, get_or, refl, sym, ◌∙◌, ap, subst, arith, length-append, length-take}
 use Rattle.std.specs.Prelude.{Some, Ok}
-use Rattle.std.proofs.lemmas.List.{append-nil, take-append-drop, get_or-append-add, get_or_append_left, get_or-map}
+use Rattle.std.proofs.lemmas.List.{append_assoc, take-append-drop, take_at, drop_at, get_or-append-add, get_or_append_left, get_or-map}
 use Rattle.std.proofs.lemmas.Bool.{cases_lt}
 use Rattle.walframe.specs.declared.frame.FrameHeader.{FrameHeader}
 use Rattle.walframe.specs.declared.log_header.LogHeader.{LogHeader}
@@ -23,8 +23,11 @@ use Rattle.wal.specs.Indexed.{EachFrame, IsIndexTo, IsOldOrNew, HasEach, KeepsFr
 use Rattle.wal.specs.Pages.{ArePages, framed, numbers_of}
 use Rattle.disk.specs.File.{File, IsSynced}
 use Rattle.wal.specs.LogState.{LogState}
-use Rattle.wal.specs.Commits.{Commits}
-use Rattle.wal.specs.Stands.{LogStands, IsOfPage, header_where, front_at, log_front, log_end}
+use Rattle.wal.specs.Commits.{Commits, end_with}
+use Rattle.wal.specs.Stale.{IsStaleFrom}
+use Rattle.wal.specs.Stands.{LogStands, IsOfPage, header_where, base_at, place_at, log_front}
+use Rattle.disk.specs.Calls.{overwritten}
+use Rattle.wal.proofs.Staling.{IsBase, none_stale, stale_over, over_base}
 use Rattle.wal.proofs.CommitLemmas.{pages_len, framed_page, last_size, other_size, size_above, with_image}
 use Rattle.wal.proofs.FrameLists.{framed_front, frames_after, written_end}
 use Rattle.wal.proofs.Opened.{heads_get}
@@ -111,7 +114,8 @@ front_of h false mark sum index log fits stands = record {
 -- a log with frames written after its front
 pub record IsGrown (h : LogHeader) (n : ℕ) (front : List ℕ) (fs : List Framed) (log : List ℕ) : Type 0 where
   pub header_is : header_in log ≡ Ok (Some h)
-  pub end : length log ≡ frame_start h (n + length fs)
+  pub inside : frame_start h (n + length fs) ≤ length log
+  pub stale : IsStaleFrom h (n + length fs) log
   pub committed : HasCommitted h log (n + length fs)
   pub frames_are : framed_to h log (n + length fs) ≡ framed_to h front n ++ fs
   pub heads_are : heads_to h log (n + length fs) ≡ heads_to h front n ++ map (λ (f : Framed). f.head) fs
@@ -132,37 +136,43 @@ grown_head h n front fs log i d heads lt =
 pub blank_head : FrameHeader
 blank_head = record { page = 0; size = 0 }
 
-pub grows : (h : LogHeader) (n : ℕ) (front : List ℕ) (fs : List Framed) (log : List ℕ) → IsFront h n front → IsPageSize h.page_size → SaltsFit h.salts → AllFit h fs → IsCommit fs → log ≡ front ++ written h (sum_to h front n) fs → IsGrown h n front fs log
-grows h n front fs log is size salts fits commit is_log = record {
-  header_is = ap header_in is_log ∙ is.header_is (written h (sum_to h front n) fs);
-  end = end;
+pub grows : (h : LogHeader) (n : ℕ) (front : List ℕ) (fs : List Framed) (base log : List ℕ) → IsFront h n front → IsPageSize h.page_size → SaltsFit h.salts → AllFit h fs → IsCommit fs → IsStaleFrom h n base
+    → log ≡ front ++ (written h (sum_to h front n) fs ++ drop (frame_start h n + length (written h (sum_to h front n) fs)) base) → IsGrown h n front fs log
+grows h n front fs base log is size salts fits commit stale is_log = record {
+  header_is = ap header_in is_log ∙ is.header_is (w ++ tail);
+  inside = omega (arith, ap length is_log, length-append front (w ++ tail), length-append w tail, is.start, end);
+  stale = no_more;
   committed = record {
     each = each;
     ends = λ k last none. commit.ends (k - n) blank_head (omega (arith, last, commit.some)) (ap (λ (g : FrameHeader). g.size) (sym (grown_head h n front fs log (k - n) blank_head heads_are (omega (arith, last, commit.some)))) ∙ ap (λ (i : ℕ). (head_at h log i).size) (let e : n + (k - n) ≡ k = omega (arith, last, commit.some) in e) ∙ none);
-    rest = λ k past accepted. absurd (no_frame_past h log (n + length fs) k end past (accepted k (omega arith)));
+    rest = λ k past accepted. absurd (none_stale h (n + length fs) log no_more k past (accepted k (omega arith)));
   };
-  frames_are = ap (λ (l : List ℕ). framed_to h l (n + length fs)) joined_is ∙ frames_after h front (sum_to h front n) n fs [] fits is.start;
+  frames_are = ap (λ (l : List ℕ). framed_to h l (n + length fs)) is_log ∙ frames_after h front (sum_to h front n) n fs tail fits is.start;
   heads_are = heads_are;
-  sum_is = ap (λ (l : List ℕ). sum_to h l (n + length fs)) joined_is ∙ all.sum_is;
+  sum_is = ap (λ (l : List ℕ). sum_to h l (n + length fs)) is_log ∙ all.sum_is;
 }
   where
-    joined : List ℕ
-    joined = front ++ (written h (sum_to h front n) fs ++ [])
+    w : List ℕ
+    w = written h (sum_to h front n) fs
 
-    joined_is : log ≡ joined
-    joined_is = is_log ∙ ap (λ (l : List ℕ). front ++ l) (sym (append-nil (written h (sum_to h front n) fs)))
+    tail : List ℕ
+    tail = drop (frame_start h n + length w) base
 
-    all : AreWritten h joined front n fs
-    all = all_written h front n fs [] size salts fits (carried_fits zero_sum (words h.order (summed_to h front n)) (record { first = omega arith; second = omega arith })) is.start is.each
+    end : frame_start h n + length w ≡ frame_start h (n + length fs)
+    end = written_end h (sum_to h front n) n fs fits
+
+    all : AreWritten h (front ++ (w ++ tail)) front n fs
+    all = all_written h front n fs tail size salts fits (carried_fits zero_sum (words h.order (summed_to h front n)) (record { first = omega arith; second = omega arith })) is.start is.each
 
     each : (k : ℕ) → k < n + length fs → IsFrame h log k
-    each k lt = subst (λ (l : List ℕ). IsFrame h l k) (sym joined_is) (all.each k lt)
+    each k lt = subst (λ (l : List ℕ). IsFrame h l k) (sym is_log) (all.each k lt)
 
-    end : length log ≡ frame_start h (n + length fs)
-    end = omega (arith, ap length is_log, length-append front (written h (sum_to h front n) fs), is.start, written_end h (sum_to h front n) n fs fits)
+    no_more : IsStaleFrom h (n + length fs) log
+    no_more = subst (IsStaleFrom h (n + length fs)) (sym (is_log ∙ sym (append_assoc front w tail) ∙ ap (λ (m : ℕ). (front ++ w) ++ drop m base) end))
+        (stale_over h n (n + length fs) (front ++ w) base (omega arith) (omega (arith, length-append front w, is.start, end)) stale)
 
     heads_are : heads_to h log (n + length fs) ≡ heads_to h front n ++ map (λ (f : Framed). f.head) fs
-    heads_are = ap (λ (l : List ℕ). heads_to h l (n + length fs)) joined_is ∙ all.heads
+    heads_are = ap (λ (l : List ℕ). heads_to h l (n + length fs)) is_log ∙ all.heads
 
 -- after a commit the log stands for its frames too
 pub committed : (h : LogHeader) (b : Bool) (mark size : ℕ) (sum more : Sum) (index next : Index) (pages : List PageImage) (log new : List ℕ) → LogStands h b mark sum index log → FrontOf h b mark sum log → IsIndexTo mark index
@@ -170,7 +180,7 @@ pub committed : (h : LogHeader) (b : Bool) (mark size : ℕ) (sum more : Sum) (i
     → EachFrame (IsOldOrNew mark pages (length pages) index) next → HasEach mark (numbers_of pages) (length pages) next → KeepsFrames index next → LogStands h true (mark + length pages) more next new
 committed h b mark size sum more index next pages log new stands front indexed grown is_more adds added kept = record {
   header_is = grown.header_is;
-  inside = λ yes. omega (arith, grown.end, ap (frame_start h) count);
+  inside = λ yes. omega (arith, grown.inside, ap (frame_start h) count);
   none = λ no. (let bad : true ≡ false = no in cc);
   committed = λ yes. subst (HasCommitted h new) count grown.committed;
   sum_is = is_more ∙ ap (λ (s : Sum). sum_after h s fs) front.sum_is ∙ sym grown.sum_is ∙ ap (sum_to h new) count;
@@ -224,22 +234,50 @@ committed h b mark size sum more index next pages log new stands front indexed g
         old_head (get_or (frames_of index p) j 0 - 1) (omega (arith, bounds.0, bounds.1)) ∙ stands.pages p j known lt
 
 -- what was written of a commit
-pub wrote : (h : LogHeader) (b : Bool) (mark end : ℕ) (sum : Sum) (fs : List Framed) (log new out bytes made : List ℕ) → FrontOf h b mark sum log → new ≡ front_at h b end log ++ out → end ≡ log_end h b mark → out ≡ made → made ≡ bytes ++ written h sum fs → bytes ≡ []
-    → new ≡ log_front h b mark log ++ written h (sum_to h (log_front h b mark log) mark) fs
-wrote h b mark end sum fs log new out bytes made front is_new is_end is_out is_made none =
-    is_new ∙ ap (λ (n : ℕ). front_at h b n log ++ out) is_end
-    ∙ ap (λ (l : List ℕ). log_front h b mark log ++ l) (is_out ∙ is_made ∙ ap (λ (l : List ℕ). l ++ written h sum fs) none)
-    ∙ ap (λ (s : Sum). log_front h b mark log ++ written h s fs) front.sum_is
+pub wrote : (h : LogHeader) (b clean : Bool) (mark end : ℕ) (sum : Sum) (fs : List Framed) (log new out bytes made : List ℕ) → FrontOf h b mark sum log → IsBase h mark (log_front h b mark log) log (base_at h b clean end log) → new ≡ overwritten (place_at b end) out (base_at h b clean end log)
+    → place_at b end ≡ frame_start h mark → out ≡ made → made ≡ bytes ++ written h sum fs → bytes ≡ []
+    → new ≡ log_front h b mark log ++ (written h (sum_to h (log_front h b mark log) mark) fs ++ drop (frame_start h mark + length (written h (sum_to h (log_front h b mark log) mark) fs)) (base_at h b clean end log))
+wrote h b clean mark end sum fs log new out bytes made front base is_new is_place is_out is_made none =
+    let front_bytes = log_front h b mark log in
+    let under = base_at h b clean end log in
+    let is_written : out ≡ written h (sum_to h front_bytes mark) fs = is_out ∙ is_made ∙ ap (λ (l : List ℕ). l ++ written h sum fs) none ∙ ap (λ (s : Sum). written h s fs) front.sum_is in
+    is_new ∙ over_base h mark (place_at b end) front_bytes log under out base front.is.start is_place
+    ∙ ap (λ (n : ℕ). front_bytes ++ (out ++ drop (n + length out) under)) is_place
+    ∙ ap (λ (l : List ℕ). front_bytes ++ (l ++ drop (frame_start h mark + length l) under)) is_written
 
 -- and what a commit has done then
-pub commits : (known : LogState) (sum : Sum) (index : Index) (fs : List Framed) (old new : File) → LogStands known.header known.has_header known.frames sum index old.content → FrontOf known.header known.has_header known.frames sum old.content
+pub commits : (known : LogState) (sum : Sum) (index : Index) (fs : List Framed) (base : List ℕ) (old new : File) → LogStands known.header known.has_header known.frames sum index old.content → FrontOf known.header known.has_header known.frames sum old.content
+    → IsBase known.header known.frames (log_front known.header known.has_header known.frames old.content) old.content base → AllFit known.header fs
     → IsGrown known.header known.frames (log_front known.header known.has_header known.frames old.content) fs new.content
-    → new.content ≡ log_front known.header known.has_header known.frames old.content ++ written known.header (sum_to known.header (log_front known.header known.has_header known.frames old.content) known.frames) fs → IsSynced new → known.frames + length fs ≤ 1000000 → Commits known fs old new
-commits known sum index fs old new stands front grown is synced few = record {
-  content = is ∙ ap (λ (s : Sum). log_front known.header known.has_header known.frames old.content ++ written known.header s fs) (sym front.sum_is ∙ stands.sum_is);
+    → new.content ≡ log_front known.header known.has_header known.frames old.content ++ (written known.header (sum_to known.header (log_front known.header known.has_header known.frames old.content) known.frames) fs
+    ++ drop (frame_start known.header known.frames + length (written known.header (sum_to known.header (log_front known.header known.has_header known.frames old.content) known.frames) fs)) base)
+    → IsSynced new → known.frames + length fs ≤ 1000000 → Commits known fs old new
+commits known sum index fs base old new stands front under fits grown is synced few = record {
+  front = ap (take (end_with known (length fs))) joined ∙ take_at (front_bytes ++ w) tail (end_with known (length fs)) reach
+      ∙ ap (λ (s : Sum). front_bytes ++ written known.header s fs) (sym front.sum_is ∙ stands.sum_is);
+  rest = subst (λ (l : List ℕ). (l ≡ []) ⊎ (l ≡ drop (end_with known (length fs)) old.content)) (sym (ap (drop (end_with known (length fs))) joined ∙ drop_at (front_bytes ++ w) tail (end_with known (length fs)) reach ∙ ap (λ (n : ℕ). drop n base) end))
+      (under.rest (end_with known (length fs)) (omega (arith, end)));
   header_is = grown.header_is;
   committed = grown.committed;
   frames_are = grown.frames_are ∙ ap (λ (l : List Framed). l ++ fs) front.frames_are;
   synced = synced;
   few = few;
 }
+  where
+    front_bytes : List ℕ
+    front_bytes = log_front known.header known.has_header known.frames old.content
+
+    w : List ℕ
+    w = written known.header (sum_to known.header front_bytes known.frames) fs
+
+    tail : List ℕ
+    tail = drop (frame_start known.header known.frames + length w) base
+
+    end : frame_start known.header known.frames + length w ≡ end_with known (length fs)
+    end = written_end known.header (sum_to known.header front_bytes known.frames) known.frames fs fits
+
+    joined : new.content ≡ (front_bytes ++ w) ++ tail
+    joined = is ∙ sym (append_assoc front_bytes w tail)
+
+    reach : length (front_bytes ++ w) ≡ end_with known (length fs)
+    reach = omega (arith, length-append front_bytes w, front.is.start, end)

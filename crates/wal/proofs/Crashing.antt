@@ -1,7 +1,7 @@
 -- What the logs that a crash leaves during a commit have committed.
 use Rattle.std.proofs.Common.{◌≡◌, ◌⊎◌, inl, inr, ◌<◌, ◌≤◌, ◌+◌, ◌-◌, ℕ, zero, suc, List, [], ◌∷◌, ◌++◌, Bool, true, false, length, take, drop, refl, sym, ◌∙◌, ap, subst, arith, length-append}
 use Rattle.std.specs.Prelude.{Some, None, Ok}
-use Rattle.std.proofs.lemmas.List.{append-nil, take-append-drop, take_all, take_at}
+use Rattle.std.proofs.lemmas.List.{append-nil, take-append-drop, take_at}
 use Rattle.std.proofs.lemmas.Bool.{cases_lt, cases_Bool}
 use Rattle.disk.specs.File.{Version, File, IsSynced, IsLeft, Always, whole, version_at}
 use Rattle.disk.proofs.Left.{IsFrontOf, left_begins, left_synced}
@@ -17,7 +17,10 @@ use Rattle.walframe.proofs.Reading.{sum_from, salts_from, sum_same, salts_same}
 use Rattle.walindex.specs.declared.index.Index.{Index}
 use Rattle.wal.specs.Chains.{BeginsWith}
 use Rattle.wal.specs.Committed.{IsAcceptedAt, HasCommitted, HasCommits, framed_at, framed_to, frames_under}
-use Rattle.wal.specs.Stands.{LogStands, header_where, front_at, log_front, log_end}
+use Rattle.disk.specs.Calls.{overwritten}
+use Rattle.wal.specs.Stale.{IsStaleFrom}
+use Rattle.wal.specs.Stands.{LogStands, header_where, kept_at, base_at, place_at, log_front, log_end}
+use Rattle.wal.proofs.Staling.{IsBase, none_stale, over_base}
 use Rattle.wal.specs.Crashes.{LeavesEither, LeavesCommits, AreEither, LeavesWriting, zeros}
 use Rattle.wal.proofs.Appending.{IsFront, FrontOf, IsGrown, IsCommit, no_frame_past, blank_head, grown_head}
 use Rattle.wal.proofs.FrameLists.{framed_front, framed_len}
@@ -81,22 +84,22 @@ front_frame h n k front rest is lt =
     ap (λ (f : List ℕ). (let r : Framed = record { head = frame_of f; page = drop 24 f } in r)) (frame_front_same h front rest k (omega (arith, start_rises h (suc k) n (omega (arith, lt)), is.start)))
 
 -- while frames are written after those that are on the disk
-pub stopped : (h : LogHeader) (n page_size : ℕ) (front w : List ℕ) (fs : List Framed) (vs : List Version) → IsFront h n front → h.page_size ≡ page_size → IsGrown h n front fs (front ++ w) → IsCommit fs → AreEither front (front ++ w) vs
-    → LeavesEither page_size (framed_to h front n) (framed_to h front n ++ fs) vs
-stopped h n page_size front w fs vs is size grown commit either c left chance = elim (all_right_or_not h c (n + length fs)) [
+pub stopped : (h : LogHeader) (n page_size : ℕ) (front tail more : List ℕ) (fs : List Framed) (vs : List Version) → IsFront h n front → h.page_size ≡ page_size → IsStaleFrom h n (front ++ tail) → IsGrown h n front fs (front ++ more) → IsCommit fs
+    → AreEither (front ++ tail) (front ++ more) vs → LeavesEither page_size (framed_to h front n) (framed_to h front n ++ fs) vs
+stopped h n page_size front tail more fs vs is size stale grown commit either c left chance = elim (all_right_or_not h c (n + length fs)) [
   | inl all ↦ inr (whole all)
   | inr bad ↦ inl (begins_with h n page_size front c rest is size is_c (λ k past right. part bad.0 bad.1 bad.2 k past right))
 ]
   where
     joined : List ℕ
-    joined = front ++ w
+    joined = front ++ more
 
     rest : List ℕ
     rest = drop (length front) c
 
-    begins_one : (bytes : List ℕ) → (bytes ≡ front) ⊎ (bytes ≡ joined) → IsFrontOf front bytes
-    begins_one bytes (inl e) = ap (take (length front)) e ∙ take_all (length front) front (omega arith)
-    begins_one bytes (inr e) = ap (take (length front)) e ∙ take_at front w (length front) refl
+    begins_one : (bytes : List ℕ) → (bytes ≡ front ++ tail) ⊎ (bytes ≡ joined) → IsFrontOf front bytes
+    begins_one bytes (inl e) = ap (take (length front)) e ∙ take_at front tail (length front) refl
+    begins_one bytes (inr e) = ap (take (length front)) e ∙ take_at front more (length front) refl
 
     is_c : c ≡ front ++ rest
     is_c = sym (take-append-drop (length front) c) ∙ ap (λ (l : List ℕ). l ++ rest) (left_begins front vs c (λ i lt. begins_one (version_at vs i).bytes (either i lt)) left)
@@ -104,11 +107,11 @@ stopped h n page_size front w fs vs is size grown commit either c left chance = 
     begins : BeginsWith h c
     begins = ap header_in is_c ∙ is.header_is rest
 
-    by_version : (k : ℕ) (bytes : List ℕ) → n ≤ k → (bytes ≡ front) ⊎ (bytes ≡ joined) → IsAcceptedAt h bytes k → framed_at h c k ≡ framed_at h bytes k → (k < n + length fs) × (framed_at h c k ≡ framed_at h joined k)
-    by_version k bytes past (inl e) right same = absurd (no_frame_past h front n k is.start past (subst (λ (l : List ℕ). IsFrame h l k) e (right k (omega arith))))
+    by_version : (k : ℕ) (bytes : List ℕ) → n ≤ k → (bytes ≡ front ++ tail) ⊎ (bytes ≡ joined) → IsAcceptedAt h bytes k → framed_at h c k ≡ framed_at h bytes k → (k < n + length fs) × (framed_at h c k ≡ framed_at h joined k)
+    by_version k bytes past (inl e) right same = absurd (none_stale h n (front ++ tail) stale k past (subst (λ (l : List ℕ). IsFrame h l k) e (right k (omega arith))))
     by_version k bytes past (inr e) right same = elim (cases_lt k (n + length fs)) [
       | inl before ↦ (before, same ∙ ap (λ (l : List ℕ). framed_at h l k) e)
-      | inr after ↦ absurd (no_frame_past h joined (n + length fs) k grown.end after (subst (λ (l : List ℕ). IsFrame h l k) e (right k (omega arith))))
+      | inr after ↦ absurd (none_stale h (n + length fs) joined grown.stale k after (subst (λ (l : List ℕ). IsFrame h l k) e (right k (omega arith))))
     ]
 
     later : (k : ℕ) → n ≤ k → IsAcceptedAt h c k → (k < n + length fs) × (framed_at h c k ≡ framed_at h joined k)
@@ -126,7 +129,7 @@ stopped h n page_size front w fs vs is size grown commit either c left chance = 
 
     same_frame : ((k : ℕ) → k < n + length fs → IsFrame h c k) → (k : ℕ) → k < n + length fs → framed_at h c k ≡ framed_at h joined k
     same_frame all k lt = elim (cases_lt k n) [
-      | inl before ↦ ap (λ (l : List ℕ). framed_at h l k) is_c ∙ front_frame h n k front rest is before ∙ sym (front_frame h n k front w is before)
+      | inl before ↦ ap (λ (l : List ℕ). framed_at h l k) is_c ∙ front_frame h n k front rest is before ∙ sym (front_frame h n k front more is before)
       | inr past ↦ (later k past (λ j le. all j (omega (arith, le, lt)))).1
     ]
 
@@ -182,20 +185,34 @@ headed_commits h false mark page_size sum index log c stands front size not_begu
     subst (λ (l : List ℕ). HasCommits page_size l []) (sym is) (subst (HasCommits page_size (header_bytes h)) front.frames_are (front_commits h mark page_size (header_bytes h) front.is size))
 
 -- at each moment of a commit
-pub leaves_either : (h : LogHeader) (b : Bool) (mark end page_size : ℕ) (sum : Sum) (index : Index) (fs : List Framed) (log out : List ℕ) (vs : List Version) → LogStands h b mark sum index log → FrontOf h b mark sum log → h.page_size ≡ page_size
-    → IsGrown h mark (log_front h b mark log) fs (log_front h b mark log ++ out) → IsCommit fs → end ≡ log_end h b mark → LeavesWriting h b end out log vs
-    → LeavesEither page_size (frames_under (header_where b h) log mark) (frames_under (header_where b h) log mark ++ fs) vs
-leaves_either h b mark end page_size sum index fs log out vs stands front size grown commit is_end (inl trimmed) c left chance = inl (elim (trimmed c left) [
+pub leaves_either : (h : LogHeader) (b clean : Bool) (mark end page_size : ℕ) (sum : Sum) (index : Index) (fs : List Framed) (log out : List ℕ) (vs : List Version) → LogStands h b mark sum index log → FrontOf h b mark sum log
+    → IsBase h mark (log_front h b mark log) log (base_at h b clean end log) → h.page_size ≡ page_size → IsGrown h mark (log_front h b mark log) fs (overwritten (place_at b end) out (base_at h b clean end log)) → IsCommit fs → end ≡ log_end h b mark
+    → place_at b end ≡ frame_start h mark → LeavesWriting h b clean end out log vs → LeavesEither page_size (frames_under (header_where b h) log mark) (frames_under (header_where b h) log mark ++ fs) vs
+leaves_either h b clean mark end page_size sum index fs log out vs stands front base size grown commit is_end is_place (inl trimmed) c left chance = inl (elim (trimmed c left) [
   | inl whole_log ↦ subst (λ (l : List ℕ). HasCommits page_size l (frames_under (header_where b h) log mark)) (sym whole_log) (log_commits h b mark page_size sum index log stands size)
   | inr cut ↦ subst (λ (l : List ℕ). HasCommits page_size l (frames_under (header_where b h) log mark)) (sym cut) (cut_commits h b mark end page_size sum index log stands (λ yes. front) size is_end)
 ])
-leaves_either h b mark end page_size sum index fs log out vs stands front size grown commit is_end (inr (inl headed)) c left chance = inl (elim (headed c left) [
-  | inl cut ↦ subst (λ (l : List ℕ). HasCommits page_size l (frames_under (header_where b h) log mark)) (sym cut) (cut_commits h b mark end page_size sum index log stands (λ yes. front) size is_end)
+leaves_either h b clean mark end page_size sum index fs log out vs stands front base size grown commit is_end is_place (inr (inl headed)) c left chance = inl (elim (headed c left) [
+  | inl kept ↦ kept_commits clean kept
   | inr header ↦ headed_commits h b mark page_size sum index log c stands front size header.0 header.1
 ])
-leaves_either h b mark end page_size sum index fs log out vs stands front size grown commit is_end (inr (inr either)) c left chance =
+  where
+    kept_commits : (d : Bool) → c ≡ kept_at d end log → HasCommits page_size c (frames_under (header_where b h) log mark)
+    kept_commits true is = subst (λ (l : List ℕ). HasCommits page_size l (frames_under (header_where b h) log mark)) (sym is) (log_commits h b mark page_size sum index log stands size)
+    kept_commits false is = subst (λ (l : List ℕ). HasCommits page_size l (frames_under (header_where b h) log mark)) (sym is) (cut_commits h b mark end page_size sum index log stands (λ yes. front) size is_end)
+leaves_either h b clean mark end page_size sum index fs log out vs stands front base size grown commit is_end is_place (inr (inr either)) c left chance =
     subst (λ (these : List Framed). HasCommits page_size c these ⊎ HasCommits page_size c (these ++ fs)) front.frames_are
-    (stopped h mark page_size (log_front h b mark log) out fs vs front.is size grown commit (subst (λ (n : ℕ). AreEither (front_at h b n log) (front_at h b n log ++ out) vs) is_end either) c left chance)
+    (stopped h mark page_size front_bytes (drop (frame_start h mark) under) (out ++ drop (place_at b end + length out) under) fs vs front.is size (subst (IsStaleFrom h mark) base.joined base.stale) (subst (IsGrown h mark front_bytes fs) is_new grown) commit
+    (subst (λ (l : List ℕ). AreEither (front_bytes ++ drop (frame_start h mark) under) l vs) is_new (subst (λ (l : List ℕ). AreEither l (overwritten (place_at b end) out under) vs) base.joined either)) c left chance)
+  where
+    front_bytes : List ℕ
+    front_bytes = log_front h b mark log
+
+    under : List ℕ
+    under = base_at h b clean end log
+
+    is_new : overwritten (place_at b end) out under ≡ front_bytes ++ (out ++ drop (place_at b end + length out) under)
+    is_new = over_base h mark (place_at b end) front_bytes log under out base front.is.start is_place
 
 -- where nothing was written
 pub still_either : (page_size : ℕ) (these those : List Framed) (old : File) → IsSynced old → HasCommits page_size old.content these → Always old old (LeavesEither page_size these those)

@@ -1,5 +1,5 @@
 -- What a crash may leave while a log is cut, gets its header, and grows.
-use Rattle.std.proofs.Common.{◌≡◌, ◌⊎◌, inl, inr, ◌<◌, ◌≤◌, ◌+◌, ℕ, zero, suc, List, [], ◌∷◌, ◌++◌, Bool, true, false, length, take, drop, get_or, refl, sym, ◌∙◌, ap, subst, arith}
+use Rattle.std.proofs.Common.{◌≡◌, ◌⊎◌, inl, inr, ◌<◌, ◌≤◌, ◌+◌, ℕ, zero, suc, List, [], ◌∷◌, ◌++◌, Bool, true, false, length, take, drop, get_or, refl, sym, ◌∙◌, ap, subst, arith, length-take}
 use Rattle.std.specs.Prelude.{Result, Ok, Err, OnOk, OnErr}
 use Rattle.std.proofs.lemmas.List.{append-nil, ext_get_or, get_or-replicate, nil_from_length, take_all, drop_all}
 use Rattle.disk.proofs.Current.{current_left, synced_current, syncs_left, cuts_current, cut_left}
@@ -10,7 +10,7 @@ use Rattle.disk.proofs.Moments.{alone, always_both, always_weaker, stays, gains_
 use Rattle.walframe.specs.declared.log_header.LogHeader.{LogHeader}
 use Rattle.walframe.specs.Log.{header_bytes}
 use Rattle.wal.specs.Crashes.{LeavesOneOf, LeavesHeader, AreEither, LeavesWriting, zeros}
-use Rattle.wal.specs.Stands.{front_at}
+use Rattle.wal.specs.Stands.{front_at, kept_at, base_at, place_at}
 
 -- a log that is cut
 
@@ -55,17 +55,17 @@ overwritten_end at bytes content end =
     ap (λ (l : List ℕ). (l ++ bytes) ++ drop (at + length bytes) content) (take_all at content (omega (arith, end)))
     ∙ ap (λ (l : List ℕ). (content ++ bytes) ++ l) (drop_all (at + length bytes) content (omega (arith, end))) ∙ append-nil (content ++ bytes)
 
-grown_either : (old : File) (at : ℕ) (bytes : List ℕ) → IsSynced old → length old.content ≡ at → AreEither old.content (old.content ++ bytes) (versions old ++ write_version at bytes old ∷ [])
-grown_either old at bytes synced end = either_more old.content (old.content ++ bytes) (versions old) (write_version at bytes old) (either_now old (old.content ++ bytes) synced) (overwritten_end at bytes old.content end)
+grown_either : (old : File) (at : ℕ) (bytes : List ℕ) → IsSynced old → AreEither old.content (overwritten at bytes old.content) (versions old ++ write_version at bytes old ∷ [])
+grown_either old at bytes synced = either_more old.content (overwritten at bytes old.content) (versions old) (write_version at bytes old) (either_now old (overwritten at bytes old.content) synced) refl
 
-pub write_failed : (old new : File) (at : ℕ) (bytes : List ℕ) → (new ≡ old) ⊎ FailsToWrite at bytes old new → IsSynced old → length old.content ≡ at → Always old new (AreEither old.content (old.content ++ bytes))
-write_failed old new at bytes (inl same) synced end = stays (AreEither old.content (old.content ++ bytes)) old new same (either_now old (old.content ++ bytes) synced)
-write_failed old new at bytes (inr fails) synced end = gains_good (AreEither old.content (old.content ++ bytes)) (write_version at bytes old) old new fails.gains (grown_either old at bytes synced end)
+pub write_failed : (old new : File) (at : ℕ) (bytes : List ℕ) → (new ≡ old) ⊎ FailsToWrite at bytes old new → IsSynced old → Always old new (AreEither old.content (overwritten at bytes old.content))
+write_failed old new at bytes (inl same) synced = stays (AreEither old.content (overwritten at bytes old.content)) old new same (either_now old (overwritten at bytes old.content) synced)
+write_failed old new at bytes (inr fails) synced = gains_good (AreEither old.content (overwritten at bytes old.content)) (write_version at bytes old) old new fails.gains (grown_either old at bytes synced)
 
-pub write_then_synced : {T E : Type 0} (result : Result T E) (old mid new : File) (at : ℕ) (bytes : List ℕ) → Writes at bytes old mid → OnOk result (Syncs mid new) → OnErr result (new ≡ mid) → IsSynced old → length old.content ≡ at → Always old new (AreEither old.content (old.content ++ bytes))
-write_then_synced result old mid new at bytes writes done failed synced end =
-    after_sync result (AreEither old.content (old.content ++ bytes)) (write_version at bytes old) old mid new writes.gains done failed (grown_either old at bytes synced end)
-    (either_one old.content (old.content ++ bytes) (whole mid.content) (inr (writes.content ∙ overwritten_end at bytes old.content end)))
+pub write_then_synced : {T E : Type 0} (result : Result T E) (old mid new : File) (at : ℕ) (bytes : List ℕ) → Writes at bytes old mid → OnOk result (Syncs mid new) → OnErr result (new ≡ mid) → IsSynced old → Always old new (AreEither old.content (overwritten at bytes old.content))
+write_then_synced result old mid new at bytes writes done failed synced =
+    after_sync result (AreEither old.content (overwritten at bytes old.content)) (write_version at bytes old) old mid new writes.gains done failed (grown_either old at bytes synced)
+    (either_one old.content (overwritten at bytes old.content) (whole mid.content) (inr writes.content))
 
 -- a log that gets its header
 
@@ -117,25 +117,38 @@ header_then_synced result h b old mid new writes done failed not_begun synced no
     (λ c left. inr (not_begun, inr (left_synced (whole mid.content) c left ∙ writes.content ∙ overwritten_end 0 (header_bytes h) old.content none ∙ ap (λ (l : List ℕ). l ++ header_bytes h) (nil_from_length old.content none))))
 
 -- the steps of a commit, one after the other
-abbrev Writing : LogHeader → Bool → ℕ → List ℕ → File → List Version → Type 0
-Writing h b end bytes old = LeavesWriting h b end bytes old.content
+abbrev Writing : LogHeader → Bool → Bool → ℕ → List ℕ → File → List Version → Type 0
+Writing h b clean end bytes old = LeavesWriting h b clean end bytes old.content
 
-pub after_trim : (h : LogHeader) (b : Bool) (end : ℕ) (bytes : List ℕ) (old cut : File) → Always old cut (LeavesOneOf old.content (take end old.content)) → Always old cut (LeavesWriting h b end bytes old.content)
-after_trim h b end bytes old cut trimmed = always_weaker old cut (Writing h b end bytes old) (LeavesOneOf old.content (take end old.content)) (λ vs all. inl all) trimmed
+pub after_trim : (h : LogHeader) (b clean : Bool) (end : ℕ) (bytes : List ℕ) (old cut : File) → Always old cut (LeavesOneOf old.content (take end old.content)) → Always old cut (LeavesWriting h b clean end bytes old.content)
+after_trim h b clean end bytes old cut trimmed = always_weaker old cut (Writing h b clean end bytes old) (LeavesOneOf old.content (take end old.content)) (λ vs all. inl all) trimmed
 
-pub after_header : (h : LogHeader) (b : Bool) (end : ℕ) (bytes : List ℕ) (old cut given : File) → Always old cut (LeavesOneOf old.content (take end old.content)) → cut.content ≡ take end old.content → Always cut given (LeavesHeader h b cut.content)
-    → Always old given (LeavesWriting h b end bytes old.content)
-after_header h b end bytes old cut given trimmed is headed =
-    always_both old cut given (Writing h b end bytes old) (after_trim h b end bytes old cut trimmed)
-    (always_weaker cut given (Writing h b end bytes old) (LeavesHeader h b cut.content) (λ vs all. inr (inl (subst (λ (l : List ℕ). LeavesHeader h b l vs) is all))) headed)
+pub after_header : (h : LogHeader) (b clean : Bool) (end : ℕ) (bytes : List ℕ) (old cut given : File) → Always old cut (LeavesOneOf old.content (take end old.content)) → cut.content ≡ kept_at clean end old.content → Always cut given (LeavesHeader h b cut.content)
+    → Always old given (LeavesWriting h b clean end bytes old.content)
+after_header h b clean end bytes old cut given trimmed is headed =
+    always_both old cut given (Writing h b clean end bytes old) (after_trim h b clean end bytes old cut trimmed)
+    (always_weaker cut given (Writing h b clean end bytes old) (LeavesHeader h b cut.content) (λ vs all. inr (inl (subst (λ (l : List ℕ). LeavesHeader h b l vs) is all))) headed)
 
-front_again : (h : LogHeader) (b : Bool) (end : ℕ) (log cut : List ℕ) → cut ≡ take end log → front_at h b (length cut) cut ≡ front_at h b end log
-front_again h true end log cut is = take_all (length cut) cut (omega arith) ∙ is
-front_again h false end log cut is = refl
+pub front_again : (h : LogHeader) (b clean : Bool) (end : ℕ) (log cut : List ℕ) → cut ≡ kept_at clean end log → front_at h b (length cut) cut ≡ base_at h b clean end log
+front_again h true clean end log cut is = take_all (length cut) cut (omega arith) ∙ is
+front_again h false clean end log cut is = refl
 
-pub after_append : (h : LogHeader) (b : Bool) (end : ℕ) (bytes : List ℕ) (old cut given new : File) → Always old cut (LeavesOneOf old.content (take end old.content)) → cut.content ≡ take end old.content → Always cut given (LeavesHeader h b cut.content)
-    → given.content ≡ front_at h b (length cut.content) cut.content → Always given new (AreEither given.content (given.content ++ bytes)) → Always old new (LeavesWriting h b end bytes old.content)
-after_append h b end bytes old cut given new trimmed is headed is_front grown =
-    let front : given.content ≡ front_at h b end old.content = is_front ∙ front_again h b end old.content cut.content is in
-    always_both old given new (Writing h b end bytes old) (after_header h b end bytes old cut given trimmed is headed)
-    (always_weaker given new (Writing h b end bytes old) (AreEither given.content (given.content ++ bytes)) (λ vs all. inr (inr (subst (λ (l : List ℕ). AreEither l (l ++ bytes) vs) front all))) grown)
+pub after_append : (h : LogHeader) (b clean : Bool) (end : ℕ) (bytes : List ℕ) (old cut given new : File) → Always old cut (LeavesOneOf old.content (take end old.content)) → cut.content ≡ kept_at clean end old.content → Always cut given (LeavesHeader h b cut.content)
+    → given.content ≡ front_at h b (length cut.content) cut.content → Always given new (AreEither given.content (overwritten (place_at b end) bytes given.content)) → Always old new (LeavesWriting h b clean end bytes old.content)
+after_append h b clean end bytes old cut given new trimmed is headed is_front grown =
+    let base : given.content ≡ base_at h b clean end old.content = is_front ∙ front_again h b clean end old.content cut.content is in
+    always_both old given new (Writing h b clean end bytes old) (after_header h b clean end bytes old cut given trimmed is headed)
+    (always_weaker given new (Writing h b clean end bytes old) (AreEither given.content (overwritten (place_at b end) bytes given.content)) (λ vs all. inr (inr (subst (λ (l : List ℕ). AreEither l (overwritten (place_at b end) bytes l) vs) base all))) grown)
+
+-- what stays reaches to the end of the committed frames, and where there is no header nothing stays
+pub kept_long : (clean : Bool) (end : ℕ) (log : List ℕ) → end ≤ length log → end ≤ length (kept_at clean end log)
+kept_long true end log le = le
+kept_long false end log le = omega (arith, le, length-take end log)
+
+pub kept_none : (clean : Bool) (end : ℕ) (log : List ℕ) → (clean ≡ true → length log ≡ 0) → end ≡ 0 → length (kept_at clean end log) ≡ 0
+kept_none true end log none at_start = none refl
+kept_none false end log none at_start = omega (arith, length-take end log, at_start)
+
+pub base_long : (h : LogHeader) (b clean : Bool) (end : ℕ) (log : List ℕ) → end ≤ length log → place_at b end ≤ length (base_at h b clean end log)
+base_long h true clean end log le = kept_long clean end log le
+base_long h false clean end log le = omega arith

@@ -7,6 +7,8 @@ pub mod Paging
 pub mod CommitLemmas
 pub mod FrameLists
 pub mod Same
+pub mod Staling
+pub mod Renewing
 pub mod Appending
 pub mod Halting
 pub mod Lefts

@@ -1,14 +1,14 @@
 -- A log that stands for the same, said of equal parts.
-use Rattle.std.proofs.Common.{◌≡◌, ◌∙◌, ◌+◌, ℕ, List, Bool, true, sym, subst}
+use Rattle.std.proofs.Common.{◌≡◌, ◌+◌, ℕ, List, Bool, sym, subst}
 use Rattle.walframe.specs.declared.log_header.LogHeader.{LogHeader}
 use Rattle.walframe.specs.declared.sums.Sum.{Sum}
-use Rattle.walframe.specs.Accepted.{frame_start, head_at}
+use Rattle.walframe.specs.Accepted.{head_at}
 use Rattle.walindex.specs.declared.index.Index.{Index}
 use Rattle.walindex.specs.Index.{SameFrames}
 use Rattle.wal.specs.declared.state.State.{State}
 use Rattle.wal.specs.LogState.{state_in}
 use Rattle.wal.specs.State.{SameState}
-use Rattle.wal.specs.Stands.{LogStands, IsOfPage, log_end}
+use Rattle.wal.specs.Stands.{LogStands, IsOfPage}
 use Rattle.wal.proofs.Indexing.{each_same}
 use Rattle.wal.proofs.Rooms.{kept_by_same}
 
@@ -37,6 +37,7 @@ known_same old new same = λ i. record {
   header = same.header i;
   has_header = same.is_begun i;
   frames = same.mark i;
+  copied = same.copied i;
   size = same.size i;
   has_failed = same.is_failed i;
 }
@@ -45,9 +46,3 @@ pub reserved : (old new : State) (log : List ℕ) → SameState old new → LogS
 reserved old new log same stands =
     stands_as old.header new.header old.is_begun new.is_begun old.mark new.mark old.sum new.sum new.index log same.header same.is_begun same.mark same.sum
     (stands_indexed old.header old.is_begun old.mark old.sum old.index new.index log same.frames stands)
-
-pub end_same : (old new : State) (n : ℕ) → SameState old new → n ≡ log_end old.header old.is_begun old.mark → n ≡ log_end new.header new.is_begun new.mark
-end_same old new n same is = is ∙ sym (λ i. log_end (same.header i) (same.is_begun i) (same.mark i))
-
-pub end_grown : (h g : LogHeader) (b : Bool) (m n count length : ℕ) → g ≡ h → b ≡ true → n ≡ m + count → length ≡ frame_start h (m + count) → length ≡ log_end g b n
-end_grown h g b m n count length same_header begun more is = is ∙ sym (λ i. log_end (same_header i) (begun i) (more i))

@@ -1,10 +1,10 @@
 -- What a commit makes of a log (Database File Format, "WAL File Format").
-use Rattle.std.specs.Prelude.{◌≡◌, ◌≤◌, ◌+◌, ℕ, Bool, true, List, ◌++◌, length, take, Some, Ok, Result, MatchResult}
+use Rattle.std.specs.Prelude.{◌≡◌, ◌⊎◌, ◌≤◌, ◌+◌, ℕ, Bool, true, List, [], ◌++◌, length, take, drop, Some, Ok, Result, MatchResult}
 use Rattle.disk.specs.File.{File, IsSynced}
 use Rattle.sqlval.specs.declared.fault.Fault.{Fault}
 use Rattle.sqlval.specs.declared.fault.Fault.TheVariants.{Io}
 use Rattle.walframe.specs.Log.{header_in}
-use Rattle.walframe.specs.Accepted.{sum_to}
+use Rattle.walframe.specs.Accepted.{frame_start, sum_to}
 use Rattle.walframe.specs.Written.{Framed, written}
 use Rattle.wal.specs.Committed.{HasCommitted, AreCommitted, framed_to, frames_under}
 use Rattle.wal.specs.LogState.{LogState, header_of}
@@ -14,9 +14,15 @@ use Rattle.wal.specs.Stands.{log_front, log_end}
 abbrev pub commits_of : LogState → List ℕ → List Framed
 commits_of known log = frames_under (header_of known) log known.frames
 
--- The log was synced with exactly these frames after its committed ones, and all of them are committed now.
+-- where the frames of a commit end: so many after the committed ones
+abbrev pub end_with : LogState → ℕ → ℕ
+end_with known count = frame_start known.header (known.frames + count)
+
+-- The log was synced with exactly these frames after its committed ones, and all of them are committed now. What stood after their end
+-- stands there still, or was cut away.
 pub record Commits (known : LogState) (fs : List Framed) (old new : File) : Type 0 where
-  pub content : new.content ≡ log_front known.header known.has_header known.frames old.content ++ written known.header (sum_to known.header old.content known.frames) fs
+  pub front : take (end_with known (length fs)) new.content ≡ log_front known.header known.has_header known.frames old.content ++ written known.header (sum_to known.header old.content known.frames) fs
+  pub rest : (drop (end_with known (length fs)) new.content ≡ []) ⊎ (drop (end_with known (length fs)) new.content ≡ drop (end_with known (length fs)) old.content)
   pub header_is : header_in new.content ≡ Ok (Some known.header)
   pub committed : HasCommitted known.header new.content (known.frames + length fs)
   pub frames_are : framed_to known.header new.content (known.frames + length fs) ≡ commits_of known old.content ++ fs

@@ -1,6 +1,7 @@
 -- What a crash may leave of a log (Database File Format, "WAL File Format").
 use Rattle.std.specs.Prelude.{◌≡◌, ◌⊎◌, ◌<◌, ◌≤◌, ◌++◌, ℕ, Bool, false, IsTrue, List, [], length, take, replicate, slice_get, Some, None, Ok}
 use Rattle.disk.specs.File.{File, Version, IsLeft, IsSynced, IsContentLeft, Always, version_at}
+use Rattle.disk.specs.Calls.{overwritten}
 use Rattle.walframe.specs.declared.log_header.LogHeader.{LogHeader}
 use Rattle.walframe.specs.Log.{header_in, header_bytes}
 use Rattle.walframe.specs.Accepted.{IsFrame, sum_to}
@@ -9,7 +10,7 @@ use Rattle.wal.specs.Chains.{BeginsWith, Chained, IsNewestOf}
 use Rattle.wal.specs.Committed.{IsAcceptedAt, HasCommits, framed_at}
 use Rattle.wal.specs.Commits.{commits_of}
 use Rattle.wal.specs.LogState.{LogState}
-use Rattle.wal.specs.Stands.{front_at, log_end}
+use Rattle.wal.specs.Stands.{kept_at, base_at, place_at, log_end}
 
 -- frame k of a log is one that a version has accepted at the same place
 pub record IsVersionsFrame (versions : List Version) (h : LogHeader) (k : ℕ) (c : List ℕ) : Type 0 where
@@ -52,12 +53,13 @@ LeavesHeader h is_begun content versions = (c : List ℕ) → IsLeft versions c 
 abbrev pub AreEither : List ℕ → List ℕ → List Version → Type 0
 AreEither a b versions = (i : ℕ) → i < length versions → ((version_at versions i).bytes ≡ a) ⊎ ((version_at versions i).bytes ≡ b)
 
--- while frames are written after the end of a log: it is cut there, it gets its header, and then the frames
-abbrev pub LeavesWriting : LogHeader → Bool → ℕ → List ℕ → List ℕ → List Version → Type 0
-LeavesWriting h is_begun end bytes content versions =
+-- while frames are written after the committed ones of a log: it is cut there unless older frames alone stand after them, it gets its
+-- header, and then the frames
+abbrev pub LeavesWriting : LogHeader → Bool → Bool → ℕ → List ℕ → List ℕ → List Version → Type 0
+LeavesWriting h is_begun is_clean end bytes content versions =
     LeavesOneOf content (take end content) versions
-    ⊎ LeavesHeader h is_begun (take end content) versions
-    ⊎ AreEither (front_at h is_begun end content) (front_at h is_begun end content ++ bytes) versions
+    ⊎ LeavesHeader h is_begun (kept_at is_clean end content) versions
+    ⊎ AreEither (base_at h is_begun is_clean end content) (overwritten (place_at is_begun end) bytes (base_at h is_begun is_clean end content)) versions
 
 -- what is on a synced file when a function ends, a crash may leave
 abbrev pub LeavesContent : {D : Type 0} → (D → Bool) → (D → File) → D → D → Type 0
@@ -67,7 +69,8 @@ LeavesContent tells file old new = IsTrue (tells old) → IsSynced (file old) �
 -- bytes of the frames, whatever chance does: nothing else is ever written. So a crash leaves its committed frames, or these after them.
 -- What is on the log at the end, a crash may leave.
 pub record WritesCommit (known : LogState) (fs : List Framed) (old new : File) : Type 0 where
-  pub writing : Always old new (LeavesWriting known.header known.has_header (log_end known.header known.has_header known.frames) (written known.header (sum_to known.header old.content known.frames) fs) old.content)
+  pub is_clean : Bool
+  pub writing : Always old new (LeavesWriting known.header known.has_header is_clean (log_end known.header known.has_header known.frames) (written known.header (sum_to known.header old.content known.frames) fs) old.content)
   pub either : Always old new (LeavesEither known.page_size (commits_of known old.content) (commits_of known old.content ++ fs))
   pub left : IsContentLeft new
 

@@ -2,6 +2,7 @@ pub mod Indexed
 pub mod Pages
 pub mod Committed
 pub mod Stands
+pub mod Stale
 pub mod State
 pub mod Sizes
 pub mod Refusals
@@ -11,5 +12,6 @@ pub mod Opened
 pub mod Commits
 pub mod Chains
 pub mod Crashes
+pub mod Restarts
 pub mod ErrorCauses
 pub mod Laws

@@ -8,12 +8,14 @@ use Rattle.wal.specs.declared.state.State.{State}
 use Rattle.wal.specs.Stands.{header_where}
 
 -- The size of a page in bytes; the log's header, or the one that it is to get; whether the log has it; how many frames are
--- committed; the size of the newest commit in pages; and whether a call failed that left the log unknown.
+-- committed, and how many of them were copied into the database file since it was opened; the size of the newest commit in pages; and
+-- whether a call failed that left the files unknown.
 pub record LogState : Type 0 where
   pub page_size : ℕ
   pub header : LogHeader
   pub has_header : Bool
   pub frames : ℕ
+  pub copied : ℕ
   pub size : ℕ
   pub has_failed : Bool
 
@@ -28,6 +30,7 @@ state_in state = record {
   header = state.header;
   has_header = state.is_begun;
   frames = state.mark;
+  copied = state.copied;
   size = state.size;
   has_failed = state.is_failed;
 }

@@ -23,6 +23,7 @@ fresh_header page_size salts = record { order = Big; page_size = page_size; sequ
 pub record IsOpened (page_size : ℕ) (salts : Salts) (known : LogState) : Type 0 where
   pub page_size_is : known.page_size ≡ page_size
   pub whole : IsFalse known.has_failed
+  pub copied : known.copied ≡ 0
   pub served : IsSizeWithinLimits page_size known.size
   pub fresh : IsFalse known.has_header → known.header ≡ fresh_header page_size salts
 

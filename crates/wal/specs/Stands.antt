@@ -39,6 +39,19 @@ pub record LogStands (h : LogHeader) (is_begun : Bool) (mark : ℕ) (sum : Sum) 
 abbrev pub front_at : LogHeader → Bool → ℕ → List ℕ → List ℕ
 front_at h is_begun end log = if is_begun then take end log else header_bytes h
 
+-- What stays of a log when frames are written after its committed ones: all of it, where no more stands there than older frames, else
+-- the committed ones alone.
+abbrev pub kept_at : Bool → ℕ → List ℕ → List ℕ
+kept_at is_clean end log = if is_clean then log else take end log
+
+-- the log that the frames are written into: what stays, or the header, where it had none
+abbrev pub base_at : LogHeader → Bool → Bool → ℕ → List ℕ → List ℕ
+base_at h is_begun is_clean end log = if is_begun then kept_at is_clean end log else header_bytes h
+
+-- where they are written
+abbrev pub place_at : Bool → ℕ → ℕ
+place_at is_begun end = if is_begun then end else 32
+
 -- the committed part of a log, or the header that it is to get
 abbrev pub log_front : LogHeader → Bool → ℕ → List ℕ → List ℕ
 log_front h is_begun mark log = front_at h is_begun (log_end h is_begun mark) log

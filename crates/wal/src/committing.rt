@@ -1,14 +1,14 @@
 //! Commits.
 
 ghost use Rattle.std.specs.Prelude.{◌≡◌, ◌<◌, ◌≤◌, ◌++◌, length, take, true, IsTrue, IsFalse, OnOk, OnErr, IfErr, MatchResult};
-ghost use Rattle.disk.specs.Calls.{Syncs};
+ghost use Rattle.disk.specs.Calls.{Syncs, overwritten};
 ghost use Rattle.disk.specs.File.{IsSynced, IsContentLeft, Always};
 ghost use Rattle.walframe.specs.Log.{header_bytes};
 ghost use Rattle.walframe.specs.Written.{HeaderFits};
 ghost use Rattle.wal.specs.Commits.{Commits, IsStateAfter, IsStateCut, IsCut, KeepsDisks, commits_of};
 ghost use Rattle.wal.specs.Pages.{ArePages, framed};
 ghost use Rattle.wal.specs.Refusals.{IsCommitRefusal, IsCutRefusal, IsWithin};
-ghost use Rattle.wal.specs.Stands.{front_at};
+ghost use Rattle.wal.specs.Stands.{front_at, kept_at, base_at, place_at};
 ghost use Rattle.wal.specs.Crashes.{LeavesOneOf, LeavesHeader, AreEither, LeavesContent, LeavesWriting, LeavesCommits, WritesCommit};
 ghost use Rattle.wal.specs.ErrorCauses.{TouchesDisk};
 
@@ -20,7 +20,7 @@ use std::alloc::Global;
 use walframe::{FrameHeader, LogHeader};
 
 /// Syncs a log.
-fn sync_log<D: Disk>(log: &mut D) -> R<()>
+pub fn sync_log<D: Disk>(log: &mut D) -> R<()>
     ensures done { IsTrue (D.tells log.old) → OnOk result (Syncs (D.file log.old) (D.file log.new)) }
     ensures failed { IsTrue (D.tells log.old) → OnErr result (D.file log.new ≡ D.file log.old) }
     ensures touches { TouchesDisk D.tells D.failures log.old log.new result }
@@ -28,18 +28,17 @@ fn sync_log<D: Disk>(log: &mut D) -> R<()>
     log.sync()
 }
 
-/// Truncates a log to a length and syncs it, unless it has that length.
-fn truncate_tail<D: Disk>(log: &mut D, end: u64, is_cut: bool) -> R<()>
-    requires inside { IsTrue (D.tells log.old) → end ≤ length (D.file log.old).content }
-    requires cut { IsTrue (D.tells log.old) → IsTrue is_cut → length (D.file log.old).content ≡ end }
-    ensures cut { IsTrue (D.tells log.old) → OnOk result ((D.file log.new).content ≡ take end (D.file log.old).content) }
+/// Truncates a log to a length and syncs it, unless it is clean or no longer than that.
+pub fn truncate_tail<D: Disk>(log: &mut D, end: u64, is_clean: bool) -> R<()>
+    requires { IsTrue (D.tells log.old) → end ≤ length (D.file log.old).content }
+    ensures cut { IsTrue (D.tells log.old) → OnOk result ((D.file log.new).content ≡ kept_at is_clean end (D.file log.old).content) }
     ensures synced { IsTrue (D.tells log.old) → IsSynced (D.file log.old) → OnOk result (IsSynced (D.file log.new)) }
     ensures crash { IsTrue (D.tells log.old) → IsSynced (D.file log.old)
         → Always (D.file log.old) (D.file log.new) (LeavesOneOf (D.file log.old).content (take end (D.file log.old).content)) }
     ensures left { LeavesContent D.tells D.file log.old log.new }
     ensures touches { TouchesDisk D.tells D.failures log.old log.new result }
 {
-    if is_cut {
+    if is_clean {
         return Ok(());
     }
     if log.len()? <= end {
@@ -50,7 +49,7 @@ fn truncate_tail<D: Disk>(log: &mut D, end: u64, is_cut: bool) -> R<()>
 }
 
 /// Writes a log's header and syncs it, if it has none.
-fn give_header<D: Disk>(log: &mut D, header: &LogHeader, is_begun: bool) -> R<()>
+pub fn give_header<D: Disk>(log: &mut D, header: &LogHeader, is_begun: bool) -> R<()>
     requires { IsTrue (D.tells log.old) → IsFalse is_begun → length (D.file log.old).content ≡ 0 }
     ensures given { IsTrue (D.tells log.old)
         → OnOk result ((D.file log.new).content ≡ front_at header.now is_begun (length (D.file log.old).content) (D.file log.old).content) }
@@ -68,13 +67,13 @@ fn give_header<D: Disk>(log: &mut D, header: &LogHeader, is_begun: bool) -> R<()
     sync_log(log)
 }
 
-/// Writes frames at the end of a log and syncs it.
-fn append<D: Disk>(log: &mut D, at: u64, bytes: &[u8]) -> R<()>
-    requires { IsTrue (D.tells log.old) → length (D.file log.old).content ≡ at }
-    ensures written { IsTrue (D.tells log.old) → OnOk result ((D.file log.new).content ≡ (D.file log.old).content ++ bytes.now) }
+/// Writes frames at a place of a log and syncs it.
+fn write_frames<D: Disk>(log: &mut D, at: u64, bytes: &[u8]) -> R<()>
+    requires { IsTrue (D.tells log.old) → at ≤ length (D.file log.old).content }
+    ensures written { IsTrue (D.tells log.old) → OnOk result ((D.file log.new).content ≡ overwritten at bytes.now (D.file log.old).content) }
     ensures synced { IsTrue (D.tells log.old) → OnOk result (IsSynced (D.file log.new)) }
     ensures crash { IsTrue (D.tells log.old) → IsSynced (D.file log.old)
-        → Always (D.file log.old) (D.file log.new) (AreEither (D.file log.old).content ((D.file log.old).content ++ bytes.now)) }
+        → Always (D.file log.old) (D.file log.new) (AreEither (D.file log.old).content (overwritten at bytes.now (D.file log.old).content)) }
     ensures left { LeavesContent D.tells D.file log.old log.new }
     ensures touches { TouchesDisk D.tells D.failures log.old log.new result }
 {
@@ -82,30 +81,37 @@ fn append<D: Disk>(log: &mut D, at: u64, bytes: &[u8]) -> R<()>
     sync_log(log)
 }
 
+/// Where frames are written: after the committed ones, or after the header that the log is to get.
+fn place_of(is_begun: bool, end: u64) -> u64
+    ensures { result ≡ place_at is_begun end }
+{
+    if is_begun { end } else { LogHeader::LEN }
+}
+
 /// Writes frames after the committed ones, which end at `end`, and syncs the log; a log without a header gets this one first.
 fn write_out<D: Disk>(
     log: &mut D,
     header: LogHeader,
     is_begun: bool,
-    is_cut: bool,
+    is_clean: bool,
     end: u64,
     bytes: &[u8],
 ) -> R<()>
     requires inside { IsTrue (D.tells log.old) → end ≤ length (D.file log.old).content }
-    requires cut { IsTrue (D.tells log.old) → IsTrue is_cut → length (D.file log.old).content ≡ end }
+    requires clean { IsTrue (D.tells log.old) → IsTrue is_clean → IsFalse is_begun → length (D.file log.old).content ≡ 0 }
     requires none { IsFalse is_begun → end ≡ 0 }
-    ensures written { IsTrue (D.tells log.old)
-        → OnOk result ((D.file log.new).content ≡ front_at header is_begun end (D.file log.old).content ++ bytes.now) }
+    ensures written { IsTrue (D.tells log.old) → OnOk result ((D.file log.new).content
+        ≡ overwritten (place_at is_begun end) bytes.now (base_at header is_begun is_clean end (D.file log.old).content)) }
     ensures fits { HeaderFits header }
     ensures synced { IsTrue (D.tells log.old) → OnOk result (IsSynced (D.file log.new)) }
     ensures crash { IsTrue (D.tells log.old) → IsSynced (D.file log.old)
-        → Always (D.file log.old) (D.file log.new) (LeavesWriting header is_begun end bytes.now (D.file log.old).content) }
+        → Always (D.file log.old) (D.file log.new) (LeavesWriting header is_begun is_clean end bytes.now (D.file log.old).content) }
     ensures left { LeavesContent D.tells D.file log.old log.new }
     ensures touches { TouchesDisk D.tells D.failures log.old log.new result }
 {
-    truncate_tail(log, end, is_cut)?;
+    truncate_tail(log, end, is_clean)?;
     give_header(log, &header, is_begun)?;
-    append(log, if is_begun { end } else { LogHeader::LEN }, bytes)
+    write_frames(log, place_of(is_begun, end), bytes)
 }
 
 impl<D: Disk> Log<D> {
@@ -144,11 +150,11 @@ impl<D: Disk> Log<D> {
         let end = self.state.end();
         let header = self.state.header;
         let is_begun = self.state.is_begun;
-        let is_cut = self.state.is_cut;
+        let is_clean = self.state.is_clean;
         self.state.is_failed = true;
-        write_out(&mut self.log, header, is_begun, is_cut, end, &bytes)?;
+        write_out(&mut self.log, header, is_begun, is_clean, end, &bytes)?;
         self.state.is_begun = true;
-        self.state.is_cut = true;
+        self.state.is_clean = true;
         self.state.is_failed = false;
         self.state.advance(pages, size, sum);
         Ok(())
@@ -174,10 +180,9 @@ impl<D: Disk> Log<D> {
             return Err(Fault::Failed);
         }
         let end = self.state.end();
-        let is_cut = self.state.is_cut;
         self.state.is_failed = true;
-        truncate_tail(&mut self.log, end, is_cut)?;
-        self.state.is_cut = true;
+        truncate_tail(&mut self.log, end, false)?;
+        self.state.is_clean = true;
         self.state.is_failed = false;
         Ok(())
     }

@@ -7,6 +7,7 @@ mod laws;
 mod log;
 mod opening;
 mod pages;
+mod restarting;
 mod state;
 
 pub use laws::{commit_changes, commits_follow, page_is_one, pages_are_of_frames, snapshots_stay};

@@ -11,6 +11,7 @@ ghost use Rattle.wal.specs.Pages.{framed, size_before, numbers_of};
 
 use crate::indexed::{add_all, reserve_all};
 use crate::pages::PageImage;
+use crate::restarting::next_header;
 use sqlval::limits::{MAX_DATABASE_BYTES, MAX_FRAMES, MAX_PAGES};
 use sqlval::{Fault, R};
 use std::alloc::{AllocError, Global};
@@ -32,12 +33,15 @@ pub struct State {
     pub db_len: u64,
     /// The log's header, or the one that the first commit writes.
     pub header: LogHeader,
-    /// Whether the log has a header, whether it ends with its committed frames, and whether a call failed that left it unknown.
+    /// Whether the log has a header, whether nothing but older frames stands after its committed ones, and whether a call failed that
+    /// left it unknown.
     pub is_begun: bool,
-    pub is_cut: bool,
+    pub is_clean: bool,
     pub is_failed: bool,
     /// How many frames are committed, and the sums carried over them.
     pub mark: u32,
+    /// How many of these frames were copied into the database file since it was opened.
+    pub copied: u32,
     pub sum: Sum,
     /// The size after the newest commit, in pages.
     pub size: u32,
@@ -45,6 +49,7 @@ pub struct State {
     ghost size_is: { IsTrue (is_size page_size) },
     ghost same_size: { header.page_size ≡ page_size },
     ghost few: { mark ≤ 1000000 },
+    ghost copied_few: { copied ≤ mark },
     ghost indexed: { IsIndexTo mark index },
     ghost served: { IsSizeWithinLimits page_size size },
 }
@@ -60,7 +65,9 @@ fn size_over(behind: &[PageImage], size: u32) -> u32
 }
 
 impl State {
-    ghost use Rattle.wal.specs.State.{SameState, Admits};
+    ghost use Rattle.wal.specs.LogState.{state_in};
+    ghost use Rattle.wal.specs.Restarts.{header_after_cut, is_copied};
+    ghost use Rattle.wal.specs.State.{SameState, Admits, Restarts};
 
     /// Where the frame of this number, from 1, begins; one past the last for the next.
     pub fn offset(&self, frame: u32) -> u64
@@ -78,6 +85,24 @@ impl State {
             self.offset(self.mark + 1)
         } else {
             0
+        }
+    }
+
+    /// Whether the log has frames, and all of them were copied into the database file.
+    pub fn is_copied(&self) -> bool
+        ensures { result ≡ is_copied (state_in self.now) }
+    {
+        self.is_begun && self.mark > 0 && self.copied == self.mark
+    }
+
+    /// The header that the log gets when it was cut to nothing.
+    pub fn header_after_cut(&self) -> LogHeader
+        ensures { result ≡ header_after_cut (state_in self.now) }
+    {
+        if self.is_begun {
+            next_header(self.header)
+        } else {
+            self.header
         }
     }
 
@@ -137,5 +162,19 @@ impl State {
         self.mark += pages.len() as u32;
         self.size = size;
         self.sum = sum;
+    }
+
+    /// Counts no frames, under this header, which the log has or is to get.
+    pub fn restart(&mut self, header: LogHeader, has_header: bool)
+        requires { header.page_size ≡ self.old.page_size }
+        ensures { Restarts header has_header self.old self.new }
+    {
+        self.index.clear();
+        self.sum = header.sum();
+        self.header = header;
+        self.is_begun = has_header;
+        self.is_clean = true;
+        self.mark = 0;
+        self.copied = 0;
     }
 }

@@ -4,8 +4,8 @@ use Rattle.disk.specs.Calls.{CutsFile, FailsToCut}
 use Rattle.wal.proofs.Halting.{not_cut, cut_failed, cut_then_synced, cut_failed_left, cut_then_left}
 use Rattle.wal.proofs.committing.truncate_tail.Goals as goal
 
-pub returns-then-is_cut-clause-crash : goal.returns-then-is_cut-clause-crash
-returns-then-is_cut-clause-crash g c told synced = not_cut (g.D.Disk.file c.args.log.now) (g.D.Disk.file c.args.log.now) c.args.end refl synced
+pub returns-then-is_clean-clause-crash : goal.returns-then-is_clean-clause-crash
+returns-then-is_clean-clause-crash g c told synced = not_cut (g.D.Disk.file c.args.log.now) (g.D.Disk.file c.args.log.now) c.args.end refl synced
 
 pub returns-in_err-len-clause-crash : goal.returns-in_err-len-clause-crash
 returns-in_err-len-clause-crash g c told synced = not_cut (g.D.Disk.file c.args.log.now) (g.D.Disk.file c.len.new.self) c.args.end (c.len.ensures.same told) synced
@@ -17,7 +17,7 @@ pub returns-in_err-cut-clause-crash : goal.returns-in_err-cut-clause-crash
 returns-in_err-cut-clause-crash g c told synced =
     let new = g.D.Disk.file c.cut.new.self in
     cut_failed (g.D.Disk.file c.args.log.now) new c.args.end
-    (subst (λ (f : File). (new ≡ f) ⊎ FailsToCut c.args.end f new) (c.len.ensures.same told) (c.in_err-cut.ensures.failed (c.len.ensures.tells ∙ told))) synced (c.requires.inside told)
+    (subst (λ (f : File). (new ≡ f) ⊎ FailsToCut c.args.end f new) (c.len.ensures.same told) (c.in_err-cut.ensures.failed (c.len.ensures.tells ∙ told))) synced (c.requires told)
 
 pub returns-in_err-cut-clause-left : goal.returns-in_err-cut-clause-left
 returns-in_err-cut-clause-left g c told synced =
@@ -36,4 +36,4 @@ returns-clause-crash g c told synced =
     let told_cut = c.len.ensures.tells ∙ told in
     let told_mid = c.cut.ensures.tells ∙ told_cut in
     cut_then_synced c.sync_log.result (g.D.Disk.file c.args.log.now) mid (g.D.Disk.file c.sync_log.new.log) c.args.end
-    (subst (λ (f : File). CutsFile c.args.end f mid) (c.len.ensures.same told) (c.in_ok-cut.ensures.done told_cut)) (c.sync_log.ensures.done told_mid) (c.sync_log.ensures.failed told_mid) synced (c.requires.inside told)
+    (subst (λ (f : File). CutsFile c.args.end f mid) (c.len.ensures.same told) (c.in_ok-cut.ensures.done told_cut)) (c.sync_log.ensures.done told_mid) (c.sync_log.ensures.failed told_mid) synced (c.requires told)

@@ -1,6 +1,7 @@
 use Rattle.std.proofs.Common.{◌∙◌, ℕ, List, length, ap, sym, subst}
 use Rattle.std.specs.Prelude.{IsTrue}
 use Rattle.wal.specs.Stands.{LogStands}
+use Rattle.wal.proofs.Staling.{cut_clean}
 use Rattle.wal.proofs.Cutting.{stands_cut, cut_end, cut_crash, was_cut}
 use Rattle.wal.proofs.log.Log.cut_tail.Goals as goal
 
@@ -17,7 +18,8 @@ invariant_of-self-4 g c =
     let before = λ (told_now : IsTrue (g.D.Disk.tells c.truncate_tail.new.log)). (let told : IsTrue (g.D.Disk.tells c.args.self.now.log) = sym c.truncate_tail.ensures.touches.tells_same ∙ told_now in told) in
     record {
       db_there = c.args.self.now.db_there;
-      log_cut = λ ok told_now cut. ap (λ (l : List ℕ). length l) (c.in_ok-truncate_tail.ensures.cut (before told_now)) ∙ cut_end s.header s.is_begun s.mark c.end-end.result s.sum s.index log (c.args.self.now.log_there c.if-self.false (before told_now)) c.end-end.ensures;
+      log_clean = λ ok told_now clean. cut_clean s.header s.is_begun s.mark (g.D.Disk.file c.truncate_tail.new.log).content
+          (ap (λ (l : List ℕ). length l) (c.in_ok-truncate_tail.ensures.cut (before told_now)) ∙ cut_end s.header s.is_begun s.mark c.end-end.result s.sum s.index log (c.args.self.now.log_there c.if-self.false (before told_now)) c.end-end.ensures);
       log_synced = λ ok told_now. c.in_ok-truncate_tail.ensures.synced (before told_now) (c.args.self.now.log_synced c.if-self.false (before told_now));
       log_there = λ ok told_now. subst (λ (l : List ℕ). LogStands s.header s.is_begun s.mark s.sum s.index l) (sym (c.in_ok-truncate_tail.ensures.cut (before told_now)))
           (stands_cut s.header s.is_begun s.mark c.end-end.result s.sum s.index log (c.args.self.now.log_there c.if-self.false (before told_now)) s.indexed c.end-end.ensures);
