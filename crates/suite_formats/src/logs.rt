@@ -12,6 +12,12 @@ const FIRST_HEADER: [u8; 32] = [
     0x00, 0x00, 0x00, 0x01, 0x00, 0x00, 0x00, 0x02, 0x16, 0x04, 0xCA, 0xD8, 0xBC, 0xDD, 0xA4, 0x93,
 ];
 
+/// The header that a log with the first header gets next.
+const SECOND_HEADER: [u8; 32] = [
+    0x37, 0x7F, 0x06, 0x83, 0x00, 0x2D, 0xE2, 0x18, 0x00, 0x00, 0x02, 0x00, 0x00, 0x00, 0x00, 0x01,
+    0x00, 0x00, 0x00, 0x02, 0x9E, 0x37, 0x79, 0xBB, 0x16, 0x04, 0xCA, 0xDA, 0x5B, 0x15, 0x1E, 0x4F,
+];
+
 fn first_header() -> LogHeader {
     LogHeader {
         order: WordOrder::Big,
@@ -82,6 +88,22 @@ fn the_first_header_is_written_and_read(rt: HostRuntime) -> Result<(), Fail> {
     );
     assert_eq!(rt; LogHeader::read(&FIRST_HEADER)?, Some(first_header()));
     assert_eq!(rt; LogHeader::read(&FIRST_HEADER[..31])?, None);
+    Ok(())
+}
+
+#[test]
+fn frames_of_an_older_header_do_not_count(rt: HostRuntime) -> Result<(), Fail> {
+    let alloc = rt.alloc();
+    let db = file(alloc, &filled(alloc, 9, 512)?, None)?;
+    let mut files = opened(alloc, db, file(alloc, b"", None)?)?;
+    files.commit(alloc, &vec![in alloc; image(alloc, 1, 1)?]?, 1)?;
+    let (db, log) = files.into_disks();
+    let mut bytes = Vec::from_slice(alloc, &SECOND_HEADER)?;
+    bytes.extend_from_slice(&log.content()[32..])?;
+    let mut again = opened(alloc, db, MemDisk::new(alloc, bytes, None, None)?)?;
+    let mut out = vec![in alloc; 0; 512]?;
+    again.page(again.begin(), 1, &mut out)?;
+    assert_eq!(rt; first_byte(&out), 9);
     Ok(())
 }
 
