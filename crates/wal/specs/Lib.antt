@@ -2,6 +2,7 @@ pub mod Indexed
 pub mod Pages
 pub mod Committed
 pub mod Stands
+pub mod Alone
 pub mod Stale
 pub mod State
 pub mod Sizes
@@ -10,8 +11,10 @@ pub mod View
 pub mod LogState
 pub mod Opened
 pub mod Commits
+pub mod Copies
 pub mod Chains
 pub mod Crashes
 pub mod Restarts
+pub mod Anew
 pub mod ErrorCauses
 pub mod Laws
