@@ -14,6 +14,7 @@ pub mod Seeing
 pub mod Sighting
 pub mod Sounding
 pub mod Sparing
+pub mod Standing
 pub mod Undoing
 pub mod WriterPages
 pub mod WriterSights

@@ -1,6 +1,10 @@
 //! The pages that a transaction has changed.
 
-ghost use Rattle.std.specs.Prelude.{◌+◌, ◌≤◌, length, vec_capacity};
+ghost use Rattle.std.specs.Prelude.{◌≡◌, ◌+◌, ◌≤◌, length, vec_capacity, IsTrue};
+ghost use Rattle.wal.specs.Alone.{StandsAlone};
+ghost use Rattle.wal.specs.Anew.{begins_anew};
+ghost use Rattle.wal.specs.LogState.{state_of};
+ghost use Rattle.pager.specs.Views.{Tells, newest_view};
 ghost use Rattle.pager.specs.Undo.{IsKept, IsKept-prop, newest_stamp, older_than};
 
 use crate::heading::rehead;
@@ -13,6 +17,15 @@ use sqlval::limits::{MAX_DATABASE_BYTES, MAX_PAGES};
 use sqlval::{Damage, Fault, R};
 use std::alloc::Global;
 use wal::{Log, PageImage, Snapshot};
+
+/// Whether a commit begins the log anew: it may, and all frames are copied, so that the database file alone has the newest commit's pages.
+fn begins_anew<D: Disk + Drop>(log: &Log<D>, may_restart: bool) -> bool
+    ensures is { result ≡ begins_anew (state_of log.now) may_restart }
+    ensures alone { IsTrue result → Tells log.now → StandsAlone (newest_view log.now).db (newest_view log.now).page_size (newest_view log.now).frames
+        (newest_view log.now).size }
+{
+    may_restart && log.is_copied()
+}
 
 /// The pages that a transaction has changed, by rising number, page 1 among them, over a snapshot.
 #[derive(Drop)]
@@ -38,7 +51,8 @@ impl Writer {
     ghost use Rattle.std.specs.Prelude.{◌≡◌, ◌⊎◌, ◌↔◌, ◌<◌, ◌≤◌, ◌+◌, ℕ, List, replicate, slice_index_or, [], ◌∷◌, ◌++◌, length, drop, Ok, true, false, IfOk, IfErr, IfSome, IfNone, IsTrue, OnOk, vec_capacity};
     ghost use Rattle.sqlval.specs.Faults.{IsNotDiskFault, IsOutside};
     ghost use Rattle.sqlval.specs.declared.fault.Fault.TheVariants.{Memory, Io};
-    ghost use Rattle.wal.specs.Commits.{IsStateAfter, KeepsDisks};
+    ghost use Rattle.wal.specs.Anew.{IsStateCommitted};
+    ghost use Rattle.wal.specs.Commits.{KeepsDisks};
     ghost use Rattle.wal.specs.LogState.{db_of, state_of, log_of, seen_by, size_of};
     ghost use Rattle.wal.specs.Laws.{IsAmong, IsNotAmong};
     ghost use Rattle.wal.specs.ErrorCauses.{HasCause};
@@ -138,24 +152,31 @@ impl Writer {
     }
 
     /// Commits the pages: page 1 gets the next change counter and the size, and the next schema cookie where an object
-    /// was made. After a refusal the pages are as they were.
-    pub fn commit<D: Disk + Drop>(&mut self, alloc: Global, log: &mut Log<D>) -> R<()>
+    /// was made. After a refusal the pages are as they were. Where nobody else sees the log's frames (`may_restart`) and all of them
+    /// are copied, the log is begun anew.
+    pub fn commit<D: Disk + Drop>(
+        &mut self,
+        alloc: Global,
+        log: &mut Log<D>,
+        may_restart: bool,
+    ) -> R<()>
         ensures commits { (page : List ℕ) (header : Header) → MayCommit log.old self.old page header
-            → OnOk result (CommitsPages log.old self.old page header log.new) }
+            → OnOk result (CommitsPages log.old may_restart self.old page header log.new) }
         ensures refused { (page : List ℕ) (header : Header) → MayCommit log.old self.old page header
-            → IfErr result (IsRefusedCommit log.old self.old page header log.new self.new) }
+            → IfErr result (IsRefusedCommit log.old may_restart self.old page header log.new self.new) }
         // A crash leaves the frames of the newest view, or those of the one that the commit leaves, unless the log is as it was.
         ensures crash { (page : List ℕ) (header : Header) → MayCommit log.old self.old page header
             → (log_of log.new ≡ log_of log.old) ⊎ LeavesCommit log.old self.old page header log.new }
         ensures known { (page : List ℕ) (header : Header) → MayCommit log.old self.old page header
-            → IsStateAfter result (state_of log.old) (length (changes_of self.old)) (pages_of self.old) (state_of log.new) }
+            → IsStateCommitted may_restart result (state_of log.old) (length (changes_of self.old)) (pages_of self.old) (state_of log.new) }
         ensures disks { KeepsDisks D.tells D.failures (db_of log.old) (db_of log.new) (log_of log.old) (log_of log.new) }
         ensures cause { HasCause true result log.old log.new }
     {
         let old = self.header()?;
         let new = self.next_header(&old);
         self.set_header(&new);
-        if let Err(fault) = log.commit(alloc, &self.pages, self.size) {
+        let restarts = begins_anew(log, may_restart);
+        if let Err(fault) = log.commit(alloc, &self.pages, self.size, restarts) {
             self.set_header(&old);
             return Err(fault);
         }

@@ -1,9 +1,11 @@
 use Rattle.std.proofs.Common.{◌≡◌, ◌∙◌, inr, sym, subst}
 use Rattle.dbheader.specs.declared.fields.Header.{Header}
+use Rattle.wal.specs.Anew.{base_of}
+use Rattle.wal.specs.LogState.{state_of}
 use Rattle.pager.specs.Limits.{pages_of}
 use Rattle.pager.specs.Views.{changes_of}
 use Rattle.pager.specs.Writers.{IsNextHeader, Reheads, makes_objects}
-use Rattle.pager.proofs.CommitViews.{committed, has_pages, known_after, left_either, may_header, next_header_there, not_refused, refused_commit, refused_leaves, same_header}
+use Rattle.pager.proofs.CommitViews.{all_committed, all_left, committed_left, has_pages, known_after, may_header, next_header_there, not_refused, refused_commit, refused_leaves, same_header}
 use Rattle.pager.proofs.Reheading.{IsReheaded}
 use Rattle.pager.proofs.Restoring.{IsReset}
 use Rattle.pager.proofs.writer.Writer.commit.Goals as goal
@@ -18,15 +20,16 @@ returns-clause-commits g c page header may =
     let re : IsReheaded c.args.self.now c.set_header.new.self c.next_header-new.result = record { pages = c.set_header.ensures.reheads header has; rest = c.set_header.ensures.rest } in
     let is : c.in_ok-old.old ≡ header = same_header _ _ (sym c.in_ok-old.was ∙ c.header.ensures.only header may.whole has) in
     let next = subst (λ (h : Header). IsNextHeader h c.next_header-new.result (makes_objects c.args.self.now) (pages_of c.args.self.now)) is (c.next_header-new.ensures.next (has_pages c.args.self.now may.whole)) in
-    committed c.args.log.now c.commit.new.self c.args.self.now c.set_header.new.self page header c.next_header-new.result may re c.deref.result.now c.deref.ensures.value
+    all_committed c.args.log.now c.commit.new.self c.args.self.now c.set_header.new.self page header c.next_header-new.result may re c.args.may_restart c.begins_anew-restarts.result c.begins_anew-restarts.ensures.is
+    (λ begins. c.begins_anew-restarts.ensures.alone begins may.tells) c.deref.result.now c.deref.ensures.value
     (c.in_default.ensures.done may.tells.log) c.in_default.ensures.known c.commit.ensures.same next
 
 pub returns-clause-known : goal.returns-clause-known
 returns-clause-known g c page header may =
     let has = may_header c.args.log.now c.args.self.now page header may in
     let re : IsReheaded c.args.self.now c.set_header.new.self c.next_header-new.result = record { pages = c.set_header.ensures.reheads header has; rest = c.set_header.ensures.rest } in
-    known_after c.args.log.now c.commit.new.self c.args.self.now c.set_header.new.self page header c.next_header-new.result may re c.deref.result.now c.deref.ensures.value
-    (c.in_default.ensures.done may.tells.log) c.in_default.ensures.known c.commit.ensures.same
+    known_after c.args.log.now c.commit.new.self c.args.self.now c.set_header.new.self page header c.next_header-new.result may re c.args.may_restart c.begins_anew-restarts.result c.begins_anew-restarts.ensures.is
+    (λ begins. c.begins_anew-restarts.ensures.alone begins may.tells) c.deref.result.now c.deref.ensures.value c.in_default.ensures.known
 
 pub returns-in-Err-clause-refused : goal.returns-in-Err-clause-refused
 returns-in-Err-clause-refused g c page header may =
@@ -40,7 +43,7 @@ returns-in-Err-clause-refused g c page header may =
     } in
     let one : IsReset c.args.self.now c.set_header.new.self = record { first = c.set_header.ensures.first; bytes = c.set_header.ensures.bytes; saved = c.set_header.ensures.log.0; marks = c.set_header.ensures.log.1 } in
     let two : IsReset c.set_header.new.self c.set_header-in-Err.new.self = record { first = c.set_header-in-Err.ensures.first; bytes = c.set_header-in-Err.ensures.bytes; saved = c.set_header-in-Err.ensures.log.0; marks = c.set_header-in-Err.ensures.log.1 } in
-    refused_commit c.args.log.now c.commit.new.self c.args.self.now c.set_header.new.self page header c.next_header-new.result may re c.set_header-in-Err.new.self c.deref.result.now c.in-Err.fault _ _ again one two c.deref.ensures.value
+    refused_commit c.args.log.now c.commit.new.self c.args.self.now c.set_header.new.self page header c.next_header-new.result may re c.args.may_restart c.begins_anew-restarts.result c.begins_anew-restarts.ensures.is c.set_header-in-Err.new.self c.deref.result.now c.in-Err.fault _ _ again one two c.deref.ensures.value
     c.in-Err.ensures.refused c.in-Err.ensures.known c.commit.ensures.same
 
 pub returns-in_err-old-clause-crash : goal.returns-in_err-old-clause-crash
@@ -53,8 +56,9 @@ returns-clause-crash g c page header may =
     let re : IsReheaded c.args.self.now c.set_header.new.self c.next_header-new.result = record { pages = c.set_header.ensures.reheads header has; rest = c.set_header.ensures.rest } in
     let is : c.in_ok-old.old ≡ header = same_header _ _ (sym c.in_ok-old.was ∙ c.header.ensures.only header may.whole has) in
     let next = subst (λ (h : Header). IsNextHeader h c.next_header-new.result (makes_objects c.args.self.now) (pages_of c.args.self.now)) is (c.next_header-new.ensures.next (has_pages c.args.self.now may.whole)) in
-    inr (left_either c.args.log.now c.commit.new.self c.args.self.now c.set_header.new.self page header c.next_header-new.result may re c.deref.result.now c.deref.ensures.value
-    (c.in_default.ensures.done may.tells.log) c.in_default.ensures.known c.commit.ensures.same next (c.commit.ensures.crash may.tells.whole may.tells.log).either (c.commit.ensures.crash may.tells.whole may.tells.log).left)
+    inr (committed_left c.args.log.now c.commit.new.self c.args.self.now c.set_header.new.self page header c.next_header-new.result may re c.args.may_restart c.begins_anew-restarts.result c.begins_anew-restarts.ensures.is
+    (λ begins. c.begins_anew-restarts.ensures.alone begins may.tells) c.deref.result.now c.deref.ensures.value (c.in_default.ensures.done may.tells.log)
+    (c.commit.ensures.crash may.tells.whole may.tells.log) next)
 
 pub returns-in-Err-clause-crash : goal.returns-in-Err-clause-crash
 returns-in-Err-clause-crash g c page header may =
@@ -62,5 +66,7 @@ returns-in-Err-clause-crash g c page header may =
     let re : IsReheaded c.args.self.now c.set_header.new.self c.next_header-new.result = record { pages = c.set_header.ensures.reheads header has; rest = c.set_header.ensures.rest } in
     let is : c.in_ok-old.old ≡ header = same_header _ _ (sym c.in_ok-old.was ∙ c.header.ensures.only header may.whole has) in
     let next = subst (λ (h : Header). IsNextHeader h c.next_header-new.result (makes_objects c.args.self.now) (pages_of c.args.self.now)) is (c.next_header-new.ensures.next (has_pages c.args.self.now may.whole)) in
-    refused_leaves c.args.log.now c.commit.new.self c.args.self.now c.set_header.new.self page header c.next_header-new.result may re c.deref.result.now c.in-Err.fault _ _ c.deref.ensures.value
-    c.in-Err.ensures.refused next (c.commit.ensures.crash may.tells.whole may.tells.log).either (c.commit.ensures.crash may.tells.whole may.tells.log).left
+    refused_leaves c.args.log.now c.commit.new.self c.args.self.now c.set_header.new.self page header c.next_header-new.result may re (base_of (state_of c.args.log.now) c.begins_anew-restarts.result) c.deref.result.now c.in-Err.fault _ _ c.deref.ensures.value
+    c.in-Err.ensures.refused
+    (λ few. all_left c.args.log.now c.commit.new.self c.args.self.now c.set_header.new.self page header c.next_header-new.result may re c.args.may_restart c.begins_anew-restarts.result c.begins_anew-restarts.ensures.is
+        (λ begins. c.begins_anew-restarts.ensures.alone begins may.tells) c.deref.result.now c.deref.ensures.value (c.commit.ensures.crash may.tells.whole may.tells.log) few next)
