@@ -20,3 +20,4 @@ pub mod Chance
 pub mod Views
 pub mod Changes
 pub mod Settled
+pub mod Standing

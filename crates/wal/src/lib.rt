@@ -2,6 +2,7 @@
 #![tactic(auto)]
 
 mod committing;
+mod copying;
 mod indexed;
 mod laws;
 mod log;

@@ -1,6 +1,7 @@
 use Rattle.std.proofs.Common.{◌∙◌, ℕ, List, length, ap, sym, subst}
 use Rattle.std.specs.Prelude.{IsTrue}
 use Rattle.wal.specs.Stands.{LogStands}
+use Rattle.wal.proofs.Standing.{copied_cut}
 use Rattle.wal.proofs.Staling.{cut_clean}
 use Rattle.wal.proofs.Cutting.{stands_cut, cut_end, cut_crash, was_cut}
 use Rattle.wal.proofs.log.Log.cut_tail.Goals as goal
@@ -17,7 +18,9 @@ invariant_of-self-4 g c =
     let log = (g.D.Disk.file c.args.self.now.log).content in
     let before = λ (told_now : IsTrue (g.D.Disk.tells c.truncate_tail.new.log)). (let told : IsTrue (g.D.Disk.tells c.args.self.now.log) = sym c.truncate_tail.ensures.touches.tells_same ∙ told_now in told) in
     record {
-      db_there = c.args.self.now.db_there;
+      db_there = λ ok told. c.args.self.now.db_there c.if-self.false told;
+      db_copied = λ ok told told_now. copied_cut s c.end-end.result (g.D.Disk.file c.args.self.now.db).content log (g.D.Disk.file c.truncate_tail.new.log).content
+          (c.args.self.now.log_there c.if-self.false (before told_now)) c.end-end.ensures (c.in_ok-truncate_tail.ensures.cut (before told_now)) (c.args.self.now.db_copied c.if-self.false told (before told_now));
       log_clean = λ ok told_now clean. cut_clean s.header s.is_begun s.mark (g.D.Disk.file c.truncate_tail.new.log).content
           (ap (λ (l : List ℕ). length l) (c.in_ok-truncate_tail.ensures.cut (before told_now)) ∙ cut_end s.header s.is_begun s.mark c.end-end.result s.sum s.index log (c.args.self.now.log_there c.if-self.false (before told_now)) c.end-end.ensures);
       log_synced = λ ok told_now. c.in_ok-truncate_tail.ensures.synced (before told_now) (c.args.self.now.log_synced c.if-self.false (before told_now));

@@ -21,7 +21,7 @@ returns-clause-read g c told_db told until =
     (λ read. filed_page s.header s.is_begun s.mark c.args.snapshot.mark s.sum s.index db (g.D.Disk.file c.args.self.now.log).content c.read_at-2.new.buf c.args.number s.page_size
     (c.args.self.now.log_there c.if-self.false told) (c.in_default.ensures.none refl) until (omega (arith, c.if-number-eq0.false)) (omega (arith, c.args.snapshot.few, c.if-number-snapshot.false))
     (record {
-      whole = omega (arith, c.if-number-size.false, c.args.self.now.db_there told_db);
+      whole = omega (arith, c.if-number-size.false, c.args.self.now.db_there c.if-self.false told_db);
       bytes_are = read ∙ ap (λ (n : ℕ). take n (drop ((c.args.number - 1) * s.page_size) db)) (let e : length c.args.out.now ≡ s.page_size = omega (arith, c.if-out-self.false) in e);
     }))
     (c.read_at-2.ensures.read told_db)
@@ -33,5 +33,5 @@ returns-then-number-size-clause-refused g c =
       refl,
       λ given. missing_page s.header s.is_begun s.mark c.args.snapshot.mark s.sum s.index (g.D.Disk.file c.args.self.now.db).content (g.D.Disk.file c.args.self.now.log).content given.3.bytes c.args.number s.page_size
           (c.args.self.now.log_there c.if-self.false given.1) (c.in_default.ensures.none refl) given.2 given.3.first (omega (arith, c.args.snapshot.few, given.3.last))
-          (omega (arith, c.args.self.now.db_there given.0, c.if-number-size.true)) given.3.is,
+          (omega (arith, c.args.self.now.db_there c.if-self.false given.0, c.if-number-size.true)) given.3.is,
     ))

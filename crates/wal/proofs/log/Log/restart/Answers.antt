@@ -55,7 +55,8 @@ invariant_of-self-3 g c =
     (λ clean. c.args.self.now.log_clean c.if-self.false (told_before now) clean) c.end-end.ensures is_next in
     let written = λ (now : IsTrue (g.D.Disk.tells c.clean_and_renew.new.log)). c.in_ok-clean_and_renew.ensures.written (told_before now) in
     record {
-      db_there = λ told. omega (arith, is.db_len, c.args.self.now.db_there told);
+      db_there = λ ok told. omega (arith, is.db_len, c.args.self.now.db_there c.if-self.false told);
+      db_copied = λ ok told now some all. absurd (omega (arith, some, is.mark));
       log_clean = λ ok now clean. clean_as next made.header true made.is_begun 0 made.mark new is.header_is is.is_begun is.mark (clean_begun next 0 new (subst (IsStaleFrom next 0) (sym (written now)) (stale now)));
       log_synced = λ ok now. c.in_ok-clean_and_renew.ensures.synced (told_before now) (c.args.self.now.log_synced c.if-self.false (told_before now));
       log_there = λ ok now. stands_as next made.header true made.is_begun 0 made.mark (header_sum next) made.sum made.index new is.header_is is.is_begun is.mark is.sum_is
