@@ -136,8 +136,7 @@ module _ {D : Type 0} {g : Ghosts D} where
           record {
             size = re.rest.0;
             others = λ number bytes other low high.
-                (let last : number ≤ pages_of writer = omega (arith, high, re.rest.0) in
-                (
+                (let last : number ≤ pages_of writer = omega (arith, high, re.rest.0) in (
                   (λ has. (under.shows number bytes low last).0 (reheaded_forth base_view writer mid next re may.whole number bytes other has)),
                   (λ has. reheaded_back base_view writer mid next re may.whole number bytes other ((under.shows number bytes low last).1 has)),
                 ));
@@ -247,7 +246,7 @@ module _ {D : Type 0} {g : Ghosts D} where
       choice b is = ap (λ (x : Bool). if x then restarted (state_of files) else state_of files) is
 
       restarted_none : (begun : File) → commits_of (restarted (state_of files)) begun.content ≡ []
-      restarted_none begun = nil_from_length (omega (arith, no_more_frames (header_of (restarted (state_of files))) begun.content 0))
+      restarted_none begun = nil_from_length (commits_of (restarted (state_of files)) begun.content) (omega (arith, no_more_frames (header_of (restarted (state_of files))) begun.content 0))
 
       pub all_committed : CommitsOver (state_of files) restarts fs (g.file (log_of files)) (g.file (log_of new)) → state_of new ≡ grown (base_of (state_of files) restarts) (length ps) (pages_of mid)
           → KeepsDisks g.tells g.failures (db_of files) (db_of new) (log_of files) (log_of new) → IsNextHeader header next (makes_objects writer) (pages_of writer) → CommitsPages files may_restart writer page header new
@@ -257,13 +256,13 @@ module _ {D : Type 0} {g : Ghosts D} where
           by_anew false is =
               let before_is : state_of new ≡ grown (state_of files) (length ps) (pages_of mid) = known ∙ ap (λ (k : LogState). grown k (length ps) (pages_of mid)) (choice false is) in
               committed before (under_grows files writer page header may) (state_of files) (below_grows files) may_restart ps ps_is (g.file (log_of files)) refl (commits.grows is) before_is keeps next_is
-                (λ grows snapshot le. ap (λ (k : LogState). frames_under (header_of k) (g.file (log_of new)).content (seen_by snapshot)) before_is
-                  ∙ seen_stays (state_of files) fs (g.file (log_of files)) (g.file (log_of new)) (length ps) (pages_of mid) (seen_by snapshot) (commits.grows is) le)
+              (λ grows snapshot le. ap (λ (k : LogState). frames_under (header_of k) (g.file (log_of new)).content (seen_by snapshot)) before_is
+              ∙ seen_stays (state_of files) fs (g.file (log_of files)) (g.file (log_of new)) (length ps) (pages_of mid) (seen_by snapshot) (commits.grows is) le)
           by_anew true is =
               let made = commits.anew is in
               committed [] (under_anew files writer page header may (stands is)) (restarted (state_of files)) (below_anew files) may_restart ps ps_is made.begun (restarted_none made.begun) made.commits
-                (known ∙ ap (λ (k : LogState). grown k (length ps) (pages_of mid)) (choice true is)) keeps next_is
-                (λ grows snapshot le. absurd (false≢true (sym grows ∙ sym (anew_same (state_of files) may_restart restarts restarts_is) ∙ is)))
+              (known ∙ ap (λ (k : LogState). grown k (length ps) (pages_of mid)) (choice true is)) keeps next_is
+              (λ grows snapshot le. absurd (false≢true (sym grows ∙ sym (anew_same (state_of files) may_restart restarts restarts_is) ∙ is)))
 
       pub known_after : state_of new ≡ grown (base_of (state_of files) restarts) (length ps) (pages_of mid) → state_of new ≡ grown (base_of (state_of files) may_restart) (length (changes_of writer)) (pages_of writer)
       known_after known = known ∙ ap (λ (k : LogState). grown k (length ps) (pages_of mid)) base_is
@@ -284,11 +283,11 @@ module _ {D : Type 0} {g : Ghosts D} where
           by_anew : (b : Bool) → anew ≡ b → LeavesCommit files writer page header new
           by_anew false is =
               leaves before (under_grows files writer page header may) (state_of files) (below_grows files) ps ps_is (subst (λ (k : LogState). k.frames + length ps ≤ 1000000) (choice false is) le) next_is
-                (always_weaker (g.file (log_of files)) (g.file (log_of new)) (LeavesAmong (state_of files).page_size before before (before ++ fs)) (LeavesEither (state_of files).page_size before (before ++ fs)) among (writes.grows is).either)
-                (writes.grows is).left
+              (always_weaker (g.file (log_of files)) (g.file (log_of new)) (LeavesAmong (state_of files).page_size before before (before ++ fs)) (LeavesEither (state_of files).page_size before (before ++ fs)) among (writes.grows is).either)
+              (writes.grows is).left
           by_anew true is =
               leaves [] (under_anew files writer page header may (stands is)) (restarted (state_of files)) (below_anew files) ps ps_is (subst (λ (k : LogState). k.frames + length ps ≤ 1000000) (choice true is) le) next_is
-                (writes.anew is).among (writes.anew is).left
+              (writes.anew is).among (writes.anew is).left
 
       few_committed : CommitsOver (state_of files) restarts fs (g.file (log_of files)) (g.file (log_of new)) → (base_of (state_of files) restarts).frames + length ps ≤ 1000000
       few_committed commits = by_anew anew refl

@@ -147,6 +147,15 @@ same_to a b (suc n) same = ap (λ (map : PageMap). map ++ found_in a (suc n) ∷
 pub maps_alike : (a b : View) → a.size ≡ b.size → ((number : ℕ) (bytes : List ℕ) → ViewHas a number bytes ↔ ViewHas b number bytes) → pages_in a ≡ pages_in b
 maps_alike a b size same = ap (pages_to a) size ∙ same_to a b b.size same
 
+-- and where they show the same from page 1 on
+pub same_within : (a b : View) (n : ℕ) → ((number : ℕ) (bytes : List ℕ) → 1 ≤ number → number ≤ n → ViewHas a number bytes ↔ ViewHas b number bytes) → pages_to a n ≡ pages_to b n
+same_within a b zero same = refl
+same_within a b (suc n) same = ap (λ (map : PageMap). map ++ found_in a (suc n) ∷ []) (same_within a b n (λ number bytes low high. same number bytes low (omega (arith, high))))
+    ∙ ap (λ (page : List ℕ). pages_to b n ++ page ∷ []) (same_found a b (suc n) (λ bytes. same (suc n) bytes (omega arith) (omega arith)))
+
+pub maps_within : (a b : View) → a.size ≡ b.size → ((number : ℕ) (bytes : List ℕ) → 1 ≤ number → number ≤ b.size → ViewHas a number bytes ↔ ViewHas b number bytes) → pages_in a ≡ pages_in b
+maps_within a b size same = ap (pages_to a) size ∙ same_within a b b.size same
+
 -- ---- pages that are put
 
 module _ (view : View) (page : PageImage) (old new : Writer) (puts : ReplacesPages (page ∷ []) old new) where

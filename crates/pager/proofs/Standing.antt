@@ -104,7 +104,7 @@ module _ {D : Type 0} {g : Ghosts D} where
           | inr within ↦ seen_to own writer number bytes may.whole (inr (
             none.0,
             subst (λ (fs : List Framed). IsPageIn own.db own.page_size fs number bytes) (sym own_frames)
-              (alone_forth own.db own.page_size before (state_of files).size alone number low within bytes none.1),
+                (alone_forth own.db own.page_size before (state_of files).size alone number low within bytes none.1),
           ))
         ]
 
@@ -115,6 +115,6 @@ module _ {D : Type 0} {g : Ghosts D} where
           | inr within ↦ seen_to (over []) writer number bytes may.whole (inr (
             none.0,
             alone_back own.db own.page_size before (state_of files).size alone number low within bytes
-              (subst (λ (fs : List Framed). IsPageIn own.db own.page_size fs number bytes) own_frames none.1),
+                (subst (λ (fs : List Framed). IsPageIn own.db own.page_size fs number bytes) own_frames none.1),
           ))
         ]

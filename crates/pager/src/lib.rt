@@ -6,6 +6,7 @@ mod laws;
 mod marks;
 mod pruning;
 mod reading;
+mod restarting;
 mod saved;
 mod sights;
 mod sizes;

@@ -1,14 +1,11 @@
 //! The pages that a transaction has changed.
 
-ghost use Rattle.std.specs.Prelude.{◌≡◌, ◌+◌, ◌≤◌, length, vec_capacity, IsTrue};
-ghost use Rattle.wal.specs.Alone.{StandsAlone};
-ghost use Rattle.wal.specs.Anew.{begins_anew};
-ghost use Rattle.wal.specs.LogState.{state_of};
-ghost use Rattle.pager.specs.Views.{Tells, newest_view};
+ghost use Rattle.std.specs.Prelude.{◌+◌, ◌≤◌, length, vec_capacity};
 ghost use Rattle.pager.specs.Undo.{IsKept, IsKept-prop, newest_stamp, older_than};
 
 use crate::heading::rehead;
 use crate::reading::{header_of, read_page};
+use crate::restarting::begins_anew;
 use crate::saved::{Mark, Saved, ends_within, place_of, refill};
 use crate::sizes::is_too_large;
 use dbheader::Header;
@@ -17,15 +14,6 @@ use sqlval::limits::{MAX_DATABASE_BYTES, MAX_PAGES};
 use sqlval::{Damage, Fault, R};
 use std::alloc::Global;
 use wal::{Log, PageImage, Snapshot};
-
-/// Whether a commit begins the log anew: it may, and all frames are copied, so that the database file alone has the newest commit's pages.
-fn begins_anew<D: Disk + Drop>(log: &Log<D>, may_restart: bool) -> bool
-    ensures is { result ≡ begins_anew (state_of log.now) may_restart }
-    ensures alone { IsTrue result → Tells log.now → StandsAlone (newest_view log.now).db (newest_view log.now).page_size (newest_view log.now).frames
-        (newest_view log.now).size }
-{
-    may_restart && log.is_copied()
-}
 
 /// The pages that a transaction has changed, by rising number, page 1 among them, over a snapshot.
 #[derive(Drop)]

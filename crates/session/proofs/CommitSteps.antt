@@ -1,7 +1,7 @@
 -- COMMIT is a step of the machine.
 use Rattle.std.proofs.Common.{◌≡◌, ◌⊎◌, ◌<◌, ◌≤◌, inl, inr, refl, sym, ap, subst, ◌∙◌, ℕ, ◌-◌, zero, suc, List, [], ◌∷◌, ◌++◌, length, Bool, true, false, arith}
 use Rattle.std.proofs.lemmas.Bool.{false≢true}
-use Rattle.std.specs.Prelude.{⊤, ◌||◌, Option, Result, Ok, Err, slice_set, unwrap_or}
+use Rattle.std.specs.Prelude.{⊤, ◌||◌, not, Option, Result, Ok, Err, slice_set, unwrap_or}
 use Rattle.std.specs.List.{list_any}
 use Rattle.std.specs.Result.{is_err}
 use Rattle.std.proofs.lemmas.List.{length-append}
@@ -25,6 +25,7 @@ use Rattle.session.specs.ConnectionState.{files_of}
 use Rattle.session.specs.Machine.{Machine, Connection, Idle, InTransactionOf, Reply, Rows, Refused, Writes, another, connection, is_writing, last_place, newest, with_connection}
 use Rattle.session.specs.Outcomes.{Commits, Gives, RefusedBy, outcome}
 use Rattle.session.specs.Representation.{AreParked, Beside, CommitsBy, IsGivenUp, IsWritingIn, RepresentsRunning, IsTransaction, ShowTheSame, StepsOn, StepsTo, beside_in, committed_at, done_reply, is_idle, is_reading, newest_tables}
+use Rattle.session.specs.Seats.{holds_snapshot, sees_snapshot}
 use Rattle.session.specs.declared.seats.Seat.{Seat}
 use Rattle.session.specs.Writers.{IsWriter}
 use Rattle.session.specs.Steps.{Allowed, after_commit, is_connection, is_free}
@@ -46,6 +47,10 @@ longer : (history : List Database) (db : Database) (i : ℕ) → i < length hist
 longer [] db i within = absurd (omega (arith, within))
 longer (d ∷ history) db zero within = refl
 longer (d ∷ history) db (suc i) within = longer history db i (omega (arith, within))
+
+any_after : (p q : Bool) → q ≡ true → (p || q) ≡ true
+any_after true q is = refl
+any_after false q is = is
 
 none_after : (p q : Bool) → (p || q) ≡ false → (p ≡ false) × (q ≡ false)
 none_after true q none = absurd (false≢true (sym none))
@@ -84,7 +89,7 @@ module _ {D : Type 0} {g : Ghosts D} where
   -- ---- what a commit shows
 
   -- what another connection reads, it reads still
-  older_parked : (old new : Log D g) (history : List Database) (db : Database) (catalog : SavedCatalogs) (t : Transaction) (k : Connection) → KeepsSnapshots old new → 1 ≤ length history → is_writing k ≡ false
+  older_parked : (old new : Log D g) (history : List Database) (db : Database) (catalog : SavedCatalogs) (t : Transaction) (k : Connection) → (sees_snapshot t ≡ true → KeepsSnapshots old new) → 1 ≤ length history → is_writing k ≡ false
       → IsTransaction old catalog history t k → IsTransaction new catalog (history ++ db ∷ []) t k
   older_parked old new history db catalog transaction.Idle k keeps some not is = is
   older_parked old new history db catalog transaction.Begun k keeps some not is = is
@@ -96,21 +101,24 @@ module _ {D : Type 0} {g : Ghosts D} where
         is.0,
         is.1,
         record {
-          shows = subst (λ (v : View). ShowsDatabase v (committed_in catalog) (committed_at (history ++ db ∷ []) is.0)) (sym (keeps.at s within.1))
+          shows = subst (λ (v : View). ShowsDatabase v (committed_in catalog) (committed_at (history ++ db ∷ []) is.0)) (sym ((keeps refl).at s within.1))
               (subst (λ (d : Database). ShowsDatabase (view_at old s) (committed_in catalog) d) (sym (longer history db is.0 within.0)) is.2.shows);
-          age = inr (omega (arith, within.0, length-append history (db ∷ [])), omega (arith, within.1, keeps.more));
+          age = inr (omega (arith, within.0, length-append history (db ∷ [])), omega (arith, within.1, (keeps refl).more));
         },
       )
   older_parked old new history db catalog (transaction.Writing w) k keeps some not is = absurd (false≢true (sym not ∙ ap is_writing is.is))
 
-  all_older : (old new : Log D g) (history : List Database) (db : Database) (ss : List Seat) (ks : List Connection) → KeepsSnapshots old new → 1 ≤ length history → list_any is_writing ks ≡ false
+  all_older : (old new : Log D g) (history : List Database) (db : Database) (ss : List Seat) (ks : List Connection) → (list_any holds_snapshot ss ≡ true → KeepsSnapshots old new) → 1 ≤ length history → list_any is_writing ks ≡ false
       → AreParked old history ss ks → AreParked new (history ++ db ∷ []) ss ks
   all_older old new history db [] [] keeps some not are = tt
   all_older old new history db [] (k ∷ ks) keeps some not are = absurd are
   all_older old new history db (s ∷ ss) [] keeps some not are = absurd are
   all_older old new history db (s ∷ ss) (k ∷ ks) keeps some not are =
       let none = none_after (is_writing k) (list_any is_writing ks) not in
-      (older_parked old new history db s.catalog s.transaction k keeps some none.0 are.0, all_older old new history db ss ks keeps some none.1 are.1)
+      (
+        older_parked old new history db s.catalog s.transaction k (λ sees. keeps (ap (λ (b : Bool). b || list_any holds_snapshot ss) sees)) some none.0 are.0,
+        all_older old new history db ss ks (λ others. keeps (any_after (holds_snapshot s) (list_any holds_snapshot ss) others)) some none.1 are.1,
+      )
 
   pub committed_shown : (old before new : Connections D g) (m : Machine) (shown : RepresentsRunning old m) (made : Database) → ShowTheSame (files_of old) (files_of before) → beside_in before ≡ beside_in old → CommitsDatabase before made new
       → new.transaction ≡ transaction.Idle → another is_writing m old.connection ≡ false → RepresentsRunning new (after_commit m old.connection made)
@@ -129,7 +137,8 @@ module _ {D : Type 0} {g : Ghosts D} where
     transaction = subst (λ (t : Transaction). IsTransaction (files_of new) new.catalog (after_commit m old.connection made).history t Idle) (sym idle) (refl, has.all, has.savepoints);
     parked = subst (AreParked (files_of new) (m.history ++ made ∷ []) new.parked.items) set_over
         (subst (λ (ss : List Seat). AreParked (files_of new) (m.history ++ made ∷ []) ss (slice_set m.connections (old.connection - 1) Idle)) (sym (has.parked ∙ ap (λ (b : Beside). b.parked) beside))
-        (all_older (files_of before) (files_of new) m.history made old.parked.items (slice_set m.connections (old.connection - 1) Idle) has.older shown.some free
+        (all_older (files_of before) (files_of new) m.history made old.parked.items (slice_set m.connections (old.connection - 1) Idle)
+        (λ others. has.older (ap not (ap (λ (b : Beside). list_any holds_snapshot b.parked) beside ∙ others))) shown.some free
         (still_parked (files_of old) (files_of before) m.history old.parked.items (slice_set m.connections (old.connection - 1) Idle) same shown.parked)));
     sole = one_set m.connections (old.connection - 1) Idle free;
   }

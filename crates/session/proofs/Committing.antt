@@ -1,6 +1,6 @@
 -- What a commit of a writer's pages leaves of the database that they hold.
-use Rattle.std.proofs.Common.{◌≡◌, ◌⊎◌, ◌<◌, ◌≤◌, inl, inr, refl, sym, ap, subst, ◌∙◌, List, length, Bool, false}
-use Rattle.std.specs.Prelude.{Err}
+use Rattle.std.proofs.Common.{◌≡◌, ◌⊎◌, ◌<◌, ◌≤◌, inl, inr, refl, sym, ap, subst, ◌∙◌, ℕ, List, length, Bool, true, false, arith}
+use Rattle.std.specs.Prelude.{Err, if◌then◌else◌}
 use Rattle.std.proofs.lemmas.Bool.{false≢true}
 use Rattle.disk.specs.File.{IsSynced}
 use Rattle.disk.specs.declared.device.Disk.{Ghosts}
@@ -8,7 +8,9 @@ use Rattle.sqlval.specs.declared.fault.Fault.{Fault}
 use Rattle.sqlval.specs.declared.fault.Fault.TheVariants as fault
 use Rattle.wal.specs.Committed.{frames_under}
 use Rattle.wal.specs.LogState.{LogState, db_of, header_of, state_of, log_of, seen_by, size_of}
+use Rattle.wal.specs.Anew.{base_of, begins_anew}
 use Rattle.wal.specs.Refusals.{IsWithin}
+use Rattle.wal.specs.Restarts.{restarted}
 use Rattle.wal.specs.declared.log.Log.{Log}
 use Rattle.catalog.specs.Database.{Database}
 use Rattle.session.specs.SavedTables.{committed_in, current_in, savepoints_in}
@@ -22,7 +24,7 @@ use Rattle.pager.specs.Writers.{snapshot_of}
 use Rattle.pager.proofs.Backing.{back_sound}
 use Rattle.pager.specs.declared.writer.Writer.{Writer}
 use Rattle.session.specs.ConnectionState.{files_of, has_failed_in, is_io}
-use Rattle.session.specs.Representation.{Beside, ShowTheSame, beside_in}
+use Rattle.session.specs.Representation.{Beside, ShowTheSame, beside_in, is_alone}
 use Rattle.session.specs.Writers.{IsNewest, IsWriter}
 use Rattle.session.specs.Stored.{ShowsDatabase}
 use Rattle.session.specs.Applying.{CommitsChanges, CommitsDatabase, HoldsEither, IsAfterCommit, IsCommitCause, IsUncommitted, CanApply}
@@ -30,6 +32,14 @@ use Rattle.session.specs.declared.transactions.Connections.{Connections}
 use Rattle.session.proofs.FirstPages.{first_of, first_shown, shows_headed}
 use Rattle.session.proofs.Settled.{db_left, either_throughout, found_over, log_left, still_settled}
 use Rattle.session.proofs.Showing.{still_writer}
+
+-- what is within the limits of a log, is so where it is begun anew
+within_base : (known : LogState) (may_restart : Bool) (count size : ℕ) → IsWithin known count size → IsWithin (base_of known may_restart) count size
+within_base known may_restart count size is = by_anew (begins_anew known may_restart)
+  where
+    by_anew : (b : Bool) → IsWithin (if b then restarted known else known) count size
+    by_anew true = record { few = omega (arith, is.few); served = is.served }
+    by_anew false = is
 
 module _ {D : Type 0} {g : Ghosts D} where
   -- a writer that works on a database may commit it
@@ -39,6 +49,7 @@ module _ {D : Type 0} {g : Ghosts D} where
     whole = applies.writer.sound.consistent;
     newest = applies.writer.newest.seen;
     page_size = applies.writer.page_size;
+    reaches = λ number past high none. applies.writer.sound.reaches number (omega (arith, past, applies.writer.newest.sized)) high none;
     first = (first_shown (view_of (files_of c) w) (current_in c.catalog) db applies.stored).has;
     header_is = applies.stored.stored.header_is;
   }
@@ -52,8 +63,8 @@ module _ {D : Type 0} {g : Ghosts D} where
   some_pages : (old : Log D g) (w : Writer) (tables : List Table) (db : Database) → ShowsDatabase (view_of old w) tables db → 1 ≤ pages_of w
   some_pages old w tables db held = (first_shown (view_of old w) tables db held).last
 
-  pub has_committed : (old new : Connections D g) (w : Writer) (db : Database) (applies : CanApply old w db) → CommitsPages (files_of old) w (first_of (view_of (files_of old) w)) applies.stored.stored.header (files_of new)
-      → db_of (files_of new) ≡ db_of (files_of old) → (state_of (files_of old)).frames < (state_of (files_of new)).frames → IsAfterCommit old (files_of new) new → CommitsDatabase old db new
+  pub has_committed : (old new : Connections D g) (w : Writer) (db : Database) (applies : CanApply old w db) → CommitsPages (files_of old) (is_alone old) w (first_of (view_of (files_of old) w)) applies.stored.stored.header (files_of new)
+      → db_of (files_of new) ≡ db_of (files_of old) → (is_alone old ≡ false → (state_of (files_of old)).frames < (state_of (files_of new)).frames) → IsAfterCommit old (files_of new) new → CommitsDatabase old db new
   has_committed old new w db applies is db_same more next = record {
     told = is.tells;
     settled = record {
@@ -68,7 +79,7 @@ module _ {D : Type 0} {g : Ghosts D} where
     transaction = next.transaction;
     all = next.all;
     savepoints = next.savepoints;
-    older = record { more = more; at = is.stay };
+    older = λ others. record { more = more others; at = is.stay (ap (λ (b : Bool). begins_anew (state_of (files_of old)) b) others) };
     stored = subst (λ (ts : List Table). ShowsDatabase (newest_view (files_of new)) ts db) (sym next.newest) (stores_over (files_of old) w (current_in old.catalog) db applies.stored (newest_view (files_of new)) is.page_size_is is.left);
   }
 
@@ -92,7 +103,7 @@ module _ {D : Type 0} {g : Ghosts D} where
     log_file = ap g.file log;
   }
 
-  module _ (old new : Connections D g) (w left : Writer) (db : Database) (f : Fault) (applies : CanApply old w db) (is : IsRefusedCommit (files_of old) w (first_of (view_of (files_of old) w)) applies.stored.stored.header (files_of new) left f) where
+  module _ (old new : Connections D g) (w left : Writer) (db : Database) (f : Fault) (applies : CanApply old w db) (is : IsRefusedCommit (files_of old) (is_alone old) w (first_of (view_of (files_of old) w)) applies.stored.stored.header (files_of new) left f) where
     -- its writer may commit later
     writer_left : IsWriter (files_of old) left
     writer_left = record {
@@ -104,7 +115,7 @@ module _ {D : Type 0} {g : Ghosts D} where
     -- and sees the same database
     stores_left : ShowsDatabase (view_of (files_of old) left) (current_in old.catalog) db
     stores_left =
-        shows_headed (view_of (files_of old) w) (view_of (files_of old) left) refl is.size is.others is.first applies.stored.stored.header is.has_first is.headed (current_in old.catalog) db applies.stored refl refl refl
+        shows_headed (view_of (files_of old) w) (view_of (files_of old) left) refl is.size (λ number bytes other low high. is.others number bytes other) is.first applies.stored.stored.header is.has_first is.headed (current_in old.catalog) db applies.stored refl refl refl
 
     works_left : ShowTheSame (files_of old) (files_of new) → new.catalog ≡ old.catalog → CanApply new left db
     works_left same catalog = record {
@@ -135,7 +146,7 @@ module _ {D : Type 0} {g : Ghosts D} where
         still_failed : (b : Bool) → b ≡ has_failed_in old → record (beside_in old) { failed = b } ≡ beside_in old
         still_failed b same = ap (λ (x : Bool). record (beside_in old) { failed = x }) same
 
-        by_why : (f ≡ fault.Memory) ⊎ ((f ≡ fault.Io) ⊎ ((f ≡ fault.Full) × (IsWithin (state_of (files_of old)) (length (changes_of w)) (pages_of w) → ⊥))) → CommitsChanges old w db (Err f) new left
+        by_why : (f ≡ fault.Memory) ⊎ ((f ≡ fault.Io) ⊎ ((f ≡ fault.Full) × (IsWithin (base_of (state_of (files_of old)) (is_alone old)) (length (changes_of w)) (pages_of w) → ⊥))) → CommitsChanges old w db (Err f) new left
         by_why (inl memory) = inr (uncommitted (inl memory) (λ io. false≢true (ap is_io (sym memory ∙ io))) (beside ∙ still_failed (is_io f) (ap is_io memory ∙ sym whole)) catalog transaction)
         by_why (inr (inl io)) = inl (record {
           io = io;
@@ -144,4 +155,4 @@ module _ {D : Type 0} {g : Ghosts D} where
           db_left = db_left (files_of old) (files_of new) applies.settled db_same;
           log_left = log_left (files_of old) (files_of new) w (first_of (view_of (files_of old) w)) applies.stored.stored.header applies.settled crash;
         })
-        by_why (inr (inr full)) = inr (uncommitted (inr (full.0, record { pages = changes_of w; are = own; past = full.1 })) (λ io. false≢true (ap is_io (sym full.0 ∙ io))) (beside ∙ still_failed (is_io f) (ap is_io full.0 ∙ sym whole)) catalog transaction)
+        by_why (inr (inr full)) = inr (uncommitted (inr (full.0, record { pages = changes_of w; are = own; past = λ within. full.1 (within_base (state_of (files_of old)) (is_alone old) (length (changes_of w)) (pages_of w) within) })) (λ io. false≢true (ap is_io (sym full.0 ∙ io))) (beside ∙ still_failed (is_io f) (ap is_io full.0 ∙ sym whole)) catalog transaction)

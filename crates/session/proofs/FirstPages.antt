@@ -36,7 +36,7 @@ module _ (view : View) (tables : List Table) (db : Database) (held : Stores (pag
 pub first_shown : (view : View) (tables : List Table) (db : Database) → ShowsDatabase view tables db → IsViewPage view 1 (first_of view)
 first_shown view tables db held = first_there view tables db held.stored
 
-module _ (v w : View) (sized : w.page_size ≡ v.page_size) (long : w.size ≡ v.size) (same : (number : ℕ) (bytes : List ℕ) → (number ≡ 1 → ⊥) → ViewHas w number bytes ↔ ViewHas v number bytes)
+module _ (v w : View) (sized : w.page_size ≡ v.page_size) (long : w.size ≡ v.size) (same : (number : ℕ) (bytes : List ℕ) → (number ≡ 1 → ⊥) → 1 ≤ number → number ≤ w.size → ViewHas w number bytes ↔ ViewHas v number bytes)
     (page : List ℕ) (next : Header) (has : ViewHas w 1 page) (headed : IsHeaded (first_of v) page next) where
   module _ (tables : List Table) (db : Database) (held : ShowsDatabase v tables db) (as_large : next.page_size ≡ held.stored.header.page_size)
       (trunk : next.freelist_trunk ≡ held.stored.header.freelist_trunk) (count : next.freelist_count ≡ held.stored.header.freelist_count) where
@@ -47,7 +47,7 @@ module _ (v w : View) (sized : w.page_size ≡ v.page_size) (long : w.size ≡ v
     reheaded = record {
       long = count_to w w.size ∙ (long ∙ sym (count_to v v.size));
       others = λ n above last. (let within : n ≤ v.size = omega (arith, last, count_to v v.size) in
-          page_in w n (omega (arith, above)) (omega (arith, within, long)) ∙ (same_found w v n (λ bytes. same n bytes (λ one. omega (arith, one, above))) ∙ sym (page_in v n (omega (arith, above)) within)));
+          page_in w n (omega (arith, above)) (omega (arith, within, long)) ∙ (same_found w v n (λ bytes. same n bytes (λ one. omega (arith, one, above)) (omega (arith, above)) (omega (arith, within, long))) ∙ sym (page_in v n (omega (arith, above)) within)));
       first_long = ap length first_is ∙ headed.long;
       behind = ap (drop 100) first_is ∙ headed.behind;
       header_is = held.stored.header_is;

@@ -6,7 +6,8 @@ use Rattle.sqlval.specs.declared.fault.Fault.{Fault}
 use Rattle.disk.specs.declared.device.Disk.{Ghosts}
 use Rattle.disk.proofs.Current.{synced_left}
 use Rattle.pages.specs.Map.{PageMap, Has}
-use Rattle.wal.specs.Commits.{IsStateAfter, grown}
+use Rattle.wal.specs.Anew.{IsStateCommitted, base_of}
+use Rattle.wal.specs.Commits.{grown}
 use Rattle.wal.specs.LogState.{LogState, db_of, log_of, state_of}
 use Rattle.wal.specs.declared.pages.PageImage.{PageImage}
 use Rattle.wal.specs.Refusals.{IsWithin}
@@ -29,7 +30,7 @@ use Rattle.pager.proofs.NewPages.{new_twice}
 use Rattle.storage.specs.Stored.{Stores}
 use Rattle.session.specs.ConnectionState.{files_of, has_failed_in, is_io}
 use Rattle.session.specs.Applying.{CanApply, CommitsChanges, CommitsDatabase, HoldsEither, IsAfterCommit, IsAfterRefusal, IsCommitCause, IsInDoubt, IsPast, IsUncommitted, WritesChanges}
-use Rattle.session.specs.Representation.{Beside, ShowTheSame, beside_in}
+use Rattle.session.specs.Representation.{Beside, ShowTheSame, beside_in, is_alone}
 use Rattle.session.specs.Writers.{IsNewest, IsWriter}
 use Rattle.session.specs.Stored.{ShowsDatabase}
 use Rattle.session.specs.declared.transactions.Connections.{Connections}
@@ -114,10 +115,11 @@ module _ {D : Type 0} {g : Ghosts D} where
       all = is.all;
       savepoints = is.savepoints;
       stored = is.stored;
-      older = record {
-        more = omega (arith, is.older.more, ap (λ (k : LogState). k.frames) same.known);
-        at = λ s within. is.older.at s (omega (arith, within, ap (λ (k : LogState). k.frames) same.known)) ∙ same.at s;
-      };
+      older = λ others. (let kept = is.older others in
+          record {
+            more = omega (arith, kept.more, ap (λ (k : LogState). k.frames) same.known);
+            at = λ s within. kept.at s (omega (arith, within, ap (λ (k : LogState). k.frames) same.known)) ∙ same.at s;
+          });
     }
 
     doubt_over : (next : Connections D g) (f : Fault) → IsInDoubt (with_files old mid) db next f → IsInDoubt old db next f
@@ -215,8 +217,11 @@ module _ {D : Type 0} {g : Ghosts D} where
       some_changes [] first = absurd first
       some_changes (p ∷ ps) first = omega arith
 
-      more_frames : (new : Log D g) → state_of new ≡ grown (state_of mid) (length (changes_of v)) (pages_of v) → (state_of mid).frames < (state_of new).frames
-      more_frames new known = omega (arith, some_changes (changes_of v) applies_now.writer.sound.consistent.first, ap (λ (k : LogState). k.frames) known)
+      more_frames : (new : Log D g) → state_of new ≡ grown (base_of (state_of mid) (is_alone old)) (length (changes_of v)) (pages_of v) → is_alone old ≡ false → (state_of mid).frames < (state_of new).frames
+      more_frames new known others =
+          let grows : state_of new ≡ grown (state_of mid) (length (changes_of v)) (pages_of v) =
+            known ∙ ap (λ (b : Bool). grown (base_of (state_of mid) b) (length (changes_of v)) (pages_of v)) others in
+          omega (arith, some_changes (changes_of v) applies_now.writer.sound.consistent.first, ap (λ (k : LogState). k.frames) grows)
 
       on_mid : {files : Log D g} (next : Connections D g) → IsAfterCommit old files next → IsAfterCommit (with_files old mid) (files_of next) next
       on_mid next after = record {
@@ -230,16 +235,16 @@ module _ {D : Type 0} {g : Ghosts D} where
         savepoints = after.savepoints;
       }
 
-      pub ends : (result : Result ⊤ Fault) (new : Log D g) (left last : Writer) → OnOk result (CommitsPages mid v page header new) → IfErr result (IsRefusedCommit mid v page header new left) → db_of new ≡ db_of mid
-          → IsStateAfter result (state_of mid) (length (changes_of v)) (pages_of v) (state_of new) → (log_of new ≡ log_of mid) ⊎ LeavesCommit mid v page header new
+      pub ends : (result : Result ⊤ Fault) (new : Log D g) (left last : Writer) → OnOk result (CommitsPages mid (is_alone old) v page header new) → IfErr result (IsRefusedCommit mid (is_alone old) v page header new left) → db_of new ≡ db_of mid
+          → IsStateCommitted (is_alone old) result (state_of mid) (length (changes_of v)) (pages_of v) (state_of new) → (log_of new ≡ log_of mid) ⊎ LeavesCommit mid v page header new
           → ((r : Result ⊤ Fault) (next : Connections D g) → CommitsChanges (with_files old mid) v db r next left → CommitsChanges old w db r next last) → WritesChanges old w db result new last
       ends (Ok done) new left last commits refused db_same known crash over = λ next after.
-          let made : CommitsPages mid v page header (files_of next) = subst (CommitsPages mid v page header) (sym after.files_are) commits in
+          let made : CommitsPages mid (is_alone old) v page header (files_of next) = subst (CommitsPages mid (is_alone old) v page header) (sym after.files_are) commits in
           let same_db : db_of (files_of next) ≡ db_of mid = ap db_of after.files_are ∙ db_same in
           over (Ok done) next (
-            has_committed (with_files old mid) next v db applies_now made same_db (more_frames (files_of next) (ap state_of after.files_are ∙ known)) (on_mid next after),
+            has_committed (with_files old mid) next v db applies_now made same_db (λ others. more_frames (files_of next) (ap state_of after.files_are ∙ known) others) (on_mid next after),
             commit_holds (with_files old mid) next v db applies_now same_db (subst (λ (l : Log D g). (log_of l ≡ log_of mid) ⊎ LeavesCommit mid v page header l) (sym after.files_are) crash),
           )
       ends (Err f) new left last commits refused db_same known crash over = λ next after.
-          over (Err f) next (commit_refused (with_files old mid) next v left db f applies_now (subst (λ (l : Log D g). IsRefusedCommit mid v page header l left f) (sym after.files_are) refused) own (ap db_of after.files_are ∙ db_same)
+          over (Err f) next (commit_refused (with_files old mid) next v left db f applies_now (subst (λ (l : Log D g). IsRefusedCommit mid (is_alone old) v page header l left f) (sym after.files_are) refused) own (ap db_of after.files_are ∙ db_same)
           (subst (λ (l : Log D g). (log_of l ≡ log_of mid) ⊎ LeavesCommit mid v page header l) (sym after.files_are) crash) whole after.beside after.catalog after.transaction)

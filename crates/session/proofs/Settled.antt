@@ -11,15 +11,18 @@ use Rattle.dbheader.specs.declared.fields.Header.{Header}
 use Rattle.wal.specs.Committed.{HasCommits}
 use Rattle.wal.specs.LogState.{db_of, state_of, log_of}
 use Rattle.wal.specs.Sizes.{IsViewSize}
-use Rattle.wal.specs.Crashes.{LeavesEither}
+use Rattle.walframe.specs.Written.{Framed}
+use Rattle.wal.specs.Alone.{StandsAlone}
+use Rattle.wal.specs.Anew.{LeavesAmong}
 use Rattle.wal.specs.declared.log.Log.{Log}
 use Rattle.catalog.specs.Database.{Database}
 use Rattle.catalog.specs.declared.tables.Table.{Table}
-use Rattle.pager.specs.Commits.{IsCommittedOver, LeavesCommit}
+use Rattle.pager.specs.Commits.{IsBase, IsCommittedOver, LeavesCommit}
 use Rattle.pager.specs.Limits.{pages_of}
 use Rattle.pager.specs.Views.{View, newest_view}
 use Rattle.pager.specs.declared.writer.Writer.{Writer}
-use Rattle.session.specs.Holding.{HoldThroughout, IsFound, IsSettled, LeaveHeld}
+use Rattle.session.specs.Holding.{Hold, HoldThroughout, IsFound, IsSettled, LeaveHeld}
+use Rattle.session.proofs.FilesAlone.{found_alone, shown_alone}
 use Rattle.session.proofs.Standing.{held_if_stored}
 use Rattle.session.specs.ConnectionState.{files_of}
 use Rattle.session.specs.Machine.{Machine, newest}
@@ -125,13 +128,29 @@ module _ {D : Type 0} {g : Ghosts D} where
 
   module _ (old new : Log D g) (w : Writer) (page : List ℕ) (header : Header) (settled : IsSettled old) (db_same : db_of new ≡ db_of old) (some : 1 ≤ pages_of w) (before behind : List Table) (was db : Database)
       (stored : ShowsDatabase (newest_view old) before was) (stores : (view : View) → view.page_size ≡ (newest_view old).page_size → IsCommittedOver old w page header view → ShowsDatabase view behind db) where
+    -- where the log's frames are copied, the database file alone holds the same
+    abbrev alone_view : View
+    alone_view = record (newest_view old) { frames = [] }
+
+    alone_held : (alone : StandsAlone (newest_view old).db (newest_view old).page_size (newest_view old).frames (newest_view old).size) (d l : List ℕ) → d ≡ (g.file (db_of old)).content
+        → HasCommits (state_of old).page_size l [] → Hold d l was
+    alone_held alone d l same none = held_if_stored d l was (record {
+      view = alone_view;
+      db_is = sym same;
+      commits = none;
+      found = found_alone (newest_view old) before was settled.found stored alone;
+      tables = before;
+      stored = shown_alone (newest_view old) before was stored alone;
+    })
+
     abbrev Either : Database → Type 0
     Either d = (d ≡ was) ⊎ (d ≡ db)
 
-    either_held : (leaves : LeavesCommit old w page header new) (logs : List Version) → LeavesEither (state_of old).page_size (newest_view old).frames leaves.view.frames logs → LeaveHeld Either (versions (g.file (db_of old))) logs
-    either_held leaves logs either d l left_db left_log chance = elim (either l left_log chance) [
-      | inl these ↦ (was, inl refl, held_if_stored d l was (record { view = newest_view old; db_is = sym same; commits = these; found = settled.found; tables = before; stored = stored }))
-      | inr those ↦ (
+    either_held : (leaves : LeavesCommit old w page header new) (logs : List Version) → LeavesAmong (state_of old).page_size (newest_view old).frames leaves.base leaves.view.frames logs → LeaveHeld Either (versions (g.file (db_of old))) logs
+    either_held leaves logs among d l left_db left_log chance = elim (among l left_log chance) [
+      | inl these ↦ (was, inl refl, kept these)
+      | inr (inl based) ↦ (was, inl refl, on_base leaves.base_is based)
+      | inr (inr those) ↦ (
         db,
         inr refl,
         held_if_stored d l db (record {
@@ -145,6 +164,13 @@ module _ {D : Type 0} {g : Ghosts D} where
       )
     ]
       where
+        kept : HasCommits (state_of old).page_size l (newest_view old).frames → Hold d l was
+        kept these = held_if_stored d l was (record { view = newest_view old; db_is = sym same; commits = these; found = settled.found; tables = before; stored = stored })
+
+        on_base : IsBase old leaves.base → HasCommits (state_of old).page_size l leaves.base → Hold d l was
+        on_base (inl is) based = kept (subst (λ (fs : List Framed). HasCommits (state_of old).page_size l fs) is based)
+        on_base (inr is) based = alone_held is.1 d l same (subst (λ (fs : List Framed). HasCommits (state_of old).page_size l fs) is.0 based)
+
         same : d ≡ (g.file (db_of old)).content
         same = synced_is (g.file (db_of old)) settled.db_synced d left_db
 
@@ -153,7 +179,7 @@ module _ {D : Type 0} {g : Ghosts D} where
     either_throughout (inl same) = ([], (settled_leaves Either old before was (inl refl) settled stored, ap g.file db_same, ap g.file same))
     either_throughout (inr leaves) =
         let good : List Version → Type 0 = LeaveHeld Either (versions (g.file (db_of old))) in
-        let run = always_weaker (g.file (log_of old)) (g.file (log_of new)) good (LeavesEither (state_of old).page_size (newest_view old).frames leaves.view.frames) (either_held leaves) leaves.crash in
+        let run = always_weaker (g.file (log_of old)) (g.file (log_of new)) good (LeavesAmong (state_of old).page_size (newest_view old).frames leaves.base leaves.view.frames) (either_held leaves) leaves.crash in
         (OnLog (g.file (log_of new)) ∷ [], (run, (always_end (g.file (log_of old)) (g.file (log_of new)) good run, ap g.file db_same, refl)))
 
   -- the contents themselves are what a crash may leave then

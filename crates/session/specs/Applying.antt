@@ -1,6 +1,6 @@
 -- What a statement makes of the database that its connection works on, and what a commit makes of that (SQL As Understood By
 -- SQLite, "BEGIN TRANSACTION").
-use Rattle.std.specs.Prelude.{◌≡◌, ◌⊎◌, ◌<◌, ◌≤◌, ⊤, true, List, length, Result, Ok, Err}
+use Rattle.std.specs.Prelude.{◌≡◌, ◌⊎◌, ◌<◌, ◌≤◌, ⊤, true, false, List, length, Result, Ok, Err}
 use Rattle.sqlval.specs.declared.fault.Fault.{Fault}
 use Rattle.sqlval.specs.declared.fault.Fault.TheVariants as fault
 use Rattle.disk.specs.File.{IsContentLeft}
@@ -24,7 +24,7 @@ use Rattle.session.specs.Changing.{Listing, CanChange, listing}
 use Rattle.storage.specs.Works.{Reaches, change_made}
 use Rattle.session.specs.Holding.{HoldThroughout, IsSettled}
 use Rattle.session.specs.ConnectionState.{files_of, has_failed_in, is_io}
-use Rattle.session.specs.Representation.{Beside, ShowTheSame, beside_in, newest_tables}
+use Rattle.session.specs.Representation.{Beside, ShowTheSame, beside_in, is_alone, newest_tables}
 use Rattle.session.specs.Stored.{ShowsDatabase}
 use Rattle.session.specs.declared.transactions.Connections.{Connections}
 
@@ -72,7 +72,7 @@ module _ {D : Type 0} {g : Ghosts D} where
     pub more : (state_of old).frames < (state_of new).frames
     pub at : (snapshot : Snapshot) → seen_by snapshot ≤ (state_of old).frames → view_at new snapshot ≡ view_at old snapshot
 
-  -- the database is the newest committed one, the present connection has no savepoint, and the others see what they saw
+  -- the database is the newest committed one, the present connection has no savepoint, and the others that see a snapshot see what they saw
   pub record CommitsDatabase (old : Connections D g) (db : Database) (new : Connections D g) : Type 0 where
     pub told : Tells (files_of new)
     pub settled : IsSettled (files_of new)
@@ -83,7 +83,7 @@ module _ {D : Type 0} {g : Ghosts D} where
     pub all : IsUnchanged new.catalog
     pub savepoints : HasNoSavepoints new.catalog
     pub stored : ShowsDatabase (newest_view (files_of new)) (newest_tables new) db
-    pub older : KeepsSnapshots (files_of old) (files_of new)
+    pub older : is_alone old ≡ false → KeepsSnapshots (files_of old) (files_of new)
 
   -- At each moment of a commit a crash leaves the database that was the newest before it, or this one.
   abbrev pub HoldsEither : Connections D g → Database → Connections D g → Type 0

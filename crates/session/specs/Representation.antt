@@ -1,5 +1,5 @@
 -- Which machine the connections show.
-use Rattle.std.specs.Prelude.{◌≡◌, ◌⊎◌, ◌<◌, ◌≤◌, ◌-◌, slice_get, slice_set, unwrap_or, option_map, ⊤, ℕ, Bool, true, false, List, [], ◌∷◌, length, map, None, Result, Ok, Err, Vec, if◌then◌else◌}
+use Rattle.std.specs.Prelude.{◌≡◌, ◌⊎◌, ◌<◌, ◌≤◌, ◌-◌, slice_get, slice_set, unwrap_or, option_map, not, ⊤, ℕ, Bool, true, false, List, [], ◌∷◌, length, map, None, Result, Ok, Err, Vec, if◌then◌else◌}
 use Rattle.std.specs.declared.alloc.Global.{Global}
 use Rattle.smallvec.specs.SmallVec.{SmallVec}
 use Rattle.sqlval.specs.Refusals.{Refusal, refusal_of}
@@ -16,7 +16,7 @@ use Rattle.wal.specs.LogState.{db_of, state_of, log_of, seen_by}
 use Rattle.catalog.specs.Listed.{tables_of}
 use Rattle.catalog.specs.declared.tables.Table.{Table}
 use Rattle.session.specs.SavedTables.{HasNoSavepoints, IsUnchanged, Rebases, committed_in, current_in}
-use Rattle.session.specs.Seats.{IsIdleSeat, Trades, holds_writer}
+use Rattle.session.specs.Seats.{IsIdleSeat, Trades, holds_snapshot, holds_writer}
 use Rattle.session.specs.declared.seats.Seat.{Seat}
 use Rattle.session.specs.Saving.{AreSaved, IsMarked, IsUnwritten, SavedAs, in_transaction}
 use Rattle.session.specs.declared.savepoints.SavedCatalogs.{SavedCatalogs}
@@ -159,6 +159,10 @@ module _ {D : Type 0} {g : Ghosts D} where
 
   abbrev pub beside_in : Connections D g → Beside
   beside_in c = record { failed = has_failed_in c; connection = c.connection; parked = c.parked.items; newest = newest_tables c }
+
+  -- no other connection sees a snapshot
+  abbrev pub is_alone : Connections D g → Bool
+  is_alone c = not (list_any holds_snapshot c.parked.items)
 
   -- all seats, with the present one's at its place
   abbrev pub seats_in : Connections D g → List Seat

@@ -17,6 +17,16 @@ is_writer _ = false
 abbrev pub holds_writer : Seat → Bool
 holds_writer seat = is_writer seat.transaction
 
+-- the transaction sees a snapshot
+abbrev pub sees_snapshot : Transaction → Bool
+sees_snapshot (transaction.Reading snapshot) = true
+sees_snapshot (transaction.Writing writer) = true
+sees_snapshot _ = false
+
+-- the same of that of a seat
+abbrev pub holds_snapshot : Seat → Bool
+holds_snapshot seat = sees_snapshot seat.transaction
+
 -- it has no transaction
 pub record IsIdleSeat (seat : Seat) : Type 0 where
   pub idle : seat.transaction ≡ transaction.Idle

@@ -4,7 +4,7 @@ ghost use Rattle.std.specs.Prelude.{◌≡◌, ◌<◌, length, IfErr, IfOk};
 ghost use Rattle.std.specs.List.{AllByRecursion, list_any};
 ghost use Rattle.sqlval.specs.declared.fault.Fault.TheVariants.{Memory};
 ghost use Rattle.pager.specs.Marks.{marks_of};
-ghost use Rattle.session.specs.Seats.{IsIdleSeat, Trades, holds_writer};
+ghost use Rattle.session.specs.Seats.{IsIdleSeat, Trades, holds_snapshot, holds_writer};
 
 use crate::marks::{go_back, let_go};
 use crate::savepoints::SavedCatalogs;
@@ -67,6 +67,16 @@ impl Seat {
         matches!(&self.transaction, Transaction::Writing(_))
     }
 
+    /// Whether its transaction sees a snapshot.
+    fn holds_snapshot(&self) -> bool
+        ensures { result ≡ holds_snapshot self.now }
+    {
+        matches!(
+            &self.transaction,
+            Transaction::Reading(_) | Transaction::Writing(_)
+        )
+    }
+
     /// Trades its transaction and its tables for these.
     fn trade(&mut self, transaction: &mut Transaction, catalog: &mut SavedCatalogs)
         ensures out { (transaction.new ≡ self.old.transaction) × (catalog.new ≡ self.old.catalog) }
@@ -105,6 +115,13 @@ pub fn any_holds_writer(seats: &[Seat]) -> bool
     ensures { result ≡ list_any holds_writer seats.now }
 {
     seats.iter().any(|seat| seat.holds_writer())
+}
+
+/// Whether the transaction of a seat sees a snapshot.
+pub fn any_holds_snapshot(seats: &[Seat]) -> bool
+    ensures { result ≡ list_any holds_snapshot seats.now }
+{
+    seats.iter().any(|seat| seat.holds_snapshot())
 }
 
 /// Drops the transactions of all seats.

@@ -26,7 +26,9 @@ use crate::forms::is_supported;
 use crate::marks::{go_back, let_go, mark_times, save_marked};
 use crate::reads::{Sight, read};
 use crate::savepoints::SavedCatalogs;
-use crate::seats::{Seat, Seats, Transaction, any_holds_writer, give_up_seats, trade};
+use crate::seats::{
+    Seat, Seats, Transaction, any_holds_snapshot, any_holds_writer, give_up_seats, trade,
+};
 use catalog::Catalog;
 use disk::Disk;
 use pager::Writer;
@@ -71,7 +73,7 @@ fn is_io(fault: &Fault) -> bool
 }
 
 impl<D: Disk + Drop> Connections<D> {
-    ghost use Rattle.session.specs.Representation.{AreGivenUp, CommitsBy, IsGivenUp, MayWrite, OnlyReads, RepresentsRunning, SeesNewest, StartsReading, Steps, StepsOn, Switches, TakesNewest, TradesWith, done_reply, first_write_refusal, has_no_snapshot, is_begun, is_idle, is_reading, rows_reply, seen_in, with_transaction};
+    ghost use Rattle.session.specs.Representation.{AreGivenUp, CommitsBy, IsGivenUp, MayWrite, OnlyReads, RepresentsRunning, SeesNewest, StartsReading, Steps, StepsOn, Switches, TakesNewest, TradesWith, done_reply, first_write_refusal, has_no_snapshot, is_alone, is_begun, is_idle, is_reading, rows_reply, seen_in, with_transaction};
     ghost use Rattle.session.specs.Writers.{SeesBy, is_stale};
     ghost use Rattle.session.specs.Seats.{AreFresh, catalog_in, holds_writer};
     ghost use Rattle.session.specs.declared.seats.Transaction.TheVariants as transaction;
@@ -343,7 +345,15 @@ impl<D: Disk + Drop> Connections<D> {
         give_up_seats(&mut self.parked);
     }
 
-    /// Writes those of a writer's pages that its snapshot doesn't show, as one commit. (What `pruned` and `commit` of `Writer` refuse.)
+    /// Whether no other connection sees a snapshot.
+    fn is_alone(&self) -> bool
+        ensures { result ≡ is_alone self.now }
+    {
+        !any_holds_snapshot(&self.parked)
+    }
+
+    /// Writes those of a writer's pages that its snapshot doesn't show, as one commit. Where no other connection sees a snapshot, the log may
+    /// begin anew. (What `pruned` and `commit` of `Writer` refuse.)
     fn write_changes(&mut self, writer: &mut Writer) -> R<()>
         ensures cause { HasCauseIn true result self.old self.new }
         ensures rest { KeepsAllButFiles self.old self.new }
@@ -351,11 +361,12 @@ impl<D: Disk + Drop> Connections<D> {
             → ShowsDatabase (newest_view (files_of self.old)) (committed_in self.old.catalog) was
             → WritesChanges self.old writer.old db result (files_of self.new) writer.new }
     {
+        let is_alone = self.is_alone();
         match writer.pruned(self.alloc, &mut self.log, &mut self.buffer)? {
-            None => writer.commit(self.alloc, &mut self.log),
+            None => writer.commit(self.alloc, &mut self.log, is_alone),
             Some(pruned) => {
                 let mut pruned = pruned;
-                pruned.commit(self.alloc, &mut self.log)
+                pruned.commit(self.alloc, &mut self.log, is_alone)
             }
         }
     }

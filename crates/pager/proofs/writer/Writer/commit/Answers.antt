@@ -69,4 +69,4 @@ returns-in-Err-clause-crash g c page header may =
     refused_leaves c.args.log.now c.commit.new.self c.args.self.now c.set_header.new.self page header c.next_header-new.result may re (base_of (state_of c.args.log.now) c.begins_anew-restarts.result) c.deref.result.now c.in-Err.fault _ _ c.deref.ensures.value
     c.in-Err.ensures.refused
     (λ few. all_left c.args.log.now c.commit.new.self c.args.self.now c.set_header.new.self page header c.next_header-new.result may re c.args.may_restart c.begins_anew-restarts.result c.begins_anew-restarts.ensures.is
-        (λ begins. c.begins_anew-restarts.ensures.alone begins may.tells) c.deref.result.now c.deref.ensures.value (c.commit.ensures.crash may.tells.whole may.tells.log) few next)
+    (λ begins. c.begins_anew-restarts.ensures.alone begins may.tells) c.deref.result.now c.deref.ensures.value (c.commit.ensures.crash may.tells.whole may.tells.log) few next)

@@ -1,5 +1,10 @@
-use Rattle.std.proofs.Common.{sym, subst, arith}
+use Rattle.std.proofs.Common.{Bool, length, sym, subst, arith}
+use Rattle.std.specs.Prelude.{OnOk, IfErr}
+use Rattle.wal.specs.Anew.{IsStateCommitted}
+use Rattle.wal.specs.LogState.{state_of}
 use Rattle.wal.specs.declared.log.Snapshot.{Snapshot}
+use Rattle.pager.specs.Commits.{CommitsPages, IsRefusedCommit}
+use Rattle.pager.specs.Limits.{pages_of}
 use Rattle.pager.specs.Pruning.{AreNew, IsPruned, Prunes}
 use Rattle.pager.specs.Views.{View, changes_of, view_at}
 use Rattle.pager.specs.Writers.{snapshot_of}
@@ -34,7 +39,11 @@ returns-in-None-clause-writes g c db was whole applies stored =
     let p = page old mid w db was whole applies stored same w now own in
     let h = header old mid w db was whole applies stored same w now own in
     let m = may old mid w db was whole applies stored same w now own in
-    ends old mid w db was whole applies stored same w now own c.commit.result c.commit.new.log c.commit.new.self c.commit.new.self (c.commit.ensures.commits p h m) (c.commit.ensures.refused p h m) c.commit.ensures.disks.db (c.commit.ensures.known p h m) (c.commit.ensures.crash p h m)
+    let alone = c.is_alone-is_alone.ensures in
+    ends old mid w db was whole applies stored same w now own c.commit.result c.commit.new.log c.commit.new.self c.commit.new.self
+    (subst (λ (b : Bool). OnOk c.commit.result (CommitsPages mid b w p h c.commit.new.log)) alone (c.commit.ensures.commits p h m))
+    (subst (λ (b : Bool). IfErr c.commit.result (IsRefusedCommit mid b w p h c.commit.new.log c.commit.new.self)) alone (c.commit.ensures.refused p h m)) c.commit.ensures.disks.db
+    (subst (λ (b : Bool). IsStateCommitted b c.commit.result (state_of mid) (length (changes_of w)) (pages_of w) (state_of c.commit.new.log)) alone (c.commit.ensures.known p h m)) (c.commit.ensures.crash p h m)
     (λ r next is. written_over old mid w db was whole applies stored same r next c.commit.new.self is)
 
 pub returns-in-Some-clause-writes : goal.returns-in-Some-clause-writes
@@ -55,5 +64,9 @@ returns-in-Some-clause-writes g c db was whole applies stored =
     let h = header old mid w db was whole applies stored same v now own in
     let m = may old mid w db was whole applies stored same v now own in
     let commit = c.commit-in-Some in
-    ends old mid w db was whole applies stored same v now own commit.result commit.new.log commit.new.self w (commit.ensures.commits p h m) (commit.ensures.refused p h m) commit.ensures.disks.db (commit.ensures.known p h m) (commit.ensures.crash p h m)
+    let alone = c.is_alone-is_alone.ensures in
+    ends old mid w db was whole applies stored same v now own commit.result commit.new.log commit.new.self w
+    (subst (λ (b : Bool). OnOk commit.result (CommitsPages mid b v p h commit.new.log)) alone (commit.ensures.commits p h m))
+    (subst (λ (b : Bool). IfErr commit.result (IsRefusedCommit mid b v p h commit.new.log commit.new.self)) alone (commit.ensures.refused p h m)) commit.ensures.disks.db
+    (subst (λ (b : Bool). IsStateCommitted b commit.result (state_of mid) (length (changes_of v)) (pages_of v) (state_of commit.new.log)) alone (commit.ensures.known p h m)) (commit.ensures.crash p h m)
     (λ r next is. pruned_over old mid w db was whole applies stored same v pruned r next commit.new.self is)
