@@ -21,7 +21,7 @@ use Rattle.session.specs.Holding.{IsFound}
 use Rattle.session.specs.Stored.{ShowsDatabase}
 use Rattle.session.proofs.StandingViews.{one_header}
 
-large : (n : ℕ) → IsPageSize n → 100 ≤ n
+pub large : (n : ℕ) → IsPageSize n → 100 ≤ n
 large = by_size (λ (n : ℕ). 100 ≤ n) (omega arith) (omega arith) (omega arith) (omega arith) (omega arith) (omega arith) (omega arith)
 
 module _ (view : View) (tables : List Table) (db : Database) where

@@ -26,6 +26,7 @@ pub mod Committing
 pub mod CommitCrashes
 pub mod CommitSteps
 pub mod Executing
+pub mod FilesAlone
 pub mod Fresh
 pub mod StatementCauses
 mod WellFormedRows

@@ -1,7 +1,10 @@
 -- The seats of the connections, each with its transaction and the tables of it (Isolation In SQLite).
-use Rattle.std.specs.Prelude.{◌≡◌, ◌<◌, ◌≤◌, ℕ, Bool, true, false, List, length, Some, slice_get, slice_set}
+use Rattle.std.specs.Prelude.{◌≡◌, ◌⊎◌, ◌<◌, ◌≤◌, ⊤, ℕ, Bool, true, false, List, [], ◌∷◌, length, Option, Some, None, MatchOption, slice_get, slice_set}
 use Rattle.std.specs.List.{AllByRecursion}
 use Rattle.catalog.specs.declared.tables.Catalog.{Catalog}
+use Rattle.wal.specs.LogState.{seen_by}
+use Rattle.wal.specs.declared.log.Snapshot.{Snapshot}
+use Rattle.pager.specs.Writers.{snapshot_of}
 use Rattle.session.specs.SavedTables.{HasNoSavepoints, IsUnchanged}
 use Rattle.session.specs.declared.seats.Seat.{Seat}
 use Rattle.session.specs.declared.seats.Seats.{Seats}
@@ -26,6 +29,27 @@ sees_snapshot _ = false
 -- the same of that of a seat
 abbrev pub holds_snapshot : Seat → Bool
 holds_snapshot seat = sees_snapshot seat.transaction
+
+-- the snapshot that a transaction sees
+abbrev pub snapshot_in : Transaction → Option Snapshot
+snapshot_in (transaction.Reading snapshot) = Some snapshot
+snapshot_in (transaction.Writing writer) = Some (snapshot_of writer)
+snapshot_in _ = None
+
+-- the transaction of one of these seats sees it
+abbrev pub IsSeen : List Seat → Snapshot → Type 0
+IsSeen [] snapshot = ⊥
+IsSeen (s ∷ ss) snapshot = (snapshot_in s.transaction ≡ Some snapshot) ⊎ IsSeen ss snapshot
+
+-- a seat's transaction sees at least the frames of a snapshot, if it sees any
+abbrev pub SeesAtLeast : Snapshot → Seat → Type 0
+SeesAtLeast target seat = MatchOption (snapshot_in seat.transaction) (⊤) (λ s. seen_by target ≤ seen_by s)
+
+-- Of the snapshots of these seats, and the newest, it is one that sees the fewest frames.
+pub record IsLeast (seats : List Seat) (newest target : Snapshot) : Type 0 where
+  pub is : (target ≡ newest) ⊎ IsSeen seats target
+  pub first : seen_by target ≤ seen_by newest
+  pub least : AllByRecursion (SeesAtLeast target) seats
 
 -- it has no transaction
 pub record IsIdleSeat (seat : Seat) : Type 0 where
