@@ -3,7 +3,6 @@ use Rattle.std.proofs.Common.{◌≡◌, ◌⊎◌, ◌<◌, ◌≤◌, ◌*◌,
 use Rattle.std.specs.Prelude.{⊤, ◌||◌, Option, Some, None, MatchOption, IsFalse, unwrap_or}
 use Rattle.std.specs.List.{AllByRecursion, list_any}
 use Rattle.std.proofs.lemmas.Bool.{false≢true}
-use Rattle.std.proofs.lemmas.List.{take-take}
 use Rattle.disk.specs.declared.device.Disk.{Ghosts}
 use Rattle.disk.specs.File.{Version, versions}
 use Rattle.disk.proofs.Moments.{run_weaker}
@@ -40,7 +39,7 @@ use Rattle.session.specs.declared.savepoints.SavedCatalogs.{SavedCatalogs}
 use Rattle.session.specs.declared.seats.Seat.{Seat}
 use Rattle.session.specs.declared.seats.Transaction.{Transaction}
 use Rattle.session.specs.declared.seats.Transaction.TheVariants as transaction
-use Rattle.session.proofs.FilesAlone.{large}
+use Rattle.session.proofs.FilesAlone.{first_bytes}
 use Rattle.session.proofs.FirstPages.{first_of, first_shown}
 use Rattle.session.proofs.NewChanges.{all_there}
 use Rattle.session.proofs.SameViews.{same_seen, same_shown}
@@ -103,8 +102,7 @@ module _ {D : Type 0} {g : Ghosts D} where
           by_frames (inl newest) = absurd (omega (arith, newest.1.within))
           by_frames (inr filed) = record {
             header = found.header;
-            is = header_moves found.page db found.header
-                (ap (take 100) filed.1.bytes_are ∙ take-take 100 (newest_view files).page_size db (large (newest_view files).page_size (subst IsPageSize stored.stored.sized stored.stored.header_is.served))) found.header_is;
+            is = header_moves found.page db found.header (first_bytes db (newest_view files).page_size found.page (subst IsPageSize stored.stored.sized stored.stored.header_is.served) filed.1) found.header_is;
             sized = ap (λ (h : Header). h.page_size) first_header ∙ stored.stored.sized;
           }
 
@@ -130,8 +128,7 @@ module _ {D : Type 0} {g : Ghosts D} where
             where
               filed : ViewHas (view_over files db []) 1 found.page → IsHeader db found.header
               filed (inl newest) = absurd (omega (arith, newest.1.within))
-              filed (inr is) = header_moves found.page db found.header
-                  (ap (take 100) is.1.bytes_are ∙ take-take 100 (newest_view files).page_size db (large (newest_view files).page_size (subst IsPageSize stored.stored.sized stored.stored.header_is.served))) found.header_is
+              filed (inr is) = header_moves found.page db found.header (first_bytes db (newest_view files).page_size found.page (subst IsPageSize stored.stored.sized stored.stored.header_is.served) is.1) found.header_is
 
       found_by : ((frames ≡ (newest_view files).frames) × (frames ≡ [] → db ≡ (newest_view files).db)) ⊎ (frames ≡ []) × (length db ≡ (newest_view files).size * (newest_view files).page_size) → IsFound now
       found_by (inr none) =
@@ -176,7 +173,7 @@ module _ {D : Type 0} {g : Ghosts D} where
     )
 
     module _ (may_restart : Bool) (new : Log D g) (is : Checkpoints files target may_restart new) where
-      newest_same : view_over files (newest_view new).db (newest_view new).frames ≡ newest_view new
+      pub newest_same : view_over files (newest_view new).db (newest_view new).frames ≡ newest_view new
       newest_same = λ i. record { db = (newest_view new).db; frames = (newest_view new).frames; page_size = sym is.page_size i; size = sym is.size i }
 
       pub settled_now : IsSettled new
@@ -265,7 +262,7 @@ module _ {D : Type 0} {g : Ghosts D} where
   none_first true q none = absurd (false≢true (sym none))
   none_first false q none = (refl, none)
 
-  alone_transaction : (old new : Log D g) (catalog : SavedCatalogs) (history : List Database) (t : Transaction) (k : Connection) → sees_snapshot t ≡ false → IsTransaction old catalog history t k → IsTransaction new catalog history t k
+  pub alone_transaction : (old new : Log D g) (catalog : SavedCatalogs) (history : List Database) (t : Transaction) (k : Connection) → sees_snapshot t ≡ false → IsTransaction old catalog history t k → IsTransaction new catalog history t k
   alone_transaction old new catalog history transaction.Idle k none is = is
   alone_transaction old new catalog history transaction.Begun k none is = is
   alone_transaction old new catalog history (transaction.Reading s) k none is = absurd (false≢true (sym none))

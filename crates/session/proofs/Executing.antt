@@ -9,11 +9,12 @@ use Rattle.sqlval.specs.declared.fault.Fault.{Fault}
 use Rattle.sqlval.specs.declared.fault.Fault.TheVariants as fault
 use Rattle.sqlval.specs.declared.fault.Misuse.TheVariants as misuse
 use Rattle.syntax.specs.declared.query.Query.{Query}
+use Rattle.syntax.specs.declared.statement.CheckpointMode.{CheckpointMode}
 use Rattle.syntax.specs.declared.statement.Statement.{Statement}
 use Rattle.syntax.specs.declared.statement.Statement.TheVariants as statement
 use Rattle.catalog.specs.Database.{Database}
 use Rattle.session.specs.Supported.{StepSoFar}
-use Rattle.storage.specs.Forms.{is_query, is_supported}
+use Rattle.storage.specs.Forms.{answers_rows, is_supported}
 use Rattle.wal.specs.declared.log.Log.{Log}
 use Rattle.session.specs.ConnectionState.{files_of, first_refusal, has_failed_in}
 use Rattle.session.specs.Machine.{Machine, Reply, Refused}
@@ -67,18 +68,18 @@ first_by n bad = ap (λ b. if b then first_fault (fault.Misuse misuse.Connection
 pub passes_by : (n : ℕ) → (n == 0 || nat_lt 16 n) ≡ false → first_refusal false n ≡ done
 passes_by n good = ap (λ b. if b then first_fault (fault.Misuse misuse.Connection) else done) good
 
-pub no_query : (s : Statement) → ((q : Query) → s ≡ statement.Select q → ⊥) → is_query s ≡ false
-no_query (statement.Create c) none = refl
-no_query (statement.Drop k n) none = refl
-no_query (statement.Change c) none = refl
-no_query (statement.Select q) none = absurd (none q refl)
-no_query (statement.Begin mode) none = refl
-no_query statement.Commit none = refl
-no_query statement.Rollback none = refl
-no_query (statement.RollbackTo n) none = refl
-no_query (statement.Savepoint n) none = refl
-no_query (statement.Release n) none = refl
-no_query (statement.Checkpoint mode) none = refl
+pub no_query : (s : Statement) → ((q : Query) → s ≡ statement.Select q → ⊥) → ((mode : CheckpointMode) → s ≡ statement.Checkpoint mode → ⊥) → answers_rows s ≡ false
+no_query (statement.Create c) none other = refl
+no_query (statement.Drop k n) none other = refl
+no_query (statement.Change c) none other = refl
+no_query (statement.Select q) none other = absurd (none q refl)
+no_query (statement.Begin mode) none other = refl
+no_query statement.Commit none other = refl
+no_query statement.Rollback none other = refl
+no_query (statement.RollbackTo n) none other = refl
+no_query (statement.Savepoint n) none other = refl
+no_query (statement.Release n) none other = refl
+no_query (statement.Checkpoint mode) none other = absurd (other mode refl)
 
 pub refused_as : (result : Rowed) (f : Fault) → IsErrAnd result (λ e. e ≡ f) → rows_reply result ≡ done_reply (Err f)
 refused_as (Ok rows) f is = absurd is

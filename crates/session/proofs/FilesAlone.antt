@@ -1,6 +1,7 @@
 -- A database file that stands for itself holds what the newest view holds.
-use Rattle.std.proofs.Common.{◌≡◌, ◌≤◌, ◌*◌, ◌∙◌, ℕ, List, [], length, refl, sym, ap, subst, arith}
+use Rattle.std.proofs.Common.{◌≡◌, ◌≤◌, ◌*◌, ◌∙◌, ℕ, List, [], length, take, drop, refl, sym, ap, subst, arith}
 use Rattle.std.specs.Prelude.{⊤, Option, Some, None, MatchOption}
+use Rattle.std.proofs.Math.Nat.{zero-mul}
 use Rattle.std.proofs.lemmas.List.{take-take}
 use Rattle.sqlval.specs.PageSizes.{IsPageSize}
 use Rattle.sqlval.proofs.PageSizeLemmas.{by_size}
@@ -12,6 +13,7 @@ use Rattle.catalog.specs.declared.tables.Table.{Table}
 use Rattle.pages.specs.Map.{PageMap}
 use Rattle.wal.specs.Alone.{StandsAlone}
 use Rattle.wal.specs.Sizes.{IsViewSize}
+use Rattle.wal.specs.View.{IsInFile}
 use Rattle.pager.specs.Maps.{pages_in}
 use Rattle.pager.specs.Views.{View}
 use Rattle.pager.proofs.Mapping.{maps_shown, maps_within}
@@ -23,6 +25,11 @@ use Rattle.session.proofs.StandingViews.{one_header}
 
 pub large : (n : ℕ) → IsPageSize n → 100 ≤ n
 large = by_size (λ (n : ℕ). 100 ≤ n) (omega arith) (omega arith) (omega arith) (omega arith) (omega arith) (omega arith) (omega arith)
+
+-- a file that has page 1 begins with it
+pub first_bytes : (db : List ℕ) (page_size : ℕ) (page : List ℕ) → IsPageSize page_size → IsInFile db page_size 1 page → take 100 page ≡ take 100 db
+first_bytes db page_size page size is =
+    ap (take 100) (is.bytes_are ∙ ap (λ (n : ℕ). take page_size (drop n db)) (zero-mul page_size)) ∙ take-take 100 page_size db (large page_size size)
 
 module _ (view : View) (tables : List Table) (db : Database) where
   abbrev alone_view : View
@@ -59,10 +66,11 @@ module _ (view : View) (tables : List Table) (db : Database) where
     counted = found.counted;
   }
     where
+      in_file : IsInFile view.db view.page_size 1 found.page
       in_file = alone.pages 1 found.page found.first.first found.first.last found.first.has
 
       same_header : found.header ≡ shown.stored.header
       same_header = one_header found.page _ found.header shown.stored.header (sym (maps_shown view 1 found.page found.first)) found.header_is shown.stored.header_is
 
       front : take 100 found.page ≡ take 100 view.db
-      front = ap (take 100) in_file.bytes_are ∙ take-take 100 view.page_size view.db (large view.page_size (subst IsPageSize shown.stored.sized shown.stored.header_is.served))
+      front = first_bytes view.db view.page_size found.page (subst IsPageSize shown.stored.sized shown.stored.header_is.served) in_file

@@ -164,15 +164,15 @@ module _ {D : Type 0} {g : Ghosts D} where
       )
     ]
       where
+        same : d ≡ (g.file (db_of old)).content
+        same = synced_is (g.file (db_of old)) settled.db_synced d left_db
+
         kept : HasCommits (state_of old).page_size l (newest_view old).frames → Hold d l was
         kept these = held_if_stored d l was (record { view = newest_view old; db_is = sym same; commits = these; found = settled.found; tables = before; stored = stored })
 
         on_base : IsBase old leaves.base → HasCommits (state_of old).page_size l leaves.base → Hold d l was
         on_base (inl is) based = kept (subst (λ (fs : List Framed). HasCommits (state_of old).page_size l fs) is based)
         on_base (inr is) based = alone_held is.1 d l same (subst (λ (fs : List Framed). HasCommits (state_of old).page_size l fs) is.0 based)
-
-        same : d ≡ (g.file (db_of old)).content
-        same = synced_is (g.file (db_of old)) settled.db_synced d left_db
 
     -- at each moment of a commit a crash leaves the database from before it, or the one after it
     pub either_throughout : (log_of new ≡ log_of old) ⊎ LeavesCommit old w page header new → HoldThroughout Either old new

@@ -5,6 +5,7 @@ use Rattle.sqlval.specs.Refusals.{Refusal, Busy}
 use Rattle.syntax.specs.declared.query.Query.{Query}
 use Rattle.syntax.specs.declared.statement.BeginMode.{BeginMode}
 use Rattle.syntax.specs.declared.statement.BeginMode.TheVariants as begins
+use Rattle.syntax.specs.declared.statement.CheckpointMode.{CheckpointMode}
 use Rattle.syntax.specs.declared.statement.Statement.{Statement}
 use Rattle.syntax.specs.declared.statement.Statement.TheVariants as statement
 use Rattle.catalog.specs.Database.{Name, Database}
@@ -32,6 +33,10 @@ rollback_outcome m n k is = ap (control statement.Rollback m n) is
 pub commit_outcome_of : (m : Machine) (n : ℕ) (k : Connection) → connection m n ≡ k → outcome m n statement.Commit ≡ control statement.Commit m n k
 unfolding outcome
 commit_outcome_of m n k is = ap (control statement.Commit m n) is
+
+pub checkpoint_outcome : (mode : CheckpointMode) (m : Machine) (n : ℕ) (k : Connection) → connection m n ≡ k → outcome m n (statement.Checkpoint mode) ≡ control (statement.Checkpoint mode) m n k
+unfolding outcome
+checkpoint_outcome mode m n k is = ap (control (statement.Checkpoint mode) m n) is
 
 pub begin_outcome : (mode : BeginMode) (m : Machine) (n : ℕ) (k : Connection) → connection m n ≡ k → outcome m n (statement.Begin mode) ≡ control (statement.Begin mode) m n k
 unfolding outcome

@@ -45,6 +45,12 @@ IsSeen (s ∷ ss) snapshot = (snapshot_in s.transaction ≡ Some snapshot) ⊎ I
 abbrev pub SeesAtLeast : Snapshot → Seat → Type 0
 SeesAtLeast target seat = MatchOption (snapshot_in seat.transaction) (⊤) (λ s. seen_by target ≤ seen_by s)
 
+-- of two snapshots this is the one that sees fewer frames
+pub record IsFewer (own : Option Snapshot) (other least : Snapshot) : Type 0 where
+  pub is : (least ≡ other) ⊎ (own ≡ Some least)
+  pub second : seen_by least ≤ seen_by other
+  pub first : MatchOption own (⊤) (λ s. seen_by least ≤ seen_by s)
+
 -- Of the snapshots of these seats, and the newest, it is one that sees the fewest frames.
 pub record IsLeast (seats : List Seat) (newest target : Snapshot) : Type 0 where
   pub is : (target ≡ newest) ⊎ IsSeen seats target

@@ -45,7 +45,8 @@ pub fn is_supported(statement: &Statement) -> bool
         | Statement::Rollback
         | Statement::RollbackTo(_)
         | Statement::Savepoint(_)
-        | Statement::Release(_) => true,
+        | Statement::Release(_)
+        | Statement::Checkpoint(_) => true,
         _ => false,
     }
 }

@@ -4,6 +4,7 @@
 
 mod calls;
 mod changes;
+mod checkpoints;
 mod forms;
 mod laws;
 mod marks;

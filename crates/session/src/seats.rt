@@ -4,7 +4,7 @@ ghost use Rattle.std.specs.Prelude.{◌≡◌, ◌<◌, length, IfErr, IfOk};
 ghost use Rattle.std.specs.List.{AllByRecursion, list_any};
 ghost use Rattle.sqlval.specs.declared.fault.Fault.TheVariants.{Memory};
 ghost use Rattle.pager.specs.Marks.{marks_of};
-ghost use Rattle.session.specs.Seats.{IsIdleSeat, Trades, holds_snapshot, holds_writer};
+ghost use Rattle.session.specs.Seats.{IsIdleSeat, IsLeast, Trades, holds_snapshot, holds_writer, snapshot_in, IsFewer};
 
 use crate::marks::{go_back, let_go};
 use crate::savepoints::SavedCatalogs;
@@ -77,6 +77,17 @@ impl Seat {
         )
     }
 
+    /// The snapshot that its transaction sees.
+    fn snapshot(&self) -> Option<Snapshot>
+        ensures { result ≡ snapshot_in self.now.transaction }
+    {
+        match &self.transaction {
+            Transaction::Idle | Transaction::Begun => None,
+            Transaction::Reading(snapshot) => Some(*snapshot),
+            Transaction::Writing(writer) => Some(writer.snapshot()),
+        }
+    }
+
     /// Trades its transaction and its tables for these.
     fn trade(&mut self, transaction: &mut Transaction, catalog: &mut SavedCatalogs)
         ensures out { (transaction.new ≡ self.old.transaction) × (catalog.new ≡ self.old.catalog) }
@@ -122,6 +133,26 @@ pub fn any_holds_snapshot(seats: &[Seat]) -> bool
     ensures { result ≡ list_any holds_snapshot seats.now }
 {
     seats.iter().any(|seat| seat.holds_snapshot())
+}
+
+/// That of two snapshots which sees fewer frames: the second, where the first is missing or sees as many.
+fn fewer(own: Option<Snapshot>, other: Snapshot) -> Snapshot
+    ensures { IsFewer own other result }
+{
+    match own {
+        Some(snapshot) if snapshot.mark() < other.mark() => snapshot,
+        _ => other,
+    }
+}
+
+/// Of the snapshots of these seats, and the newest, one that sees the fewest frames.
+pub fn least_snapshot(seats: &[Seat], newest: Snapshot) -> Snapshot
+    ensures { IsLeast seats.now newest result }
+{
+    match seats.split_first() {
+        None => newest,
+        Some((seat, rest)) => fewer(seat.snapshot(), least_snapshot(rest, newest)),
+    }
 }
 
 /// Drops the transactions of all seats.

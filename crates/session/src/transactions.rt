@@ -22,6 +22,7 @@ ghost use Rattle.session.specs.Applying.{CommitsChanges, EndsAlone, Applies, Can
 ghost use Rattle.session.specs.Changing.{written};
 
 use crate::changes::{Write, apply, write_of};
+use crate::checkpoints::{copy_frames, rows_of};
 use crate::forms::is_supported;
 use crate::marks::{go_back, let_go, mark_times, save_marked};
 use crate::reads::{Sight, read};
@@ -30,6 +31,7 @@ use crate::seats::{
     Seat, Seats, Transaction, any_holds_snapshot, any_holds_writer, give_up_seats, trade,
 };
 use catalog::Catalog;
+use checkpoint::Counts;
 use disk::Disk;
 use pager::Writer;
 use rowprog::Rows;
@@ -37,7 +39,7 @@ use sqlval::{Fault, Feature, Misuse, Name, R};
 use std::alloc::Global;
 use std::mem;
 use std::rc::Rc;
-use syntax::{BeginMode, Query, Statement};
+use syntax::{BeginMode, CheckpointMode, Query, Statement};
 use wal::{Log, Snapshot};
 
 /// The sixteen connections of an open database.
@@ -74,6 +76,7 @@ fn is_io(fault: &Fault) -> bool
 
 impl<D: Disk + Drop> Connections<D> {
     ghost use Rattle.session.specs.Representation.{AreGivenUp, CommitsBy, IsGivenUp, MayWrite, OnlyReads, RepresentsRunning, SeesNewest, StartsReading, Steps, StepsOn, Switches, TakesNewest, TradesWith, done_reply, first_write_refusal, has_no_snapshot, is_alone, is_begun, is_idle, is_reading, rows_reply, seen_in, with_transaction};
+    ghost use Rattle.session.specs.Checkpoints.{CopiesBack, KeepsSeats};
     ghost use Rattle.session.specs.Writers.{SeesBy, is_stale};
     ghost use Rattle.session.specs.Seats.{AreFresh, catalog_in, holds_writer};
     ghost use Rattle.session.specs.declared.seats.Transaction.TheVariants as transaction;
@@ -227,8 +230,10 @@ impl<D: Disk + Drop> Connections<D> {
         ensures refused { IfErr result (IsRefusedHere self.old statement.now) }
         ensures step { WhereSupported statement.now (StepsOn self.old statement.now (rows_reply result) self.new) }
     {
-        if let Statement::Select(query) = statement {
-            return self.select(query);
+        match statement {
+            Statement::Select(query) => return self.select(query),
+            Statement::Checkpoint(mode) => return self.checkpoint(*mode),
+            _ => {}
         }
         self.change(statement)?;
         Ok(Vec::new(self.alloc))
@@ -239,7 +244,7 @@ impl<D: Disk + Drop> Connections<D> {
         ensures cause { HasCauseIn (may_be_full statement.now) result self.old self.new }
         ensures marks { MarksFailure result self.old self.new }
         ensures refused { IfErr result (IsRefusedHere self.old statement.now) }
-        ensures step { WhereSupported statement.now (forms.is_query statement.now ≡ false
+        ensures step { WhereSupported statement.now (forms.answers_rows statement.now ≡ false
             → StepsOn self.old statement.now (done_reply result) self.new) }
     {
         match statement {
@@ -407,6 +412,35 @@ impl<D: Disk + Drop> Connections<D> {
                     self.transaction = Transaction::Writing(writer);
                 }
                 result
+            }
+        }
+    }
+
+    /// Copies the log's frames into the database file, and begins the log anew or cuts it to nothing as the mode has it.
+    fn checkpoint(&mut self, mode: CheckpointMode) -> R<Rows>
+        ensures cause { HasCauseIn false result self.old self.new }
+        ensures marks { MarksFailure result self.old self.new }
+        ensures step { StepsOn self.old (statement.Checkpoint mode) (rows_reply result) self.new }
+    {
+        if !self.is_idle() {
+            return Err(Fault::InTransaction);
+        }
+        let counts = self.copy_back(mode)?;
+        rows_of(self.alloc, counts)
+    }
+
+    /// The same of the files alone. After `Io` every statement is refused.
+    fn copy_back(&mut self, mode: CheckpointMode) -> R<Counts>
+        ensures cause { HasCauseIn false result self.old self.new }
+        ensures marks { MarksFailure result self.old self.new }
+        ensures seats { KeepsSeats result self.old self.new }
+        ensures copies { CopiesBack mode self.old.parked.items (files_of self.old) result (files_of self.new) }
+    {
+        match copy_frames(self.alloc, &mut self.log, &self.parked, mode) {
+            Ok(counts) => Ok(counts),
+            Err(fault) => {
+                self.has_failed |= is_io(&fault);
+                Err(fault)
             }
         }
     }

@@ -17,7 +17,7 @@ abbrev pub is_object_supported : NewObject → Bool
 is_object_supported (new.Table d) = is_table_supported d
 is_object_supported _ = false
 
--- tables, DROP, inserted rows, DELETE, UPDATE, queries, transactions and their savepoints
+-- tables, DROP, inserted rows, DELETE, UPDATE, queries, transactions and their savepoints, checkpoints
 abbrev pub is_supported : Statement → Bool
 is_supported (statement.Create c) = is_object_supported c.object
 is_supported (statement.Drop kind name) = true
@@ -29,12 +29,13 @@ is_supported statement.Rollback = true
 is_supported (statement.RollbackTo name) = true
 is_supported (statement.Savepoint name) = true
 is_supported (statement.Release name) = true
-is_supported _ = false
+is_supported (statement.Checkpoint mode) = true
 
--- it asks for rows
-abbrev pub is_query : Statement → Bool
-is_query (statement.Select q) = true
-is_query _ = false
+-- it answers rows
+abbrev pub answers_rows : Statement → Bool
+answers_rows (statement.Select q) = true
+answers_rows (statement.Checkpoint mode) = true
+answers_rows _ = false
 
 abbrev is_table : NewObject → Bool
 is_table (new.Table d) = true

@@ -59,7 +59,7 @@ fn reply_of(alloc: Global, db: &[u8], log: &[u8], lines: &[u8]) -> R<Vec<u8>> {
 }
 
 /// Whether the files show the database after this many commits.
-fn shows(alloc: Global, db: &[u8], log: &[u8], commits: usize) -> R<bool> {
+pub fn shows(alloc: Global, db: &[u8], log: &[u8], commits: usize) -> R<bool> {
     let rows = reply_of(alloc, db, log, b"1 SELECT a FROM t")?;
     Ok(rows.as_slice() == rows_after(alloc, commits)?.as_slice())
 }
@@ -79,7 +79,7 @@ fn acknowledged(alloc: Global, engine: &mut Engine<MemDisk>) -> R<usize> {
 const NEWEST: u32 = 27719;
 
 /// What is picked of each file's versions: the synced one, the newest, or now one and now another.
-fn picks(way: u32) -> &'static [u32] {
+pub fn picks(way: u32) -> &'static [u32] {
     match way {
         0 => &[],
         1 => &[NEWEST; 25],

@@ -4,6 +4,10 @@
 #[cfg(test)]
 mod calls;
 #[cfg(test)]
+mod checkpoints;
+#[cfg(test)]
+mod checkpoint_crashes;
+#[cfg(test)]
 mod connections;
 #[cfg(test)]
 mod crashes;

@@ -1,0 +1,232 @@
+-- A checkpoint is a step of the machine.
+use Rattle.std.proofs.Common.{◌≡◌, ◌∙◌, ◌≤◌, inl, inr, refl, sym, ap, subst, ℕ, ◌-◌, List, [], ◌∷◌, Bool, true, false, map, arith}
+use Rattle.std.specs.Prelude.{⊤, ◌||◌, not, pos, Result, Ok, Err, OnOk, IfOk, IfErr, IsFalse, Vec, slice_set, if◌then◌else◌}
+use Rattle.std.specs.List.{list_any}
+use Rattle.std.specs.declared.alloc.Global.{Global}
+use Rattle.std.proofs.lemmas.Bool.{false≢true}
+use Rattle.smallvec.specs.SmallVec.{SmallVec}
+use Rattle.disk.specs.File.{versions}
+use Rattle.disk.specs.declared.device.Disk.{Ghosts}
+use Rattle.sqlval.specs.Refusals as refusal
+use Rattle.sqlval.specs.Refusals.{refusal_of}
+use Rattle.sqlval.specs.declared.fault.Fault.{Fault}
+use Rattle.sqlval.specs.declared.fault.Fault.TheVariants as fault
+use Rattle.sqlval.specs.declared.value.Value.{Value}
+use Rattle.sqlval.specs.declared.value.Value.TheVariants.{Int}
+use Rattle.syntax.specs.declared.statement.CheckpointMode.{CheckpointMode}
+use Rattle.syntax.specs.declared.statement.CheckpointMode.TheVariants as modes
+use Rattle.syntax.specs.declared.statement.Statement.TheVariants as statement
+use Rattle.catalog.specs.Database.{Database}
+use Rattle.catalog.specs.declared.tables.Table.{Table}
+use Rattle.rowprog.specs.Rows.{values_of}
+use Rattle.wal.specs.LogState.{db_of, log_of, state_of}
+use Rattle.wal.specs.declared.log.Log.{Log}
+use Rattle.pager.specs.Views.{View, ViewHas, newest_view, view_at}
+use Rattle.checkpoint.specs.declared.checkpoints.Counts.{Counts}
+use Rattle.checkpoint.specs.Shown.{Checkpoints, IsCheckpointRefusal, MayCopy}
+use Rattle.session.specs.Checkpoints.{CopiesBack, IsCount, KeepsSeats, is_kept, may_restart, numbers_of}
+use Rattle.session.specs.ConnectionState.{files_of, has_failed_in, is_io}
+use Rattle.session.specs.Crashes.{MayShow}
+use Rattle.session.specs.Holding.{HoldThroughout}
+use Rattle.session.specs.Machine.{Machine, Connection, Idle, InTransactionOf, Reply, Rows, Refused, another, connection, has_snapshot, newest}
+use Rattle.session.specs.Outcomes.{Copies, RefusedBy, outcome}
+use Rattle.session.specs.Representation.{AreParked, Beside, IsTransaction, RepresentsRunning, ShowTheSame, StepsOn, StepsTo, beside_in, is_idle, newest_tables, rows_reply}
+use Rattle.session.specs.SavedTables.{IsUnchanged}
+use Rattle.session.specs.Seats.{holds_snapshot, sees_snapshot}
+use Rattle.session.specs.Steps.{Allowed, fails, is_connection}
+use Rattle.session.specs.Stored.{ShowsDatabase}
+use Rattle.session.specs.declared.savepoints.SavedCatalogs.{SavedCatalogs}
+use Rattle.session.specs.declared.seats.Seat.{Seat}
+use Rattle.session.specs.declared.seats.Transaction.{Transaction}
+use Rattle.session.specs.declared.seats.Transaction.TheVariants as transaction
+use Rattle.session.specs.declared.transactions.Connections.{Connections}
+use Rattle.session.proofs.Copied.{HasHeaderAt, IsSight, KeepsSights, alone_parked, alone_transaction, header_shown, least_sight, may_copy, moved_parked, newest_now, newest_same, settled_now, throughout_shown}
+use Rattle.session.proofs.SameViews.{same_shown}
+use Rattle.session.proofs.Settled.{as_shown, held_end}
+use Rattle.session.proofs.Showing.{busy_first, idle_first, still_shown, the_same}
+use Rattle.session.proofs.Stepping.{by_outcome, checkpoint_outcome, instead}
+
+-- the log is begun anew only where no other connection sees a snapshot
+restart_alone : (mode : CheckpointMode) (others : Bool) → may_restart mode others ≡ true → others ≡ false
+restart_alone modes.Passive others is = absurd (false≢true is)
+restart_alone modes.Restart true is = absurd (false≢true is)
+restart_alone modes.Restart false is = refl
+restart_alone modes.Truncate true is = absurd (false≢true is)
+restart_alone modes.Truncate false is = refl
+
+abbrev row_with : Counts → Bool → List (List Value)
+row_with counts blocked = (Int (pos (if blocked then 1 else 0)) ∷ Int (pos counts.frames) ∷ Int (pos counts.copied) ∷ []) ∷ []
+
+-- what is answered may be answered
+answer_allowed : (m : Machine) (n : ℕ) (mode : CheckpointMode) (others : Bool) (counts : Counts) (rows : List (List Value)) → others ≡ another has_snapshot m n → IsCount mode others counts → rows ≡ numbers_of counts ∷ []
+    → Allowed m n (Copies mode) (Rows rows) m
+answer_allowed m n modes.Passive others counts rows same is one = (counts.frames, (counts.copied, (is.few, (one ∙ ap (row_with counts) is.blocked, refl))))
+answer_allowed m n modes.Restart others counts rows same is one = (counts.frames, (counts.copied, (is.few, (one ∙ ap (row_with counts) (is.blocked ∙ same), refl))))
+answer_allowed m n modes.Truncate others counts rows same is one = (counts.frames, (counts.copied, (is.few, (one ∙ ap (row_with counts) (is.blocked ∙ same), refl))))
+
+module _ {D : Type 0} {g : Ghosts D} where
+  -- within a transaction
+  pub checkpoint_refused : (c : Connections D g) (mode : CheckpointMode) → is_idle c.transaction ≡ false → StepsOn c (statement.Checkpoint mode) (Refused refusal.InTransaction) c
+  checkpoint_refused c mode busy m shown =
+      let k = busy_first (files_of c) c.catalog m c.transaction shown.present shown.transaction busy in
+      let is = checkpoint_outcome mode m c.connection (InTransactionOf k.began k.points k.phase) (shown.is ∙ k.is) in
+      record {
+        next = m;
+        step = by_outcome m c.connection (statement.Checkpoint mode) refl shown.running shown.numbered (RefusedBy (refusal.InTransaction ∷ [])) (Refused refusal.InTransaction) m is (refusal.InTransaction, (0, omega arith, refl), refl, refl);
+        shown = inr shown;
+        crash = as_shown c m (inr shown);
+      }
+
+  sees_so : (files : Log D g) (catalog : SavedCatalogs) (history : List Database) (t : Transaction) (k : Connection) → IsTransaction files catalog history t k → sees_snapshot t ≡ has_snapshot k
+  sees_so files catalog history transaction.Idle k is = ap has_snapshot (sym is.0)
+  sees_so files catalog history transaction.Begun k is = ap has_snapshot (sym is.is)
+  sees_so files catalog history (transaction.Reading s) k is = ap has_snapshot (sym is.1.is)
+  sees_so files catalog history (transaction.Writing w) k is = ap has_snapshot (sym is.is)
+
+  -- the other connections that see a snapshot are those of the machine
+  others_so : (files : Log D g) (history : List Database) (ss : List Seat) (ks : List Connection) → AreParked files history ss ks → list_any holds_snapshot ss ≡ list_any has_snapshot ks
+  others_so files history [] [] are = refl
+  others_so files history [] (k ∷ ks) are = absurd are
+  others_so files history (s ∷ ss) [] are = absurd are
+  others_so files history (s ∷ ss) (k ∷ ks) are =
+      ap (λ b. b || list_any holds_snapshot ss) (sees_so files s.catalog history s.transaction k are.0) ∙ ap (λ b. has_snapshot k || b) (others_so files history ss ks are.1)
+
+  idle_sees : (t : Transaction) → is_idle t ≡ true → sees_snapshot t ≡ false
+  idle_sees transaction.Idle idle = refl
+  idle_sees transaction.Begun idle = absurd (false≢true idle)
+  idle_sees (transaction.Reading s) idle = absurd (false≢true idle)
+  idle_sees (transaction.Writing w) idle = absurd (false≢true idle)
+
+  module _ (old new : Connections D g) (m : Machine) (mode : CheckpointMode) (shown : RepresentsRunning old m) (idle : is_idle old.transaction ≡ true) (result : Result Counts Fault)
+      (copies : CopiesBack mode old.parked.items (files_of old) result (files_of new)) (transaction_is : new.transaction ≡ old.transaction) (catalog_is : new.catalog ≡ old.catalog) where
+    abbrev others : Bool
+    others = list_any holds_snapshot old.parked.items
+
+    abbrev ks : List Connection
+    ks = slice_set m.connections (old.connection - 1) Idle
+
+    sight : IsSight (files_of old) copies.target
+    sight = least_sight (files_of old) m.history old.parked.items ks copies.newest copies.target (newest_tables old) (newest m) copies.newest_is copies.least shown.stored shown.parked
+
+    may : MayCopy (files_of old) copies.target
+    may = may_copy (files_of old) copies.target shown.told shown.settled sight
+
+    headed : (page : List ℕ) → ViewHas (view_at (files_of old) copies.target) 1 page → HasHeaderAt page (newest_view (files_of old)).page_size
+    headed page has = header_shown (view_at (files_of old) copies.target) sight.tables sight.db sight.shows page has
+
+    -- at each moment a crash leaves the newest database
+    pub held : (May : Database → Type 0) → May (newest m) → HoldThroughout May (files_of old) (files_of new)
+    held May may_be = throughout_shown (files_of old) copies.target (newest_tables old) (newest m) shown.settled.found shown.stored headed May may_be (files_of new) (copies.crash may)
+
+    outcome_is : outcome m old.connection (statement.Checkpoint mode) ≡ Copies mode
+    outcome_is = checkpoint_outcome mode m old.connection Idle (shown.is ∙ idle_first (files_of old) old.catalog m old.transaction shown.present shown.transaction idle)
+
+    module _ (beside : beside_in new ≡ beside_in old) (is : Checkpoints (files_of old) copies.target (may_restart mode others) (files_of new)) where
+      sights : may_restart mode others ≡ false → KeepsSights (files_of old) (files_of new) copies.target
+      sights kept = record {
+        frames = is.frames kept;
+        size = is.size;
+        page_size = is.page_size;
+        within = sight.within;
+        newest = λ tables db shows. subst (λ (v : View). ShowsDatabase v tables db)
+            (newest_same (files_of old) copies.target (newest_tables old) (newest m) shown.settled.found shown.stored headed (may_restart mode others) (files_of new) is)
+            (same_shown (newest_view (files_of old)) _ tables db is.shows.same shows);
+        at = is.others kept;
+      }
+
+      parked_by : (b : Bool) → may_restart mode others ≡ b → AreParked (files_of new) m.history old.parked.items ks
+      parked_by false kept = moved_parked (files_of old) (files_of new) copies.target (sights kept) m.history old.parked.items ks copies.least.least shown.parked
+      parked_by true begun = alone_parked (files_of old) (files_of new) m.history old.parked.items ks (restart_alone mode others begun) shown.parked
+
+      pub copied_shown : RepresentsRunning new m
+      copied_shown =
+          let place = ap (λ (b : Beside). b.connection) beside in
+          record {
+            running = shown.running;
+            sure = shown.sure;
+            whole = ap (λ (b : Beside). b.failed) beside ∙ shown.whole;
+            told = is.told;
+            settled = settled_now (files_of old) copies.target (newest_tables old) (newest m) shown.settled.found shown.stored headed (may_restart mode others) (files_of new) is;
+            some = shown.some;
+            stored = subst (λ (b : Beside). ShowsDatabase (newest_view (files_of new)) b.newest (newest m)) (sym beside)
+                (newest_now (files_of old) copies.target (newest_tables old) (newest m) shown.settled.found shown.stored headed (may_restart mode others) (files_of new) is);
+            sixteen = shown.sixteen;
+            numbered = ap is_connection place ∙ shown.numbered;
+            present = shown.present;
+            is = ap (connection m) place ∙ shown.is;
+            transaction = subst (λ (t : Transaction). IsTransaction (files_of new) new.catalog m.history t shown.present) (sym transaction_is)
+                (subst (λ (c : SavedCatalogs). IsTransaction (files_of new) c m.history old.transaction shown.present) (sym catalog_is)
+                (alone_transaction (files_of old) (files_of new) old.catalog m.history old.transaction shown.present (idle_sees old.transaction idle) shown.transaction));
+            parked = subst (λ (b : Beside). AreParked (files_of new) m.history b.parked (slice_set m.connections (b.connection - 1) Idle)) (sym beside) (parked_by (may_restart mode others) refl);
+            sole = shown.sole;
+          }
+
+      pub answered : (counts : Counts) (rows : Result (Vec (SmallVec Value) Global) Fault) → IsCount mode others counts → IfOk rows (λ r. map values_of r.items ≡ numbers_of counts ∷ []) → IfErr rows (λ f. f ≡ fault.Memory)
+          → StepsTo old m (statement.Checkpoint mode) (rows_reply rows) new
+      answered counts (Ok rows) count one refused = record {
+        next = m;
+        step = by_outcome m old.connection (statement.Checkpoint mode) refl shown.running shown.numbered (Copies mode) (Rows (map values_of rows.items)) m outcome_is
+            (answer_allowed m old.connection mode others counts (map values_of rows.items) (others_so (files_of old) m.history old.parked.items ks shown.parked) count one);
+        shown = inr copied_shown;
+        crash = held (MayShow m m) (inl refl);
+      }
+      answered counts (Err f) count one refused = subst (λ (e : Fault). StepsTo old m (statement.Checkpoint mode) (Refused (refusal_of e)) new) (sym refused) (record {
+        next = m;
+        step = instead m old.connection (statement.Checkpoint mode) refl shown.running shown.numbered (Copies mode) (Refused refusal.Memory) outcome_is (inl refl, refl);
+        shown = inr copied_shown;
+        crash = held (MayShow m m) (inl refl);
+      })
+
+    -- a call of a disk has failed
+    failed : has_failed_in new ≡ true → StepsTo old m (statement.Checkpoint mode) (Refused refusal.Io) new
+    failed marked = record {
+      next = fails m;
+      step = by_outcome m old.connection (statement.Checkpoint mode) refl shown.running shown.numbered (Copies mode) (Refused refusal.Io) (fails m) outcome_is (refl, refl);
+      shown = inl (marked, refl, record {
+        some = shown.some;
+        db_left = (copies.crash may).db_left;
+        log_left = (copies.crash may).log_left;
+        held = held_end (MayShow (fails m) (fails m)) (files_of old) (files_of new) (held (MayShow (fails m) (fails m)) (inl refl));
+      });
+      crash = held (MayShow m (fails m)) (inl refl);
+    }
+
+    short : beside_in new ≡ beside_in old → files_of new ≡ files_of old → StepsTo old m (statement.Checkpoint mode) (Refused refusal.Memory) new
+    short beside files = record {
+      next = m;
+      step = instead m old.connection (statement.Checkpoint mode) refl shown.running shown.numbered (Copies mode) (Refused refusal.Memory) outcome_is (inl refl, refl);
+      shown = inr (still_shown old new m shown (subst (ShowTheSame (files_of old)) (sym files) (the_same (files_of old) shown.told)) beside catalog_is transaction_is);
+      crash = held (MayShow m m) (inl refl);
+    }
+
+    pub refused_by : (f : Fault) → beside_in new ≡ record (beside_in old) { failed = has_failed_in old || is_io f } → IsCheckpointRefusal (files_of old) (files_of new) f → StepsTo old m (statement.Checkpoint mode) (Refused (refusal_of f)) new
+    refused_by f beside (inl memory) = subst (λ (e : Fault). StepsTo old m (statement.Checkpoint mode) (Refused (refusal_of e)) new) (sym memory.0)
+        (short (beside ∙ ap (λ (b : Bool). record (beside_in old) { failed = b }) (ap (λ (e : Fault). has_failed_in old || is_io e) memory.0 ∙ no_more (has_failed_in old))) memory.1)
+      where
+        no_more : (b : Bool) → (b || false) ≡ b
+        no_more true = refl
+        no_more false = refl
+    refused_by f beside (inr io) = subst (λ (e : Fault). StepsTo old m (statement.Checkpoint mode) (Refused (refusal_of e)) new) (sym io)
+        (failed (ap (λ (b : Beside). b.failed) beside ∙ ap (λ (e : Fault). has_failed_in old || is_io e) io ∙ marks (has_failed_in old)))
+      where
+        marks : (b : Bool) → (b || true) ≡ true
+        marks true = refl
+        marks false = refl
+
+    pub may_now : MayCopy (files_of old) copies.target
+    may_now = may
+
+  -- ---- the call
+
+  pub checkpoint_done : (old new : Connections D g) (mode : CheckpointMode) (counts : Counts) (rows : Result (Vec (SmallVec Value) Global) Fault) → is_idle old.transaction ≡ true → KeepsSeats (Ok counts) old new
+      → CopiesBack mode old.parked.items (files_of old) (Ok counts) (files_of new) → IfOk rows (λ r. map values_of r.items ≡ numbers_of counts ∷ []) → IfErr rows (λ f. f ≡ fault.Memory)
+      → StepsOn old (statement.Checkpoint mode) (rows_reply rows) new
+  checkpoint_done old new mode counts rows idle seats copies one refused m shown =
+      answered old new m mode shown idle (Ok counts) copies seats.transaction seats.catalog seats.beside
+      (copies.done (may_now old new m mode shown idle (Ok counts) copies seats.transaction seats.catalog)) counts rows copies.answer one refused
+
+  pub checkpoint_failed : (old new : Connections D g) (mode : CheckpointMode) (f : Fault) → is_idle old.transaction ≡ true → KeepsSeats (Err f) old new → CopiesBack mode old.parked.items (files_of old) (Err f) (files_of new)
+      → StepsOn old (statement.Checkpoint mode) (Refused (refusal_of f)) new
+  checkpoint_failed old new mode f idle seats copies m shown =
+      refused_by old new m mode shown idle (Err f) copies seats.transaction seats.catalog f seats.failed
+      (copies.refused (may_now old new m mode shown idle (Err f) copies seats.transaction seats.catalog))
