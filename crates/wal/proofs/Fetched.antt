@@ -1,18 +1,17 @@
 -- A page's newest frame as it is read for the database file, and pages that have none.
-use Rattle.sqlval.specs.PageSizes.{IsPageSize, is_size}
-use Rattle.std.proofs.Common.{◌≡◌, ◌⊎◌, inl, inr, ◌<◌, ◌≤◌, ◌+◌, ◌-◌, ◌*◌, ◌^◌, ℕ, suc, List, [], Bool, true, false, length, get_or, take, drop, refl, sym, ◌∙◌, ap, subst, arith}
-use Rattle.std.specs.Prelude.{Option, Some, None, IfSome, IsNone, IsTrue, IsFalse, is_some}
+use Rattle.sqlval.specs.PageSizes.{is_size}
+use Rattle.std.proofs.Common.{◌≡◌, inl, inr, ◌<◌, ◌≤◌, ◌+◌, ◌-◌, ◌*◌, ◌^◌, ℕ, suc, List, [], Bool, true, false, length, get_or, take, drop, refl, sym, ◌∙◌, ap, arith}
+use Rattle.std.specs.Prelude.{Option, Some, None, IfSome, IsNone, is_some}
 use Rattle.std.proofs.Math.Nat.{mul-le-mul, mul-le-mul_right, pow-le-pow_right}
 use Rattle.sqlval.proofs.PageSizeLemmas.{size_is}
 use Rattle.walframe.specs.declared.log_header.LogHeader.{LogHeader}
-use Rattle.walframe.specs.declared.sums.Sum.{Sum}
 use Rattle.walframe.specs.Accepted.{frame_start, head_at}
 use Rattle.walframe.specs.Written.{Framed}
 use Rattle.walframe.proofs.Fronts.{start_more, start_rises}
 use Rattle.walindex.specs.declared.index.Index.{Index}
 use Rattle.walindex.specs.Index.{frames_of, FindsFrame, FindsNone}
 use Rattle.wal.specs.declared.state.State.{State}
-use Rattle.wal.specs.Committed.{framed_to, frames_under}
+use Rattle.wal.specs.Committed.{frames_under}
 use Rattle.wal.specs.Copying.{HasNone, IsOfNewest, StandsFor, frames_to}
 use Rattle.wal.specs.Indexed.{IsIndexTo}
 use Rattle.wal.specs.Stands.{LogStands, header_where}

@@ -1,19 +1,17 @@
 -- The database file while pages are copied into it, by rising number.
-use Rattle.std.proofs.Common.{◌≡◌, ◌⊎◌, inl, inr, ◌<◌, ◌≤◌, ◌+◌, ◌-◌, ◌*◌, ℕ, List, [], ◌∷◌, ◌++◌, length, take, refl, sym, ◌∙◌, ap, subst, arith}
-use Rattle.std.specs.Prelude.{IsTrue}
+use Rattle.std.proofs.Common.{◌≡◌, ◌⊎◌, inl, inr, ◌≤◌, ◌+◌, ◌-◌, ◌*◌, ℕ, List, length, take, refl, sym, ◌∙◌, ap, subst, arith}
 use Rattle.std.proofs.Math.Nat.{zero-mul, mul-le-mul_right}
-use Rattle.std.proofs.lemmas.Bool.{cases_lt, cases_eq}
-use Rattle.std.proofs.lemmas.List.{append-nil}
-use Rattle.disk.specs.Calls.{Gains, overwritten, write_version, Writes}
-use Rattle.disk.specs.File.{Version, File, Elapses, IsCurrent, IsContentLeft, versions, version_at}
+use Rattle.std.proofs.lemmas.Bool.{cases_eq}
+use Rattle.disk.specs.Calls.{Gains, overwritten, write_version}
+use Rattle.disk.specs.File.{Version, File, IsCurrent, IsContentLeft, versions}
 use Rattle.disk.proofs.Current.{current_left, writes_current, write_left}
 use Rattle.disk.proofs.Left.{versions_push}
 use Rattle.disk.proofs.Moments.{elapses_both, elapses_gains, elapses_refl, gains_versions}
 use Rattle.walframe.specs.Written.{Framed}
-use Rattle.wal.specs.Copying.{HasNone, IsOfNewest, place, SkipsPage, WritesPage, TearsPage, CopiesPage, FailsPage, CopiesTo, KeepsPages, AllKeep, Overwrites}
+use Rattle.wal.specs.Copying.{HasNone, IsOfNewest, place, SkipsPage, WritesPage, CopiesPage, FailsPage, CopiesTo, KeepsPages, AllKeep, Overwrites}
 use Rattle.wal.specs.View.{IsInFile, IsPageIn}
 use Rattle.wal.proofs.Changes.{page_one}
-use Rattle.wal.proofs.Places.{ends_at, over_here, over_other, over_reaches, over_grows, over_most, over_front, first_front}
+use Rattle.wal.proofs.Places.{over_here, over_other, over_reaches, over_grows, over_most, over_front, first_front}
 
 -- ---- what the pages are
 

@@ -1,18 +1,16 @@
 -- What a crash leaves of the database file while frames are copied into it, and what is there at the end.
-use Rattle.std.proofs.Common.{◌≡◌, ◌⊎◌, inl, inr, ◌<◌, ◌≤◌, ◌+◌, ◌-◌, ◌*◌, ℕ, Bool, true, false, List, [], ◌∷◌, ◌++◌, length, take, refl, sym, ◌∙◌, ap, subst, arith, length-take}
-use Rattle.std.specs.Prelude.{Option, IsTrue, IfErr, IsErrAnd, Result, Ok, Err, nat_lt, nat_le, ◌==◌, ◌&&◌, if◌then◌else◌}
+use Rattle.std.proofs.Common.{◌≡◌, ◌⊎◌, inl, inr, ◌<◌, ◌≤◌, ◌+◌, ◌-◌, ◌*◌, ℕ, Bool, true, false, List, [], ◌∷◌, length, take, refl, sym, ◌∙◌, ap, subst, arith, length-take}
+use Rattle.std.specs.Prelude.{IfErr, IsErrAnd, Result, Ok, Err, nat_lt, nat_le, ◌==◌, ◌&&◌, if◌then◌else◌}
 use Rattle.std.proofs.Math.Nat.{mul-le-mul_right}
 use Rattle.std.proofs.lemmas.Bool.{eqb-true, eq-eqb, ltb-true, ltb-false, leb-true}
-use Rattle.std.proofs.lemmas.List.{append-nil}
-use Rattle.disk.specs.Calls.{Gains, CutsFile, FailsToCut, Syncs, cut_version}
-use Rattle.disk.specs.File.{Version, File, Elapses, Always, IsLeft, IsSynced, IsCurrent, IsContentLeft, versions, version_at, whole}
-use Rattle.disk.proofs.Current.{current_left, cuts_current, cut_left, syncs_left, synced_current, synced_left}
+use Rattle.disk.specs.Calls.{Gains, FailsToCut, Syncs, cut_version}
+use Rattle.disk.specs.File.{Version, File, Elapses, IsLeft, IsSynced, IsCurrent, IsContentLeft, versions, whole}
+use Rattle.disk.proofs.Current.{current_left, cuts_current, cut_left, syncs_left, synced_left}
 use Rattle.disk.proofs.Left.{left_synced, versions_push}
-use Rattle.disk.proofs.Moments.{alone, always_unsynced, always_synced, always_weaker, elapses_both, elapses_gains, elapses_refl, gains_versions}
+use Rattle.disk.proofs.Moments.{alone, always_unsynced, always_synced, always_weaker, elapses_both, elapses_gains, elapses_refl}
 use Rattle.sqlval.specs.declared.fault.Fault.{Fault}
 use Rattle.sqlval.specs.declared.fault.Fault.TheVariants.{Damaged}
 use Rattle.sqlval.specs.declared.fault.Damage.TheVariants.{Size}
-use Rattle.walframe.specs.declared.log_header.LogHeader.{LogHeader}
 use Rattle.walframe.specs.Written.{Framed}
 use Rattle.walindex.specs.Index.{FindsNone}
 use Rattle.wal.specs.declared.log.Snapshot.{Snapshot}
@@ -21,7 +19,7 @@ use Rattle.wal.specs.Alone.{StandsAlone}
 use Rattle.wal.specs.Committed.{frames_under}
 use Rattle.wal.specs.Commits.{commits_of}
 use Rattle.wal.specs.Copies.{CopiesMeanwhile, HasCopied, IsCopyRefusal, IsMissing, LeavesShown, ShowsStill, copied_size, frames_seen, sees_uncopied}
-use Rattle.wal.specs.Copying.{AllKeep, CopiesTo, CutsTo, HasNone, IsOfNewest, KeepsPages, Overwrites, StandsFor, copied_len, place}
+use Rattle.wal.specs.Copying.{AllKeep, CopiesTo, CutsTo, IsOfNewest, KeepsPages, Overwrites, StandsFor, copied_len}
 use Rattle.wal.specs.LogState.{LogState, header_of, seen_by, size_of, state_in}
 use Rattle.wal.specs.Stands.{header_where}
 use Rattle.wal.specs.View.{IsInFile, IsPageIn}

@@ -1,5 +1,5 @@
 -- Frames that are copied into the database file, page by page: what the functions inside say of it.
-use Rattle.std.specs.Prelude.{◌≡◌, ◌⊎◌, ◌<◌, ◌≤◌, ◌+◌, ◌-◌, ◌*◌, ◌==◌, ℕ, Bool, true, List, length, take, nat_lt, slice_index_or, IsTrue, if◌then◌else◌}
+use Rattle.std.specs.Prelude.{◌≡◌, ◌⊎◌, ◌<◌, ◌≤◌, ◌-◌, ◌*◌, ◌==◌, ℕ, Bool, true, List, length, take, nat_lt, slice_index_or, if◌then◌else◌}
 use Rattle.disk.specs.Calls.{Writes, FailsToWrite, CutsFile}
 use Rattle.disk.specs.File.{File, Version, Elapses, versions, version_at}
 use Rattle.sqlval.specs.declared.fault.Fault.{Fault}

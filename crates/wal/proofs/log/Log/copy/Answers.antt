@@ -1,10 +1,9 @@
-use Rattle.std.proofs.Common.{◌≡◌, ◌∙◌, ◌≤◌, ℕ, List, true, false, ap, sym, subst, refl, arith, length}
+use Rattle.std.proofs.Common.{◌≡◌, ◌∙◌, ◌≤◌, ℕ, true, false, sym, subst, refl}
 use Rattle.std.specs.Prelude.{IsTrue}
 use Rattle.disk.specs.File.{File, IsSynced}
 use Rattle.wal.specs.Alone.{StandsAlone}
 use Rattle.wal.specs.Committed.{frames_under}
-use Rattle.wal.specs.Copies.{copied_size}
-use Rattle.wal.specs.LogState.{state_in, seen_by}
+use Rattle.wal.specs.LogState.{state_in}
 use Rattle.wal.specs.Stale.{HasCleanTail}
 use Rattle.wal.specs.Stands.{LogStands, header_where}
 use Rattle.wal.proofs.Shown.{copied_known, is_missing, meanwhile_known, missing_refused, seen_bounds, shown_nothing, stands_alone}

@@ -1,12 +1,10 @@
-use Rattle.std.proofs.Common.{◌≡◌, ◌∙◌, ◌+◌, ◌-◌, ◌*◌, ◌≤◌, ℕ, List, Bool, true, ap, sym, subst, refl, arith, length}
+use Rattle.std.proofs.Common.{◌∙◌, ◌+◌, ◌*◌, ◌≤◌, ℕ, ap, sym, subst, refl, arith, length}
 use Rattle.std.specs.Prelude.{IsTrue, ◌==◌}
 use Rattle.std.proofs.Math.Nat.{mul-le-mul_right}
 use Rattle.std.proofs.lemmas.Bool.{eqb-true}
-use Rattle.disk.specs.Calls.{Syncs}
-use Rattle.disk.specs.File.{File, IsSynced}
 use Rattle.disk.proofs.Current.{current_left, synced_current}
 use Rattle.disk.proofs.Moments.{syncs_synced}
-use Rattle.wal.specs.Copies.{CopiesMeanwhile, HasCopied, copied_size, frames_seen}
+use Rattle.wal.specs.Copies.{CopiesMeanwhile, HasCopied, frames_seen}
 use Rattle.wal.specs.Copying.{CopiesTo, copied_len}
 use Rattle.wal.specs.LogState.{state_in}
 use Rattle.wal.proofs.Fetched.{size_low}

@@ -1,8 +1,4 @@
-use Rattle.std.proofs.Common.{◌≡◌, ◌⊎◌, inl, inr, ◌∙◌, ◌+◌, ◌-◌, ◌*◌, ℕ, List, ap, sym, subst, refl, arith, take, drop, length}
-use Rattle.std.specs.Prelude.{IsTrue}
-use Rattle.disk.specs.Calls.{Writes, FailsToWrite}
-use Rattle.disk.specs.File.{File}
-use Rattle.wal.specs.Copying.{frames_to, place}
+use Rattle.std.proofs.Common.{inl, inr, ◌∙◌, ◌+◌, ℕ, ap, refl, arith, take, drop}
 use Rattle.wal.proofs.Fetched.{frame_low, page_inside, newest_found, has_none}
 use Rattle.wal.proofs.Results.{on_ok_from, on_err_from}
 use Rattle.wal.proofs.state.State.copy_page.Goals as goal

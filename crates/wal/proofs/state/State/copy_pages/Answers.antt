@@ -1,7 +1,7 @@
-use Rattle.std.proofs.Common.{◌≡◌, ◌∙◌, ◌+◌, ◌-◌, ◌*◌, ◌≤◌, ℕ, ap, sym, subst, refl, arith, length}
+use Rattle.std.proofs.Common.{◌∙◌, ◌+◌, ap, sym, arith}
 use Rattle.std.specs.Prelude.{IsTrue}
-use Rattle.disk.specs.File.{File, IsCurrent, IsContentLeft}
-use Rattle.wal.specs.Copying.{CopiesPage, FailsPage, frames_to, place}
+use Rattle.disk.specs.File.{File}
+use Rattle.wal.specs.Copying.{frames_to}
 use Rattle.wal.proofs.Fetched.{size_low}
 use Rattle.wal.proofs.Filling.{copies_more, copies_told, current_more, fails_told, keeps_on, left_torn, overwrites_more, overwrites_torn}
 use Rattle.wal.proofs.Results.{at_err}
