@@ -1,16 +1,16 @@
 //! Frames that are copied into the database file.
 
-ghost use Rattle.std.specs.Prelude.{◌≡◌, ◌⊎◌, ◌<◌, ◌≤◌, ◌+◌, ◌*◌, length, false, IsTrue, IsFalse, OnOk, OnErr, IfErr, MatchResult};
+ghost use Rattle.std.specs.Prelude.{◌≡◌, ◌⊎◌, ◌<◌, ◌≤◌, ◌+◌, ◌*◌, length, false, IsTrue, IsFalse, OnOk, OnErr, IfErr, IfSome, IsNone, MatchResult};
 ghost use Rattle.disk.specs.Calls.{FailsToCut, Syncs};
 ghost use Rattle.disk.specs.File.{IsSynced, IsCurrent, IsContentLeft};
 ghost use Rattle.walframe.specs.Accepted.{KeepsFile};
-ghost use Rattle.walindex.specs.Index.{FindsNone};
+ghost use Rattle.walindex.specs.Index.{FindsFrame, FindsNone};
 ghost use Rattle.wal.specs.Alone.{StandsAlone};
 ghost use Rattle.wal.specs.Commits.{commits_of};
 ghost use Rattle.wal.specs.Copies.{Copies, CopiesMeanwhile, HasCopied, IsCopyRefusal, IsMissing, IsStateCopied, copied_size, sees_uncopied};
 ghost use Rattle.wal.specs.Copying.{AreReached, CopiesPage, CopiesTo, CutsTo, FailsPage, IsReached, LacksPage, Overwrites, StandsFor, copied_len, frames_to, place};
 ghost use Rattle.wal.specs.ErrorCauses.{AreErrorCauses, HasCause, TouchesDisk};
-ghost use Rattle.wal.specs.LogState.{state_in, seen_by, size_of};
+ghost use Rattle.wal.specs.LogState.{state_in, seen_by};
 ghost use Rattle.wal.specs.Restarts.{is_copied};
 
 use crate::log::{Log, Snapshot};
@@ -75,12 +75,28 @@ impl State {
         }
     }
 
+    /// The newest frame of a page up to a mark.
+    fn newest_frame(&self, mark: u32, number: u32) -> Option<u32>
+        ensures found { IfSome result (λ frame. FindsFrame number mark self.now.index frame) }
+        ensures none { IsNone result → FindsNone number mark self.now.index }
+    {
+        self.index.find(number, mark)
+    }
+
+    /// Where a page begins in the database file.
+    fn place(&self, number: u32) -> u64
+        requires { 1 ≤ number }
+        ensures { result ≡ place self.now.page_size number }
+    {
+        (number as u64 - 1) * self.page_size as u64
+    }
+
     /// Whether a page has a frame up to a mark, or is in the database file.
     fn is_there(&self, mark: u32, number: u32) -> bool
         ensures there { IsTrue result → IsReached self.now mark number self.now.db_len }
         ensures lacks { IsFalse result → FindsNone number mark self.now.index × (self.now.db_len < number * self.now.page_size) }
     {
-        self.index.find(number, mark).is_some()
+        self.newest_frame(mark, number).is_some()
             || number as u64 * self.page_size as u64 <= self.db_len
     }
 
@@ -89,7 +105,7 @@ impl State {
         ensures there { OnOk result (AreReached self.now mark size self.now.db_len) }
         ensures refused { IfErr result (LacksPage self.now mark size) }
     {
-        'pages: for i in 0..size {
+        'numbers: for i in 0..size {
             if !self.is_there(mark, i + 1) {
                 return Err(Fault::Damaged(Damage::Size, i + 1));
             }
@@ -121,12 +137,12 @@ impl State {
         ensures causes { AreErrorCauses false result (D.failures db.old) (D.failures db.new) (D.failures log.old) (D.failures log.new) }
         ensures io { IfErr result (λ fault. fault ≡ Fault.Io) }
     {
-        let Some(frame) = self.index.find(number, mark) else {
+        let Some(frame) = self.newest_frame(mark, number) else {
             return Ok(());
         };
         let at = self.offset(frame) + FrameHeader::LEN as u64;
         log.read_at(at, page)?;
-        db.write_at((number as u64 - 1) * self.page_size as u64, page)
+        db.write_at(self.place(number), page)
     }
 
     /// Copies the newest frame up to a mark of each page up to a size into the database file.

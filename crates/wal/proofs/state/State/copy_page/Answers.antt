@@ -1,4 +1,5 @@
-use Rattle.std.proofs.Common.{inl, inr, ◌∙◌, ◌+◌, ℕ, ap, refl, arith, take, drop}
+use Rattle.std.proofs.Common.{inl, inr, ◌∙◌, ◌+◌, ℕ, ap, subst, refl, arith, take, drop}
+use Rattle.disk.specs.Calls.{Writes, FailsToWrite}
 use Rattle.wal.proofs.Fetched.{frame_low, page_inside, newest_found, has_none}
 use Rattle.wal.proofs.Results.{on_ok_from, on_err_from}
 use Rattle.wal.proofs.state.State.copy_page.Goals as goal
@@ -30,7 +31,7 @@ returns-clause-copied g c told_db =
       size = omega (arith, c.read_at.auto.buf, c.requires.size);
       newest = λ told. newest_found s log c.read_at.new.buf c.args.mark c.args.number c.in-Some.frame c.offset.result (c.requires.stands told) c.in-Some.ensures.found c.requires.mark c.requires.number.1 c.offset.ensures
           (c.in_ok-read_at.ensures.read told ∙ ap (λ (n : ℕ). take n (drop (c.offset.result + 24) log)) c.requires.size);
-      writes = writes;
+      writes = subst (λ (at : ℕ). Writes at c.read_at.new.buf (g.D.Disk.file c.args.db.now) (g.D.Disk.file c.write_at.new.self)) c.place.ensures writes;
     }))
     (c.write_at.ensures.done told_db)
 
@@ -46,7 +47,7 @@ returns-clause-failed g c told_db =
         size = omega (arith, c.read_at.auto.buf, c.requires.size);
         newest = λ told. newest_found s log c.read_at.new.buf c.args.mark c.args.number c.in-Some.frame c.offset.result (c.requires.stands told) c.in-Some.ensures.found c.requires.mark c.requires.number.1 c.offset.ensures
             (c.in_ok-read_at.ensures.read told ∙ ap (λ (n : ℕ). take n (drop (c.offset.result + 24) log)) c.requires.size);
-        fails = fails;
+        fails = subst (λ (at : ℕ). FailsToWrite at c.read_at.new.buf (g.D.Disk.file c.args.db.now) (g.D.Disk.file c.write_at.new.self)) c.place.ensures fails;
       })
     ])
     (c.write_at.ensures.failed told_db)
