@@ -21,3 +21,7 @@ pub mod Views
 pub mod Changes
 pub mod Settled
 pub mod Standing
+pub mod Places
+pub mod Fetched
+pub mod Filling
+pub mod Shown

@@ -16,8 +16,8 @@ use walframe::FrameHeader;
 /// A snapshot: the frames up to a mark.
 #[derive(Clone, Copy, Debug, PartialEq, Eq)]
 pub struct Snapshot {
-    mark: u32,
-    size: u32,
+    pub(crate) mark: u32,
+    pub(crate) size: u32,
     ghost few: { size ≤ 65536 },
 }
 
