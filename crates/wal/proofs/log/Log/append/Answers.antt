@@ -16,6 +16,7 @@ use Rattle.wal.proofs.Staling.{base_is, place_is, clean_as, clean_begun}
 use Rattle.wal.proofs.Rooms.{strict_pages}
 use Rattle.wal.proofs.Same.{stands_as, known_same, reserved}
 use Rattle.wal.proofs.CommitCrashes.{writes_commit, writes_nothing}
+use Rattle.wal.proofs.Standing.{copied_same}
 use Rattle.wal.proofs.log.Log.append.Goals as goal
 
 pub invariant_of-self : goal.invariant_of-self
@@ -25,7 +26,8 @@ invariant_of-self g c =
     let same = c.reserve.ensures.same in
     let log = (g.D.Disk.file c.args.self.now.log).content in
     record {
-      db_there = λ told. omega (arith, same.db_len, c.args.self.now.db_there told);
+      db_there = λ ok told. omega (arith, same.db_len, c.args.self.now.db_there c.requires.whole told);
+      db_copied = λ ok told told_log. copied_same old s (g.D.Disk.file c.args.self.now.db).content log same (c.args.self.now.db_copied c.requires.whole told told_log);
       log_clean = λ ok told clean. clean_as old.header s.header old.is_begun s.is_begun old.mark s.mark log same.header same.is_begun same.mark (c.args.self.now.log_clean c.requires.whole told (sym same.is_clean ∙ clean));
       log_synced = λ ok told. c.args.self.now.log_synced c.requires.whole told;
       log_there = λ ok told. reserved old s log same (c.args.self.now.log_there c.requires.whole told);
@@ -38,7 +40,8 @@ invariant_of-self-in-Break-branch-3 g c =
     let same = c.reserve.ensures.same in
     let log = (g.D.Disk.file c.args.self.now.log).content in
     record {
-      db_there = λ told. omega (arith, same.db_len, c.args.self.now.db_there told);
+      db_there = λ ok told. omega (arith, same.db_len, c.args.self.now.db_there c.requires.whole told);
+      db_copied = λ ok told told_log. copied_same old s (g.D.Disk.file c.args.self.now.db).content log same (c.args.self.now.db_copied c.requires.whole told told_log);
       log_clean = λ ok told clean. clean_as old.header s.header old.is_begun s.is_begun old.mark s.mark log same.header same.is_begun same.mark (c.args.self.now.log_clean c.requires.whole told (sym same.is_clean ∙ clean));
       log_synced = λ ok told. c.args.self.now.log_synced c.requires.whole told;
       log_there = λ ok told. reserved old s log same (c.args.self.now.log_there c.requires.whole told);
@@ -68,7 +71,8 @@ invariant_of-self-6 g c =
     (wrote s.header s.is_begun s.is_clean s.mark c.end-end.result s.sum fs log new c.deref.result.now [] (written s.header s.sum fs) (front told) (base told)
     (c.in_ok-write_out.ensures.written told) (place_is s.header s.is_begun s.mark c.end-end.result (before told).none c.end-end.ensures) (c.deref.ensures.value ∙ c.in_ok-bytes.ensures.bytes) refl refl) in
     record {
-      db_there = λ told. omega (arith, admits.db_len, same.db_len, c.args.self.now.db_there told);
+      db_there = λ ok told. omega (arith, admits.db_len, same.db_len, c.args.self.now.db_there c.requires.whole told);
+      db_copied = λ ok told told_log some all. absurd (omega (arith, all, admits.copied, admits.mark, s.copied_few, c.requires.some));
       log_clean = λ ok told_now clean. clean_as s.header made.header true made.is_begun (s.mark + length c.args.pages.now) made.mark new admits.header admits.is_begun admits.mark
           (clean_begun s.header (s.mark + length c.args.pages.now) new (subst (λ (n : ℕ). IsStaleFrom s.header (s.mark + n) new) (pages_len c.args.pages.now c.args.size) (grown (sym c.in_ok-write_out.ensures.touches.tells_same ∙ told_now)).stale));
       log_synced = λ ok told_now. c.in_ok-write_out.ensures.synced (sym c.in_ok-write_out.ensures.touches.tells_same ∙ told_now);

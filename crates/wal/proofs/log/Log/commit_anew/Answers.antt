@@ -12,6 +12,7 @@ use Rattle.wal.proofs.CommitLemmas.{pages_len}
 use Rattle.wal.proofs.Rooms.{strict_pages}
 use Rattle.wal.proofs.Same.{known_same, reserved}
 use Rattle.wal.proofs.Staling.{clean_as}
+use Rattle.wal.proofs.Standing.{copied_same}
 use Rattle.wal.proofs.log.Log.commit_anew.Goals as goal
 
 pub returns-in_err-check_limits-clause-crash : goal.returns-in_err-check_limits-clause-crash
@@ -26,7 +27,8 @@ invariant_of-self g c =
     let same = c.reserve.ensures.same in
     let log = (g.D.Disk.file c.args.self.now.log).content in
     record {
-      db_there = λ told. omega (arith, same.db_len, c.args.self.now.db_there told);
+      db_there = λ ok told. omega (arith, same.db_len, c.args.self.now.db_there c.requires.whole told);
+      db_copied = λ ok told told_log. copied_same old s (g.D.Disk.file c.args.self.now.db).content log same (c.args.self.now.db_copied c.requires.whole told told_log);
       log_clean = λ ok told clean. clean_as old.header s.header old.is_begun s.is_begun old.mark s.mark log same.header same.is_begun same.mark (c.args.self.now.log_clean c.requires.whole told (sym same.is_clean ∙ clean));
       log_synced = λ ok told. c.args.self.now.log_synced c.requires.whole told;
       log_there = λ ok told. reserved old s log same (c.args.self.now.log_there c.requires.whole told);
@@ -44,7 +46,8 @@ invariant_of-self-in-Break-branch-3 g c =
     let same = c.reserve.ensures.same in
     let log = (g.D.Disk.file c.args.self.now.log).content in
     record {
-      db_there = λ told. omega (arith, same.db_len, c.args.self.now.db_there told);
+      db_there = λ ok told. omega (arith, same.db_len, c.args.self.now.db_there c.requires.whole told);
+      db_copied = λ ok told told_log. copied_same old s (g.D.Disk.file c.args.self.now.db).content log same (c.args.self.now.db_copied c.requires.whole told told_log);
       log_clean = λ ok told clean. clean_as old.header s.header old.is_begun s.is_begun old.mark s.mark log same.header same.is_begun same.mark (c.args.self.now.log_clean c.requires.whole told (sym same.is_clean ∙ clean));
       log_synced = λ ok told. c.args.self.now.log_synced c.requires.whole told;
       log_there = λ ok told. reserved old s log same (c.args.self.now.log_there c.requires.whole told);
@@ -104,7 +107,8 @@ invariant_of-self-4 g c =
     c.restart.ensures.none (rewritten told) in
     let after_is = c.in_ok-bytes.ensures.sum ∙ ap (λ (m : Sum). sum_after next m fs) c.sum-sum.ensures in
     record {
-      db_there = λ told. omega (arith, c.advance.ensures.db_len, c.restart.ensures.db_len, c.reserve.ensures.same.db_len, c.args.self.now.db_there told);
+      db_there = λ ok told. omega (arith, c.advance.ensures.db_len, c.restart.ensures.db_len, c.reserve.ensures.same.db_len, c.args.self.now.db_there c.requires.whole told);
+      db_copied = λ ok told told_log some all. absurd (omega (arith, some, all, c.advance.ensures.copied, c.restart.ensures.copied));
       log_clean = λ ok now clean. anew_clean next c.args.size c.in_ok-bytes.sum_now c.args.pages.now _ r made (rewritten (told_before now)).begun.content new_file.content c.restart.ensures c.advance.ensures (all (told_before now));
       log_synced = λ ok now. (rewritten (told_before now)).synced;
       log_there = λ ok now. anew_stands next c.args.size c.in_ok-bytes.sum_now c.args.pages.now _ r made (rewritten (told_before now)).begun.content new_file.content c.restart.ensures c.advance.ensures after_is (all (told_before now));
