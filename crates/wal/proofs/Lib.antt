@@ -9,6 +9,7 @@ pub mod FrameLists
 pub mod Same
 pub mod Staling
 pub mod Renewing
+pub mod AnewCommits
 pub mod Appending
 pub mod Halting
 pub mod Lefts
@@ -21,3 +22,7 @@ pub mod Views
 pub mod Changes
 pub mod Settled
 pub mod Standing
+pub mod Places
+pub mod Fetched
+pub mod Filling
+pub mod Shown

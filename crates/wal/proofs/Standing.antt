@@ -1,13 +1,12 @@
 -- A database file that stands for itself, when what is known of the files changes.
-use Rattle.std.proofs.Common.{◌≡◌, ◌∙◌, ◌<◌, ℕ, Bool, true, false, List, take, refl, sym, subst, ap, arith}
+use Rattle.std.proofs.Common.{◌≡◌, ◌∙◌, ◌<◌, ℕ, Bool, true, false, List, take, refl, sym, subst, ap}
 use Rattle.std.specs.Prelude.{nat_lt, ◌==◌, ◌&&◌}
 use Rattle.std.proofs.lemmas.Bool.{ltb-true, eqb-true}
-use Rattle.walframe.specs.declared.log_header.LogHeader.{LogHeader}
 use Rattle.walframe.specs.Written.{Framed}
 use Rattle.wal.specs.declared.state.State.{State}
 use Rattle.wal.specs.Alone.{StandsAlone, StandsWhereCopied}
 use Rattle.wal.specs.Committed.{frames_under}
-use Rattle.wal.specs.LogState.{LogState, state_in, header_of}
+use Rattle.wal.specs.LogState.{LogState, state_in}
 use Rattle.wal.specs.Restarts.{is_copied}
 use Rattle.wal.specs.State.{SameState}
 use Rattle.wal.specs.Stands.{LogStands, header_where, log_end}

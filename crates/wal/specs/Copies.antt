@@ -6,7 +6,6 @@ use Rattle.sqlval.specs.declared.fault.Fault.TheVariants.{Memory, Io, Failed, Da
 use Rattle.sqlval.specs.declared.fault.Damage.TheVariants.{Size}
 use Rattle.walframe.specs.Written.{Framed}
 use Rattle.wal.specs.declared.log.Snapshot.{Snapshot}
-use Rattle.wal.specs.Alone.{StandsAlone}
 use Rattle.wal.specs.Committed.{frames_under}
 use Rattle.wal.specs.Commits.{after_refusal, commits_of}
 use Rattle.wal.specs.LogState.{LogState, header_of, seen_by, size_of}

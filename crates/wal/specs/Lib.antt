@@ -12,6 +12,7 @@ pub mod LogState
 pub mod Opened
 pub mod Commits
 pub mod Copies
+pub mod Copying
 pub mod Chains
 pub mod Crashes
 pub mod Restarts

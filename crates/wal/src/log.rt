@@ -16,9 +16,21 @@ use walframe::FrameHeader;
 /// A snapshot: the frames up to a mark.
 #[derive(Clone, Copy, Debug, PartialEq, Eq)]
 pub struct Snapshot {
-    mark: u32,
-    size: u32,
+    pub(crate) mark: u32,
+    pub(crate) size: u32,
     ghost few: { size ≤ 65536 },
+}
+
+impl Snapshot {
+    ghost use Rattle.std.specs.Prelude.{◌≡◌};
+    ghost use Rattle.wal.specs.LogState.{seen_by};
+
+    /// How many frames it sees.
+    pub fn mark(&self) -> u32
+        ensures { result ≡ seen_by self.now }
+    {
+        self.mark
+    }
 }
 
 /// The two disks of files that couldn't be synced or opened, and why.
@@ -71,6 +83,21 @@ impl<D: Disk> Log<D> {
             mark: self.state.mark,
             size: self.state.size,
         }
+    }
+
+    /// How many frames are committed.
+    pub fn frame_count(&self) -> u32
+        ensures { result ≡ (state_of self.now).frames }
+    {
+        self.state.mark
+    }
+
+    /// How many of them were copied into the database file since it was opened.
+    pub fn copied_count(&self) -> u32
+        ensures is { result ≡ (state_of self.now).copied }
+        ensures few { result ≤ (state_of self.now).frames }
+    {
+        self.state.copied
     }
 
     /// The size of a snapshot, in pages.
