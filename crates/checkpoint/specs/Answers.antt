@@ -1,6 +1,6 @@
 -- What a checkpoint answers (PRAGMA Statements, "wal_checkpoint").
-use Rattle.std.specs.Prelude.{◌≡◌, ℕ, Bool, IsTrue, if◌then◌else◌, ◌==◌, max}
-use Rattle.wal.specs.LogState.{LogState, seen_by}
+use Rattle.std.specs.Prelude.{Bool, false}
+use Rattle.wal.specs.LogState.{LogState}
 use Rattle.wal.specs.Copies.{after_copying}
 use Rattle.wal.specs.declared.log.Snapshot.{Snapshot}
 use Rattle.checkpoint.specs.declared.checkpoints.Counts.{Counts}

@@ -69,4 +69,4 @@ module _ {D : Type 0} {g : Ghosts D} where
 
   -- why it is refused: when out of memory, which changes nothing, or where a call of a disk failed
   abbrev pub IsCheckpointRefusal : Log D g → Log D g → Fault → Type 0
-  IsCheckpointRefusal old new fault = (fault ≡ Memory) × (new ≡ old) ⊎ (fault ≡ Io)
+  IsCheckpointRefusal old new fault = (fault ≡ Memory) × (state_of new ≡ state_of old) × (db_of new ≡ db_of old) × (log_of new ≡ log_of old) ⊎ (fault ≡ Io)
