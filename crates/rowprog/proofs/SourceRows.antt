@@ -1,8 +1,8 @@
 -- The rows of a tree, as a query's source has them.
-use Rattle.std.proofs.Common.{◌≡◌, ◌⊎◌, inl, inr, refl, sym, ap, subst, ◌∙◌, ℕ, ℤ, ◌++◌, List, [], ◌∷◌, map, Ok, Err}
-use Rattle.std.specs.Prelude.{Option, Result, IsErrAnd, ⊤}
-use Rattle.std.proofs.lemmas.List.{map-append}
-use Rattle.sqlval.specs.Faults.{IsNotDiskFault, IsOutside}
+use Rattle.std.proofs.Common.{◌≡◌, ◌⊎◌, inl, inr, refl, sym, ap, subst, ◌∙◌, ℕ, ◌+◌, ◌<◌, ℤ, ◌++◌, List, [], ◌∷◌, length, map, take, slice_index_or, Ok, Err}
+use Rattle.std.specs.Prelude.{Option, Result, IsErrAnd}
+use Rattle.std.proofs.lemmas.List.{map-append, map_more}
+use Rattle.sqlval.specs.Faults.{IsNotDiskFault, IsOrMemory, IsOutside}
 use Rattle.sqlval.specs.Gives.{Refuses}
 use Rattle.sqlval.specs.declared.fault.Fault.{Fault}
 use Rattle.sqlval.specs.declared.value.Value.{Value}
@@ -20,8 +20,8 @@ use Rattle.rowprog.specs.Answers.{◌and◌, every, left, with_front}
 use Rattle.rowprog.specs.Rows.{IsRow, TableRow}
 use Rattle.rowprog.specs.Sources.{GivesRows, LoadsRows, as_held, as_source, source_at}
 use Rattle.rowprog.proofs.Calm.{rows_calm}
-use Rattle.rowprog.proofs.RowLemmas.{ok_is}
-use Rattle.rowprog.proofs.Steps.{begins, refused_so}
+use Rattle.rowprog.proofs.RowLemmas.{no_row, ok_is}
+use Rattle.rowprog.proofs.Steps.{refused_so}
 
 abbrev fine : {A : Type 0} → A → Result A Fault
 fine x = Ok x
@@ -77,26 +77,21 @@ left_calm entries front fault refuses = elim (refused_so fault (left source_at e
 
 -- ---- the next rows
 
--- added to none, the rows of a batch are these
-pub batch_held : (batch : List Entry) (front found : List Row) → front ≡ [] → left source_at batch front ≡ Ok found → found ≡ map as_held batch
-batch_held batch front found none is =
-    ok_is (sym is ∙ (ap (λ (f : List Row). left source_at batch f) none ∙ (begins source_at batch ∙ every_held batch)))
+-- where the next row of a batch was put behind those before it, the rows up to it are held
+pub holds_more : (batch : List Entry) (i : ℕ) (entry : Entry) (before after : List Row) → i < length batch → entry ≡ slice_index_or batch i no_row
+    → take i before ≡ map as_held (take i batch) → take (i + 1) after ≡ take i before ++ as_held entry ∷ [] → take (i + 1) after ≡ map as_held (take (i + 1) batch)
+holds_more batch i entry before after lt is so_far put =
+    put ∙ (ap (λ (front : List Row). front ++ as_held entry ∷ []) so_far
+    ∙ (ap (λ (e : Entry). map as_held (take i batch) ++ as_held e ∷ []) is ∙ sym (map_more as_held batch i no_row lt)))
 
-pub next_given : (pages : PageMap) (size root : ℕ) (next later : Option ℤ) (batch : List Entry) (found : List Row) → found ≡ map as_held batch → GivesBatch pages size root next later batch (Ok tt) → GivesRows pages size root next later (Ok found)
-next_given pages size root next later batch found is gives entries used whole tree =
+-- they are the next ones, or memory was short
+pub next_given : (pages : PageMap) (size root : ℕ) (next later : Option ℤ) (batch : List Entry) (result : Result (List Row) Fault) → IsOrMemory (λ rows. rows ≡ map as_held batch) result
+    → GivesBatch pages size root next later batch (Ok tt) → GivesRows pages size root next later result
+next_given pages size root next later batch (Ok found) is gives entries used whole tree =
     ap (map as_held) (gives entries used whole tree).0 ∙ (map-append as_held batch (rows_from later entries) ∙ ap (λ (f : List Row). f ++ map as_held (rows_from later entries)) (sym is))
+next_given pages size root next later batch (Err fault) memory gives entries used whole tree = inl memory
 
 pub next_unread : (pages : PageMap) (size root : ℕ) (next later : Option ℤ) (batch : List Entry) (fault : Fault) (result : Result (List Row) Fault) → IsErrAnd result (λ e. e ≡ fault)
     → GivesBatch pages size root next later batch (Err fault) → GivesRows pages size root next later result
 next_unread pages size root next later batch fault (Ok x) same gives = absurd same
 next_unread pages size root next later batch fault (Err e) same gives = λ entries used whole tree. subst IsOutside (sym same) (gives entries used whole tree)
-
--- only for want of memory is a row not added
-pub next_unheld : (pages : PageMap) (size root : ℕ) (next later : Option ℤ) (batch : List Entry) (front : List Row) (fault : Fault) (result : Result (List Row) Fault) → IsErrAnd result (λ e. e ≡ fault)
-    → Refuses fault (left source_at batch front) → GivesRows pages size root next later result
-next_unheld pages size root next later batch front fault (Ok x) same refuses = absurd same
-next_unheld pages size root next later batch front fault (Err e) same refuses = λ entries used whole tree.
-    subst IsOutside (sym same) (elim (refused_so fault (left source_at batch front) refuses) [
-      | inl memory ↦ inl memory
-      | inr is ↦ absurd (no_both (front ++ map as_held batch) fault (sym (front_held front batch) ∙ is))
-    ])

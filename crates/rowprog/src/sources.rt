@@ -1,11 +1,12 @@
 //! The rows of a table as a query's source.
 
-ghost use Rattle.std.specs.Prelude.{◌≡◌, [], IfErr, IfOk, IsTrue};
+ghost use Rattle.std.specs.Prelude.{◌≡◌, ◌+◌, ◌++◌, ◌∷◌, [], map, take, IfErr, IfOk, IsTrue};
+ghost use Rattle.sqlval.specs.Faults.{IsOrMemory};
 ghost use Rattle.sqlval.specs.Gives.{Gives};
 ghost use Rattle.pages.specs.Calls.{Stays};
 ghost use Rattle.tabletree.specs.Scanning.{IsForward, entry_in};
 ghost use Rattle.rowprog.specs.Answers.{left};
-ghost use Rattle.rowprog.specs.Sources.{GivesRows, HoldRows, LoadsRows, source_at};
+ghost use Rattle.rowprog.specs.Sources.{GivesRows, HoldRows, LoadsRows, as_held, source_at};
 
 use bind::BoundSource;
 use pages::Pages;
@@ -50,16 +51,36 @@ pub fn source_rows<P: Pages>(alloc: Global, pages: &mut P, table: BoundSource) -
     Ok(rows)
 }
 
-/// A list of no rows, in the memory of these.
-fn emptied(rows: Many<SourceRow>) -> Many<SourceRow>
-    ensures { result ≡ [] }
+/// Writes the row of a batch over that at a place, or puts it behind the last where there is none. (`Memory`.)
+fn put_source_row(
+    alloc: Global,
+    rows: &mut Vec<SourceRow>,
+    place: usize,
+    row: BatchEntry<'_>,
+) -> R<()>
+    ensures { IsOrMemory (λ done. take (place + 1) rows.new.items
+        ≡ take place rows.old.items ++ as_held (entry_in row.entry) ∷ []) result }
 {
-    let mut items = rows.into_vec();
-    items.clear();
-    Many::from_vec(items)
+    match rows.get_mut(place) {
+        Some(there) => there.refill(Some(row.rowid), row.payload)?,
+        None => rows.push(source_row(alloc, row)?)?,
+    }
+    Ok(())
 }
 
-/// The next rows of a table's tree, in the memory of others: at least one, unless the cursor is at the end. (What `Cursor::next_batch`
+/// The rows of a batch, written over these. (`Memory`.)
+fn batch_rows(alloc: Global, batch: &Batch, rows: Many<SourceRow>) -> R<Many<SourceRow>>
+    ensures { IsOrMemory (λ rows. rows ≡ map as_held batch.now) result }
+{
+    let mut items = rows.into_vec();
+    'written: for place in 0..batch.len() {
+        put_source_row(alloc, &mut items, place, batch.row(place))?;
+    }
+    items.truncate(batch.len());
+    Ok(Many::from_vec(items))
+}
+
+/// The next rows of a table's tree, written over others: at least one, unless the cursor is at the end. (What `Cursor::next_batch`
 /// refuses.)
 pub fn next_source_rows<P: Pages>(
     alloc: Global,
@@ -74,10 +95,8 @@ pub fn next_source_rows<P: Pages>(
     ensures root { cursor.new.root ≡ cursor.old.root }
     ensures stays { Stays P.Pages.below P.Pages.map P.Pages.count P.Pages.failures result pages.old pages.new }
 {
-    let mut next = emptied(rows);
     cursor.next_batch(pages, batch)?;
-    add_source_rows(alloc, batch, &mut next)?;
-    Ok(next)
+    batch_rows(alloc, batch, rows)
 }
 
 /// Entries that are rows of a table are held as these.

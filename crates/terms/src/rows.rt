@@ -46,7 +46,7 @@ pub struct Env<'a> {
 }
 
 impl SourceRow {
-    ghost use Rattle.std.specs.Prelude.{IfOk};
+    ghost use Rattle.std.specs.Prelude.{IfOk, OnOk};
     ghost use Rattle.record.specs.Columns.{values_in};
     ghost use Rattle.terms.specs.Stored.{rowid_value};
 
@@ -58,6 +58,15 @@ impl SourceRow {
             rowid,
             record: SmallVec::from_slice(alloc, bytes)?,
         })
+    }
+
+    /// The row becomes that of the record in these bytes, in the memory that it has where they fit.
+    pub fn refill(&mut self, rowid: Option<i64>, bytes: &[u8]) -> Result<(), AllocError>
+        ensures { OnOk result (self.new ≡ record { rowid = rowid_value rowid; values = values_in bytes.now }) }
+    {
+        self.rowid = rowid;
+        self.record.clear();
+        self.record.extend_from_slice(bytes)
     }
 
     /// The rowid, if it has one.
