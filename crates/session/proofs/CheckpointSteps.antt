@@ -40,10 +40,11 @@ use Rattle.session.specs.declared.seats.Seat.{Seat}
 use Rattle.session.specs.declared.seats.Transaction.{Transaction}
 use Rattle.session.specs.declared.seats.Transaction.TheVariants as transaction
 use Rattle.session.specs.declared.transactions.Connections.{Connections}
+use Rattle.session.proofs.Committing.{same_files}
 use Rattle.session.proofs.Copied.{HasHeaderAt, IsSight, KeepsSights, alone_parked, alone_transaction, header_shown, least_sight, may_copy, moved_parked, newest_now, newest_same, settled_now, throughout_shown}
 use Rattle.session.proofs.SameViews.{same_shown}
 use Rattle.session.proofs.Settled.{as_shown, held_end}
-use Rattle.session.proofs.Showing.{busy_first, idle_first, still_shown, the_same}
+use Rattle.session.proofs.Showing.{busy_first, idle_first, still_shown}
 use Rattle.session.proofs.Stepping.{by_outcome, checkpoint_outcome, instead}
 
 -- the log is begun anew only where no other connection sees a snapshot
@@ -60,9 +61,15 @@ row_with counts blocked = (Int (pos (if blocked then 1 else 0)) ∷ Int (pos cou
 -- what is answered may be answered
 answer_allowed : (m : Machine) (n : ℕ) (mode : CheckpointMode) (others : Bool) (counts : Counts) (rows : List (List Value)) → others ≡ another has_snapshot m n → IsCount mode others counts → rows ≡ numbers_of counts ∷ []
     → Allowed m n (Copies mode) (Rows rows) m
-answer_allowed m n modes.Passive others counts rows same is one = (counts.frames, (counts.copied, (is.few, (one ∙ ap (row_with counts) is.blocked, refl))))
-answer_allowed m n modes.Restart others counts rows same is one = (counts.frames, (counts.copied, (is.few, (one ∙ ap (row_with counts) (is.blocked ∙ same), refl))))
-answer_allowed m n modes.Truncate others counts rows same is one = (counts.frames, (counts.copied, (is.few, (one ∙ ap (row_with counts) (is.blocked ∙ same), refl))))
+answer_allowed m n modes.Passive others counts rows same is one = (counts.frames, counts.copied, is.few, one ∙ ap (row_with counts) is.blocked, refl)
+answer_allowed m n modes.Restart others counts rows same is one = (counts.frames, counts.copied, is.few, one ∙ ap (row_with counts) (is.blocked ∙ same), refl)
+answer_allowed m n modes.Truncate others counts rows same is one = (counts.frames, counts.copied, is.few, one ∙ ap (row_with counts) (is.blocked ∙ same), refl)
+
+idle_sees : (t : Transaction) → is_idle t ≡ true → sees_snapshot t ≡ false
+idle_sees transaction.Idle idle = refl
+idle_sees transaction.Begun idle = absurd (false≢true idle)
+idle_sees (transaction.Reading s) idle = absurd (false≢true idle)
+idle_sees (transaction.Writing w) idle = absurd (false≢true idle)
 
 module _ {D : Type 0} {g : Ghosts D} where
   -- within a transaction
@@ -90,12 +97,6 @@ module _ {D : Type 0} {g : Ghosts D} where
   others_so files history (s ∷ ss) [] are = absurd are
   others_so files history (s ∷ ss) (k ∷ ks) are =
       ap (λ b. b || list_any holds_snapshot ss) (sees_so files s.catalog history s.transaction k are.0) ∙ ap (λ b. has_snapshot k || b) (others_so files history ss ks are.1)
-
-  idle_sees : (t : Transaction) → is_idle t ≡ true → sees_snapshot t ≡ false
-  idle_sees transaction.Idle idle = refl
-  idle_sees transaction.Begun idle = absurd (false≢true idle)
-  idle_sees (transaction.Reading s) idle = absurd (false≢true idle)
-  idle_sees (transaction.Writing w) idle = absurd (false≢true idle)
 
   module _ (old new : Connections D g) (m : Machine) (mode : CheckpointMode) (shown : RepresentsRunning old m) (idle : is_idle old.transaction ≡ true) (result : Result Counts Fault)
       (copies : CopiesBack mode old.parked.items (files_of old) result (files_of new)) (transaction_is : new.transaction ≡ old.transaction) (catalog_is : new.catalog ≡ old.catalog) where
@@ -191,17 +192,17 @@ module _ {D : Type 0} {g : Ghosts D} where
       crash = held (MayShow m (fails m)) (inl refl);
     }
 
-    short : beside_in new ≡ beside_in old → files_of new ≡ files_of old → StepsTo old m (statement.Checkpoint mode) (Refused refusal.Memory) new
-    short beside files = record {
+    short : beside_in new ≡ beside_in old → ShowTheSame (files_of old) (files_of new) → StepsTo old m (statement.Checkpoint mode) (Refused refusal.Memory) new
+    short beside same = record {
       next = m;
       step = instead m old.connection (statement.Checkpoint mode) refl shown.running shown.numbered (Copies mode) (Refused refusal.Memory) outcome_is (inl refl, refl);
-      shown = inr (still_shown old new m shown (subst (ShowTheSame (files_of old)) (sym files) (the_same (files_of old) shown.told)) beside catalog_is transaction_is);
+      shown = inr (still_shown old new m shown same beside catalog_is transaction_is);
       crash = held (MayShow m m) (inl refl);
     }
 
     pub refused_by : (f : Fault) → beside_in new ≡ record (beside_in old) { failed = has_failed_in old || is_io f } → IsCheckpointRefusal (files_of old) (files_of new) f → StepsTo old m (statement.Checkpoint mode) (Refused (refusal_of f)) new
     refused_by f beside (inl memory) = subst (λ (e : Fault). StepsTo old m (statement.Checkpoint mode) (Refused (refusal_of e)) new) (sym memory.0)
-        (short (beside ∙ ap (λ (b : Bool). record (beside_in old) { failed = b }) (ap (λ (e : Fault). has_failed_in old || is_io e) memory.0 ∙ no_more (has_failed_in old))) memory.1)
+        (short (beside ∙ ap (λ (b : Bool). record (beside_in old) { failed = b }) (ap (λ (e : Fault). has_failed_in old || is_io e) memory.0 ∙ no_more (has_failed_in old))) (same_files (files_of old) (files_of new) shown.told memory.2 memory.3 memory.1))
       where
         no_more : (b : Bool) → (b || false) ≡ b
         no_more true = refl

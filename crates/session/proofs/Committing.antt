@@ -93,7 +93,7 @@ module _ {D : Type 0} {g : Ghosts D} where
   -- ---- a refused commit
 
   -- files that are what they were show what they showed
-  same_files : (old new : Log D g) → Tells old → db_of new ≡ db_of old → log_of new ≡ log_of old → state_of new ≡ state_of old → ShowTheSame old new
+  pub same_files : (old new : Log D g) → Tells old → db_of new ≡ db_of old → log_of new ≡ log_of old → state_of new ≡ state_of old → ShowTheSame old new
   same_files old new told db log known = record {
     told = record { db = ap g.tells db ∙ told.db; log = ap g.tells log ∙ told.log; whole = ap (λ (k : LogState). k.has_failed) known ∙ told.whole };
     known = known;

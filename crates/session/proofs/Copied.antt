@@ -76,6 +76,25 @@ header_shown view tables db shown page has = record {
   sized = shown.stored.sized;
 }
 
+none_first : (p q : Bool) → (p || q) ≡ false → (p ≡ false) × (q ≡ false)
+none_first true q none = absurd (false≢true (sym none))
+none_first false q none = (refl, none)
+
+some_is : (a b : Snapshot) → Some a ≡ Some b → a ≡ b
+some_is a b is = cc
+
+-- no seat has it where none sees a snapshot
+pub none_seen : (ss : List Seat) (s : Snapshot) → list_any holds_snapshot ss ≡ false → IsSeen ss s → ⊥
+none_seen [] s none is = is
+none_seen (x ∷ ss) s none (inl here) = by_transaction x.transaction (none_first (holds_snapshot x) (list_any holds_snapshot ss) none).0 here
+  where
+    by_transaction : (t : Transaction) → sees_snapshot t ≡ false → snapshot_in t ≡ Some s → ⊥
+    by_transaction transaction.Idle not is = absurd cc
+    by_transaction transaction.Begun not is = absurd cc
+    by_transaction (transaction.Reading own) not is = false≢true (sym not)
+    by_transaction (transaction.Writing w) not is = false≢true (sym not)
+none_seen (x ∷ ss) s none (inr rest) = none_seen ss s (none_first (holds_snapshot x) (list_any holds_snapshot ss) none).1 rest
+
 module _ {D : Type 0} {g : Ghosts D} where
   module _ (files : Log D g) (target : Snapshot) (tables : List Table) (database : Database) (found : IsFound (newest_view files)) (stored : ShowsDatabase (newest_view files) tables database)
       (headed : (page : List ℕ) → ViewHas (view_at files target) 1 page → HasHeaderAt page (newest_view files).page_size) where
@@ -258,10 +277,6 @@ module _ {D : Type 0} {g : Ghosts D} where
     moved_parked history (s ∷ ss) [] least are = absurd are
     moved_parked history (s ∷ ss) (k ∷ ks) least are = (moved_transaction s.catalog history s.transaction k least.0 are.0, moved_parked history ss ks least.1 are.1)
 
-  none_first : (p q : Bool) → (p || q) ≡ false → (p ≡ false) × (q ≡ false)
-  none_first true q none = absurd (false≢true (sym none))
-  none_first false q none = (refl, none)
-
   pub alone_transaction : (old new : Log D g) (catalog : SavedCatalogs) (history : List Database) (t : Transaction) (k : Connection) → sees_snapshot t ≡ false → IsTransaction old catalog history t k → IsTransaction new catalog history t k
   alone_transaction old new catalog history transaction.Idle k none is = is
   alone_transaction old new catalog history transaction.Begun k none is = is
@@ -296,9 +311,6 @@ module _ {D : Type 0} {g : Ghosts D} where
     sized = λ all. is.sized;
   }
 
-  some_is : (a b : Snapshot) → Some a ≡ Some b → a ≡ b
-  some_is a b is = cc
-
   sight_of : (files : Log D g) (catalog : SavedCatalogs) (history : List Database) (t : Transaction) (k : Connection) (s : Snapshot) → snapshot_in t ≡ Some s → IsTransaction files catalog history t k → IsSight files s
   sight_of files catalog history transaction.Idle k s is are = absurd cc
   sight_of files catalog history transaction.Begun k s is are = absurd cc
@@ -330,18 +342,6 @@ module _ {D : Type 0} {g : Ghosts D} where
     | inl same ↦ subst (IsSight files) (sym same) (newest_sight files newest tables db is shows)
     | inr seen ↦ seen_sight files history ss ks target seen are
   ]
-
-  -- no seat has it where none sees a snapshot
-  pub none_seen : (ss : List Seat) (s : Snapshot) → list_any holds_snapshot ss ≡ false → IsSeen ss s → ⊥
-  none_seen [] s none is = is
-  none_seen (x ∷ ss) s none (inl here) = by_transaction x.transaction (none_first (holds_snapshot x) (list_any holds_snapshot ss) none).0 here
-    where
-      by_transaction : (t : Transaction) → sees_snapshot t ≡ false → snapshot_in t ≡ Some s → ⊥
-      by_transaction transaction.Idle not is = absurd cc
-      by_transaction transaction.Begun not is = absurd cc
-      by_transaction (transaction.Reading own) not is = false≢true (sym not)
-      by_transaction (transaction.Writing w) not is = false≢true (sym not)
-  none_seen (x ∷ ss) s none (inr rest) = none_seen ss s (none_first (holds_snapshot x) (list_any holds_snapshot ss) none).1 rest
 
   -- frames may be copied up to it
   pub may_copy : (files : Log D g) (target : Snapshot) → Tells files → IsSettled files → IsSight files target → MayCopy files target

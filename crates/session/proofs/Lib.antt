@@ -27,6 +27,10 @@ pub mod CommitCrashes
 pub mod CommitSteps
 pub mod Executing
 pub mod FilesAlone
+mod SameViews
+mod Copied
+mod Leasts
+mod CheckpointSteps
 pub mod Fresh
 pub mod StatementCauses
 mod WellFormedRows

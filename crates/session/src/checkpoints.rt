@@ -1,6 +1,6 @@
 //! Checkpoints of the connections' log.
 
-ghost use Rattle.std.specs.Prelude.{◌≡◌, ◌∷◌, [], map, IfErr, IfOk};
+ghost use Rattle.std.specs.Prelude.{◌≡◌, ◌∷◌, [], false, map, IfErr, IfOk};
 ghost use Rattle.sqlval.specs.declared.fault.Fault.TheVariants.{Memory};
 ghost use Rattle.rowprog.specs.Rows.{values_of};
 ghost use Rattle.session.specs.Checkpoints.{CopiesBack, numbers_of};

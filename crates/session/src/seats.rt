@@ -1,6 +1,6 @@
 //! The seats of an engine's connections, each with its transaction and the tables of it.
 
-ghost use Rattle.std.specs.Prelude.{◌≡◌, ◌<◌, length, IfErr, IfOk};
+ghost use Rattle.std.specs.Prelude.{◌≡◌, ◌<◌, Some, length, IfErr, IfOk};
 ghost use Rattle.std.specs.List.{AllByRecursion, list_any};
 ghost use Rattle.sqlval.specs.declared.fault.Fault.TheVariants.{Memory};
 ghost use Rattle.pager.specs.Marks.{marks_of};
@@ -135,13 +135,24 @@ pub fn any_holds_snapshot(seats: &[Seat]) -> bool
     seats.iter().any(|seat| seat.holds_snapshot())
 }
 
-/// That of two snapshots which sees fewer frames: the second, where the first is missing or sees as many.
+/// That of two snapshots which sees fewer frames, or the second.
+fn fewer_of(own: Snapshot, other: Snapshot) -> Snapshot
+    ensures { IsFewer (Some own) other result }
+{
+    if own.mark() < other.mark() {
+        own
+    } else {
+        other
+    }
+}
+
+/// The same where the first may be missing.
 fn fewer(own: Option<Snapshot>, other: Snapshot) -> Snapshot
     ensures { IsFewer own other result }
 {
     match own {
-        Some(snapshot) if snapshot.mark() < other.mark() => snapshot,
-        _ => other,
+        Some(snapshot) => fewer_of(snapshot, other),
+        None => other,
     }
 }
 
