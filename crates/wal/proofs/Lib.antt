@@ -9,6 +9,7 @@ pub mod FrameLists
 pub mod Same
 pub mod Staling
 pub mod Renewing
+pub mod AnewCommits
 pub mod Appending
 pub mod Halting
 pub mod Lefts

@@ -1,16 +1,18 @@
 -- Pages by the list of committed frames, for the layers above: what a snapshot sees stays, and the files' view is what was opened.
 use Rattle.std.proofs.Common.{◌≡◌, inl, inr, ◌<◌, ◌≤◌, ◌+◌, ◌-◌, ℕ, zero, suc, List, [], ◌∷◌, ◌++◌, Bool, true, false, length, take, refl, sym, ◌∙◌, ap, subst, arith}
-use Rattle.std.specs.Prelude.{Option, Some, None, slice_index_or}
+use Rattle.std.specs.Prelude.{Option, Some, None, slice_index_or, if◌then◌else◌}
 use Rattle.std.proofs.lemmas.List.{take-append-le, take_all}
-use Rattle.std.proofs.lemmas.Bool.{cases_lt}
+use Rattle.std.proofs.lemmas.Bool.{cases_lt, cases_Bool}
 use Rattle.disk.specs.File.{File}
 use Rattle.walframe.specs.declared.log_header.LogHeader.{LogHeader}
 use Rattle.walframe.specs.Written.{Framed}
+use Rattle.wal.specs.Anew.{CommitsOver, base_of, begins_anew, kept_frames}
 use Rattle.wal.specs.Committed.{framed_at, framed_to, frames_under}
 use Rattle.wal.specs.Commits.{Commits, commits_of, grown}
 use Rattle.wal.specs.Stands.{header_where}
 use Rattle.wal.specs.LogState.{LogState, header_of}
 use Rattle.wal.specs.Opened.{IsStateOf}
+use Rattle.wal.specs.Restarts.{next_header, restarted}
 use Rattle.wal.specs.Sizes.{IsViewSize}
 use Rattle.wal.specs.View.{IsPage, IsPageIn, blank_frame, IsFilesView, heads}
 use Rattle.wal.proofs.Chance.{framed_get}
@@ -81,6 +83,22 @@ seen_stays known fs old new count size m commits le = seen_by_header known.heade
 -- and the newest snapshot sees those and the commit's
 pub seen_grows : (known : LogState) (fs : List Framed) (old new : File) (count size : ℕ) → Commits known fs old new → count ≡ length fs → frames_under (header_of (grown known count size)) new.content (known.frames + count) ≡ commits_of known old.content ++ fs
 seen_grows known fs old new count size commits is = ap (λ (n : ℕ). framed_to known.header new.content (known.frames + n)) is ∙ commits.frames_are
+
+none_under : (b : Bool) (h : LogHeader) (log : List ℕ) → frames_under (header_where b h) log 0 ≡ []
+none_under true h log = refl
+none_under false h log = refl
+
+-- or the commit's alone, where the log begins anew
+pub seen_over : (known : LogState) (may_restart : Bool) (fs : List Framed) (old new : File) (count size : ℕ) → CommitsOver known may_restart fs old new → count ≡ length fs
+    → commits_of (grown (base_of known may_restart) count size) new.content ≡ kept_frames known may_restart old.content ++ fs
+seen_over known may_restart fs old new count size over is = elim (cases_Bool (begins_anew known may_restart)) [
+  | inl anew ↦ sees_by true anew (seen_grows (restarted known) fs (over.anew anew).begun new count size (over.anew anew).commits is ∙ ap (λ (l : List Framed). l ++ fs) (none_under known.has_header (next_header known.header) (over.anew anew).begun.content))
+  | inr grows ↦ sees_by false grows (seen_grows known fs old new count size (over.grows grows) is)
+]
+  where
+    sees_by : (b : Bool) → begins_anew known may_restart ≡ b → commits_of (grown (if b then restarted known else known) count size) new.content ≡ (if b then [] else commits_of known old.content) ++ fs
+        → commits_of (grown (base_of known may_restart) count size) new.content ≡ kept_frames known may_restart old.content ++ fs
+    sees_by b e sees = subst (λ (c : Bool). commits_of (grown (if c then restarted known else known) count size) new.content ≡ (if c then [] else commits_of known old.content) ++ fs) (sym e) sees
 
 -- the pages that are read of an opened log are those of the files' view
 pub files_view : (counted : Option ℕ) (db log : List ℕ) (known : LogState) (pages : List (List ℕ)) → IsStateOf counted db log known → length pages ≡ known.size

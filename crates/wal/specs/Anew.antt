@@ -1,13 +1,15 @@
 -- Commits that may begin the log anew (Database File Format, "WAL Reset").
-use Rattle.std.specs.Prelude.{◌≡◌, ◌⊎◌, ◌&&◌, ◌++◌, ℕ, Bool, IsTrue, IsFalse, List, [], Result, MatchResult, if◌then◌else◌}
-use Rattle.disk.specs.File.{File, Version, IsLeft, IsContentLeft, Always}
+use Rattle.std.specs.Prelude.{◌≡◌, ◌⊎◌, ◌&&◌, ℕ, Bool, IsTrue, IsFalse, List, [], Result, MatchResult, if◌then◌else◌}
+use Rattle.disk.specs.Calls.{overwritten}
+use Rattle.disk.specs.File.{File, Version, IsLeft, IsSynced, IsContentLeft, Always}
 use Rattle.sqlval.specs.declared.fault.Fault.{Fault}
+use Rattle.walframe.specs.declared.log_header.LogHeader.{LogHeader}
 use Rattle.walframe.specs.Written.{Framed}
 use Rattle.wal.specs.Committed.{HasCommits}
 use Rattle.wal.specs.Commits.{Commits, after_refusal, commits_of, grown}
-use Rattle.wal.specs.Crashes.{HasNoChance, WritesCommit}
+use Rattle.wal.specs.Crashes.{AreEither, HasNoChance, WritesCommit}
 use Rattle.wal.specs.LogState.{LogState}
-use Rattle.wal.specs.Restarts.{BeginsAnew, is_copied, restarted}
+use Rattle.wal.specs.Restarts.{BeginsAnew, LeavesRenewed, is_copied, renewed, restarted}
 
 -- whether a commit begins the log anew: it may, and all frames are copied
 abbrev pub begins_anew : LogState → Bool → Bool
@@ -20,6 +22,18 @@ base_of known may_restart = if begins_anew known may_restart then restarted know
 -- the committed frames that stay before those of a commit
 abbrev pub kept_frames : LogState → Bool → List ℕ → List Framed
 kept_frames known may_restart log = if begins_anew known may_restart then [] else commits_of known log
+
+-- The log was synced with a header over what stood there, and then with bytes after the header.
+pub record IsRewritten (h : LogHeader) (old bytes : List ℕ) (new : File) : Type 0 where
+  pub begun : File
+  pub begun_is : begun.content ≡ renewed h old
+  pub begun_synced : IsSynced begun
+  pub content : new.content ≡ overwritten 32 bytes (renewed h old)
+  pub synced : IsSynced new
+
+-- while a log gets another header, and then bytes after it
+abbrev pub LeavesRewriting : LogHeader → List ℕ → List ℕ → List ℕ → List ℕ → List Version → Type 0
+LeavesRewriting h content cut kept bytes versions = LeavesRenewed h content cut kept versions ⊎ AreEither (renewed h kept) (overwritten 32 bytes (renewed h kept)) versions
 
 -- The log was begun anew, and then synced with exactly these frames.
 pub record CommitsAnew (known : LogState) (fs : List Framed) (new : File) : Type 0 where

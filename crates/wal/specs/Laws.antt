@@ -1,10 +1,11 @@
 -- What follows for what readers see (Database File Format, "Reader Algorithm").
-use Rattle.std.specs.Prelude.{◌≡◌, ◌⊎◌, ◌≤◌, ℕ, List, [], ◌∷◌, ◌++◌, length, Option}
+use Rattle.std.specs.Prelude.{◌≡◌, ◌⊎◌, ◌≤◌, ℕ, Bool, List, [], ◌∷◌, ◌++◌, length, Option}
 use Rattle.std.specs.List.{AllByRecursion}
 use Rattle.disk.specs.File.{File}
 use Rattle.walframe.specs.declared.log_header.LogHeader.{LogHeader}
 use Rattle.walframe.specs.Written.{Framed}
 use Rattle.wal.specs.declared.pages.PageImage.{PageImage}
+use Rattle.wal.specs.Anew.{CommitsOver, base_of, kept_frames}
 use Rattle.wal.specs.Committed.{frames_under}
 use Rattle.wal.specs.Commits.{Commits, commits_of, grown}
 use Rattle.wal.specs.LogState.{LogState, header_of}
@@ -26,10 +27,10 @@ abbrev pub SnapshotsStay : Type 0
 SnapshotsStay = (known : LogState) (fs : List Framed) (old new : File) (count size n : ℕ) → Commits known fs old new → n ≤ known.frames
     → frames_under (header_of (grown known count size)) new.content n ≡ frames_under (header_of known) old.content n
 
--- and the newest snapshot sees those before the commit, and the commit's
+-- and the newest snapshot sees those before the commit, where the log doesn't begin anew, and the commit's
 abbrev pub CommitsFollow : Type 0
-CommitsFollow = (known : LogState) (fs : List Framed) (old new : File) (count size : ℕ) → Commits known fs old new → count ≡ length fs
-    → commits_of (grown known count size) new.content ≡ commits_of known old.content ++ fs
+CommitsFollow = (known : LogState) (may_restart : Bool) (fs : List Framed) (old new : File) (count size : ℕ) → CommitsOver known may_restart fs old new → count ≡ length fs
+    → commits_of (grown (base_of known may_restart) count size) new.content ≡ kept_frames known may_restart old.content ++ fs
 
 -- the page is one of these, and has these bytes
 abbrev pub IsAmong : List PageImage → ℕ → List ℕ → Type 0

@@ -1,23 +1,26 @@
 //! Commits.
 
-ghost use Rattle.std.specs.Prelude.{◌≡◌, ◌<◌, ◌≤◌, ◌++◌, length, take, true, IsTrue, IsFalse, OnOk, OnErr, IfErr, MatchResult};
+ghost use Rattle.std.specs.Prelude.{◌≡◌, ◌<◌, ◌≤◌, ◌++◌, length, take, true, false, IsTrue, IsFalse, OnOk, OnErr, IfErr, MatchResult};
 ghost use Rattle.disk.specs.Calls.{Syncs, overwritten};
 ghost use Rattle.disk.specs.File.{IsSynced, IsContentLeft, Always};
 ghost use Rattle.walframe.specs.Log.{header_bytes};
 ghost use Rattle.walframe.specs.Written.{HeaderFits};
-ghost use Rattle.wal.specs.Commits.{Commits, IsStateAfter, IsStateCut, IsCut, KeepsDisks, commits_of};
+ghost use Rattle.wal.specs.Anew.{CommitsAnew, CommitsOver, IsStateCommitted, WritesAnew, WritesOver, base_of};
+ghost use Rattle.wal.specs.Commits.{Commits, IsStateCut, IsCut, KeepsDisks, commits_of};
 ghost use Rattle.wal.specs.Pages.{ArePages, framed};
 ghost use Rattle.wal.specs.Refusals.{IsCommitRefusal, IsCutRefusal, IsWithin};
+ghost use Rattle.wal.specs.Restarts.{is_copied, restarted};
 ghost use Rattle.wal.specs.Stands.{front_at, kept_at, base_at, place_at};
 ghost use Rattle.wal.specs.Crashes.{LeavesOneOf, LeavesHeader, AreEither, LeavesContent, LeavesWriting, LeavesCommits, WritesCommit};
 ghost use Rattle.wal.specs.ErrorCauses.{TouchesDisk};
 
 use crate::log::Log;
 use crate::pages::{PageImage, check_pages};
+use crate::restarting::{next_header, write_anew};
 use disk::Disk;
 use sqlval::{Fault, R};
 use std::alloc::Global;
-use walframe::{FrameHeader, LogHeader};
+use walframe::LogHeader;
 
 /// Syncs a log.
 pub fn sync_log<D: Disk>(log: &mut D) -> R<()>
@@ -68,7 +71,7 @@ pub fn give_header<D: Disk>(log: &mut D, header: &LogHeader, is_begun: bool) -> 
 }
 
 /// Writes frames at a place of a log and syncs it.
-fn write_frames<D: Disk>(log: &mut D, at: u64, bytes: &[u8]) -> R<()>
+pub fn write_frames<D: Disk>(log: &mut D, at: u64, bytes: &[u8]) -> R<()>
     requires { IsTrue (D.tells log.old) → at ≤ length (D.file log.old).content }
     ensures written { IsTrue (D.tells log.old) → OnOk result ((D.file log.new).content ≡ overwritten at bytes.now (D.file log.old).content) }
     ensures synced { IsTrue (D.tells log.old) → OnOk result (IsSynced (D.file log.new)) }
@@ -118,16 +121,15 @@ impl<D: Disk> Log<D> {
     ghost use Rattle.wal.specs.LogState.{state_of, db_of, log_of};
     ghost use Rattle.wal.specs.ErrorCauses.{HasCause};
 
-    /// Commits pages, by rising number, in a database of `size` pages: writes a frame each, after the committed ones, and
-    /// syncs the log. Nothing is written at a refusal but `Io`, after which each call answers `Failed`. (`Memory`, `Io`,
-    /// `Failed`; `Damaged(Page)` where there is no page, one's number isn't greater than that before it, or is past the size,
-    /// or its length isn't that of a page; `Full` where frames, pages or bytes would pass the limits.)
-    pub fn commit(&mut self, alloc: Global, pages: &[PageImage], size: u32) -> R<()>
+    /// Writes a frame of each of these pages after the committed ones, and syncs the log. (`Memory`, `Io`, `Full`.)
+    fn append(&mut self, alloc: Global, pages: &[PageImage], size: u32) -> R<()>
+        requires whole { IsFalse (state_of self.old).has_failed }
+        requires pages { ArePages 0 size (state_of self.old).page_size pages.now }
+        requires some { 0 < length pages.now }
         ensures done { IsTrue (D.tells (log_of self.old))
             → OnOk result (Commits (state_of self.old) (framed pages.now size) (D.file (log_of self.old)) (D.file (log_of self.new))) }
-        ensures known { IsStateAfter result (state_of self.old) (length pages.now) size (state_of self.new) }
-        // A crash leaves what was committed, or that and these frames.
-        ensures crash { IsFalse (state_of self.old).has_failed → IsTrue (D.tells (log_of self.old))
+        ensures known { IsStateCommitted false result (state_of self.old) (length pages.now) size (state_of self.new) }
+        ensures crash { IsTrue (D.tells (log_of self.old))
             → WritesCommit (state_of self.old) (framed pages.now size) (D.file (log_of self.old)) (D.file (log_of self.new)) }
         ensures refused { IfErr result (λ fault. IsCommitRefusal (state_of self.old).has_failed
             (ArePages 0 size (state_of self.old).page_size pages.now × (0 < length pages.now))
@@ -136,19 +138,12 @@ impl<D: Disk> Log<D> {
         ensures same { KeepsDisks D.tells D.failures (db_of self.old) (db_of self.new) (log_of self.old) (log_of self.new) }
         ensures cause { HasCause true result self.old self.new }
     {
-        if self.state.is_failed {
-            return Err(Fault::Failed);
-        }
-        check_pages(pages, size, self.state.page_size)?;
-        self.state.check_limits(pages.len(), size)?;
+        self.state.check_limits(self.state.mark, pages.len(), size)?;
         self.state.reserve(alloc, pages)?;
-        let mut bytes = Vec::with_capacity(
-            alloc,
-            pages.len() * (FrameHeader::LEN + self.state.page_size as usize),
-        )?;
-        let sum = self.state.put_frames(&mut bytes, pages, size)?;
-        let end = self.state.end();
         let header = self.state.header;
+        let sum = self.state.sum;
+        let (bytes, sum_now) = self.state.make_frames(alloc, &header, sum, pages, size)?;
+        let end = self.state.end();
         let is_begun = self.state.is_begun;
         let is_clean = self.state.is_clean;
         self.state.is_failed = true;
@@ -156,8 +151,78 @@ impl<D: Disk> Log<D> {
         self.state.is_begun = true;
         self.state.is_clean = true;
         self.state.is_failed = false;
-        self.state.advance(pages, size, sum);
+        self.state.advance(pages, size, sum_now);
         Ok(())
+    }
+
+    /// Begins the log anew, where all its frames were copied: it gets the next header, which is synced, and then a frame of each of
+    /// these pages. (`Memory`, `Io`, `Full`.)
+    fn commit_anew(&mut self, alloc: Global, pages: &[PageImage], size: u32) -> R<()>
+        requires whole { IsFalse (state_of self.old).has_failed }
+        requires copied { IsTrue (is_copied (state_of self.old)) }
+        requires pages { ArePages 0 size (state_of self.old).page_size pages.now }
+        requires some { 0 < length pages.now }
+        ensures done { IsTrue (D.tells (log_of self.old))
+            → OnOk result (CommitsAnew (state_of self.old) (framed pages.now size) (D.file (log_of self.new))) }
+        ensures known { IsStateCommitted true result (state_of self.old) (length pages.now) size (state_of self.new) }
+        ensures crash { IsTrue (D.tells (log_of self.old))
+            → WritesAnew (state_of self.old) (framed pages.now size) (D.file (log_of self.old)) (D.file (log_of self.new)) }
+        ensures refused { IfErr result (λ fault. IsCommitRefusal (state_of self.old).has_failed
+            (ArePages 0 size (state_of self.old).page_size pages.now × (0 < length pages.now))
+            (IsWithin (restarted (state_of self.old)) (length pages.now) size) (log_of self.old) (log_of self.new)
+            (D.failures (log_of self.old)) (D.failures (log_of self.new)) fault) }
+        ensures same { KeepsDisks D.tells D.failures (db_of self.old) (db_of self.new) (log_of self.old) (log_of self.new) }
+        ensures cause { HasCause true result self.old self.new }
+    {
+        self.state.check_limits(0, pages.len(), size)?;
+        self.state.reserve(alloc, pages)?;
+        let header = next_header(self.state.header);
+        let sum = header.sum();
+        let (bytes, sum_now) = self.state.make_frames(alloc, &header, sum, pages, size)?;
+        let end = self.state.end();
+        let is_clean = self.state.is_clean;
+        self.state.is_failed = true;
+        write_anew(&mut self.log, &header, is_clean, end, &bytes)?;
+        self.state.is_failed = false;
+        self.state.restart(header, true);
+        self.state.advance(pages, size, sum_now);
+        Ok(())
+    }
+
+    /// Commits pages, by rising number, in a database of `size` pages: writes a frame each, after the committed ones, and
+    /// syncs the log. Where the log may begin anew (`may_restart`: nobody else sees its frames) and all its frames were copied into
+    /// the database file, it gets the next header first, which is synced, and has these frames alone. Nothing is written at a
+    /// refusal but `Io`, after which each call answers `Failed`. (`Memory`, `Io`, `Failed`; `Damaged(Page)` where there is no page,
+    /// one's number isn't greater than that before it, or is past the size, or its length isn't that of a page; `Full` where
+    /// frames, pages or bytes would pass the limits.)
+    pub fn commit(
+        &mut self,
+        alloc: Global,
+        pages: &[PageImage],
+        size: u32,
+        may_restart: bool,
+    ) -> R<()>
+        ensures done { IsTrue (D.tells (log_of self.old))
+            → OnOk result (CommitsOver (state_of self.old) may_restart (framed pages.now size) (D.file (log_of self.old)) (D.file (log_of self.new))) }
+        ensures known { IsStateCommitted may_restart result (state_of self.old) (length pages.now) size (state_of self.new) }
+        // A crash leaves what was committed, or that and these frames; where the log begins anew, no frames or these alone.
+        ensures crash { IsFalse (state_of self.old).has_failed → IsTrue (D.tells (log_of self.old))
+            → WritesOver (state_of self.old) may_restart (framed pages.now size) (D.file (log_of self.old)) (D.file (log_of self.new)) }
+        ensures refused { IfErr result (λ fault. IsCommitRefusal (state_of self.old).has_failed
+            (ArePages 0 size (state_of self.old).page_size pages.now × (0 < length pages.now))
+            (IsWithin (base_of (state_of self.old) may_restart) (length pages.now) size) (log_of self.old) (log_of self.new)
+            (D.failures (log_of self.old)) (D.failures (log_of self.new)) fault) }
+        ensures same { KeepsDisks D.tells D.failures (db_of self.old) (db_of self.new) (log_of self.old) (log_of self.new) }
+        ensures cause { HasCause true result self.old self.new }
+    {
+        if self.state.is_failed {
+            return Err(Fault::Failed);
+        }
+        check_pages(pages, size, self.state.page_size)?;
+        if self.state.begins_anew(may_restart) {
+            return self.commit_anew(alloc, pages, size);
+        }
+        self.append(alloc, pages, size)
     }
 
     /// Cuts the log after its committed frames and syncs it, where it is longer. The first commit does it where nothing else has.

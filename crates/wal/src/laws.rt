@@ -17,7 +17,7 @@ pub fn snapshots_stay()
     ensures { SnapshotsStay }
 {}
 
-/// After a commit the newest snapshot sees the older frames and the commit's.
+/// After a commit the newest snapshot sees the older frames, where the log doesn't begin anew, and the commit's.
 pub fn commits_follow()
     ensures { CommitsFollow }
 {}

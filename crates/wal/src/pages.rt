@@ -1,10 +1,13 @@
-//! The pages of a commit.
+//! The pages of a commit, and their frames.
 
-ghost use Rattle.std.specs.Prelude.{◌≡◌, ◌<◌, OnOk, IfErr, ℕ, length};
-ghost use Rattle.wal.specs.Pages.{ArePages};
+ghost use Rattle.std.specs.Prelude.{◌≡◌, ◌<◌, ◌++◌, OnOk, IfOk, IfErr, ℕ, length};
+ghost use Rattle.walframe.specs.Written.{SaltsFit, written, sum_after};
+ghost use Rattle.wal.specs.Pages.{ArePages, framed, size_before};
 ghost use Rattle.wal.specs.Refusals.{IsPagesRefusal};
 
 use sqlval::{Damage, Fault, R};
+use std::alloc::AllocError;
+use walframe::{FrameHeader, LogHeader, Sum};
 
 /// The new content of a page.
 #[derive(Drop)]
@@ -35,4 +38,39 @@ pub fn check_pages(pages: &[PageImage], size: u32, page_size: u32) -> R<()>
         left = rest;
     }
     Ok(())
+}
+
+/// The size that the frame before these pages has: only the last frame has one.
+fn size_over(behind: &[PageImage], size: u32) -> u32
+    ensures { result ≡ size_before behind.now size }
+{
+    match behind {
+        [] => size,
+        [_, ..] => 0,
+    }
+}
+
+/// Appends the frames of these pages to `bytes`, the last with the size, and returns the sums carried over them from this one.
+pub fn put_frames(
+    bytes: &mut Vec<u8>,
+    header: &LogHeader,
+    before: Sum,
+    pages: &[PageImage],
+    size: u32,
+) -> Result<Sum, AllocError>
+    ensures bytes { OnOk result (bytes.new.items ≡ bytes.old.items ++ written header.now before (framed pages.now size)) }
+    ensures fits { OnOk result (0 < length pages.now → SaltsFit header.now.salts) }
+    ensures sum { IfOk result (λ sum. sum ≡ sum_after header.now before (framed pages.now size)) }
+{
+    let mut sum = before;
+    let mut left = pages;
+    'pages: while let [page, rest @ ..] = left {
+        let frame = FrameHeader {
+            page: page.number,
+            size: size_over(rest, size),
+        };
+        sum = frame.put(bytes, header, sum, &page.bytes)?;
+        left = rest;
+    }
+    Ok(sum)
 }

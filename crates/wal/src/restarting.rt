@@ -4,6 +4,7 @@ ghost use Rattle.std.specs.Prelude.{◌≡◌, ◌⊎◌, ◌≤◌, ◌+◌, �
 ghost use Rattle.disk.specs.File.{IsSynced, IsContentLeft, Always};
 ghost use Rattle.walframe.specs.Log.{header_bytes};
 ghost use Rattle.walframe.specs.Written.{HeaderFits};
+ghost use Rattle.wal.specs.Anew.{IsRewritten, LeavesRewriting};
 ghost use Rattle.wal.specs.Commits.{KeepsDisks, commits_of};
 ghost use Rattle.wal.specs.Refusals.{IsCutRefusal};
 ghost use Rattle.wal.specs.Restarts.{IsRestarted, IsStateAnew, IsStateTruncated, IsTruncated, LeavesOrNone, LeavesRenewed, next_header, renewed};
@@ -11,7 +12,7 @@ ghost use Rattle.wal.specs.Stands.{kept_at};
 ghost use Rattle.wal.specs.Crashes.{LeavesContent, LeavesOneOf};
 ghost use Rattle.wal.specs.ErrorCauses.{TouchesDisk};
 
-use crate::committing::{give_header, sync_log, truncate_tail};
+use crate::committing::{give_header, sync_log, truncate_tail, write_frames};
 use crate::log::Log;
 use disk::Disk;
 use sqlval::{Fault, R};
@@ -82,6 +83,27 @@ fn clean_and_renew<D: Disk>(log: &mut D, header: &LogHeader, is_clean: bool, end
 {
     truncate_tail(log, end, is_clean)?;
     renew(log, header)
+}
+
+/// Gives a log another header, as above, and then writes frames after it, and syncs the log.
+pub fn write_anew<D: Disk>(
+    log: &mut D,
+    header: &LogHeader,
+    is_clean: bool,
+    end: u64,
+    bytes: &[u8],
+) -> R<()>
+    requires long { 32 ≤ end }
+    requires inside { IsTrue (D.tells log.old) → end ≤ length (D.file log.old).content }
+    ensures written { IsTrue (D.tells log.old) → IsSynced (D.file log.old)
+        → OnOk result (IsRewritten header.now (kept_at is_clean end (D.file log.old).content) bytes.now (D.file log.new)) }
+    ensures crash { IsTrue (D.tells log.old) → IsSynced (D.file log.old) → Always (D.file log.old) (D.file log.new)
+        (LeavesRewriting header.now (D.file log.old).content (take end (D.file log.old).content) (kept_at is_clean end (D.file log.old).content) bytes.now) }
+    ensures left { LeavesContent D.tells D.file log.old log.new }
+    ensures touches { TouchesDisk D.tells D.failures log.old log.new result }
+{
+    clean_and_renew(log, header, is_clean, end)?;
+    write_frames(log, LogHeader::LEN, bytes)
 }
 
 impl<D: Disk> Log<D> {

@@ -1,16 +1,16 @@
 //! What is known of the two files.
 
 ghost use Rattle.sqlval.specs.PageSizes.{is_size};
-ghost use Rattle.std.specs.Prelude.{◌≡◌, ◌<◌, ◌≤◌, ◌+◌, ◌-◌, ◌*◌, ◌++◌, ◌↔◌, ℕ, length, IsTrue, IfOk, IfErr, OnOk};
+ghost use Rattle.std.specs.Prelude.{◌≡◌, ◌<◌, ◌≤◌, ◌+◌, ◌-◌, ◌*◌, ◌↔◌, ℕ, length, IsTrue, IfOk, IfErr, OnOk};
 ghost use Rattle.walframe.specs.Accepted.{frame_start};
 ghost use Rattle.walframe.specs.Written.{SaltsFit, written, sum_after};
 ghost use Rattle.wal.specs.Indexed.{IsIndexTo, HasRooms, IsStrict};
 ghost use Rattle.wal.specs.Sizes.{IsSizeWithinLimits, IsWithinLimits};
 ghost use Rattle.wal.specs.Stands.{log_end};
-ghost use Rattle.wal.specs.Pages.{framed, size_before, numbers_of};
+ghost use Rattle.wal.specs.Pages.{framed, numbers_of};
 
 use crate::indexed::{add_all, reserve_all};
-use crate::pages::PageImage;
+use crate::pages::{PageImage, put_frames};
 use crate::restarting::next_header;
 use sqlval::limits::{MAX_DATABASE_BYTES, MAX_FRAMES, MAX_PAGES};
 use sqlval::{Fault, R};
@@ -54,17 +54,8 @@ pub struct State {
     ghost served: { IsSizeWithinLimits page_size size },
 }
 
-/// The size that the frame before these pages has: only the last frame has one.
-fn size_over(behind: &[PageImage], size: u32) -> u32
-    ensures { result ≡ size_before behind.now size }
-{
-    match behind {
-        [] => size,
-        [_, ..] => 0,
-    }
-}
-
 impl State {
+    ghost use Rattle.wal.specs.Anew.{begins_anew};
     ghost use Rattle.wal.specs.LogState.{state_in};
     ghost use Rattle.wal.specs.Restarts.{header_after_cut, is_copied};
     ghost use Rattle.wal.specs.State.{SameState, Admits, Restarts};
@@ -95,6 +86,13 @@ impl State {
         self.is_begun && self.mark > 0 && self.copied == self.mark
     }
 
+    /// Whether a commit begins the log anew: it may, and all frames were copied.
+    pub fn begins_anew(&self, may_restart: bool) -> bool
+        ensures { result ≡ begins_anew (state_in self.now) may_restart }
+    {
+        may_restart && self.is_copied()
+    }
+
     /// The header that the log gets when it was cut to nothing.
     pub fn header_after_cut(&self) -> LogHeader
         ensures { result ≡ header_after_cut (state_in self.now) }
@@ -106,13 +104,14 @@ impl State {
         }
     }
 
-    /// Whether `frames` more frames, and this size, are within the limits. (`Full`.)
-    pub fn check_limits(&self, frames: usize, size: u32) -> R<()>
-        ensures room { OnOk result (self.now.mark + frames ≤ 1000000) }
+    /// Whether `frames` frames after so many, and this size, are within the limits. (`Full`.)
+    pub fn check_limits(&self, mark: u32, frames: usize, size: u32) -> R<()>
+        requires { mark ≤ 1000000 }
+        ensures room { OnOk result (mark + frames ≤ 1000000) }
         ensures size { OnOk result (IsSizeWithinLimits self.now.page_size size) }
-        ensures refused { IfErr result (λ fault. (fault ≡ Fault.Full) × (IsWithinLimits self.now.mark self.now.page_size frames size → ⊥)) }
+        ensures refused { IfErr result (λ fault. (fault ≡ Fault.Full) × (IsWithinLimits mark self.now.page_size frames size → ⊥)) }
     {
-        if frames > MAX_FRAMES - self.mark as usize || !is_within_limits(size, self.page_size) {
+        if frames > MAX_FRAMES - mark as usize || !is_within_limits(size, self.page_size) {
             return Err(Fault::Full);
         }
         Ok(())
@@ -126,28 +125,26 @@ impl State {
         reserve_all(alloc, &mut self.index, pages)
     }
 
-    /// Appends the frames of these pages to `bytes`, the last with the size, and returns the sums carried over them.
-    pub fn put_frames(
+    /// The frames of these pages under a header, as bytes, the last with the size, and the sums carried over them.
+    pub fn make_frames(
         &self,
-        bytes: &mut Vec<u8>,
+        alloc: Global,
+        header: &LogHeader,
+        sum: Sum,
         pages: &[PageImage],
         size: u32,
-    ) -> Result<Sum, AllocError>
-        ensures bytes { OnOk result (bytes.new.items ≡ bytes.old.items ++ written self.now.header self.now.sum (framed pages.now size)) }
-        ensures fits { OnOk result (0 < length pages.now → SaltsFit self.now.header.salts) }
-        ensures sum { IfOk result (λ sum. sum ≡ sum_after self.now.header self.now.sum (framed pages.now size)) }
+    ) -> Result<(Vec<u8>, Sum), AllocError>
+        requires few { length pages.now ≤ 1000000 }
+        ensures bytes { IfOk result (λ made. made.0.items ≡ written header.now sum (framed pages.now size)) }
+        ensures fits { OnOk result (0 < length pages.now → SaltsFit header.now.salts) }
+        ensures sum { IfOk result (λ made. made.1 ≡ sum_after header.now sum (framed pages.now size)) }
     {
-        let mut sum = self.sum;
-        let mut left = pages;
-        'pages: while let [page, rest @ ..] = left {
-            let frame = FrameHeader {
-                page: page.number,
-                size: size_over(rest, size),
-            };
-            sum = frame.put(bytes, &self.header, sum, &page.bytes)?;
-            left = rest;
-        }
-        Ok(sum)
+        let mut bytes = Vec::with_capacity(
+            alloc,
+            pages.len() * (FrameHeader::LEN + self.page_size as usize),
+        )?;
+        let after = put_frames(&mut bytes, header, sum, pages, size)?;
+        Ok((bytes, after))
     }
 
     /// Counts the frames of these pages as committed.
