@@ -12,7 +12,7 @@ use Rattle.walindex.specs.declared.index.Index.{Index}
 use Rattle.walindex.specs.Index.{frames_of, FindsFrame, FindsNone}
 use Rattle.wal.specs.declared.state.State.{State}
 use Rattle.wal.specs.Committed.{frames_under}
-use Rattle.wal.specs.Copying.{HasNone, IsOfNewest, StandsFor, frames_to}
+use Rattle.wal.specs.Copying.{HasNoneOf, IsOfNewest, LogStandsFor, frames_to}
 use Rattle.wal.specs.Indexed.{IsIndexTo}
 use Rattle.wal.specs.Stands.{LogStands, header_where}
 use Rattle.wal.specs.View.{IsPageIn, blank_frame}
@@ -65,13 +65,13 @@ frame_inside s true log frame stands low high =
     let start : frame_start s.header frame ≡ frame_start s.header (frame - 1) + (24 + s.header.page_size) = ap (frame_start s.header) (sym next) ∙ start_more s.header (frame - 1) in
     omega (arith, start, start_rises s.header frame s.mark high, stands.inside refl, s.same_size)
 
-pub page_inside : (s : State) (log : List ℕ) (seen number frame : ℕ) → StandsFor s log → FindsFrame number seen s.index frame → frame_start s.header (frame - 1) + 24 + s.page_size ≤ length log
+pub page_inside : (s : State) (log : List ℕ) (seen number frame : ℕ) → LogStandsFor s log → FindsFrame number seen s.index frame → frame_start s.header (frame - 1) + 24 + s.page_size ≤ length log
 page_inside s log seen number frame stands found =
     let bounds = frame_bounds s.index s.mark seen number frame s.indexed found in
     frame_inside s s.is_begun log frame stands bounds.0 bounds.1
 
 -- what was read is the page's newest frame
-pub newest_found : (s : State) (log bytes : List ℕ) (seen number frame at : ℕ) → StandsFor s log → FindsFrame number seen s.index frame → seen ≤ s.mark → number ≤ 65536 → at ≡ frame_start s.header (frame - 1) → bytes ≡ take s.page_size (drop (at + 24) log)
+pub newest_found : (s : State) (log bytes : List ℕ) (seen number frame at : ℕ) → LogStandsFor s log → FindsFrame number seen s.index frame → seen ≤ s.mark → number ≤ 65536 → at ≡ frame_start s.header (frame - 1) → bytes ≡ take s.page_size (drop (at + 24) log)
     → IsOfNewest (frames_to s seen log) number bytes
 newest_found s log bytes seen number frame at stands found until few is_at is =
     of_page (page_in [] log s.page_size (header_where s.is_begun s.header) seen number bytes
@@ -83,7 +83,7 @@ newest_found s log bytes seen number frame at stands found until few is_at is =
         let long : 1 * s.page_size ≤ number * s.page_size = mul-le-mul_right s.page_size found.known in
         absurd (omega (arith, long, filed.1.whole, size_low s.page_size s.size_is))
 
-none_under : (s : State) (b : Bool) (log : List ℕ) (seen number : ℕ) → LogStands s.header b s.mark s.sum s.index log → FindsNone number seen s.index → seen ≤ s.mark → 1 ≤ number → number ≤ 65536 → HasNone (frames_under (header_where b s.header) log seen) number
+none_under : (s : State) (b : Bool) (log : List ℕ) (seen number : ℕ) → LogStands s.header b s.mark s.sum s.index log → FindsNone number seen s.index → seen ≤ s.mark → 1 ≤ number → number ≤ 65536 → HasNoneOf (frames_under (header_where b s.header) log seen) number
 none_under s false log seen number stands none until known few k lt of_page = omega (arith, lt)
 none_under s true log seen number stands none until known few k lt is =
     let within : k < seen = omega (arith, lt, framed_len s.header log seen) in
@@ -94,11 +94,11 @@ none_under s true log seen number stands none until known few k lt is =
     omega (arith, within, none known (k + 1) (record { place = has.place; within = omega (arith, has.within, ap length same); is = is_frame })))
 
 -- the index finds none, and there is none
-pub has_none : (s : State) (log : List ℕ) (seen number : ℕ) → StandsFor s log → FindsNone number seen s.index → seen ≤ s.mark → 1 ≤ number → number ≤ 65536 → HasNone (frames_to s seen log) number
+pub has_none : (s : State) (log : List ℕ) (seen number : ℕ) → LogStandsFor s log → FindsNone number seen s.index → seen ≤ s.mark → 1 ≤ number → number ≤ 65536 → HasNoneOf (frames_to s seen log) number
 has_none s log seen number stands none until known few = none_under s s.is_begun log seen number stands none until known few
 
 -- fewer frames have none where more have none
-pub none_fewer : (header : Option LogHeader) (log : List ℕ) (m n number : ℕ) → m ≤ n → HasNone (frames_under header log n) number → HasNone (frames_under header log m) number
+pub none_fewer : (header : Option LogHeader) (log : List ℕ) (m n number : ℕ) → m ≤ n → HasNoneOf (frames_under header log n) number → HasNoneOf (frames_under header log m) number
 none_fewer None log m n number le none k lt is = omega (arith, lt)
 none_fewer (Some h) log m n number le none k lt is =
     let within : k < m = omega (arith, lt, framed_len h log m) in

@@ -8,7 +8,7 @@ use Rattle.disk.proofs.Current.{current_left, writes_current, write_left}
 use Rattle.disk.proofs.Left.{versions_push}
 use Rattle.disk.proofs.Moments.{elapses_both, elapses_gains, elapses_refl, gains_versions}
 use Rattle.walframe.specs.Written.{Framed}
-use Rattle.wal.specs.Copying.{HasNone, IsOfNewest, place, SkipsPage, WritesPage, CopiesPage, FailsPage, CopiesTo, KeepsPages, AllKeep, Overwrites}
+use Rattle.wal.specs.Copying.{HasNoneOf, IsOfNewest, page_place, SkipsPage, WritesPage, CopiesPage, FailsPage, CopiesTo, KeepsPages, AllKeep, Overwrites}
 use Rattle.wal.specs.View.{IsInFile, IsPageIn}
 use Rattle.wal.proofs.Changes.{page_one}
 use Rattle.wal.proofs.Places.{over_here, over_other, over_reaches, over_grows, over_most, over_front, first_front}
@@ -20,13 +20,13 @@ module _ (Told : Type 0) (page_size : ℕ) (frames : List Framed) (size : ℕ) (
   copies_begin = record {
     still = λ told number bytes low none is. is;
     stands = λ told number bytes low lt is. absurd (omega (arith, low, lt));
-    reaches = (let z : place page_size 1 ≡ 0 = zero-mul page_size in omega (arith, z));
+    reaches = (let z : page_place page_size 1 ≡ 0 = zero-mul page_size in omega (arith, z));
     grows = omega arith;
     most = λ m le within. le;
   }
 
   module _ (next : ℕ) (low : 1 ≤ next) (last : next ≤ size) where
-    next_place : place page_size (next + 1) ≡ next * page_size
+    next_place : page_place page_size (next + 1) ≡ next * page_size
     next_place = (let e : next + 1 - 1 ≡ next = omega arith in ap (λ (k : ℕ). k * page_size) e)
 
     within : next * page_size ≤ size * page_size
@@ -62,8 +62,8 @@ module _ (Told : Type 0) (page_size : ℕ) (frames : List Framed) (size : ℕ) (
           stands = λ told number bytes first lt is. elim (cases_eq number next) [
             | inl same ↦ (
                 let one : page ≡ bytes = page_one old page_size frames next page bytes (inl (written.newest told)) (subst (λ (n : ℕ). IsPageIn old page_size frames n bytes) same is) in
-                subst (λ (n : ℕ). IsInFile (overwritten (place page_size next) page now.content) page_size n bytes) (sym same)
-                (subst (IsInFile (overwritten (place page_size next) page now.content) page_size next) one (over_here now.content page_size next page low long there)))
+                subst (λ (n : ℕ). IsInFile (overwritten (page_place page_size next) page now.content) page_size n bytes) (sym same)
+                (subst (IsInFile (overwritten (page_place page_size next) page now.content) page_size next) one (over_here now.content page_size next page low long there)))
             | inr other ↦ over_other now.content page_size next page low long there number bytes first other (copies.stands told number bytes first (omega (arith, lt, other)) is)
           ];
           reaches = omega (arith, over_reaches now.content page_size next page low long there, next_place);
@@ -81,8 +81,8 @@ abbrev Begins : List Framed → List ℕ → List ℕ → Type 0
 Begins frames first l = (l ≡ take 100 first) ⊎ ((p : List ℕ) × IsOfNewest frames 1 p × (l ≡ take 100 p))
 
 -- a page that is written keeps the others, and the front
-pub keeps_over : (page_size newest : ℕ) (frames : List Framed) (first now page : List ℕ) (number : ℕ) → 100 ≤ page_size → 1 ≤ number → length page ≡ page_size → place page_size number ≤ length now → IsOfNewest frames number page
-    → KeepsPages page_size newest frames first now → KeepsPages page_size newest frames first (overwritten (place page_size number) page now)
+pub keeps_over : (page_size newest : ℕ) (frames : List Framed) (first now page : List ℕ) (number : ℕ) → 100 ≤ page_size → 1 ≤ number → length page ≡ page_size → page_place page_size number ≤ length now → IsOfNewest frames number page
+    → KeepsPages page_size newest frames first now → KeepsPages page_size newest frames first (overwritten (page_place page_size number) page now)
 keeps_over page_size newest frames first now page number large low size there of_newest keeps = record {
   still = λ other bytes from upto none is.
       over_other now page_size number page low size there other bytes from (λ same. none of_newest.0 of_newest.1.within (of_newest.1.page ∙ sym same)) (keeps.still other bytes from upto none is);
@@ -91,11 +91,11 @@ keeps_over page_size newest frames first now page number large low size there of
     | inl one ↦ inr (
       page,
       subst (λ (n : ℕ). IsOfNewest frames n page) one of_newest,
-      ap (λ (n : ℕ). take 100 (overwritten (place page_size n) page now)) one ∙ first_front now page page_size 100 size large,
+      ap (λ (n : ℕ). take 100 (overwritten (page_place page_size n) page now)) one ∙ first_front now page page_size 100 size large,
     )
     | inr later ↦ (
-        let after : 1 * page_size ≤ place page_size number = mul-le-mul_right page_size (let e : 1 ≤ number - 1 = omega (arith, low, later) in e) in
-        let same : take 100 (overwritten (place page_size number) page now) ≡ take 100 now = over_front now page_size number page low size there 100 (omega (arith, after, large)) in
+        let after : 1 * page_size ≤ page_place page_size number = mul-le-mul_right page_size (let e : 1 ≤ number - 1 = omega (arith, low, later) in e) in
+        let same : take 100 (overwritten (page_place page_size number) page now) ≡ take 100 now = over_front now page_size number page low size there 100 (omega (arith, after, large)) in
         subst (Begins frames first) (sym same) (keeps.front long some))
   ];
 }
@@ -117,7 +117,7 @@ keep_more page_size newest frames first v old new gains one all =
 abbrev pub KeepsOn : Type 0 → ℕ → List Framed → List ℕ → List ℕ → Type 0
 KeepsOn Told page_size frames old now = Told → (newest : ℕ) (first : List ℕ) → KeepsPages page_size newest frames first old → KeepsPages page_size newest frames first now
 
-module _ (Told : Type 0) (page_size : ℕ) (frames : List Framed) (large : 100 ≤ page_size) (number : ℕ) (low : 1 ≤ number) (old now after : File) (reaches : place page_size number ≤ length now.content) where
+module _ (Told : Type 0) (page_size : ℕ) (frames : List Framed) (large : 100 ≤ page_size) (number : ℕ) (low : 1 ≤ number) (old now after : File) (reaches : page_place page_size number ≤ length now.content) where
   pub keeps_on : KeepsOn Told page_size frames old.content now.content → CopiesPage Told page_size frames number now after → KeepsOn Told page_size frames old.content after.content
   keeps_on keeps (inl skips) told newest first before = subst (λ (f : File). KeepsPages page_size newest frames first f.content) (sym skips.same) (keeps told newest first before)
   keeps_on keeps (inr written) told newest first before =
@@ -130,7 +130,7 @@ module _ (Told : Type 0) (page_size : ℕ) (frames : List Framed) (large : 100 �
     elapses = elapses_both old now after over.elapses (elapses_gains _ now after written.writes.gains);
     past = written.writes.gains.past ∙ over.past;
     keeps = λ told newest first before all.
-        keep_more page_size newest frames first (write_version (place page_size number) written.page now) now after written.writes.gains
+        keep_more page_size newest frames first (write_version (page_place page_size number) written.page now) now after written.writes.gains
         (keeps_over page_size newest frames first now.content written.page number large low written.size reaches (written.newest told) (keeps told newest first before))
         (over.keeps told newest first before all);
   }
@@ -141,18 +141,18 @@ module _ (Told : Type 0) (page_size : ℕ) (frames : List Framed) (large : 100 �
     elapses = elapses_both old now after over.elapses (elapses_gains _ now after torn.fails.gains);
     past = torn.fails.gains.past ∙ over.past;
     keeps = λ told newest first before all.
-        keep_more page_size newest frames first (write_version (place page_size number) torn.page now) now after torn.fails.gains
+        keep_more page_size newest frames first (write_version (page_place page_size number) torn.page now) now after torn.fails.gains
         (keeps_over page_size newest frames first now.content torn.page number large low torn.size reaches (torn.newest told) (keeps told newest first before))
         (over.keeps told newest first before all);
   }
 
   pub current_more : IsCurrent now → CopiesPage Told page_size frames number now after → IsCurrent after
   current_more is (inl skips) = subst IsCurrent (sym skips.same) is
-  current_more is (inr written) = writes_current (place page_size number) written.page now after written.writes
+  current_more is (inr written) = writes_current (page_place page_size number) written.page now after written.writes
 
   pub left_torn : IsCurrent now → FailsPage Told page_size frames number now after → IsContentLeft after
   left_torn is (inl same) = subst IsContentLeft (sym same) (current_left now is)
-  left_torn is (inr torn) = write_left (place page_size number) torn.page now after is (inr torn.fails)
+  left_torn is (inr torn) = write_left (page_place page_size number) torn.page now after is (inr torn.fails)
 
 pub overwrites_begin : (Told : Type 0) (page_size : ℕ) (frames : List Framed) (file : File) → Overwrites Told page_size frames file file
 overwrites_begin Told page_size frames file = record { elapses = elapses_refl file; past = refl; keeps = λ told newest first before all. all }
@@ -161,7 +161,7 @@ overwrites_begin Told page_size frames file = record { elapses = elapses_refl fi
 
 module _ (Told Other : Type 0) (page_size : ℕ) (frames others : List Framed) (told : Told → Other) (same : Told → others ≡ frames) (number : ℕ) (old new : File) where
   pub copies_told : CopiesPage Other page_size others number old new → CopiesPage Told page_size frames number old new
-  copies_told (inl skips) = inl (record { none = λ is. subst (λ (fs : List Framed). HasNone fs number) (same is) (skips.none (told is)); whole = skips.whole; same = skips.same })
+  copies_told (inl skips) = inl (record { none = λ is. subst (λ (fs : List Framed). HasNoneOf fs number) (same is) (skips.none (told is)); whole = skips.whole; same = skips.same })
   copies_told (inr written) = inr (record { page = written.page; size = written.size; newest = λ is. subst (λ (fs : List Framed). IsOfNewest fs number written.page) (same is) (written.newest (told is)); writes = written.writes })
 
   pub fails_told : FailsPage Other page_size others number old new → FailsPage Told page_size frames number old new

@@ -19,7 +19,7 @@ use Rattle.wal.specs.Alone.{StandsAlone}
 use Rattle.wal.specs.Committed.{frames_under}
 use Rattle.wal.specs.Commits.{commits_of}
 use Rattle.wal.specs.Copies.{CopiesMeanwhile, HasCopied, IsCopyRefusal, IsMissing, LeavesShown, ShowsStill, copied_size, frames_seen, sees_uncopied}
-use Rattle.wal.specs.Copying.{AllKeep, CopiesTo, CutsTo, IsOfNewest, KeepsPages, Overwrites, StandsFor, copied_len}
+use Rattle.wal.specs.Copying.{AllKeep, CopiesTo, CutsTo, IsOfNewest, KeepsPages, Overwrites, LogStandsFor, copied_len}
 use Rattle.wal.specs.LogState.{LogState, header_of, seen_by, size_of, state_in}
 use Rattle.wal.specs.Stands.{header_where}
 use Rattle.wal.specs.View.{IsInFile, IsPageIn}
@@ -269,7 +269,7 @@ pub missing_refused : {T : Type 0} (result : Result T Fault) (fault : Fault) (ha
 missing_refused (Ok x) fault has_failed Missing Same number is lacks same missing = tt
 missing_refused (Err e) fault has_failed Missing Same number is lacks same missing = subst (IsCopyRefusal has_failed Missing Same) (sym (is ∙ lacks)) (same, missing)
 
-pub is_missing : (s : State) (target : Snapshot) (db log : List ℕ) (size number : ℕ) → StandsFor s log → seen_by target ≤ s.mark → size ≡ copied_size (state_in s) target → size ≤ 65536 → s.db_len ≡ length db
+pub is_missing : (s : State) (target : Snapshot) (db log : List ℕ) (size number : ℕ) → LogStandsFor s log → seen_by target ≤ s.mark → size ≡ copied_size (state_in s) target → size ≤ 65536 → s.db_len ≡ length db
     → 1 ≤ number → number ≤ size → FindsNone number (seen_by target) s.index → s.db_len < number * s.page_size → IsMissing (state_in s) target db log number
 is_missing s target db log size number stands seen is few len low high none short = record {
   first = low;

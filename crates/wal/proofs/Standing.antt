@@ -26,6 +26,10 @@ copied_cut s end db log cut stands is_end is copied some all =
     (sym (ap (λ (l : List ℕ). frames_under (header_where s.is_begun s.header) l s.mark) is ∙ cut_frames s.header s.is_begun s.mark end s.sum s.index log stands is_end))
     (copied some all)
 
+-- where not all frames are copied, or there are none, it says nothing
+pub uncopied : (s : State) (db log : List ℕ) → (0 < s.mark → s.copied ≡ s.mark → ⊥) → Copied (state_in s) db log
+uncopied s db log none some all = absurd (none some all)
+
 all_three : (a b c : Bool) → (a && b && c) ≡ true → (b ≡ true) × (c ≡ true)
 all_three true true true is = (refl, refl)
 all_three true true false is = (refl, is)

@@ -16,24 +16,24 @@ use Rattle.wal.specs.Stands.{LogStands, header_where}
 use Rattle.wal.specs.View.{IsInFile, IsPageIn, IsNewestIn, blank_frame}
 
 -- none of these frames is of the page
-abbrev pub HasNone : List Framed → ℕ → Type 0
-HasNone frames number = (k : ℕ) → k < length frames → (slice_index_or frames k blank_frame).head.page ≡ number → ⊥
+abbrev pub HasNoneOf : List Framed → ℕ → Type 0
+HasNoneOf frames number = (k : ℕ) → k < length frames → (slice_index_or frames k blank_frame).head.page ≡ number → ⊥
 
 -- these are the bytes of the page's newest frame
 abbrev pub IsOfNewest : List Framed → ℕ → List ℕ → Type 0
 IsOfNewest frames number bytes = (k : ℕ) × IsNewestIn frames number k × (bytes ≡ (slice_index_or frames k blank_frame).page)
 
 -- where a page begins in the database file
-abbrev pub place : ℕ → ℕ → ℕ
-place page_size number = (number - 1) * page_size
+abbrev pub page_place : ℕ → ℕ → ℕ
+page_place page_size number = (number - 1) * page_size
 
 -- the frames up to a mark
 abbrev pub frames_to : State → ℕ → List ℕ → List Framed
 frames_to state mark log = frames_under (header_where state.is_begun state.header) log mark
 
 -- the log stands for what is known of it
-abbrev pub StandsFor : State → List ℕ → Type 0
-StandsFor state log = LogStands state.header state.is_begun state.mark state.sum state.index log
+abbrev pub LogStandsFor : State → List ℕ → Type 0
+LogStandsFor state log = LogStands state.header state.is_begun state.mark state.sum state.index log
 
 -- where no frame up to the mark is of the page, a file of this length has it as a whole
 abbrev pub IsReached : State → ℕ → ℕ → ℕ → Type 0
@@ -58,7 +58,7 @@ CutsTo is_all end old new = ((new ≡ old) × (is_all ≡ true → length old.co
 
 -- The page has no frame, and stays. (What is told of the log is said where `Told`.)
 pub record SkipsPage (Told : Type 0) (page_size : ℕ) (frames : List Framed) (number : ℕ) (old new : File) : Type 0 where
-  pub none : Told → HasNone frames number
+  pub none : Told → HasNoneOf frames number
   pub whole : number * page_size ≤ length old.content
   pub same : new ≡ old
 
@@ -67,14 +67,14 @@ pub record WritesPage (Told : Type 0) (page_size : ℕ) (frames : List Framed) (
   pub page : List ℕ
   pub size : length page ≡ page_size
   pub newest : Told → IsOfNewest frames number page
-  pub writes : Writes (place page_size number) page old new
+  pub writes : Writes (page_place page_size number) page old new
 
 -- or it would have been
 pub record TearsPage (Told : Type 0) (page_size : ℕ) (frames : List Framed) (number : ℕ) (old new : File) : Type 0 where
   pub page : List ℕ
   pub size : length page ≡ page_size
   pub newest : Told → IsOfNewest frames number page
-  pub fails : FailsToWrite (place page_size number) page old new
+  pub fails : FailsToWrite (page_place page_size number) page old new
 
 abbrev pub CopiesPage : Type 0 → ℕ → List Framed → ℕ → File → File → Type 0
 CopiesPage Told page_size frames number old new = SkipsPage Told page_size frames number old new ⊎ WritesPage Told page_size frames number old new
@@ -85,15 +85,15 @@ FailsPage Told page_size frames number old new = (new ≡ old) ⊎ TearsPage Tol
 -- The pages before `next` that the old content shows under the frames stand in the file; those that no frame has, too. The file reaches
 -- to the next page, and is no longer than before, or than so many pages.
 pub record CopiesTo (Told : Type 0) (page_size : ℕ) (frames : List Framed) (size next : ℕ) (old now : List ℕ) : Type 0 where
-  pub still : Told → (number : ℕ) (bytes : List ℕ) → 1 ≤ number → HasNone frames number → IsInFile old page_size number bytes → IsInFile now page_size number bytes
+  pub still : Told → (number : ℕ) (bytes : List ℕ) → 1 ≤ number → HasNoneOf frames number → IsInFile old page_size number bytes → IsInFile now page_size number bytes
   pub stands : Told → (number : ℕ) (bytes : List ℕ) → 1 ≤ number → number < next → IsPageIn old page_size frames number bytes → IsInFile now page_size number bytes
-  pub reaches : place page_size next ≤ length now
+  pub reaches : page_place page_size next ≤ length now
   pub grows : length old ≤ length now
   pub most : (m : ℕ) → length old ≤ m → size * page_size ≤ m → length now ≤ m
 
 -- The content has each page, up to the newest size, that no frame has, and begins as the old one, or as page 1's newest frame.
 pub record KeepsPages (page_size newest : ℕ) (frames : List Framed) (old now : List ℕ) : Type 0 where
-  pub still : (number : ℕ) (bytes : List ℕ) → 1 ≤ number → number ≤ newest → HasNone frames number → IsInFile old page_size number bytes → IsInFile now page_size number bytes
+  pub still : (number : ℕ) (bytes : List ℕ) → 1 ≤ number → number ≤ newest → HasNoneOf frames number → IsInFile old page_size number bytes → IsInFile now page_size number bytes
   pub long : 100 ≤ length old → 1 ≤ newest → 100 ≤ length now
   pub front : 100 ≤ length old → 1 ≤ newest → (take 100 now ≡ take 100 old) ⊎ ((page : List ℕ) × IsOfNewest frames 1 page × (take 100 now ≡ take 100 page))
 

@@ -8,7 +8,7 @@ ghost use Rattle.walindex.specs.Index.{FindsFrame, FindsNone};
 ghost use Rattle.wal.specs.Alone.{StandsAlone};
 ghost use Rattle.wal.specs.Commits.{commits_of};
 ghost use Rattle.wal.specs.Copies.{Copies, CopiesMeanwhile, HasCopied, IsCopyRefusal, IsMissing, IsStateCopied, copied_size, sees_uncopied};
-ghost use Rattle.wal.specs.Copying.{AreReached, CopiesPage, CopiesTo, CutsTo, FailsPage, IsReached, LacksPage, Overwrites, StandsFor, copied_len, frames_to, place};
+ghost use Rattle.wal.specs.Copying.{AreReached, CopiesPage, CopiesTo, CutsTo, FailsPage, IsReached, LacksPage, Overwrites, LogStandsFor, copied_len, frames_to, page_place};
 ghost use Rattle.wal.specs.ErrorCauses.{AreErrorCauses, HasCause, TouchesDisk};
 ghost use Rattle.wal.specs.LogState.{state_in, seen_by};
 ghost use Rattle.wal.specs.Restarts.{is_copied};
@@ -86,7 +86,7 @@ impl State {
     /// Where a page begins in the database file.
     fn place(&self, number: u32) -> u64
         requires { 1 ≤ number }
-        ensures { result ≡ place self.now.page_size number }
+        ensures { result ≡ page_place self.now.page_size number }
     {
         (number as u64 - 1) * self.page_size as u64
     }
@@ -126,8 +126,8 @@ impl State {
         requires mark { mark ≤ self.now.mark }
         requires size { length page.old ≡ self.now.page_size }
         requires there { IsTrue (D.tells db.old) → IsReached self.now mark number (length (D.file db.old).content) }
-        requires reaches { IsTrue (D.tells db.old) → place self.now.page_size number ≤ length (D.file db.old).content }
-        requires stands { IsTrue (D.tells log.old) → StandsFor self.now (D.file log.old).content }
+        requires reaches { IsTrue (D.tells db.old) → page_place self.now.page_size number ≤ length (D.file db.old).content }
+        requires stands { IsTrue (D.tells log.old) → LogStandsFor self.now (D.file log.old).content }
         ensures copied { IsTrue (D.tells db.old) → OnOk result (CopiesPage (IsTrue (D.tells log.old)) self.now.page_size
             (frames_to self.now mark (D.file log.old).content) number (D.file db.old) (D.file db.new)) }
         ensures failed { IsTrue (D.tells db.old) → OnErr result (FailsPage (IsTrue (D.tells log.old)) self.now.page_size
@@ -158,7 +158,7 @@ impl State {
         requires mark { mark ≤ self.now.mark }
         requires size { length page.old ≡ self.now.page_size }
         requires there { IsTrue (D.tells db.old) → AreReached self.now mark size (length (D.file db.old).content) }
-        requires stands { IsTrue (D.tells log.old) → StandsFor self.now (D.file log.old).content }
+        requires stands { IsTrue (D.tells log.old) → LogStandsFor self.now (D.file log.old).content }
         ensures copied { IsTrue (D.tells db.old) → OnOk result (CopiesTo (IsTrue (D.tells log.old)) self.now.page_size
             (frames_to self.now mark (D.file log.old).content) size (size + 1) (D.file db.old).content (D.file db.new).content) }
         ensures crash { IsTrue (D.tells db.old) → Overwrites (IsTrue (D.tells log.old)) self.now.page_size
@@ -187,7 +187,7 @@ impl State {
         requires size { length page.old ≡ self.now.page_size }
         requires long { IsTrue (D.tells db.old) → self.now.db_len ≡ length (D.file db.old).content }
         requires there { AreReached self.now (seen_by target) (copied_size (state_in self.now) target) self.now.db_len }
-        requires stands { IsTrue (D.tells log.old) → StandsFor self.now (D.file log.old).content }
+        requires stands { IsTrue (D.tells log.old) → LogStandsFor self.now (D.file log.old).content }
         ensures done { IsTrue (D.tells db.old) → IsTrue (D.tells log.old)
             → OnOk result (HasCopied (state_in self.now) target (D.file log.old).content (D.file db.old).content (D.file db.new).content) }
         ensures synced { IsTrue (D.tells db.old) → OnOk result (IsSynced (D.file db.new)
@@ -211,8 +211,9 @@ impl<D: Disk> Log<D> {
 
     /// Copies the newest frame of each page up to a snapshot's mark into the database file: cuts it to the size of the newest commit
     /// where it is longer and all frames are copied, writes the pages by rising number, and syncs the file. Only then these frames
-    /// count as copied. Nothing is done where they were copied before. (`Memory`; `Io`, after which each call answers `Failed`;
-    /// `Failed`; `Damaged(Size)` where a page that the snapshot sees is in neither file, before anything is written.)
+    /// count as copied. Nothing is done where they were copied before. The log needs no sync: each commit synced it. (`Memory`; `Io`,
+    /// after which each call answers `Failed`; `Failed`; `Damaged(Size)` where a page that the snapshot sees is in neither file, before
+    /// anything is written.)
     pub fn copy(&mut self, alloc: Global, target: Snapshot) -> R<()>
         ensures done { IsTrue (D.tells (db_of self.old)) → IsTrue (D.tells (log_of self.old))
             → OnOk result (Copies (state_of self.old) target (D.file (log_of self.old)).content (D.file (db_of self.old)) (D.file (db_of self.new))) }

@@ -14,9 +14,9 @@ use Rattle.sqlval.proofs.PageSizeLemmas.{size_is}
 use Rattle.wal.proofs.CommitLemmas.{framed_fits, pages_len}
 use Rattle.wal.proofs.Staling.{base_is, place_is, clean_as, clean_begun}
 use Rattle.wal.proofs.Rooms.{strict_pages}
+use Rattle.wal.proofs.Standing.{copied_same, uncopied}
 use Rattle.wal.proofs.Same.{stands_as, known_same, reserved}
 use Rattle.wal.proofs.CommitCrashes.{writes_commit, writes_nothing}
-use Rattle.wal.proofs.Standing.{copied_same}
 use Rattle.wal.proofs.log.Log.append.Goals as goal
 
 pub invariant_of-self : goal.invariant_of-self
@@ -72,7 +72,7 @@ invariant_of-self-6 g c =
     (c.in_ok-write_out.ensures.written told) (place_is s.header s.is_begun s.mark c.end-end.result (before told).none c.end-end.ensures) (c.deref.ensures.value ∙ c.in_ok-bytes.ensures.bytes) refl refl) in
     record {
       db_there = λ ok told. omega (arith, admits.db_len, same.db_len, c.args.self.now.db_there c.requires.whole told);
-      db_copied = λ ok told told_log some all. absurd (omega (arith, all, admits.copied, admits.mark, s.copied_few, c.requires.some));
+      db_copied = λ ok told told_log. uncopied made (g.D.Disk.file c.args.self.now.db).content new (λ some all. omega (arith, all, admits.copied, admits.mark, s.copied_few, c.requires.some));
       log_clean = λ ok told_now clean. clean_as s.header made.header true made.is_begun (s.mark + length c.args.pages.now) made.mark new admits.header admits.is_begun admits.mark
           (clean_begun s.header (s.mark + length c.args.pages.now) new (subst (λ (n : ℕ). IsStaleFrom s.header (s.mark + n) new) (pages_len c.args.pages.now c.args.size) (grown (sym c.in_ok-write_out.ensures.touches.tells_same ∙ told_now)).stale));
       log_synced = λ ok told_now. c.in_ok-write_out.ensures.synced (sym c.in_ok-write_out.ensures.touches.tells_same ∙ told_now);

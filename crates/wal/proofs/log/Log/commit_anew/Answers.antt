@@ -10,9 +10,9 @@ use Rattle.wal.specs.Restarts.{restarted}
 use Rattle.wal.proofs.AnewCommits.{anew_commit, anew_grown, anew_stands, anew_clean, commits_anew, end_within, nothing_anew, writes_anew}
 use Rattle.wal.proofs.CommitLemmas.{pages_len}
 use Rattle.wal.proofs.Rooms.{strict_pages}
+use Rattle.wal.proofs.Standing.{copied_same, uncopied}
 use Rattle.wal.proofs.Same.{known_same, reserved}
 use Rattle.wal.proofs.Staling.{clean_as}
-use Rattle.wal.proofs.Standing.{copied_same}
 use Rattle.wal.proofs.log.Log.commit_anew.Goals as goal
 
 pub returns-in_err-check_limits-clause-crash : goal.returns-in_err-check_limits-clause-crash
@@ -108,7 +108,7 @@ invariant_of-self-4 g c =
     let after_is = c.in_ok-bytes.ensures.sum ∙ ap (λ (m : Sum). sum_after next m fs) c.sum-sum.ensures in
     record {
       db_there = λ ok told. omega (arith, c.advance.ensures.db_len, c.restart.ensures.db_len, c.reserve.ensures.same.db_len, c.args.self.now.db_there c.requires.whole told);
-      db_copied = λ ok told told_log some all. absurd (omega (arith, some, all, c.advance.ensures.copied, c.restart.ensures.copied));
+      db_copied = λ ok told now. uncopied made (g.D.Disk.file c.args.self.now.db).content new_file.content (λ some all. omega (arith, all, c.advance.ensures.copied, c.advance.ensures.mark, c.restart.ensures.copied, c.requires.some));
       log_clean = λ ok now clean. anew_clean next c.args.size c.in_ok-bytes.sum_now c.args.pages.now _ r made (rewritten (told_before now)).begun.content new_file.content c.restart.ensures c.advance.ensures (all (told_before now));
       log_synced = λ ok now. (rewritten (told_before now)).synced;
       log_there = λ ok now. anew_stands next c.args.size c.in_ok-bytes.sum_now c.args.pages.now _ r made (rewritten (told_before now)).begun.content new_file.content c.restart.ensures c.advance.ensures after_is (all (told_before now));
