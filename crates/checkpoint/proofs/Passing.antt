@@ -1,9 +1,9 @@
 -- Frames that are copied: both files show what they showed.
-use Rattle.std.proofs.Common.{◌≡◌, ◌⊎◌, inl, inr, ⊎_elim, ◌<◌, ◌≤◌, ℕ, List, [], ◌∷◌, Bool, true, false, length, take, refl, sym, ◌∙◌, ap, subst, arith}
-use Rattle.std.specs.Prelude.{Option, IsTrue, IsFalse, Result, Ok, Err, OnOk, IfErr, if◌then◌else◌, ◌==◌}
+use Rattle.std.proofs.Common.{◌≡◌, inl, inr, ◌<◌, ◌≤◌, ℕ, List, [], ◌∷◌, Bool, true, false, length, refl, sym, ◌∙◌, ap, subst, arith}
+use Rattle.std.specs.Prelude.{IsTrue, Result, Ok, Err, OnOk, IfErr, if◌then◌else◌, ◌==◌}
 use Rattle.std.proofs.lemmas.Bool.{cases_Bool, eqb-true}
 use Rattle.disk.specs.declared.device.Disk.{Ghosts}
-use Rattle.disk.specs.File.{File, Version, whole, versions, IsLeft, IsSynced, IsContentLeft, Throughout, OnDb}
+use Rattle.disk.specs.File.{File, Version, whole, versions, IsLeft, IsSynced, IsContentLeft, OnDb}
 use Rattle.disk.proofs.Current.{synced_left}
 use Rattle.disk.proofs.Left.{left_synced}
 use Rattle.disk.proofs.Moments.{alone, always_end, always_weaker}
@@ -15,15 +15,15 @@ use Rattle.walframe.specs.Accepted.{KeepsFile}
 use Rattle.walframe.specs.Written.{Framed}
 use Rattle.wal.specs.Committed.{HasCommits, frames_under}
 use Rattle.wal.specs.Commits.{after_refusal}
-use Rattle.wal.specs.Copies.{after_copying, copied_size, sees_uncopied, Copies, CopiesMeanwhile, HasCopied, IsCopyRefusal, IsMissing, IsStateCopied, LeavesShown, ShowsStill}
+use Rattle.wal.specs.Copies.{after_copying, sees_uncopied, Copies, CopiesMeanwhile, IsCopyRefusal, IsMissing, IsStateCopied, LeavesShown, ShowsStill}
 use Rattle.wal.specs.LogState.{LogState, db_of, header_of, log_of, seen_by, size_of, state_of}
 use Rattle.wal.specs.Stands.{header_where}
 use Rattle.wal.specs.View.{IsPageIn}
 use Rattle.wal.specs.declared.log.Log.{Log}
 use Rattle.wal.specs.declared.log.Snapshot.{Snapshot}
 use Rattle.wal.proofs.FrameLists.{framed_len}
-use Rattle.pager.specs.Views.{Tells, View, ViewHas, newest_view, view_at}
-use Rattle.checkpoint.specs.Shown.{Checkpoints, IsCheckpointRefusal, LeaveShown, MayCopy, Meanwhile, ShowsNewest, ShowsSame, view_over}
+use Rattle.pager.specs.Views.{Tells, newest_view, view_at}
+use Rattle.checkpoint.specs.Shown.{Checkpoints, IsCheckpointRefusal, LeaveShown, MayCopy, Meanwhile, ShowsNewest, ShowsSame}
 
 -- a crash leaves a synced file as it is
 pub left_is : (file : File) → IsSynced file → (c : List ℕ) → IsLeft (versions file) c → c ≡ file.content

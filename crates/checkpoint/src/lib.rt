@@ -3,4 +3,4 @@
 
 mod checkpoints;
 
-pub use checkpoints::{Counts, passive};
+pub use checkpoints::{Counts, passive, restart, truncate};

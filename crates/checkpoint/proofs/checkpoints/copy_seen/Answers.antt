@@ -1,4 +1,4 @@
-use Rattle.std.proofs.Common.{◌≡◌, ◌<◌, ◌==◌, false, arith, sym, ◌∙◌}
+use Rattle.std.proofs.Common.{◌<◌, arith}
 use Rattle.wal.specs.LogState.{state_of}
 use Rattle.checkpoint.proofs.Passing.{copied_ok, copy_refused, meanwhile, nothing_left}
 use Rattle.checkpoint.proofs.checkpoints.copy_seen.Goals as goal
