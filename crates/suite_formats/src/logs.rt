@@ -96,7 +96,7 @@ fn frames_of_an_older_header_do_not_count(rt: HostRuntime) -> Result<(), Fail> {
     let alloc = rt.alloc();
     let db = file(alloc, &filled(alloc, 9, 512)?, None)?;
     let mut files = opened(alloc, db, file(alloc, b"", None)?)?;
-    files.commit(alloc, &vec![in alloc; image(alloc, 1, 1)?]?, 1)?;
+    files.commit(alloc, &vec![in alloc; image(alloc, 1, 1)?]?, 1, true)?;
     let (db, log) = files.into_disks();
     let mut bytes = Vec::from_slice(alloc, &SECOND_HEADER)?;
     bytes.extend_from_slice(&log.content()[32..])?;
@@ -162,7 +162,7 @@ fn snapshots_see_the_commits_before_them(rt: HostRuntime) -> Result<(), Fail> {
     let first = files.begin();
     assert_eq!(rt; files.size(first), 2);
     let pages = vec![in alloc; image(alloc, 1, 1)?, image(alloc, 3, 3)?]?;
-    files.commit(alloc, &pages, 3)?;
+    files.commit(alloc, &pages, 3, true)?;
     let second = files.begin();
     assert_eq!(rt; files.size(second), 3);
     let mut out = filled(alloc, 0, 512)?;
@@ -182,7 +182,7 @@ fn snapshots_see_the_commits_of_a_log_that_was_read(rt: HostRuntime) -> Result<(
     let db = file(alloc, &filled(alloc, 9, 1024)?, None)?;
     let mut files = opened(alloc, db, file(alloc, b"", None)?)?;
     let pages = vec![in alloc; image(alloc, 1, 1)?, image(alloc, 3, 3)?]?;
-    files.commit(alloc, &pages, 3)?;
+    files.commit(alloc, &pages, 3, true)?;
     let (db, log) = files.into_disks();
     assert_eq!(rt; log.content().len(), 32 + 2 * 536);
     let mut again = opened(alloc, db, log)?;
@@ -191,7 +191,7 @@ fn snapshots_see_the_commits_of_a_log_that_was_read(rt: HostRuntime) -> Result<(
     let mut out = filled(alloc, 0, 512)?;
     again.page(third, 1, &mut out)?;
     assert_eq!(rt; first_byte(&out), 1);
-    again.commit(alloc, &vec![in alloc; image(alloc, 1, 4)?]?, 3)?;
+    again.commit(alloc, &vec![in alloc; image(alloc, 1, 4)?]?, 3, true)?;
     again.page(third, 1, &mut out)?;
     assert_eq!(rt; first_byte(&out), 1);
     again.page(again.begin(), 1, &mut out)?;
@@ -204,7 +204,7 @@ fn what_follows_the_last_commit_is_cut(rt: HostRuntime) -> Result<(), Fail> {
     let alloc = rt.alloc();
     let db = file(alloc, &filled(alloc, 9, 512)?, None)?;
     let mut files = opened(alloc, db, file(alloc, b"", None)?)?;
-    files.commit(alloc, &vec![in alloc; image(alloc, 1, 1)?]?, 1)?;
+    files.commit(alloc, &vec![in alloc; image(alloc, 1, 1)?]?, 1, true)?;
     let (db, log) = files.into_disks();
     let mut bytes = Vec::from_slice(alloc, log.content())?;
     bytes.extend_from_slice(&filled(alloc, 7, 900)?)?;
@@ -213,5 +213,33 @@ fn what_follows_the_last_commit_is_cut(rt: HostRuntime) -> Result<(), Fail> {
     again.cut_tail()?;
     let (_, log) = again.into_disks();
     assert_eq!(rt; log.content().len(), 32 + 536);
+    Ok(())
+}
+
+#[test]
+fn a_commit_after_copying_begins_the_log_anew(rt: HostRuntime) -> Result<(), Fail> {
+    let alloc = rt.alloc();
+    let db = file(alloc, &filled(alloc, 9, 512)?, None)?;
+    let mut files = opened(alloc, db, file(alloc, b"", None)?)?;
+    let pages = vec![in alloc; image(alloc, 1, 1)?, image(alloc, 2, 2)?]?;
+    files.commit(alloc, &pages, 2, true)?;
+    files.copy(alloc, files.begin())?;
+    assert_eq!(rt; files.is_copied(), true);
+    files.commit(alloc, &vec![in alloc; image(alloc, 2, 5)?]?, 2, true)?;
+    assert_eq!(rt; files.is_copied(), false);
+    files.commit(alloc, &vec![in alloc; image(alloc, 1, 6)?]?, 2, true)?;
+    let mut out = filled(alloc, 0, 512)?;
+    files.page(files.begin(), 2, &mut out)?;
+    assert_eq!(rt; first_byte(&out), 5);
+    files.copy(alloc, files.begin())?;
+    files.commit(alloc, &vec![in alloc; image(alloc, 1, 7)?]?, 2, false)?;
+    let (db, log) = files.into_disks();
+    assert_eq!(rt; log.content().len(), 32 + 3 * 536);
+    assert_eq!(rt; &log.content()[..32], SECOND_HEADER.as_slice());
+    let mut again = opened(alloc, db, log)?;
+    again.page(again.begin(), 1, &mut out)?;
+    assert_eq!(rt; first_byte(&out), 7);
+    again.page(again.begin(), 2, &mut out)?;
+    assert_eq!(rt; first_byte(&out), 5);
     Ok(())
 }
