@@ -183,12 +183,16 @@ module _ {D : Type 0} {g : Ghosts D} where
     failed marked = record {
       next = fails m;
       step = by_outcome m old.connection (statement.Checkpoint mode) refl shown.running shown.numbered (Copies mode) (Refused refusal.Io) (fails m) outcome_is (refl, refl);
-      shown = inl (marked, refl, record {
-        some = shown.some;
-        db_left = (copies.crash may).db_left;
-        log_left = (copies.crash may).log_left;
-        held = held_end (MayShow (fails m) (fails m)) (files_of old) (files_of new) (held (MayShow (fails m) (fails m)) (inl refl));
-      });
+      shown = inl (
+        marked,
+        refl,
+        record {
+          some = shown.some;
+          db_left = (copies.crash may).db_left;
+          log_left = (copies.crash may).log_left;
+          held = held_end (MayShow (fails m) (fails m)) (files_of old) (files_of new) (held (MayShow (fails m) (fails m)) (inl refl));
+        },
+      );
       crash = held (MayShow m (fails m)) (inl refl);
     }
 

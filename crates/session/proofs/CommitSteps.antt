@@ -114,8 +114,7 @@ module _ {D : Type 0} {g : Ghosts D} where
   all_older old new history db [] (k ∷ ks) keeps some not are = absurd are
   all_older old new history db (s ∷ ss) [] keeps some not are = absurd are
   all_older old new history db (s ∷ ss) (k ∷ ks) keeps some not are =
-      let none = none_after (is_writing k) (list_any is_writing ks) not in
-      (
+      let none = none_after (is_writing k) (list_any is_writing ks) not in (
         older_parked old new history db s.catalog s.transaction k (λ sees. keeps (ap (λ (b : Bool). b || list_any holds_snapshot ss) sees)) some none.0 are.0,
         all_older old new history db ss ks (λ others. keeps (any_after (holds_snapshot s) (list_any holds_snapshot ss) others)) some none.1 are.1,
       )

@@ -153,18 +153,18 @@ module _ {D : Type 0} {g : Ghosts D} where
       found_by (inr none) =
           let head = in_file none.0 in
           found_with head
-            (subst (λ (fs : List Framed). IsViewSize (map (λ f. f.head) fs) (counted_of head.header) (length db) (newest_view files).page_size (newest_view files).size) (sym none.0)
-              (size_of_file (counted_of head.header) (newest_view files).size (length db) (newest_view files).page_size
-                (subst (λ (h : Header). MatchOption (counted_of h) (⊤) (λ count. count ≡ (newest_view files).size)) (sym (in_file_is none.0)) found.counted) none.1))
-            (omega (arith, ap length none.0))
+          (subst (λ (fs : List Framed). IsViewSize (map (λ f. f.head) fs) (counted_of head.header) (length db) (newest_view files).page_size (newest_view files).size) (sym none.0)
+          (size_of_file (counted_of head.header) (newest_view files).size (length db) (newest_view files).page_size
+          (subst (λ (h : Header). MatchOption (counted_of h) (⊤) (λ count. count ≡ (newest_view files).size)) (sym (in_file_is none.0)) found.counted) none.1))
+          (omega (arith, ap length none.0))
       found_by (inl same) =
           let head = head_by shows.front in
           found_with head
-            (size_of_frames (map (λ f. f.head) frames) (counted_of head.header) (counted_of found.head) (length db) (length (newest_view files).db) (newest_view files).page_size (newest_view files).size
-              (λ none. (let is = same.1 (none_of frames none) in
-                (ap counted_of (one_header db (newest_view files).db head.header found.head is head.is found.head_is), ap length is)))
-              (subst (λ (fs : List Framed). IsViewSize (map (λ f. f.head) fs) (counted_of found.head) (length (newest_view files).db) (newest_view files).page_size (newest_view files).size) (sym same.0) found.sized))
-            (omega (arith, found.few, ap length same.0))
+          (size_of_frames (map (λ f. f.head) frames) (counted_of head.header) (counted_of found.head) (length db) (length (newest_view files).db) (newest_view files).page_size (newest_view files).size
+          (λ none. (let is = same.1 (none_of frames none) in
+          (ap counted_of (one_header db (newest_view files).db head.header found.head is head.is found.head_is), ap length is)))
+          (subst (λ (fs : List Framed). IsViewSize (map (λ f. f.head) fs) (counted_of found.head) (length (newest_view files).db) (newest_view files).page_size (newest_view files).size) (sym same.0) found.sized))
+          (omega (arith, found.few, ap length same.0))
 
       pub found_now : IsFound now
       found_now = found_by shows.frames_are
@@ -175,15 +175,18 @@ module _ {D : Type 0} {g : Ghosts D} where
     -- so what a crash leaves holds the database
     pub held_where_shown : (May : Database → Type 0) → May database → (dbs logs : List Version) → LeaveShown files target dbs logs → LeaveHeld May dbs logs
     held_where_shown May may dbs logs leaves db log left_db left_log chance =
-        let is = leaves db log left_db left_log in
-        (database, may, held_if_stored db log database (record {
-          view = view_over files db is.0;
-          db_is = refl;
-          commits = is.1;
-          found = found_now db is.0 is.2;
-          tables = tables;
-          stored = stored_now db is.0 is.2;
-        }))
+        let is = leaves db log left_db left_log in (
+          database,
+          may,
+          held_if_stored db log database (record {
+            view = view_over files db is.0;
+            db_is = refl;
+            commits = is.1;
+            found = found_now db is.0 is.2;
+            tables = tables;
+            stored = stored_now db is.0 is.2;
+          }),
+        )
 
     pub throughout_shown : (May : Database → Type 0) → May database → (new : Log D g) → Meanwhile files target new → HoldThroughout May files new
     throughout_shown May may new meanwhile = (

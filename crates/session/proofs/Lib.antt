@@ -31,6 +31,7 @@ mod SameViews
 mod Copied
 mod Leasts
 mod CheckpointSteps
+mod CopyFrames
 pub mod Fresh
 pub mod StatementCauses
 mod WellFormedRows

@@ -220,7 +220,7 @@ module _ {D : Type 0} {g : Ghosts D} where
       more_frames : (new : Log D g) → state_of new ≡ grown (base_of (state_of mid) (is_alone old)) (length (changes_of v)) (pages_of v) → is_alone old ≡ false → (state_of mid).frames < (state_of new).frames
       more_frames new known others =
           let grows : state_of new ≡ grown (state_of mid) (length (changes_of v)) (pages_of v) =
-            known ∙ ap (λ (b : Bool). grown (base_of (state_of mid) b) (length (changes_of v)) (pages_of v)) others in
+          known ∙ ap (λ (b : Bool). grown (base_of (state_of mid) b) (length (changes_of v)) (pages_of v)) others in
           omega (arith, some_changes (changes_of v) applies_now.writer.sound.consistent.first, ap (λ (k : LogState). k.frames) grows)
 
       on_mid : {files : Log D g} (next : Connections D g) → IsAfterCommit old files next → IsAfterCommit (with_files old mid) (files_of next) next

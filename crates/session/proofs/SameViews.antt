@@ -35,8 +35,7 @@ same_shown v w tables db same shown = record {
 
     maps : pages_in v ≡ pages_in w
     maps = maps_within v w (sym same.size) (λ number bytes low high.
-        (let within : number ≤ v.size = omega (arith, high, same.size) in
-        (
+        (let within : number ≤ v.size = omega (arith, high, same.size) in (
           (λ has. same.pages number bytes low within has),
           (λ has. back number bytes low within has),
         )))

@@ -420,6 +420,7 @@ impl<D: Disk + Drop> Connections<D> {
     fn checkpoint(&mut self, mode: CheckpointMode) -> R<Rows>
         ensures cause { HasCauseIn false result self.old self.new }
         ensures marks { MarksFailure result self.old self.new }
+        ensures refused { IfErr result (IsRefusedHere self.old (statement.Checkpoint mode)) }
         ensures step { StepsOn self.old (statement.Checkpoint mode) (rows_reply result) self.new }
     {
         if !self.is_idle() {

@@ -10,7 +10,8 @@ fn a_snapshot_holds_the_checkpoint_back(rt: HostRuntime) -> Result<(), Fail> {
     let lines =
         b"1 CREATE TABLE t(a)\n2 BEGIN\n2 SELECT a FROM t\n1 INSERT INTO t VALUES (1)\n1 INSERT INTO t VALUES (2)\n1 INSERT INTO t VALUES (3)\n1 PRAGMA wal_checkpoint\n1 PRAGMA wal_checkpoint(RESTART)\n2 SELECT a FROM t\n2 COMMIT\n1 PRAGMA wal_checkpoint\n1 INSERT INTO t VALUES (4)\n1 PRAGMA wal_checkpoint\n";
     let output = reply(alloc, &mut engine, lines)?;
-    let replies = b"ok\nok\nok\nok\nok\nok\n0|8|2\nok\n1|8|2\nok\nok\nok\n0|8|8\nok\nok\n0|2|2\nok\n";
+    let replies =
+        b"ok\nok\nok\nok\nok\nok\n0|8|2\nok\n1|8|2\nok\nok\nok\n0|8|8\nok\nok\n0|2|2\nok\n";
     assert!(rt; output.as_slice() == replies.as_slice());
     let (_, log) = engine.into_disks();
     let bytes = log.content();
@@ -25,8 +26,7 @@ fn a_snapshot_holds_the_checkpoint_back(rt: HostRuntime) -> Result<(), Fail> {
 fn restart_keeps_the_log_and_counts_none_of_it(rt: HostRuntime) -> Result<(), Fail> {
     let alloc = rt.alloc();
     let mut engine = new_engine(alloc)?;
-    let lines =
-        b"1 CREATE TABLE t(a)\n1 PRAGMA wal_checkpoint(RESTART)\n1 PRAGMA wal_checkpoint\n";
+    let lines = b"1 CREATE TABLE t(a)\n1 PRAGMA wal_checkpoint(RESTART)\n1 PRAGMA wal_checkpoint\n";
     let output = reply(alloc, &mut engine, lines)?;
     assert!(rt; output.as_slice() == b"ok\n0|2|2\nok\n0|0|0\nok\n".as_slice());
     let (db, log) = engine.into_disks();

@@ -4,9 +4,9 @@
 #[cfg(test)]
 mod calls;
 #[cfg(test)]
-mod checkpoints;
-#[cfg(test)]
 mod checkpoint_crashes;
+#[cfg(test)]
+mod checkpoints;
 #[cfg(test)]
 mod connections;
 #[cfg(test)]
