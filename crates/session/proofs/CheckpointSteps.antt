@@ -1,11 +1,11 @@
 -- A checkpoint is a step of the machine.
-use Rattle.std.proofs.Common.{◌≡◌, ◌∙◌, ◌≤◌, inl, inr, refl, sym, ap, subst, ℕ, ◌-◌, List, [], ◌∷◌, Bool, true, false, map, arith}
+use Rattle.std.proofs.Common.{◌≡◌, ◌⊎◌, ◌∙◌, ◌≤◌, inl, inr, refl, sym, ap, subst, ℕ, ◌-◌, List, [], ◌∷◌, Bool, true, false, map, arith}
 use Rattle.std.specs.Prelude.{⊤, ◌||◌, not, pos, Result, Ok, Err, OnOk, IfOk, IfErr, IsFalse, Vec, slice_set, if◌then◌else◌}
 use Rattle.std.specs.List.{list_any}
 use Rattle.std.specs.declared.alloc.Global.{Global}
 use Rattle.std.proofs.lemmas.Bool.{false≢true}
 use Rattle.smallvec.specs.SmallVec.{SmallVec}
-use Rattle.disk.specs.File.{versions}
+use Rattle.disk.proofs.Moments.{throughout_both}
 use Rattle.disk.specs.declared.device.Disk.{Ghosts}
 use Rattle.sqlval.specs.Refusals as refusal
 use Rattle.sqlval.specs.Refusals.{refusal_of}
@@ -15,6 +15,7 @@ use Rattle.sqlval.specs.declared.value.Value.{Value}
 use Rattle.sqlval.specs.declared.value.Value.TheVariants.{Int}
 use Rattle.syntax.specs.declared.statement.CheckpointMode.{CheckpointMode}
 use Rattle.syntax.specs.declared.statement.CheckpointMode.TheVariants as modes
+use Rattle.syntax.specs.declared.statement.Statement.{Statement}
 use Rattle.syntax.specs.declared.statement.Statement.TheVariants as statement
 use Rattle.catalog.specs.Database.{Database}
 use Rattle.catalog.specs.declared.tables.Table.{Table}
@@ -24,10 +25,10 @@ use Rattle.wal.specs.declared.log.Log.{Log}
 use Rattle.pager.specs.Views.{View, ViewHas, newest_view, view_at}
 use Rattle.checkpoint.specs.declared.checkpoints.Counts.{Counts}
 use Rattle.checkpoint.specs.Shown.{Checkpoints, IsCheckpointRefusal, MayCopy}
-use Rattle.session.specs.Checkpoints.{CopiesBack, IsCount, KeepsSeats, is_kept, may_restart, numbers_of}
+use Rattle.session.specs.Checkpoints.{CopiesAfter, CopiesBack, IsCount, KeepsSeats, is_kept, may_restart, numbers_of}
 use Rattle.session.specs.ConnectionState.{files_of, has_failed_in, is_io}
 use Rattle.session.specs.Crashes.{MayShow}
-use Rattle.session.specs.Holding.{HoldThroughout}
+use Rattle.session.specs.Holding.{HoldThroughout, IsLeftBy, LeaveHeld}
 use Rattle.session.specs.Machine.{Machine, Connection, Idle, InTransactionOf, Reply, Rows, Refused, another, connection, has_snapshot, newest}
 use Rattle.session.specs.Outcomes.{Copies, RefusedBy, outcome}
 use Rattle.session.specs.Representation.{AreParked, Beside, IsTransaction, RepresentsRunning, ShowTheSame, StepsOn, StepsTo, beside_in, is_idle, newest_tables, rows_reply}
@@ -43,7 +44,8 @@ use Rattle.session.specs.declared.transactions.Connections.{Connections}
 use Rattle.session.proofs.Committing.{same_files}
 use Rattle.session.proofs.Copied.{HasHeaderAt, IsSight, KeepsSights, alone_parked, alone_transaction, header_shown, least_sight, may_copy, moved_parked, newest_now, newest_same, settled_now, throughout_shown}
 use Rattle.session.proofs.SameViews.{same_shown}
-use Rattle.session.proofs.Settled.{as_shown, held_end}
+use Rattle.session.specs.Supported.{StepSoFar}
+use Rattle.session.proofs.Settled.{as_shown, held_end, settled_leaves, weaker}
 use Rattle.session.proofs.Showing.{busy_first, idle_first, still_shown}
 use Rattle.session.proofs.Stepping.{by_outcome, checkpoint_outcome, instead}
 
@@ -178,21 +180,20 @@ module _ {D : Type 0} {g : Ghosts D} where
         crash = held (MayShow m m) (inl refl);
       })
 
-    -- a call of a disk has failed
+    -- what is left where a call of a disk has failed
+    left_failed : IsLeftBy (files_of new) (fails m)
+    left_failed = record {
+      some = shown.some;
+      db_left = (copies.crash may).db_left;
+      log_left = (copies.crash may).log_left;
+      held = held_end (MayShow (fails m) (fails m)) (files_of old) (files_of new) (held (MayShow (fails m) (fails m)) (inl refl));
+    }
+
     failed : has_failed_in new ≡ true → StepsTo old m (statement.Checkpoint mode) (Refused refusal.Io) new
     failed marked = record {
       next = fails m;
       step = by_outcome m old.connection (statement.Checkpoint mode) refl shown.running shown.numbered (Copies mode) (Refused refusal.Io) (fails m) outcome_is (refl, refl);
-      shown = inl (
-        marked,
-        refl,
-        record {
-          some = shown.some;
-          db_left = (copies.crash may).db_left;
-          log_left = (copies.crash may).log_left;
-          held = held_end (MayShow (fails m) (fails m)) (files_of old) (files_of new) (held (MayShow (fails m) (fails m)) (inl refl));
-        },
-      );
+      shown = inl (marked, refl, left_failed);
       crash = held (MayShow m (fails m)) (inl refl);
     }
 
@@ -204,19 +205,30 @@ module _ {D : Type 0} {g : Ghosts D} where
       crash = held (MayShow m m) (inl refl);
     }
 
+    no_more : (b : Bool) → (b || false) ≡ b
+    no_more true = refl
+    no_more false = refl
+
+    marks : (b : Bool) → (b || true) ≡ true
+    marks true = refl
+    marks false = refl
+
+    -- nothing has changed where memory was short, and the engine is marked where a call failed
+    still_beside : (f : Fault) → f ≡ fault.Memory → beside_in new ≡ record (beside_in old) { failed = has_failed_in old || is_io f } → beside_in new ≡ beside_in old
+    still_beside f memory beside = beside ∙ ap (λ (b : Bool). record (beside_in old) { failed = b }) (ap (λ (e : Fault). has_failed_in old || is_io e) memory ∙ no_more (has_failed_in old))
+
+    marked_by : (f : Fault) → f ≡ fault.Io → beside_in new ≡ record (beside_in old) { failed = has_failed_in old || is_io f } → has_failed_in new ≡ true
+    marked_by f io beside = ap (λ (b : Beside). b.failed) beside ∙ ap (λ (e : Fault). has_failed_in old || is_io e) io ∙ marks (has_failed_in old)
+
     pub refused_by : (f : Fault) → beside_in new ≡ record (beside_in old) { failed = has_failed_in old || is_io f } → IsCheckpointRefusal (files_of old) (files_of new) f → StepsTo old m (statement.Checkpoint mode) (Refused (refusal_of f)) new
     refused_by f beside (inl memory) = subst (λ (e : Fault). StepsTo old m (statement.Checkpoint mode) (Refused (refusal_of e)) new) (sym memory.0)
-        (short (beside ∙ ap (λ (b : Bool). record (beside_in old) { failed = b }) (ap (λ (e : Fault). has_failed_in old || is_io e) memory.0 ∙ no_more (has_failed_in old))) (same_files (files_of old) (files_of new) shown.told memory.2 memory.3 memory.1))
-      where
-        no_more : (b : Bool) → (b || false) ≡ b
-        no_more true = refl
-        no_more false = refl
-    refused_by f beside (inr io) = subst (λ (e : Fault). StepsTo old m (statement.Checkpoint mode) (Refused (refusal_of e)) new) (sym io)
-        (failed (ap (λ (b : Beside). b.failed) beside ∙ ap (λ (e : Fault). has_failed_in old || is_io e) io ∙ marks (has_failed_in old)))
-      where
-        marks : (b : Bool) → (b || true) ≡ true
-        marks true = refl
-        marks false = refl
+        (short (still_beside f memory.0 beside) (same_files (files_of old) (files_of new) shown.told memory.2 memory.3 memory.1))
+    refused_by f beside (inr io) = subst (λ (e : Fault). StepsTo old m (statement.Checkpoint mode) (Refused (refusal_of e)) new) (sym io) (failed (marked_by f io beside))
+
+    -- and the same of what is left
+    pub left_after : (f : Fault) → beside_in new ≡ record (beside_in old) { failed = has_failed_in old || is_io f } → IsCheckpointRefusal (files_of old) (files_of new) f → (has_failed_in new ≡ true) × IsLeftBy (files_of new) (fails m) ⊎ RepresentsRunning new m
+    left_after f beside (inl memory) = inr (still_shown old new m shown (same_files (files_of old) (files_of new) shown.told memory.2 memory.3 memory.1) (still_beside f memory.0 beside) catalog_is transaction_is)
+    left_after f beside (inr io) = inl (marked_by f io beside, left_failed)
 
     pub may_now : MayCopy (files_of old) copies.target
     may_now = may
@@ -235,3 +247,44 @@ module _ {D : Type 0} {g : Ghosts D} where
   checkpoint_failed old new mode f idle seats copies m shown =
       refused_by old new m mode shown idle (Err f) copies seats.transaction seats.catalog f seats.failed
       (copies.refused (may_now old new m mode shown idle (Err f) copies seats.transaction seats.catalog))
+
+  -- ---- after a commit
+
+  -- the connections represent the machine still, or nothing more than that it has failed; and a crash leaves its newest database
+  pub record Follows (mid new : Connections D g) (m : Machine) : Type 0 where
+    pub shown : (has_failed_in new ≡ true) × IsLeftBy (files_of new) (fails m) ⊎ RepresentsRunning new m
+    pub crash : HoldThroughout (λ d. d ≡ newest m) (files_of mid) (files_of new)
+
+  pub copied_after : (mid new : Connections D g) (m : Machine) → RepresentsRunning mid m → mid.transaction ≡ transaction.Idle → CopiesAfter mid new → Follows mid new m
+  copied_after mid new m shown idle (inl same) = record {
+    shown = inr (subst (λ (c : Connections D g). RepresentsRunning c m) (sym same) shown);
+    crash = subst (λ (c : Connections D g). HoldThroughout (λ d. d ≡ newest m) (files_of mid) (files_of c)) (sym same)
+        ([], (settled_leaves (λ d. d ≡ newest m) (files_of mid) (newest_tables mid) (newest m) refl shown.settled shown.stored, refl, refl));
+  }
+  copied_after mid new m shown idle (inr quiet) = record { shown = by_result quiet.result quiet.seats quiet.copies; crash = held_by (λ d. d ≡ newest m) refl }
+    where
+      is : is_idle mid.transaction ≡ true
+      is = ap is_idle idle
+
+      held_by : (May : Database → Type 0) → May (newest m) → HoldThroughout May (files_of mid) (files_of new)
+      held_by May may_be = held mid new m modes.Passive shown is quiet.result quiet.copies quiet.seats.transaction quiet.seats.catalog May may_be
+
+      by_result : (result : Result Counts Fault) → KeepsSeats result mid new → CopiesBack modes.Passive mid.parked.items (files_of mid) result (files_of new)
+          → (has_failed_in new ≡ true) × IsLeftBy (files_of new) (fails m) ⊎ RepresentsRunning new m
+      by_result (Ok counts) seats copies = inr (copied_shown mid new m modes.Passive shown is (Ok counts) copies seats.transaction seats.catalog seats.beside
+          (copies.done (may_now mid new m modes.Passive shown is (Ok counts) copies seats.transaction seats.catalog)))
+      by_result (Err f) seats copies = left_after mid new m modes.Passive shown is (Err f) copies seats.transaction seats.catalog f seats.failed
+          (copies.refused (may_now mid new m modes.Passive shown is (Err f) copies seats.transaction seats.catalog))
+
+  -- a step of a commit, with what follows it
+  pub then_steps : (old mid new : Connections D g) (m next : Machine) (s : Statement) → Follows mid new next → HoldThroughout (MayShow m next) (files_of old) (files_of mid) → StepSoFar m old.connection s (Rows []) next
+      → StepSoFar m old.connection s (Rows []) (fails next) → StepsTo old m s (Rows []) new
+  then_steps old mid new m next s follows before step failed_step = by_shown follows.shown
+    where
+      crash : HoldThroughout (MayShow m next) (files_of old) (files_of new)
+      crash = throughout_both (LeaveHeld (MayShow m next)) (LeaveHeld (λ d. d ≡ newest next)) (weaker (λ d. d ≡ newest next) (MayShow m next) (λ d is. inr (inl is)))
+          (g.file (db_of (files_of old))) (g.file (log_of (files_of old))) (g.file (db_of (files_of mid))) (g.file (log_of (files_of mid))) (g.file (db_of (files_of new))) (g.file (log_of (files_of new))) before follows.crash
+
+      by_shown : (has_failed_in new ≡ true) × IsLeftBy (files_of new) (fails next) ⊎ RepresentsRunning new next → StepsTo old m s (Rows []) new
+      by_shown (inl gone) = record { next = fails next; step = failed_step; shown = inl (gone.0, refl, gone.1); crash = crash }
+      by_shown (inr shown) = record { next = next; step = step; shown = inr shown; crash = crash }

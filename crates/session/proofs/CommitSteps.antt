@@ -28,13 +28,15 @@ use Rattle.session.specs.Representation.{AreParked, Beside, CommitsBy, IsGivenUp
 use Rattle.session.specs.Seats.{holds_snapshot, sees_snapshot}
 use Rattle.session.specs.declared.seats.Seat.{Seat}
 use Rattle.session.specs.Writers.{IsWriter}
-use Rattle.session.specs.Steps.{Allowed, after_commit, is_connection, is_free}
+use Rattle.session.specs.Steps.{Allowed, after_commit, fails, is_connection, is_free}
 use Rattle.session.specs.Stored.{ShowsDatabase}
-use Rattle.session.specs.Applying.{CommitsChanges, CommitsDatabase, HoldsEither, IsCommitCause, IsInDoubt, IsUncommitted, KeepsSnapshots, CanApply}
+use Rattle.session.specs.Applying.{CommitsChanges, CommitsDatabase, CommitsThen, HoldsEither, IsCommitCause, IsInDoubt, IsUncommitted, KeepsSnapshots, CanApply}
 use Rattle.session.specs.declared.transactions.Connections.{Connections}
 use Rattle.session.specs.declared.seats.Transaction.{Transaction}
 use Rattle.session.specs.declared.seats.Transaction.TheVariants as transaction
 use Rattle.session.proofs.CommitCrashes.{commit_crashes, doubt_left, doubt_crashes, doubted, last_is}
+use Rattle.session.specs.Checkpoints.{CopiesAfter}
+use Rattle.session.proofs.CheckpointSteps.{copied_after, then_steps}
 use Rattle.session.proofs.Settled.{crash_keeps}
 use Rattle.session.proofs.Showing.{Begins, idle_first, in_range, lone_still, moved, stays, still_parked, still_saved, still_shown, the_same}
 use Rattle.session.proofs.Parking.{get_set, one_set, set_length, set_twice}
@@ -189,16 +191,14 @@ module _ {D : Type 0} {g : Ghosts D} where
     alone_writes : another is_writing m old.connection ≡ false
     alone_writes = lone_still old m in_writing.shown (ap is_writing in_writing.on.is)
 
-    pub committed_step : beside_in mid ≡ beside_in old → mid.transaction ≡ transaction.Idle → CommitsDatabase mid in_writing.on.db new × HoldsEither mid in_writing.on.db new → StepsTo old m s (Rows []) new
-    committed_step beside idle has =
+    pub committed_step : (committed : Connections D g) → beside_in mid ≡ beside_in old → mid.transaction ≡ transaction.Idle → CommitsDatabase mid in_writing.on.db committed → HoldsEither mid in_writing.on.db committed → CopiesAfter committed new
+        → StepsTo old m s (Rows []) new
+    committed_step committed beside idle has held after =
         let shown = in_writing.shown in
         let next = after_commit m old.connection in_writing.on.db in
-        record {
-          next = next;
-          step = step_to (Rows []) next (refl, inl refl);
-          shown = inr (committed_shown old mid new m shown in_writing.on.db in_writing.same beside has.0 (has.0.transaction ∙ idle) alone_writes);
-          crash = commit_crashes old mid new m in_writing.on.db shown in_writing.same in_writing.base has.1;
-        }
+        then_steps old committed new m next s (copied_after committed new next (committed_shown old mid committed m shown in_writing.on.db in_writing.same beside has (has.transaction ∙ idle) alone_writes) (has.transaction ∙ idle) after)
+        (commit_crashes old mid committed m in_writing.on.db shown in_writing.same in_writing.base held)
+        (step_to (Rows []) next (refl, inl refl)) (step_to (Rows []) (fails next) (refl, inr refl))
 
     -- where a call of a disk has failed, the database is in doubt
     failed_step : (left : Writer) (f : Fault) → IsInDoubt mid in_writing.on.db new f → StepsTo old m s (Refused refusal.Io) (writing_on new left)
@@ -259,12 +259,12 @@ module _ {D : Type 0} {g : Ghosts D} where
         by_why (inr full) = subst (λ (e : Fault). StepsTo old m s (Refused (refusal_of e)) (writing_on new left)) (sym full.0) (instead_step left refusal.Full refl same on)
 
     -- by what the commit answered
-    pub ok_step : (result : Result ⊤ Fault) (left : Writer) → is_err result ≡ false → beside_in mid ≡ beside_in old → mid.transaction ≡ transaction.Idle → CommitsChanges mid w in_writing.on.db result new left
+    pub ok_step : (result : Result ⊤ Fault) (left : Writer) → is_err result ≡ false → beside_in mid ≡ beside_in old → mid.transaction ≡ transaction.Idle → CommitsThen mid w in_writing.on.db result new left
         → StepsTo old m s (done_reply result) new
-    ok_step (Ok done) left is failed idle has = committed_step failed idle has
+    ok_step (Ok done) left is failed idle has = committed_step has.0 failed idle has.1 has.2 has.3
     ok_step (Err f) left is failed idle has = absurd (false≢true (sym is))
 
-    pub err_step : (result : Result ⊤ Fault) (left : Writer) → is_err result ≡ true → beside_in mid ≡ beside_in old → files_of mid ≡ files_of old → mid.catalog ≡ old.catalog → CommitsChanges mid w in_writing.on.db result new left
+    pub err_step : (result : Result ⊤ Fault) (left : Writer) → is_err result ≡ true → beside_in mid ≡ beside_in old → files_of mid ≡ files_of old → mid.catalog ≡ old.catalog → CommitsThen mid w in_writing.on.db result new left
         → StepsTo old m s (done_reply result) (writing_on new left)
     err_step (Ok done) left is failed files catalog has = absurd (false≢true is)
     err_step (Err f) left is failed files catalog has = refused_step left f failed files catalog has

@@ -40,8 +40,7 @@ use Rattle.session.specs.declared.seats.Seat.{Seat}
 use Rattle.session.specs.declared.seats.Transaction.{Transaction}
 use Rattle.session.specs.declared.seats.Transaction.TheVariants as transaction
 use Rattle.session.proofs.FilesAlone.{first_bytes}
-use Rattle.session.proofs.FirstPages.{first_of, first_shown}
-use Rattle.session.proofs.NewChanges.{all_there}
+use Rattle.session.proofs.FirstPages.{all_there, first_of, first_shown}
 use Rattle.session.proofs.SameViews.{same_seen, same_shown}
 use Rattle.session.proofs.SeenPages.{at_newest, one_page}
 use Rattle.session.proofs.Standing.{held_if_stored}

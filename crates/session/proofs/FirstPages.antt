@@ -10,6 +10,7 @@ use Rattle.wal.proofs.Openable.{some_size}
 use Rattle.catalog.specs.Database.{Database}
 use Rattle.catalog.specs.declared.tables.Table.{Table}
 use Rattle.pages.specs.Map.{page_at, Has}
+use Rattle.pager.specs.Pruning.{AreAllThere}
 use Rattle.pager.specs.Maps.{pages_in}
 use Rattle.pager.specs.Views.{IsViewPage, View, ViewHas}
 use Rattle.pager.specs.Writers.{IsHeaded}
@@ -32,6 +33,13 @@ module _ (view : View) (tables : List Table) (db : Database) (held : Stores (pag
   -- readers can get it, where the pages store a database
   pub first_there : IsViewPage view 1 (first_of view)
   first_there = shows_mapped view 1 some_bytes (record { has = first_has; whole = held.shared.whole 1 first_has })
+
+-- each page of a view that shows a database is there
+pub all_there : (view : View) (tables : List Table) (db : Database) → ShowsDatabase view tables db → AreAllThere view
+all_there view tables db held number above below =
+    let has : Has (pages_in view) number = record { first = above; last = omega (arith, below, count_to view view.size) } in
+    let is = shows_mapped view number (some_bytes view tables db held.stored) (record { has = has; whole = held.stored.shared.whole number has }) in
+    (_, is.has)
 
 pub first_shown : (view : View) (tables : List Table) (db : Database) → ShowsDatabase view tables db → IsViewPage view 1 (first_of view)
 first_shown view tables db held = first_there view tables db held.stored

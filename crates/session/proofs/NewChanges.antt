@@ -35,18 +35,11 @@ use Rattle.session.specs.Writers.{IsNewest, IsWriter}
 use Rattle.session.specs.Stored.{ShowsDatabase}
 use Rattle.session.specs.declared.transactions.Connections.{Connections}
 use Rattle.session.proofs.Committing.{commit_holds, commit_refused, has_committed, may_commit}
-use Rattle.session.proofs.FirstPages.{first_of, some_bytes}
+use Rattle.session.proofs.FirstPages.{all_there, first_of}
 use Rattle.session.proofs.SeenPages.{at_newest}
 use Rattle.session.proofs.Settled.{held_from, settled_leaves, still_settled}
 use Rattle.session.proofs.Showing.{still_writer}
 use Rattle.session.proofs.Writing.{show_on}
-
--- each page of a view that shows a database is there
-pub all_there : (view : View) (tables : List Table) (db : Database) → ShowsDatabase view tables db → AreAllThere view
-all_there view tables db held number above below =
-    let has : Has (pages_in view) number = record { first = above; last = omega (arith, below, count_to view view.size) } in
-    let is = shows_mapped view number (some_bytes view tables db held.stored) (record { has = has; whole = held.stored.shared.whole number has }) in
-    (_, is.has)
 
 module _ {D : Type 0} {g : Ghosts D} where
   -- a writer's snapshot shows a database, where the newest view does

@@ -19,7 +19,7 @@ use Rattle.pager.proofs.Seeing.{seen_from, seen_to}
 use Rattle.checkpoint.specs.Shown.{ShowsSame}
 use Rattle.storage.specs.Stored.{Stores}
 use Rattle.session.specs.Stored.{ShowsDatabase}
-use Rattle.session.proofs.NewChanges.{all_there}
+use Rattle.session.proofs.FirstPages.{all_there}
 
 pub same_shown : (v w : View) (tables : List Table) (db : Database) → ShowsSame v w → ShowsDatabase v tables db → ShowsDatabase w tables db
 same_shown v w tables db same shown = record {

@@ -14,7 +14,7 @@ use Rattle.pager.specs.Views.{newest_view}
 use Rattle.pager.specs.declared.writer.Writer.{Writer}
 use Rattle.session.specs.Machine.{newest}
 use Rattle.session.specs.Stored.{ShowsDatabase}
-use Rattle.session.specs.Applying.{CanApply, CommitsChanges, IsPast}
+use Rattle.session.specs.Applying.{CanApply, CommitsChanges, CommitsThen, IsPast}
 use Rattle.session.specs.Changing.{written}
 use Rattle.session.specs.ConnectionState.{files_of, has_failed_in}
 use Rattle.session.specs.Failing.{IsPastIn, IsPastLimits, IsRefusedHere, has_written}
@@ -57,7 +57,7 @@ module _ {D : Type 0} {g : Ghosts D} where
     ]
 
     pub commit_refused_for : (result : Result ⊤ Fault) → mid.catalog ≡ old.catalog → has_failed_in mid ≡ has_failed_in old
-        → ((db was : Database) → has_failed_in mid ≡ false → CanApply mid w db → ShowsDatabase (newest_view (files_of mid)) (committed_in mid.catalog) was → CommitsChanges mid w db result new left) → IfErr result (IsRefusedHere old statement.Commit)
+        → ((db was : Database) → has_failed_in mid ≡ false → CanApply mid w db → ShowsDatabase (newest_view (files_of mid)) (committed_in mid.catalog) was → CommitsThen mid w db result new left) → IfErr result (IsRefusedHere old statement.Commit)
     commit_refused_for (Ok done) catalog failed commits = tt
     commit_refused_for (Err f) catalog failed commits = record {
       memory = λ memory. ap has_written was;

@@ -29,7 +29,7 @@ use Rattle.session.specs.ConnectionState.{files_of, has_failed_in}
 use Rattle.session.specs.Machine.{Machine, Connection, Idle, InTransactionOf, NoSnapshot, Reads, SavepointState, Writes, Reply, Rows, Refused, connection, is_writing, last_place, newest}
 use Rattle.session.specs.Outcomes.{Outcome, outcome}
 use Rattle.storage.specs.Works.{Work, Makes, IsRefused, Undoes, Binds, Reaches, change_made}
-use Rattle.session.specs.Steps.{Allowed, after_commit}
+use Rattle.session.specs.Steps.{Allowed, after_commit, fails}
 use Rattle.session.specs.Stored.{ShowsDatabase}
 use Rattle.session.specs.Representation.{Beside, IsSnapshotOf, IsWritingIn, MayWrite, RepresentsRunning, IsTransaction, OnlyReads, ShowTheSame, StepsOn, StepsTo, beside_in, done_reply, has_no_snapshot, is_idle, is_reading, seen_in, with_transaction}
 use Rattle.session.specs.Applying.{CommitsChanges, EndsAlone, IsApplied, IsCommitCause, IsDropped, IsNotApplied, KeepsCommitted, Applies, CanApply, listing_of}
@@ -41,6 +41,7 @@ use Rattle.session.specs.declared.seats.Transaction.{Transaction}
 use Rattle.session.specs.declared.seats.Transaction.TheVariants as transaction
 use Rattle.session.specs.declared.changes.Write.{Write}
 use Rattle.session.proofs.Beginning.{StartsWriting, free_of, newest_listed, none_where_idle, writer_begins, writer_stores}
+use Rattle.session.proofs.CheckpointSteps.{copied_after, then_steps}
 use Rattle.session.proofs.CommitSteps.{committed_shown}
 use Rattle.session.proofs.CommitCrashes.{commit_crashes, doubt_left, doubt_crashes, doubted}
 use Rattle.session.proofs.Settled.{still_settled, crash_keeps}
@@ -61,6 +62,12 @@ alone_commits m n made (Makes db) is = (refl, inl (ap (after_commit m n) (sym is
 alone_commits m n made (IsRefused rs) is = absurd is
 alone_commits m n made (Undoes r) is = absurd is
 alone_commits m n made (Binds over ch w) is = inr (is.0, alone_commits m n made w is.1)
+
+alone_commits_failed : (m : Machine) (n : ℕ) (made : Database) (w : Work) → Reaches w made → Allowed m n (alone m w) (Rows []) (fails (after_commit m n made))
+alone_commits_failed m n made (Makes db) is = (refl, inr (ap (λ (d : Database). fails (after_commit m n d)) (sym is)))
+alone_commits_failed m n made (IsRefused rs) is = absurd is
+alone_commits_failed m n made (Undoes r) is = absurd is
+alone_commits_failed m n made (Binds over ch w) is = inr (is.0, alone_commits_failed m n made w is.1)
 
 alone_doubts : (m : Machine) (n : ℕ) (made : Database) (w : Work) → Reaches w made → Allowed m n (alone m w) (Refused refusal.Io) (doubted m made)
 alone_doubts m n made (Makes db) is = (refl, inr (ap (doubted m) (sym is)))
@@ -362,12 +369,13 @@ module _ {D : Type 0} {g : Ghosts D} where
       short f (inr full) = inl (inr full.0)
 
       by_result : (r : Result ⊤ Fault) → EndsAlone after left has.made r new → StepsTo old m (written x) (done_reply r) new
-      by_result (Ok done) ended = record {
-        next = after_commit m old.connection has.made;
-        step = by_outcome m old.connection (written x) supported_forms shown.running shown.numbered (alone m (change_made (written x) (newest m))) (Rows []) (after_commit m old.connection has.made) opened.comes (alone_commits m old.connection has.made (change_made (written x) (newest m)) has.reaches);
-        shown = inr (committed_shown old after new m shown has.made worked left_beside ended.0 (ended.0.transaction ∙ is_alone) (free_of old m shown may.free));
-        crash = commit_crashes old after new m has.made shown worked newest_stored ended.1;
-      }
+      by_result (Ok done) ended =
+          let next = after_commit m old.connection has.made in
+          let committed = ended.0 in
+          then_steps old committed new m next (written x) (copied_after committed new next (committed_shown old after committed m shown has.made worked left_beside ended.1 (ended.1.transaction ∙ is_alone) (free_of old m shown may.free)) (ended.1.transaction ∙ is_alone) ended.3)
+          (commit_crashes old after committed m has.made shown worked newest_stored ended.2)
+          (by_outcome m old.connection (written x) supported_forms shown.running shown.numbered (alone m (change_made (written x) (newest m))) (Rows []) next opened.comes (alone_commits m old.connection has.made (change_made (written x) (newest m)) has.reaches))
+          (by_outcome m old.connection (written x) supported_forms shown.running shown.numbered (alone m (change_made (written x) (newest m))) (Rows []) (fails next) opened.comes (alone_commits_failed m old.connection has.made (change_made (written x) (newest m)) has.reaches))
       by_result (Err f) (inl io) = record {
         next = doubted m has.made;
         step = subst (λ (e : Fault). StepSoFar m old.connection (written x) (Refused (refusal_of e)) (doubted m has.made)) (sym io.io)

@@ -23,6 +23,7 @@ use Rattle.storage.specs.Changing.{IsChangeRefusal}
 use Rattle.session.specs.Changing.{Listing, CanChange, listing}
 use Rattle.storage.specs.Works.{Reaches, change_made}
 use Rattle.session.specs.Holding.{HoldThroughout, IsSettled}
+use Rattle.session.specs.Checkpoints.{CopiesAfter}
 use Rattle.session.specs.ConnectionState.{files_of, has_failed_in, is_io}
 use Rattle.session.specs.Representation.{Beside, ShowTheSame, beside_in, is_alone, newest_tables}
 use Rattle.session.specs.Stored.{ShowsDatabase}
@@ -122,6 +123,11 @@ module _ {D : Type 0} {g : Ghosts D} where
   CommitsChanges old writer db (Ok done) new left = CommitsDatabase old db new × HoldsEither old db new
   CommitsChanges old writer db (Err f) new left = IsInDoubt old db new f ⊎ IsUncommitted old writer db new left f
 
+  -- the same, where frames may have been copied into the database file after the commit
+  abbrev pub CommitsThen : Connections D g → Writer → Database → Result ⊤ Fault → Connections D g → Writer → Type 0
+  CommitsThen old writer db (Ok done) new left = (mid : Connections D g) × CommitsDatabase old db mid × HoldsEither old db mid × CopiesAfter mid new
+  CommitsThen old writer db (Err f) new left = CommitsChanges old writer db (Err f) new left
+
   -- nothing differs but the files
   pub record KeepsAllButFiles (old new : Connections D g) : Type 0 where
     pub beside : beside_in new ≡ beside_in old
@@ -163,5 +169,5 @@ module _ {D : Type 0} {g : Ghosts D} where
 
   -- what the commit of a statement of its own has come to
   abbrev pub EndsAlone : Connections D g → Writer → Database → Result ⊤ Fault → Connections D g → Type 0
-  EndsAlone old writer db (Ok done) new = CommitsDatabase old db new × HoldsEither old db new
+  EndsAlone old writer db (Ok done) new = (mid : Connections D g) × CommitsDatabase old db mid × HoldsEither old db mid × CopiesAfter mid new
   EndsAlone old writer db (Err f) new = IsInDoubt old db new f ⊎ IsDropped old writer new f

@@ -1,5 +1,5 @@
 -- What a checkpoint of the connections' log comes to (PRAGMA Statements, "wal_checkpoint"; Write-Ahead Logging, "Checkpointing").
-use Rattle.std.specs.Prelude.{◌≡◌, ◌≤◌, ◌||◌, ℕ, Bool, false, not, List, [], ◌∷◌, pos, Result, Ok, Err, OnOk, IfErr, IfOk, if◌then◌else◌}
+use Rattle.std.specs.Prelude.{◌≡◌, ◌⊎◌, ◌≤◌, ◌||◌, ℕ, Bool, false, not, List, [], ◌∷◌, pos, Result, Ok, Err, OnOk, IfErr, IfOk, if◌then◌else◌}
 use Rattle.std.specs.List.{list_any}
 use Rattle.disk.specs.declared.device.Disk.{Ghosts}
 use Rattle.sqlval.specs.declared.fault.Fault.{Fault}
@@ -57,3 +57,13 @@ module _ {D : Type 0} {g : Ghosts D} where
     pub failed : IfErr result (λ f. beside_in new ≡ record (beside_in old) { failed = has_failed_in old || is_io f })
     pub transaction : new.transaction ≡ old.transaction
     pub catalog : new.catalog ≡ old.catalog
+
+  -- frames were copied as by a passive checkpoint, whose refusal isn't answered
+  pub record CopiesQuietly (old new : Connections D g) : Type 0 where
+    pub result : Result Counts Fault
+    pub seats : KeepsSeats result old new
+    pub copies : CopiesBack modes.Passive old.parked.items (files_of old) result (files_of new)
+
+  -- what follows a commit: nothing, or that
+  abbrev pub CopiesAfter : Connections D g → Connections D g → Type 0
+  CopiesAfter old new = (new ≡ old) ⊎ CopiesQuietly old new

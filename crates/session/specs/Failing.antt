@@ -1,5 +1,5 @@
 -- Which refusals have which causes, and when the engine is marked as failed.
-use Rattle.std.specs.Prelude.{◌≡◌, ◌⊎◌, ◌≤◌, ℕ, length, Bool, true, false, IsTrue, IsFalse, Result, Err}
+use Rattle.std.specs.Prelude.{◌≡◌, ◌⊎◌, ◌≤◌, ℕ, length, Bool, true, false, IsTrue, IsFalse, IfErr, Result, Err}
 use Rattle.disk.specs.Calls.{Rose}
 use Rattle.disk.specs.declared.device.Disk.{Ghosts}
 use Rattle.sqlval.specs.declared.fault.Fault.{Fault}
@@ -49,14 +49,19 @@ module _ {D : Type 0} {g : Ghosts D} where
   abbrev pub HasCallFailed : Log D g → Log D g → Type 0
   HasCallFailed old new = Rose (g.failures (db_of old)) (g.failures (db_of new)) ⊎ Rose (g.failures (log_of old)) (g.failures (log_of new))
 
+  -- the counts of the two disks' failed calls didn't fall
+  abbrev pub CountsStay : Log D g → Log D g → Type 0
+  CountsStay old new = (g.failures (db_of old) ≤ g.failures (db_of new)) × (g.failures (log_of old) ≤ g.failures (log_of new))
+
   -- the files were read at most, and the engine is marked as failed where it was
   pub record ReadsFiles (old new : Connections D g) : Type 0 where
     pub files : Tells (files_of old) → ShowTheSame (files_of old) (files_of new)
     pub failed : has_failed_in new ≡ has_failed_in old
 
-  -- Only a refusal `Io` marks the engine as failed, and only where a call of a disk failed; and one that doesn't mark it leaves what readers see.
+  -- Of refusals `Io` alone marks the engine as failed, and only where a call of a disk failed; so does a commit that answers ok, where the copying
+  -- of frames after it failed. A refusal that doesn't mark it leaves what readers see.
   pub record MarksFailure {T : Type 0} (result : Result T Fault) (old new : Connections D g) : Type 0 where
-    pub marked : IsFalse (has_failed_in old) → IsTrue (has_failed_in new) → (result ≡ Err fault.Io) × HasCallFailed (files_of old) (files_of new)
+    pub marked : IsFalse (has_failed_in old) → IsTrue (has_failed_in new) → IfErr result (λ f. f ≡ fault.Io) × HasCallFailed (files_of old) (files_of new)
     pub unmarked : result ≡ Err fault.Io → IsFalse (has_failed_in new) → Tells (files_of old) → ShowTheSame (files_of old) (files_of new)
 
   -- this transaction has written, and what its commit would write is past the limits

@@ -17,8 +17,8 @@ ghost use Rattle.storage.specs.Forms as forms;
 ghost use Rattle.wal.specs.LogState.{db_of, log_of};
 ghost use Rattle.session.specs.ConnectionState.{is_io};
 ghost use Rattle.session.specs.Limits.{may_be_full};
-ghost use Rattle.session.specs.Failing.{IsRefusedFor, IsRefusedHere, MarksFailure, ReadsFiles, is_immediate};
-ghost use Rattle.session.specs.Applying.{CommitsChanges, EndsAlone, Applies, CanApply, KeepsAllButFiles, WritesChanges};
+ghost use Rattle.session.specs.Failing.{CountsStay, HasCallFailed, IsRefusedFor, IsRefusedHere, MarksFailure, ReadsFiles, is_immediate};
+ghost use Rattle.session.specs.Applying.{CommitsThen, EndsAlone, Applies, CanApply, KeepsAllButFiles, WritesChanges};
 ghost use Rattle.session.specs.Changing.{written};
 
 use crate::changes::{Write, apply, write_of};
@@ -41,6 +41,9 @@ use std::mem;
 use std::rc::Rc;
 use syntax::{BeginMode, CheckpointMode, Query, Statement};
 use wal::{Log, Snapshot};
+
+/// How many frames the log has at least for a commit to be followed by a checkpoint.
+const LONG_LOG: u32 = 1000;
 
 /// The sixteen connections of an open database.
 #[derive(Drop)]
@@ -76,7 +79,7 @@ fn is_io(fault: &Fault) -> bool
 
 impl<D: Disk + Drop> Connections<D> {
     ghost use Rattle.session.specs.Representation.{AreGivenUp, CommitsBy, IsGivenUp, MayWrite, OnlyReads, RepresentsRunning, SeesNewest, StartsReading, Steps, StepsOn, Switches, TakesNewest, TradesWith, done_reply, first_write_refusal, has_no_snapshot, is_alone, is_begun, is_idle, is_reading, rows_reply, seen_in, with_transaction};
-    ghost use Rattle.session.specs.Checkpoints.{CopiesBack, KeepsSeats};
+    ghost use Rattle.session.specs.Checkpoints.{CopiesAfter, CopiesBack, KeepsSeats};
     ghost use Rattle.session.specs.Writers.{SeesBy, is_stale};
     ghost use Rattle.session.specs.Seats.{AreFresh, catalog_in, holds_writer};
     ghost use Rattle.session.specs.declared.seats.Transaction.TheVariants as transaction;
@@ -376,20 +379,35 @@ impl<D: Disk + Drop> Connections<D> {
         }
     }
 
-    /// Commits a writer's pages. After `Io` every statement is refused.
+    /// Commits a writer's pages, and copies the log's frames where it has become long. After `Io` every statement is refused.
     fn commit_writer(&mut self, writer: &mut Writer) -> R<()>
         ensures cause { HasCauseIn true result self.old self.new }
         ensures marks { MarksFailure result self.old self.new }
         ensures commits { (db was : Database) → has_failed_in self.old ≡ false → CanApply self.old writer.old db
             → ShowsDatabase (newest_view (files_of self.old)) (committed_in self.old.catalog) was
-            → CommitsChanges self.old writer.old db result self.new writer.new }
+            → CommitsThen self.old writer.old db result self.new writer.new }
     {
         if let Err(fault) = self.write_changes(writer) {
             self.has_failed |= is_io(&fault);
             return Err(fault);
         }
         self.catalog.commit(&mut self.newest);
+        self.copy_long_log();
         Ok(())
+    }
+
+    /// Copies the frames of a log that has become long into the database file, as far as other connections' snapshots let it. A refusal isn't
+    /// answered: out of memory nothing is done; after `Io` every later statement is refused.
+    fn copy_long_log(&mut self)
+        ensures copies { CopiesAfter self.old self.new }
+        ensures counts { CountsStay (files_of self.old) (files_of self.new) }
+        ensures marked { IsFalse (has_failed_in self.old) → IsTrue (has_failed_in self.new)
+            → HasCallFailed (files_of self.old) (files_of self.new) }
+    {
+        if self.log.frame_count() < LONG_LOG {
+            return;
+        }
+        let _ = self.copy_back(CheckpointMode::Passive);
     }
 
     pub(crate) fn commit_here(&mut self) -> R<()>

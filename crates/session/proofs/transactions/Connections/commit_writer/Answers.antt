@@ -19,7 +19,8 @@ pub returns-clause-commits : goal.returns-clause-commits
 returns-clause-commits g c db was whole applies stored =
     let mid = c.write_changes.new.self in
     let rest = c.write_changes.ensures.rest in
-    c.in_default.ensures.writes db was whole applies stored (record mid { catalog = c.commit.new.self; newest = c.commit.new.newest }) (record {
+    let committed = record mid { catalog = c.commit.new.self; newest = c.commit.new.newest } in
+    let has = c.in_default.ensures.writes db was whole applies stored committed (record {
       files_are = refl;
       failed = ap (λ (b : Beside). b.failed) rest.beside;
       connection = ap (λ (b : Beside). b.connection) rest.beside;
@@ -28,4 +29,5 @@ returns-clause-commits g c db was whole applies stored =
       newest = c.commit.ensures.newest ∙ ap current_in rest.catalog;
       all = c.commit.ensures.unchanged;
       savepoints = c.commit.ensures.none;
-    })
+    }) in
+    (committed, has.0, has.1, c.copy_long_log.ensures.copies)
