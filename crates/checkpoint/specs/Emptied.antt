@@ -21,7 +21,7 @@ module _ {D : Type 0} {g : Ghosts D} where
   CountOn files frames = (frames ≡ (newest_view files).frames)
       ⊎ (frames ≡ []) × StandsAlone (newest_view files).db (state_of files).page_size (newest_view files).frames (state_of files).size
 
-  -- the log was synced, and the database file is as it was
+  -- what is known after: the log is synced, and its frames count on, or there are none
   pub record Emptied (old new : Log D g) : Type 0 where
     pub told : Tells new
     pub page_size : (state_of new).page_size ≡ (state_of old).page_size
