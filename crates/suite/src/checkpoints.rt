@@ -78,3 +78,27 @@ fn a_checkpoint_waits_for_its_own_transaction(rt: HostRuntime) -> Result<(), Fai
     assert!(rt; output.as_slice() == b"ok\nerror E15 InTransaction\nok\n0|0|0\nok\n".as_slice());
     Ok(())
 }
+
+#[test]
+fn a_long_log_is_copied_and_begun_anew(rt: HostRuntime) -> Result<(), Fail> {
+    let alloc = rt.alloc();
+    let mut engine = new_engine(alloc)?;
+    let mut lines = Vec::new(alloc);
+    lines.extend_from_slice(b"1 CREATE TABLE t(a)\n")?;
+    for _ in 0..998 {
+        lines.extend_from_slice(b"1 DELETE FROM t\n")?;
+    }
+    lines.extend_from_slice(
+        b"1 PRAGMA wal_checkpoint\n1 DELETE FROM t\n1 PRAGMA wal_checkpoint\n",
+    )?;
+    let output = reply(alloc, &mut engine, &lines)?;
+    assert!(rt;
+        output
+            .as_slice()
+            .ends_with(b"ok\n0|1000|1000\nok\nok\n0|1|1\nok\n")
+    );
+    let (db, log) = engine.into_disks();
+    assert_eq!(rt; log.content().len(), 32 + 1000 * 536);
+    assert_eq!(rt; db.content().len(), 1024);
+    Ok(())
+}
