@@ -11,7 +11,7 @@ module _ {D : Type 0} {g : Ghosts D} where
   abbrev pub connections_of : Engine D g → Connections D g
   connections_of engine = engine.connections
 
-  -- a commit has failed, so that the files are to be opened anew
+  -- a commit or a checkpoint has failed, so that the files are to be opened anew
   abbrev pub has_failed_of : Engine D g → Bool
   has_failed_of engine = has_failed_in engine.connections
 

@@ -9,8 +9,8 @@ use Rattle.engine.specs.Representation.{files_in}
 use Rattle.engine.specs.declared.opening.Engine.{Engine}
 
 module _ {D : Type 0} {g : Ghosts D} where
-  -- The answer to a statement: Ok comes only where no call of a disk failed, and `Io` only where one did; only such a refusal marks
-  -- the engine as failed, and one that doesn't mark it leaves what readers see.
+  -- The answer to a statement: `Io` comes only where a call of a disk failed; of refusals it alone marks the engine as failed, and where it
+  -- doesn't, it leaves what readers see.
   pub record CountsFailures {T : Type 0} (result : Result T Fault) (old new : Engine D g) : Type 0 where
     pub cause : HasCauseIn true result (connections_of old) (connections_of new)
     pub marks : MarksFailure result (connections_of old) (connections_of new)

@@ -224,7 +224,7 @@ impl<D: Disk + Drop> Engine<D> {
         rows
     }
 
-    /// Whether a commit has failed, so that the files must be opened again.
+    /// Whether a commit or a checkpoint has failed, so that the files must be opened again.
     pub(crate) fn has_failed(&self) -> bool
         ensures { result ≡ has_failed_of self.now }
     {

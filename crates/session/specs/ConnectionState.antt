@@ -14,7 +14,7 @@ use Rattle.wal.specs.declared.log.Log.{Log}
 abbrev pub IsNoConnection : ℕ → Type 0
 IsNoConnection connection = (connection ≡ 0) ⊎ (16 < connection)
 
--- The first refusal: an engine whose commit failed answers nothing else, and a connection's number is from 1 to 16.
+-- The first refusal: an engine whose commit or checkpoint failed answers nothing else, and a connection's number is from 1 to 16.
 abbrev pub first_refusal : Bool → ℕ → Result ⊤ Fault
 first_refusal has_failed connection = if has_failed then Err Failed else (if connection == 0 || nat_lt 16 connection then Err (Misuse Connection) else Ok tt)
 
@@ -33,7 +33,7 @@ module _ {D : Type 0} {g : Ghosts D} where
   abbrev pub HasCause : {T : Type 0} → Bool → Result T Fault → Log D g → Log D g → Type 0
   HasCause may_be_full result old new = Causes result (failures_of old) (failures_of new) (IsTrue may_be_full)
 
-  -- a commit has failed, so that the files are to be opened anew
+  -- a commit or a checkpoint has failed, so that the files are to be opened anew
   abbrev pub has_failed_in : Connections D g → Bool
   has_failed_in connections = connections.has_failed
 

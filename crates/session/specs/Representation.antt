@@ -92,7 +92,7 @@ pub record IsReadingIn (catalog : SavedCatalogs) (phase : Phase) (k : Connection
   pub all : IsUnchanged catalog
   pub saved : AreSaved (IsUnwritten (committed_in catalog)) catalog points
 
--- what a statement leaves that commits nothing: whether a commit has failed, whose the present transaction is, the other connections', and
+-- what a statement leaves that commits nothing: whether a commit or a checkpoint has failed, whose the present transaction is, the other connections', and
 -- the tables of the newest commit
 pub record Beside : Type 0 where
   pub failed : Bool

@@ -134,7 +134,7 @@ impl<D: Disk + Drop> Connections<D> {
         log.into_disks()
     }
 
-    /// Whether a commit has failed, so that the files must be opened again.
+    /// Whether a commit or a checkpoint has failed, so that the files must be opened again.
     pub fn has_failed(&self) -> bool
         ensures { result ≡ has_failed_in self.now }
     {

@@ -38,10 +38,6 @@ abbrev pub after_refusal : LogState → Fault → LogState
 after_refusal known Io = record known { has_failed = true }
 after_refusal known _ = known
 
--- what is known after a commit of so many pages
-abbrev pub IsStateAfter : Result (Unit {0}) Fault → LogState → ℕ → ℕ → LogState → Type 0
-IsStateAfter result old count size new = MatchResult result (λ _. new ≡ grown old count size) (λ e. new ≡ after_refusal old e)
-
 -- the disk of the database file is as it was, that of the log tells as it did, and the count of its failed calls didn't fall
 pub record KeepsDisks {D : Type 0} (tells : D → Bool) (failures : D → ℕ) (old_db new_db old_log new_log : D) : Type 0 where
   pub db : new_db ≡ old_db
