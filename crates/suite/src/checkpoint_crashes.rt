@@ -1,7 +1,7 @@
 //! Crashes at each call of each file while the log is copied into the database file, begun anew, and cut.
 
 use crate::crashes::{picks, shows};
-use crate::databases::{empty_files, file, open, reply};
+use crate::databases::{empty_files, file, open};
 use disk::MemDisk;
 use engine::Engine;
 use sqlval::R;
@@ -9,43 +9,50 @@ use std::alloc::Global;
 use std::test::*;
 
 /// More calls of the log than the script makes.
-const MOST_CALLS: u64 = 80;
+const MOST_CALLS: u64 = 170;
 
 /// More calls of the database file than the script makes.
-const MOST_FILE_CALLS: u64 = 64;
+const MOST_FILE_CALLS: u64 = 100;
 
 /// How many commits the script has.
 const COMMITS: usize = 7;
 
-/// The script: commits, and between them each kind of checkpoint.
-fn statement(number: usize) -> &'static [u8] {
+/// The script, each statement with its connection: commits, and between them each kind of checkpoint, the first ones beside a reader that holds
+/// them back, and one after which a commit begins the log anew.
+fn statement(number: usize) -> (u32, &'static str) {
     match number {
-        0 => b"1 CREATE TABLE t(a)",
-        2 => b"1 PRAGMA wal_checkpoint",
-        5 => b"1 PRAGMA wal_checkpoint(RESTART)",
-        8 => b"1 PRAGMA wal_checkpoint(TRUNCATE)",
-        _ => b"1 INSERT INTO t VALUES (7)",
+        0 => (1, "CREATE TABLE t(a)"),
+        2 => (2, "BEGIN"),
+        3 => (2, "SELECT a FROM t"),
+        5 | 9 => (1, "PRAGMA wal_checkpoint"),
+        7 | 11 => (1, "PRAGMA wal_checkpoint(RESTART)"),
+        8 => (2, "COMMIT"),
+        13 => (1, "PRAGMA wal_checkpoint(TRUNCATE)"),
+        _ => (1, "INSERT INTO t VALUES (7)"),
     }
 }
 
 /// Whether a statement of the script commits.
 fn commits(number: usize) -> bool {
-    number != 2 && number != 5 && number != 8
+    match number {
+        2 | 3 | 5 | 7 | 8 | 9 | 11 | 13 => false,
+        _ => true,
+    }
 }
 
 /// How many commits of the script are acknowledged.
-fn acknowledged(alloc: Global, engine: &mut Engine<MemDisk>) -> R<usize> {
+fn acknowledged(engine: &mut Engine<MemDisk>) -> usize {
     let mut done = 0;
-    for number in 0..10 {
-        let output = reply(alloc, engine, statement(number))?;
-        if !output.as_slice().ends_with(b"ok\n") {
-            return Ok(done);
+    for number in 0..15 {
+        let (connection, text) = statement(number);
+        if engine.execute(connection, text).is_err() {
+            return done;
         }
         if commits(number) {
             done += 1;
         }
     }
-    Ok(done)
+    done
 }
 
 /// What a crash leaves after a run of the script on files of which one crashes: how many commits are acknowledged, and
@@ -61,7 +68,7 @@ fn crashed(
     match open(alloc, db, log) {
         Ok(engine) => {
             let mut engine = engine;
-            let commits = acknowledged(alloc, &mut engine)?;
+            let commits = acknowledged(&mut engine);
             let (db, log) = engine.into_disks();
             Ok((commits, db, log))
         }

@@ -1,6 +1,8 @@
 //! Checkpoints: what they answer, and what the files have after them.
 
-use crate::databases::{new_engine, opened, reply};
+use crate::databases::{file, new_engine, opened, reply};
+use sqlval::R;
+use std::alloc::Global;
 use std::test::*;
 
 #[test]
@@ -19,6 +21,33 @@ fn a_snapshot_holds_the_checkpoint_back(rt: HostRuntime) -> Result<(), Fail> {
     let header =
         b"\x37\x7f\x06\x83\x00\x2d\xe2\x18\x00\x00\x02\x00\x00\x00\x00\x01\x00\x00\x00\x02\x9e\x37\x79\xbb\x16\x04\xca\xda\x5b\x15\x1e\x4f";
     assert!(rt; bytes.get(0..32) == Some(header.as_slice()));
+    Ok(())
+}
+
+/// Whether the rows are shown of a log that has another one's header over its first 32 bytes.
+fn shows_rows(alloc: Global, db: &[u8], log: &[u8], header: &[u8]) -> R<bool> {
+    let mut bytes = Vec::from_slice(alloc, header)?;
+    bytes.extend_from_slice(&log[32.min(log.len())..])?;
+    let mut engine = opened(alloc, file(alloc, db, None)?, file(alloc, &bytes, None)?)?;
+    let output = reply(alloc, &mut engine, b"1 SELECT a FROM t")?;
+    Ok(output.as_slice() == b"1\n2\n3\nok\n".as_slice())
+}
+
+#[test]
+fn rows_are_there_under_the_old_header_and_the_new_one(rt: HostRuntime) -> Result<(), Fail> {
+    let alloc = rt.alloc();
+    let mut engine = new_engine(alloc)?;
+    let lines =
+        b"1 CREATE TABLE t(a)\n1 INSERT INTO t VALUES (1)\n1 INSERT INTO t VALUES (2)\n1 INSERT INTO t VALUES (3)\n1 PRAGMA wal_checkpoint(RESTART)\n";
+    let output = reply(alloc, &mut engine, lines)?;
+    assert!(rt; output.as_slice().ends_with(b"0|8|8\nok\n"));
+    let (db, log) = engine.into_disks();
+    let old =
+        b"\x37\x7f\x06\x83\x00\x2d\xe2\x18\x00\x00\x02\x00\x00\x00\x00\x00\x00\x00\x00\x01\x00\x00\x00\x02\x16\x04\xca\xd8\xbc\xdd\xa4\x93";
+    let new =
+        b"\x37\x7f\x06\x83\x00\x2d\xe2\x18\x00\x00\x02\x00\x00\x00\x00\x01\x00\x00\x00\x02\x9e\x37\x79\xbb\x16\x04\xca\xda\x5b\x15\x1e\x4f";
+    assert!(rt; shows_rows(alloc, db.content(), log.content(), old)?);
+    assert!(rt; shows_rows(alloc, db.content(), log.content(), new)?);
     Ok(())
 }
 
