@@ -1,8 +1,8 @@
 -- What is kept of a content is kept of each that begins as it does.
-use Rattle.std.proofs.Common.{◌≡◌, ◌∙◌, ◌≤◌, ◌+◌, ℕ, zero, suc, List, [], ◌∷◌, ◌++◌, length, take, drop, ap, sym, refl, arith}
-use Rattle.std.proofs.lemmas.List.{drop-take, length-take-le, take-append-le}
+use Rattle.std.proofs.Common.{◌≡◌, ◌∙◌, ◌≤◌, ◌+◌, ◌-◌, ℕ, zero, suc, List, [], ◌∷◌, ◌++◌, length, take, drop, ap, sym, refl, arith}
+use Rattle.std.proofs.lemmas.List.{append_assoc, drop-drop, drop-take, drop_at, length-take-le, take-append-le, take_at}
 use Rattle.disk.specs.Calls.{overwritten}
-use Rattle.cacheddisk.specs.Kept.{AreKept}
+use Rattle.cacheddisk.specs.Kept.{AreKept, IsKept}
 use Rattle.cacheddisk.specs.declared.blocks.Block.{Block}
 
 take_front : (m n : ℕ) (xs : List ℕ) → m ≤ n → take m (take n xs) ≡ take m xs
@@ -17,14 +17,40 @@ same_within end at n old new le same =
     ∙ (ap (drop at) (sym (take_front (at + n) end old le) ∙ (ap (take (at + n)) (sym same) ∙ take_front (at + n) end new le))
     ∙ drop-take at n new)
 
+pub one_kept_on : (end : ℕ) (old new : List ℕ) (block : Block) → take end new ≡ take end old → IsKept old end block → IsKept new end block
+one_kept_on end old new block same is = record { within = is.within; same = is.same ∙ same_within end _ _ old new is.within same }
+
 pub kept_on : (end : ℕ) (old new : List ℕ) (blocks : List Block) → take end new ≡ take end old → AreKept old end blocks → AreKept new end blocks
-kept_on end old new blocks same kept = λ k d lt.
-    (let is = kept k d lt in record { within = is.within; same = is.same ∙ same_within end _ _ old new is.within same })
+kept_on end old new blocks same kept = λ k d lt. one_kept_on end old new _ same (kept k d lt)
 
 -- a greater end will do
+pub one_kept_longer : (end longer : ℕ) (content : List ℕ) (block : Block) → end ≤ longer → IsKept content end block → IsKept content longer block
+one_kept_longer end longer content block le is = let within = is.within in record { within = omega (arith, within, le); same = is.same }
+
 pub kept_longer : (end longer : ℕ) (content : List ℕ) (blocks : List Block) → end ≤ longer → AreKept content end blocks → AreKept content longer blocks
-kept_longer end longer content blocks le kept = λ k d lt.
-    (let is = kept k d lt in let within = is.within in record { within = omega (arith, within, le); same = is.same })
+kept_longer end longer content blocks le kept = λ k d lt. one_kept_longer end longer content _ le (kept k d lt)
+
+-- a part of what a block has stands in the content
+pub part_kept : (content : List ℕ) (end from len at : ℕ) (block : Block) → IsKept content end block → block.at + from ≡ at → from + len ≤ length block.bytes.items
+    → take len (drop from block.bytes.items) ≡ take len (drop at content)
+part_kept content end from len at block is there within =
+    ap (λ (xs : List ℕ). take len (drop from xs)) (is.same ∙ ap (λ (n : ℕ). take n (drop block.at content)) long)
+    ∙ (ap (take len) (drop-take from rest (drop block.at content))
+    ∙ (take_front len rest (drop from (drop block.at content)) (omega (arith, within))
+    ∙ ap (take len) (drop-drop from block.at content ∙ ap (λ (n : ℕ). drop n content) there)))
+  where
+    rest : ℕ
+    rest = length block.bytes.items - from
+
+    long : length block.bytes.items ≡ from + rest
+    long = omega (arith, within)
+
+-- what was written stands where it was written
+pub written_there : (at : ℕ) (bytes old : List ℕ) → at ≤ length old → take (length bytes) (drop at (overwritten at bytes old)) ≡ bytes
+written_there at bytes old within =
+    ap (λ (xs : List ℕ). take (length bytes) (drop at xs)) (append_assoc (take at old) bytes (drop (at + length bytes) old))
+    ∙ ap (take (length bytes)) (drop_at (take at old) (bytes ++ drop (at + length bytes) old) at (length-take-le at old within))
+    ∙ take_at bytes (drop (at + length bytes) old) (length bytes) refl
 
 -- a write from the end on keeps what is before it, and so does a cut
 pub front_written : (end at : ℕ) (bytes old : List ℕ) → end ≤ at → at ≤ length old → take end (overwritten at bytes old) ≡ take end old

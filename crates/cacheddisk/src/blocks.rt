@@ -42,6 +42,58 @@ pub fn find(blocks: &[Block], at: u64, len: usize) -> Option<&[u8]>
     bytes_of(&blocks[place_of(at, blocks.len())], at, len)
 }
 
+/// How far an offset is from another, if it isn't before it.
+fn distance(from: u64, at: u64) -> Option<usize>
+    ensures { IfSome result (λ there. from + there ≡ at) }
+{
+    match at.checked_sub(from) {
+        Some(there) => usize::try_from(there).ok(),
+        None => None,
+    }
+}
+
+/// So many bytes from a place on, if there are so many.
+fn part_from(bytes: &[u8], from: usize, len: usize) -> Option<&[u8]>
+    ensures { IfSome result (λ part. (from + len ≤ length bytes.now) × (part.now ≡ take len (drop from bytes.now)) × (length part.now ≡ len)) }
+{
+    match from.checked_add(len) {
+        Some(end) if end <= bytes.len() => Some(&bytes[from..end]),
+        _ => None,
+    }
+}
+
+/// The bytes from an offset on that a block has, if it has so many there.
+pub fn part(block: &Block, at: u64, len: usize) -> Option<&[u8]>
+    ensures { IfSome result (λ bytes. (length bytes.now ≡ len) × ((content : List ℕ) (end : ℕ) → IsKept content end block.now
+        → bytes.now ≡ take len (drop at content))) }
+{
+    match distance(block.at, at) {
+        Some(from) => part_from(block.bytes.as_slice(), from, len),
+        None => None,
+    }
+}
+
+/// Lets go of what blocks have, and of what another one has.
+pub fn let_go(blocks: &mut Vec<Block>, other: &mut Block)
+    ensures { (content : List ℕ) (end : ℕ) → AreKept content end blocks.new.items × IsKept content end other.new }
+{
+    blocks.clear();
+    other.bytes.clear();
+    other.at = 0;
+}
+
+/// Puts other bytes, from an offset on, in the place of a block's, or none if there is no memory for them.
+pub fn renew(block: &mut Block, at: u64, bytes: &[u8])
+    ensures { (content : List ℕ) (end : ℕ) → at + length bytes.now ≤ end
+        → bytes.now ≡ take (length bytes.now) (drop at content) → IsKept content end block.new }
+{
+    block.bytes.clear();
+    block.at = 0;
+    if block.bytes.extend_from_slice(bytes).is_ok() {
+        block.at = at;
+    }
+}
+
 /// Adds a block without bytes, and answers whether there was memory for it.
 fn add_blank(alloc: Global, blocks: &mut Vec<Block>) -> bool
     ensures { (content : List ℕ) (end : ℕ) → AreKept content end blocks.old.items → AreKept content end blocks.new.items }

@@ -1,18 +1,18 @@
 //! A disk over another.
 
 ghost use Rattle.std.specs.Prelude.{◌≡◌, ◌≤◌, [], ℕ, IsTrue, List, length, take, drop};
-ghost use Rattle.cacheddisk.specs.Kept.{AreKept};
+ghost use Rattle.cacheddisk.specs.Kept.{AreKept, IsKept};
 
-use crate::blocks::{Block, find, keep};
+use crate::blocks::{Block, find, keep, let_go, part, renew};
 use disk::Disk;
 use sqlval::R;
 use std::alloc::Global;
 
-/// The longest reading that is kept, in bytes.
+/// The longest reading or writing that is kept, in bytes.
 const MAX_LEN: usize = 65536;
 
-/// A disk whose readings are kept in memory, so that the same bytes are read once. Writings go to the disk below at once. It takes
-/// memory where it finds some, and is never refused for it.
+/// A disk whose readings are kept in memory, and its last writing, so that the same bytes are read once. Writings go to the disk below at
+/// once. It takes memory where it finds some, and is never refused for it.
 #[derive(Drop)]
 pub struct CachedDisk<D: Disk> {
     disk: D,
@@ -20,9 +20,12 @@ pub struct CachedDisk<D: Disk> {
     /// How many blocks are kept at most.
     count: usize,
     blocks: Vec<Block>,
+    /// The bytes of the last writing.
+    written: Block,
     /// No block ends after it.
     end: u64,
     ghost kept: { IsTrue (D.tells disk) → AreKept (D.file disk).content end blocks.items },
+    ghost last: { IsTrue (D.tells disk) → IsKept (D.file disk).content end written },
 }
 
 impl<D: Disk> CachedDisk<D> {
@@ -37,6 +40,10 @@ impl<D: Disk> CachedDisk<D> {
             alloc,
             count,
             blocks: Vec::new(alloc),
+            written: Block {
+                at: 0,
+                bytes: Vec::new(alloc),
+            },
             end: 0,
         }
     }
@@ -50,6 +57,7 @@ impl<D: Disk> CachedDisk<D> {
             alloc: _,
             count: _,
             blocks: _,
+            written: _,
             end: _,
         } = self;
         disk
@@ -70,14 +78,37 @@ impl<D: Disk> CachedDisk<D> {
         keep(self.alloc, &mut self.blocks, self.count, at, bytes);
     }
 
+    /// Keeps what was written from an offset on.
+    fn remember_writing(&mut self, at: u64, bytes: &[u8])
+        requires { IsTrue (D.tells (below self.old)) → bytes.now ≡ take (length bytes.now) (drop at (D.file (below self.old)).content) }
+        ensures { below self.new ≡ below self.old }
+    {
+        if bytes.len() > MAX_LEN {
+            return;
+        }
+        let Some(end) = at.checked_add(bytes.len() as u64) else {
+            return;
+        };
+        self.end = self.end.max(end);
+        renew(&mut self.written, at, bytes);
+    }
+
+    /// Lets go of all that is kept.
+    fn forget(&mut self)
+        ensures same { below self.new ≡ below self.old }
+        ensures none { self.new.end ≡ 0 }
+    {
+        let_go(&mut self.blocks, &mut self.written);
+        self.end = 0;
+    }
+
     /// Lets go of all that is kept, unless it ends before an offset.
     fn keep_before(&mut self, at: u64)
         ensures same { below self.new ≡ below self.old }
         ensures before { self.new.end ≤ at }
     {
         if at < self.end {
-            self.blocks.clear();
-            self.end = 0;
+            self.forget();
         }
     }
 }
@@ -96,6 +127,10 @@ impl<D: Disk> Disk for CachedDisk<D> {
     }
 
     fn read_at(&mut self, at: u64, buf: &mut [u8]) -> R<()> {
+        if let Some(bytes) = part(&self.written, at, buf.len()) {
+            buf.copy_from_slice(bytes);
+            return Ok(());
+        }
         if let Some(bytes) = find(&self.blocks, at, buf.len()) {
             buf.copy_from_slice(bytes);
             return Ok(());
@@ -108,9 +143,12 @@ impl<D: Disk> Disk for CachedDisk<D> {
     fn write_at(&mut self, at: u64, bytes: &[u8]) -> R<()> {
         self.keep_before(at);
         match self.disk.write_at(at, bytes) {
-            Ok(()) => Ok(()),
+            Ok(()) => {
+                self.remember_writing(at, bytes);
+                Ok(())
+            }
             Err(fault) => {
-                self.blocks.clear();
+                let_go(&mut self.blocks, &mut self.written);
                 Err(fault)
             }
         }
@@ -121,7 +159,7 @@ impl<D: Disk> Disk for CachedDisk<D> {
         match self.disk.cut(len) {
             Ok(()) => Ok(()),
             Err(fault) => {
-                self.blocks.clear();
+                let_go(&mut self.blocks, &mut self.written);
                 Err(fault)
             }
         }

@@ -49,7 +49,7 @@ fn acknowledged(engine: &mut Engine<MemDisk>) -> usize {
             return done;
         }
         if commits(number) {
-            done += 1;
+            done = done.saturating_add(1);
         }
     }
     done

@@ -1,17 +1,43 @@
-use Rattle.std.proofs.Common.{◌≡◌, ◌∙◌, ◌≤◌, ap, length, subst, sym, take}
+use Rattle.std.proofs.Common.{◌≡◌, ◌∙◌, ◌≤◌, ap, length, subst, sym, take, drop, List, ℕ}
 use Rattle.std.specs.Prelude.{IsTrue}
-use Rattle.cacheddisk.proofs.Fronts.{front_written, kept_on}
+use Rattle.cacheddisk.proofs.Fronts.{front_written, kept_on, one_kept_on, written_there}
 use Rattle.cacheddisk.proofs.cached_disk.CachedDiskDisk.write_at.Goals as goal
 
 pub invariant_of-self : goal.invariant_of-self
 invariant_of-self g c = record {
-  kept = λ told_now.
-      (let now = c.keep_before.new.self in
-      let told : IsTrue (g.D.Disk.tells now.disk) = sym c.in-Ok.ensures.tells ∙ told_now in
-      let old = (g.D.Disk.file now.disk).content in
-      let new = (g.D.Disk.file c.write_at.new.self).content in
-      let same = c.keep_before.ensures.same in
-      let within : c.args.at ≤ length old = subst (λ d. c.args.at ≤ length (g.D.Disk.file d).content) (sym same) (c.requires (ap g.D.Disk.tells (sym same) ∙ told)) in
-      let front : take now.end new ≡ take now.end old = ap (take now.end) (c.in-Ok.ensures.done told).content ∙ front_written now.end c.args.at c.args.bytes.now old c.keep_before.ensures.before within in
-      kept_on now.end old new now.blocks.items front (now.kept told));
+  kept = λ told. kept_on end old new c.keep_before.new.self.blocks.items (front told) (c.keep_before.new.self.kept (before told));
+  last = λ told. one_kept_on end old new c.keep_before.new.self.written (front told) (c.keep_before.new.self.last (before told));
 }
+  where
+    end : ℕ
+    end = c.keep_before.new.self.end
+
+    old : List ℕ
+    old = (g.D.Disk.file c.keep_before.new.self.disk).content
+
+    new : List ℕ
+    new = (g.D.Disk.file c.write_at.new.self).content
+
+    before : IsTrue (g.D.Disk.tells c.write_at.new.self) → IsTrue (g.D.Disk.tells c.keep_before.new.self.disk)
+    before told = sym c.in-Ok.ensures.tells ∙ told
+
+    front : IsTrue (g.D.Disk.tells c.write_at.new.self) → take end new ≡ take end old
+    front told =
+        let same = c.keep_before.ensures.same in
+        let within : c.args.at ≤ length old = subst (λ d. c.args.at ≤ length (g.D.Disk.file d).content) (sym same) (c.requires (ap g.D.Disk.tells (sym same) ∙ before told)) in
+        ap (take end) (c.in-Ok.ensures.done (before told)).content ∙ front_written end c.args.at c.args.bytes.now old c.keep_before.ensures.before within
+
+pub invariant_of-self-in-Err : goal.invariant_of-self-in-Err
+invariant_of-self-in-Err g c = record {
+  kept = λ told. (c.let_go.ensures (g.D.Disk.file c.write_at.new.self).content c.keep_before.new.self.end).0;
+  last = λ told. (c.let_go.ensures (g.D.Disk.file c.write_at.new.self).content c.keep_before.new.self.end).1;
+}
+
+pub remember_writing-requires : goal.remember_writing-requires
+remember_writing-requires g c = λ told.
+    (let now = c.keep_before.new.self in
+    let before : IsTrue (g.D.Disk.tells now.disk) = sym c.in-Ok.ensures.tells ∙ told in
+    let old = (g.D.Disk.file now.disk).content in
+    let same = c.keep_before.ensures.same in
+    let within : c.args.at ≤ length old = subst (λ d. c.args.at ≤ length (g.D.Disk.file d).content) (sym same) (c.requires (ap g.D.Disk.tells (sym same) ∙ before)) in
+    sym (ap (λ (content : List ℕ). take (length c.args.bytes.now) (drop c.args.at content)) (c.in-Ok.ensures.done before).content ∙ written_there c.args.at c.args.bytes.now old within))
