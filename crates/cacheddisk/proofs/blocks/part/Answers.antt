@@ -9,9 +9,12 @@ if_some (Some a) is then = then a is
 
 pub returns-in-Some : goal.returns-in-Some
 returns-in-Some c = if_some c.part_from.result c.part_from.ensures
-    (λ bytes is. (is.2, λ content end kept.
-    is.1 ∙ (ap (λ (xs : List ℕ). take len (drop from xs)) value
-    ∙ part_kept content end from len c.args.at c.args.block.now kept c.in-Some.ensures (subst (λ (xs : List ℕ). from + len ≤ length xs) value is.0))))
+    (λ bytes is. (
+      is.2,
+      λ content end kept.
+          is.1 ∙ (ap (λ (xs : List ℕ). take len (drop from xs)) value
+          ∙ part_kept content end from len c.args.at c.args.block.now kept c.in-Some.ensures (subst (λ (xs : List ℕ). from + len ≤ length xs) value is.0)),
+    ))
   where
     from : ℕ
     from = c.in-Some.from
