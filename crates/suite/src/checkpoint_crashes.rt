@@ -83,7 +83,7 @@ fn survives(alloc: Global, db_crash: Option<u64>, log_crash: Option<u64>) -> R<b
         let left = db.crash(alloc, picks(way / 3))?;
         let left_log = log.crash(alloc, picks(way % 3))?;
         let is_shown = shows(alloc, &left, &left_log, commits)?
-            || shows(alloc, &left, &left_log, commits + 1)?;
+            || shows(alloc, &left, &left_log, commits.saturating_add(1))?;
         if !is_shown {
             return Ok(false);
         }
