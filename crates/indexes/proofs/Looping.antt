@@ -7,7 +7,7 @@ use Rattle.pages.specs.Calls.{Causes, Limits}
 use Rattle.pages.specs.Map.{PageMap}
 use Rattle.indexes.specs.Entries.{Columns, Row}
 use Rattle.indexes.specs.Keeping.{row_in}
-use Rattle.indexes.specs.declared.columns.TableRow.{TableRow}
+use Rattle.catalog.specs.declared.tables.TableRow.{TableRow}
 
 -- The pages stand as they did; and what becomes of the rows that are left, from here on, is what becomes of all from the first on.
 pub record IsOn {P K : Type 0} (below : P → K) (tells : K → Bool) (limits : K → Limits) (pages : P → PageMap) (failures : P → ℕ × ℕ)

@@ -17,8 +17,8 @@ use Rattle.indextree.specs.Calls.{BecomesEntries, InsertsEntry, IsGrowthRefusal,
 use Rattle.indextree.specs.Entries.{has_entry, with_entry, without_entry}
 use Rattle.indexes.specs.Entries.{AreApart, Columns, IsApart, Row, collations, entries_of_rows, indexed}
 use Rattle.indexes.specs.Keeping.{AddsEntries, IsAddRefusal, IsTreeRefusal, TakesEntries, TakesEntry, Turns, columns_in, row_in}
-use Rattle.indexes.specs.declared.columns.IndexColumn.{IndexColumn}
-use Rattle.indexes.specs.declared.columns.TableRow.{TableRow}
+use Rattle.catalog.specs.declared.tables.IndexColumn.{IndexColumn}
+use Rattle.catalog.specs.declared.tables.TableRow.{TableRow}
 use Rattle.indexes.proofs.Rows.{adds_its_entry, takes_its_entry}
 
 -- ---- columns

@@ -10,8 +10,8 @@ use Rattle.pages.specs.Calls.{IsOutsideOrFull}
 use Rattle.pages.specs.Map.{PageMap}
 use Rattle.indextree.specs.Calls.{BecomesEntries, Stands}
 use Rattle.indexes.specs.Entries.{AreApart, Columns, Row, collations, entries_of_rows, indexed}
-use Rattle.indexes.specs.declared.columns.IndexColumn.{IndexColumn}
-use Rattle.indexes.specs.declared.columns.TableRow.{TableRow}
+use Rattle.catalog.specs.declared.tables.IndexColumn.{IndexColumn}
+use Rattle.catalog.specs.declared.tables.TableRow.{TableRow}
 
 -- the columns, each by its place and the collation of its key
 abbrev pub columns_in : List IndexColumn → Columns

@@ -5,24 +5,9 @@ ghost use Rattle.sqlval.specs.declared.value.Value.TheVariants.{Int, Null};
 ghost use Rattle.indexes.specs.Entries.{indexed};
 ghost use Rattle.indexes.specs.Keeping.{columns_in, row_in};
 
+use catalog::{IndexColumn, TableRow};
 use sqlval::{Collation, Fault, R, Value};
 use std::alloc::Global;
-
-/// A column of an index.
-#[derive(Clone, Copy)]
-pub struct IndexColumn {
-    /// The place in the table.
-    pub place: usize,
-    /// The collation under which the column's values are ordered.
-    pub collation: Collation,
-}
-
-/// A row of a table.
-#[derive(Drop)]
-pub struct TableRow {
-    pub rowid: i64,
-    pub values: Vec<Value>,
-}
 
 /// The collations of an index's columns. (`Memory`.)
 pub fn collations_of(alloc: Global, columns: &[IndexColumn]) -> R<Vec<Collation>>

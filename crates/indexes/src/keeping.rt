@@ -4,7 +4,8 @@ ghost use Rattle.std.specs.Prelude.{◌≡◌, ◌∷◌, [], map, IsTrue};
 ghost use Rattle.pages.specs.Calls.{Causes};
 ghost use Rattle.indexes.specs.Keeping.{AddsEntries, TakesEntries, TakesEntry, columns_in, row_in};
 
-use crate::columns::{IndexColumn, TableRow, collations_of, entry_of};
+use crate::columns::{collations_of, entry_of};
+use catalog::{IndexColumn, TableRow};
 use indextree::{insert, remove};
 use pages::WritePages;
 use sqlval::{Collation, Damage, Fault, R};

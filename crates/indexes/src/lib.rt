@@ -5,6 +5,6 @@ mod columns;
 mod keeping;
 mod laws;
 
-pub use columns::{IndexColumn, TableRow, collations_of, key_of};
+pub use columns::{collations_of, key_of};
 pub use keeping::{add_entries, take_entries};
 pub use laws::entries_follow_rows;

@@ -10,7 +10,7 @@ use Rattle.indextree.specs.Entries.{Entry}
 use Rattle.indexing.specs.Calls.{AreThose, ChecksEntries, ComparesEntries, SortsEntries}
 use Rattle.indexes.specs.Entries.{entries_of_rows}
 use Rattle.indexes.specs.Keeping.{columns_in}
-use Rattle.indexes.specs.declared.columns.IndexColumn.{IndexColumn}
+use Rattle.catalog.specs.declared.tables.IndexColumn.{IndexColumn}
 
 -- the table's rows aren't read
 pub rows_not_read : (pages : PageMap) (size root : ℕ) (table : BoundSource) (columns : List IndexColumn) (fault : Fault) (result : Result ⊤ Fault) → SortsEntries pages size table columns (Err fault)

@@ -21,7 +21,7 @@ use Rattle.indextree.specs.Filling.{IsFilled, IsFillRefusal, FillsTree}
 use Rattle.indextree.proofs.LastEntries.{rise_with}
 use Rattle.indexes.specs.Entries.{AreApart, Columns, collations, entries_of_rows, indexed}
 use Rattle.indexes.specs.Keeping.{columns_in}
-use Rattle.indexes.specs.declared.columns.IndexColumn.{IndexColumn}
+use Rattle.catalog.specs.declared.tables.IndexColumn.{IndexColumn}
 use Rattle.indexes.proofs.Rows.{adds_its_entry}
 use Rattle.indexing.specs.Calls.{SortsEntries}
 use Rattle.indexing.specs.Making.{MakesIndex}

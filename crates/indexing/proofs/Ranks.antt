@@ -14,7 +14,7 @@ use Rattle.sqlval.specs.declared.value.Value.{Value}
 use Rattle.sqlval.proofs.Ordering as values
 use Rattle.indextree.specs.Entries.{Entry, entry_cmp, keys_of}
 use Rattle.indexing.specs.Ranking.{value_or_null, ranked}
-use Rattle.indexes.specs.declared.columns.IndexColumn.{IndexColumn}
+use Rattle.catalog.specs.declared.tables.IndexColumn.{IndexColumn}
 
 -- the order of entries is total, however many values they have
 pub total : (place : ℕ) (columns : List IndexColumn) → IsTotalOrder (ranked place columns)

@@ -17,7 +17,7 @@ use Rattle.indexing.specs.Calls.{SortsEntries}
 use Rattle.indexes.specs.Entries.{indexed, entries_of_rows}
 use Rattle.indexes.specs.Keeping.{columns_in}
 use Rattle.indexing.specs.Ranking.{indexed_of, ranked}
-use Rattle.indexes.specs.declared.columns.IndexColumn.{IndexColumn}
+use Rattle.catalog.specs.declared.tables.IndexColumn.{IndexColumn}
 use Rattle.indexing.proofs.Ranks.{IsWhole, collations, ranks, sorted_same}
 
 columns_same : (values : List Value) (columns : List IndexColumn) → map (λ column. slice_index_or values column.place Null) columns ≡ map (λ column. slice_index_or values column.0 Null) (columns_in columns)

@@ -13,7 +13,7 @@ use Rattle.indextree.specs.Entries.{Entry}
 use Rattle.indextree.specs.Tree.{IsIndexTree}
 use Rattle.indexes.specs.Entries.{entries_of_rows}
 use Rattle.indexes.specs.Keeping.{columns_in}
-use Rattle.indexes.specs.declared.columns.IndexColumn.{IndexColumn}
+use Rattle.catalog.specs.declared.tables.IndexColumn.{IndexColumn}
 
 -- Of a tree of rows these are the entries, in order; or memory was short, or a disk's call failed.
 abbrev pub SortsEntries : PageMap → ℕ → BoundSource → List IndexColumn → Result (List Entry) Fault → Type 0

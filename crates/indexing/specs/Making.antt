@@ -10,7 +10,7 @@ use Rattle.rowprog.specs.Trees.{HasRows}
 use Rattle.indextree.specs.Filling.{IsFilled, IsFillRefusal}
 use Rattle.indexes.specs.Entries.{collations, entries_of_rows}
 use Rattle.indexes.specs.Keeping.{columns_in}
-use Rattle.indexes.specs.declared.columns.IndexColumn.{IndexColumn}
+use Rattle.catalog.specs.declared.tables.IndexColumn.{IndexColumn}
 
 -- Of a table's tree that holds rows, and where these pages are free, a tree is made that has exactly the entries of the rows; or it is refused
 -- as a tree of these entries is.

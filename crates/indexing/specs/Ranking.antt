@@ -8,7 +8,7 @@ use Rattle.sqlval.specs.declared.value.Value.{Value}
 use Rattle.sqlval.specs.declared.value.Value.TheVariants.{Null}
 use Rattle.terms.specs.Values.{Row}
 use Rattle.indextree.specs.Entries.{Entry}
-use Rattle.indexes.specs.declared.columns.IndexColumn.{IndexColumn}
+use Rattle.catalog.specs.declared.tables.IndexColumn.{IndexColumn}
 
 -- the value at a place, NULL past the last
 abbrev pub value_or_null : List Value → ℕ → Value

@@ -11,7 +11,8 @@ ghost use Rattle.indexing.specs.Calls.{ChecksEntries, ComparesEntries, Tells};
 
 use crate::entries::sorted_entries;
 use bind::BoundSource;
-use indexes::{IndexColumn, collations_of};
+use catalog::IndexColumn;
+use indexes::collations_of;
 use indextree::Cursor;
 use pages::Pages;
 use record::Record;

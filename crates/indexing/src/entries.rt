@@ -10,7 +10,8 @@ ghost use Rattle.indexing.specs.Calls.{SortsEntries};
 ghost use Rattle.indexing.specs.Ranking.{indexed_of, ranked, value_or_null};
 
 use bind::BoundSource;
-use indexes::{IndexColumn, key_of};
+use catalog::IndexColumn;
+use indexes::key_of;
 use pages::Pages;
 use rowprog::source_rows;
 use sqlval::{Collation, Fault, Field, Many, R, Value, compare_fields};

@@ -6,7 +6,8 @@ ghost use Rattle.indexing.specs.Making.{MakesIndex};
 
 use crate::entries::sorted_entries;
 use bind::BoundSource;
-use indexes::{IndexColumn, collations_of};
+use catalog::IndexColumn;
+use indexes::collations_of;
 use indextree::fill_tree;
 use pages::WritePages;
 use sqlval::R;

@@ -216,6 +216,7 @@ fn table_made(alloc: Global, row: &SchemaRow<'_>, statement: &Statement) -> R<Ta
     Ok(Table {
         name,
         columns,
+        indexes: Many::new(alloc),
         root: row.root,
         rowid: row.rowid,
     })

@@ -20,7 +20,7 @@ use catalog::{
 use filecheck::{table_trees_stand, trees_give_way};
 use pages::WritePages;
 use record::encode_row;
-use sqlval::{Damage, Fault, Misuse, Name, R, Text, Value};
+use sqlval::{Damage, Fault, Many, Misuse, Name, R, Text, Value};
 use std::alloc::Global;
 use syntax::TableDefinition;
 use tabletree::{insert, new_tree, table_trees_stay};
@@ -62,6 +62,7 @@ fn table_of(alloc: Global, catalog: &Catalog, definition: &TableDefinition) -> R
     Ok(Table {
         columns: columns_of(alloc, definition)?,
         name: name.copy(alloc)?,
+        indexes: Many::new(alloc),
         root: NO_PAGE,
         rowid: 0,
     })

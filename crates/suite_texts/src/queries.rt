@@ -21,6 +21,7 @@ fn table_of(alloc: Global, name: &str, columns: &[&str], root: u32) -> R<Table> 
     Ok(Table {
         name: Name::from_str(alloc, name)?,
         columns: found,
+        indexes: Many::new(alloc),
         root,
         rowid: 1,
     })
