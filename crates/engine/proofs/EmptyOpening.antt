@@ -20,7 +20,7 @@ use Rattle.session.specs.Holding.{Hold}
 use Rattle.session.proofs.Standing.{held_if_stored}
 use Rattle.session.specs.Stored.{ShowsDatabase}
 use Rattle.storage.specs.Stored.{schema_tree}
-use Rattle.filecheck.specs.Layout.{AreShared}
+use Rattle.sharing.specs.Layout.{AreShared}
 use Rattle.tabletree.specs.Tree.{IsTableTree}
 use Rattle.tabletree.proofs.SinglePages.{own_tree}
 use Rattle.pages.specs.Counting.{fresh}

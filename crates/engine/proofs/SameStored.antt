@@ -15,7 +15,7 @@ use Rattle.bind.specs.Bound.{is_twice_named}
 use Rattle.rowprog.specs.Rows.{IsRow, TableRow}
 use Rattle.storage.specs.Schema.{schema_row, AreRowsOf, AreSameTables, IsRowOf, IsSameTable}
 use Rattle.pages.specs.Map.{PageMap}
-use Rattle.filecheck.specs.Layout.{Owner}
+use Rattle.sharing.specs.Layout.{Owner}
 use Rattle.treepage.specs.Cells.{Pairwise}
 use Rattle.storage.specs.Stored.{IsTreeOf, Stores}
 use Rattle.loading.proofs.AlikeTables.{AreSameFound, not_found, same_found, same_push}

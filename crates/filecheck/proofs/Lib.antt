@@ -1,2 +1,1 @@
 pub mod EmptyRows
-pub mod Sharing

@@ -2,4 +2,3 @@ pub mod Files
 pub mod Schema
 pub mod Contents
 pub mod Stands
-pub mod Layout

@@ -6,7 +6,7 @@ use Rattle.sqlval.specs.Names.{is_same_name}
 use Rattle.pages.specs.Map.{PageMap}
 use Rattle.treepage.specs.Cells.{Pairwise}
 use Rattle.tabletree.specs.Tree.{IsTableTree}
-use Rattle.filecheck.specs.Layout.{Owner}
+use Rattle.sharing.specs.Layout.{Owner}
 use Rattle.catalog.specs.Database.{Name}
 use Rattle.catalog.specs.Listed.{is_table, table_named}
 use Rattle.catalog.specs.declared.tables.Column.{Column}

@@ -7,7 +7,7 @@ use Rattle.dbheader.specs.declared.fields.Header.{Header}
 use Rattle.pages.specs.Map.{PageMap, AreWhole}
 use Rattle.freelist.specs.Freelist.{pages_of}
 use Rattle.treepage.specs.Cells.{Pairwise}
-use Rattle.filecheck.specs.Layout.{used_by}
+use Rattle.sharing.specs.Layout.{used_by}
 use Rattle.catalog.specs.Listed.{tables_of}
 use Rattle.catalog.specs.declared.tables.Catalog.{Catalog}
 use Rattle.catalog.specs.declared.tables.Table.{Table}

@@ -12,7 +12,7 @@ use Rattle.treepage.specs.Node.{Local}
 use Rattle.overflow.specs.Chains.{IsChain}
 use Rattle.forest.specs.Sides.{Each, each_of, nothing}
 use Rattle.tabletree.specs.Tree.{Held, IsHeldAs, IsTableTree, Lies, Tree, pages_of}
-use Rattle.filecheck.specs.Layout.{Owner, used_by}
+use Rattle.sharing.specs.Layout.{Owner, used_by}
 use Rattle.catalog.specs.declared.tables.Table.{Table}
 use Rattle.pagecheck.proofs.Parting.{occurs_append}
 use Rattle.loading.specs.Uses.{AreUses, IsOwnerOf, Uses, pages_used}

@@ -21,7 +21,7 @@ use Rattle.treepage.specs.Cells.{Pairwise}
 use Rattle.forest.proofs.Staying.{occurs_both, occurs_here}
 use Rattle.tabletree.specs.Tree as tree
 use Rattle.tabletree.specs.Tree.{IsTableTree, Tree, top}
-use Rattle.filecheck.specs.Layout.{HoldsUnder, IsTree, Owner, used_by}
+use Rattle.sharing.specs.Layout.{HoldsUnder, IsTree, Owner, used_by}
 use Rattle.bind.specs.Bound.{AreOnce}
 use Rattle.storage.proofs.Telling.{none_once, told_once}
 use Rattle.catalog.specs.Database.{Database}

@@ -9,7 +9,7 @@ use Rattle.pages.specs.Calls.{Limits}
 use Rattle.pages.specs.Counting.{occurs}
 use Rattle.pages.specs.Map.{PageMap, AreWhole}
 use Rattle.treepage.specs.Cells.{Pairwise}
-use Rattle.filecheck.specs.Layout.{OfRows, Owner, used_by}
+use Rattle.sharing.specs.Layout.{OfRows, Owner, used_by}
 use Rattle.catalog.specs.declared.tables.Table.{Table}
 use Rattle.rowprog.specs.Trees.{FindsFit, PassesFit}
 use Rattle.pagecheck.specs.Checks.{IsChecked, IsUnmarked, MarksTree}

@@ -10,7 +10,7 @@ use Rattle.pages.specs.Map.{PageMap}
 use Rattle.freelist.specs.Freelist.{Trunk, IsFreelist, pages_of}
 use Rattle.treepage.specs.Cells.{Pairwise}
 use Rattle.tabletree.specs.Tree.{IsTableTree}
-use Rattle.filecheck.specs.Layout.{OfRows, Owner, used_by}
+use Rattle.sharing.specs.Layout.{OfRows, Owner, used_by}
 use Rattle.catalog.specs.Listed.{tables_of}
 use Rattle.catalog.specs.declared.tables.Catalog.{Catalog}
 use Rattle.catalog.specs.declared.tables.Table.{Table}

@@ -4,7 +4,7 @@ ghost use Rattle.std.specs.Prelude.{◌≡◌, ℕ, length};
 ghost use Rattle.pages.specs.Calls.{Stays};
 ghost use Rattle.pages.specs.Map.{PageMap};
 ghost use Rattle.treepage.specs.Cells.{Pairwise};
-ghost use Rattle.filecheck.specs.Layout.{used_by};
+ghost use Rattle.sharing.specs.Layout.{used_by};
 ghost use Rattle.catalog.specs.Listed.{shared};
 ghost use Rattle.pagecheck.specs.Checks.{CanMark};
 ghost use Rattle.pagecheck.specs.Exact.{AreTold, Checks};

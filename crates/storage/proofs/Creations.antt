@@ -24,7 +24,7 @@ use Rattle.tabletree.specs.Calls.{Stands}
 use Rattle.tabletree.specs.Freeing.{IsNewTree}
 use Rattle.tabletree.specs.Laws.{TreesStay}
 use Rattle.tabletree.proofs.LeafTrees.{root_there}
-use Rattle.filecheck.specs.Layout.{AreShared, Owner, ReplacesTrees, TreesStand, used_by}
+use Rattle.sharing.specs.Layout.{AreShared, Owner, ReplacesTrees, TreesStand, used_by}
 use Rattle.catalog.specs.Database.{Database, Name, ATable, with_object}
 use Rattle.catalog.specs.Laws.{KeepsOnlyTables}
 use Rattle.catalog.specs.FreeRowids.{IsFree, Rise}

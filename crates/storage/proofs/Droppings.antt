@@ -21,7 +21,7 @@ use Rattle.tabletree.specs.Calls.{BecomesRows, Stands}
 use Rattle.tabletree.specs.Freeing.{AreGivenBack}
 use Rattle.tabletree.specs.Rows.{payload_at, without_row}
 use Rattle.tabletree.specs.SingleLeaf.{AreRising}
-use Rattle.filecheck.specs.Layout.{AreShared, Owner, ReplacesTrees, TreesStand, used_by}
+use Rattle.sharing.specs.Layout.{AreShared, Owner, ReplacesTrees, TreesStand, used_by}
 use Rattle.catalog.specs.Database.{Database, Name, Object, ATable, AnIndex, AView, ATrigger, object}
 use Rattle.catalog.specs.Listed.{has_only_tables, plain_table, table_named, without_table}
 use Rattle.catalog.specs.Named.{IsOfTables, ListsOthers, without_object}

@@ -15,7 +15,7 @@ use Rattle.pages.specs.Map.{PageMap, page_at, AreWhole, Has}
 use Rattle.freelist.proofs.Lists.{occurs_both}
 use Rattle.freelist.specs.Calls.{HasFree}
 use Rattle.freelist.specs.Freelist.{AreTrunks, IsTrunk, Trunk, first_of, pages_of}
-use Rattle.filecheck.proofs.Sharing.{replaces_trees, trees_stand}
+use Rattle.sharing.proofs.Sharing.{replaces_trees, trees_stand}
 use Rattle.catalog.specs.Database.{Database}
 use Rattle.catalog.specs.declared.tables.Table.{Table}
 use Rattle.storage.specs.Schema.{AreRowsOf}

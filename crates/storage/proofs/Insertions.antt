@@ -18,7 +18,7 @@ use Rattle.syntax.specs.declared.statement.Statement.TheVariants as statement
 use Rattle.pages.specs.Calls.{Limits}
 use Rattle.pages.specs.Map.{PageMap}
 use Rattle.tabletree.specs.Calls.{Stands}
-use Rattle.filecheck.specs.Layout.{ReplacesTrees, TreesStand}
+use Rattle.sharing.specs.Layout.{ReplacesTrees, TreesStand}
 use Rattle.catalog.specs.Database as database
 use Rattle.catalog.specs.Database.{ATable, Database, Name, Object, with_object}
 use Rattle.catalog.specs.Laws.{KeepsOnlyTables, ListsOtherRows}

@@ -12,7 +12,7 @@ use Rattle.pages.specs.Counting.{occurs, Moves}
 use Rattle.pages.specs.Map.{PageMap}
 use Rattle.treepage.specs.Cells.{Pairwise}
 use Rattle.tabletree.specs.Calls.{BecomesRows, Stands}
-use Rattle.filecheck.specs.Layout.{AreShared, OfRows, Owner, ReplacesTrees, TreesStand, used_by}
+use Rattle.sharing.specs.Layout.{AreShared, OfRows, Owner, ReplacesTrees, TreesStand, used_by}
 use Rattle.catalog.specs.Database.{Database, Name}
 use Rattle.catalog.specs.Listed.{Lists, has_only_tables, plain_table, table_named}
 use Rattle.catalog.specs.Named.{IsNamed}

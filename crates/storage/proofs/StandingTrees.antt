@@ -19,7 +19,7 @@ use Rattle.catalog.specs.Listed.{plain_table}
 use Rattle.catalog.specs.declared.tables.Table.{Table}
 use Rattle.rowprog.specs.Rows.{IsRow, TableRow}
 use Rattle.filecheck.specs.Contents.{HasTree, IsStoredRow, ListsRows}
-use Rattle.filecheck.specs.Layout.{IsTree, Owner, used_by}
+use Rattle.sharing.specs.Layout.{IsTree, Owner, used_by}
 use Rattle.filecheck.specs.Stands.{IsHeaded, IsShared}
 use Rattle.storage.specs.Schema.{AreRowsOf}
 use Rattle.storage.specs.Stored.{IsCounted, IsTreeOf, Stores}

@@ -16,7 +16,7 @@ use Rattle.catalog.specs.Listed.{plain_column, plain_table}
 use Rattle.catalog.specs.Rows.{are_rows, holds_rows, is_in_order, is_row}
 use Rattle.catalog.specs.declared.tables.Table.{Table}
 use Rattle.filecheck.specs.Contents.{HasPages, HasTree, IsStoredRow, ListsRows, stored}
-use Rattle.filecheck.specs.Layout.{OfRows, Owner, used_by}
+use Rattle.sharing.specs.Layout.{OfRows, Owner, used_by}
 use Rattle.filecheck.specs.Schema.{IsSchemaEntry, SchemaRow, IsRowOfObject, IsSchemaRowOf, IsTableRow}
 use Rattle.rowprog.specs.Rows.{IsRow, TableRow}
 use Rattle.storage.specs.Language.{supported_language}

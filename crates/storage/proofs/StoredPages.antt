@@ -12,7 +12,7 @@ use Rattle.treepage.specs.Cells.{Pairwise}
 use Rattle.catalog.specs.Database.{Database, Name, name_order}
 use Rattle.catalog.specs.Listed.{table_named}
 use Rattle.catalog.specs.Rows.{holds_rows}
-use Rattle.filecheck.specs.Layout.{AreShared, used_by}
+use Rattle.sharing.specs.Layout.{AreShared, used_by}
 use Rattle.filecheck.specs.Schema.{IsSchemaEntry, SchemaRow}
 use Rattle.filecheck.specs.Stands.{StandsFor}
 use Rattle.storage.specs.Language.{supported_language}

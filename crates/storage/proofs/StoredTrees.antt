@@ -10,7 +10,7 @@ use Rattle.catalog.specs.Database.{Database}
 use Rattle.catalog.specs.Listed.{plain_table}
 use Rattle.catalog.specs.Rows.{are_rows}
 use Rattle.rowprog.specs.Rows.{IsRow, TableRow}
-use Rattle.filecheck.specs.Layout.{IsTree, used_by}
+use Rattle.sharing.specs.Layout.{IsTree, used_by}
 use Rattle.storage.specs.Stored.{IsTreeOf}
 use Rattle.storage.proofs.Roots.{one_at, uses_root}
 use Rattle.storage.proofs.StoredApart.{Stands, content_at, roots_in, tables_in}

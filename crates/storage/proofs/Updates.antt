@@ -15,7 +15,7 @@ use Rattle.page.specs.Leaf.{Entry}
 use Rattle.pages.specs.Map.{PageMap}
 use Rattle.treepage.specs.Cells.{Pairwise}
 use Rattle.tabletree.specs.Calls.{BecomesRows, Stands}
-use Rattle.filecheck.specs.Layout.{ReplacesTrees, TreesStand}
+use Rattle.sharing.specs.Layout.{ReplacesTrees, TreesStand}
 use Rattle.catalog.specs.Database.{ATable, Database, Name, with_object}
 use Rattle.catalog.specs.Laws.{KeepsOnlyTables, ListsOtherRows}
 use Rattle.catalog.specs.Listed.{Lists, plain_table, table_named}

@@ -5,7 +5,7 @@ use Rattle.dbheader.specs.declared.fields.Header.{Header}
 use Rattle.page.specs.Leaf.{Entry}
 use Rattle.pages.specs.Map.{PageMap, page_at}
 use Rattle.treepage.specs.Cells.{Pairwise}
-use Rattle.filecheck.specs.Layout.{AreShared, OfRows, Owner}
+use Rattle.sharing.specs.Layout.{AreShared, OfRows, Owner}
 use Rattle.catalog.specs.Database.{Database}
 use Rattle.catalog.specs.Listed.{Lists, has_only_tables, plain_table}
 use Rattle.catalog.specs.Named.{IsNamed}

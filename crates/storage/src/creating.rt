@@ -17,7 +17,7 @@ use catalog::{
     Catalog, Table, columns_of, is_reserved, named_databases_are_one, new_tables_are_listed,
     other_rows_are_listed,
 };
-use filecheck::{table_trees_stand, trees_give_way};
+use sharing::{table_trees_stand, trees_give_way};
 use pages::WritePages;
 use record::encode_row;
 use sqlval::{Damage, Fault, Many, Misuse, Name, R, Text, Value};

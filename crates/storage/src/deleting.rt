@@ -14,7 +14,7 @@ ghost use Rattle.storage.specs.Taking.{TakesFrom};
 use bind::BoundSource;
 use catalog::{Catalog, Table, named_databases_are_one, other_rows_are_listed};
 use dml::take_rows;
-use filecheck::{table_trees_stand, trees_give_way};
+use sharing::{table_trees_stand, trees_give_way};
 use pages::WritePages;
 use querybinder::bind_where;
 use sqlval::{Fault, Name, Object, R};

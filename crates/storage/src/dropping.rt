@@ -14,7 +14,7 @@ ghost use Rattle.storage.specs.Listing.{TakesSchemaRow};
 use crate::creating::SCHEMA;
 use crate::deleting::listed_table;
 use catalog::{Catalog, other_tables_are_listed};
-use filecheck::{table_trees_stand, trees_give_way};
+use sharing::{table_trees_stand, trees_give_way};
 use pages::WritePages;
 use sqlval::{Damage, Fault, Name, Object, R};
 use std::alloc::Global;

@@ -11,7 +11,7 @@ use crate::giving::given_rows;
 use bind::{BoundInsert, bind_target};
 use catalog::{Catalog, named_databases_are_one, other_rows_are_listed};
 use dml::put_rows;
-use filecheck::{table_trees_stand, trees_give_way};
+use sharing::{table_trees_stand, trees_give_way};
 use pages::WritePages;
 use sqlval::R;
 use std::alloc::Global;

@@ -10,7 +10,7 @@ ghost use Rattle.storage.specs.Changing.{MakesChange};
 use crate::deleting::listed_table;
 use catalog::{Catalog, named_databases_are_one, other_rows_are_listed};
 use dml::set_rows;
-use filecheck::{table_trees_stand, trees_give_way};
+use sharing::{table_trees_stand, trees_give_way};
 use pages::WritePages;
 use querybinder::{bind_sets, bind_where};
 use sqlval::R;

@@ -1,7 +1,7 @@
 use Rattle.std.proofs.Common.{List, Ok, Err, subst}
 use Rattle.sqlval.specs.Faults.{IsOutside}
 use Rattle.treepage.specs.Cells.{Pairwise}
-use Rattle.filecheck.specs.Layout.{used_by}
+use Rattle.sharing.specs.Layout.{used_by}
 use Rattle.catalog.specs.declared.tables.Table.{Table}
 use Rattle.pagecheck.specs.Checks.{CanMark, IsChecked, IsCheckedList, IsUnmarked, IsUnmarkedList, MarksList, MarksTree}
 use Rattle.pagecheck.specs.Exact.{Checks}

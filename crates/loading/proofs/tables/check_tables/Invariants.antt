@@ -2,7 +2,7 @@
 use Rattle.std.proofs.Common.{length}
 use Rattle.catalog.specs.Listed.{shared}
 use Rattle.treepage.specs.Cells.{Pairwise}
-use Rattle.filecheck.specs.Layout.{used_by}
+use Rattle.sharing.specs.Layout.{used_by}
 use Rattle.pagecheck.specs.Exact.{Checks}
 use Rattle.pagecheck.proofs.Running.{HasChecked}
 use Rattle.loading.specs.Uses.{IsOwnerOf}

@@ -9,6 +9,7 @@ use Rattle.pages.specs.Map.{PageMap, AreWhole}
 use Rattle.freelist.specs.Calls.{HasFree}
 use Rattle.tabletree.specs.Calls.{Stands}
 use Rattle.tabletree.specs.Tree.{IsTableTree}
+use Rattle.indextree.specs.Calls as index
 use Rattle.indextree.specs.Entries.{Entry as IndexEntry}
 use Rattle.indextree.specs.Tree.{IsIndexTree}
 
@@ -54,3 +55,9 @@ abbrev pub TreesStand : Type 0
 TreesStand = (map : PageMap) (size : ℕ) (schema : Owner) (owners before after : List Owner) (root : ℕ) (rows : List Entry) (used free : List ℕ)
     → AreShared map size (schema ∷ owners) free → schema.root ≡ 1 → schema ∷ owners ≡ before ++ (record { root = root; content = OfRows rows; used = used } ∷ after)
     → IsPageSize size → Stands map size root rows used free
+
+-- and each index's tree does.
+abbrev pub IndexTreesStand : Type 0
+IndexTreesStand = (map : PageMap) (size : ℕ) (schema : Owner) (before after : List Owner) (root : ℕ) (columns : List Collation) (entries : List IndexEntry) (used free : List ℕ)
+    → AreShared map size (schema ∷ before ++ (record { root = root; content = OfEntries columns entries; used = used } ∷ after)) free → schema.root ≡ 1
+    → IsPageSize size → index.Stands map size root columns entries used free

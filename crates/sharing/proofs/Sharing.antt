@@ -2,6 +2,7 @@
 use Rattle.std.proofs.Common.{◌≡◌, ◌⊎◌, inl, inr, ◌≤◌, ◌+◌, ℕ, zero, suc, sym, ◌∙◌, ap, subst, arith, List, [], ◌∷◌, ◌++◌, length}
 use Rattle.std.proofs.lemmas.Grind.{common_steps}
 use Rattle.std.specs.List.{AllByRecursion}
+use Rattle.sqlval.specs.declared.collation.Collation.{Collation}
 use Rattle.page.specs.Leaf.{Entry}
 use Rattle.pages.specs.Counting.{occurs, fresh}
 use Rattle.pages.specs.Map.{PageMap}
@@ -9,9 +10,10 @@ use Rattle.forest.specs.Staying.{AreKept}
 use Rattle.forest.proofs.Staying.{occurs_both, occurs_here, kept_of}
 use Rattle.tabletree.specs.Tree.{IsTableTree, Tree, top, pages_of}
 use Rattle.tabletree.proofs.KeptTrees as tables
+use Rattle.indextree.specs.Entries.{Entry as IndexEntry}
 use Rattle.indextree.specs.Tree as index
 use Rattle.indextree.proofs.Staying as indexes
-use Rattle.filecheck.specs.Layout.{Content, OfRows, OfEntries, Owner, HoldsUnder, IsTree, used_by, AreShared, ReplacesTrees, TreesStand}
+use Rattle.sharing.specs.Layout.{Content, OfRows, OfEntries, Owner, HoldsUnder, IsTree, used_by, AreShared, IndexTreesStand, ReplacesTrees, TreesStand}
 
 used_both : (n : ℕ) (xs ys : List Owner) → occurs n (used_by (xs ++ ys)) ≡ occurs n (used_by xs) + occurs n (used_by ys)
 used_both n [] ys = omega arith
@@ -131,5 +133,28 @@ trees_stand map size schema owners before after root rows used free shared is_ro
       };
       apart = λ n. (let once = shared.once n in let most = fresh_once 0 (length map) n in let s = sum n in let o = own n in omega (arith, once, most, s, o));
       first = first_alone map size schema owners before after root rows used free shared is_root split;
+      sized = sized;
+    }
+
+abbrev index_owner : ℕ → List Collation → List IndexEntry → List ℕ → Owner
+index_owner root columns entries used = record { root = root; content = OfEntries columns entries; used = used }
+
+pub index_trees_stand : IndexTreesStand
+index_trees_stand map size schema before after root columns entries used free shared is_root sized =
+    let owner = index_owner root columns entries used in
+    let sum = λ (n : ℕ). used_both n before (owner ∷ after) in
+    let own = λ (n : ℕ). occurs_both n used (used_by after) in
+    let some : 1 ≤ occurs 1 schema.used = subst (λ (n : ℕ). 1 ≤ occurs n schema.used) is_root (owner_uses_root map size schema.root schema.used schema.content shared.trees.0) in
+    let both = λ (n : ℕ). occurs_both n schema.used (used_by (before ++ (owner ∷ after))) in
+    record {
+      tree = (all_after (IsTree map size) before (owner ∷ after) shared.trees.1).0;
+      free_are = record {
+        has = shared.has;
+        once = record { once = λ n. (let once = shared.once n in let most = fresh_once 0 (length map) n in omega (arith, once, most)) };
+        behind = (let once = shared.once 1 in let most = fresh_once 0 (length map) 1 in let b = both 1 in omega (arith, once, most, some, b));
+        whole = shared.whole;
+      };
+      apart = λ n. (let once = shared.once n in let most = fresh_once 0 (length map) n in let s = sum n in let o = own n in let b = both n in omega (arith, once, most, s, o, b));
+      first = (let once = shared.once 1 in let most = fresh_once 0 (length map) 1 in let s = sum 1 in let o = own 1 in let b = both 1 in omega (arith, once, most, s, o, b, some));
       sized = sized;
     }

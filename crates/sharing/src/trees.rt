@@ -1,6 +1,6 @@
 //! What holds of files whose pages are shared by trees and the freelist.
 
-ghost use Rattle.filecheck.specs.Layout.{ReplacesTrees, TreesStand};
+ghost use Rattle.sharing.specs.Layout.{IndexTreesStand, ReplacesTrees, TreesStand};
 
 /// Where some trees gave way to others, all pages are shared again.
 pub fn trees_give_way()
@@ -10,4 +10,9 @@ pub fn trees_give_way()
 /// Among trees that share pages with the freelist, each table's stands beside the free pages.
 pub fn table_trees_stand()
     ensures { TreesStand }
+{}
+
+/// Among trees that share pages with the freelist, each index's stands beside the free pages.
+pub fn index_trees_stand()
+    ensures { IndexTreesStand }
 {}
