@@ -1,20 +1,27 @@
--- A database of tables without those of a name.
-use Rattle.std.proofs.Common.{◌≡◌, refl, sym, ap, subst, ◌∙◌, ℕ, ℤ, Bool, true, false, List, [], ◌∷◌, map, filter, not, Option, Some, None, cond}
+-- A database of tables without one of them and its indexes.
+use Rattle.std.proofs.Common.{◌≡◌, refl, sym, ap, subst, ◌∙◌, ℕ, ℤ, Bool, true, false, ◌||◌, List, [], ◌∷◌, ◌++◌, map, filter, not, Option, Some, None, cond}
 use Rattle.std.proofs.lemmas.Bool.{false≢true}
+use Rattle.std.proofs.lemmas.Grind.{flat_map-append}
+use Rattle.std.proofs.lemmas.List.Elements.{filter-append}
+use Rattle.std.proofs.lemmas.Map.Lookups.{exact_bytes}
+use Rattle.std.proofs.lemmas.Map.Views.{tells_apart}
 use Rattle.std.proofs.lemmas.Slice.Eq.{bytes_eq-Decides}
 use Rattle.std.specs.FinMap.Entries.{below_all, find, is_sorted}
-use Rattle.std.specs.List.{AllByRecursion, list_all}
+use Rattle.std.specs.List as list
+use Rattle.std.specs.List.{AllByRecursion, list_all, list_any}
 use Rattle.std.specs.Ordering.{eq_by_cmp, is_lt}
-use Rattle.std.specs.Prelude.{option_map}
+use Rattle.std.specs.Prelude.{flat_map, is_some, option_map}
 use Rattle.std.specs.Str.{bytes_eq}
+use Rattle.sqlval.specs.Lists.{any_twice}
 use Rattle.sqlval.specs.Names.{folded, is_same_name}
 use Rattle.sqlval.specs.declared.value.Value.{Value}
-use Rattle.catalog.specs.Database.{Name, Database, Object, name_order, object}
-use Rattle.catalog.specs.Listed.{Lists, has_only_tables, is_table, table_named, without_table}
-use Rattle.catalog.specs.Named.{IsNamed, IsOfTables, ListsOthers, without_object}
+use Rattle.catalog.specs.Database.{Name, Database, Object, ATable, AnIndex, AView, ATrigger, name_order, object}
+use Rattle.catalog.specs.Listed.{Lists, are_named_once, has_only_plain, index_objects, is_table, named_among, names_of, objects_of, plain_index, plain_table, table_named, table_object, without_table}
+use Rattle.catalog.specs.Named.{IsNamed, IsOfTables, ListsOthers, goes_with_table, without_table_object}
+use Rattle.catalog.specs.declared.tables.Index.{Index as ListedIndex}
 use Rattle.catalog.specs.declared.tables.Table.{Table}
-use Rattle.catalog.proofs.NamedDatabases.{AreFolded, in_order, rising, same_test}
-use Rattle.catalog.proofs.OtherRows.{both_true, first_true, listed_as, rest_true}
+use Rattle.catalog.proofs.NamedDatabases.{AreFolded, folded_twice, in_order, not_below, rising, same_test}
+use Rattle.catalog.proofs.OtherRows.{both_true, first_true, rest_true}
 
 same : (a b : Name) → bytes_eq a b ≡ true → a ≡ b
 same a b h = (bytes_eq-Decides a b).0 h
@@ -26,61 +33,98 @@ no_one : (b : Bool) → (b ≡ true → ⊥) → b ≡ false
 no_one true h = absurd (h refl)
 no_one false h = refl
 
--- ---- tables
+other_name : (a b : Name) → is_same_name a b ≡ false → is_same_name b a ≡ false
+other_name a b h = no_one (is_same_name b a) (λ k. false≢true (sym h ∙ tells (folded a) (folded b) (sym (same (folded b) (folded a) k))))
 
--- a table beside those found before, where those of a name are left out
-left_out : (t : Table) (rest : Option Table) (named gone asked : Bool) → (named ≡ true → asked ≡ true → gone ≡ true) → (named ≡ false → asked ≡ true → gone ≡ false)
-    → (found : Option Table) → found ≡ cond named (cond gone None rest) (cond asked (Some t) (cond gone None rest)) → found ≡ cond gone None (cond asked (Some t) rest)
-left_out t rest true gone true both other found is = is ∙ ap (λ b. cond b None rest) (both refl refl) ∙ sym (ap (λ b. cond b None (Some t)) (both refl refl))
-left_out t rest true gone false both other found is = is
-left_out t rest false gone true both other found is = is ∙ sym (ap (λ b. cond b None (Some t)) (other refl refl))
-left_out t rest false gone false both other found is = is
+-- names that are one with a third are one
+pub joined : (a b c : Name) → is_same_name a b ≡ true → is_same_name c b ≡ true → is_same_name a c ≡ true
+joined a b c h k = tells (folded a) (folded c) (same (folded a) (folded b) h ∙ sym (same (folded c) (folded b) k))
 
-taken : (p : Table → Bool) (name : Name) (t : Table) (ts : List Table) (b : Bool) → table_named name (cond (not b) (t ∷ filter p ts) (filter p ts)) ≡ cond b (table_named name (filter p ts)) (cond (is_table name t) (Some t) (table_named name (filter p ts)))
-taken p name t ts true = refl
-taken p name t ts false = refl
+-- ---- what passes a test is found once
 
-pub named_without : (name q : Name) (tables : List Table) → table_named q (without_table name tables) ≡ cond (bytes_eq (folded name) (folded q)) None (table_named q tables)
-named_without name q [] = by_test (bytes_eq (folded name) (folded q))
+abbrev kept : {A : Type 0} → (A → Bool) → Option A → Option A
+kept p None = None
+kept p (Some x) = cond (p x) (Some x) None
+
+-- after the item that is found there is no other
+abbrev OnlyOnce : {A : Type 0} → (A → Bool) → List A → Type 0
+OnlyOnce t [] = Unit {0}
+OnlyOnce t (x ∷ xs) = (t x ≡ true → list.find t xs ≡ None) × OnlyOnce t xs
+
+none_left : {A : Type 0} (p t : A → Bool) (xs : List A) → list.find t xs ≡ None → list.find t (filter p xs) ≡ None
+none_left p t [] h = refl
+none_left p t (x ∷ xs) h = by_test (none_left p t xs) (t x) refl h (p x)
   where
-    by_test : (b : Bool) → ◌≡◌ {A = Option Table} None (cond b None None)
-    by_test true = refl
-    by_test false = refl
-named_without name q (t ∷ ts) =
-    left_out t (table_named q ts) (is_table name t) (bytes_eq (folded name) (folded q)) (is_table q t)
-    (λ one other. tells (folded name) (folded q) (sym (same (folded t.name) (folded name) one) ∙ same (folded t.name) (folded q) other))
-    (λ one other. no_one (bytes_eq (folded name) (folded q)) (λ k. false≢true (sym one ∙ tells (folded t.name) (folded name) (same (folded t.name) (folded q) other ∙ sym (same (folded name) (folded q) k)))))
-    (table_named q (without_table name (t ∷ ts)))
-    (taken (λ u. not (is_table name u)) q t ts (is_table name t)
-    ∙ ap (λ found. cond (is_table name t) found (cond (is_table q t) (Some t) found)) (named_without name q ts))
+    by_test : (list.find t xs ≡ None → list.find t (filter p xs) ≡ None) → (b : Bool) → t x ≡ b → cond b (Some x) (list.find t xs) ≡ None
+        → (c : Bool) → list.find t (cond c (x ∷ filter p xs) (filter p xs)) ≡ None
+    by_test rest true e h c = absurd cc
+    by_test rest false e h true = ap (λ b. cond b (Some x) (list.find t (filter p xs))) e ∙ rest h
+    by_test rest false e h false = rest h
 
--- ---- objects
-
-object_out : (o : Object) (rest : Option Object) (named gone asked : Bool) → (named ≡ true → asked ≡ true → gone ≡ true) → (named ≡ false → asked ≡ true → gone ≡ false)
-    → (found : Option Object) → found ≡ cond named (cond gone None rest) (cond asked (Some o) (cond gone None rest)) → found ≡ cond gone None (cond asked (Some o) rest)
-object_out o rest true gone true both other found is = is ∙ ap (λ b. cond b None rest) (both refl refl) ∙ sym (ap (λ b. cond b None (Some o)) (both refl refl))
-object_out o rest true gone false both other found is = is
-object_out o rest false gone true both other found is = is ∙ sym (ap (λ b. cond b None (Some o)) (other refl refl))
-object_out o rest false gone false both other found is = is
-
-object_taken : (p : Name × Object → Bool) (k : Name) (e : Name × Object) (es : Database) (b : Bool) → find name_order k (cond (not b) (e ∷ filter p es) (filter p es)) ≡ cond b (find name_order k (filter p es)) (cond (eq_by_cmp name_order k e.0) (Some e.1) (find name_order k (filter p es)))
-object_taken p k e es true = refl
-object_taken p k e es false = refl
-
-found_without : (name k : Name) (db : Database) → AreFolded db → find name_order k (without_object name db) ≡ cond (bytes_eq (folded name) k) None (find name_order k db)
-found_without name k [] named = by_test (bytes_eq (folded name) k)
+found_kept : {A : Type 0} (p t : A → Bool) (xs : List A) → OnlyOnce t xs → list.find t (filter p xs) ≡ kept p (list.find t xs)
+found_kept p t [] once = refl
+found_kept p t (x ∷ xs) once = by_test (found_kept p t xs once.1) (t x) refl (p x) refl
   where
-    by_test : (b : Bool) → ◌≡◌ {A = Option Object} None (cond b None None)
-    by_test true = refl
-    by_test false = refl
-found_without name k (e ∷ es) named =
-    let at : eq_by_cmp name_order k e.0 ≡ true → k ≡ e.0 = λ h. sym (same e.0 k (sym (same_test k e.0) ∙ h)) in
-    object_out e.1 (find name_order k es) (is_same_name name e.0) (bytes_eq (folded name) k) (eq_by_cmp name_order k e.0)
-    (λ one other. tells (folded name) k (same (folded name) (folded e.0) one ∙ (named.0 ∙ sym (at other))))
-    (λ one other. no_one (bytes_eq (folded name) k) (λ h. false≢true (sym one ∙ tells (folded name) (folded e.0) (same (folded name) k h ∙ (at other ∙ sym named.0)))))
-    (find name_order k (without_object name (e ∷ es)))
-    (object_taken (λ o. not (is_same_name name o.0)) k e es (is_same_name name e.0)
-    ∙ ap (λ found. cond (is_same_name name e.0) found (cond (eq_by_cmp name_order k e.0) (Some e.1) found)) (found_without name k es named.1))
+    by_test : list.find t (filter p xs) ≡ kept p (list.find t xs) → (b : Bool) → t x ≡ b → (c : Bool) → p x ≡ c
+        → list.find t (cond c (x ∷ filter p xs) (filter p xs)) ≡ kept p (cond b (Some x) (list.find t xs))
+    by_test rest true e true f = ap (λ b. cond b (Some x) (list.find t (filter p xs))) e ∙ sym (ap (λ c. cond c (Some x) None) f)
+    by_test rest true e false f = none_left p t xs (once.0 e) ∙ sym (ap (λ c. cond c (Some x) None) f)
+    by_test rest false e true f = ap (λ b. cond b (Some x) (list.find t (filter p xs))) e ∙ rest
+    by_test rest false e false f = rest
+
+-- ---- objects of a database
+
+-- the object of a key in a list of objects, whole
+abbrev entry_at : Name → Database → Option (Name × Object)
+entry_at k db = list.find (λ e. eq_by_cmp name_order k e.0) db
+
+found_entry : (k : Name) (db : Database) → find name_order k db ≡ option_map (λ e. e.1) (entry_at k db)
+found_entry k [] = refl
+found_entry k (e ∷ es) = by_test (found_entry k es) (eq_by_cmp name_order k e.0)
+  where
+    by_test : find name_order k es ≡ option_map (λ (e : Name × Object). e.1) (entry_at k es) → (b : Bool)
+        → cond b (Some e.1) (find name_order k es) ≡ option_map (λ (e : Name × Object). e.1) (cond b (Some e) (entry_at k es))
+    by_test rest true = refl
+    by_test rest false = rest
+
+no_entry : (k : Name) (db : Database) → find name_order k db ≡ None → entry_at k db ≡ None
+no_entry k db h = by_found (entry_at k db) (sym (found_entry k db) ∙ h)
+  where
+    by_found : (found : Option (Name × Object)) → option_map (λ (e : Name × Object). e.1) found ≡ None → found ≡ None
+    by_found None h = refl
+    by_found (Some e) h = absurd cc
+
+keyed_once : (k : Name) (db : Database) → is_sorted name_order db ≡ true → OnlyOnce (λ (e : Name × Object). eq_by_cmp name_order k e.0) db
+keyed_once k [] h = tt
+keyed_once k (e ∷ es) h = (
+  λ is. no_entry k es (ap (λ n. find name_order n es) (tells_apart exact_bytes k e.0 is) ∙ not_below es e.0 (first_true (below_all name_order e.0 es) (is_sorted name_order es) h)),
+  keyed_once k es (rest_true (below_all name_order e.0 es) (is_sorted name_order es) h),
+)
+
+-- ---- listed objects
+
+abbrev has_name : Name → Name × Object → Bool
+has_name q o = is_same_name o.0 q
+
+once_named : (q : Name) (os : List (Name × Object)) → any_twice is_same_name (map (λ o. o.0) os) ≡ false → OnlyOnce (has_name q) os
+once_named q [] h = tt
+once_named q (o ∷ os) h = (
+  λ is. no_other os (neither (list_any (is_same_name o.0) (map (λ o. o.0) os)) (any_twice is_same_name (map (λ o. o.0) os)) h).0 is,
+  once_named q os (neither (list_any (is_same_name o.0) (map (λ o. o.0) os)) (any_twice is_same_name (map (λ o. o.0) os)) h).1,
+)
+  where
+    neither : (a b : Bool) → (a || b) ≡ false → (a ≡ false) × (b ≡ false)
+    neither true b h = absurd (false≢true (sym h))
+    neither false b h = (refl, h)
+
+    by_test : (o y : Name × Object) (ys : List (Name × Object)) → (list_any (is_same_name o.0) (map (λ o. o.0) ys) ≡ false → list.find (has_name q) ys ≡ None) → is_same_name o.0 q ≡ true
+        → (b : Bool) → has_name q y ≡ b → (is_same_name o.0 y.0 ≡ false) × (list_any (is_same_name o.0) (map (λ o. o.0) ys) ≡ false) → cond b (Some y) (list.find (has_name q) ys) ≡ None
+    by_test o y ys rest is true e h = absurd (false≢true (sym h.0 ∙ joined o.0 q y.0 is e))
+    by_test o y ys rest is false e h = rest h.1
+
+    no_other : (ys : List (Name × Object)) → list_any (is_same_name o.0) (map (λ o. o.0) ys) ≡ false → is_same_name o.0 q ≡ true → list.find (has_name q) ys ≡ None
+    no_other [] h is = refl
+    no_other (y ∷ ys) h is = by_test o y ys (λ k. no_other ys k is) is (has_name q y) refl (neither (is_same_name o.0 y.0) (list_any (is_same_name o.0) (map (λ o. o.0) ys)) h)
 
 -- ---- what stays
 
@@ -108,28 +152,235 @@ folded_still p (e ∷ es) h = by_test (p e) (folded_still p es h.1)
     by_test true rest = (h.0, rest)
     by_test false rest = rest
 
-only_still : (p : Name × Object → Bool) (es : Database) → has_only_tables es ≡ true → has_only_tables (filter p es) ≡ true
+only_still : (p : Name × Object → Bool) (es : Database) → has_only_plain es ≡ true → has_only_plain (filter p es) ≡ true
 only_still p [] h = refl
-only_still p (e ∷ es) h = by_test (p e) (only_still p es (rest_true _ (has_only_tables es) h))
+only_still p (e ∷ es) h = by_test (p e) (only_still p es (rest_true _ (has_only_plain es) h))
   where
-    by_test : (b : Bool) → has_only_tables (filter p es) ≡ true → has_only_tables (cond b (e ∷ filter p es) (filter p es)) ≡ true
-    by_test true rest = both_true _ (has_only_tables (filter p es)) (first_true _ (has_only_tables es) h) rest
+    by_test : (b : Bool) → has_only_plain (filter p es) ≡ true → has_only_plain (cond b (e ∷ filter p es) (filter p es)) ≡ true
+    by_test true rest = both_true _ (has_only_plain (filter p es)) (first_true _ (has_only_plain es) h) rest
     by_test false rest = rest
 
 -- ---- the law
 
-listed_without : (rows_at : ℕ → List (ℤ × List Value)) (found : Option Table) (gone : Bool) → cond gone None (listed_as rows_at found) ≡ listed_as rows_at (cond gone None found)
-listed_without rows_at found true = refl
-listed_without rows_at found false = refl
+-- the names of listed objects are those of the tables and of their indexes
+index_names : (tables : List Table) → map (λ (o : Name × Object). o.0) (flat_map index_objects tables) ≡ flat_map (λ (t : Table). map (λ (i : ListedIndex). i.name) t.indexes) tables
+index_names [] = refl
+index_names (t ∷ ts) = of_indexes t.indexes (flat_map index_objects ts) (flat_map (λ (t : Table). map (λ (i : ListedIndex). i.name) t.indexes) ts) (index_names ts)
+  where
+    of_indexes : (is : List ListedIndex) (os : List (Name × Object)) (names : List Name) → map (λ (o : Name × Object). o.0) os ≡ names
+        → map (λ (o : Name × Object). o.0) (map (λ (i : ListedIndex). (i.name, AnIndex (plain_index t i))) is ++ os) ≡ map (λ (i : ListedIndex). i.name) is ++ names
+    of_indexes [] os names e = e
+    of_indexes (i ∷ is) os names e = ap (λ ns. i.name ∷ ns) (of_indexes is os names e)
+
+object_names : (rows_at : ℕ → List (ℤ × List Value)) (tables : List Table) (os : List (Name × Object)) (names : List Name) → map (λ (o : Name × Object). o.0) os ≡ names
+    → map (λ (o : Name × Object). o.0) (map (table_object rows_at) tables ++ os) ≡ map (λ (t : Table). t.name) tables ++ names
+object_names rows_at [] os names e = e
+object_names rows_at (t ∷ ts) os names e = ap (λ ns. t.name ∷ ns) (object_names rows_at ts os names e)
+
+names_are : (rows_at : ℕ → List (ℤ × List Value)) (tables : List Table) → map (λ (o : Name × Object). o.0) (objects_of rows_at tables) ≡ names_of tables
+names_are rows_at tables = object_names rows_at tables (flat_map index_objects tables) _ (index_names tables)
+
+-- ---- those that go
+
+abbrev stays : Name → Name × Object → Bool
+stays name o = not (goes_with_table name o)
+
+-- the test of a name alone, in either case of its letters
+tables_left : (rows_at : ℕ → List (ℤ × List Value)) (name : Name) (tables : List Table) → filter (stays name) (map (table_object rows_at) tables) ≡ map (table_object rows_at) (without_table name tables)
+tables_left rows_at name [] = refl
+tables_left rows_at name (t ∷ ts) = by_test (tables_left rows_at name ts) (is_same_name name t.name) (is_table name t) (turned t.name)
+  where
+    turned : (n : Name) → is_same_name name n ≡ is_same_name n name
+    turned n = by_case (is_same_name name n) refl
+      where
+        by_case : (b : Bool) → is_same_name name n ≡ b → b ≡ is_same_name n name
+        by_case true e = sym (tells (folded n) (folded name) (sym (same (folded name) (folded n) e)))
+        by_case false e = sym (other_name name n e)
+
+    by_test : filter (stays name) (map (table_object rows_at) ts) ≡ map (table_object rows_at) (without_table name ts) → (b c : Bool) → b ≡ c
+        → cond (not b) (table_object rows_at t ∷ filter (stays name) (map (table_object rows_at) ts)) (filter (stays name) (map (table_object rows_at) ts))
+        ≡ map (table_object rows_at) (cond (not c) (t ∷ without_table name ts) (without_table name ts))
+    by_test rest true c e = rest ∙ ap (λ c. map (table_object rows_at) (cond (not c) (t ∷ without_table name ts) (without_table name ts))) e
+    by_test rest false c e = ap (λ os. table_object rows_at t ∷ os) rest ∙ ap (λ c. map (table_object rows_at) (cond (not c) (t ∷ without_table name ts) (without_table name ts))) e
+
+-- none of these indexes has the name
+abbrev NoneNamed : Name → List ListedIndex → Type 0
+NoneNamed name is = AllByRecursion (λ i. is_same_name name i.name ≡ false) is
+
+abbrev index_object : Table → ListedIndex → Name × Object
+index_object t i = (i.name, AnIndex (plain_index t i))
+
+either_way : (a b : Bool) → b ≡ true → (a || b) ≡ true
+either_way true b h = refl
+either_way false b h = h
+
+all_go : (name : Name) (t : Table) (is : List ListedIndex) → is_table name t ≡ true → filter (stays name) (map (index_object t) is) ≡ []
+all_go name t [] named = refl
+all_go name t (i ∷ is) named =
+    ap (λ b. cond (not b) (index_object t i ∷ filter (stays name) (map (index_object t) is)) (filter (stays name) (map (index_object t) is)))
+    (either_way (is_same_name name i.name) (is_same_name name (folded t.name))
+    (tells (folded name) (folded (folded t.name)) (sym (folded_twice t.name ∙ same (folded t.name) (folded name) named))))
+    ∙ all_go name t is named
+
+all_stay : (name : Name) (t : Table) (is : List ListedIndex) → is_table name t ≡ false → NoneNamed name is → filter (stays name) (map (index_object t) is) ≡ map (index_object t) is
+all_stay name t [] named none = refl
+all_stay name t (i ∷ is) named none =
+    ap (λ b. cond (not (b || is_same_name name (folded t.name))) (index_object t i ∷ filter (stays name) (map (index_object t) is)) (filter (stays name) (map (index_object t) is))) none.0
+    ∙ (ap (λ b. cond (not b) (index_object t i ∷ filter (stays name) (map (index_object t) is)) (filter (stays name) (map (index_object t) is)))
+    (no_one (is_same_name name (folded t.name)) (λ h. false≢true (sym named ∙ tells (folded t.name) (folded name) (sym (same (folded name) (folded (folded t.name)) h ∙ folded_twice t.name)))))
+    ∙ ap (λ os. index_object t i ∷ os) (all_stay name t is named none.1))
+
+indexes_left : (name : Name) (tables : List Table) → AllByRecursion (λ (t : Table). NoneNamed name t.indexes) tables
+    → filter (stays name) (flat_map index_objects tables) ≡ flat_map index_objects (without_table name tables)
+indexes_left name [] none = refl
+indexes_left name (t ∷ ts) none =
+    filter-append (stays name) (index_objects t) (flat_map index_objects ts)
+    ∙ (ap (λ os. filter (stays name) (index_objects t) ++ os) (indexes_left name ts none.1) ∙ by_test (is_table name t) refl)
+  where
+    by_test : (b : Bool) → is_table name t ≡ b → filter (stays name) (index_objects t) ++ flat_map index_objects (without_table name ts)
+        ≡ flat_map index_objects (cond (not b) (t ∷ without_table name ts) (without_table name ts))
+    by_test true e = ap (λ os. os ++ flat_map index_objects (without_table name ts)) (all_go name t t.indexes e)
+    by_test false e = ap (λ os. os ++ flat_map index_objects (without_table name ts)) (all_stay name t t.indexes e none.0)
+
+objects_left : (rows_at : ℕ → List (ℤ × List Value)) (name : Name) (tables : List Table) → AllByRecursion (λ (t : Table). NoneNamed name t.indexes) tables
+    → filter (stays name) (objects_of rows_at tables) ≡ objects_of rows_at (without_table name tables)
+objects_left rows_at name tables none =
+    filter-append (stays name) (map (table_object rows_at) tables) (flat_map index_objects tables)
+    ∙ (ap (λ os. os ++ filter (stays name) (flat_map index_objects tables)) (tables_left rows_at name tables)
+    ∙ ap (λ os. map (table_object rows_at) (without_table name tables) ++ os) (indexes_left name tables none))
+
+-- ---- names that stand once
+
+neither : (a b : Bool) → (a || b) ≡ false → (a ≡ false) × (b ≡ false)
+neither true b h = absurd (false≢true (sym h))
+neither false b h = (refl, h)
+
+none_after : (same : Name → Bool) (xs ys : List Name) → list_any same (xs ++ ys) ≡ false → list_any same ys ≡ false
+none_after same [] ys h = h
+none_after same (x ∷ xs) ys h = none_after same xs ys (neither (same x) (list_any same (xs ++ ys)) h).1
+
+none_first : (same : Name → Bool) (xs ys : List Name) → list_any same (xs ++ ys) ≡ false → list_any same xs ≡ false
+none_first same [] ys h = refl
+none_first same (x ∷ xs) ys h = let both = neither (same x) (list_any same (xs ++ ys)) h in ap (λ b. b || list_any same xs) both.0 ∙ none_first same xs ys both.1
+
+-- a table's name is none of those behind the tables
+own_name : (name : Name) (tables : List Table) (others : List Name) (t : Table) → table_named name tables ≡ Some t → any_twice is_same_name (map (λ (t : Table). t.name) tables ++ others) ≡ false
+    → (is_same_name t.name name ≡ true) × (list_any (is_same_name t.name) others ≡ false)
+own_name name [] others t found h = absurd cc
+own_name name (u ∷ us) others t found h =
+    let both = neither (list_any (is_same_name u.name) (map (λ (t : Table). t.name) us ++ others)) (any_twice is_same_name (map (λ (t : Table). t.name) us ++ others)) h in
+    by_test both.0 (λ later. own_name name us others t later both.1) (is_table name u) refl found
+  where
+    by_test : list_any (is_same_name u.name) (map (λ (t : Table). t.name) us ++ others) ≡ false → (table_named name us ≡ Some t → (is_same_name t.name name ≡ true) × (list_any (is_same_name t.name) others ≡ false))
+        → (b : Bool) → is_table name u ≡ b → cond b (Some u) (table_named name us) ≡ Some t → (is_same_name t.name name ≡ true) × (list_any (is_same_name t.name) others ≡ false)
+    by_test none later true e found =
+        let is : u ≡ t = cc in
+        subst (λ (t : Table). (is_same_name t.name name ≡ true) × (list_any (is_same_name t.name) others ≡ false)) is
+        (e, none_after (is_same_name u.name) (map (λ (t : Table). t.name) us) others none)
+    by_test none later false e found = later found
+
+none_of : (a name : Name) (is : List ListedIndex) → is_same_name a name ≡ true → list_any (is_same_name a) (map (λ (i : ListedIndex). i.name) is) ≡ false → NoneNamed name is
+none_of a name [] same_as h = tt
+none_of a name (i ∷ is) same_as h =
+    let both = neither (is_same_name a i.name) (list_any (is_same_name a) (map (λ (i : ListedIndex). i.name) is)) h in (
+      subst (λ (k : Name). bytes_eq k (folded i.name) ≡ false) (same (folded a) (folded name) same_as) both.0,
+      none_of a name is same_as both.1,
+    )
+
+none_among : (a name : Name) (tables : List Table) → is_same_name a name ≡ true → list_any (is_same_name a) (flat_map (λ (t : Table). map (λ (i : ListedIndex). i.name) t.indexes) tables) ≡ false
+    → AllByRecursion (λ (t : Table). NoneNamed name t.indexes) tables
+none_among a name [] same_as h = tt
+none_among a name (t ∷ ts) same_as h =
+    let names : List Name = flat_map (λ (t : Table). map (λ (i : ListedIndex). i.name) t.indexes) ts in (
+      none_of a name t.indexes same_as (none_first (is_same_name a) (map (λ (i : ListedIndex). i.name) t.indexes) names h),
+      none_among a name ts same_as (none_after (is_same_name a) (map (λ (i : ListedIndex). i.name) t.indexes) names h),
+    )
+
+is_no : (b : Bool) → not b ≡ true → b ≡ false
+is_no true h = absurd (false≢true h)
+is_no false h = refl
+
+-- no index has the name of a table
+pub no_index_named : (name : Name) (tables : List Table) (t : Table) → are_named_once tables ≡ true → table_named name tables ≡ Some t → AllByRecursion (λ (t : Table). NoneNamed name t.indexes) tables
+no_index_named name tables t once found =
+    let own = own_name name tables _ t found (is_no (any_twice is_same_name (names_of tables)) once) in none_among t.name name tables own.0 own.1
+
+none_still : (p : Name × Object → Bool) (same : Name → Bool) (os : List (Name × Object)) → list_any same (map (λ o. o.0) os) ≡ false → list_any same (map (λ o. o.0) (filter p os)) ≡ false
+none_still p same [] h = refl
+none_still p same (o ∷ os) h =
+    let both = neither (same o.0) (list_any same (map (λ o. o.0) os)) h in by_test both.0 (none_still p same os both.1) (p o)
+  where
+    by_test : same o.0 ≡ false → list_any same (map (λ o. o.0) (filter p os)) ≡ false → (b : Bool) → list_any same (map (λ o. o.0) (cond b (o ∷ filter p os) (filter p os))) ≡ false
+    by_test e rest true = ap (λ b. b || list_any same (map (λ o. o.0) (filter p os))) e ∙ rest
+    by_test e rest false = rest
+
+once_still : (p : Name × Object → Bool) (os : List (Name × Object)) → any_twice is_same_name (map (λ o. o.0) os) ≡ false → any_twice is_same_name (map (λ o. o.0) (filter p os)) ≡ false
+once_still p [] h = refl
+once_still p (o ∷ os) h =
+    let both = neither (list_any (is_same_name o.0) (map (λ o. o.0) os)) (any_twice is_same_name (map (λ o. o.0) os)) h in
+    by_test (none_still p (is_same_name o.0) os both.0) (once_still p os both.1) (p o)
+  where
+    by_test : list_any (is_same_name o.0) (map (λ o. o.0) (filter p os)) ≡ false → any_twice is_same_name (map (λ o. o.0) (filter p os)) ≡ false
+        → (b : Bool) → any_twice is_same_name (map (λ o. o.0) (cond b (o ∷ filter p os) (filter p os))) ≡ false
+    by_test e rest true = ap (λ b. b || any_twice is_same_name (map (λ o. o.0) (filter p os))) e ∙ rest
+    by_test e rest false = rest
+
+-- ---- what is found
+
+found_holds : {A : Type 0} (t : A → Bool) (xs : List A) (x : A) → list.find t xs ≡ Some x → t x ≡ true
+found_holds t [] x h = absurd cc
+found_holds t (y ∷ ys) x h = by_test (found_holds t ys x) (t y) refl h
+  where
+    by_test : (list.find t ys ≡ Some x → t x ≡ true) → (b : Bool) → t y ≡ b → cond b (Some y) (list.find t ys) ≡ Some x → t x ≡ true
+    by_test rest true e h = let is : y ≡ x = cc in subst (λ z. t z ≡ true) is e
+    by_test rest false e h = rest h
+
+same_fate : (name n m : Name) (o : Object) → folded n ≡ folded m → stays name (n, o) ≡ stays name (m, o)
+same_fate name n m (ATable t) e = ap (λ k. not (bytes_eq (folded name) k)) e
+same_fate name n m (AnIndex i) e = ap (λ k. not (bytes_eq (folded name) k || is_same_name name i.table)) e
+same_fate name n m (AView v) e = ap (λ k. not (bytes_eq (folded name) k)) e
+same_fate name n m (ATrigger d) e = ap (λ k. not (bytes_eq (folded name) k)) e
+
+both_kept : (name : Name) (found listed : Option (Name × Object)) → option_map (λ o. o.1) found ≡ option_map (λ o. o.1) listed
+    → ((o x : Name × Object) → found ≡ Some o → listed ≡ Some x → folded o.0 ≡ folded x.0)
+    → option_map (λ o. o.1) (kept (stays name) found) ≡ option_map (λ o. o.1) (kept (stays name) listed)
+both_kept name None None e names = refl
+both_kept name None (Some x) e names = absurd cc
+both_kept name (Some o) None e names = absurd cc
+both_kept name (Some o) (Some x) e names =
+    let is : o.1 ≡ x.1 = cc in
+    let fate : stays name o ≡ stays name x = same_fate name o.0 x.0 o.1 (names o x refl refl) ∙ ap (λ (y : Object). stays name (x.0, y)) is in
+    by_test (stays name x) fate is
+  where
+    by_test : (b : Bool) → stays name o ≡ b → o.1 ≡ x.1 → option_map (λ (y : Name × Object). y.1) (cond (stays name o) (Some o) None) ≡ option_map (λ (y : Name × Object). y.1) (cond b (Some x) None)
+    by_test true e is = ap (λ b. option_map (λ (y : Name × Object). y.1) (cond b (Some o) None)) e ∙ ap (λ y. Some y) is
+    by_test false e is = ap (λ b. option_map (λ (y : Name × Object). y.1) (cond b (Some o) None)) e
 
 pub lists_others : ListsOthers
-lists_others rows_at tables db name is = record {
+lists_others rows_at tables db name t is found = record {
   lists = λ q.
-      found_without name (folded q) db is.named.each_folded ∙ ap (cond (bytes_eq (folded name) (folded q)) None) (is.lists q)
-      ∙ (listed_without rows_at (table_named q tables) (bytes_eq (folded name) (folded q)) ∙ ap (listed_as rows_at) (sym (named_without name q tables)));
-  only = only_still (λ o. not (is_same_name name o.0)) db is.only;
+      let entry = entry_at (folded q) db in
+      let listed = list.find (has_name q) (objects_of rows_at tables) in
+      found_entry (folded q) (without_table_object name db)
+      ∙ (ap (option_map (λ (o : Name × Object). o.1)) (found_kept (stays name) (λ (e : Name × Object). eq_by_cmp name_order (folded q) e.0) db (keyed_once (folded q) db sorted))
+      ∙ (both_kept name entry listed (sym (found_entry (folded q) db) ∙ is.lists q)
+      (λ o x at there. (ap folded (sym (tells_apart exact_bytes (folded q) o.0 (found_holds (λ (e : Name × Object). eq_by_cmp name_order (folded q) e.0) db o at)))
+      ∙ (folded_twice q ∙ sym (same (folded x.0) (folded q) (found_holds (has_name q) (objects_of rows_at tables) x there)))))
+      ∙ (ap (option_map (λ (o : Name × Object). o.1)) (sym (found_kept (stays name) (has_name q) (objects_of rows_at tables) (once_named q (objects_of rows_at tables) once)))
+      ∙ ap (named_among q) left)));
+  only = only_still (stays name) db is.only;
   named = record {
-    rising = rising (without_object name db) (sorted_still (λ o. not (is_same_name name o.0)) db (in_order db is.named.rising));
-    each_folded = folded_still (λ o. not (is_same_name name o.0)) db is.named.each_folded;
+    rising = rising (without_table_object name db) (sorted_still (stays name) db sorted);
+    each_folded = folded_still (stays name) db is.named.each_folded;
   };
+  once = ap not (ap (any_twice is_same_name) (sym (names_are rows_at (without_table name tables)) ∙ ap (map (λ (o : Name × Object). o.0)) (sym left)) ∙ once_still (stays name) (objects_of rows_at tables) once);
 }
+  where
+    sorted : is_sorted name_order db ≡ true
+    sorted = in_order db is.named.rising
+
+    once : any_twice is_same_name (map (λ (o : Name × Object). o.0) (objects_of rows_at tables)) ≡ false
+    once = ap (any_twice is_same_name) (names_are rows_at tables) ∙ is_no (any_twice is_same_name (names_of tables)) is.once
+
+    left : filter (stays name) (objects_of rows_at tables) ≡ objects_of rows_at (without_table name tables)
+    left = objects_left rows_at name tables (no_index_named name tables t is.once found)

@@ -1,5 +1,5 @@
 -- Databases whose names are in order and folded, and those of listed tables.
-use Rattle.std.proofs.Common.{◌≡◌, refl, sym, ap, subst, ◌∙◌, ℕ, ℤ, Bool, true, false, ◌&&◌, List, [], ◌∷◌, map, Option, Some, None, cond}
+use Rattle.std.proofs.Common.{◌≡◌, inl, inr, refl, sym, ap, subst, ◌∙◌, ℕ, ℤ, Bool, true, false, ◌&&◌, List, [], ◌∷◌, ◌++◌, map, Option, Some, None, cond}
 use Rattle.std.proofs.lemmas.Bool.{false≢true}
 use Rattle.std.proofs.lemmas.Cmp.{nat_list_cmp_total}
 use Rattle.std.proofs.lemmas.Map.Lookups.{exact_bytes}
@@ -9,21 +9,25 @@ use Rattle.std.proofs.lemmas.Str.Ascii.{lowercase-lowercase}
 use Rattle.std.specs.Char.{to_ascii_lowercase}
 use Rattle.std.specs.Cmp.{eq_by_cmp_equiv, tied_itself}
 use Rattle.std.specs.FinMap.Entries.{put, find, find-put, by_order, below_all, is_sorted, is_sorted-put, is_some-find, same_entries}
+use Rattle.std.specs.List as list
 use Rattle.std.specs.List.{AllByRecursion, list_all}
 use Rattle.std.specs.Ordering.{eq_by_cmp, is_eq, is_lt}
-use Rattle.std.specs.Prelude.{T, is_some, option_map}
+use Rattle.std.specs.Prelude.{T, flat_map, is_some, option_map}
 use Rattle.std.specs.Str.{bytes_eq}
 use Rattle.std.specs.declared.cmp.Ordering.{Ordering}
 use Rattle.std.specs.declared.cmp.Ordering.TheVariants.{Less, Equal, Greater}
 use Rattle.sqlval.specs.Lists.{is_rising}
-use Rattle.sqlval.specs.Names.{folded}
+use Rattle.sqlval.specs.Names.{folded, is_same_name}
 use Rattle.sqlval.specs.declared.value.Value.{Value}
-use Rattle.catalog.specs.Database.{Name, Database, Object, ATable, object, with_object, name_order}
-use Rattle.catalog.specs.Listed.{Lists, is_table, plain_table, table_named}
-use Rattle.catalog.specs.Named.{IsInOrder, KeepsNamed, ListedDatabase, ListedNames, OneDatabase}
+use Rattle.catalog.specs.Database.{Name, Database, Object, ATable, AnIndex, object, with_object, name_order}
+use Rattle.catalog.specs.Laws.{IsNoTable}
+use Rattle.catalog.specs.Listed.{Lists, has_only_plain, index_objects, is_plain_object, named_among, objects_of, plain_index, plain_table, table_named, table_object}
+use Rattle.catalog.specs.Named.{IsInOrder, IsNamed, KeepsNamed, ListedDatabase, ListedNames, OneDatabase}
 use Rattle.catalog.specs.Rows.{are_rows, holds_rows}
+use Rattle.catalog.specs.declared.tables.Index.{Index as ListedIndex}
 use Rattle.catalog.specs.declared.tables.Table.{Table}
-use Rattle.catalog.proofs.OtherRows.{both_true, first_true, listed_as, only_tables, rest_true}
+use Rattle.catalog.proofs.Found.{as_object, index_found, listed_as, no_table}
+use Rattle.catalog.proofs.OtherRows.{both_true, first_true, only_plain, rest_true}
 
 -- ---- rising names
 
@@ -72,7 +76,7 @@ rising (e ∷ f ∷ fs) h =
 
 -- ---- folded names
 
-folded_twice : (a : Name) → folded (folded a) ≡ folded a
+pub folded_twice : (a : Name) → folded (folded a) ≡ folded a
 folded_twice [] = refl
 folded_twice (c ∷ cs) = ap (λ x. x ∷ folded (folded cs)) (lowercase-lowercase c) ∙ ap (λ xs. to_ascii_lowercase c ∷ xs) (folded_twice cs)
 
@@ -122,47 +126,75 @@ keeps_named db name o named = record {
 pub same_test : (a b : Name) → eq_by_cmp name_order a b ≡ bytes_eq b a
 same_test a b = (eq_by_cmp_equiv nat_list_cmp_total).symm a b ∙ is_eq-slice_cmp b a
 
-pub listed_database : ListedDatabase
-listed_database rows_at [] = ([], record { rising = refl; each_folded = tt }, refl, λ name. refl)
-listed_database rows_at (t ∷ ts) =
-    let (db, named, only, lists) = listed_database rows_at ts in
-    let o = ATable (plain_table t (rows_at t.root)) in (
-      with_object db t.name o,
-      keeps_named db t.name o named,
-      only_tables db t.name (plain_table t (rows_at t.root)) only,
-      λ name.
-          find-put name_order nat_list_cmp_total (folded name) (folded t.name) o db
-          ∙ (ap (λ b. cond b (Some o) (object db name)) (same_test (folded name) (folded t.name)) ∙ (ap (cond (is_table name t) (Some o)) (lists name) ∙ by_test name (is_table name t))),
+-- the first of some objects that are tables or plain indexes is what their database has
+record IsOfObjects (objects : List (Name × Object)) (db : Database) : Type 0 where
+  pub named : IsNamed db
+  pub only : has_only_plain db ≡ true
+  pub finds : (name : Name) → object db name ≡ named_among name objects
+
+abbrev ArePlain : List (Name × Object) → Type 0
+ArePlain objects = AllByRecursion (λ o. is_plain_object o.1 ≡ true) objects
+
+database_of : (objects : List (Name × Object)) → ArePlain objects → (db : Database) × IsOfObjects objects db
+database_of [] plain = ([], record { named = record { rising = refl; each_folded = tt }; only = refl; finds = λ name. refl })
+database_of (o ∷ os) plain =
+    let (db, is) = database_of os plain.1 in (
+      with_object db o.0 o.1,
+      record {
+        named = keeps_named db o.0 o.1 is.named;
+        only = only_plain db o.0 o.1 is.only plain.0;
+        finds = λ name.
+            find-put name_order nat_list_cmp_total (folded name) (folded o.0) o.1 db
+            ∙ (ap (λ b. cond b (Some o.1) (object db name)) (same_test (folded name) (folded o.0))
+            ∙ (ap (cond (is_same_name o.0 name) (Some o.1)) (is.finds name) ∙ by_test name (is_same_name o.0 name)));
+      },
     )
   where
-    by_test : (name : Name) (b : Bool) → cond b (Some (ATable (plain_table t (rows_at t.root)))) (listed_as rows_at (table_named name ts)) ≡ listed_as rows_at (cond b (Some t) (table_named name ts))
+    by_test : (name : Name) (b : Bool) → cond b (Some o.1) (named_among name os)
+        ≡ option_map (λ (x : Name × Object). x.1) (cond b (Some o) (list.find (λ (x : Name × Object). is_same_name x.0 name) os))
     by_test name true = refl
     by_test name false = refl
 
+plain_indexes : (t : Table) (is : List ListedIndex) (os : List (Name × Object)) → ArePlain os → ArePlain (map (λ (i : ListedIndex). (i.name, AnIndex (plain_index t i))) is ++ os)
+plain_indexes t [] os plain = plain
+plain_indexes t (i ∷ is) os plain = (refl, plain_indexes t is os plain)
+
+plain_behind : (tables : List Table) → ArePlain (flat_map index_objects tables)
+plain_behind [] = tt
+plain_behind (t ∷ ts) = plain_indexes t t.indexes (flat_map index_objects ts) (plain_behind ts)
+
+plain_tables : (rows_at : ℕ → List (ℤ × List Value)) (tables : List Table) (os : List (Name × Object)) → ArePlain os → ArePlain (map (table_object rows_at) tables ++ os)
+plain_tables rows_at [] os plain = plain
+plain_tables rows_at (t ∷ ts) os plain = (refl, plain_tables rows_at ts os plain)
+
+pub listed_database : ListedDatabase
+listed_database rows_at tables =
+    let (db, is) = database_of (objects_of rows_at tables) (plain_tables rows_at tables (flat_map index_objects tables) (plain_behind tables)) in
+    (db, is.named, is.only, is.finds)
+
 -- what is found at any name
 found_listed : (rows_at : ℕ → List (ℤ × List Value)) (tables : List Table) (db : Database) (q : Name) → AreFolded db → Lists rows_at tables db
-    → find name_order q db ≡ cond (bytes_eq (folded q) q) (listed_as rows_at (table_named q tables)) None
+    → find name_order q db ≡ cond (bytes_eq (folded q) q) (named_among q (objects_of rows_at tables)) None
 found_listed rows_at tables db q h lists = found_folded db q h ∙ ap (λ o. cond (bytes_eq (folded q) q) o None) (lists q)
 
--- a name that a test finds is the name of a listed table
-named_by : (rows_at : ℕ → List (ℤ × List Value)) (tables : List Table) (name : Name) (b : Bool) (found : Option Table) → bytes_eq (folded name) name ≡ b → table_named name tables ≡ found
-    → is_some (cond b (listed_as rows_at found) None) ≡ true → (folded name ≡ name) × ((t : Table) × (table_named name tables ≡ Some t))
-named_by rows_at tables name true (Some t) e f h = (tells_apart exact_bytes (folded name) name (is_eq-slice_cmp (folded name) name ∙ e), (t, f))
-named_by rows_at tables name true None e f h = absurd (false≢true h)
-named_by rows_at tables name false found e f h = absurd (false≢true h)
+-- a name that a test finds is the name of a listed object
+named_by : (name : Name) (b : Bool) (found : Option Object) → bytes_eq (folded name) name ≡ b
+    → is_some (cond b found None) ≡ true → (folded name ≡ name) × (is_some found ≡ true)
+named_by name true found e h = (tells_apart exact_bytes (folded name) name (is_eq-slice_cmp (folded name) name ∙ e), h)
+named_by name false found e h = absurd (false≢true h)
 
 pub listed_names : ListedNames
 listed_names rows_at tables db named lists name = (
-  λ contains. named_by rows_at tables name (bytes_eq (folded name) name) (table_named name tables) refl refl
+  λ contains. named_by name (bytes_eq (folded name) name) (named_among name (objects_of rows_at tables)) refl
       (sym (ap is_some (found_listed rows_at tables db name named.each_folded lists)) ∙ (is_some-find name_order name db
       ∙ list_any-from_Contains (eq_by_cmp_equiv nat_list_cmp_total) name (map (λ o. o.0) db) contains)),
   λ h. Contains-from_any (tells_apart exact_bytes) name (map (λ o. o.0) db) (sym (is_some-find name_order name db)
-      ∙ ap is_some (ap (λ n. find name_order n db) (sym h.0) ∙ (lists name ∙ ap (listed_as rows_at) h.1.1))),
+      ∙ (ap is_some (ap (λ n. find name_order n db) (sym h.0) ∙ lists name) ∙ h.1)),
 )
 
 -- ---- their rows
 
-not_below : (es : Database) (q : Name) → below_all name_order q es ≡ true → find name_order q es ≡ None
+pub not_below : (es : Database) (q : Name) → below_all name_order q es ≡ true → find name_order q es ≡ None
 not_below [] q h = refl
 not_below (e ∷ es) q h =
     ap (λ r. cond (is_eq r) (Some e.1) (find name_order q es)) (less _ (first_true _ (below_all name_order q es) h))
@@ -188,14 +220,27 @@ each_found (e ∷ es) sorted each =
 same_object : (some other : Object) → Some some ≡ Some other → some ≡ other
 same_object some other e = cc
 
-rows_by : (rows_at : ℕ → List (ℤ × List Value)) (o : Object) (b : Bool) (found : Option Table) → ((t : Table) → found ≡ Some t → are_rows (plain_table t (rows_at t.root)) ≡ true)
-    → cond b (listed_as rows_at found) None ≡ Some o → holds_rows o ≡ true
-rows_by rows_at o true (Some t) each h = ap holds_rows (sym (same_object (ATable (plain_table t (rows_at t.root))) o h)) ∙ each t refl
-rows_by rows_at o true None each h = absurd (some_is_none o (sym h))
-rows_by rows_at o false found each h = absurd (some_is_none o (sym h))
+-- the rows of a table that is found are such as it may hold, and no other object has rows
+rows_in : (rows_at : ℕ → List (ℤ × List Value)) (behind o : Object) (found : Option Table) → IsNoTable (Some behind) → ((t : Table) → found ≡ Some t → are_rows (plain_table t (rows_at t.root)) ≡ true)
+    → as_object rows_at (Some behind) found ≡ Some o → holds_rows o ≡ true
+rows_in rows_at behind o (Some t) index each h = ap holds_rows (sym (same_object (ATable (plain_table t (rows_at t.root))) o h)) ∙ each t refl
+rows_in rows_at behind o None (inl none) each h = absurd (some_is_none behind none)
+rows_in rows_at behind o None (inr (i, is, plain)) each h = ap holds_rows (sym (same_object behind o h) ∙ same_object behind (AnIndex i) is)
+
+rows_of_found : (rows_at : ℕ → List (ℤ × List Value)) (behind : Option Object) (o : Object) (found : Option Table) → IsNoTable behind → ((t : Table) → found ≡ Some t → are_rows (plain_table t (rows_at t.root)) ≡ true)
+    → as_object rows_at behind found ≡ Some o → holds_rows o ≡ true
+rows_of_found rows_at (Some behind) o found index each h = rows_in rows_at behind o found index each h
+rows_of_found rows_at None o (Some t) index each h = ap holds_rows (sym (same_object (ATable (plain_table t (rows_at t.root))) o h)) ∙ each t refl
+rows_of_found rows_at None o None index each h = absurd (some_is_none o (sym h))
+
+rows_by : (o : Object) (b : Bool) (found : Option Object) → (found ≡ Some o → holds_rows o ≡ true) → cond b found None ≡ Some o → holds_rows o ≡ true
+rows_by o true found each h = each h
+rows_by o false found each h = absurd (some_is_none o (sym h))
 
 pub listed_in_order : IsInOrder
 listed_in_order rows_at tables db named lists each =
     both_true (is_rising name_order (map (λ o. o.0) db)) (list_all (λ o. holds_rows o.1) db) named.rising
     (each_found db (in_order db named.rising) (λ q o found.
-    rows_by rows_at o (bytes_eq (folded q) q) (table_named q tables) (each q) (sym (found_listed rows_at tables db q named.each_folded lists) ∙ found)))
+    rows_by o (bytes_eq (folded q) q) (named_among q (objects_of rows_at tables))
+    (λ is. rows_of_found rows_at (index_found q tables) o (table_named q tables) (no_table q tables) (each q) (sym (listed_as rows_at q tables) ∙ is))
+    (sym (found_listed rows_at tables db q named.each_folded lists) ∙ found)))

@@ -1,11 +1,11 @@
 -- Databases whose names are in order and folded, and those that tables are listed of.
-use Rattle.std.specs.Prelude.{◌≡◌, ◌↔◌, ℕ, ℤ, true, not, filter, List, map, Some}
+use Rattle.std.specs.Prelude.{◌≡◌, ◌↔◌, ℕ, ℤ, Bool, true, not, ◌||◌, filter, is_some, List, map, Some}
 use Rattle.std.specs.List.{AllByRecursion, Contains}
 use Rattle.sqlval.specs.Lists.{is_rising}
 use Rattle.sqlval.specs.Names.{folded, is_same_name}
 use Rattle.sqlval.specs.declared.value.Value.{Value}
-use Rattle.catalog.specs.Database.{Name, Database, Object, name_order, object, with_object}
-use Rattle.catalog.specs.Listed.{Lists, has_only_tables, plain_table, table_named, without_table}
+use Rattle.catalog.specs.Database.{Name, Database, Object, AnIndex, name_order, object, with_object}
+use Rattle.catalog.specs.Listed.{Lists, are_named_once, has_only_plain, named_among, objects_of, plain_table, table_named, without_table}
 use Rattle.catalog.specs.Rows.{are_rows, is_in_order}
 use Rattle.catalog.specs.declared.tables.Table.{Table}
 
@@ -22,31 +22,37 @@ OneDatabase = (a b : Database) → IsNamed a → IsNamed b → ((name : Name) �
 abbrev pub KeepsNamed : Type 0
 KeepsNamed = (db : Database) (name : Name) (o : Object) → IsNamed db → IsNamed (with_object db name o)
 
--- any tables, with any rows, are those of a database without other objects
+-- any tables with their indexes, with any rows, are those of a database without other objects
 abbrev pub ListedDatabase : Type 0
-ListedDatabase = (rows_at : ℕ → List (ℤ × List Value)) (tables : List Table) → (db : Database) × IsNamed db × (has_only_tables db ≡ true) × Lists rows_at tables db
+ListedDatabase = (rows_at : ℕ → List (ℤ × List Value)) (tables : List Table) → (db : Database) × IsNamed db × (has_only_plain db ≡ true) × Lists rows_at tables db
 
 -- a database of listed tables is in order where each table's rows are such as it may hold
 abbrev pub IsInOrder : Type 0
 IsInOrder = (rows_at : ℕ → List (ℤ × List Value)) (tables : List Table) (db : Database) → IsNamed db → Lists rows_at tables db
     → ((name : Name) (t : Table) → table_named name tables ≡ Some t → are_rows (plain_table t (rows_at t.root)) ≡ true) → is_in_order db ≡ true
 
--- a database of listed tables has their names, folded, and no others
+-- a database of listed tables has their names and those of their indexes, folded, and no others
 abbrev pub ListedNames : Type 0
 ListedNames = (rows_at : ℕ → List (ℤ × List Value)) (tables : List Table) (db : Database) → IsNamed db → Lists rows_at tables db
-    → (name : Name) → Contains (map (λ o. o.0) db) name ↔ ((folded name ≡ name) × ((t : Table) × (table_named name tables ≡ Some t)))
+    → (name : Name) → Contains (map (λ o. o.0) db) name ↔ ((folded name ≡ name) × (is_some (named_among name (objects_of rows_at tables)) ≡ true))
 
--- the database without the objects of a name
-abbrev pub without_object : Name → Database → Database
-without_object name db = filter (λ o. not (is_same_name name o.0)) db
+-- whether an object goes where the table of a name is dropped: it has the name, or it is an index on the table
+abbrev pub goes_with_table : Name → Name × Object → Bool
+goes_with_table name (other, AnIndex i) = is_same_name name other || is_same_name name i.table
+goes_with_table name (other, o) = is_same_name name other
 
--- the database is one of these tables and no other objects, with its names in order
+-- the database without the table of a name and its indexes
+abbrev pub without_table_object : Name → Database → Database
+without_table_object name db = filter (λ o. not (goes_with_table name o)) db
+
+-- the database is one of these tables and their indexes and no other objects, with its names in order
 pub record IsOfTables (rows_at : ℕ → List (ℤ × List Value)) (tables : List Table) (db : Database) : Type 0 where
   pub lists : Lists rows_at tables db
-  pub only : has_only_tables db ≡ true
+  pub only : has_only_plain db ≡ true
   pub named : IsNamed db
+  pub once : are_named_once tables ≡ true
 
--- a database of tables without those of a name is that of the other tables, with the rows that they had
+-- A database of tables without one of them and its indexes is that of the other tables, with the rows that they had.
 abbrev pub ListsOthers : Type 0
-ListsOthers = (rows_at : ℕ → List (ℤ × List Value)) (tables : List Table) (db : Database) (name : Name) → IsOfTables rows_at tables db
-    → IsOfTables rows_at (without_table name tables) (without_object name db)
+ListsOthers = (rows_at : ℕ → List (ℤ × List Value)) (tables : List Table) (db : Database) (name : Name) (t : Table) → IsOfTables rows_at tables db
+    → table_named name tables ≡ Some t → IsOfTables rows_at (without_table name tables) (without_table_object name db)

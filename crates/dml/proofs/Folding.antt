@@ -16,8 +16,8 @@ use Rattle.sqlval.specs.declared.value.Value.TheVariants.{Null}
 use Rattle.catalog.specs.Database as database
 use Rattle.bind.specs.Keys.{is_null}
 use Rattle.catalog.specs.Database.{Name, Database, Object, TableColumn, ATable, AnIndex, AView, ATrigger, object, with_object, name_order, indexes_of}
-use Rattle.catalog.specs.Laws.{KeepsOnlyTables}
-use Rattle.catalog.specs.Listed.{plain_table, plain_column, has_only_tables}
+use Rattle.catalog.specs.Laws.{KeepsOnlyPlain}
+use Rattle.catalog.specs.Listed.{plain_table, plain_column, has_only_plain}
 use Rattle.catalog.specs.declared.tables.Column.{Column}
 use Rattle.catalog.specs.declared.tables.Table.{Table}
 use Rattle.rowprog.specs.Rows.{TableRow}
@@ -55,7 +55,7 @@ all_filled [] values = refl
 all_filled (c ∷ columns) [] = refl
 all_filled (c ∷ columns) (v ∷ values) = all_filled columns values
 
-pub no_indexes : (db : Database) (name : Name) → has_only_tables db ≡ true → indexes_of db name ≡ []
+pub no_indexes : (db : Database) (name : Name) → has_only_plain db ≡ true → indexes_of db name ≡ []
 no_indexes [] name h = refl
 no_indexes ((n, ATable t) ∷ db) name h = no_indexes db name h
 no_indexes ((n, AnIndex i) ∷ db) name h = absurd (false≢true h)
@@ -66,7 +66,7 @@ next_of : (table : Table) (rows : List TableRow) → Rises rows → next_rowid (
 next_of table rows rises = ap next_for (greatest_is_last rows rises) ∙ next_is (last_rowid rows)
 
 -- the row is stored after the others
-stored_behind : (db : Database) (name : Name) (table : Table) (rows : List TableRow) (rowid : ℤ) (values : List Value) → has_only_tables db ≡ true → AreBelow rowid rows
+stored_behind : (db : Database) (name : Name) (table : Table) (rows : List TableRow) (rowid : ℤ) (values : List Value) → has_only_plain db ≡ true → AreBelow rowid rows
     → stored db name (plain_table table rows) rowid values ≡ Ok (with_object db name (ATable (plain_table table (rows ++ (rowid, values) ∷ []))))
 stored_behind db name table rows rowid values only below =
     simp (all_filled, not_found rowid rows below, no_indexes db name only, put_behind rowid values rows below)
@@ -91,7 +91,7 @@ put_again k x y (e ∷ es) = by_place (put_again k x y es) (name_order k e.0) re
 
 -- ---- one row
 
-module _ (fire : Fire) (name : Name) (places : List ℕ) (table : Table) (by_column : List (Option ℕ)) (still : IsStill fire) (keeps : KeepsOnlyTables) where
+module _ (fire : Fire) (name : Name) (places : List ℕ) (table : Table) (by_column : List (Option ℕ)) (still : IsStill fire) (keeps : KeepsOnlyPlain) where
   -- the table with these rows
   abbrev with_rows : Database → List TableRow → Database
   with_rows db rows = with_object db name (ATable (plain_table table rows))
@@ -99,7 +99,7 @@ module _ (fire : Fire) (name : Name) (places : List ℕ) (table : Table) (by_col
   abbrev added_to : List TableRow → List Value → Answer TableRow
   added_to rows given = row_added table.columns by_column (last_rowid rows) given
 
-  row_changes : (db : Database) (rows : List TableRow) (given : List Value) → has_only_tables db ≡ true → table_of db name ≡ Ok (plain_table table rows) → Rises rows → IsSetFor table by_column places given
+  row_changes : (db : Database) (rows : List TableRow) (given : List Value) → has_only_plain db ≡ true → table_of db name ≡ Ok (plain_table table rows) → Rises rows → IsSetFor table by_column places given
       → insert_row fire name places db given ≡ (added_to rows given then λ row. Ok (with_rows db (rows ++ row ∷ [])))
   row_changes db rows given only is rises set = by_values (row_stored table.columns by_column given) refl
     where
@@ -112,7 +112,7 @@ module _ (fire : Fire) (name : Name) (places : List ℕ) (table : Table) (by_col
           let below : AreBelow rowid rows = rows_below rowid rows rises h in
           let next : next_rowid (plain_table table rows) ≡ Ok rowid = next_of table rows rises ∙ h in
           let put_is : stored db name (plain_table table rows) rowid values ≡ Ok (with_rows db (rows ++ (rowid, values) ∷ [])) = stored_behind db name table rows rowid values only below in
-          let later : has_only_tables (with_rows db (rows ++ (rowid, values) ∷ [])) ≡ true = keeps db name (plain_table table (rows ++ (rowid, values) ∷ [])) only in
+          let later : has_only_plain (with_rows db (rows ++ (rowid, values) ∷ [])) ≡ true = keeps db name (plain_table table (rows ++ (rowid, values) ∷ [])) only in
           rw (is, stored_is, e, still, is, next, put_is, still, h) refl
       by_rowid values e (Err r) h =
           let next : next_rowid (plain_table table rows) ≡ Err r = next_of table rows rises ∙ h in
@@ -154,7 +154,7 @@ module _ (fire : Fire) (name : Name) (places : List ℕ) (table : Table) (by_col
           ∙ sym (ap (λ (a : Answer TableRow). (a then λ row. rows_added table.columns by_column (Some row.0) rest then λ added. Ok (row ∷ added)) then λ added. Ok (with_rows db (rows ++ added))) e)
 
   -- row by row, where the table already is in the database
-  folds : (given : List (List Value)) (db : Database) (rows : List TableRow) → has_only_tables db ≡ true → table_of db name ≡ Ok (plain_table table rows) → Rises rows → All (IsSetFor table by_column places) given
+  folds : (given : List (List Value)) (db : Database) (rows : List TableRow) → has_only_plain db ≡ true → table_of db name ≡ Ok (plain_table table rows) → Rises rows → All (IsSetFor table by_column places) given
       → with_rows db rows ≡ db → fold_answer (insert_row fire name places) db given ≡ changed db rows given
   folds [] db rows only is rises set there = ap (λ (d : Database). Ok d) (sym there ∙ ap (with_rows db) (sym (append-nil rows)))
   folds (g ∷ given) db rows only is rises set there =
@@ -162,7 +162,7 @@ module _ (fire : Fire) (name : Name) (places : List ℕ) (table : Table) (by_col
       (λ row e. folds given (with_rows db (rows ++ row ∷ [])) (rows ++ row ∷ []) (keeps db name (plain_table table (rows ++ row ∷ [])) only) (put_there db name (plain_table table (rows ++ row ∷ []))) (row_rises rows g row rises e)
       (λ k d lt. set (suc k) d (omega (arith, lt))) (put_again (folded name) (ATable (plain_table table (rows ++ row ∷ []))) (ATable (plain_table table (rows ++ row ∷ []))) db))
 
-  some_rows : (given : List (List Value)) (db : Database) (rows : List TableRow) → has_only_tables db ≡ true → table_of db name ≡ Ok (plain_table table rows) → Rises rows → All (IsSetFor table by_column places) given
+  some_rows : (given : List (List Value)) (db : Database) (rows : List TableRow) → has_only_plain db ≡ true → table_of db name ≡ Ok (plain_table table rows) → Rises rows → All (IsSetFor table by_column places) given
       → 1 ≤ length given → fold_answer (insert_row fire name places) db given ≡ changed db rows given
   some_rows [] db rows only is rises set some = absurd (omega (arith, some))
   some_rows (g ∷ given) db rows only is rises set some =
@@ -170,6 +170,6 @@ module _ (fire : Fire) (name : Name) (places : List ℕ) (table : Table) (by_col
       (λ row e. folds given (with_rows db (rows ++ row ∷ [])) (rows ++ row ∷ []) (keeps db name (plain_table table (rows ++ row ∷ [])) only) (put_there db name (plain_table table (rows ++ row ∷ []))) (row_rises rows g row rises e)
       (λ k d lt. set (suc k) d (omega (arith, lt))) (put_again (folded name) (ATable (plain_table table (rows ++ row ∷ []))) (ATable (plain_table table (rows ++ row ∷ []))) db))
 
-pub inserts_rows : KeepsOnlyTables → InsertsRows
+pub inserts_rows : KeepsOnlyPlain → InsertsRows
 inserts_rows keeps fire name places db table by_column rows given still only is fit set some =
     some_rows fire name places table by_column still keeps given db rows only is (fit_rows_rise (plain_table table rows) fit) set some

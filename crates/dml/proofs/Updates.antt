@@ -10,8 +10,8 @@ use Rattle.sqlval.specs.Refusals.{Answer, ◌then◌, fold_answer}
 use Rattle.sqlval.specs.declared.value.Value.{Value}
 use Rattle.catalog.specs.Database as database
 use Rattle.catalog.specs.Database.{Name, Database, ATable, row, with_object, without_row}
-use Rattle.catalog.specs.Laws.{KeepsOnlyTables}
-use Rattle.catalog.specs.Listed.{has_only_tables, plain_table, plain_column}
+use Rattle.catalog.specs.Laws.{KeepsOnlyPlain}
+use Rattle.catalog.specs.Listed.{has_only_plain, plain_table, plain_column}
 use Rattle.catalog.specs.Named.{KeepsNamed, OneDatabase}
 use Rattle.catalog.specs.declared.tables.Table.{Table}
 use Rattle.rowprog.specs.Rows.{TableRow}
@@ -71,7 +71,7 @@ rise_with (k ∷ kept) r rows values rises = climb_with k.0 kept r rows values r
 
 -- ---- some rows
 
-module _ (fire : Fire) (name : Name) (table : Table) (sets : List (ℕ × Term)) (set : List Name) (still : IsStill fire) (keeps : KeepsOnlyTables) where
+module _ (fire : Fire) (name : Name) (table : Table) (sets : List (ℕ × Term)) (set : List Name) (still : IsStill fire) (keeps : KeepsOnlyPlain) where
   -- the table with these rows
   abbrev with_rows : Database → List TableRow → Database
   with_rows db rows = with_object db name (ATable (plain_table table rows))
@@ -80,12 +80,12 @@ module _ (fire : Fire) (name : Name) (table : Table) (sets : List (ℕ × Term))
   values_over r = values (env_of (as_source r ∷ [])) (map (λ s. s.1) sets)
 
   -- the row is stored where it was
-  stored_back : (db : Database) (kept : List TableRow) (r : TableRow) (rows : List TableRow) (values : List Value) → has_only_tables db ≡ true → Rises (kept ++ (r ∷ rows))
+  stored_back : (db : Database) (kept : List TableRow) (r : TableRow) (rows : List TableRow) (values : List Value) → has_only_plain db ≡ true → Rises (kept ++ (r ∷ rows))
       → stored db name (plain_table table (kept ++ rows)) r.0 values ≡ Ok (with_rows db (kept ++ ((r.0, values) ∷ rows)))
   stored_back db kept r rows values only rises =
       simp (all_filled, not_left kept r rows rises, no_indexes db name only, put_back kept r rows values rises)
 
-  row_updates : (db : Database) (kept : List TableRow) (r : TableRow) (rows : List TableRow) → has_only_tables db ≡ true → table_of db name ≡ Ok (plain_table table (kept ++ (r ∷ rows))) → Rises (kept ++ (r ∷ rows))
+  row_updates : (db : Database) (kept : List TableRow) (r : TableRow) (rows : List TableRow) → has_only_plain db ≡ true → table_of db name ≡ Ok (plain_table table (kept ++ (r ∷ rows))) → Rises (kept ++ (r ∷ rows))
       → update_row fire no_outer name sets set db r.0 ≡ (values_set table.columns sets (as_source r) then λ values. Ok (with_rows db (kept ++ ((r.0, values) ∷ rows))))
   row_updates db kept r rows only is rises = by_given (values_over r) refl
     where
@@ -100,7 +100,7 @@ module _ (fire : Fire) (name : Name) (table : Table) (sets : List (ℕ × Term))
       by_stored given values e (Ok vs) h =
           let back : stored db name (without_row r.0 (plain_table table (kept ++ (r ∷ rows)))) r.0 vs ≡ Ok (with_rows db (kept ++ ((r.0, vs) ∷ rows))) =
           ap (λ (t : database.Table). stored db name t r.0 vs) gone ∙ stored_back db kept r rows vs only rises in
-          let later : has_only_tables (with_rows db (kept ++ ((r.0, vs) ∷ rows))) ≡ true = keeps db name (plain_table table (kept ++ ((r.0, vs) ∷ rows))) only in
+          let later : has_only_plain (with_rows db (kept ++ ((r.0, vs) ∷ rows))) ≡ true = keeps db name (plain_table table (kept ++ ((r.0, vs) ∷ rows))) only in
           rw (is, found, e, h, still, is, found, same_values r.1, back, still, ◌then◌) refl
       by_stored given values e (Err f) h = rw (is, found, e, h, ◌then◌) refl
 
@@ -116,7 +116,7 @@ module _ (fire : Fire) (name : Name) (table : Table) (sets : List (ℕ × Term))
 
     -- the others are updated after any rows
     abbrev Goes : List TableRow → Type 0
-    Goes rows = (now : List TableRow) (d : Database) → has_only_tables d ≡ true → table_of d name ≡ Ok (plain_table table (now ++ rows)) → Rises (now ++ rows) → with_rows d (now ++ rows) ≡ d → Folded d now rows
+    Goes rows = (now : List TableRow) (d : Database) → has_only_plain d ≡ true → table_of d name ≡ Ok (plain_table table (now ++ rows)) → Rises (now ++ rows) → with_rows d (now ++ rows) ≡ d → Folded d now rows
 
     -- one more row before the others
     joined : (db : Database) (kept before : List TableRow) (new : TableRow) (answer : Answer (List TableRow)) → ((more : List TableRow) → with_rows (with_rows db before) more ≡ with_rows db more)
@@ -131,7 +131,7 @@ module _ (fire : Fire) (name : Name) (table : Table) (sets : List (ℕ × Term))
     passed db kept r (Ok now) = ap (λ (l : List TableRow). Ok (with_rows db l)) (append_assoc kept (r ∷ []) now)
     passed db kept r (Err f) = refl
 
-    folds_some : (rows : List TableRow) (kept : List TableRow) (db : Database) → has_only_tables db ≡ true → table_of db name ≡ Ok (plain_table table (kept ++ rows)) → Rises (kept ++ rows) → with_rows db (kept ++ rows) ≡ db
+    folds_some : (rows : List TableRow) (kept : List TableRow) (db : Database) → has_only_plain db ≡ true → table_of db name ≡ Ok (plain_table table (kept ++ rows)) → Rises (kept ++ rows) → with_rows db (kept ++ rows) ≡ db
         → Folded db kept rows
     folds_some [] kept db only is rises there = ap (λ (d : Database). Ok d) (sym there)
     folds_some (r ∷ rows) kept db only is rises there = by_test (λ now there_now. folds_some rows now there_now) (is_meant r) refl
@@ -167,6 +167,6 @@ module _ (fire : Fire) (name : Name) (table : Table) (sets : List (ℕ × Term))
             (subst (λ (l : List TableRow). with_rows db l ≡ db) (sym shift) there)
             ∙ passed db kept r (rows_meant_set table.columns sets is_meant rows))
 
-pub updates_some : KeepsOnlyTables → OneDatabase → KeepsNamed → UpdatesSome
+pub updates_some : KeepsOnlyPlain → OneDatabase → KeepsNamed → UpdatesSome
 updates_some keeps one named fire name db table rows sets set is_meant still only in_order is fit =
     folds_some fire name table sets set still keeps is_meant rows [] db only is (fit_rows_rise (plain_table table rows) fit) (put_itself one named db name (plain_table table rows) in_order is)

@@ -5,7 +5,7 @@ use Rattle.sqlval.specs.declared.value.Value.{Value}
 use Rattle.sqlval.specs.declared.value.Value.TheVariants.{Null}
 use Rattle.syntax.specs.declared.create.TriggerTime.{TriggerTime}
 use Rattle.catalog.specs.Database.{Name, Database, ATable, with_object}
-use Rattle.catalog.specs.Listed.{plain_table, has_only_tables}
+use Rattle.catalog.specs.Listed.{plain_table, has_only_plain}
 use Rattle.catalog.specs.Named.{IsNamed}
 use Rattle.catalog.specs.declared.tables.Column.{Column}
 use Rattle.catalog.specs.declared.tables.Table.{Table}
@@ -20,7 +20,7 @@ use Rattle.terms.specs.Terms.{Term}
 
 -- where there are only tables, nothing is set off
 abbrev pub IsStill : Fire → Type 0
-IsStill fire = (time : TriggerTime) (firing : Firing) (db : Database) → has_only_tables db ≡ true → fire time firing db ≡ Ok db
+IsStill fire = (time : TriggerTime) (firing : Firing) (db : Database) → has_only_plain db ≡ true → fire time firing db ≡ Ok db
 
 -- the values are those given for the columns, at their places
 pub record AreGivenFor (columns : List Column) (places : List (Option ℕ)) (given values : List Value) : Type 0 where
@@ -35,7 +35,7 @@ IsSetFor table by_column places given = AreGivenFor table.columns by_column give
 -- is refused as these are.
 abbrev pub InsertsRows : Type 0
 InsertsRows = (fire : Fire) (name : Name) (places : List ℕ) (db : Database) (table : Table) (by_column : List (Option ℕ)) (rows : List TableRow) (given : List (List Value))
-    → IsStill fire → has_only_tables db ≡ true → table_of db name ≡ Ok (plain_table table rows) → are_rows (plain_table table rows) ≡ true
+    → IsStill fire → has_only_plain db ≡ true → table_of db name ≡ Ok (plain_table table rows) → are_rows (plain_table table rows) ≡ true
     → All (IsSetFor table by_column places) given → 1 ≤ length given
     → fold_answer (insert_row fire name places) db given
     ≡ (rows_added table.columns by_column (last_rowid rows) given then λ added. Ok (with_object db name (ATable (plain_table table (rows ++ added)))))
@@ -43,13 +43,13 @@ InsertsRows = (fire : Fire) (name : Name) (places : List ℕ) (db : Database) (t
 -- A DELETE of all rows of a listed table, where nothing is set off, leaves it without rows.
 abbrev pub DeletesRows : Type 0
 DeletesRows = (fire : Fire) (name : Name) (db : Database) (table : Table) (rows : List TableRow)
-    → IsStill fire → has_only_tables db ≡ true → IsNamed db → table_of db name ≡ Ok (plain_table table rows) → are_rows (plain_table table rows) ≡ true
+    → IsStill fire → has_only_plain db ≡ true → IsNamed db → table_of db name ≡ Ok (plain_table table rows) → are_rows (plain_table table rows) ≡ true
     → fold_answer (delete_row fire name) db (map (λ row. row.0) rows) ≡ Ok (with_object db name (ATable (plain_table table [])))
 
 -- A DELETE of some rows of a listed table, where nothing is set off, leaves it with the others.
 abbrev pub DeletesSome : Type 0
 DeletesSome = (fire : Fire) (name : Name) (db : Database) (table : Table) (rows : List TableRow) (gone : TableRow → Bool)
-    → IsStill fire → has_only_tables db ≡ true → IsNamed db → table_of db name ≡ Ok (plain_table table rows) → are_rows (plain_table table rows) ≡ true
+    → IsStill fire → has_only_plain db ≡ true → IsNamed db → table_of db name ≡ Ok (plain_table table rows) → are_rows (plain_table table rows) ≡ true
     → fold_answer (delete_row fire name) db (map (λ row. row.0) (filter gone rows))
     ≡ Ok (with_object db name (ATable (plain_table table (filter (λ row. not (gone row)) rows))))
 
@@ -57,6 +57,6 @@ DeletesSome = (fire : Fire) (name : Name) (db : Database) (table : Table) (rows 
 -- refused as the first of them is.
 abbrev pub UpdatesSome : Type 0
 UpdatesSome = (fire : Fire) (name : Name) (db : Database) (table : Table) (rows : List TableRow) (sets : List (ℕ × Term)) (set : List Name) (is_meant : TableRow → Bool)
-    → IsStill fire → has_only_tables db ≡ true → IsNamed db → table_of db name ≡ Ok (plain_table table rows) → are_rows (plain_table table rows) ≡ true
+    → IsStill fire → has_only_plain db ≡ true → IsNamed db → table_of db name ≡ Ok (plain_table table rows) → are_rows (plain_table table rows) ≡ true
     → fold_answer (update_row fire no_outer name sets set) db (map (λ row. row.0) (filter is_meant rows))
     ≡ (rows_meant_set table.columns sets is_meant rows then λ now. Ok (with_object db name (ATable (plain_table table now))))

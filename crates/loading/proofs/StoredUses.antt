@@ -25,7 +25,7 @@ use Rattle.sharing.specs.Layout.{HoldsUnder, IsTree, Owner, used_by}
 use Rattle.bind.specs.Bound.{AreOnce}
 use Rattle.storage.proofs.Telling.{none_once, told_once}
 use Rattle.catalog.specs.Database.{Database}
-use Rattle.catalog.specs.Listed.{Lists, has_only_tables, plain_column, plain_table, tables_of}
+use Rattle.catalog.specs.Listed.{Lists, has_only_plain, plain_column, plain_table, tables_of}
 use Rattle.catalog.specs.Named.{IsNamed, ListedDatabase}
 use Rattle.catalog.specs.Rows.{are_rows, is_row, is_value}
 use Rattle.catalog.specs.declared.tables.Catalog.{Catalog}
@@ -245,7 +245,7 @@ found_database listed m size header catalog whole first all = record {
     rows_at : ℕ → List TableRow
     rows_at = rows_in m size (tables_of catalog) all.uses.owners all.are.each
 
-    db : (db : Database) × IsNamed db × (has_only_tables db ≡ true) × Lists (rows_in m size (tables_of catalog) all.uses.owners all.are.each) (tables_of catalog) db
+    db : (db : Database) × IsNamed db × (has_only_plain db ≡ true) × Lists (rows_in m size (tables_of catalog) all.uses.owners all.are.each) (tables_of catalog) db
     db = listed (rows_in m size (tables_of catalog) all.uses.owners all.are.each) (tables_of catalog)
 
     sum : (n : ℕ) → occurs n (pages_used all.uses) ≡ occurs n all.uses.schema_used + (occurs n (used_by all.uses.owners) + occurs n (pages_of all.uses.trunks))

@@ -26,7 +26,7 @@ use Rattle.tabletree.specs.Laws.{TreesStay}
 use Rattle.tabletree.proofs.LeafTrees.{root_there}
 use Rattle.sharing.specs.Layout.{AreShared, Owner, ReplacesTrees, TreesStand, used_by}
 use Rattle.catalog.specs.Database.{Database, Name, ATable, with_object}
-use Rattle.catalog.specs.Laws.{KeepsOnlyTables}
+use Rattle.catalog.specs.Laws.{KeepsOnlyPlain}
 use Rattle.catalog.specs.FreeRowids.{IsFree, Rise}
 use Rattle.catalog.specs.Listed.{Lists, is_table, plain_table, table_named}
 use Rattle.catalog.specs.Named.{KeepsNamed}
@@ -57,7 +57,7 @@ use Rattle.storage.proofs.Telling.{more_pages}
 -- what follows for every listed database, and for the trees of its file
 pub record Laws : Type 0 where
   pub lists : ListsNewTable
-  pub tables : KeepsOnlyTables
+  pub tables : KeepsOnlyPlain
   pub named : KeepsNamed
   pub stand : TreesStand
   pub give_way : ReplacesTrees

@@ -16,7 +16,7 @@ use Rattle.tabletree.specs.Calls.{BecomesRows, Stands}
 use Rattle.tabletree.specs.Freeing.{ClearsTree}
 use Rattle.sharing.specs.Layout.{ReplacesTrees, TreesStand}
 use Rattle.catalog.specs.Database.{ATable, Database, Name, with_object}
-use Rattle.catalog.specs.Laws.{KeepsOnlyTables, ListsOtherRows}
+use Rattle.catalog.specs.Laws.{KeepsOnlyPlain, ListsOtherRows}
 use Rattle.catalog.specs.Listed.{plain_table, table_named}
 use Rattle.catalog.specs.Named.{KeepsNamed}
 use Rattle.catalog.specs.Rows.{are_rows}
@@ -50,7 +50,7 @@ use Rattle.storage.proofs.Roots.{own_pages}
 -- what follows for every listed database, and for the trees of its file
 pub record Laws : Type 0 where
   pub lists : ListsOtherRows
-  pub tables : KeepsOnlyTables
+  pub tables : KeepsOnlyPlain
   pub named : KeepsNamed
   pub binds : BindsAlone
   pub deletes : DeleteTakesRows

@@ -23,7 +23,7 @@ use Rattle.tabletree.specs.Rows.{payload_at, without_row}
 use Rattle.tabletree.specs.SingleLeaf.{AreRising}
 use Rattle.sharing.specs.Layout.{AreShared, Owner, ReplacesTrees, TreesStand, used_by}
 use Rattle.catalog.specs.Database.{Database, Name, Object, ATable, AnIndex, AView, ATrigger, object}
-use Rattle.catalog.specs.Listed.{has_only_tables, plain_table, table_named, without_table}
+use Rattle.catalog.specs.Listed.{has_only_plain, plain_table, table_named, without_table}
 use Rattle.catalog.specs.Named.{IsOfTables, ListsOthers, without_object}
 use Rattle.catalog.specs.declared.tables.Table.{Table}
 use Rattle.bind.specs.Checked.{Checked, Meant, faults}
@@ -57,9 +57,9 @@ both_hold true b h = (refl, h)
 both_hold false b h = absurd (false≢true h)
 
 -- in a database of tables alone a DROP takes the objects of its name
-pub goes_alone : (n : Name) (db : Database) → has_only_tables db ≡ true → filter (λ x. not (goes_with n x)) db ≡ without_object n db
+pub goes_alone : (n : Name) (db : Database) → has_only_plain db ≡ true → filter (λ x. not (goes_with n x)) db ≡ without_object n db
 goes_alone n [] only = refl
-goes_alone n ((name, ATable t) ∷ es) only = by_test (is_same_name n name) (goes_alone n es (both_hold true (has_only_tables es) only).1)
+goes_alone n ((name, ATable t) ∷ es) only = by_test (is_same_name n name) (goes_alone n es (both_hold true (has_only_plain es) only).1)
   where
     by_test : (b : Bool) → filter (λ x. not (goes_with n x)) es ≡ without_object n es
         → cond (not b) ((name, ATable t) ∷ filter (λ x. not (goes_with n x)) es) (filter (λ x. not (goes_with n x)) es) ≡ cond (not b) ((name, ATable t) ∷ without_object n es) (without_object n es)

@@ -21,8 +21,8 @@ use Rattle.tabletree.specs.Calls.{Stands}
 use Rattle.sharing.specs.Layout.{ReplacesTrees, TreesStand}
 use Rattle.catalog.specs.Database as database
 use Rattle.catalog.specs.Database.{ATable, Database, Name, Object, with_object}
-use Rattle.catalog.specs.Laws.{KeepsOnlyTables, ListsOtherRows}
-use Rattle.catalog.specs.Listed.{Lists, has_only_tables, plain_table, table_named}
+use Rattle.catalog.specs.Laws.{KeepsOnlyPlain, ListsOtherRows}
+use Rattle.catalog.specs.Listed.{Lists, has_only_plain, plain_table, table_named}
 use Rattle.catalog.specs.Named.{IsNamed, KeepsNamed}
 use Rattle.catalog.specs.declared.tables.Column.{Column}
 use Rattle.catalog.specs.declared.tables.Table.{Table}
@@ -55,7 +55,7 @@ use Rattle.storage.proofs.Roots.{own_pages}
 -- what follows for every listed database, and for the trees of its file
 pub record Laws : Type 0 where
   pub lists : ListsOtherRows
-  pub tables : KeepsOnlyTables
+  pub tables : KeepsOnlyPlain
   pub named : KeepsNamed
   pub binds : BindsAlone
   pub refused : InsertIsRefused
@@ -80,7 +80,7 @@ listed_table rows_at tables db name t lists named =
     ap table_in (lists (folded name) ∙ ap (option_map (λ t. ATable (plain_table t (rows_at t.root)))) (named_folded tables name t named))
 
 -- binding it isn't refused
-pub not_refused : Laws → (db : Database) (i : Insert) (what : Resolved) → has_only_tables db ≡ true → resolve_change db no_outer (kind.Insert i) ≡ Meant what [] → (r : Refusal) → IsFault db (kind.Insert i) r → ⊥
+pub not_refused : Laws → (db : Database) (i : Insert) (what : Resolved) → has_only_plain db ≡ true → resolve_change db no_outer (kind.Insert i) ≡ Meant what [] → (r : Refusal) → IsFault db (kind.Insert i) r → ⊥
 not_refused laws db i what only stands r is = nothing (subst (λ (k : Checked Resolved). Contains (faults k) r) stands ((laws.binds db (kind.Insert i) r only).0 is))
   where
     nothing : Contains [] r → ⊥
@@ -216,7 +216,7 @@ pub record IsMadeOf (rows_at : ℕ → List TableRow) (tables : List Table) (db 
   pub made : Database
   pub is : change db (kind.Insert i) ≡ Ok made
   pub lists : Lists (rows_with rows_at t.root (rows_at t.root ++ added)) tables made
-  pub only : has_only_tables made ≡ true
+  pub only : has_only_plain made ≡ true
   pub in_order : IsNamed made
 
 abbrev rows_answer : List TableRow → Answer (List TableRow)

@@ -14,7 +14,7 @@ use Rattle.treepage.specs.Cells.{Pairwise}
 use Rattle.tabletree.specs.Calls.{BecomesRows, Stands}
 use Rattle.sharing.specs.Layout.{AreShared, OfRows, Owner, ReplacesTrees, TreesStand, used_by}
 use Rattle.catalog.specs.Database.{Database, Name}
-use Rattle.catalog.specs.Listed.{Lists, has_only_tables, plain_table, table_named}
+use Rattle.catalog.specs.Listed.{Lists, has_only_plain, plain_table, table_named}
 use Rattle.catalog.specs.Named.{IsNamed}
 use Rattle.catalog.specs.Rows.{are_rows}
 use Rattle.catalog.specs.declared.tables.Column.{Column}
@@ -98,7 +98,7 @@ tree_at root entries used = record { root = root; content = OfRows entries; used
 pub stores_rows : ReplacesTrees → (old new : PageMap) (size : ℕ) (tables : List Table) (db made : Database) (t : Table) (rows : List TableRow) (entries : List Entry)
     (held : Stores old size tables db) (o : HasOwner old size held.rows_at tables held.owners t) (now : BecomesRows old new size t.root entries o.split.at.used held.free)
     → Pairwise (IsRow (length t.columns)) entries rows → are_rows (plain_table t rows) ≡ true
-    → Lists (rows_with held.rows_at t.root rows) tables made → has_only_tables made ≡ true → IsNamed made → Stores new size tables made
+    → Lists (rows_with held.rows_at t.root rows) tables made → has_only_plain made ≡ true → IsNamed made → Stores new size tables made
 stores_rows law old new size tables db made t rows entries held o now each fit lists only named =
     let header = now.header held.header held.header_is in
     record {
@@ -154,7 +154,7 @@ stores_rows law old new size tables db made t rows entries held o now each fit l
 pub stores_put : ReplacesTrees → (old new : PageMap) (size : ℕ) (tables : List Table) (db made : Database) (t : Table) (columns : List Column) (places : List (Option ℕ)) (given : List (List Value))
     (held : Stores old size tables db) (o : HasOwner old size held.rows_at tables held.owners t) → columns ≡ t.columns
     → (put : ArePutIn old new size t.root columns places given (held.rows_at t.root) o.split.at.used held.free)
-    → Lists (rows_with held.rows_at t.root (held.rows_at t.root ++ put.added)) tables made → has_only_tables made ≡ true → IsNamed made → Stores new size tables made
+    → Lists (rows_with held.rows_at t.root (held.rows_at t.root ++ put.added)) tables made → has_only_plain made ≡ true → IsNamed made → Stores new size tables made
 stores_put law old new size tables db made t columns places given held o columns_are put lists only named =
     stores_rows law old new size tables db made t (held.rows_at t.root ++ put.added) put.entries held o put.becomes
     (subst (λ (cs : List Column). Pairwise (IsRow (length cs)) put.entries (held.rows_at t.root ++ put.added)) columns_are put.each)

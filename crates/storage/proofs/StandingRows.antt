@@ -8,7 +8,7 @@ use Rattle.sqlval.specs.Names.{folded}
 use Rattle.sqlval.specs.declared.value.Value.{Value}
 use Rattle.treepage.specs.Cells.{Pairwise}
 use Rattle.catalog.specs.Database.{ATable, Database, Name, Object, name_order, object}
-use Rattle.catalog.specs.Listed.{Lists, has_only_tables, plain_table, table_named}
+use Rattle.catalog.specs.Listed.{Lists, has_only_plain, plain_table, table_named}
 use Rattle.catalog.specs.declared.tables.Table.{Table}
 use Rattle.filecheck.specs.Schema.{IsSchemaEntry, IsSchemaRowOf, IsTableRow, SchemaRow}
 use Rattle.storage.specs.Language.{supported_language}
@@ -49,7 +49,7 @@ rows_named pages before (t ∷ tables) (row ∷ rows) tell =
 abbrev listed_as : (ℕ → List (ℤ × List Value)) → Option Table → Option Object
 listed_as rows_at found = option_map (λ t. ATable (plain_table t (rows_at t.root))) found
 
-module _ (rows_at : ℕ → List (ℤ × List Value)) (all : List Table) (db : Database) (lists : Lists rows_at all db) (only : has_only_tables db ≡ true) where
+module _ (rows_at : ℕ → List (ℤ × List Value)) (all : List Table) (db : Database) (lists : Lists rows_at all db) (only : has_only_plain db ≡ true) where
   -- the object of the row's name is the table
   pub table_found : (pages : ℕ) (before : List Table) (t : Table) (row : Entry) (tells : IsRowOf pages before t row) → table_named t.name all ≡ Some t → object db tells.name ≡ Some (ATable (plain_table t (rows_at t.root)))
   table_found pages before t row tells found = ap (λ (n : Name). find name_order n db) (name_told pages before t row tells) ∙ lists t.name ∙ ap (listed_as rows_at) found

@@ -17,7 +17,7 @@ use Rattle.syntax.specs.declared.create.ColumnRule.{ColumnRule}
 use Rattle.syntax.specs.declared.create.TableDefinition.{TableDefinition}
 use Rattle.catalog.specs.Database as database
 use Rattle.catalog.specs.Database.{ATable, AnIndex, AView, ATrigger, Database, Name, Object, name_order, object, with_object}
-use Rattle.catalog.specs.Listed.{has_doubled, has_only_tables, is_reserved, plain_column, plain_table}
+use Rattle.catalog.specs.Listed.{has_doubled, has_only_plain, is_reserved, plain_column, plain_table}
 use Rattle.catalog.specs.declared.tables.Table.{Table}
 use Rattle.bind.specs.Checked.{Checked, Meant, also, faults, good, known_all, known_map, ◌and_then◌, unless}
 use Rattle.bind.specs.Creating.{HasColumnsOf, has_no_rules}
@@ -132,7 +132,7 @@ not_refused db d t made free = ap faults (
     ∙ is_added (others db d.name) d.name (ATable t) (is_reserved d.name) (object (others db d.name) d.name) free (none_other db d.name))
 
 -- a database of tables alone has no indexes that a table made
-pub no_automatic : (db : Database) (table : Name) → has_only_tables db ≡ true → automatic_indexes db table ≡ []
+pub no_automatic : (db : Database) (table : Name) → has_only_plain db ≡ true → automatic_indexes db table ≡ []
 no_automatic [] table only = refl
 no_automatic ((name, ATable t) ∷ es) table only = no_automatic es table only
 no_automatic ((name, AnIndex i) ∷ es) table only = absurd (false≢true only)

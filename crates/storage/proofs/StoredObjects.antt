@@ -8,7 +8,7 @@ use Rattle.sqlval.specs.Names.{folded}
 use Rattle.pages.specs.Map.{PageMap}
 use Rattle.catalog.specs.Database as database
 use Rattle.catalog.specs.Database.{Name, Database, Object, ATable, AnIndex, Index, name_order, object}
-use Rattle.catalog.specs.Listed.{Lists, has_only_tables, plain_table, table_named}
+use Rattle.catalog.specs.Listed.{Lists, has_only_plain, plain_table, table_named}
 use Rattle.catalog.specs.Named.{IsNamed}
 use Rattle.catalog.specs.Rows.{holds_rows, is_in_order}
 use Rattle.catalog.specs.declared.tables.Table.{Table}
@@ -73,11 +73,11 @@ named pages size db items are = record {
 abbrev IsTableObject : Object → Type 0
 IsTableObject o = (t : database.Table) × (o ≡ ATable t)
 
-tables_alone : (es : Database) → AllByRecursion (λ e. IsTableObject e.1) es → has_only_tables es ≡ true
+tables_alone : (es : Database) → AllByRecursion (λ e. IsTableObject e.1) es → has_only_plain es ≡ true
 tables_alone [] h = refl
-tables_alone ((name, o) ∷ es) h = ap (λ (x : Object). has_only_tables ((name, x) ∷ es)) h.0.1 ∙ tables_alone es h.1
+tables_alone ((name, o) ∷ es) h = ap (λ (x : Object). has_only_plain ((name, x) ∷ es)) h.0.1 ∙ tables_alone es h.1
 
-pub only : (pages : PageMap) (size : ℕ) (db : Database) (items : List Listing) → AreTables pages size db items → has_only_tables db ≡ true
+pub only : (pages : PageMap) (size : ℕ) (db : Database) (items : List Listing) → AreTables pages size db items → has_only_plain db ≡ true
 only pages size db items are =
     tables_alone db (all_both (λ e. find name_order e.0 db ≡ Some e.1) (λ e. (o : Object) → find name_order e.0 db ≡ Some o → IsTableObject o) (λ e. IsTableObject e.1) (λ e found is. is e.1 found) db
     (each_found (λ q o. find name_order q db ≡ Some o) db (rising_different (names_in db) (named pages size db items are).rising) (λ q o found. found))

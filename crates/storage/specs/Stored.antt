@@ -7,7 +7,7 @@ use Rattle.pages.specs.Map.{PageMap, page_at}
 use Rattle.treepage.specs.Cells.{Pairwise}
 use Rattle.sharing.specs.Layout.{AreShared, OfRows, Owner}
 use Rattle.catalog.specs.Database.{Database}
-use Rattle.catalog.specs.Listed.{Lists, has_only_tables, plain_table}
+use Rattle.catalog.specs.Listed.{Lists, has_only_plain, plain_table}
 use Rattle.catalog.specs.Named.{IsNamed}
 use Rattle.catalog.specs.Rows.{are_rows}
 use Rattle.catalog.specs.declared.tables.Table.{Table}
@@ -32,7 +32,7 @@ pub record IsTreeOf (rows_at : ℕ → List TableRow) (table : Table) (owner : O
 pub record Stores (map : PageMap) (size : ℕ) (tables : List Table) (db : Database) : Type 0 where
   pub rows_at : ℕ → List TableRow
   pub lists : Lists rows_at tables db
-  pub only : has_only_tables db ≡ true
+  pub only : has_only_plain db ≡ true
   pub named : IsNamed db
   pub once : AreOnce tables
   pub header : Header

@@ -11,7 +11,7 @@ use Rattle.syntax.specs.declared.change.Insert.{Insert}
 use Rattle.syntax.specs.declared.change.Change.TheVariants as statement
 use Rattle.catalog.specs.Database as database
 use Rattle.catalog.specs.Database.{Name, Database, Object, ATable, AnIndex, AView, ATrigger, object, triggers_of, with_object}
-use Rattle.catalog.specs.Listed.{has_only_tables, plain_table}
+use Rattle.catalog.specs.Listed.{has_only_plain, plain_table}
 use Rattle.catalog.specs.declared.tables.Table.{Table}
 use Rattle.bind.specs.Checked.{Checked, Meant, faults, known_then}
 use Rattle.bind.specs.Readings.{env_of, holds, values}
@@ -30,7 +30,7 @@ use Rattle.trigger.specs.Effects.{change_with, given_rows, programs, run_resolve
 use Rattle.trigger.specs.Laws.{BindsAlone, DeleteTakesChosen, DeleteTakesRows, InsertAddsRows, InsertIsRefused, InsertOfNoneStays, SetsNothingOff}
 use Rattle.trigger.specs.Triggers.{Runner, fired}
 
-no_triggers : (db : Database) (name : Name) → has_only_tables db ≡ true → triggers_of db name ≡ []
+no_triggers : (db : Database) (name : Name) → has_only_plain db ≡ true → triggers_of db name ≡ []
 no_triggers [] name h = refl
 no_triggers ((n, ATable t) ∷ db) name h = no_triggers db name h
 no_triggers ((n, AnIndex i) ∷ db) name h = absurd (false≢true h)
@@ -42,7 +42,7 @@ sets_nothing_off run running time firing db only = rw (no_triggers db firing.tar
 
 -- ---- binding
 
-none_for : (db : Database) (aim : Aim) → has_only_tables db ≡ true → triggers_for db aim ≡ []
+none_for : (db : Database) (aim : Aim) → has_only_plain db ≡ true → triggers_for db aim ≡ []
 none_for db aim only = rw (no_triggers db aim.target only) refl
 
 pub binds_alone : BindsAlone

@@ -9,7 +9,7 @@ use Rattle.syntax.specs.declared.change.Update.{Update}
 use Rattle.syntax.specs.declared.change.Change.{Change}
 use Rattle.syntax.specs.declared.change.Change.TheVariants as statement
 use Rattle.catalog.specs.Database.{Name, Database, ATable, with_object}
-use Rattle.catalog.specs.Listed.{has_only_tables, plain_table}
+use Rattle.catalog.specs.Listed.{has_only_plain, plain_table}
 use Rattle.catalog.specs.Named.{IsNamed}
 use Rattle.catalog.specs.declared.tables.Table.{Table}
 use Rattle.bind.specs.Checked.{Meant, faults}
@@ -32,7 +32,7 @@ SetsNothingOff = (run : Runner) (running : List Name) → IsStill (fired run run
 
 -- there, the refusals of binding a change are its own
 abbrev pub BindsAlone : Type 0
-BindsAlone = (db : Database) (c : Change) (r : Refusal) → has_only_tables db ≡ true → IsFault db c r ↔ Contains (faults (resolve_change db no_outer c)) r
+BindsAlone = (db : Database) (c : Change) (r : Refusal) → has_only_plain db ≡ true → IsFault db c r ↔ Contains (faults (resolve_change db no_outer c)) r
 
 -- There, an INSERT whose rows are refused is refused as they are.
 abbrev pub InsertIsRefused : Type 0
@@ -49,7 +49,7 @@ InsertOfNoneStays = (db : Database) (i : Insert) (table : Table) (rows : List Ta
 -- And where these rows are given, the table has after its own rows those that they become, or the statement is refused as they are.
 abbrev pub InsertAddsRows : Type 0
 InsertAddsRows = (db : Database) (i : Insert) (table : Table) (rows : List TableRow) (places : List ℕ) (source : Given) (by_column : List (Option ℕ)) (given : List (List Value))
-    → has_only_tables db ≡ true → table_of db (folded i.table) ≡ Ok (plain_table table rows) → are_rows (plain_table table rows) ≡ true
+    → has_only_plain db ≡ true → table_of db (folded i.table) ≡ Ok (plain_table table rows) → are_rows (plain_table table rows) ≡ true
     → resolve_change db no_outer (statement.Insert i) ≡ Meant (Inserts (folded i.table) places source) [] → given_rows db no_outer source ≡ Ok given
     → All (IsSetFor table by_column places) given → 1 ≤ length given
     → change db (statement.Insert i)
@@ -58,20 +58,20 @@ InsertAddsRows = (db : Database) (i : Insert) (table : Table) (rows : List Table
 -- A DELETE whose table is known and that has no condition leaves the table without rows.
 abbrev pub DeleteTakesRows : Type 0
 DeleteTakesRows = (db : Database) (d : Delete) (table : Table) (rows : List TableRow)
-    → has_only_tables db ≡ true → IsNamed db → table_of db (folded d.table) ≡ Ok (plain_table table rows) → are_rows (plain_table table rows) ≡ true
+    → has_only_plain db ≡ true → IsNamed db → table_of db (folded d.table) ≡ Ok (plain_table table rows) → are_rows (plain_table table rows) ≡ true
     → resolve_change db no_outer (statement.Delete d) ≡ Meant (Deletes (folded d.table) None) []
     → change db (statement.Delete d) ≡ Ok (with_object db (folded d.table) (ATable (plain_table table [])))
 
 -- A DELETE whose table and condition are known leaves the rows for which the condition isn't true, or is refused as that is.
 abbrev pub DeleteTakesChosen : Type 0
 DeleteTakesChosen = (db : Database) (d : Delete) (table : Table) (rows : List TableRow) (condition : Term)
-    → has_only_tables db ≡ true → IsNamed db → table_of db (folded d.table) ≡ Ok (plain_table table rows) → are_rows (plain_table table rows) ≡ true
+    → has_only_plain db ≡ true → IsNamed db → table_of db (folded d.table) ≡ Ok (plain_table table rows) → are_rows (plain_table table rows) ≡ true
     → resolve_change db no_outer (statement.Delete d) ≡ Meant (Deletes (folded d.table) (Some condition)) []
     → change db (statement.Delete d) ≡ (rows_left condition rows then λ left. Ok (with_object db (folded d.table) (ATable (plain_table table left))))
 
 -- An UPDATE whose table, columns, expressions and condition are known leaves what SET makes of the rows, or is refused as that is.
 abbrev pub UpdateSetsRows : Type 0
 UpdateSetsRows = (db : Database) (u : Update) (table : Table) (rows : List TableRow) (sets : List (ℕ × Term)) (set : List Name) (condition : Option Term)
-    → has_only_tables db ≡ true → IsNamed db → table_of db (folded u.table) ≡ Ok (plain_table table rows) → are_rows (plain_table table rows) ≡ true
+    → has_only_plain db ≡ true → IsNamed db → table_of db (folded u.table) ≡ Ok (plain_table table rows) → are_rows (plain_table table rows) ≡ true
     → resolve_change db no_outer (statement.Update u) ≡ Meant (Updates (folded u.table) sets set condition) []
     → change db (statement.Update u) ≡ (rows_set table.columns sets condition rows then λ now. Ok (with_object db (folded u.table) (ATable (plain_table table now))))
