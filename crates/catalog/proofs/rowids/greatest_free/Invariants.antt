@@ -1,0 +1,6 @@
+use Rattle.catalog.proofs.FreeRowids.{AreTaken}
+use Rattle.catalog.proofs.rowids.greatest_free.Given as goal
+
+-- those that were tried are taken
+abbrev pub invariant-taken : goal.invariant-taken
+invariant-taken l = AreTaken l.rowids l.rowid l.counter

@@ -1,0 +1,98 @@
+//! Rowids of the schema table that are free.
+
+ghost use Rattle.std.specs.Prelude.{◌≡◌, ◌<◌, ◌++◌, ℤ, length, slice_index_or, false, IfOk, IfErr, OnOk};
+ghost use Rattle.catalog.specs.Listed as listed;
+ghost use Rattle.catalog.specs.FreeRowids as free;
+
+use crate::tables::{Index, Table};
+use sqlval::{Fault, R};
+use std::alloc::Global;
+use std::rc::Rc;
+
+/// The rowid of an index's row.
+fn rowid_of(index: &Index) -> i64
+    ensures { result ≡ index.now.rowid }
+{
+    index.rowid
+}
+
+/// The rowid of a table's row.
+fn rowid_of_table(table: &Table) -> i64
+    ensures { result ≡ table.now.rowid }
+{
+    table.rowid
+}
+
+/// Adds the rowids of a table's row and of those of its indexes. (`Memory` alone.)
+fn push_rowids(rowids: &mut Vec<i64>, table: &Table) -> R<()>
+    ensures pushed { OnOk result (rowids.new.items ≡ rowids.old.items ++ listed.rowids_in table.now) }
+    ensures refused { IfErr result (λ fault. fault ≡ Fault.Memory) }
+{
+    rowids.push(rowid_of_table(table))?;
+    'indexes: for index in table.indexes.as_slice() {
+        rowids.push(rowid_of(index))?;
+    }
+    Ok(())
+}
+
+/// The rowids of the rows of tables and of their indexes. (`Memory` alone.)
+pub(crate) fn rowids_of(alloc: Global, tables: &[Rc<Table>]) -> R<Vec<i64>>
+    ensures are { IfOk result (λ rowids. rowids.items ≡ listed.rowids_of (listed.shared tables.now)) }
+    ensures refused { IfErr result (λ fault. fault ≡ Fault.Memory) }
+{
+    let mut rowids = Vec::new(alloc);
+    'tables: for table in tables {
+        push_rowids(&mut rowids, table)?;
+    }
+    Ok(rowids)
+}
+
+/// The rowid at a place.
+fn at(rowids: &[i64], place: usize) -> i64
+    requires { place < length rowids.now }
+    ensures { (d : ℤ) → result ≡ slice_index_or rowids.now place d }
+{
+    rowids[place]
+}
+
+/// The greatest of these, or 0 if none is greater.
+fn greatest(rowids: &[i64]) -> i64
+    ensures { free.AreUpTo result rowids.now }
+{
+    let mut greatest = 0;
+    'rowids: for place in 0..rowids.len() {
+        greatest = greatest.max(at(rowids, place));
+    }
+    greatest
+}
+
+/// Whether a rowid is one of these.
+fn is_among(rowids: &[i64], rowid: i64) -> bool
+    ensures { result ≡ free.is_among rowid rowids.now }
+{
+    rowids.iter().any(|other| *other == rowid)
+}
+
+/// The greatest rowid that is none of these.
+fn greatest_free(rowids: &[i64]) -> i64
+    ensures { free.is_among result rowids.now ≡ false }
+{
+    let mut rowid = i64::MAX;
+    'taken: for _ in 0..rowids.len() {
+        if !is_among(rowids, rowid) {
+            return rowid;
+        }
+        rowid -= 1;
+    }
+    rowid
+}
+
+/// A rowid that is none of these: the one after the greatest, or else the greatest that is free.
+pub(crate) fn free_among(rowids: &[i64]) -> i64
+    ensures { free.is_among result rowids.now ≡ false }
+{
+    match greatest(rowids).checked_add(1) {
+        Some(rowid) => rowid,
+        None => greatest_free(rowids),
+    }
+}
