@@ -1,12 +1,13 @@
 -- What the names of tables and of indexes find.
 use Rattle.std.proofs.Common.{◌≡◌, ◌⊎◌, inl, inr, refl, sym, ap, subst, ◌∙◌, ℕ, ℤ, Bool, true, false, List, [], ◌∷◌, ◌++◌, map, Option, Some, None, cond}
-use Rattle.std.specs.Prelude.{flat_map, option_map, MatchOption}
+use Rattle.std.specs.Prelude.{flat_map, is_some, option_map, MatchOption, ◌||◌}
 use Rattle.std.specs.List as list
+use Rattle.std.specs.List.{list_any}
 use Rattle.sqlval.specs.Names.{is_same_name}
 use Rattle.sqlval.specs.declared.value.Value.{Value}
 use Rattle.catalog.specs.Database.{Name, Object, ATable, AnIndex, object}
-use Rattle.catalog.specs.Laws.{FindsListed, IsNoTable}
-use Rattle.catalog.specs.Listed.{index_objects, is_table, named_among, objects_of, plain_index, plain_table, table_named, table_object}
+use Rattle.catalog.specs.Laws.{FindsListed, IsNoTable, NamesListed}
+use Rattle.catalog.specs.Listed.{has_index, has_table_name, index_objects, is_table, named_among, objects_of, plain_index, plain_table, table_named, table_object}
 use Rattle.catalog.specs.declared.tables.Index.{Index as ListedIndex}
 use Rattle.catalog.specs.declared.tables.Table.{Table}
 
@@ -65,3 +66,56 @@ finds_listed rows_at tables db name lists = by_case (table_named name tables) (l
         → MatchOption found (IsNoTable (object db name)) (λ t. object db name ≡ Some (ATable (plain_table t (rows_at t.root))))
     by_case None e = subst IsNoTable (sym e) (no_table name tables)
     by_case (Some t) e = e
+
+-- ---- names
+
+table_any : (name : Name) (tables : List Table) → is_some (table_named name tables) ≡ list_any (is_table name) tables
+table_any name [] = refl
+table_any name (t ∷ ts) = by_test (table_any name ts) (is_table name t)
+  where
+    by_test : is_some (table_named name ts) ≡ list_any (is_table name) ts → (b : Bool) → is_some (cond b (Some t) (table_named name ts)) ≡ (b || list_any (is_table name) ts)
+    by_test rest true = refl
+    by_test rest false = rest
+
+index_any : (name : Name) (t : Table) (is : List ListedIndex) (os : List (Name × Object)) → is_some (named_among name (map (λ (i : ListedIndex). (i.name, AnIndex (plain_index t i))) is ++ os))
+    ≡ (list_any (λ (i : ListedIndex). is_same_name i.name name) is || is_some (named_among name os))
+index_any name t [] os = refl
+index_any name t (i ∷ is) os =
+    ap is_some (one_more name (i.name, AnIndex (plain_index t i)) (map (λ (i : ListedIndex). (i.name, AnIndex (plain_index t i))) is ++ os) (is_same_name i.name name) refl)
+    ∙ by_test (index_any name t is os) (is_same_name i.name name)
+  where
+    by_test : is_some (named_among name (map (λ (i : ListedIndex). (i.name, AnIndex (plain_index t i))) is ++ os)) ≡ (list_any (λ (i : ListedIndex). is_same_name i.name name) is || is_some (named_among name os))
+        → (b : Bool) → is_some (cond b (Some (AnIndex (plain_index t i))) (named_among name (map (λ (i : ListedIndex). (i.name, AnIndex (plain_index t i))) is ++ os)))
+        ≡ ((b || list_any (λ (i : ListedIndex). is_same_name i.name name) is) || is_some (named_among name os))
+    by_test rest true = refl
+    by_test rest false = rest
+
+indexes_any : (name : Name) (tables : List Table) → is_some (index_found name tables) ≡ list_any (has_index name) tables
+indexes_any name [] = refl
+indexes_any name (t ∷ ts) = index_any name t t.indexes (flat_map index_objects ts) ∙ ap (λ b. has_index name t || b) (indexes_any name ts)
+
+either : (a b c d : Bool) → ((a || b) || (c || d)) ≡ ((a || c) || (b || d))
+either true b c d = refl
+either false b true d = with_true b
+  where
+    with_true : (b : Bool) → (b || true) ≡ true
+    with_true true = refl
+    with_true false = refl
+either false b false d = refl
+
+any_either : (name : Name) (tables : List Table) → list_any (has_table_name name) tables ≡ (list_any (is_table name) tables || list_any (has_index name) tables)
+any_either name [] = refl
+any_either name (t ∷ ts) =
+    ap (λ b. (is_table name t || has_index name t) || b) (any_either name ts)
+    ∙ either (is_table name t) (has_index name t) (list_any (is_table name) ts) (list_any (has_index name) ts)
+
+found_or_behind : (rows_at : ℕ → List (ℤ × List Value)) (behind : Option Object) (found : Option Table) → is_some (as_object rows_at behind found) ≡ (is_some found || is_some behind)
+found_or_behind rows_at behind None = refl
+found_or_behind rows_at behind (Some t) = refl
+
+pub names_listed : NamesListed
+names_listed rows_at tables db name lists =
+    ap is_some (lists name ∙ listed_as rows_at name tables)
+    ∙ (found_or_behind rows_at (index_found name tables) (table_named name tables)
+    ∙ (ap (λ b. b || is_some (index_found name tables)) (table_any name tables)
+    ∙ (ap (λ b. list_any (is_table name) tables || b) (indexes_any name tables) ∙ sym (any_either name tables))))
