@@ -16,6 +16,7 @@ ghost use Rattle.bind.specs.Comprehension.{IsComprehension};
 ghost use Rattle.bind.specs.Creating.{KeepsNamesOnce, MakesListedTable, RefusesTableAsDefined};
 ghost use Rattle.bind.specs.Laws.{CalmIsNotRefused, KnowsListed};
 
+use catalog::listed_tables_are_found;
 pub use expressions::bind_term;
 pub use inserting::{BoundInsert, Target, bind_target};
 pub use names::{find_table, missing};
@@ -37,7 +38,9 @@ pub fn plain_query_is_a_comprehension()
 /// The tables that a catalog lists of a database are those that its names are looked up among.
 pub fn listed_tables_are_known()
     ensures { KnowsListed }
-{}
+{
+    listed_tables_are_found();
+}
 
 /// A CREATE TABLE of a definition without rules, beside listed tables, makes the table of the definition's columns, or is
 /// refused for each cause that there is.
@@ -45,4 +48,6 @@ pub fn tables_are_created_as_defined()
     ensures makes { MakesListedTable }
     ensures refuses { RefusesTableAsDefined }
     ensures once { KeepsNamesOnce }
-{}
+{
+    listed_tables_are_found();
+}
