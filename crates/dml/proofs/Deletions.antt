@@ -24,7 +24,7 @@ use Rattle.std.specs.Prelude.{filter}
 use Rattle.dml.specs.Agreement.{DeletesRows, DeletesSome, IsStill}
 use Rattle.dml.specs.Constraints.{table_of}
 use Rattle.dml.specs.RowChanges.{Fire, delete_row}
-use Rattle.dml.proofs.Folding.{put_again, put_there}
+use Rattle.dml.proofs.Folding.{KeepsTables, put_again, put_there, tables_kept}
 use Rattle.dml.proofs.Rising.{Climbs, Rises, fit_rows_rise, further}
 
 -- ---- one row
@@ -121,7 +121,7 @@ put_itself one keeps db name t named is = one (with_object db name (ATable t)) d
     same : (other : Name) → object (with_object db name (ATable t)) other ≡ object db other
     same other = find-put name_order nat_list_cmp_total (folded other) (folded name) (ATable t) db ∙ by_test other (eq_by_cmp name_order (folded other) (folded name)) refl
 
-module _ (fire : Fire) (name : Name) (table : Table) (still : IsStill fire) (keeps : KeepsOnlyPlain) where
+module _ (fire : Fire) (name : Name) (table : Table) (still : IsStill fire) (keeps : KeepsTables) where
   -- the table with these rows
   abbrev with_rows : Database → List TableRow → Database
   with_rows db rows = with_object db name (ATable (plain_table table rows))
@@ -188,8 +188,8 @@ module _ (fire : Fire) (name : Name) (table : Table) (still : IsStill fire) (kee
 
 pub deletes_some : KeepsOnlyPlain → OneDatabase → KeepsNamed → DeletesSome
 deletes_some keeps one named fire name db table rows gone still only in_order is fit =
-    folds_some fire name table still keeps gone rows [] db only is (fit_rows_rise (plain_table table rows) fit) (put_itself one named db name (plain_table table rows) in_order is)
+    folds_some fire name table still (tables_kept keeps) gone rows [] db only is (fit_rows_rise (plain_table table rows) fit) (put_itself one named db name (plain_table table rows) in_order is)
 
 pub deletes_rows : KeepsOnlyPlain → OneDatabase → KeepsNamed → DeletesRows
 deletes_rows keeps one named fire name db table rows still only in_order is fit =
-    folds fire name table still keeps rows db only is (fit_rows_rise (plain_table table rows) fit) (put_itself one named db name (plain_table table rows) in_order is)
+    folds fire name table still (tables_kept keeps) rows db only is (fit_rows_rise (plain_table table rows) fit) (put_itself one named db name (plain_table table rows) in_order is)

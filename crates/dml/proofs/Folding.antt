@@ -1,5 +1,5 @@
 -- An INSERT of rows into a listed table, row by row.
-use Rattle.std.proofs.Common.{◌≡◌, refl, sym, ap, ◌∙◌, ℕ, suc, ◌<◌, ◌≤◌, ℤ, Bool, true, ◌&&◌, not, cond, List, [], ◌∷◌, ◌++◌, Option, Some, None, Ok, Err, map, length, slice_index_or, append_assoc, arith}
+use Rattle.std.proofs.Common.{◌≡◌, refl, sym, ap, ◌∙◌, ℕ, suc, ◌<◌, ◌≤◌, ℤ, Bool, true, false, ◌&&◌, ◌||◌, if◌then◌else◌, not, cond, List, [], ◌∷◌, ◌++◌, Option, Some, None, Ok, Err, map, length, slice_index_or, append_assoc, arith}
 use Rattle.std.specs.Prelude.{zip, All}
 use Rattle.std.specs.Cmp.{tied_itself}
 use Rattle.std.specs.FinMap.Entries.{put, find-put, by_order}
@@ -8,21 +8,22 @@ use Rattle.std.specs.declared.cmp.Ordering.{Ordering}
 use Rattle.std.specs.declared.cmp.Ordering.TheVariants.{Less, Equal, Greater}
 use Rattle.std.proofs.lemmas.Cmp.{nat_list_cmp_total}
 use Rattle.std.proofs.lemmas.Bool.{false≢true}
-use Rattle.sqlval.specs.Names.{folded}
+use Rattle.std.specs.List.{cons_option, list_any}
+use Rattle.sqlval.specs.Names.{folded, is_same_name}
 use Rattle.std.proofs.lemmas.List.{append-nil}
 use Rattle.sqlval.specs.Refusals.{Answer, ◌then◌, NoSuch, fold_answer}
 use Rattle.sqlval.specs.declared.value.Value.{Value}
 use Rattle.sqlval.specs.declared.value.Value.TheVariants.{Null}
 use Rattle.catalog.specs.Database as database
-use Rattle.bind.specs.Keys.{is_null}
-use Rattle.catalog.specs.Database.{Name, Database, Object, TableColumn, ATable, AnIndex, AView, ATrigger, object, with_object, name_order, indexes_of}
+use Rattle.bind.specs.Keys.{clash, is_null}
+use Rattle.catalog.specs.Database.{Name, Database, Object, Index, TableColumn, ATable, AnIndex, AView, ATrigger, object, with_object, name_order, indexes_of}
 use Rattle.catalog.specs.Laws.{KeepsOnlyPlain}
 use Rattle.catalog.specs.Listed.{plain_table, plain_column, has_only_plain}
 use Rattle.catalog.specs.declared.tables.Column.{Column}
 use Rattle.catalog.specs.declared.tables.Table.{Table}
 use Rattle.rowprog.specs.Rows.{TableRow}
 use Rattle.dml.specs.Agreement.{IsStill, IsSetFor, InsertsRows}
-use Rattle.dml.specs.Constraints.{table_of, with_affinity, default_values, set_values, stored, next_rowid}
+use Rattle.dml.specs.Constraints.{is_unique_in, table_of, with_affinity, default_values, set_values, stored, next_rowid}
 use Rattle.dml.specs.Inserting.{given_at, values_given, row_stored, rowid_after, row_added, rows_added, last_rowid}
 use Rattle.dml.specs.RowChanges.{Fire, insert_row}
 use Rattle.dml.proofs.Rising.{Rises, AreBelow, fit_rows_rise, greatest_is_last, next_for, next_is, rows_below, rises_on, last_of_more, not_found, put_behind}
@@ -55,12 +56,43 @@ all_filled [] values = refl
 all_filled (c ∷ columns) [] = refl
 all_filled (c ∷ columns) (v ∷ values) = all_filled columns values
 
-pub no_indexes : (db : Database) (name : Name) → has_only_plain db ≡ true → indexes_of db name ≡ []
-no_indexes [] name h = refl
-no_indexes ((n, ATable t) ∷ db) name h = no_indexes db name h
-no_indexes ((n, AnIndex i) ∷ db) name h = absurd (false≢true h)
-no_indexes ((n, AView v) ∷ db) name h = absurd (false≢true h)
-no_indexes ((n, ATrigger t) ∷ db) name h = absurd (false≢true h)
+-- an index that isn't UNIQUE keeps no rows apart
+first_false : (a b c : Bool) → a ≡ false → (a && b && c) ≡ false
+first_false a b c e = ap (λ a. a && b && c) e
+
+both_false : (a b : Bool) → a ≡ false → b ≡ false → (a || b) ≡ false
+both_false a b e f = ap (λ a. a || b) e ∙ f
+
+never_clashes : (i : Index) (vs : List Value) (rows : List TableRow) → i.is_unique ≡ false → list_any (λ r. clash i vs r.1) rows ≡ false
+never_clashes i vs [] plain = refl
+never_clashes i vs (r ∷ rows) plain = both_false (clash i vs r.1) (list_any (λ r. clash i vs r.1) rows) (first_false i.is_unique _ _ plain) (never_clashes i vs rows plain)
+
+pub none_unique : (db : Database) (name : Name) (vs : List Value) (t : database.Table) → has_only_plain db ≡ true → is_unique_in (indexes_of db name) vs t ≡ true
+none_unique [] name vs t h = refl
+none_unique ((n, ATable u) ∷ db) name vs t h = none_unique db name vs t h
+none_unique ((n, AnIndex i) ∷ db) name vs t h = by_test (is_same_name i.table name) (plain (i.is_unique) (has_only_plain db) h) (none_unique db name vs t (rest (i.is_unique) (has_only_plain db) h))
+  where
+    plain : (b c : Bool) → (not b && c) ≡ true → b ≡ false
+    plain true c h = absurd (false≢true h)
+    plain false c h = refl
+
+    rest : (b c : Bool) → (not b && c) ≡ true → c ≡ true
+    rest true c h = absurd (false≢true h)
+    rest false c h = h
+
+    by_test : (b : Bool) → i.is_unique ≡ false → is_unique_in (indexes_of db name) vs t ≡ true
+        → is_unique_in (cons_option (if b then Some (n, i) else None) (indexes_of db name)) vs t ≡ true
+    by_test true e more = ap (λ b. not (b || list_any (λ j. list_any (λ r. clash j.1 vs r.1) t.rows) (indexes_of db name))) (never_clashes i vs t.rows e) ∙ more
+    by_test false e more = more
+none_unique ((n, AView v) ∷ db) name vs t h = absurd (false≢true h)
+none_unique ((n, ATrigger d) ∷ db) name vs t h = absurd (false≢true h)
+
+-- a table in place of another keeps a database plain
+abbrev pub KeepsTables : Type 0
+KeepsTables = (db : Database) (name : Name) (table : database.Table) → has_only_plain db ≡ true → has_only_plain (with_object db name (ATable table)) ≡ true
+
+pub tables_kept : KeepsOnlyPlain → KeepsTables
+tables_kept keeps db name table only = keeps db name (ATable table) only refl
 
 next_of : (table : Table) (rows : List TableRow) → Rises rows → next_rowid (plain_table table rows) ≡ rowid_after (last_rowid rows)
 next_of table rows rises = ap next_for (greatest_is_last rows rises) ∙ next_is (last_rowid rows)
@@ -69,7 +101,7 @@ next_of table rows rises = ap next_for (greatest_is_last rows rises) ∙ next_is
 stored_behind : (db : Database) (name : Name) (table : Table) (rows : List TableRow) (rowid : ℤ) (values : List Value) → has_only_plain db ≡ true → AreBelow rowid rows
     → stored db name (plain_table table rows) rowid values ≡ Ok (with_object db name (ATable (plain_table table (rows ++ (rowid, values) ∷ []))))
 stored_behind db name table rows rowid values only below =
-    simp (all_filled, not_found rowid rows below, no_indexes db name only, put_behind rowid values rows below)
+    simp (all_filled, not_found rowid rows below, none_unique db name values (plain_table table rows) only, put_behind rowid values rows below)
 
 -- ---- the database
 
@@ -91,7 +123,7 @@ put_again k x y (e ∷ es) = by_place (put_again k x y es) (name_order k e.0) re
 
 -- ---- one row
 
-module _ (fire : Fire) (name : Name) (places : List ℕ) (table : Table) (by_column : List (Option ℕ)) (still : IsStill fire) (keeps : KeepsOnlyPlain) where
+module _ (fire : Fire) (name : Name) (places : List ℕ) (table : Table) (by_column : List (Option ℕ)) (still : IsStill fire) (keeps : KeepsTables) where
   -- the table with these rows
   abbrev with_rows : Database → List TableRow → Database
   with_rows db rows = with_object db name (ATable (plain_table table rows))
@@ -172,4 +204,4 @@ module _ (fire : Fire) (name : Name) (places : List ℕ) (table : Table) (by_col
 
 pub inserts_rows : KeepsOnlyPlain → InsertsRows
 inserts_rows keeps fire name places db table by_column rows given still only is fit set some =
-    some_rows fire name places table by_column still keeps given db rows only is (fit_rows_rise (plain_table table rows) fit) set some
+    some_rows fire name places table by_column still (tables_kept keeps) given db rows only is (fit_rows_rise (plain_table table rows) fit) set some

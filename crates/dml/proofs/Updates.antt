@@ -24,7 +24,7 @@ use Rattle.bind.specs.Readings.{env_of, values}
 use Rattle.rowprog.specs.Sources.{as_source}
 use Rattle.dml.specs.Setting.{rows_meant_set, values_set}
 use Rattle.dml.proofs.Deletions.{climbs_over, found_behind, gone_behind, put_itself, rest_rises, same_values}
-use Rattle.dml.proofs.Folding.{all_filled, no_indexes, put_again, put_there}
+use Rattle.dml.proofs.Folding.{KeepsTables, all_filled, none_unique, put_again, put_there, tables_kept}
 use Rattle.dml.proofs.Rising.{Climbs, Rises, fit_rows_rise, further}
 
 -- ---- a row between others
@@ -71,7 +71,7 @@ rise_with (k ∷ kept) r rows values rises = climb_with k.0 kept r rows values r
 
 -- ---- some rows
 
-module _ (fire : Fire) (name : Name) (table : Table) (sets : List (ℕ × Term)) (set : List Name) (still : IsStill fire) (keeps : KeepsOnlyPlain) where
+module _ (fire : Fire) (name : Name) (table : Table) (sets : List (ℕ × Term)) (set : List Name) (still : IsStill fire) (keeps : KeepsTables) where
   -- the table with these rows
   abbrev with_rows : Database → List TableRow → Database
   with_rows db rows = with_object db name (ATable (plain_table table rows))
@@ -83,7 +83,7 @@ module _ (fire : Fire) (name : Name) (table : Table) (sets : List (ℕ × Term))
   stored_back : (db : Database) (kept : List TableRow) (r : TableRow) (rows : List TableRow) (values : List Value) → has_only_plain db ≡ true → Rises (kept ++ (r ∷ rows))
       → stored db name (plain_table table (kept ++ rows)) r.0 values ≡ Ok (with_rows db (kept ++ ((r.0, values) ∷ rows)))
   stored_back db kept r rows values only rises =
-      simp (all_filled, not_left kept r rows rises, no_indexes db name only, put_back kept r rows values rises)
+      simp (all_filled, not_left kept r rows rises, none_unique db name values (plain_table table (kept ++ rows)) only, put_back kept r rows values rises)
 
   row_updates : (db : Database) (kept : List TableRow) (r : TableRow) (rows : List TableRow) → has_only_plain db ≡ true → table_of db name ≡ Ok (plain_table table (kept ++ (r ∷ rows))) → Rises (kept ++ (r ∷ rows))
       → update_row fire no_outer name sets set db r.0 ≡ (values_set table.columns sets (as_source r) then λ values. Ok (with_rows db (kept ++ ((r.0, values) ∷ rows))))
@@ -169,4 +169,4 @@ module _ (fire : Fire) (name : Name) (table : Table) (sets : List (ℕ × Term))
 
 pub updates_some : KeepsOnlyPlain → OneDatabase → KeepsNamed → UpdatesSome
 updates_some keeps one named fire name db table rows sets set is_meant still only in_order is fit =
-    folds_some fire name table sets set still keeps is_meant rows [] db only is (fit_rows_rise (plain_table table rows) fit) (put_itself one named db name (plain_table table rows) in_order is)
+    folds_some fire name table sets set still (tables_kept keeps) is_meant rows [] db only is (fit_rows_rise (plain_table table rows) fit) (put_itself one named db name (plain_table table rows) in_order is)

@@ -72,7 +72,7 @@ abbrev checks_hold : Name → Table → Row → List Tree → Answer (Unit {0})
 checks_hold n t r es = fold_answer (λ _ e. check_holds n t r e then λ b. if b then Ok tt else Err Check) tt es
 
 -- no row of the table has its key in a UNIQUE index
-abbrev is_unique_in : List (Name × Index) → List Value → Table → Bool
+abbrev pub is_unique_in : List (Name × Index) → List Value → Table → Bool
 is_unique_in is vs t = not (list_any (λ i. list_any (λ r. clash i.1 vs r.1) t.rows) is)
 
 -- a refusal where the test fails

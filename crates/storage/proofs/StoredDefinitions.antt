@@ -36,7 +36,7 @@ column_for c = record { name = c.name; affinity = unwrap_or (declared_affinity (
 
 -- the table of a definition, whose tree begins at this page, and whose row has this rowid
 abbrev pub table_of : TableDefinition → ℕ → ℤ → Table
-table_of d root rowid = record { name = d.name; columns = map column_for d.columns; root = root; rowid = rowid }
+table_of d root rowid = record { name = d.name; columns = map column_for d.columns; indexes = []; root = root; rowid = rowid }
 
 known_is : {A : Type 0} (x : Option A) (other : A) → is_none x ≡ false → Some (unwrap_or x other) ≡ x
 known_is (Some x) other known = refl

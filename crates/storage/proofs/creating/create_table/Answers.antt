@@ -14,7 +14,7 @@ pub returns-in_err-table-clause-made : goal.returns-in_err-table-clause-made
 returns-in_err-table-clause-made g c told plain text db held =
     let laws : Laws = record {
       lists = c.new_tables_are_listed.ensures;
-      tables = c.other_rows_are_listed.ensures.tables;
+      tables = c.other_rows_are_listed.ensures.plain;
       named = c.named_databases_are_one.ensures.named;
       stand = c.table_trees_stand.ensures;
       give_way = c.trees_give_way.ensures;
@@ -27,7 +27,7 @@ pub returns-in_err-table-2-clause-made : goal.returns-in_err-table-2-clause-made
 returns-in_err-table-2-clause-made g c told plain text db held =
     let laws : Laws = record {
       lists = c.new_tables_are_listed.ensures;
-      tables = c.other_rows_are_listed.ensures.tables;
+      tables = c.other_rows_are_listed.ensures.plain;
       named = c.named_databases_are_one.ensures.named;
       stand = c.table_trees_stand.ensures;
       give_way = c.trees_give_way.ensures;
@@ -41,7 +41,7 @@ pub returns-in_err-add_row-clause-made : goal.returns-in_err-add_row-clause-made
 returns-in_err-add_row-clause-made g c told plain text db held =
     let laws : Laws = record {
       lists = c.new_tables_are_listed.ensures;
-      tables = c.other_rows_are_listed.ensures.tables;
+      tables = c.other_rows_are_listed.ensures.plain;
       named = c.named_databases_are_one.ensures.named;
       stand = c.table_trees_stand.ensures;
       give_way = c.trees_give_way.ensures;
@@ -72,7 +72,7 @@ pub returns-clause-made : goal.returns-clause-made
 returns-clause-made g c told plain text db held =
     let laws : Laws = record {
       lists = c.new_tables_are_listed.ensures;
-      tables = c.other_rows_are_listed.ensures.tables;
+      tables = c.other_rows_are_listed.ensures.plain;
       named = c.named_databases_are_one.ensures.named;
       stand = c.table_trees_stand.ensures;
       give_way = c.trees_give_way.ensures;

@@ -7,7 +7,7 @@ pub returns-in_err-table-clause-made : goal.returns-in_err-table-clause-made
 returns-in_err-table-clause-made g c told db held =
     let laws : Laws = record {
       lists = c.other_rows_are_listed.ensures.lists;
-      tables = c.other_rows_are_listed.ensures.tables;
+      tables = c.other_rows_are_listed.ensures.plain;
       named = c.named_databases_are_one.ensures.named;
       binds = c.only_tables_set_nothing_off.ensures.binds;
       deletes = c.only_tables_set_nothing_off.ensures.deletes;
@@ -22,7 +22,7 @@ pub returns-in_err-condition-clause-made : goal.returns-in_err-condition-clause-
 returns-in_err-condition-clause-made g c told db held =
     let laws : Laws = record {
       lists = c.other_rows_are_listed.ensures.lists;
-      tables = c.other_rows_are_listed.ensures.tables;
+      tables = c.other_rows_are_listed.ensures.plain;
       named = c.named_databases_are_one.ensures.named;
       binds = c.only_tables_set_nothing_off.ensures.binds;
       deletes = c.only_tables_set_nothing_off.ensures.deletes;
@@ -37,7 +37,7 @@ pub returns-clause-made : goal.returns-clause-made
 returns-clause-made g c told db held =
     let laws : Laws = record {
       lists = c.other_rows_are_listed.ensures.lists;
-      tables = c.other_rows_are_listed.ensures.tables;
+      tables = c.other_rows_are_listed.ensures.plain;
       named = c.named_databases_are_one.ensures.named;
       binds = c.only_tables_set_nothing_off.ensures.binds;
       deletes = c.only_tables_set_nothing_off.ensures.deletes;

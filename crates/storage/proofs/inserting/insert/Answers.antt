@@ -8,7 +8,7 @@ pub returns-in_err-target-clause-made : goal.returns-in_err-target-clause-made
 returns-in_err-target-clause-made g c told db held =
     let laws : Laws = record {
       lists = c.other_rows_are_listed.ensures.lists;
-      tables = c.other_rows_are_listed.ensures.tables;
+      tables = c.other_rows_are_listed.ensures.plain;
       named = c.named_databases_are_one.ensures.named;
       binds = c.only_tables_set_nothing_off.ensures.binds;
       refused = c.only_tables_set_nothing_off.ensures.refused;
@@ -24,7 +24,7 @@ pub returns-in_err-rows-clause-made : goal.returns-in_err-rows-clause-made
 returns-in_err-rows-clause-made g c told db held =
     let laws : Laws = record {
       lists = c.other_rows_are_listed.ensures.lists;
-      tables = c.other_rows_are_listed.ensures.tables;
+      tables = c.other_rows_are_listed.ensures.plain;
       named = c.named_databases_are_one.ensures.named;
       binds = c.only_tables_set_nothing_off.ensures.binds;
       refused = c.only_tables_set_nothing_off.ensures.refused;
@@ -47,7 +47,7 @@ returns-clause-made g c told db held =
     let tables = tables_of c.args.catalog.now in
     let laws : Laws = record {
       lists = c.other_rows_are_listed.ensures.lists;
-      tables = c.other_rows_are_listed.ensures.tables;
+      tables = c.other_rows_are_listed.ensures.plain;
       named = c.named_databases_are_one.ensures.named;
       binds = c.only_tables_set_nothing_off.ensures.binds;
       refused = c.only_tables_set_nothing_off.ensures.refused;

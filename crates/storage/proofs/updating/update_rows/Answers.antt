@@ -7,7 +7,7 @@ pub returns-in_err-table-clause-made : goal.returns-in_err-table-clause-made
 returns-in_err-table-clause-made g c told db held =
     let laws : Laws = record {
       lists = c.other_rows_are_listed.ensures.lists;
-      tables = c.other_rows_are_listed.ensures.tables;
+      tables = c.other_rows_are_listed.ensures.plain;
       named = c.named_databases_are_one.ensures.named;
       binds = c.only_tables_set_nothing_off.ensures.binds;
       updates = c.update_sets_off_nothing.ensures;
@@ -21,7 +21,7 @@ pub returns-in_err-sets-clause-made : goal.returns-in_err-sets-clause-made
 returns-in_err-sets-clause-made g c told db held =
     let laws : Laws = record {
       lists = c.other_rows_are_listed.ensures.lists;
-      tables = c.other_rows_are_listed.ensures.tables;
+      tables = c.other_rows_are_listed.ensures.plain;
       named = c.named_databases_are_one.ensures.named;
       binds = c.only_tables_set_nothing_off.ensures.binds;
       updates = c.update_sets_off_nothing.ensures;
@@ -35,7 +35,7 @@ pub returns-in_err-condition-clause-made : goal.returns-in_err-condition-clause-
 returns-in_err-condition-clause-made g c told db held =
     let laws : Laws = record {
       lists = c.other_rows_are_listed.ensures.lists;
-      tables = c.other_rows_are_listed.ensures.tables;
+      tables = c.other_rows_are_listed.ensures.plain;
       named = c.named_databases_are_one.ensures.named;
       binds = c.only_tables_set_nothing_off.ensures.binds;
       updates = c.update_sets_off_nothing.ensures;
@@ -49,7 +49,7 @@ pub returns-clause-made : goal.returns-clause-made
 returns-clause-made g c told db held =
     let laws : Laws = record {
       lists = c.other_rows_are_listed.ensures.lists;
-      tables = c.other_rows_are_listed.ensures.tables;
+      tables = c.other_rows_are_listed.ensures.plain;
       named = c.named_databases_are_one.ensures.named;
       binds = c.only_tables_set_nothing_off.ensures.binds;
       updates = c.update_sets_off_nothing.ensures;
