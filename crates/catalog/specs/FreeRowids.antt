@@ -1,12 +1,20 @@
--- Rowids of the schema table that are free (Database File Format, "Storage Of The SQL Database Schema").
-use Rattle.std.specs.Prelude.{ℤ, ◌≤ℤ◌, Bool, List}
-use Rattle.std.specs.List.{AllByRecursion, list_any}
-use Rattle.std.specs.Ordering.{int_cmp, eq_by_cmp}
+-- Rowids of the schema table that no table's row has (Database File Format, "Storage Of The SQL Database Schema").
+use Rattle.std.specs.Prelude.{ℤ, ◌<ℤ◌, List, [], ◌∷◌, ⊤, take, drop}
+use Rattle.std.specs.List.{AllByRecursion}
+use Rattle.catalog.specs.declared.tables.FreeRowid.{FreeRowid}
+use Rattle.catalog.specs.declared.tables.Table.{Table}
 
--- none is greater
-abbrev pub AreUpTo : ℤ → List ℤ → Type 0
-AreUpTo most rowids = AllByRecursion (λ (rowid : ℤ). rowid ≤ℤ most) rowids
+-- the rowids of the tables are greater than one, and each than the one before it
+abbrev pub RiseAbove : ℤ → List Table → Type 0
+RiseAbove low [] = ⊤
+RiseAbove low (table ∷ tables) = (low <ℤ table.rowid) × RiseAbove table.rowid tables
 
--- whether a rowid is one of these
-abbrev pub is_among : ℤ → List ℤ → Bool
-is_among rowid rowids = list_any (λ other. eq_by_cmp int_cmp other rowid) rowids
+-- each is greater than the one before it
+abbrev pub Rise : List Table → Type 0
+Rise [] = ⊤
+Rise (table ∷ tables) = RiseAbove table.rowid tables
+
+-- The tables before the place have lower rowids, and those from it on greater ones.
+pub record IsFree (tables : List Table) (free : FreeRowid) : Type 0 where
+  pub lower : AllByRecursion (λ (table : Table). table.rowid <ℤ free.rowid) (take free.place tables)
+  pub greater : AllByRecursion (λ (table : Table). free.rowid <ℤ table.rowid) (drop free.place tables)

@@ -2,7 +2,7 @@
 
 ghost use Rattle.std.specs.Prelude.{◌≡◌, ◌<◌, ◌++◌, ℤ, length, slice_index_or, false, IfOk, IfErr, OnOk};
 ghost use Rattle.catalog.specs.Listed as listed;
-ghost use Rattle.catalog.specs.FreeRowids as free;
+ghost use Rattle.catalog.specs.UnusedRowids as unused;
 
 use crate::tables::{Index, Table};
 use sqlval::{Fault, R};
@@ -57,7 +57,7 @@ fn at(rowids: &[i64], place: usize) -> i64
 
 /// The greatest of these, or 0 if none is greater.
 fn greatest(rowids: &[i64]) -> i64
-    ensures { free.AreUpTo result rowids.now }
+    ensures { unused.AreUpTo result rowids.now }
 {
     let mut greatest = 0;
     'rowids: for place in 0..rowids.len() {
@@ -68,14 +68,14 @@ fn greatest(rowids: &[i64]) -> i64
 
 /// Whether a rowid is one of these.
 fn is_among(rowids: &[i64], rowid: i64) -> bool
-    ensures { result ≡ free.is_among rowid rowids.now }
+    ensures { result ≡ unused.is_among rowid rowids.now }
 {
     rowids.iter().any(|other| *other == rowid)
 }
 
 /// The greatest rowid that is none of these.
-fn greatest_free(rowids: &[i64]) -> i64
-    ensures { free.is_among result rowids.now ≡ false }
+fn greatest_unused(rowids: &[i64]) -> i64
+    ensures { unused.is_among result rowids.now ≡ false }
 {
     let mut rowid = i64::MAX;
     'taken: for _ in 0..rowids.len() {
@@ -88,11 +88,11 @@ fn greatest_free(rowids: &[i64]) -> i64
 }
 
 /// A rowid that is none of these: the one after the greatest, or else the greatest that is free.
-pub(crate) fn free_among(rowids: &[i64]) -> i64
-    ensures { free.is_among result rowids.now ≡ false }
+pub(crate) fn unused_among(rowids: &[i64]) -> i64
+    ensures { unused.is_among result rowids.now ≡ false }
 {
     match greatest(rowids).checked_add(1) {
         Some(rowid) => rowid,
-        None => greatest_free(rowids),
+        None => greatest_unused(rowids),
     }
 }

@@ -70,11 +70,11 @@ never_clashes i vs (r ∷ rows) plain = both_false (clash i vs r.1) (list_any (�
 pub none_unique : (db : Database) (name : Name) (vs : List Value) (t : database.Table) → has_only_plain db ≡ true → is_unique_in (indexes_of db name) vs t ≡ true
 none_unique [] name vs t h = refl
 none_unique ((n, ATable u) ∷ db) name vs t h = none_unique db name vs t h
-none_unique ((n, AnIndex i) ∷ db) name vs t h = by_test (is_same_name i.table name) (plain (i.is_unique) (has_only_plain db) h) (none_unique db name vs t (rest (i.is_unique) (has_only_plain db) h))
+none_unique ((n, AnIndex i) ∷ db) name vs t h = by_test (is_same_name i.table name) (plain i.is_unique i.is_automatic (has_only_plain db) h) (none_unique db name vs t (rest (i.is_unique || i.is_automatic) (has_only_plain db) h))
   where
-    plain : (b c : Bool) → (not b && c) ≡ true → b ≡ false
-    plain true c h = absurd (false≢true h)
-    plain false c h = refl
+    plain : (a b c : Bool) → (not (a || b) && c) ≡ true → a ≡ false
+    plain true b c h = absurd (false≢true h)
+    plain false b c h = refl
 
     rest : (b c : Bool) → (not b && c) ≡ true → c ≡ true
     rest true c h = absurd (false≢true h)

@@ -19,6 +19,8 @@ use Rattle.sharing.specs.Layout.{Owner}
 use Rattle.treepage.specs.Cells.{Pairwise}
 use Rattle.storage.specs.Stored.{IsTreeOf, Stores}
 use Rattle.loading.proofs.AlikeTables.{AreSameFound, not_found, same_found, same_push}
+use Rattle.storage.proofs.BareTables.{bare_lists, lists_bare}
+use Rattle.storage.proofs.Telling.{told_bare}
 
 no_table : {A : Type 0} (u : Table) → None ≡ Some u → A
 no_table u h = absurd cc
@@ -55,6 +57,7 @@ same_row pages before others t u row same is tells = record {
     name_is = is.name_is ∙ tells.made.name_is;
     root_is = refl;
     columns = ap (λ (cs : List Column). map described cs) is.columns_are ∙ tells.made.columns;
+    bare = is.indexes_are ∙ tells.made.bare;
   };
   rowid_is = tells.rowid_is ∙ sym is.rowid_is;
   above = omega (arith, is.root_is, tells.above);
@@ -117,7 +120,9 @@ same_trees rows_at (t ∷ ts) (u ∷ us) (o ∷ owners) same each = (same_tree r
 pub stores_same : (map : PageMap) (size : ℕ) (ts us : List Table) (db : Database) → AreSameTables ts us → Stores map size ts db → Stores map size us db
 stores_same map size ts us db same held = record {
   rows_at = held.rows_at;
-  lists = λ name. held.lists name ∙ same_objects held.rows_at (table_named name ts) (table_named name us) (same_found name ts us same);
+  lists = lists_bare held.rows_at us db (told_bare (length map) [] us held.schema (same_rows (length map) [] [] ts us held.schema tt same held.tell))
+      (λ name. bare_lists held.rows_at ts db (told_bare (length map) [] ts held.schema held.tell) held.lists name
+      ∙ same_objects held.rows_at (table_named name ts) (table_named name us) (same_found name ts us same));
   only = held.only;
   named = held.named;
   once = λ name u is. (let was = found_back (table_named name ts) (table_named name us) u (same_found name ts us same) is in

@@ -26,6 +26,8 @@ use Rattle.storage.proofs.Owners.{has_rows, owner_of}
 use Rattle.loading.proofs.AlikeTables.{AreSameFound, same_found}
 use Rattle.loading.specs.Unique.{StoredOnce}
 use Rattle.loading.proofs.SchemaTables.{columns_are}
+use Rattle.storage.proofs.BareTables.{bare_lists}
+use Rattle.storage.proofs.Telling.{told_bare}
 
 -- a text is one statement at most
 abbrev pub OneText : Type 0
@@ -59,6 +61,7 @@ one_table : OneText → DetermineValues → (pages : ℕ) (before others : List 
 one_table texts values pages before others t u row one other = record {
   name_is = other.made.name_is ∙ ap (λ (d : TableDefinition). d.name) (sym same) ∙ sym one.made.name_is;
   columns_are = columns_are u.columns t.columns (other.made.columns ∙ ap (λ (d : TableDefinition). map defined d.columns) (sym same) ∙ sym one.made.columns);
+  indexes_are = other.made.bare ∙ sym one.made.bare;
   root_is = sym (root_is one.name other.name one.table_name other.table_name t.root u.root one.sql other.sql row_is);
   rowid_is = sym other.rowid_is ∙ one.rowid_is;
 }
@@ -128,8 +131,8 @@ stored_once trees texts values databases map size ts us a b one other = database
   where
     objects : (name : Name) → object a name ≡ object b name
     objects name =
-        one.lists name
+        bare_lists one.rows_at ts a (told_bare (length map) [] ts one.schema one.tell) one.lists name
         ∙ same_object one.rows_at other.rows_at (table_named name ts) (table_named name us) (same_found name ts us (same_tables trees texts values map size ts us a b one other))
         (λ t u first second same. one_table_rows trees map size t u (one.rows_at t.root) (other.rows_at u.root) same
         (table_rows map size ts a one name t first) (table_rows map size us b other name u second))
-        ∙ sym (other.lists name)
+        ∙ sym (bare_lists other.rows_at us b (told_bare (length map) [] us other.schema other.tell) other.lists name)

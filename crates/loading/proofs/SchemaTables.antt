@@ -289,10 +289,11 @@ module _ (before : List Table) (table : Table) (row : SchemaRow) (tells : TellsT
   pub names_of : (d : TableDefinition) → d ≡ tells.definition → IsOfRow row d
   names_of d same = subst (IsOfRow row) (sym same) tells.names
 
-  pub table_is : (d : TableDefinition) (found : Table) → d ≡ tells.definition → found.name ≡ d.name → found.columns ≡ table.columns → found.root ≡ row.root → found.rowid ≡ row.rowid → IsSameTable table found
-  table_is d found same name columns root rowid = record {
+  pub table_is : (d : TableDefinition) (found : Table) → d ≡ tells.definition → found.name ≡ d.name → found.columns ≡ table.columns → found.indexes ≡ [] → found.root ≡ row.root → found.rowid ≡ row.rowid → IsSameTable table found
+  table_is d found same name columns bare root rowid = record {
     name_is = name ∙ ap (λ (x : TableDefinition). x.name) same ∙ sym tells.made.name_is;
     columns_are = columns;
+    indexes_are = bare ∙ sym tells.made.bare;
     root_is = root ∙ sym tells.made.root_is;
     rowid_is = rowid ∙ sym tells.rowid_is;
   }

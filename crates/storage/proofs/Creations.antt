@@ -52,7 +52,8 @@ use Rattle.storage.proofs.Owners.{joins}
 use Rattle.storage.proofs.PutRows.{kept_trees, rows_here, rows_with, tree_at}
 use Rattle.storage.proofs.Roots.{found_root, roots_of, roots_used}
 use Rattle.storage.proofs.RowsBetween.{none_front, none_has, once_alone, once_between, others_of, others_split, pairs_split, tables_rise, told_between}
-use Rattle.storage.proofs.Telling.{more_pages}
+use Rattle.storage.proofs.BareTables.{AreBare, no_name}
+use Rattle.storage.proofs.Telling.{more_pages, told_bare}
 
 -- what follows for every listed database, and for the trees of its file
 pub record Laws : Type 0 where
@@ -72,10 +73,10 @@ refused_work : (k : Checked Database) (r : Refusal) → Contains (faults k) r �
 refused_work (Meant db []) r has = absurd (omega (arith, has.1))
 refused_work (Meant db (s ∷ rs)) r has = has
 
-pub reached : (sql : List ℕ) (db : Database) (rows_at : ℕ → List TableRow) (tables : List Table) (d : TableDefinition) (root : ℕ) (t : Table) → Lists rows_at tables db → has_no_rules d ≡ true → IsMadeBeside tables d root t
+pub reached : (sql : List ℕ) (db : Database) (rows_at : ℕ → List TableRow) (tables : List Table) (d : TableDefinition) (root : ℕ) (t : Table) → Lists rows_at tables db → AreBare tables → has_no_rules d ≡ true → IsMadeBeside tables d root t
     → Reaches (change_made (creating sql d) db) (with_object db d.name (ATable (plain_table t [])))
-reached sql db rows_at tables d root t lists plain made =
-    subst (λ (k : Checked Database). Reaches (of_known k) (with_object db d.name (ATable (plain_table t [])))) (sym (makes_table rows_at tables db d t lists plain made.fresh made.columns)) refl
+reached sql db rows_at tables d root t lists bare plain made =
+    subst (λ (k : Checked Database). Reaches (of_known k) (with_object db d.name (ATable (plain_table t [])))) (sym (makes_table rows_at tables db d t lists plain (record { free = made.fresh.free; new = no_name d.name tables bare made.fresh.new; once = made.fresh.once }) made.columns)) refl
 
 module _ (laws : Laws) (old : PageMap) (size : ℕ) (tables : List Table) (db : Database) (held : Stores old size tables db) (sql : List ℕ) (d : TableDefinition) where
   -- its definition is refused
@@ -151,7 +152,7 @@ module _ (laws : Laws) (old : PageMap) (size : ℕ) (tables : List Table) (db : 
     refused_row t plain is f (inr (what, long)) = inr (inr (record {
       is = what;
       made = with_object db d.name (ATable (plain_table t []));
-      reaches = reached sql db held.rows_at tables d root t held.lists plain is;
+      reaches = reached sql db held.rows_at tables d root t held.lists (told_bare (length old) [] tables held.schema held.tell) plain is;
       why = inr (root, long);
     }))
 
@@ -204,7 +205,7 @@ module _ (laws : Laws) (old : PageMap) (size : ℕ) (tables : List Table) (db : 
 
       lists_more : Lists (rows_with held.rows_at t.root []) (before ++ t ∷ after) (with_object db d.name (ATable (plain_table t [])))
       lists_more = subst (λ (n : Name). Lists (rows_with held.rows_at t.root []) (before ++ t ∷ after) (with_object db n (ATable (plain_table t [])))) is.name_is
-          (laws.lists held.rows_at before after db t (subst (λ (ts : List Table). Lists held.rows_at ts db) (sym tables_are) held.lists) unnamed own_root)
+          (laws.lists held.rows_at before after db t (subst (λ (ts : List Table). Lists held.rows_at ts db) (sym tables_are) held.lists) is.bare unnamed own_root)
 
       no_rows : rows_with held.rows_at t.root [] t.root ≡ []
       no_rows = rows_here held.rows_at t.root t.root [] refl
@@ -232,6 +233,7 @@ module _ (laws : Laws) (old : PageMap) (size : ℕ) (tables : List Table) (db : 
           name_is = is.name_is;
           root_is = refl;
           columns = is.columns;
+          bare = is.bare;
         };
         rowid_is = added.rowid_is;
         above = omega (arith, is.root_is, tree.after);
@@ -265,7 +267,7 @@ module _ (laws : Laws) (old : PageMap) (size : ℕ) (tables : List Table) (db : 
           record {
             rows_at = rows_with held.rows_at t.root [];
             lists = lists_more;
-            only = laws.tables db d.name (plain_table t []) held.only;
+            only = laws.tables db d.name (ATable (plain_table t [])) held.only refl;
             named = laws.named db d.name (ATable (plain_table t [])) held.named;
             once = once_between before after t (subst AreOnce (sym tables_are) held.once) (once_alone d t is.fresh.once is.columns);
             header = record held.header { freelist_trunk = then_is.0; freelist_count = then_is.1 };
@@ -287,16 +289,16 @@ module _ (laws : Laws) (old : PageMap) (size : ℕ) (tables : List Table) (db : 
       pub creates : (listed : List Table) → listed ≡ insert tables place t → has_no_rules d ≡ true → IsMade (creating sql d) db new size listed
       creates listed same no_rules = record {
         made = with_object db d.name (ATable (plain_table t []));
-        reaches = reached sql db held.rows_at tables d root t held.lists no_rules is;
+        reaches = reached sql db held.rows_at tables d root t held.lists (told_bare (length old) [] tables held.schema held.tell) no_rules is;
         stored = subst (λ ts. Stores new size ts (with_object db d.name (ATable (plain_table t [])))) (sym same) stores_more;
       }
 
 -- ---- calls that pass a refusal on
 
 -- the table of a definition, with the page where its tree begins
-pub rooted : (tables : List Table) (d : TableDefinition) (none root : ℕ) (t u : Table) → u.name ≡ t.name → u.columns ≡ t.columns → u.root ≡ root → IsMadeBeside tables d none t → IsMadeBeside tables d root u
-rooted tables d none root t u name columns at is =
-    record { fresh = is.fresh; name_is = name ∙ is.name_is; root_is = at; columns = subst (λ cs. HasColumnsOf d (record u { columns = cs })) (sym columns) (subst (λ cs. HasColumnsOf d (record t { columns = cs })) refl is.columns) }
+pub rooted : (tables : List Table) (d : TableDefinition) (none root : ℕ) (t u : Table) → u.name ≡ t.name → u.columns ≡ t.columns → u.indexes ≡ t.indexes → u.root ≡ root → IsMadeBeside tables d none t → IsMadeBeside tables d root u
+rooted tables d none root t u name columns indexes at is =
+    record { bare = indexes ∙ is.bare; fresh = is.fresh; name_is = name ∙ is.name_is; root_is = at; columns = subst (λ cs. HasColumnsOf d (record u { columns = cs })) (sym columns) (subst (λ cs. HasColumnsOf d (record t { columns = cs })) refl is.columns) }
 
 pub handed_on : {X : Type 0} (P : X → Type 0) (Q : Fault → Type 0) (r : Result X Fault) (f : Fault) → IsErrAnd r (λ e. e ≡ f) → Q f → MatchResult r P Q
 handed_on P Q (Ok x) f is why = absurd is

@@ -175,7 +175,7 @@ module _ (laws : Laws) (pages : PageMap) (size : ℕ) (tables : List Table) (db 
           stores_rows laws.give_way pages new size tables db (with_left left) t left entries held owned now each fit
           (laws.lists held.rows_at tables db (folded d.table) t left held.lists (named_folded tables d.table t named)
           (λ other u found here. own_pages pages size tables db held other (folded d.table) u t found (named_folded tables d.table t named) here))
-          (laws.tables db (folded d.table) (plain_table t left) held.only) (laws.named db (folded d.table) (ATable (plain_table t left)) held.named)
+          (laws.tables db (folded d.table) (ATable (plain_table t left)) held.only refl) (laws.named db (folded d.table) (ATable (plain_table t left)) held.named)
 
       tree_stands : Stands pages size t.root owned.split.is.entries owned.split.at.used held.free
       tree_stands = stands laws.stand pages size tables db held t owned

@@ -1,5 +1,5 @@
 -- What a DROP comes to on the database that pages hold.
-use Rattle.std.proofs.Common.{◌≡◌, ◌⊎◌, ◌≤◌, ◌<◌, ◌<ℤ◌, ◌-ℤ◌, pos, ℤ, inl, inr, refl, sym, ap, subst, ◌∙◌, ℕ, Bool, true, false, cond, not, filter, ◌&&◌, List, [], ◌∷◌, ◌++◌, length, Option, Some, None, arith}
+use Rattle.std.proofs.Common.{◌≡◌, ◌⊎◌, ◌≤◌, ◌<◌, ◌<ℤ◌, ◌-ℤ◌, pos, ℤ, inl, inr, refl, sym, ap, subst, ◌∙◌, ℕ, Bool, true, false, cond, not, filter, ◌&&◌, ◌||◌, List, [], ◌∷◌, ◌++◌, length, Option, Some, None, arith}
 use Rattle.std.specs.Prelude.{Contains, option_map}
 use Rattle.std.proofs.lemmas.Bool.{false≢true}
 use Rattle.std.proofs.lemmas.Int.{ints}
@@ -23,8 +23,8 @@ use Rattle.tabletree.specs.Rows.{payload_at, without_row}
 use Rattle.tabletree.specs.SingleLeaf.{AreRising}
 use Rattle.sharing.specs.Layout.{AreShared, Owner, ReplacesTrees, TreesStand, used_by}
 use Rattle.catalog.specs.Database.{Database, Name, Object, ATable, AnIndex, AView, ATrigger, object}
-use Rattle.catalog.specs.Listed.{has_only_plain, plain_table, table_named, without_table}
-use Rattle.catalog.specs.Named.{IsOfTables, ListsOthers, without_object}
+use Rattle.catalog.specs.Listed.{are_named_once, has_only_plain, plain_table, table_named, without_table}
+use Rattle.catalog.specs.Named.{IsOfTables, ListsOthers, without_table_object}
 use Rattle.catalog.specs.declared.tables.Table.{Table}
 use Rattle.bind.specs.Checked.{Checked, Meant, faults}
 use Rattle.bind.specs.Schema.{dropped, goes_with}
@@ -34,8 +34,10 @@ use Rattle.storage.specs.Schema.{AreRowsOf}
 use Rattle.storage.specs.Stored.{IsTreeOf, Stores, schema_tree}
 use Rattle.storage.specs.Works.{Reaches, RefusesWith, change_made, of_known}
 use Rattle.storage.proofs.PutRows.{same_owner}
-use Rattle.storage.proofs.Telling.{more_pages, none_once, told_once}
+use Rattle.storage.proofs.Telling.{more_pages, none_once, told_bare, told_once}
 use Rattle.storage.proofs.Untelling.{IsTakenOut, IsUntold, above_all, once_named, taken_out, untold}
+use Rattle.storage.proofs.BareTables.{bare_lists}
+use Rattle.storage.proofs.StandingLists.{own_names_once, told_apart}
 
 -- what follows for every listed database, and for the trees of its file
 pub record Laws : Type 0 where
@@ -56,16 +58,21 @@ both_hold : (a b : Bool) → (a && b) ≡ true → (a ≡ true) × (b ≡ true)
 both_hold true b h = (refl, h)
 both_hold false b h = absurd (false≢true h)
 
--- in a database of tables alone a DROP takes the objects of its name
-pub goes_alone : (n : Name) (db : Database) → has_only_plain db ≡ true → filter (λ x. not (goes_with n x)) db ≡ without_object n db
+-- of a database of tables and plain indexes a DROP takes the table of its name and its indexes
+pub goes_alone : (n : Name) (db : Database) → has_only_plain db ≡ true → filter (λ x. not (goes_with n x)) db ≡ without_table_object n db
 goes_alone n [] only = refl
 goes_alone n ((name, ATable t) ∷ es) only = by_test (is_same_name n name) (goes_alone n es (both_hold true (has_only_plain es) only).1)
   where
-    by_test : (b : Bool) → filter (λ x. not (goes_with n x)) es ≡ without_object n es
-        → cond (not b) ((name, ATable t) ∷ filter (λ x. not (goes_with n x)) es) (filter (λ x. not (goes_with n x)) es) ≡ cond (not b) ((name, ATable t) ∷ without_object n es) (without_object n es)
+    by_test : (b : Bool) → filter (λ x. not (goes_with n x)) es ≡ without_table_object n es
+        → cond (not b) ((name, ATable t) ∷ filter (λ x. not (goes_with n x)) es) (filter (λ x. not (goes_with n x)) es) ≡ cond (not b) ((name, ATable t) ∷ without_table_object n es) (without_table_object n es)
     by_test true rest = rest
     by_test false rest = ap (λ (xs : Database). (name, ATable t) ∷ xs) rest
-goes_alone n ((name, AnIndex i) ∷ es) only = absurd (false≢true only)
+goes_alone n ((name, AnIndex i) ∷ es) only = by_test (is_same_name n name || is_same_name n i.table) (goes_alone n es (both_hold (not (i.is_unique || i.is_automatic)) (has_only_plain es) only).1)
+  where
+    by_test : (b : Bool) → filter (λ x. not (goes_with n x)) es ≡ without_table_object n es
+        → cond (not b) ((name, AnIndex i) ∷ filter (λ x. not (goes_with n x)) es) (filter (λ x. not (goes_with n x)) es) ≡ cond (not b) ((name, AnIndex i) ∷ without_table_object n es) (without_table_object n es)
+    by_test true rest = rest
+    by_test false rest = ap (λ (xs : Database). (name, AnIndex i) ∷ xs) rest
 goes_alone n ((name, AView v) ∷ es) only = absurd (false≢true only)
 goes_alone n ((name, ATrigger t) ∷ es) only = absurd (false≢true only)
 
@@ -73,7 +80,7 @@ module _ (old : PageMap) (size : ℕ) (tables : List Table) (db : Database) (hel
   -- ---- where there is none
 
   found_as : (t : Option Table) → table_named n tables ≡ t → object db n ≡ option_map (λ u. ATable (plain_table u (held.rows_at u.root))) t
-  found_as t named = held.lists n ∙ ap (option_map (λ u. ATable (plain_table u (held.rows_at u.root)))) named
+  found_as t named = bare_lists held.rows_at tables db (told_bare (length old) [] tables held.schema held.tell) held.lists n ∙ ap (option_map (λ u. ATable (plain_table u (held.rows_at u.root)))) named
 
   pub no_table : (f : Fault) → (f ≡ fault.Memory) ⊎ (refusal_of f ≡ NoSuch) × (table_named n tables ≡ None) → IsChangeRefusal (dropping kind.Table n) db f
   no_table f (inl memory) = inl (inl (inl memory))
@@ -154,13 +161,16 @@ module _ (laws : Laws) (old : PageMap) (size : ℕ) (tables : List Table) (db : 
       -- ---- and its tree
 
       module _ (new : PageMap) (freed : AreGivenBack mid new size out.at.used becomes.now_free) where
-        left : IsOfTables held.rows_at (without_table n tables) (without_object n db)
-        left = laws.others held.rows_at tables db n (record { lists = held.lists; only = held.only; named = held.named })
+        names_once : are_named_once tables ≡ true
+        names_once = own_names_once tables (told_bare (length old) [] tables held.schema held.tell) (told_apart (length old) [] tables held.schema held.tell)
+
+        left : IsOfTables held.rows_at (without_table n tables) (without_table_object n db)
+        left = laws.others held.rows_at tables db n t (record { lists = held.lists; only = held.only; named = held.named; once = names_once }) named
 
         longer : length old ≤ length new
         longer = let a = becomes.moves.longer in let b = freed.moves.longer in omega (arith, a, b)
 
-        stores_left : Stores new size (without_table n tables) (without_object n db)
+        stores_left : Stores new size (without_table n tables) (without_table_object n db)
         stores_left =
             let first = becomes.header held.header held.header_is in
             let then_is = freed.header (record held.header { freelist_trunk = first.0; freelist_count = first.1 }) first.2 in
@@ -184,8 +194,8 @@ module _ (laws : Laws) (old : PageMap) (size : ℕ) (tables : List Table) (db : 
                   (subst (λ (ps : List ℕ). Moves mid new ps becomes.now_free [] freed.now_free) (sym (append-nil out.at.used)) freed.moves) tt freed.free_are.has;
             }
 
-        reached : Reaches (change_made (dropping kind.Table n) db) (without_object n db)
-        reached = subst (λ (o : Option Object). Reaches (of_known (dropped db kind.Table n o)) (without_object n db)) (sym (found_as old size tables db held n (Some t) named)) (goes_alone n db held.only)
+        reached : Reaches (change_made (dropping kind.Table n) db) (without_table_object n db)
+        reached = subst (λ (o : Option Object). Reaches (of_known (dropped db kind.Table n o)) (without_table_object n db)) (sym (found_as old size tables db held n (Some t) named)) (goes_alone n db held.only)
 
         pub drops : IsMade (dropping kind.Table n) db new size (without_table n tables)
-        drops = record { made = without_object n db; reaches = reached; stored = stores_left }
+        drops = record { made = without_table_object n db; reaches = reached; stored = stores_left }

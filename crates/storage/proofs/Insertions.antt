@@ -51,6 +51,7 @@ use Rattle.storage.specs.Works.{Reaches, RefusesWith, change_made, given_on, of_
 use Rattle.storage.proofs.Owners.{HasOwner, owner_of}
 use Rattle.storage.proofs.PutRows.{named_as, rows_elsewhere, rows_here, rows_with, stands, stores_put}
 use Rattle.storage.proofs.Roots.{own_pages}
+use Rattle.storage.proofs.BareTables.{table_found}
 
 -- what follows for every listed database, and for the trees of its file
 pub record Laws : Type 0 where
@@ -77,7 +78,7 @@ named_folded tables name t named = named_as tables (folded name) name (folded_tw
 pub listed_table : (rows_at : ℕ → List TableRow) (tables : List Table) (db : Database) (name : Name) (t : Table) → Lists rows_at tables db → table_named name tables ≡ Some t
     → table_of db (folded name) ≡ Ok (plain_table t (rows_at t.root))
 listed_table rows_at tables db name t lists named =
-    ap table_in (lists (folded name) ∙ ap (option_map (λ t. ATable (plain_table t (rows_at t.root)))) (named_folded tables name t named))
+    ap table_in (table_found rows_at tables db (folded name) t lists (named_folded tables name t named))
 
 -- binding it isn't refused
 pub not_refused : Laws → (db : Database) (i : Insert) (what : Resolved) → has_only_plain db ≡ true → resolve_change db no_outer (kind.Insert i) ≡ Meant what [] → (r : Refusal) → IsFault db (kind.Insert i) r → ⊥
@@ -274,7 +275,7 @@ module _ (laws : Laws) (pages : PageMap) (size : ℕ) (tables : List Table) (db 
         is = change_is some ∙ ap (λ (a : Answer (List TableRow)). a then λ added. Ok (with_object db (folded i.table) (ATable (plain_table t (held.rows_at t.root ++ added))))) e;
         lists = laws.lists held.rows_at tables db (folded i.table) t (held.rows_at t.root ++ added) held.lists (named_folded tables i.table t named)
             (λ other u found here. own_pages pages size tables db held other (folded i.table) u t found (named_folded tables i.table t named) here);
-        only = laws.tables db (folded i.table) (plain_table t (held.rows_at t.root ++ added)) held.only;
+        only = laws.tables db (folded i.table) (ATable (plain_table t (held.rows_at t.root ++ added))) held.only refl;
         in_order = laws.named db (folded i.table) (ATable (plain_table t (held.rows_at t.root ++ added))) held.named;
       }
 
@@ -301,8 +302,8 @@ module _ (laws : Laws) (pages : PageMap) (size : ℕ) (tables : List Table) (db 
     name = i.table;
     table = t;
     rows = held.rows_at t.root ++ added;
-    is = m.lists i.table ∙ (ap (option_map (λ (u : Table). ATable (plain_table u (rows_with held.rows_at t.root (held.rows_at t.root ++ added) u.root)))) named
-        ∙ ap (λ rows. Some (ATable (plain_table t rows))) (rows_here held.rows_at t.root t.root (held.rows_at t.root ++ added) refl));
+    is = table_found (rows_with held.rows_at t.root (held.rows_at t.root ++ added)) tables m.made i.table t m.lists named
+        ∙ ap (λ rows. Some (ATable (plain_table t rows))) (rows_here held.rows_at t.root t.root (held.rows_at t.root ++ added) refl);
     long = λ all. too_long (all_behind (λ row. AreStorable row.1) (held.rows_at t.root) added all);
   }
 

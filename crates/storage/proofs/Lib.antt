@@ -1,4 +1,5 @@
 pub mod AddedRows
+pub mod BareTables
 pub mod Answering
 pub mod Creations
 pub mod Deletions

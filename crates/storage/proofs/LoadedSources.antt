@@ -32,6 +32,7 @@ use Rattle.storage.specs.Stored.{Stores}
 use Rattle.storage.specs.Works.{read_on}
 use Rattle.storage.proofs.Answering.{answers}
 use Rattle.storage.proofs.Owners.{has_rows, owner_of}
+use Rattle.storage.proofs.BareTables.{table_found}
 
 -- ---- reading
 
@@ -103,7 +104,11 @@ of_listed rows_at view (Some t) place is = ap (λ (p : BoundSource). Ok (map as_
 rows_named : (rows_at : ℕ → List TableRow) (tables : List Table) (db : Database) (name : Name) (place : BoundSource) → Lists rows_at tables db → option_map place_seen (table_named name tables) ≡ Some place
     → all_rows db name ≡ Ok (map as_source (rows_at place.root))
 rows_named rows_at tables db name place lists is =
-    ap (rows_of_object _) (lists name) ∙ of_listed rows_at _ (table_named name tables) place is
+    by_found (table_named name tables) refl is
+  where
+    by_found : (found : Option Table) → table_named name tables ≡ found → option_map place_seen found ≡ Some place → all_rows db name ≡ Ok (map as_source (rows_at place.root))
+    by_found None named is = absurd cc
+    by_found (Some t) named is = ap (rows_of_object _) (table_found rows_at tables db name t lists named) ∙ of_listed rows_at _ (Some t) place is
 
 pub sources_loaded : (rows_at : ℕ → List TableRow) (tables : List Table) (db : Database) → Lists rows_at tables db → (sources : List (Name × Condition)) (places : List BoundSource) → ArePlaced tables sources places
     → all_answers (map (λ s. all_rows db s.0) sources) ≡ Ok (rows_in rows_at places)

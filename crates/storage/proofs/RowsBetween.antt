@@ -130,6 +130,7 @@ row_beside n t front back u row other is = record {
     name_is = is.made.name_is;
     root_is = is.made.root_is;
     columns = is.made.columns;
+    bare = is.made.bare;
   };
   rowid_is = is.rowid_is;
   above = is.above;

@@ -14,6 +14,7 @@ use Rattle.storage.specs.Stored.{IsCounted, Stores}
 use Rattle.storage.proofs.Owners.{owner_of}
 use Rattle.storage.proofs.StandingLists.{AreFound, told_apart, told_found}
 use Rattle.storage.proofs.StandingNames.{names_sorted}
+use Rattle.storage.proofs.Telling.{told_bare}
 use Rattle.storage.proofs.StandingRows.{rows_named, rows_read, rows_say, rows_told}
 use Rattle.storage.proofs.StandingTrees.{is_freelist, is_headed, is_shared, table_trees, useds_of}
 
@@ -32,8 +33,8 @@ module _ (pages : PageMap) (size : ℕ) (tables : List Table) (db : Database) (s
     read = rows_read (length pages) [] tables stored.schema stored.tell;
     objects = record {
       names = ap (sorted name_order) (rows_named (length pages) [] tables stored.schema stored.tell)
-          ∙ names_sorted one_database keeps_named stored.rows_at tables db (told_apart (length pages) [] tables stored.schema stored.tell) stored.named stored.lists;
-      each = rows_say stored.rows_at tables db stored.lists stored.only (length pages) [] tables stored.schema stored.tell are_found;
+          ∙ names_sorted one_database keeps_named stored.rows_at tables db (told_bare (length pages) [] tables stored.schema stored.tell) (told_apart (length pages) [] tables stored.schema stored.tell) stored.named stored.lists;
+      each = rows_say stored.rows_at tables db (told_bare (length pages) [] tables stored.schema stored.tell) stored.lists stored.only (length pages) [] tables stored.schema stored.tell are_found;
     };
     in_order = listed_in_order stored.rows_at tables db stored.named stored.lists are_fit;
   }

@@ -1,7 +1,8 @@
 -- Tables that rows of page 1 tell: each is found by its own name, which no other has.
-use Rattle.std.proofs.Common.{◌≡◌, ◌∙◌, ◌==◌, ◌&&◌, refl, sym, ap, subst, ℕ, Bool, true, false, cond, List, [], ◌∷◌, ◌++◌, arith}
+use Rattle.std.proofs.Common.{◌≡◌, ◌∙◌, ◌==◌, ◌&&◌, refl, sym, ap, subst, ℕ, Bool, true, false, not, ◌||◌, cond, map, List, [], ◌∷◌, ◌++◌, arith}
 use Rattle.std.specs.Prelude.{Some, None, bytes_eq}
-use Rattle.std.specs.List.{AllByRecursion}
+use Rattle.std.specs.List.{AllByRecursion, list_any}
+use Rattle.sqlval.specs.Lists.{any_twice}
 use Rattle.std.proofs.lemmas.Bool.{false≢true}
 use Rattle.std.proofs.lemmas.Bool.Decides.{nat_tests}
 use Rattle.std.proofs.lemmas.List.{append-nil, append_assoc}
@@ -9,11 +10,12 @@ use Rattle.std.proofs.lemmas.Map.Lookups.{exact_bytes}
 use Rattle.std.proofs.lemmas.Map.Text.{is_eq-slice_cmp}
 use Rattle.std.proofs.lemmas.Map.Views.{tells_apart}
 use Rattle.page.specs.Leaf.{Entry}
-use Rattle.sqlval.specs.Names.{folded}
+use Rattle.sqlval.specs.Names.{folded, is_same_name}
 use Rattle.catalog.specs.Database.{Name}
-use Rattle.catalog.specs.Listed.{is_table, table_named}
+use Rattle.catalog.specs.Listed.{are_named_once, is_table, table_named}
 use Rattle.catalog.specs.declared.tables.Table.{Table}
 use Rattle.storage.specs.Schema.{AreRowsOf}
+use Rattle.storage.proofs.BareTables.{AreBare, all_names}
 use Rattle.storage.proofs.StandingNames.{HaveOwnNames}
 
 -- ---- names
@@ -107,3 +109,25 @@ told_apart pages before (t ∷ tables) (row ∷ rows) tell = (
   apart_from before t tables (each_new pages (before ++ t ∷ []) [] tables rows (subst (λ (all : List Table). AreRowsOf pages all tables rows) (sym (append-nil (before ++ t ∷ []))) tell.1)),
   told_apart pages (before ++ t ∷ []) tables rows tell.1,
 )
+
+-- ---- names that stand once
+
+none_same : (t : Table) (tables : List Table) → table_named t.name tables ≡ None → list_any (is_same_name t.name) (map (λ (u : Table). u.name) tables) ≡ false
+none_same t [] none = refl
+none_same t (u ∷ us) none = by_test (none_same t us) (is_table t.name u) refl none
+  where
+    by_other : (b : Bool) → is_same_name t.name u.name ≡ b → is_table t.name u ≡ false → b ≡ false
+    by_other true e is = absurd (false≢true (sym is ∙ other_way u t e))
+    by_other false e is = refl
+
+    by_test : (table_named t.name us ≡ None → list_any (is_same_name t.name) (map (λ (u : Table). u.name) us) ≡ false) → (b : Bool) → is_table t.name u ≡ b → cond b (Some u) (table_named t.name us) ≡ None
+        → (is_same_name t.name u.name || list_any (is_same_name t.name) (map (λ (u : Table). u.name) us)) ≡ false
+    by_test rest true is none = absurd cc
+    by_test rest false is none = ap (λ b. b || list_any (is_same_name t.name) (map (λ (u : Table). u.name) us)) (by_other (is_same_name t.name u.name) refl is) ∙ rest none
+
+own_names_apart : (tables : List Table) → HaveOwnNames tables → any_twice is_same_name (map (λ (u : Table). u.name) tables) ≡ false
+own_names_apart [] apart = refl
+own_names_apart (t ∷ tables) apart = ap (λ b. b || any_twice is_same_name (map (λ (u : Table). u.name) tables)) (none_same t tables apart.0) ∙ own_names_apart tables apart.1
+
+pub own_names_once : (tables : List Table) → AreBare tables → HaveOwnNames tables → are_named_once tables ≡ true
+own_names_once tables bare apart = ap (λ ns. not (any_twice is_same_name ns)) (all_names tables bare) ∙ ap not (own_names_apart tables apart)

@@ -17,6 +17,7 @@ use Rattle.catalog.specs.Database.{ATable, Database, Name, Object, name_order, o
 use Rattle.catalog.specs.Listed.{Lists, is_table, plain_table, table_named}
 use Rattle.catalog.specs.Named.{IsNamed, KeepsNamed, OneDatabase}
 use Rattle.catalog.specs.declared.tables.Table.{Table}
+use Rattle.storage.proofs.BareTables.{AreBare, bare_lists}
 
 abbrev names_of : Database → List Name
 names_of db = map (λ o. o.0) db
@@ -64,7 +65,7 @@ built rows_at (t ∷ tables) = with_object (built rows_at tables) t.name (ATable
 same_test : (a b : Name) → eq_by_cmp name_order a b ≡ bytes_eq b a
 same_test a b = (eq_by_cmp_equiv nat_list_cmp_total).symm a b ∙ is_eq-slice_cmp b a
 
-built_lists : (rows_at : ℕ → List (ℤ × List Value)) (tables : List Table) → Lists rows_at tables (built rows_at tables)
+built_lists : (rows_at : ℕ → List (ℤ × List Value)) (tables : List Table) (name : Name) → object (built rows_at tables) name ≡ listed_as rows_at (table_named name tables)
 built_lists rows_at [] name = refl
 built_lists rows_at (t ∷ tables) name =
     find-put name_order nat_list_cmp_total (folded name) (folded t.name) o (built rows_at tables)
@@ -91,6 +92,6 @@ module _ (one : OneDatabase) (keeps : KeepsNamed) (rows_at : ℕ → List (ℤ �
       ∙ ap (placed name_order (folded t.name)) (built_sorted tables apart.1)
 
   -- the database's names are those of the tables, in order
-  pub names_sorted : (tables : List Table) (db : Database) → HaveOwnNames tables → IsNamed db → Lists rows_at tables db → sorted name_order (folded_names tables) ≡ map (λ o. o.0) db
-  names_sorted tables db apart named lists =
-      sym (built_sorted tables apart) ∙ ap names_of (one (built rows_at tables) db (built_named tables) named (λ name. built_lists rows_at tables name ∙ sym (lists name)))
+  pub names_sorted : (tables : List Table) (db : Database) → AreBare tables → HaveOwnNames tables → IsNamed db → Lists rows_at tables db → sorted name_order (folded_names tables) ≡ map (λ o. o.0) db
+  names_sorted tables db bare apart named lists =
+      sym (built_sorted tables apart) ∙ ap names_of (one (built rows_at tables) db (built_named tables) named (λ name. built_lists rows_at tables name ∙ sym (bare_lists rows_at tables db bare lists name)))

@@ -16,6 +16,7 @@ use Rattle.storage.specs.Schema.{AreRowsOf, IsRowOf}
 use Rattle.storage.proofs.StandingLists.{AreFound}
 use Rattle.storage.proofs.StandingNames.{folded_names}
 use Rattle.storage.proofs.StandingTexts.{no_automatic, not_refused, plain_made}
+use Rattle.storage.proofs.BareTables.{AreBare, bare_lists}
 
 -- what a row tells, as a row of the schema table
 abbrev pub row_told : (pages : ℕ) (before : List Table) (t : Table) (row : Entry) → IsRowOf pages before t row → SchemaRow
@@ -49,10 +50,10 @@ rows_named pages before (t ∷ tables) (row ∷ rows) tell =
 abbrev listed_as : (ℕ → List (ℤ × List Value)) → Option Table → Option Object
 listed_as rows_at found = option_map (λ t. ATable (plain_table t (rows_at t.root))) found
 
-module _ (rows_at : ℕ → List (ℤ × List Value)) (all : List Table) (db : Database) (lists : Lists rows_at all db) (only : has_only_plain db ≡ true) where
+module _ (rows_at : ℕ → List (ℤ × List Value)) (all : List Table) (db : Database) (bare : AreBare all) (lists : Lists rows_at all db) (only : has_only_plain db ≡ true) where
   -- the object of the row's name is the table
   pub table_found : (pages : ℕ) (before : List Table) (t : Table) (row : Entry) (tells : IsRowOf pages before t row) → table_named t.name all ≡ Some t → object db tells.name ≡ Some (ATable (plain_table t (rows_at t.root)))
-  table_found pages before t row tells found = ap (λ (n : Name). find name_order n db) (name_told pages before t row tells) ∙ lists t.name ∙ ap (listed_as rows_at) found
+  table_found pages before t row tells found = ap (λ (n : Name). find name_order n db) (name_told pages before t row tells) ∙ bare_lists rows_at all db bare lists t.name ∙ ap (listed_as rows_at) found
 
   -- the row's text makes it
   table_said : (pages : ℕ) (before : List Table) (t : Table) (row : Entry) (tells : IsRowOf pages before t row) → IsTableRow supported_language db (row_told pages before t row tells) (plain_table t (rows_at t.root))

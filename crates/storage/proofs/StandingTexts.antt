@@ -1,5 +1,5 @@
 -- What the CREATE of a listed table makes, and that nothing refuses it beside the other tables.
-use Rattle.std.proofs.Common.{◌≡◌, ◌∙◌, refl, sym, ap, subst, ℕ, suc, Bool, true, false, ◌&&◌, ◌==◌, cond, List, [], ◌∷◌, ◌++◌, length, map, flat_map, Option, Some, None, arith}
+use Rattle.std.proofs.Common.{◌≡◌, ◌∙◌, refl, sym, ap, subst, ℕ, suc, Bool, true, false, ◌&&◌, ◌||◌, ◌==◌, cond, List, [], ◌∷◌, ◌++◌, length, map, flat_map, Option, Some, None, arith}
 use Rattle.std.specs.Prelude.{is_some, not}
 use Rattle.std.specs.FinMap.Entries.{find}
 use Rattle.std.specs.List.{list_all}
@@ -131,10 +131,23 @@ not_refused db d t made free = ap faults (
     then_good (table_made d) (t, []) _ made
     ∙ is_added (others db d.name) d.name (ATable t) (is_reserved d.name) (object (others db d.name) d.name) free (none_other db d.name))
 
--- a database of tables alone has no indexes that a table made
+-- a database of tables and indexes that a CREATE INDEX made has none that a table made
 pub no_automatic : (db : Database) (table : Name) → has_only_plain db ≡ true → automatic_indexes db table ≡ []
 no_automatic [] table only = refl
 no_automatic ((name, ATable t) ∷ es) table only = no_automatic es table only
-no_automatic ((name, AnIndex i) ∷ es) table only = absurd (false≢true only)
+no_automatic ((name, AnIndex i) ∷ es) table only =
+    by_test (plain i.is_unique i.is_automatic (has_only_plain es) only) (no_automatic es table (rest (i.is_unique || i.is_automatic) (has_only_plain es) only))
+  where
+    plain : (a b c : Bool) → (not (a || b) && c) ≡ true → b ≡ false
+    plain true b c h = absurd (false≢true h)
+    plain false true c h = absurd (false≢true h)
+    plain false false c h = refl
+
+    rest : (b c : Bool) → (not b && c) ≡ true → c ≡ true
+    rest true c h = absurd (false≢true h)
+    rest false c h = h
+
+    by_test : i.is_automatic ≡ false → automatic_indexes es table ≡ [] → automatic_indexes ((name, AnIndex i) ∷ es) table ≡ []
+    by_test e more = ap (λ b. cond (b && is_same_name i.table table) ((name, AnIndex i) ∷ automatic_indexes es table) (automatic_indexes es table)) e ∙ more
 no_automatic ((name, AView v) ∷ es) table only = absurd (false≢true only)
 no_automatic ((name, ATrigger t) ∷ es) table only = absurd (false≢true only)

@@ -26,6 +26,7 @@ use Rattle.storage.specs.Stored.{IsCounted, IsTreeOf, Stores}
 use Rattle.storage.proofs.Owners.{tree_of}
 use Rattle.storage.proofs.StandingLists.{AreFound}
 use Rattle.storage.proofs.StandingRows.{rows_told, table_found}
+use Rattle.storage.proofs.Telling.{told_bare}
 
 -- ---- a page's header
 
@@ -102,7 +103,7 @@ module _ (pages : PageMap) (size : ℕ) (tables : List Table) (db : Database) (s
   table_trees before (t ∷ some) (o ∷ owners) (row ∷ rows) tell are each trees = (
     record {
       is = ATable (plain_table t (stored.rows_at t.root));
-      found = table_found stored.rows_at tables db stored.lists stored.only (length pages) before t row tell.0 are.0;
+      found = table_found stored.rows_at tables db (told_bare (length pages) [] tables stored.schema stored.tell) stored.lists stored.only (length pages) before t row tell.0 are.0;
       lists = table_rows t o each.0 trees.0;
     },
     table_trees (before ++ t ∷ []) some owners rows tell.1 are.1 each.1 trees.1,

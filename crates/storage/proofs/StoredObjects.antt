@@ -20,6 +20,7 @@ use Rattle.storage.proofs.StoredNames.{Misses, all_sorted, each_found, first_of,
 use Rattle.storage.proofs.StoredDefinitions.{no_automatic}
 use Rattle.storage.proofs.StoredListings.{IsListing, Listing, NoneAutomatic}
 use Rattle.storage.proofs.StoredApart.{IsFoundWith, NamesApart, RootsApart, Stands, all_both, all_so, all_stand, content_at, found_with, none_named, onto_rows, row_named, row_names, rows_in, tables_in}
+use Rattle.storage.proofs.BareTables.{AreBare, lists_bare}
 
 -- ---- names of rows and of objects
 
@@ -93,6 +94,14 @@ module _ (pages : PageMap) (size : ℕ) (db : Database) (items : List Listing) (
   pub stand : AllByRecursion (Stands pages size db items) items
   stand = all_stand pages size db items are.each are.roots
 
+  -- no listed table has indexes
+  bare : AreBare (tables_in items)
+  bare = all_bare items are.each
+    where
+      all_bare : (items : List Listing) → AllByRecursion (IsListing pages size db) items → AreBare (tables_in items)
+      all_bare [] each = tt
+      all_bare (l ∷ items) each = (ap (λ (t : Table). t.indexes) each.0.table_is, all_bare items each.1)
+
   -- a listed table is found in the database
   found_listed : (name : Name) (t : Table) → IsFoundWith (Stands pages size db items) name t → object db name ≡ Some (ATable (plain_table t (content_at items t.root)))
   found_listed name t f =
@@ -109,8 +118,8 @@ module _ (pages : PageMap) (size : ℕ) (db : Database) (items : List Listing) (
       items are.each (none_named items name none))))
 
   pub lists : Lists (content_at items) (tables_in items) db
-  lists name = by_found (table_named name (tables_in items)) refl
+  lists = lists_bare (content_at items) (tables_in items) db bare (λ name. by_found name (table_named name (tables_in items)) refl)
     where
-      by_found : (found : Option Table) → table_named name (tables_in items) ≡ found → object db name ≡ listed_object (content_at items) found
-      by_found (Some t) found = found_listed name t (found_with (Stands pages size db items) items name t stand found)
-      by_found None found = not_listed name found
+      by_found : (name : Name) → (found : Option Table) → table_named name (tables_in items) ≡ found → object db name ≡ listed_object (content_at items) found
+      by_found name (Some t) found = found_listed name t (found_with (Stands pages size db items) items name t stand found)
+      by_found name None found = not_listed name found

@@ -75,6 +75,7 @@ row_told pages size db before l entry is after none read at =
         name_is = name;
         root_is = refl;
         columns = columns_so pages size db l is;
+        bare = ap (λ (t : Table). t.indexes) is.table_is;
       };
       rowid_is = at;
       above = root_above pages l.table.root there after;

@@ -6,6 +6,7 @@ use Rattle.catalog.specs.declared.tables.Table.{Table}
 use Rattle.bind.specs.Bound.{AreOnce}
 use Rattle.bind.proofs.CreatedTables.{keeps_once}
 use Rattle.storage.specs.Schema.{AreRowsOf, IsRowOf}
+use Rattle.storage.proofs.BareTables.{AreBare}
 
 row_with_more : (n m : ℕ) → n ≤ m → (before : List Table) (t : Table) (row : Entry) → IsRowOf n before t row → IsRowOf m before t row
 row_with_more n m le before t row is = record {
@@ -48,3 +49,9 @@ told_once pages before (t ∷ tables) (row ∷ rows) tell are =
 
 pub none_once : AreOnce []
 none_once name t is = absurd cc
+
+-- tables that rows tell have no indexes
+pub told_bare : (pages : ℕ) (before tables : List Table) (rows : List Entry) → AreRowsOf pages before tables rows → AreBare tables
+told_bare pages before [] rows tell = tt
+told_bare pages before (t ∷ tables) [] tell = absurd tell
+told_bare pages before (t ∷ tables) (row ∷ rows) tell = (tell.0.made.bare, told_bare pages (before ++ t ∷ []) tables rows tell.1)

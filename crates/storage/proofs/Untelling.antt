@@ -101,6 +101,7 @@ fewer_row pages front u back t row is = record {
     name_is = is.made.name_is;
     root_is = is.made.root_is;
     columns = is.made.columns;
+    bare = is.made.bare;
   };
   rowid_is = is.rowid_is;
   above = is.above;

@@ -210,7 +210,7 @@ module _ (laws : Laws) (pages : PageMap) (size : ℕ) (tables : List Table) (db 
           → Pairwise (IsRow (length t.columns)) entries now → are_rows (plain_table t now) ≡ true → Stores new size tables (with_now now)
       stored new now entries becomes each fit =
           stores_rows laws.give_way pages new size tables db (with_now now) t now entries held owned becomes each fit (lists_now now)
-          (laws.tables db (folded u.table) (plain_table t now) held.only) (laws.named db (folded u.table) (ATable (plain_table t now)) held.named)
+          (laws.tables db (folded u.table) (ATable (plain_table t now)) held.only refl) (laws.named db (folded u.table) (ATable (plain_table t now)) held.named)
 
       tree_stands : Stands pages size t.root owned.split.is.entries owned.split.at.used held.free
       tree_stands = stands laws.stand pages size tables db held t owned

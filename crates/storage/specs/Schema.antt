@@ -1,6 +1,6 @@
 -- The rows of the schema table: each has the text of a CREATE TABLE (Database File Format, "Storage Of The SQL Database
 -- Schema").
-use Rattle.std.specs.Prelude.{◌≡◌, ◌<◌, ◌≤◌, ⊤, true, ℕ, pos, codes, List, [], ◌∷◌, ◌++◌, length}
+use Rattle.std.specs.Prelude.{◌≡◌, ◌<◌, ◌≤◌, ⊤, true, false, None, ℕ, pos, codes, List, [], ◌∷◌, ◌++◌, length}
 use Rattle.sqlval.specs.Names.{folded}
 use Rattle.sqlval.specs.declared.value.Value.{Value}
 use Rattle.sqlval.specs.declared.value.Value.TheVariants.{Int, Text}
@@ -12,18 +12,26 @@ use Rattle.syntax.specs.declared.create.TableDefinition.{TableDefinition}
 use Rattle.syntax.specs.declared.statement.Statement.{Statement}
 use Rattle.syntax.specs.declared.statement.Statement.TheVariants as statement
 use Rattle.catalog.specs.Database.{Name}
+use Rattle.catalog.specs.Listed.{has_doubled, is_reserved, table_named}
 use Rattle.catalog.specs.declared.tables.Table.{Table}
-use Rattle.bind.specs.Creating.{HasColumnsOf, IsNewBeside}
+use Rattle.bind.specs.Creating.{HasColumnsOf}
 use Rattle.grammar.specs.NewObjects.{is_object_within}
 use Rattle.grammar.specs.Texts.{IsStatementText}
 use Rattle.storage.specs.Forms.{is_supported, is_table_supported}
 
--- the table of a definition, whose tree begins at this page; nothing was in the definition's way among the tables
+-- nothing is in the definition's way: its name may be given, none of the tables has it, and no two columns have one name
+pub record IsFreshBeside (tables : List Table) (d : TableDefinition) : Type 0 where
+  pub free : is_reserved d.name ≡ false
+  pub new : table_named d.name tables ≡ None
+  pub once : has_doubled d.columns ≡ false
+
+-- the table of a definition, whose tree begins at this page and which has no indexes; nothing was in the definition's way among the tables
 pub record IsMadeBeside (tables : List Table) (d : TableDefinition) (root : ℕ) (t : Table) : Type 0 where
-  pub fresh : IsNewBeside tables d
+  pub fresh : IsFreshBeside tables d
   pub name_is : t.name ≡ d.name
   pub root_is : t.root ≡ root
   pub columns : HasColumnsOf d t
+  pub bare : t.indexes ≡ []
 
 -- the values of a table's row in the schema table: its kind, its name as an object and as a table, the page where its tree begins, and its text
 abbrev pub schema_row : Name → Name → ℕ → List ℕ → List Value
@@ -69,10 +77,11 @@ AreRowsOf pages before [] (row ∷ rows) = ⊥
 AreRowsOf pages before (table ∷ tables) [] = ⊥
 AreRowsOf pages before (table ∷ tables) (row ∷ rows) = IsRowOf pages before table row × AreRowsOf pages (before ++ table ∷ []) tables rows
 
--- the same table: by its name, its columns, the page where its tree begins, and its row in the schema table
+-- the same table: by its name, its columns, its indexes, the page where its tree begins, and its row in the schema table
 pub record IsSameTable (t u : Table) : Type 0 where
   pub name_is : u.name ≡ t.name
   pub columns_are : u.columns ≡ t.columns
+  pub indexes_are : u.indexes ≡ t.indexes
   pub root_is : u.root ≡ t.root
   pub rowid_is : u.rowid ≡ t.rowid
 

@@ -17,9 +17,9 @@ use catalog::{
     Catalog, Table, columns_of, is_reserved, named_databases_are_one, new_tables_are_listed,
     other_rows_are_listed,
 };
-use sharing::{table_trees_stand, trees_give_way};
 use pages::WritePages;
 use record::encode_row;
+use sharing::{table_trees_stand, trees_give_way};
 use sqlval::{Damage, Fault, Many, Misuse, Name, R, Text, Value};
 use std::alloc::Global;
 use syntax::TableDefinition;

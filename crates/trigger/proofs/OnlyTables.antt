@@ -1,5 +1,5 @@
 -- A database that only has tables and indexes that aren't UNIQUE.
-use Rattle.std.proofs.Common.{◌≡◌, refl, sym, ap, subst, ◌∙◌, ℕ, zero, suc, ◌<◌, Bool, true, false, ◌&&◌, List, [], ◌∷◌, ◌++◌, Option, Some, None, Ok, Err, map, length, ℤ, pos, arith}
+use Rattle.std.proofs.Common.{◌≡◌, refl, sym, ap, subst, ◌∙◌, ℕ, zero, suc, ◌<◌, Bool, true, false, ◌&&◌, ◌||◌, List, [], ◌∷◌, ◌++◌, Option, Some, None, Ok, Err, map, length, ℤ, pos, arith}
 use Rattle.std.specs.Prelude.{filter, flat_map, not, Contains}
 use Rattle.std.proofs.lemmas.Bool.{false≢true}
 use Rattle.sqlval.specs.Names.{folded}
@@ -37,7 +37,7 @@ rest false c h = h
 no_triggers : (db : Database) (name : Name) → has_only_plain db ≡ true → triggers_of db name ≡ []
 no_triggers [] name h = refl
 no_triggers ((n, ATable t) ∷ db) name h = no_triggers db name h
-no_triggers ((n, AnIndex i) ∷ db) name h = no_triggers db name (rest i.is_unique (has_only_plain db) h)
+no_triggers ((n, AnIndex i) ∷ db) name h = no_triggers db name (rest (i.is_unique || i.is_automatic) (has_only_plain db) h)
 no_triggers ((n, AView v) ∷ db) name h = absurd (false≢true h)
 no_triggers ((n, ATrigger t) ∷ db) name h = absurd (false≢true h)
 

@@ -2,8 +2,8 @@ use Rattle.std.proofs.Common.{◌≡◌, ◌∙◌, ◌+◌, suc, ℤ, ℕ, List
 use Rattle.std.proofs.lemmas.Int.{to_z-of_z}
 use Rattle.std.specs.Ordering.{int_cmp, ord_max}
 use Rattle.std.specs.Prelude.{take}
-use Rattle.catalog.specs.FreeRowids.{AreUpTo}
-use Rattle.catalog.proofs.FreeRowids.{next_up}
+use Rattle.catalog.specs.UnusedRowids.{AreUpTo}
+use Rattle.catalog.proofs.UnusedRowids.{next_up}
 use Rattle.catalog.proofs.rowids.greatest.Goals as goal
 
 pub rowids-preserved : goal.rowids-preserved

@@ -1,5 +1,5 @@
 use Rattle.std.specs.Prelude.{take}
-use Rattle.catalog.specs.FreeRowids.{AreUpTo}
+use Rattle.catalog.specs.UnusedRowids.{AreUpTo}
 use Rattle.catalog.proofs.rowids.greatest.Given as goal
 
 -- none of the rowids so far is greater

@@ -18,6 +18,7 @@ returns-clause-found c = λ is before new.
         name_is = c.in_ok-name.ensures;
         root_is = refl;
         columns = c.in_ok-columns.ensures.found.1;
+        bare = c.new.ensures;
       };
       rowid_is = to_z-of_z w64 c.args.row.now.rowid fits;
     }

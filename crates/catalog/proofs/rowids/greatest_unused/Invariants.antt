@@ -1,5 +1,5 @@
-use Rattle.catalog.proofs.FreeRowids.{AreTaken}
-use Rattle.catalog.proofs.rowids.greatest_free.Given as goal
+use Rattle.catalog.proofs.UnusedRowids.{AreTaken}
+use Rattle.catalog.proofs.rowids.greatest_unused.Given as goal
 
 -- those that were tried are taken
 abbrev pub invariant-taken : goal.invariant-taken

@@ -1,8 +1,8 @@
 use Rattle.std.proofs.Common.{◌≡◌, ◌∙◌, ℤ, pos, ◌+ℤ◌, ◌<ℤ◌, false, rules, to_z, of_z, w64, SFits, sym, ap, subst, arith}
 use Rattle.std.proofs.lemmas.Int.{to_z-of_z}
-use Rattle.catalog.specs.FreeRowids.{is_among}
-use Rattle.catalog.proofs.FreeRowids.{not_past}
-use Rattle.catalog.proofs.rowids.free_among.Goals as goal
+use Rattle.catalog.specs.UnusedRowids.{is_among}
+use Rattle.catalog.proofs.UnusedRowids.{not_past}
+use Rattle.catalog.proofs.rowids.unused_among.Goals as goal
 
 pub returns-in-Some : goal.returns-in-Some
 returns-in-Some c =

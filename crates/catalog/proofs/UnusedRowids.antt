@@ -12,7 +12,7 @@ use Rattle.std.specs.Ordering.{MatchOrdering, int_cmp, is_lt, ord_max, eq_by_cmp
 use Rattle.std.specs.declared.cmp.Ordering.{Ordering}
 use Rattle.std.specs.declared.cmp.Ordering.TheVariants.{Less, Equal, Greater}
 use Rattle.std.specs.List.{AllByRecursion, list_any}
-use Rattle.catalog.specs.FreeRowids.{AreUpTo, is_among}
+use Rattle.catalog.specs.UnusedRowids.{AreUpTo, is_among}
 
 same_int : (a b : ℤ) → eq_by_cmp int_cmp a b ≡ true → a ≡ b
 same_int a b h = tells_apart exact_signed a b h
