@@ -13,10 +13,10 @@ use Rattle.pages.specs.Counting.{Moves, fresh}
 use Rattle.pages.specs.Map.{PageMap}
 use Rattle.pages.proofs.Moving.{in_sequence}
 use Rattle.freelist.specs.Calls.{KeepsHeader}
-use Rattle.indextree.specs.Calls.{BecomesEntries, InsertsEntry, IsGrowthRefusal, IsInsertRefusal, RemovesEntry, Stands}
+use Rattle.indextree.specs.Calls.{BecomesEntries, InsertsEntry, IsInsertRefusal, RemovesEntry, Stands}
 use Rattle.indextree.specs.Entries.{has_entry, with_entry, without_entry}
 use Rattle.indexes.specs.Entries.{AreApart, Columns, IsApart, Row, collations, entries_of_rows, indexed}
-use Rattle.indexes.specs.Keeping.{AddsEntries, IsAddRefusal, IsTreeRefusal, TakesEntries, TakesEntry, Turns, columns_in, row_in}
+use Rattle.indexes.specs.Keeping.{AddsEntries, IsAddRefusal, TakesEntries, TakesEntry, Turns, columns_in, row_in}
 use Rattle.catalog.specs.declared.tables.IndexColumn.{IndexColumn}
 use Rattle.catalog.specs.declared.tables.TableRow.{TableRow}
 use Rattle.indexes.proofs.Rows.{adds_its_entry, takes_its_entry}
@@ -48,7 +48,7 @@ module _ (old new : PageMap) (size root : ℕ) (columns : Columns) (row : Row) w
       let there = put (entries_of_rows columns rows) used free stands (indexed_long columns row) in
       let law = adds_its_entry columns rows [] row apart in
       let same = law.1 ∙ ap (λ (rs : List Row). with_entry (collations columns) (indexed columns row) (entries_of_rows columns rs)) (append-nil rows) in
-      subst (λ (es : List (List Value)). BecomesEntries old new size root (collations columns) es used free) (sym same) there.1.0
+      subst (λ (es : List (List Value)). BecomesEntries old new size root (collations columns) es used free) (sym same) there.1
 
   -- it can't be there already
   pub entry_not_there : (entry : List Value) (under : List Collation) → entry ≡ indexed columns row → under ≡ collations columns
@@ -68,11 +68,10 @@ module _ (old new : PageMap) (size root : ℕ) (columns : Columns) (row : Row) w
   add_refused entry under is under_is fault (Err e) same inserts = λ rows apart used free stands. (
       let one = subst (λ (cs : List Collation). InsertsEntry old new size root cs entry (Err fault)) under_is inserts in
       let put = subst (λ (v : List Value). InsertsEntry old new size root (collations columns) v (Err fault)) is one in
-      subst (λ (f : Fault). IsAddRefusal root columns (row ∷ []) f) (sym same) (as_add (put (entries_of_rows columns rows) used free stands (indexed_long columns row))))
+      subst (λ (f : Fault). IsAddRefusal columns (row ∷ []) f) (sym same) (as_add (put (entries_of_rows columns rows) used free stands (indexed_long columns row))))
     where
-      as_add : {depth : ℕ} → IsInsertRefusal root depth (indexed columns row) fault → IsAddRefusal root columns (row ∷ []) fault
-      as_add (inl (inl outside)) = inl (inl outside)
-      as_add (inl (inr deep)) = inl (inr deep.0)
+      as_add : IsInsertRefusal (indexed columns row) fault → IsAddRefusal columns (row ∷ []) fault
+      as_add (inl refused) = inl refused
       as_add (inr long) = inr (long.0, λ all. long.1 all.0)
 
   pub entry_taken : (entry : List Value) (under : List Collation) → entry ≡ indexed columns row → under ≡ collations columns
@@ -81,7 +80,7 @@ module _ (old new : PageMap) (size root : ℕ) (columns : Columns) (row : Row) w
       let one = subst (λ (cs : List Collation). RemovesEntry old new size root cs entry (Ok true)) under_is removes in
       let take = subst (λ (e : List Value). RemovesEntry old new size root (collations columns) e (Ok true)) is one in
       let gone = take (entries_of_rows columns (before ++ row ∷ after)) used free stands (indexed_long columns row) in
-      subst (λ (es : List (List Value)). BecomesEntries old new size root (collations columns) es used free) (takes_its_entry columns before after row apart).1 gone.1.0
+      subst (λ (es : List (List Value)). BecomesEntries old new size root (collations columns) es used free) (takes_its_entry columns before after row apart).1 gone.1
 
   -- it can't be gone already
   pub entry_never_gone : (entry : List Value) (under : List Collation) → entry ≡ indexed columns row → under ≡ collations columns
@@ -99,11 +98,7 @@ module _ (old new : PageMap) (size root : ℕ) (columns : Columns) (row : Row) w
   take_refused entry under is under_is fault (Err e) same removes = λ before after apart used free stands. (
       let one = subst (λ (cs : List Collation). RemovesEntry old new size root cs entry (Err fault)) under_is removes in
       let take = subst (λ (v : List Value). RemovesEntry old new size root (collations columns) v (Err fault)) is one in
-      subst (λ (f : Fault). IsTreeRefusal root f) (sym same) (as_tree (take (entries_of_rows columns (before ++ row ∷ after)) used free stands (indexed_long columns row))))
-    where
-      as_tree : {depth : ℕ} → IsGrowthRefusal root depth fault → IsTreeRefusal root fault
-      as_tree (inl outside) = inl outside
-      as_tree (inr deep) = inr deep.0
+      subst IsOutsideOrFull (sym same) (take (entries_of_rows columns (before ++ row ∷ after)) used free stands (indexed_long columns row)))
 
 -- ---- several rows
 
@@ -163,7 +158,7 @@ module _ (size root : ℕ) (columns : Columns) where
   -- rows that are added
   pub adds_none : (pages : PageMap) → AddsEntries pages pages size root columns [] (Ok tt)
   adds_none pages rows apart =
-      subst (λ (rs : List Row). Turns pages pages size root columns rows rs (IsAddRefusal root columns []) (Ok tt)) (sym (append-nil rows)) (stays pages size root columns rows (IsAddRefusal root columns []))
+      subst (λ (rs : List Row). Turns pages pages size root columns rows rs (IsAddRefusal columns []) (Ok tt)) (sym (append-nil rows)) (stays pages size root columns rows (IsAddRefusal columns []))
 
   pub adds_more : (old mid new : PageMap) (row : Row) (rest : List Row) (result : Result ⊤ Fault) → AddsEntries old mid size root columns (row ∷ []) (Ok tt)
       → AddsEntries mid new size root columns rest result → AddsEntries old new size root columns (row ∷ rest) result
@@ -172,15 +167,15 @@ module _ (size root : ℕ) (columns : Columns) where
       let apart_all = subst AreApart (sym assoc) apart in
       let one = first rows (apart_front (rows ++ row ∷ []) rest apart_all) in
       let more = next (rows ++ row ∷ []) apart_all in
-      widened result (subst (λ (rs : List Row). Turns old new size root columns rows rs (IsAddRefusal root columns rest) result) assoc
-      (then_turns old mid new size root columns rows (rows ++ row ∷ []) ((rows ++ row ∷ []) ++ rest) (IsAddRefusal root columns (row ∷ [])) (IsAddRefusal root columns rest) result one more))
+      widened result (subst (λ (rs : List Row). Turns old new size root columns rows rs (IsAddRefusal columns rest) result) assoc
+      (then_turns old mid new size root columns rows (rows ++ row ∷ []) ((rows ++ row ∷ []) ++ rest) (IsAddRefusal columns (row ∷ [])) (IsAddRefusal columns rest) result one more))
     where
-      wider : (f : Fault) → IsAddRefusal root columns rest f → IsAddRefusal root columns (row ∷ rest) f
+      wider : (f : Fault) → IsAddRefusal columns rest f → IsAddRefusal columns (row ∷ rest) f
       wider f (inl tree) = inl tree
       wider f (inr long) = inr (long.0, λ all. long.1 all.1)
 
-      widened : (result : Result ⊤ Fault) → Turns old new size root columns rows (rows ++ row ∷ rest) (IsAddRefusal root columns rest) result
-          → Turns old new size root columns rows (rows ++ row ∷ rest) (IsAddRefusal root columns (row ∷ rest)) result
+      widened : (result : Result ⊤ Fault) → Turns old new size root columns rows (rows ++ row ∷ rest) (IsAddRefusal columns rest) result
+          → Turns old new size root columns rows (rows ++ row ∷ rest) (IsAddRefusal columns (row ∷ rest)) result
       widened (Ok done) turns = turns
       widened (Err f) turns = λ used free stands. wider f (turns used free stands)
 
@@ -188,25 +183,25 @@ module _ (size root : ℕ) (columns : Columns) where
       → AddsEntries old new size root columns (row ∷ []) (Err fault) → AddsEntries old new size root columns (row ∷ rest) result
   adds_stop old new row rest fault (Ok done) same first = absurd same
   adds_stop old new row rest fault (Err e) same first = λ rows apart used free stands.
-      subst (λ (f : Fault). IsAddRefusal root columns (row ∷ rest) f) (sym same)
+      subst (λ (f : Fault). IsAddRefusal columns (row ∷ rest) f) (sym same)
       (wider (first rows (apart_front (rows ++ row ∷ []) rest (subst AreApart (sym (append_assoc rows (row ∷ []) rest)) apart)) used free stands))
     where
-      wider : IsAddRefusal root columns (row ∷ []) fault → IsAddRefusal root columns (row ∷ rest) fault
+      wider : IsAddRefusal columns (row ∷ []) fault → IsAddRefusal columns (row ∷ rest) fault
       wider (inl tree) = inl tree
       wider (inr long) = inr (long.0, λ all. long.1 (all.0, tt))
 
   -- rows that are taken out
   pub takes_none : (pages : PageMap) → TakesEntries pages pages size root columns [] (Ok tt)
   takes_none pages rows apart =
-      subst (λ (rs : List Row). Turns pages pages size root columns rs rows (IsTreeRefusal root) (Ok tt)) (sym (append-nil rows)) (stays pages size root columns rows (IsTreeRefusal root))
+      subst (λ (rs : List Row). Turns pages pages size root columns rs rows IsOutsideOrFull (Ok tt)) (sym (append-nil rows)) (stays pages size root columns rows IsOutsideOrFull)
 
   pub takes_more : (old mid new : PageMap) (row : Row) (rest : List Row) (result : Result ⊤ Fault) → TakesEntry old mid size root columns row (Ok tt)
       → TakesEntries mid new size root columns rest result → TakesEntries old new size root columns (row ∷ rest) result
   takes_more old mid new row rest result first next rows apart =
-      then_turns old mid new size root columns (rows ++ row ∷ rest) (rows ++ rest) rows (IsTreeRefusal root) (IsTreeRefusal root) result
+      then_turns old mid new size root columns (rows ++ row ∷ rest) (rows ++ rest) rows IsOutsideOrFull IsOutsideOrFull result
       (first rows rest apart) (next rows (without_one rows row rest apart))
 
   pub takes_stop : (old new : PageMap) (row : Row) (rest : List Row) (fault : Fault) (result : Result ⊤ Fault) → IsErrAnd result (λ e. e ≡ fault)
       → TakesEntry old new size root columns row (Err fault) → TakesEntries old new size root columns (row ∷ rest) result
   takes_stop old new row rest fault (Ok done) same first = absurd same
-  takes_stop old new row rest fault (Err e) same first = λ rows apart used free stands. subst (IsTreeRefusal root) (sym same) (first rows rest apart used free stands)
+  takes_stop old new row rest fault (Err e) same first = λ rows apart used free stands. subst IsOutsideOrFull (sym same) (first rows rest apart used free stands)

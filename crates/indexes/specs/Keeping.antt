@@ -2,8 +2,7 @@
 use Rattle.std.specs.Prelude.{◌≡◌, ◌⊎◌, ⊤, ℕ, List, ◌∷◌, ◌++◌, map, Result, MatchResult}
 use Rattle.std.specs.List.{AllByRecursion}
 use Rattle.sqlval.specs.declared.fault.Fault.{Fault}
-use Rattle.sqlval.specs.declared.fault.Fault.TheVariants.{Damaged, TooLong}
-use Rattle.sqlval.specs.declared.fault.Damage.TheVariants as Damage
+use Rattle.sqlval.specs.declared.fault.Fault.TheVariants.{TooLong}
 use Rattle.sqlval.specs.declared.collation.Collation.{Collation}
 use Rattle.record.specs.Writing.{AreStorable}
 use Rattle.pages.specs.Calls.{IsOutsideOrFull}
@@ -27,26 +26,22 @@ Turns old new size root columns before after Why result = (used free : List ℕ)
     → Stands old size root (collations columns) (entries_of_rows columns before) used free
     → MatchResult result (λ done. BecomesEntries old new size root (collations columns) (entries_of_rows columns after) used free) Why
 
--- memory was short, a disk's call failed, there are as many pages as there may be, or a way of 20 pages would have to grow
-abbrev pub IsTreeRefusal : ℕ → Fault → Type 0
-IsTreeRefusal root fault = IsOutsideOrFull fault ⊎ (fault ≡ Damaged Damage.Depth root)
-
--- so a tree refuses it, or no record can hold the entry of a row
-abbrev pub IsAddRefusal : ℕ → Columns → List Row → Fault → Type 0
-IsAddRefusal root columns added fault =
-    IsTreeRefusal root fault ⊎ ((fault ≡ TooLong) × (AllByRecursion (λ row. AreStorable (indexed columns row)) added → ⊥))
+-- memory was short, a disk's call failed, there are as many pages as there may be, or no record can hold the entry of a row
+abbrev pub IsAddRefusal : Columns → List Row → Fault → Type 0
+IsAddRefusal columns added fault =
+    IsOutsideOrFull fault ⊎ ((fault ≡ TooLong) × (AllByRecursion (λ row. AreStorable (indexed columns row)) added → ⊥))
 
 -- Rows of other rowids come to the table, and their entries to the index.
 abbrev pub AddsEntries : PageMap → PageMap → ℕ → ℕ → Columns → List Row → Result ⊤ Fault → Type 0
 AddsEntries old new size root columns added result = (rows : List Row) → AreApart (rows ++ added)
-    → Turns old new size root columns rows (rows ++ added) (IsAddRefusal root columns added) result
+    → Turns old new size root columns rows (rows ++ added) (IsAddRefusal columns added) result
 
 -- A row goes from among others, and its entry from the index.
 abbrev pub TakesEntry : PageMap → PageMap → ℕ → ℕ → Columns → Row → Result ⊤ Fault → Type 0
 TakesEntry old new size root columns row result = (before after : List Row) → AreApart (before ++ row ∷ after)
-    → Turns old new size root columns (before ++ row ∷ after) (before ++ after) (IsTreeRefusal root) result
+    → Turns old new size root columns (before ++ row ∷ after) (before ++ after) IsOutsideOrFull result
 
 -- Rows go from the table, and their entries from the index.
 abbrev pub TakesEntries : PageMap → PageMap → ℕ → ℕ → Columns → List Row → Result ⊤ Fault → Type 0
 TakesEntries old new size root columns gone result = (rows : List Row) → AreApart (rows ++ gone)
-    → Turns old new size root columns (rows ++ gone) rows (IsTreeRefusal root) result
+    → Turns old new size root columns (rows ++ gone) rows IsOutsideOrFull result

@@ -59,8 +59,8 @@ fn take_entry<P: WritePages>(
     Err(Fault::Damaged(Damage::Index, root))
 }
 
-/// Puts the entries of rows that come to a table into the tree of one of its indexes. (`Memory`, `Io`, `Full`; `Damaged(Depth, root)` if
-/// a way of 20 pages would have to grow; `TooLong` if no record can hold an entry. Then some entries may be in.)
+/// Puts the entries of rows that come to a table into the tree of one of its indexes. (`Memory`, `Io`, `Full`; `TooLong` if no record
+/// can hold an entry. Then some entries may be in.)
 pub fn add_entries<P: WritePages>(
     alloc: Global,
     pages: &mut P,
@@ -84,8 +84,8 @@ pub fn add_entries<P: WritePages>(
     Ok(())
 }
 
-/// Takes the entries of rows that go from a table out of the tree of one of its indexes. (`Memory`, `Io`, `Full`; `Damaged(Depth, root)`
-/// if a way of 20 pages would have to grow. Then some entries may be out.)
+/// Takes the entries of rows that go from a table out of the tree of one of its indexes. (`Memory`, `Io`, `Full`. Then some entries may be
+/// out.)
 pub fn take_entries<P: WritePages>(
     alloc: Global,
     pages: &mut P,

@@ -35,7 +35,7 @@ module _ (old mid new : PageMap) (size root : ℕ) (columns : List Collation) (e
   pub fill_more : InsertsEntry mid new size root columns y (Ok true) → IsFilled old new size columns (take (index + 1) entries) free root
   fill_more inserts =
       let put = inserts (take index entries) filled.used filled.now_free filled.stands (next_whole columns entries index y are lt is) in
-      let now = put.1.0 in
+      let now = put.1 in
       record {
         used = now.now_used;
         now_free = now.now_free;
@@ -62,10 +62,9 @@ module _ (old mid new : PageMap) (size root : ℕ) (columns : List Collation) (e
       stored (x ∷ xs) zero d lt all = all.0
       stored (x ∷ xs) (suc index) d lt all = stored xs index d (omega (arith, lt)) all.1
 
-      by : IsInsertRefusal root filled.stands.tree.depth y fault → IsFillRefusal entries fault
-      by (inl (inl outside)) = inl outside
-      by (inl (inr deep)) = inr (inl (root, deep.0))
-      by (inr long) = inr (inr (long.0, λ all. long.1 (subst AreStorable (sym is) (stored entries index y lt all))))
+      by : IsInsertRefusal y fault → IsFillRefusal entries fault
+      by (inl outside) = inl outside
+      by (inr long) = inr (long.0, λ all. long.1 (subst AreStorable (sym is) (stored entries index y lt all)))
 
 -- what a call does where the pages below are the same
 pub does_since : {P K : Type 0} (below : P → K) (tells : K → Bool) (limits : K → Limits) (old mid : P) (Does : ℕ → Type 0) → below mid ≡ below old

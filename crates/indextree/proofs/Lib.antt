@@ -23,6 +23,12 @@ mod Planting
 mod Cutting
 mod Growth
 mod Rooting
+mod KidCells
+mod Openings
+mod Fourths
+mod Gatherings
+mod Flattened
+mod StoredTops
 mod Batches
 mod Without
 mod Tops

@@ -2,12 +2,13 @@
 use Rattle.std.proofs.Common.{◌≡◌, ◌≤◌, ◌<◌, ◌+◌, ◌*◌, ℕ, suc, ◌⊎◌, Bool, true, false, List, [], ◌∷◌, ◌++◌, length, map, refl, sym, ap, subst, ◌∙◌, inl, inr, arith}
 use Rattle.std.proofs.lemmas.List.{length-map}
 use Rattle.std.specs.List.{AllByRecursion}
-use Rattle.std.specs.Prelude.{Result, Ok, Err, IsErrAnd, MatchResult}
+use Rattle.std.specs.Prelude.{⊤, Result, Ok, Err, IsErrAnd, MatchResult}
 use Rattle.sqlval.specs.declared.fault.Fault.TheVariants.{Memory, TooLong}
 use Rattle.record.specs.Writing.{AreStorable}
 use Rattle.sqlval.specs.declared.collation.Collation.{Collation}
 use Rattle.sqlval.specs.declared.fault.Fault.{Fault}
 use Rattle.record.specs.Record.{IsRecord}
+use Rattle.pages.specs.Calls.{IsOutsideOrFull}
 use Rattle.pages.specs.Counting.{occurs, start_of, Moves}
 use Rattle.pages.specs.Map.{PageMap, page_at, Has}
 use Rattle.pages.proofs.Moving.{in_sequence, occurs_append}
@@ -25,10 +26,11 @@ use Rattle.packing.proofs.SmallLemmas.{entry_len}
 use Rattle.forest.specs.Saying.{Says}
 use Rattle.forest.specs.Sides.{children, each_of}
 use Rattle.forest.specs.Staying.{AreKept}
-use Rattle.forest.specs.Storing.{CanRoot, IsRewritten, IsLifted, IsRooted, Roots, cells_over}
+use Rattle.forest.specs.Storing.{CanRoot, IsRewritten, IsLifted, IsRooted, cells_over}
 use Rattle.forest.proofs.PutPages.{put_there}
-use Rattle.indextree.specs.Calls.{Stands, BecomesEntries, IsInserted, IsGrowthRefusal, IsInsertRefusal}
+use Rattle.indextree.specs.Calls.{Stands, BecomesEntries, IsInserted, IsInsertRefusal}
 use Rattle.indextree.specs.Entries.{Entry, AreEntries, has_entry, with_entry}
+use Rattle.indextree.specs.Flattening.{StoresTop}
 use Rattle.indextree.specs.Freeing.{all_of, below_of, StandsUnder}
 use Rattle.indextree.specs.Growing.{IsTop, IsDivider, IsPlanned, IsPut, IsUnder, IsChanged, Changes, entries_in}
 use Rattle.indextree.specs.Tree.{Held, IsInterior, Tree, top, entries_of, pages_of, Lies}
@@ -42,10 +44,6 @@ use Rattle.indextree.proofs.Planting.{plant, tops_kept, dividers_kept, moved_to,
 use Rattle.indextree.proofs.Clearing.{number_far}
 use Rattle.indextree.proofs.Shares.{after, beside_used, others_kept, start_after}
 use Rattle.indextree.proofs.Subtrees.{tree_up}
-
--- the tree has these entries now, and is at most one page deeper
-abbrev pub BecomesAtMost : PageMap → PageMap → ℕ → ℕ → List Collation → ℕ → List Entry → List ℕ → List ℕ → Type 0
-BecomesAtMost old new size root columns depth entries used free = (now : BecomesEntries old new size root columns entries used free) × (now.stands.tree.depth ≤ suc depth)
 
 pub not_true : {b : Bool} → b ≡ true → b ≡ false → ⊥
 not_true yes_is no_is = cc
@@ -63,39 +61,44 @@ module _ (old : PageMap) (size root : ℕ) (columns : List Collation) (entries :
   pub root_under : IsUnder old size root 19 columns depth tree free
   root_under = record { stands = root_stands; sorted = subst (λ (es : List Entry). AreEntries columns es) (sym is.tree.entries_are) is.tree.sorted; sized = is.sized }
 
-  pub becomes : (new : PageMap) (deep : ℕ) (t : Tree deep) (all : List Entry) (now_free : List ℕ) → deep < 20 → deep ≤ suc depth → top deep t ≡ root → Lies new size deep t → entries_of deep t ≡ all → AreEntries columns all
-      → HasFree new size now_free → Moves old new (pages_of depth tree) free (pages_of deep t) now_free → KeepsHeader old new → BecomesAtMost old new size root columns depth all used free
-  becomes new deep t all now_free shallow near at lies holds sorted has moves header =
+  pub becomes : (new : PageMap) (deep : ℕ) (t : Tree deep) (all : List Entry) (now_free : List ℕ) → deep < 20 → top deep t ≡ root → Lies new size deep t → entries_of deep t ≡ all → AreEntries columns all
+      → HasFree new size now_free → Moves old new (pages_of depth tree) free (pages_of deep t) now_free → KeepsHeader old new → BecomesEntries old new size root columns all used free
+  becomes new deep t all now_free shallow at lies holds sorted has moves header =
       let beside = root_stands in
-      let now = after old new size (pages_of depth tree) free (pages_of deep t) now_free beside.free_are moves has (tree_up old size depth tree beside.lies) beside.apart beside.first in (
-        record {
-          now_used = pages_of deep t;
-          now_free = now_free;
-          stands = record {
-            tree = record {
-              depth = deep;
-              tree = t;
-              shallow = shallow;
-              root_is = at;
-              lies = lies;
-              entries_are = holds;
-              sorted = sorted;
-              used_are = refl;
-              once = record { once = λ n. (let both = now.apart n in omega (arith, both)) };
-            };
-            free_are = now.are;
-            apart = now.apart;
-            first = now.first;
-            sized = is.sized;
+      let now = after old new size (pages_of depth tree) free (pages_of deep t) now_free beside.free_are moves has (tree_up old size depth tree beside.lies) beside.apart beside.first in
+      record {
+        now_used = pages_of deep t;
+        now_free = now_free;
+        stands = record {
+          tree = record {
+            depth = deep;
+            tree = t;
+            shallow = shallow;
+            root_is = at;
+            lies = lies;
+            entries_are = holds;
+            sorted = sorted;
+            used_are = refl;
+            once = record { once = λ n. (let both = now.apart n in omega (arith, both)) };
           };
-          moves = subst (λ (pages : List ℕ). Moves old new pages free (pages_of deep t) now_free) is.tree.used_are moves;
-          header = header;
-        },
-        near,
-      )
+          free_are = now.are;
+          apart = now.apart;
+          first = now.first;
+          sized = is.sized;
+        };
+        moves = subst (λ (pages : List ℕ). Moves old new pages free (pages_of deep t) now_free) is.tree.used_are moves;
+        header = header;
+      }
 
-  pub put_becomes : (new : PageMap) (all : List Entry) → AreEntries columns all → IsPut old new size root depth all (pages_of depth tree) free → BecomesAtMost old new size root columns depth all used free
-  put_becomes new all sorted p = becomes new depth p.tree all p.now_free is.tree.shallow (omega arith) p.top_is p.lies p.entries_are sorted p.has p.moves p.header
+  pub put_becomes : (new : PageMap) (deep : ℕ) (all : List Entry) → deep < 20 → AreEntries columns all → IsPut old new size root deep all (pages_of depth tree) free → BecomesEntries old new size root columns all used free
+  put_becomes new deep all shallow sorted p = becomes new deep p.tree all p.now_free shallow p.top_is p.lies p.entries_are sorted p.has p.moves p.header
+
+  -- what stands where the old tree did
+  pub put_stands : (new : PageMap) (deep ways : ℕ) (all : List Entry) → deep ≤ ways → (p : IsPut old new size root deep all (pages_of depth tree) free) → StandsUnder new size root ways deep p.tree p.now_free
+  put_stands new deep ways all shallow p =
+      let beside = root_stands in
+      let now = after old new size (pages_of depth tree) free (pages_of deep p.tree) p.now_free beside.free_are p.moves p.has (tree_up old size depth tree beside.lies) beside.apart beside.first in
+      record { top_is = p.top_is; lies = p.lies; shallow = shallow; apart = now.apart; first = now.first; free_are = now.are }
 
   -- ---- packed pages in place of the root's
 
@@ -168,7 +171,7 @@ module _ (old : PageMap) (size root : ℕ) (columns : List Collation) (entries :
         no_cons : {x : Piece} {xs : List Piece} → x ∷ xs ≡ [] → ⊥
         no_cons e = cc
 
-    rewritten_becomes : (new : PageMap) → packed.pieces.items ≡ [] → IsRewritten mid new size plan.now_free root packed.last.items → BecomesAtMost old new size root columns depth all used free
+    rewritten_becomes : (new : PageMap) → packed.pieces.items ≡ [] → IsRewritten mid new size plan.now_free root packed.last.items → BecomesEntries old new size root columns all used free
     rewritten_becomes new none r =
         let alone = one_top new packed.pieces.items plan.kids none (tops_now new (root ∷ []) plan.now_free r.moves) in
         let t = moved_to depth root plan.last in
@@ -178,7 +181,7 @@ module _ (old : PageMap) (size root : ℕ) (columns : List Collation) (entries :
           has = record { first = there.first; last = (let b = there.last in let longer = (r.moves).longer in omega (arith, b, longer)) };
           node_is = subst (λ (n : ℕ). IsNode (page_at new root) n (alone.1).node) (sym (start_after root far)) (subst (λ (page : List ℕ). IsNode page 0 (alone.1).node) (sym bytes) (alone.1).says);
         } in
-        becomes new depth t all plan.now_free is.tree.shallow (omega arith) (top_moved depth root plan.last) (lies_moved new size depth root plan.last (alone.1).node (alone.1).shows says)
+        becomes new depth t all plan.now_free is.tree.shallow (top_moved depth root plan.last) (lies_moved new size depth root plan.last (alone.1).node (alone.1).shows says)
         (entries_moved depth root plan.last ∙ subst (λ (ks : List (Tree depth × Held)). entries_in depth ks plan.last ≡ all) alone.0 plan.entries_are) sorted r.has
         (moves_now new (root ∷ []) plan.now_free r.moves (pages_of depth t) (λ n.
         (let e = ap (occurs n) (pages_moved depth root plan.last) in let s = occurs_append n (root ∷ []) (below_of depth plan.last) in
@@ -186,8 +189,8 @@ module _ (old : PageMap) (size root : ℕ) (columns : List Collation) (entries :
         (keeps_then old mid new plan.header r.header)
 
     -- the root is a page above several
-    lifted_becomes : (new : PageMap) → depth < 19 → IsLifted mid new size root IndexInterior plan.now_free packed → BecomesAtMost old new size root columns depth all used free
-    lifted_becomes new shallow l =
+    pub lifted_put : (new : PageMap) → IsLifted mid new size root IndexInterior plan.now_free packed → IsPut old new size root (suc depth) all (pages_of depth tree) free
+    lifted_put new l =
         let numbers = root ∷ (l.fronts ++ l.last ∷ []) in
         let keep = kept new numbers l.now_free l.moves in
         let planted = plant new size depth l.fronts l.last (images packed) plan.kids plan.last (divider_bytes packed) l.on (tops_now new numbers l.now_free l.moves)
@@ -203,15 +206,22 @@ module _ (old : PageMap) (size root : ℕ) (columns : List Collation) (entries :
           };
           children = planted.shown;
         } in
-        becomes new (suc depth) t all l.now_free (omega (arith, shallow)) (omega arith) refl (interior, planted.lies) (planted.entries_are ∙ plan.entries_are) sorted l.has
-        (moves_now new numbers l.now_free l.moves (pages_of (suc depth) t) (λ n.
-        (let pages = planted.pages_are n in let a = occurs_append n (root ∷ []) (pages_in depth planted.kids planted.last) in
-        let b = occurs_append n (root ∷ []) (l.fronts ++ l.last ∷ []) in omega (arith, pages, a, b))))
-        (keeps_then old mid new plan.header l.header)
+        record {
+          tree = t;
+          top_is = refl;
+          lies = (interior, planted.lies);
+          entries_are = planted.entries_are ∙ plan.entries_are;
+          now_free = l.now_free;
+          has = l.has;
+          moves = moves_now new numbers l.now_free l.moves (pages_of (suc depth) t) (λ n.
+              (let pages = planted.pages_are n in let a = occurs_append n (root ∷ []) (pages_in depth planted.kids planted.last) in
+              let b = occurs_append n (root ∷ []) (l.fronts ++ l.last ∷ []) in omega (arith, pages, a, b)));
+          header = keeps_then old mid new plan.header l.header;
+        }
 
-    pub rooted_becomes : (new : PageMap) → ((packed.pieces.items ≡ [] → ⊥) → depth < 19) → IsRooted mid new size root IndexInterior plan.now_free packed → BecomesAtMost old new size root columns depth all used free
+    pub rooted_becomes : (new : PageMap) → ((packed.pieces.items ≡ [] → ⊥) → depth < 19) → IsRooted mid new size root IndexInterior plan.now_free packed → BecomesEntries old new size root columns all used free
     rooted_becomes new shallow (inl alone) = rewritten_becomes new alone.0 alone.1
-    rooted_becomes new shallow (inr lifted) = lifted_becomes new (shallow lifted.0) lifted.1
+    rooted_becomes new shallow (inr lifted) = (let lt = shallow lifted.0 in put_becomes new (suc depth) all (omega (arith, lt)) sorted (lifted_put new lifted.1))
 
   -- ---- what the calls answer
 
@@ -219,8 +229,8 @@ module _ (old : PageMap) (size root : ℕ) (columns : List Collation) (entries :
     changed : (new : PageMap) (change : Change) → Changes old new size root 19 columns x payload (Ok change) → IsChanged old new size root 19 columns x depth tree free change
     changed new change changes = changes depth tree free root_under record_is
 
-    pub change_refused : (new : PageMap) (fault : Fault) → Changes old new size root 19 columns x payload (Err fault) → IsGrowthRefusal root depth fault
-    change_refused new fault changes = inl (changes depth tree free root_under record_is)
+    pub change_refused : (new : PageMap) (fault : Fault) → Changes old new size root 19 columns x payload (Err fault) → IsOutsideOrFull fault
+    change_refused new fault changes = changes depth tree free root_under record_is
 
     none : has_entry columns x (entries_of depth tree) ≡ false → has_entry columns x entries ≡ false
     none e = sym (ap (has_entry columns x) is.tree.entries_are) ∙ e
@@ -228,61 +238,42 @@ module _ (old : PageMap) (size root : ℕ) (columns : List Collation) (entries :
     sorted_now : has_entry columns x (entries_of depth tree) ≡ false → AreEntries columns (with_entry columns x (entries_of depth tree))
     sorted_now e = still_rise columns x (entries_of depth tree) root_under.sorted e long
 
-    pub inserted_there : (new : PageMap) → Changes old new size root 19 columns x payload (Ok There) → IsInserted old new size root columns x depth entries used free false
+    pub inserted_there : (new : PageMap) → Changes old new size root 19 columns x payload (Ok There) → IsInserted old new size root columns x entries used free false
     inserted_there new changes = (let c = changed new There changes in (sym (ap (has_entry columns x) is.tree.entries_are) ∙ c.0, c.1))
 
-    pub inserted_same : (new : PageMap) → Changes old new size root 19 columns x payload (Ok Same) → IsInserted old new size root columns x depth entries used free true
+    pub inserted_same : (new : PageMap) → Changes old new size root 19 columns x payload (Ok Same) → IsInserted old new size root columns x entries used free true
     inserted_same new changes =
         let c = changed new Same changes in (
           none c.0,
-          subst (λ (es : List Entry). BecomesAtMost old new size root columns depth (with_entry columns x es) used free) is.tree.entries_are
-              (put_becomes new (with_entry columns x (entries_of depth tree)) (sorted_now c.0) c.1),
+          subst (λ (es : List Entry). BecomesEntries old new size root columns (with_entry columns x es) used free) is.tree.entries_are
+              (put_becomes new depth (with_entry columns x (entries_of depth tree)) is.tree.shallow (sorted_now c.0) c.1),
         )
 
     module _ (mid : PageMap) (packed : Packed) (deep : Bool) (changes : Changes old mid size root 19 columns x payload (Ok (Spread packed deep))) where
       spread : IsChanged old mid size root 19 columns x depth tree free (Spread packed deep)
       spread = changed mid (Spread packed deep) changes
 
-      pub too_deep : deep ≡ true → 19 ≤ depth
-      too_deep e = (spread.1).full e
-
-      shallow : (deep ≡ true → packed.pieces.items ≡ []) → (packed.pieces.items ≡ [] → ⊥) → depth < 19
-      shallow lone some = by deep refl
+      -- packed pages that are stored as the top
+      pub inserted_spread : (new : PageMap) (result : Result ⊤ Fault) → StoresTop mid new size root packed deep result → MatchResult result (λ done. IsInserted old new size root columns x entries used free true) IsOutsideOrFull
+      inserted_spread new result stores = by result (stores old columns entries (with_entry columns x (entries_of depth tree)) used free is (sorted_now spread.0) spread.1 spread.2)
         where
-          by : (b : Bool) → deep ≡ b → depth < 19
-          by true e = absurd (some (lone e))
-          by false e = (spread.1).short e
-
-      pub inserted_spread : (new : PageMap) → (deep ≡ true → packed.pieces.items ≡ []) → Roots mid new size root IndexInterior packed (Ok tt) → IsInserted old new size root columns x depth entries used free true
-      inserted_spread new lone roots =
-          let all = with_entry columns x (entries_of depth tree) in
-          let sorted = sorted_now spread.0 in
-          let plan = spread.2 in (
-            none spread.0,
-            subst (λ (es : List Entry). BecomesAtMost old new size root columns depth (with_entry columns x es) used free) is.tree.entries_are
-                (rooted_becomes mid all sorted packed plan new (shallow lone)
-                (roots plan.now_free (root_free mid all sorted packed plan) (root_there mid all sorted packed plan) (root_unfree mid all sorted packed plan) refl (can_root mid all sorted packed plan))),
-          )
-
-      pub spread_refused : (new : PageMap) (fault : Fault) → Roots mid new size root IndexInterior packed (Err fault) → IsGrowthRefusal root depth fault
-      spread_refused new fault roots =
-          let all = with_entry columns x (entries_of depth tree) in
-          let sorted = sorted_now spread.0 in
-          let plan = spread.2 in
-          inl (roots plan.now_free (root_free mid all sorted packed plan) (root_there mid all sorted packed plan) (root_unfree mid all sorted packed plan) refl (can_root mid all sorted packed plan))
+          by : (result : Result ⊤ Fault) → MatchResult result (λ done. BecomesEntries old new size root columns (with_entry columns x (entries_of depth tree)) used free) IsOutsideOrFull
+              → MatchResult result (λ done. IsInserted old new size root columns x entries used free true) IsOutsideOrFull
+          by (Ok done) now = (none spread.0, subst (λ (es : List Entry). BecomesEntries old new size root columns (with_entry columns x es) used free) is.tree.entries_are now)
+          by (Err fault) refused = refused
 
 -- ---- exits
 
-pub insert_err : {T : Type 0} (I : T → Type 0) (result : Result T Fault) (fault : Fault) (root depth : ℕ) (x : Entry) → IsErrAnd result (λ e. e ≡ fault) → IsGrowthRefusal root depth fault → MatchResult result I (IsInsertRefusal root depth x)
-insert_err I (Ok y) fault root depth x is refused = absurd is
-insert_err I (Err e) fault root depth x is refused = inl (subst (IsGrowthRefusal root depth) (sym is) refused)
+pub insert_err : {T : Type 0} (I : T → Type 0) (result : Result T Fault) (fault : Fault) (x : Entry) → IsErrAnd result (λ e. e ≡ fault) → IsOutsideOrFull fault → MatchResult result I (IsInsertRefusal x)
+insert_err I (Ok y) fault x is refused = absurd is
+insert_err I (Err e) fault x is refused = inl (subst IsOutsideOrFull (sym is) refused)
 
 -- a record wasn't made
-pub encode_err : {T : Type 0} (I : T → Type 0) (result : Result T Fault) (fault : Fault) (root depth : ℕ) (x : Entry) → IsErrAnd result (λ e. e ≡ fault)
-    → (fault ≡ Memory) ⊎ ((fault ≡ TooLong) × (AreStorable x → ⊥)) → MatchResult result I (IsInsertRefusal root depth x)
-encode_err I (Ok y) fault root depth x is refused = absurd is
-encode_err I (Err e) fault root depth x is (inl memory) = inl (inl (inl (inl (is ∙ memory))))
-encode_err I (Err e) fault root depth x is (inr large) = inr (is ∙ large.0, large.1)
+pub encode_err : {T : Type 0} (I : T → Type 0) (result : Result T Fault) (fault : Fault) (x : Entry) → IsErrAnd result (λ e. e ≡ fault) → (fault ≡ Memory) ⊎ ((fault ≡ TooLong) × (AreStorable x → ⊥))
+    → MatchResult result I (IsInsertRefusal x)
+encode_err I (Ok y) fault x is refused = absurd is
+encode_err I (Err e) fault x is (inl memory) = inl (inl (inl (is ∙ memory)))
+encode_err I (Err e) fault x is (inr large) = inr (is ∙ large.0, large.1)
 
 pub none_left : {A : Type 0} (xs : List A) → length xs ≡ 0 → xs ≡ []
 none_left [] none = refl

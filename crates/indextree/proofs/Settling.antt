@@ -1,36 +1,33 @@
--- A root that takes over the cells of its one child, or gives way to packed pages.
-use Rattle.std.proofs.Common.{◌≡◌, ◌≤◌, ◌<◌, ◌+◌, ℕ, zero, suc, List, [], ◌∷◌, ◌++◌, length, map, Option, None, Some, refl, sym, ap, subst, ◌∙◌, ◌⊎◌, inl, inr, arith}
-use Rattle.std.proofs.lemmas.Bool.{cases_lt}
+-- A root that takes over the cells of its one child.
+use Rattle.std.proofs.Common.{◌≡◌, ◌≤◌, ◌<◌, ◌+◌, ℕ, zero, suc, List, [], ◌∷◌, ◌++◌, length, map, None, Some, refl, sym, ap, subst, ◌∙◌, inl, arith}
 use Rattle.std.specs.Prelude.{⊤, Result, Ok, Err, MatchResult}
 use Rattle.sqlval.specs.Faults.{IsOutside}
 use Rattle.sqlval.specs.declared.collation.Collation.{Collation}
 use Rattle.sqlval.specs.declared.fault.Fault.{Fault}
 use Rattle.pages.specs.Calls.{IsOutsideOrFull}
-use Rattle.pages.specs.Counting.{occurs, start_of, Moves}
+use Rattle.pages.specs.Counting.{occurs, Moves}
 use Rattle.pages.specs.Map.{PageMap, page_at, Has}
 use Rattle.pages.proofs.Moving.{in_sequence, occurs_append}
 use Rattle.overflow.proofs.Laying.{keeps_then}
 use Rattle.treepage.specs.Cells.{Pairwise}
 use Rattle.treepage.specs.Node.{Local, Node, Entries, Between, IsNode}
 use Rattle.treepage.specs.Reading.{count_of, last_of}
-use Rattle.treepage.specs.declared.items.Kind.TheVariants.{IndexInterior}
 use Rattle.packing.specs.Packing.{images}
 use Rattle.packing.specs.declared.spreading.Packed.{Packed}
 use Rattle.packing.specs.declared.spreading.Piece.{Piece}
 use Rattle.forest.specs.Saying.{Says}
 use Rattle.forest.specs.Sides.{Each, children, each_of}
 use Rattle.forest.specs.Staying.{AreKept}
-use Rattle.forest.specs.Storing.{IsRooted, Roots}
-use Rattle.indextree.specs.Calls.{Stands}
+use Rattle.indextree.specs.Calls.{Stands, BecomesEntries}
 use Rattle.indextree.specs.Entries.{Entry, AreEntries}
 use Rattle.indextree.specs.Freeing.{all_of, below_of}
 use Rattle.indextree.specs.Growing.{Shows, IsTop, IsPlanned, entries_in}
 use Rattle.indextree.specs.Lowering.{IsLone, IsTakenOver, AreApart, TakesOver}
 use Rattle.indextree.specs.Tree.{Held, IsKidAs, Tree, top, entries_of, pages_of, Lies}
 use Rattle.indextree.proofs.Clearing.{top_and_below, number_far}
-use Rattle.indextree.proofs.Growth.{chain, pages_in, moves_top, planned_once, planned_after}
+use Rattle.indextree.proofs.Growth.{chain, moves_top, planned_once, planned_after}
 use Rattle.indextree.proofs.Planting.{moved_to, top_moved, entries_moved, pages_moved, lies_moved, shows_kept}
-use Rattle.indextree.proofs.Rooting.{BecomesAtMost, root_stands, becomes, root_free, root_there, root_unfree, can_root, rooted_becomes}
+use Rattle.indextree.proofs.Rooting.{root_stands, becomes, root_free, root_there}
 use Rattle.indextree.proofs.Shares.{beside_used, others_kept, start_after, after_first}
 use Rattle.indextree.proofs.Subtrees.{pages_split, top_there}
 
@@ -116,22 +113,6 @@ module _ (old : PageMap) (size root : ℕ) (columns : List Collation) (entries :
   abbrev parts : List ℕ
   parts = each_of (below_of depth) chain plan.kids plan.last
 
-  -- packed pages in its place
-  pub settled_none : (new : PageMap) (result : Result ⊤ Fault) → (19 ≤ depth → packed.pieces.items ≡ []) → Roots mid new size root IndexInterior packed result
-      → MatchResult result (λ done. BecomesAtMost old new size root columns depth all used free) IsOutsideOrFull
-  settled_none new result shallow roots = by result (roots plan.now_free (root_free old size root columns entries used free is mid all sorted packed plan) (root_there old size root columns entries used free is mid all sorted packed plan)
-      (root_unfree old size root columns entries used free is mid all sorted packed plan) refl (can_root old size root columns entries used free is mid all sorted packed plan))
-    where
-      short : (packed.pieces.items ≡ [] → ⊥) → depth < 19
-      short some = elim (cases_lt depth 19) [
-        | inl lt ↦ lt
-        | inr ge ↦ absurd (some (shallow ge))
-      ]
-
-      by : (result : Result ⊤ Fault) → MatchResult result (λ done. IsRooted mid new size root IndexInterior plan.now_free packed) IsOutsideOrFull → MatchResult result (λ done. BecomesAtMost old new size root columns depth all used free) IsOutsideOrFull
-      by (Ok done) rooted = rooted_becomes old size root columns entries used free is mid all sorted packed plan new short rooted
-      by (Err fault) refused = refused
-
   module _ (child : ℕ) (lone : IsLone packed child) where
     o : IsOver mid size depth child (entries_in depth plan.kids plan.last) parts
     o = lone_over mid size child depth packed plan.kids plan.last plan.tops lone
@@ -181,7 +162,7 @@ module _ (old : PageMap) (size root : ℕ) (columns : List Collation) (entries :
                 (subst (λ (n : ℕ). IsNode (page_at mid child) n s.node) (start_after child far_child) (subst (λ (k : ℕ). Says mid k s.node) o.at s.says).node_is));
           }
 
-      pub lowered : BecomesAtMost old new size root columns depth all used free
+      pub lowered : BecomesEntries old new size root columns all used free
       lowered =
           let t = moved_to o.deep root o.tree in
           let near = o.near in
@@ -190,7 +171,7 @@ module _ (old : PageMap) (size root : ℕ) (columns : List Collation) (entries :
           let second = beside_used mid new (root ∷ child ∷ []) plan.now_free (root ∷ []) taken.now_free (below_of o.deep o.tree) (root ∷ parts) (pages_of o.deep t) taken.moves
           (λ n. (let p = pages_two n in let a = occurs_append n (root ∷ []) (child ∷ []) in let b = occurs_append n (root ∷ []) parts in let c = occurs_append n (child ∷ []) (below_of o.deep o.tree) in omega (arith, p, a, b, c)))
           (λ n. (let e = ap (occurs n) (pages_moved o.deep root o.tree) in let f = occurs_append n (root ∷ []) (below_of o.deep o.tree) in omega (arith, e, f))) in
-          becomes old size root columns entries used free is new o.deep t all taken.now_free (omega (arith, near, shallow)) (omega (arith, near)) (top_moved o.deep root o.tree)
+          becomes old size root columns entries used free is new o.deep t all taken.now_free (omega (arith, near, shallow)) (top_moved o.deep root o.tree)
           (lies_moved new size o.deep root o.tree s.node (shows_kept mid new size o.deep o.tree s.node kept s.shows) says_new)
           (entries_moved o.deep root o.tree ∙ o.entries_are ∙ plan.entries_are) sorted taken.has
           (subst (λ (was : List ℕ). Moves old new was free (pages_of o.deep t) taken.now_free) (sym (top_and_below old size root 19 depth is.tree.tree free (root_stands old size root columns entries used free is)))
@@ -198,10 +179,10 @@ module _ (old : PageMap) (size root : ℕ) (columns : List Collation) (entries :
           (keeps_then old mid new plan.header taken.header)
 
     -- the child's cells in its place
-    pub settled_some : (new : PageMap) (result : Result ⊤ Fault) → TakesOver mid new size root child result → MatchResult result (λ done. BecomesAtMost old new size root columns depth all used free) IsOutsideOrFull
+    pub settled_some : (new : PageMap) (result : Result ⊤ Fault) → TakesOver mid new size root child result → MatchResult result (λ done. BecomesEntries old new size root columns all used free) IsOutsideOrFull
     settled_some new result takes = by result (takes plan.now_free (root_free old size root columns entries used free is mid all sorted packed plan) are_apart)
       where
         by : (result : Result ⊤ Fault) → MatchResult result (λ done. IsTakenOver mid new size plan.now_free root child) IsOutside
-            → MatchResult result (λ done. BecomesAtMost old new size root columns depth all used free) IsOutsideOrFull
+            → MatchResult result (λ done. BecomesEntries old new size root columns all used free) IsOutsideOrFull
         by (Ok done) taken = lowered new taken
         by (Err fault) outside = inl outside

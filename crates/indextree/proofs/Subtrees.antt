@@ -110,14 +110,19 @@ each_up : {T : Type 0} (most : ℕ) (pages : T → List ℕ) (P : T → Type 0) 
 each_up most pages P go [] last h = up_append most (pages last) [] (go last h) (up_none most)
 each_up most pages P go (kid ∷ kids) last h = up_append most (pages kid.0) (flat_map pages (all_of kids last)) (go kid.0 h.0) (each_up most pages P go kids last h.1)
 
+-- and those of a row
+pub row_up : {T : Type 0} (m : PageMap) (size : ℕ) (page : T → ℕ) (pages : T → List ℕ) (P : T → Type 0) → ((u : T) → P u → AreUpTo (length m) (pages u)) → (said : List (ℕ × Local)) (kids : List (T × Held)) (last : T)
+    → Pairwise (IsKidAs m size) said (children page kids) → Each P kids last → AreUpTo (length m) (each_of pages (λ held. held.pages) kids last)
+row_up m size page pages P go said kids last shown lies n some =
+    let chains = entries_up m size (map (λ it. it.1) said) (entries_between kids) (held_between m size page said kids shown) in
+    up_append (length m) (chains_of (entries_between kids)) (flat_map pages (all_of kids last)) chains (each_up (length m) pages P go kids last lies) n
+    (let row = row_pages pages n kids last in let both = occurs_append n (chains_of (entries_between kids)) (flat_map pages (all_of kids last)) in omega (arith, row, both, some))
+
 pub tree_up : (m : PageMap) (size depth : ℕ) (t : Tree depth) → Lies m size depth t → AreUpTo (length m) (pages_of depth t)
 tree_up m size zero t lies = up_cons (length m) t.page (chains_of t.entries) lies.says.has.last (entries_up m size lies.said t.entries lies.entries)
 tree_up m size (suc depth) t lies =
-    let chains = entries_up m size (map (λ it. it.1) lies.0.said) (entries_between t.kids) (held_between m size (top depth) lies.0.said t.kids lies.0.children) in
-    let kids = each_up (length m) (pages_of depth) (Lies m size depth) (tree_up m size depth) t.kids t.last lies.1 in
-    up_cons (length m) t.page (below_of (suc depth) t) lies.0.says.has.last (λ n some.
-    up_append (length m) (chains_of (entries_between t.kids)) (flat_map (pages_of depth) (all_of t.kids t.last)) chains kids n
-    (let row = row_pages (pages_of depth) n t.kids t.last in let both = occurs_append n (chains_of (entries_between t.kids)) (flat_map (pages_of depth) (all_of t.kids t.last)) in omega (arith, row, both, some)))
+    up_cons (length m) t.page (below_of (suc depth) t) lies.0.says.has.last
+    (row_up m size (top depth) (pages_of depth) (Lies m size depth) (tree_up m size depth) lies.0.said t.kids t.last lies.0.children lies.1)
 
 pub below_up : (m : PageMap) (size depth : ℕ) (t : Tree depth) → Lies m size depth t → AreUpTo (length m) (below_of depth t)
 below_up m size depth t lies n some = tree_up m size depth t lies n (let e = ap (occurs n) (pages_split depth t) in omega (arith, e, some))

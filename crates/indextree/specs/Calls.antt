@@ -1,11 +1,10 @@
 -- What calls do with an index's tree: it is a set of entries in rising order.
-use Rattle.std.specs.Prelude.{◌≡◌, ◌⊎◌, ◌≤◌, ◌+◌, ℕ, suc, Bool, true, false, List, [], ◌∷◌, length, ⊤, Result, MatchResult}
+use Rattle.std.specs.Prelude.{◌≡◌, ◌⊎◌, ◌≤◌, ◌+◌, ℕ, Bool, true, false, List, [], ◌∷◌, length, ⊤, Result, MatchResult}
 use Rattle.sqlval.specs.Faults.{IsOutside}
 use Rattle.sqlval.specs.PageSizes.{IsPageSize}
 use Rattle.sqlval.specs.declared.collation.Collation.{Collation}
 use Rattle.sqlval.specs.declared.fault.Fault.{Fault}
-use Rattle.sqlval.specs.declared.fault.Fault.TheVariants.{Damaged, TooLong}
-use Rattle.sqlval.specs.declared.fault.Damage.TheVariants as Damage
+use Rattle.sqlval.specs.declared.fault.Fault.TheVariants.{TooLong}
 use Rattle.record.specs.Writing.{AreStorable}
 use Rattle.pages.specs.Calls.{IsOutsideOrFull}
 use Rattle.pages.specs.Counting.{occurs, Moves}
@@ -77,41 +76,33 @@ pub record BecomesEntries (old new : PageMap) (size root : ℕ) (columns : List 
   pub moves : Moves old new used free now_used now_free
   pub header : KeepsHeader old new
 
--- memory was short, a disk's call failed, there are as many pages as there may be, or a way of 20 pages would have to grow
-abbrev pub IsGrowthRefusal : ℕ → ℕ → Fault → Type 0
-IsGrowthRefusal root depth fault = IsOutsideOrFull fault ⊎ ((fault ≡ Damaged Damage.Depth root) × (19 ≤ depth))
+-- memory was short, a disk's call failed, there are as many pages as there may be, or no record can hold the entry
+abbrev pub IsInsertRefusal : Entry → Fault → Type 0
+IsInsertRefusal entry fault = IsOutsideOrFull fault ⊎ ((fault ≡ TooLong) × (AreStorable entry → ⊥))
 
--- a growth was refused, or no record can hold the entry
-abbrev pub IsInsertRefusal : ℕ → ℕ → Entry → Fault → Type 0
-IsInsertRefusal root depth entry fault =
-    IsGrowthRefusal root depth fault ⊎ ((fault ≡ TooLong) × (AreStorable entry → ⊥))
+-- the entry was put in; or it is there and nothing changed
+abbrev pub IsInserted : PageMap → PageMap → ℕ → ℕ → List Collation → Entry → List Entry → List ℕ → List ℕ → Bool → Type 0
+IsInserted old new size root columns entry entries used free true =
+    (has_entry columns entry entries ≡ false) × BecomesEntries old new size root columns (with_entry columns entry entries) used free
+IsInserted old new size root columns entry entries used free false = (has_entry columns entry entries ≡ true) × (new ≡ old)
 
--- the entry was put in, and the tree, which had so many interior pages above each leaf, has at most one more; or it is there and nothing
--- changed
-abbrev pub IsInserted : PageMap → PageMap → ℕ → ℕ → List Collation → Entry → ℕ → List Entry → List ℕ → List ℕ → Bool → Type 0
-IsInserted old new size root columns entry depth entries used free true =
-    (has_entry columns entry entries ≡ false)
-    × ((now : BecomesEntries old new size root columns (with_entry columns entry entries) used free) × (now.stands.tree.depth ≤ suc depth))
-IsInserted old new size root columns entry depth entries used free false = (has_entry columns entry entries ≡ true) × (new ≡ old)
-
--- Where a tree stands, an entry of its columns and a rowid is put into it; or the call is refused, as growth is.
+-- Where a tree stands, an entry of its columns and a rowid is put into it; or the call is refused.
 abbrev pub InsertsEntry : PageMap → PageMap → ℕ → ℕ → List Collation → Entry → Result Bool Fault → Type 0
 InsertsEntry old new size root columns entry result =
-    (entries : List Entry) (used free : List ℕ) (is : Stands old size root columns entries used free) → length entry ≡ length columns + 1
-    → MatchResult result (IsInserted old new size root columns entry is.tree.depth entries used free) (IsInsertRefusal root is.tree.depth entry)
+    (entries : List Entry) (used free : List ℕ) → Stands old size root columns entries used free → length entry ≡ length columns + 1
+    → MatchResult result (IsInserted old new size root columns entry entries used free) (IsInsertRefusal entry)
 
 -- ---- an entry that is taken out
 
--- the entry was taken out, and the tree is at most one page deeper; or it isn't there and nothing changed
-abbrev pub IsRemoved : PageMap → PageMap → ℕ → ℕ → List Collation → Entry → ℕ → List Entry → List ℕ → List ℕ → Bool → Type 0
-IsRemoved old new size root columns entry depth entries used free true =
-    (has_entry columns entry entries ≡ true)
-    × ((now : BecomesEntries old new size root columns (without_entry columns entry entries) used free) × (now.stands.tree.depth ≤ suc depth))
-IsRemoved old new size root columns entry depth entries used free false = (has_entry columns entry entries ≡ false) × (new ≡ old)
+-- the entry was taken out; or it isn't there and nothing changed
+abbrev pub IsRemoved : PageMap → PageMap → ℕ → ℕ → List Collation → Entry → List Entry → List ℕ → List ℕ → Bool → Type 0
+IsRemoved old new size root columns entry entries used free true =
+    (has_entry columns entry entries ≡ true) × BecomesEntries old new size root columns (without_entry columns entry entries) used free
+IsRemoved old new size root columns entry entries used free false = (has_entry columns entry entries ≡ false) × (new ≡ old)
 
--- Where a tree stands, an entry of its columns and a rowid is taken out of it; or the call is refused, as growth is: pages that are joined
--- may need one more.
+-- Where a tree stands, an entry of its columns and a rowid is taken out of it; or memory was short, a disk's call failed, or there are as many
+-- pages as there may be: pages that are joined may need one more.
 abbrev pub RemovesEntry : PageMap → PageMap → ℕ → ℕ → List Collation → Entry → Result Bool Fault → Type 0
 RemovesEntry old new size root columns entry result =
-    (entries : List Entry) (used free : List ℕ) (is : Stands old size root columns entries used free) → length entry ≡ length columns + 1
-    → MatchResult result (IsRemoved old new size root columns entry is.tree.depth entries used free) (IsGrowthRefusal root is.tree.depth)
+    (entries : List Entry) (used free : List ℕ) → Stands old size root columns entries used free → length entry ≡ length columns + 1
+    → MatchResult result (IsRemoved old new size root columns entry entries used free) IsOutsideOrFull

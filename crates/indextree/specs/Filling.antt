@@ -4,8 +4,7 @@ use Rattle.std.specs.List.{AllByRecursion}
 use Rattle.sqlval.specs.PageSizes.{IsPageSize}
 use Rattle.sqlval.specs.declared.collation.Collation.{Collation}
 use Rattle.sqlval.specs.declared.fault.Fault.{Fault}
-use Rattle.sqlval.specs.declared.fault.Fault.TheVariants.{Damaged, TooLong}
-use Rattle.sqlval.specs.declared.fault.Damage.TheVariants as Damage
+use Rattle.sqlval.specs.declared.fault.Fault.TheVariants.{TooLong}
 use Rattle.record.specs.Writing.{AreStorable}
 use Rattle.pages.specs.Calls.{IsOutsideOrFull}
 use Rattle.pages.specs.Counting.{Moves}
@@ -22,12 +21,9 @@ pub record IsFilled (old new : PageMap) (size : ℕ) (columns : List Collation) 
   pub moves : Moves old new [] free used now_free
   pub header : KeepsHeader old new
 
--- memory was short, a disk's call failed, there are as many pages as there may be, a way of 20 pages would have to grow, or no record can hold
--- an entry
+-- memory was short, a disk's call failed, there are as many pages as there may be, or no record can hold an entry
 abbrev pub IsFillRefusal : List Entry → Fault → Type 0
-IsFillRefusal entries fault =
-    IsOutsideOrFull fault
-    ⊎ (((root : ℕ) × (fault ≡ Damaged Damage.Depth root)) ⊎ ((fault ≡ TooLong) × (AllByRecursion AreStorable entries → ⊥)))
+IsFillRefusal entries fault = IsOutsideOrFull fault ⊎ ((fault ≡ TooLong) × (AllByRecursion AreStorable entries → ⊥))
 
 -- Where these pages are free, a tree of entries that rise is made; or it is refused.
 abbrev pub FillsTree : PageMap → PageMap → ℕ → List Collation → List Entry → Result ℕ Fault → Type 0

@@ -1,19 +1,13 @@
 -- What becomes of the root of an index's tree that lost an entry.
-use Rattle.std.specs.Prelude.{◌≡◌, ◌≤◌, ◌<◌, ◌+◌, ℕ, suc, List, [], ◌∷◌, Some, ⊤, Result, MatchResult}
+use Rattle.std.specs.Prelude.{◌≡◌, ◌≤◌, ◌<◌, ◌+◌, ℕ, List, [], ◌∷◌, Some, ⊤, Result, MatchResult}
 use Rattle.sqlval.specs.Faults.{IsOutside}
-use Rattle.sqlval.specs.declared.collation.Collation.{Collation}
 use Rattle.sqlval.specs.declared.fault.Fault.{Fault}
-use Rattle.pages.specs.Calls.{IsOutsideOrFull}
 use Rattle.pages.specs.Counting.{occurs, Moves}
 use Rattle.pages.specs.Map.{PageMap, page_at, Has}
 use Rattle.freelist.specs.Calls.{AreFree, HasFree, KeepsHeader}
 use Rattle.treepage.specs.Node.{Node, IsNode}
 use Rattle.treepage.specs.Reading.{count_of, last_of}
 use Rattle.packing.specs.declared.spreading.Packed.{Packed}
-use Rattle.indextree.specs.Calls.{Stands, BecomesEntries}
-use Rattle.indextree.specs.Entries.{Entry, AreEntries}
-use Rattle.indextree.specs.Freeing.{below_of}
-use Rattle.indextree.specs.Growing.{IsPlanned}
 
 -- packed pages are one page without cells that leads to this child
 pub record IsLone (packed : Packed) (child : ℕ) : Type 0 where
@@ -40,12 +34,3 @@ pub record AreApart (map : PageMap) (free : List ℕ) (number child : ℕ) : Typ
 abbrev pub TakesOver : PageMap → PageMap → ℕ → ℕ → ℕ → Result ⊤ Fault → Type 0
 TakesOver old new size number child result = (free : List ℕ) → AreFree old size free → AreApart old free number child
     → MatchResult result (λ done. IsTakenOver old new size free number child) IsOutside
-
--- where packed pages have to take the place of a root's page, they do, and the tree is at most one page deeper; or memory was short, a disk's
--- call failed, or there are as many pages as there may be
-abbrev pub SettlesRoot : PageMap → PageMap → ℕ → ℕ → Packed → Result ⊤ Fault → Type 0
-SettlesRoot mid new size root packed result =
-    (old : PageMap) (columns : List Collation) (entries all : List Entry) (used free : List ℕ) (is : Stands old size root columns entries used free)
-    → AreEntries columns all → IsPlanned old mid size is.tree.depth all (below_of is.tree.depth is.tree.tree) free packed
-    → (19 ≤ is.tree.depth → packed.pieces.items ≡ [])
-    → MatchResult result (λ done. (now : BecomesEntries old new size root columns all used free) × (now.stands.tree.depth ≤ suc is.tree.depth)) IsOutsideOrFull

@@ -60,7 +60,7 @@ fn packed_leaf<P: WritePages>(
 }
 
 /// The cell with this child in place of its own.
-fn parent_cell(alloc: Global, cell: &[u8], child: u32) -> R<Vec<u8>>
+pub(crate) fn parent_cell(alloc: Global, cell: &[u8], child: u32) -> R<Vec<u8>>
     ensures parents { (usable : ℕ) → Parents usable cell.now child result }
     ensures not_disk { IfErr result IsNotDiskFault }
 {

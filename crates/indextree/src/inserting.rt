@@ -5,17 +5,17 @@ ghost use Rattle.pages.specs.Calls.{Causes};
 ghost use Rattle.indextree.specs.Calls.{InsertsEntry};
 
 use crate::comparing::Key;
+use crate::flattening::store_top;
 use crate::freeing::WAYS;
 use crate::growing::{Change, New, packed_below};
-use forest::store_root;
 use pages::WritePages;
 use record::encode_row;
-use sqlval::{Collation, Damage, Fault, R, Value};
+use sqlval::{Collation, R, Value};
 use std::alloc::Global;
-use treepage::Kind;
 
 /// Puts an entry into the tree under this root, which keeps its number. Answers `false` if the entry is there: then nothing changes.
-/// (`Damaged(Depth, root)` if a way of 20 pages would have to grow; `TooLong` if no record can hold the entry.)
+/// A tree whose ways would have more than 20 pages is built anew. (`TooLong` if no record can hold the entry; what the calls of pages
+/// refuse; `Damaged` for pages that are none of an index's tree.)
 pub fn insert<P: WritePages>(
     alloc: Global,
     pages: &mut P,
@@ -42,10 +42,7 @@ pub fn insert<P: WritePages>(
         Change::There => Ok(false),
         Change::Same => Ok(true),
         Change::Spread(packed, deep) => {
-            if deep && !packed.pieces.is_empty() {
-                return Err(Fault::Damaged(Damage::Depth, root));
-            }
-            store_root(alloc, pages, root, Kind::IndexInterior, &packed)?;
+            store_top(alloc, pages, root, &packed, deep)?;
             Ok(true)
         }
     }

@@ -5,6 +5,7 @@
 mod cells;
 mod comparing;
 mod filling;
+mod flattening;
 mod freeing;
 mod growing;
 mod inserting;

@@ -2,15 +2,17 @@
 
 ghost use Rattle.std.specs.Prelude.{◌≡◌, [], IsTrue, IfSome};
 ghost use Rattle.pages.specs.Calls.{Causes};
-ghost use Rattle.indextree.specs.Lowering.{IsLone, SettlesRoot, TakesOver};
+ghost use Rattle.indextree.specs.Flattening.{StoresTop};
+ghost use Rattle.indextree.specs.Lowering.{IsLone, TakesOver};
 
-use forest::{put_node, store_root};
+use crate::flattening::store_top;
+use forest::put_node;
 use freelist::give;
 use packing::Packed;
 use pages::WritePages;
 use sqlval::R;
 use std::alloc::Global;
-use treepage::{Kind, TreePage};
+use treepage::TreePage;
 
 /// The one child of packed pages that are one interior page without cells.
 fn lone_child(packed: &Packed) -> Option<u32>
@@ -39,21 +41,22 @@ fn take_over<P: WritePages>(alloc: Global, pages: &mut P, number: u32, child: u3
 }
 
 /// Puts packed pages in place of a root, which keeps its number. Where they are one page over one child alone, the root takes over that
-/// child's cells. (What `take_over` and `store_root` refuse.)
+/// child's cells. A tree whose ways would have more than 20 pages is built anew. (What `take_over` and `store_top` refuse.)
 pub(crate) fn settle<P: WritePages>(
     alloc: Global,
     pages: &mut P,
     root: u32,
     packed: &Packed,
+    deep: bool,
 ) -> R<()>
     ensures settled { IsTrue (P.Pages.tells (P.Pages.below pages.old))
-        → SettlesRoot (P.Pages.map pages.old) (P.Pages.map pages.new) (P.Pages.limits (P.Pages.below pages.old)).page root packed.now result }
+        → StoresTop (P.Pages.map pages.old) (P.Pages.map pages.new) (P.Pages.limits (P.Pages.below pages.old)).page root packed.now deep result }
     ensures kept { P.Pages.below pages.new ≡ P.Pages.below pages.old }
     ensures causes { Causes result (P.Pages.failures pages.old) (P.Pages.failures pages.new)
         (P.Pages.count pages.new ≡ (P.Pages.limits (P.Pages.below pages.new)).most) }
 {
     match lone_child(packed) {
         Some(child) => take_over(alloc, pages, root, child),
-        None => store_root(alloc, pages, root, Kind::IndexInterior, packed),
+        None => store_top(alloc, pages, root, packed, deep),
     }
 }

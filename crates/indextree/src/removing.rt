@@ -173,8 +173,8 @@ fn removed_below<P: WritePages>(
 }
 
 /// Takes an entry out of the tree under this root, which keeps its number. Answers `false` if there is no such entry: then nothing changes.
-/// (`Full` if pages beside the entry are joined and need more pages than there may be; `Damaged(Depth, root)` if a way of 20 pages would have
-/// to grow then.)
+/// A tree whose ways would have more than 20 pages then is built anew. (What the calls of pages refuse, `Full` among them: pages beside the
+/// entry that are joined may need one more; `Damaged` for pages that are none of an index's tree.)
 pub fn remove<P: WritePages>(
     alloc: Global,
     pages: &mut P,
@@ -198,10 +198,7 @@ pub fn remove<P: WritePages>(
         Loss::Still => Ok(false),
         Loss::Done => Ok(true),
         Loss::Spread(packed) => {
-            if depth == WAYS && !packed.pieces.is_empty() {
-                return Err(Fault::Damaged(Damage::Depth, root));
-            }
-            settle(alloc, pages, root, &packed)?;
+            settle(alloc, pages, root, &packed, depth == WAYS)?;
             Ok(true)
         }
     }

@@ -10,6 +10,8 @@ mod deletions;
 #[cfg(test)]
 mod forests;
 #[cfg(test)]
+mod index_ways;
+#[cfg(test)]
 mod keys;
 #[cfg(test)]
 mod removals;

@@ -1,12 +1,10 @@
-use Rattle.std.proofs.Common.{rules, ◌≡◌, ℕ, List, true, IsTrue, [], length, Ok, Err, inl, inr, refl, sym, subst}
+use Rattle.std.proofs.Common.{rules, ◌≡◌, ℕ, List, IsTrue, Ok, Err, sym, subst}
 use Rattle.record.specs.Record.{IsRecord}
-use Rattle.treepage.specs.declared.items.Kind.TheVariants.{IndexInterior}
-use Rattle.forest.specs.Storing.{Roots}
 use Rattle.indextree.specs.Calls.{IsInserted}
+use Rattle.indextree.specs.Flattening.{StoresTop}
 use Rattle.indextree.specs.Growing.{Changes}
 use Rattle.indextree.specs.declared.growing.Change.{Change}
-use Rattle.indextree.proofs.Rooting.{change_refused, inserted_there, inserted_same, too_deep, inserted_spread, spread_refused, insert_err, encode_err, none_left, not_true}
-use Rattle.indextree.proofs.inserting.insert.Goals.{else-deep-via-then-deep+else-not-is_empty, else-deep-via-else-deep}
+use Rattle.indextree.proofs.Rooting.{change_refused, inserted_there, inserted_same, inserted_spread, insert_err, encode_err}
 use Rattle.indextree.proofs.inserting.insert.Goals as goal
 
 pub returns-in_err-payload-clause-inserted : goal.returns-in_err-payload-clause-inserted
@@ -14,7 +12,7 @@ returns-in_err-payload-clause-inserted g c = λ told entries used free is long.
     (let pages = g.P.Pages in
     let old = pages.map c.args.pages.now in
     let size = (pages.limits (pages.below c.args.pages.now)).page in
-    encode_err (IsInserted old old size c.args.root c.args.columns.now c.args.entry.now is.tree.depth entries used free) c.from_residual.result c.in_err-payload.field-0.0 c.args.root is.tree.depth c.args.entry.now c.from_residual.ensures.1 c.in_err-payload.ensures.refused)
+    encode_err (IsInserted old old size c.args.root c.args.columns.now c.args.entry.now entries used free) c.from_residual.result c.in_err-payload.field-0.0 c.args.entry.now c.from_residual.ensures.1 c.in_err-payload.ensures.refused)
 
 pub returns-in_err-packed_below-clause-inserted : goal.returns-in_err-packed_below-clause-inserted
 returns-in_err-packed_below-clause-inserted g c = λ told entries used free is long.
@@ -28,7 +26,7 @@ returns-in_err-packed_below-clause-inserted g c = λ told entries used free is l
     let record_is = subst (λ (them : List ℕ). IsRecord them x) (sym bytes) c.in_ok-payload.ensures.is in
     let payload = c.as_slice.result.now in
     let changes : Changes old mid size c.args.root 19 columns x payload (Err c.in_err-packed_below.field-0.0) = c.in_err-packed_below.ensures.changes told in
-    insert_err (IsInserted old mid size c.args.root columns x is.tree.depth entries used free) c.from_residual-in_err-packed_below.result c.in_err-packed_below.field-0.0 c.args.root is.tree.depth x c.from_residual-in_err-packed_below.ensures.1
+    insert_err (IsInserted old mid size c.args.root columns x entries used free) c.from_residual-in_err-packed_below.result c.in_err-packed_below.field-0.0 x c.from_residual-in_err-packed_below.ensures.1
     (change_refused old size c.args.root columns entries used free is x payload record_is long mid c.in_err-packed_below.field-0.0 changes))
 
 pub returns-in-There-clause-inserted : goal.returns-in-There-clause-inserted
@@ -61,8 +59,8 @@ returns-in-Same-clause-inserted g c = λ told entries used free is long.
     let now = subst (λ (change : Change). Changes old mid size c.args.root 19 columns x payload (Ok change)) c.in-Same.is changes in
     inserted_same old size c.args.root columns entries used free is x payload record_is long mid now)
 
-pub returns-then-not-is_empty-clause-inserted : goal.returns-then-not-is_empty-clause-inserted
-returns-then-not-is_empty-clause-inserted g c = λ told entries used free is long.
+pub returns-in_err-store_top-in-Spread-clause-inserted : goal.returns-in_err-store_top-in-Spread-clause-inserted
+returns-in_err-store_top-in-Spread-clause-inserted g c = λ told entries used free is long.
     (let pages = g.P.Pages in
     let old = pages.map c.args.pages.now in
     let size = (pages.limits (pages.below c.args.pages.now)).page in
@@ -74,26 +72,11 @@ returns-then-not-is_empty-clause-inserted g c = λ told entries used free is lon
     let payload = c.as_slice.result.now in
     let changes : Changes old mid size c.args.root 19 columns x payload (Ok c.in_ok-packed_below.field-0) = c.in_ok-packed_below.ensures.changes told in
     let now = subst (λ (change : Change). Changes old mid size c.args.root 19 columns x payload (Ok change)) c.in-Spread.is changes in
-    inl (inr (refl, too_deep old size c.args.root columns entries used free is x payload record_is long mid c.in-Spread.packed c.in-Spread.deep now c.if-deep.true)))
-
-pub returns-in_err-store_root-in-Spread-clause-inserted : goal.returns-in_err-store_root-in-Spread-clause-inserted
-returns-in_err-store_root-in-Spread-clause-inserted g c = λ told entries used free is long.
-    (let pages = g.P.Pages in
-    let old = pages.map c.args.pages.now in
-    let size = (pages.limits (pages.below c.args.pages.now)).page in
-    let columns = c.args.columns.now in
-    let x = c.args.entry.now in
-    let mid = pages.map c.packed_below.new.pages in
-    let bytes : c.as_slice.result.now ≡ c.in_ok-payload.payload.items = search rules in
-    let record_is = subst (λ (them : List ℕ). IsRecord them x) (sym bytes) c.in_ok-payload.ensures.is in
-    let payload = c.as_slice.result.now in
-    let changes : Changes old mid size c.args.root 19 columns x payload (Ok c.in_ok-packed_below.field-0) = c.in_ok-packed_below.ensures.changes told in
-    let now = subst (λ (change : Change). Changes old mid size c.args.root 19 columns x payload (Ok change)) c.in-Spread.is changes in
-    let new = pages.map c.store_root.new.pages in
+    let new = pages.map c.store_top.new.pages in
     let told_mid = subst (λ k. IsTrue (pages.tells k)) (sym c.in_ok-packed_below.ensures.kept) told in
-    let roots = subst (λ k. Roots mid new (pages.limits k).page c.args.root IndexInterior c.in-Spread.packed (Err c.in_err-store_root-in-Spread.field-0.0)) c.in_ok-packed_below.ensures.kept (c.in_err-store_root-in-Spread.ensures.rooted told_mid) in
-    insert_err (IsInserted old new size c.args.root columns x is.tree.depth entries used free) c.from_residual-in_err-store_root-in-Spread.result c.in_err-store_root-in-Spread.field-0.0 c.args.root is.tree.depth x c.from_residual-in_err-store_root-in-Spread.ensures.1
-    (spread_refused old size c.args.root columns entries used free is x payload record_is long mid c.in-Spread.packed c.in-Spread.deep now new c.in_err-store_root-in-Spread.field-0.0 roots))
+    let stores = subst (λ k. StoresTop mid new (pages.limits k).page c.args.root c.in-Spread.packed c.in-Spread.deep (Err c.in_err-store_top-in-Spread.field-0.0)) c.in_ok-packed_below.ensures.kept (c.in_err-store_top-in-Spread.ensures.stored told_mid) in
+    insert_err (IsInserted old new size c.args.root columns x entries used free) c.from_residual-in_err-store_top-in-Spread.result c.in_err-store_top-in-Spread.field-0.0 x c.from_residual-in_err-store_top-in-Spread.ensures.1
+    (inserted_spread old size c.args.root columns entries used free is x payload record_is long mid c.in-Spread.packed c.in-Spread.deep now new (Err c.in_err-store_top-in-Spread.field-0.0) stores))
 
 pub returns-clause-inserted : goal.returns-clause-inserted
 returns-clause-inserted g c = λ told entries used free is long.
@@ -108,11 +91,7 @@ returns-clause-inserted g c = λ told entries used free is long.
     let payload = c.as_slice.result.now in
     let changes : Changes old mid size c.args.root 19 columns x payload (Ok c.in_ok-packed_below.field-0) = c.in_ok-packed_below.ensures.changes told in
     let now = subst (λ (change : Change). Changes old mid size c.args.root 19 columns x payload (Ok change)) c.in-Spread.is changes in
-    let new = pages.map c.store_root.new.pages in
+    let new = pages.map c.store_top.new.pages in
     let told_mid = subst (λ k. IsTrue (pages.tells k)) (sym c.in_ok-packed_below.ensures.kept) told in
-    let roots = subst (λ k. Roots mid new (pages.limits k).page c.args.root IndexInterior c.in-Spread.packed (Ok tt)) c.in_ok-packed_below.ensures.kept (c.in_ok-store_root-in-Spread.ensures.rooted told_mid) in
-    let lone : c.in-Spread.deep ≡ true → c.in-Spread.packed.pieces.items ≡ [] = λ deep. elim c.else-deep.branch [
-      | else-deep-via-then-deep+else-not-is_empty w ↦ (let none : length c.in-Spread.packed.pieces.items ≡ 0 = search rules in none_left c.in-Spread.packed.pieces.items none)
-      | else-deep-via-else-deep w ↦ absurd (not_true deep w.if-deep.false)
-    ] in
-    inserted_spread old size c.args.root columns entries used free is x payload record_is long mid c.in-Spread.packed c.in-Spread.deep now new lone roots)
+    let stores = subst (λ k. StoresTop mid new (pages.limits k).page c.args.root c.in-Spread.packed c.in-Spread.deep (Ok tt)) c.in_ok-packed_below.ensures.kept (c.in_ok-store_top-in-Spread.ensures.stored told_mid) in
+    inserted_spread old size c.args.root columns entries used free is x payload record_is long mid c.in-Spread.packed c.in-Spread.deep now new (Ok tt) stores)

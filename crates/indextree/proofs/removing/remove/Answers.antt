@@ -1,13 +1,11 @@
-use Rattle.std.proofs.Common.{rules, ◌≡◌, ◌≤◌, ◌∙◌, ℕ, true, false, List, [], length, IsTrue, Ok, Err, inl, inr, refl, sym, subst, arith}
+use Rattle.std.proofs.Common.{◌==◌, ◌∙◌, ℕ, IsTrue, Ok, Err, sym, subst}
 use Rattle.pages.specs.Map.{PageMap}
 use Rattle.indextree.specs.Calls.{IsRemoved}
-use Rattle.indextree.specs.Lowering.{SettlesRoot}
-use Rattle.indextree.specs.Removing.{FindsDepth, Lessens}
+use Rattle.indextree.specs.Flattening.{StoresTop}
+use Rattle.indextree.specs.Removing.{Lessens}
 use Rattle.indextree.specs.declared.removing.Loss.{Loss}
-use Rattle.indextree.proofs.Readings.{since}
-use Rattle.indextree.proofs.Removed.{depth_read, remove_err, removed_still, removed_done, removed_spread, removal_refused, settle_refused}
-use Rattle.indextree.proofs.Rooting.{none_left}
-use Rattle.indextree.proofs.removing.remove.Goals.{else-depth-eq-WAYS-via-then-depth-eq-WAYS+else-not-is_empty, else-depth-eq-WAYS-via-else-depth-eq-WAYS}
+use Rattle.indextree.proofs.Readings.{full_err, since}
+use Rattle.indextree.proofs.Removed.{depth_read, removed_still, removed_done, removed_spread, removal_refused, same_19, other_19}
 use Rattle.indextree.proofs.removing.remove.Goals as goal
 
 pub returns-in_err-removed_below-clause-removed : goal.returns-in_err-removed_below-clause-removed
@@ -22,7 +20,7 @@ returns-in_err-removed_below-clause-removed g c = λ told entries used free is l
     let depth_is = depth_read old size c.args.root columns entries used free is depth (c.in_ok-depth.ensures.found told) in
     let mid = gs.map c.removed_below.new.pages in
     let lessens = since gs.below gs.tells gs.limits gs.map (λ (m : PageMap) (k : ℕ). Lessens m mid k c.args.root depth columns x (Err c.in_err-removed_below.field-0.0)) c.args.pages.now c.depth_below.new.pages stays.kept stays.same c.in_err-removed_below.ensures.lessens told in
-    remove_err (IsRemoved old mid size c.args.root columns x is.tree.depth entries used free) c.from_residual-in_err-removed_below.result c.in_err-removed_below.field-0.0 c.args.root is.tree.depth c.from_residual-in_err-removed_below.ensures.1
+    full_err (IsRemoved old mid size c.args.root columns x entries used free) c.from_residual-in_err-removed_below.result c.in_err-removed_below.field-0.0 c.from_residual-in_err-removed_below.ensures.1
     (removal_refused old size c.args.root columns entries used free is x long depth depth_is mid c.in_err-removed_below.field-0.0 lessens))
 
 pub returns-in-Still-clause-removed : goal.returns-in-Still-clause-removed
@@ -65,21 +63,17 @@ returns-in_err-settle-in-Spread-clause-removed g c = λ told entries used free i
     let stays = c.in_ok-depth.ensures.stays in
     let depth = c.in_ok-depth.depth in
     let packed = c.in-Spread.packed in
+    let deep = depth == 19 in
     let depth_is = depth_read old size c.args.root columns entries used free is depth (c.in_ok-depth.ensures.found told) in
     let mid = gs.map c.removed_below.new.pages in
     let lessens = since gs.below gs.tells gs.limits gs.map (λ (m : PageMap) (k : ℕ). Lessens m mid k c.args.root depth columns x (Ok c.in_ok-removed_below.field-0)) c.args.pages.now c.depth_below.new.pages stays.kept stays.same c.in_ok-removed_below.ensures.lessens told in
     let now = subst (λ (loss : Loss). Lessens old mid size c.args.root depth columns x (Ok loss)) c.in-Spread.is lessens in
-    let within = c.in_ok-depth.ensures.within in
-    let shallow : 19 ≤ depth → packed.pieces.items ≡ [] = λ deep. elim c.else-depth-eq-WAYS.branch [
-      | else-depth-eq-WAYS-via-then-depth-eq-WAYS+else-not-is_empty w ↦ (let none : length packed.pieces.items ≡ 0 = search rules in none_left packed.pieces.items none)
-      | else-depth-eq-WAYS-via-else-depth-eq-WAYS w ↦ absurd (omega (arith, deep, within, w.if-depth-eq-WAYS.false))
-    ] in
     let new = gs.map c.settle.new.pages in
     let kept = c.in_ok-removed_below.ensures.kept ∙ stays.kept in
     let told_mid = subst (λ k. IsTrue (gs.tells k)) (sym kept) told in
-    let settles = subst (λ k. SettlesRoot mid new (gs.limits k).page c.args.root packed (Err c.in_err-settle-in-Spread.field-0.0)) kept (c.in_err-settle-in-Spread.ensures.settled told_mid) in
-    remove_err (IsRemoved old new size c.args.root columns x is.tree.depth entries used free) c.from_residual-in_err-settle-in-Spread.result c.in_err-settle-in-Spread.field-0.0 c.args.root is.tree.depth c.from_residual-in_err-settle-in-Spread.ensures.1
-    (settle_refused old size c.args.root columns entries used free is x long depth depth_is mid packed now new c.in_err-settle-in-Spread.field-0.0 shallow settles))
+    let settles = subst (λ k. StoresTop mid new (gs.limits k).page c.args.root packed deep (Err c.in_err-settle-in-Spread.field-0.0)) kept (c.in_err-settle-in-Spread.ensures.settled told_mid) in
+    full_err (IsRemoved old new size c.args.root columns x entries used free) c.from_residual-in_err-settle-in-Spread.result c.in_err-settle-in-Spread.field-0.0 c.from_residual-in_err-settle-in-Spread.ensures.1
+    (removed_spread old size c.args.root columns entries used free is x long depth depth_is mid packed now new deep (Err c.in_err-settle-in-Spread.field-0.0) (same_19 depth) (other_19 depth) settles))
 
 pub returns-clause-removed : goal.returns-clause-removed
 returns-clause-removed g c = λ told entries used free is long.
@@ -91,17 +85,13 @@ returns-clause-removed g c = λ told entries used free is long.
     let stays = c.in_ok-depth.ensures.stays in
     let depth = c.in_ok-depth.depth in
     let packed = c.in-Spread.packed in
+    let deep = depth == 19 in
     let depth_is = depth_read old size c.args.root columns entries used free is depth (c.in_ok-depth.ensures.found told) in
     let mid = gs.map c.removed_below.new.pages in
     let lessens = since gs.below gs.tells gs.limits gs.map (λ (m : PageMap) (k : ℕ). Lessens m mid k c.args.root depth columns x (Ok c.in_ok-removed_below.field-0)) c.args.pages.now c.depth_below.new.pages stays.kept stays.same c.in_ok-removed_below.ensures.lessens told in
     let now = subst (λ (loss : Loss). Lessens old mid size c.args.root depth columns x (Ok loss)) c.in-Spread.is lessens in
-    let within = c.in_ok-depth.ensures.within in
-    let shallow : 19 ≤ depth → packed.pieces.items ≡ [] = λ deep. elim c.else-depth-eq-WAYS.branch [
-      | else-depth-eq-WAYS-via-then-depth-eq-WAYS+else-not-is_empty w ↦ (let none : length packed.pieces.items ≡ 0 = search rules in none_left packed.pieces.items none)
-      | else-depth-eq-WAYS-via-else-depth-eq-WAYS w ↦ absurd (omega (arith, deep, within, w.if-depth-eq-WAYS.false))
-    ] in
     let new = gs.map c.settle.new.pages in
     let kept = c.in_ok-removed_below.ensures.kept ∙ stays.kept in
     let told_mid = subst (λ k. IsTrue (gs.tells k)) (sym kept) told in
-    let settles = subst (λ k. SettlesRoot mid new (gs.limits k).page c.args.root packed (Ok tt)) kept (c.in_ok-settle-in-Spread.ensures.settled told_mid) in
-    removed_spread old size c.args.root columns entries used free is x long depth depth_is mid packed now new shallow settles)
+    let settles = subst (λ k. StoresTop mid new (gs.limits k).page c.args.root packed deep (Ok tt)) kept (c.in_ok-settle-in-Spread.ensures.settled told_mid) in
+    removed_spread old size c.args.root columns entries used free is x long depth depth_is mid packed now new deep (Ok tt) (same_19 depth) (other_19 depth) settles)
