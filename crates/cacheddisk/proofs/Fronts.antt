@@ -1,8 +1,8 @@
 -- What is kept of a content is kept of each that begins as it does.
-use Rattle.std.proofs.Common.{◌≡◌, ◌∙◌, ◌≤◌, ◌+◌, ◌-◌, ℕ, zero, suc, List, [], ◌∷◌, ◌++◌, length, take, drop, ap, sym, refl, arith}
+use Rattle.std.proofs.Common.{◌≡◌, ◌∙◌, ◌≤◌, ◌+◌, ◌-◌, ℕ, zero, suc, List, [], ◌∷◌, ◌++◌, Option, Some, None, length, take, drop, ap, sym, refl, arith}
 use Rattle.std.proofs.lemmas.List.{append_assoc, drop-drop, drop-take, drop_at, length-take-le, take-append-le, take_at}
 use Rattle.disk.specs.Calls.{overwritten}
-use Rattle.cacheddisk.specs.Kept.{AreKept, IsKept}
+use Rattle.cacheddisk.specs.Kept.{AreKept, IsKept, IsLength}
 use Rattle.cacheddisk.specs.declared.blocks.Block.{Block}
 
 take_front : (m n : ℕ) (xs : List ℕ) → m ≤ n → take m (take n xs) ≡ take m xs
@@ -70,3 +70,16 @@ front_written end at bytes old le within =
 
 pub front_cut : (end n : ℕ) (old : List ℕ) → end ≤ n → take end (take n old) ≡ take end old
 front_cut end n old le = take_front end n old le
+
+-- ---- the length
+
+abbrev or_zero : Option ℕ → ℕ
+or_zero None = 0
+or_zero (Some n) = n
+
+pub cut_length : (n : ℕ) (old new : List ℕ) → n ≤ length old → new ≡ take n old → IsLength (Some n) new
+cut_length n old new within is x same = (let one : n ≡ x = ap or_zero same in omega (arith, one, ap length is, length-take-le n old within))
+
+-- where it isn't known nothing is said of it
+pub no_length : (content : List ℕ) → IsLength None content
+no_length content x same = absurd (let bad : None ≡ Some x = same in cc)

@@ -1,7 +1,8 @@
 //! A disk over another.
 
 ghost use Rattle.std.specs.Prelude.{◌≡◌, ◌≤◌, [], ℕ, IsTrue, List, length, take, drop};
-ghost use Rattle.cacheddisk.specs.Kept.{AreKept, IsKept};
+ghost use Rattle.cacheddisk.specs.Kept.{AreKept, IsKept, IsLength};
+ghost use Rattle.disk.specs.Calls.{overwritten};
 
 use crate::blocks::{Block, find, keep, let_go, part, renew};
 use disk::Disk;
@@ -11,8 +12,19 @@ use std::alloc::Global;
 /// The longest reading or writing that is kept, in bytes.
 const MAX_LEN: usize = 65536;
 
-/// A disk whose readings are kept in memory, and its last writing, so that the same bytes are read once. Writings go to the disk below at
-/// once. It takes memory where it finds some, and is never refused for it.
+/// The length of a file after so many bytes were written from an offset on, if its length before is known.
+fn len_after(len: Option<u64>, at: u64, count: usize) -> Option<u64>
+    ensures { (bytes content : List ℕ) → length bytes ≡ count → at ≤ length content → IsLength len content
+        → IsLength result (overwritten at bytes content) }
+{
+    match (len, at.checked_add(count as u64)) {
+        (Some(len), Some(end)) => Some(len.max(end)),
+        _ => None,
+    }
+}
+
+/// A disk whose readings are kept in memory, its last writing and its length, so that the same bytes are read once and the length is asked
+/// once. Writings go to the disk below at once. It takes memory where it finds some, and is never refused for it.
 #[derive(Drop)]
 pub struct CachedDisk<D: Disk> {
     disk: D,
@@ -24,8 +36,11 @@ pub struct CachedDisk<D: Disk> {
     written: Block,
     /// No block ends after it.
     end: u64,
+    /// The length of the file, in bytes, if it is known.
+    len: Option<u64>,
     ghost kept: { IsTrue (D.tells disk) → AreKept (D.file disk).content end blocks.items },
     ghost last: { IsTrue (D.tells disk) → IsKept (D.file disk).content end written },
+    ghost long: { IsTrue (D.tells disk) → IsLength len (D.file disk).content },
 }
 
 impl<D: Disk> CachedDisk<D> {
@@ -45,6 +60,7 @@ impl<D: Disk> CachedDisk<D> {
                 bytes: Vec::new(alloc),
             },
             end: 0,
+            len: None,
         }
     }
 
@@ -59,6 +75,7 @@ impl<D: Disk> CachedDisk<D> {
             blocks: _,
             written: _,
             end: _,
+            len: _,
         } = self;
         disk
     }
@@ -123,7 +140,12 @@ impl<D: Disk> Disk for CachedDisk<D> {
     ghost failures = { λ cached. D.failures (below cached) };
 
     fn len(&mut self) -> R<u64> {
-        self.disk.len()
+        if let Some(len) = self.len {
+            return Ok(len);
+        }
+        let len = self.disk.len()?;
+        self.len = Some(len);
+        Ok(len)
     }
 
     fn read_at(&mut self, at: u64, buf: &mut [u8]) -> R<()> {
@@ -144,11 +166,13 @@ impl<D: Disk> Disk for CachedDisk<D> {
         self.keep_before(at);
         match self.disk.write_at(at, bytes) {
             Ok(()) => {
+                self.len = len_after(self.len, at, bytes.len());
                 self.remember_writing(at, bytes);
                 Ok(())
             }
             Err(fault) => {
                 let_go(&mut self.blocks, &mut self.written);
+                self.len = None;
                 Err(fault)
             }
         }
@@ -157,9 +181,13 @@ impl<D: Disk> Disk for CachedDisk<D> {
     fn cut(&mut self, len: u64) -> R<()> {
         self.keep_before(len);
         match self.disk.cut(len) {
-            Ok(()) => Ok(()),
+            Ok(()) => {
+                self.len = Some(len);
+                Ok(())
+            }
             Err(fault) => {
                 let_go(&mut self.blocks, &mut self.written);
+                self.len = None;
                 Err(fault)
             }
         }

@@ -8,7 +8,7 @@ use Rattle.disk.proofs.Current.{current_left, writes_current, write_left}
 use Rattle.disk.proofs.Left.{versions_push}
 use Rattle.disk.proofs.Moments.{elapses_both, elapses_gains, elapses_refl, gains_versions}
 use Rattle.walframe.specs.Written.{Framed}
-use Rattle.wal.specs.Copying.{HasNoneOf, IsOfNewest, page_place, SkipsPage, WritesPage, CopiesPage, FailsPage, CopiesTo, KeepsPages, AllKeep, Overwrites}
+use Rattle.wal.specs.Copying.{IsOfNewest, page_place, SkipsPage, WritesPage, CopiesPage, FailsPage, CopiesTo, KeepsPages, AllKeep, Overwrites}
 use Rattle.wal.specs.View.{IsInFile, IsPageIn}
 use Rattle.wal.proofs.Changes.{page_one}
 use Rattle.wal.proofs.Places.{over_here, over_other, over_reaches, over_grows, over_most, over_front, first_front}
@@ -20,6 +20,7 @@ module _ (Told : Type 0) (page_size : ℕ) (frames : List Framed) (size : ℕ) (
   copies_begin = record {
     still = λ told number bytes low none is. is;
     stands = λ told number bytes low lt is. absurd (omega (arith, low, lt));
+    ahead = λ number bytes low later is. is;
     reaches = (let z : page_place page_size 1 ≡ 0 = zero-mul page_size in omega (arith, z));
     grows = omega arith;
     most = λ m le within. le;
@@ -32,7 +33,7 @@ module _ (Told : Type 0) (page_size : ℕ) (frames : List Framed) (size : ℕ) (
     within : next * page_size ≤ size * page_size
     within = mul-le-mul_right page_size last
 
-    -- a page that no frame has stands there already
+    -- a page that isn't written stands there already
     pub copies_skipped : (now after : File) → CopiesTo Told page_size frames size next old now.content → SkipsPage Told page_size frames next now after → CopiesTo Told page_size frames size (next + 1) old after.content
     copies_skipped now after copies skips = subst (λ (f : File). CopiesTo Told page_size frames size (next + 1) old f.content) (sym skips.same) (record {
       still = copies.still;
@@ -40,13 +41,14 @@ module _ (Told : Type 0) (page_size : ℕ) (frames : List Framed) (size : ℕ) (
         | inl same ↦ subst (λ (n : ℕ). IsInFile now.content page_size n bytes) (sym same) (here told bytes (subst (λ (n : ℕ). IsPageIn old page_size frames n bytes) same there))
         | inr other ↦ copies.stands told number bytes first (omega (arith, lt, other)) there
       ];
+      ahead = λ number bytes first later is. copies.ahead number bytes first (omega (arith, later)) is;
       reaches = omega (arith, skips.whole, next_place);
       grows = copies.grows;
       most = copies.most;
     })
       where
         here : Told → (bytes : List ℕ) → IsPageIn old page_size frames next bytes → IsInFile now.content page_size next bytes
-        here told bytes (inl newest) = absurd (skips.none told newest.0 newest.1.within newest.1.page)
+        here told bytes (inl newest) = skips.stands told bytes (inl newest)
         here told bytes (inr filed) = copies.still told next bytes low filed.0 filed.1
 
     -- a page that a frame has is written
@@ -66,6 +68,8 @@ module _ (Told : Type 0) (page_size : ℕ) (frames : List Framed) (size : ℕ) (
                 (subst (IsInFile (overwritten (page_place page_size next) page now.content) page_size next) one (over_here now.content page_size next page low long there)))
             | inr other ↦ over_other now.content page_size next page low long there number bytes first other (copies.stands told number bytes first (omega (arith, lt, other)) is)
           ];
+          ahead = λ number bytes first later is.
+              over_other now.content page_size next page low long there number bytes first (λ same. omega (arith, later, same)) (copies.ahead number bytes first (omega (arith, later)) is);
           reaches = omega (arith, over_reaches now.content page_size next page low long there, next_place);
           grows = omega (arith, copies.grows, over_grows now.content page_size next page low long there);
           most = λ m le all. over_most now.content page_size next page low long there m (copies.most m le all) (omega (arith, all, within));
@@ -161,7 +165,11 @@ overwrites_begin Told page_size frames file = record { elapses = elapses_refl fi
 
 module _ (Told Other : Type 0) (page_size : ℕ) (frames others : List Framed) (told : Told → Other) (same : Told → others ≡ frames) (number : ℕ) (old new : File) where
   pub copies_told : CopiesPage Other page_size others number old new → CopiesPage Told page_size frames number old new
-  copies_told (inl skips) = inl (record { none = λ is. subst (λ (fs : List Framed). HasNoneOf fs number) (same is) (skips.none (told is)); whole = skips.whole; same = skips.same })
+  copies_told (inl skips) = inl (record {
+    stands = λ is. subst (λ (fs : List Framed). (bytes : List ℕ) → IsPageIn old.content page_size fs number bytes → IsInFile old.content page_size number bytes) (same is) (skips.stands (told is));
+    whole = skips.whole;
+    same = skips.same;
+  })
   copies_told (inr written) = inr (record { page = written.page; size = written.size; newest = λ is. subst (λ (fs : List Framed). IsOfNewest fs number written.page) (same is) (written.newest (told is)); writes = written.writes })
 
   pub fails_told : FailsPage Other page_size others number old new → FailsPage Told page_size frames number old new

@@ -24,5 +24,6 @@ pub mod Settled
 pub mod Standing
 pub mod Places
 pub mod Fetched
+pub mod LeftOut
 pub mod Filling
 pub mod Shown

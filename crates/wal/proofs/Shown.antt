@@ -1,6 +1,6 @@
 -- What a crash leaves of the database file while frames are copied into it, and what is there at the end.
 use Rattle.std.proofs.Common.{◌≡◌, ◌⊎◌, inl, inr, ◌<◌, ◌≤◌, ◌+◌, ◌-◌, ◌*◌, ℕ, Bool, true, false, List, [], ◌∷◌, length, take, refl, sym, ◌∙◌, ap, subst, arith, length-take}
-use Rattle.std.specs.Prelude.{IfErr, IsErrAnd, Result, Ok, Err, nat_lt, nat_le, ◌==◌, ◌&&◌, if◌then◌else◌}
+use Rattle.std.specs.Prelude.{IfErr, IsErrAnd, Result, Ok, Err, nat_lt, nat_le, ◌==◌, if◌then◌else◌}
 use Rattle.std.proofs.Math.Nat.{mul-le-mul_right}
 use Rattle.std.proofs.lemmas.Bool.{eqb-true, eq-eqb, ltb-true, ltb-false, leb-true}
 use Rattle.disk.specs.Calls.{Gains, FailsToCut, Syncs, cut_version}
@@ -25,6 +25,7 @@ use Rattle.wal.specs.Stands.{header_where}
 use Rattle.wal.specs.View.{IsInFile, IsPageIn}
 use Rattle.wal.proofs.Fetched.{none_fewer}
 use Rattle.wal.proofs.Filling.{keep_more, keeps_same}
+use Rattle.wal.proofs.LeftOut.{both_true}
 use Rattle.wal.proofs.Paging.{missing_page}
 use Rattle.wal.proofs.Views.{page_from}
 use Rattle.wal.proofs.Places.{cut_front, cut_keeps, left_front, left_in_file}
@@ -244,10 +245,6 @@ meanwhile_known known has_failed target log old new is = record {
 
 pub copied_known : (known : LogState) (has_failed : Bool) (target : Snapshot) (log old new : List ℕ) → HasCopied (record known { has_failed = has_failed }) target log old new → HasCopied known target log old new
 copied_known known has_failed target log old new is = record { stands = is.stands; stays = is.stays; long = is.long }
-
-both_true : (a b : Bool) → (a && b) ≡ true → (a ≡ true) × (b ≡ true)
-both_true true b is = (refl, is)
-both_true false b is = absurd (let bad : false ≡ true = is in cc)
 
 pub seen_bounds : (known : LogState) (target : Snapshot) → sees_uncopied known target ≡ true → (known.copied < seen_by target) × (seen_by target ≤ known.frames)
 seen_bounds known target is =

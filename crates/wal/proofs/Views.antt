@@ -62,7 +62,7 @@ page_from db log page_size (Some h) n number bytes (inr filed) = inr (
   filed.1,
 )
 
-framed_take : (h : LogHeader) (log : List ℕ) (m n : ℕ) → m ≤ n → take m (framed_to h log n) ≡ framed_to h log m
+pub framed_take : (h : LogHeader) (log : List ℕ) (m n : ℕ) → m ≤ n → take m (framed_to h log n) ≡ framed_to h log m
 framed_take h log m zero le = (let z : m ≡ 0 = omega (arith, le) in subst (λ (k : ℕ). take k (framed_to h log 0) ≡ framed_to h log k) (sym z) refl)
 framed_take h log m (suc n) le = elim (cases_lt n m) [
   | inl all ↦ (let is : suc n ≡ m = omega (arith, all, le) in subst (λ (k : ℕ). take k (framed_to h log (suc n)) ≡ framed_to h log k) is (take_all (suc n) (framed_to h log (suc n)) (omega (arith, framed_len h log (suc n)))))
@@ -70,7 +70,7 @@ framed_take h log m (suc n) le = elim (cases_lt n m) [
 ]
 
 -- after a commit a snapshot sees the frames that it saw
-seen_by_header : (h : LogHeader) (b : Bool) (old new : List ℕ) (fs : List Framed) (n m : ℕ) → framed_to h new (n + length fs) ≡ frames_under (header_where b h) old n ++ fs → m ≤ n → framed_to h new m ≡ frames_under (header_where b h) old m
+pub seen_by_header : (h : LogHeader) (b : Bool) (old new : List ℕ) (fs : List Framed) (n m : ℕ) → framed_to h new (n + length fs) ≡ frames_under (header_where b h) old n ++ fs → m ≤ n → framed_to h new m ≡ frames_under (header_where b h) old m
 seen_by_header h true old new fs n m is le =
     sym (framed_take h new m (n + length fs) (omega (arith, le))) ∙ ap (take m) is ∙ take-append-le m (framed_to h old n) fs (omega (arith, le, framed_len h old n)) ∙ framed_take h old m n le
 seen_by_header h false old new fs n m is le =

@@ -1,12 +1,12 @@
 -- Frames that are copied into the database file, page by page: what the functions inside say of it.
-use Rattle.std.specs.Prelude.{◌≡◌, ◌⊎◌, ◌<◌, ◌≤◌, ◌-◌, ◌*◌, ◌==◌, ℕ, Bool, true, List, length, take, nat_lt, slice_index_or, if◌then◌else◌}
+use Rattle.std.specs.Prelude.{◌≡◌, ◌⊎◌, ◌<◌, ◌≤◌, ◌-◌, ◌*◌, ◌==◌, ◌&&◌, ℕ, Bool, true, IsTrue, List, length, take, nat_le, nat_lt, slice_index_or, if◌then◌else◌}
 use Rattle.disk.specs.Calls.{Writes, FailsToWrite, CutsFile}
 use Rattle.disk.specs.File.{File, Version, Elapses, versions, version_at}
 use Rattle.sqlval.specs.declared.fault.Fault.{Fault}
 use Rattle.sqlval.specs.declared.fault.Fault.TheVariants.{Damaged}
 use Rattle.sqlval.specs.declared.fault.Damage.TheVariants.{Size}
 use Rattle.walframe.specs.Written.{Framed}
-use Rattle.walindex.specs.Index.{FindsNone}
+use Rattle.walindex.specs.Index.{FindsFrame, FindsNone}
 use Rattle.wal.specs.declared.log.Snapshot.{Snapshot}
 use Rattle.wal.specs.declared.state.State.{State}
 use Rattle.wal.specs.Committed.{frames_under}
@@ -43,6 +43,22 @@ IsReached state mark number len = FindsNone number mark state.index → number *
 abbrev pub AreReached : State → ℕ → ℕ → ℕ → Type 0
 AreReached state mark size len = (number : ℕ) → 1 ≤ number → number ≤ size → IsReached state mark number len
 
+-- whether a page's frame is one of those that were copied, for a size that the page is within
+abbrev pub was_copied : State → ℕ → ℕ → Bool
+was_copied state number frame = nat_le frame state.copied && nat_le number state.copied_pages
+
+-- A page isn't written: it has no frame up to the mark, or its newest one was copied before.
+abbrev pub IsLeftOut : State → ℕ → ℕ → Type 0
+IsLeftOut state mark number = FindsNone number mark state.index ⊎ ((frame : ℕ) × FindsFrame number mark state.index frame × IsTrue (was_copied state number frame))
+
+-- a file of this length reaches to the page, and has it as a whole where it isn't written
+abbrev pub ReachesPage : State → ℕ → ℕ → ℕ → Type 0
+ReachesPage state mark number len = (page_place state.page_size number ≤ len) × (IsLeftOut state mark number → number * state.page_size ≤ len)
+
+-- it has each page up to a size that isn't written
+abbrev pub AreWhole : State → ℕ → ℕ → ℕ → Type 0
+AreWhole state mark size len = (number : ℕ) → 1 ≤ number → number ≤ size → IsLeftOut state mark number → number * state.page_size ≤ len
+
 -- a page is in neither file, which is the fault
 abbrev pub LacksPage : State → ℕ → ℕ → Fault → Type 0
 LacksPage state mark size fault = (number : ℕ) × (fault ≡ Damaged Size number) × (1 ≤ number) × (number ≤ size) × FindsNone number mark state.index × (state.db_len < number * state.page_size)
@@ -56,9 +72,9 @@ copied_len known target len = if seen_by target == known.frames then copied_size
 abbrev pub CutsTo : Bool → ℕ → File → File → Type 0
 CutsTo is_all end old new = ((new ≡ old) × (is_all ≡ true → length old.content ≤ end)) ⊎ ((is_all ≡ true) × (end ≤ length old.content) × CutsFile end old new)
 
--- The page has no frame, and stays. (What is told of the log is said where `Told`.)
+-- The page isn't written: it stands there as the file shows it under the frames. (What is told of the log is said where `Told`.)
 pub record SkipsPage (Told : Type 0) (page_size : ℕ) (frames : List Framed) (number : ℕ) (old new : File) : Type 0 where
-  pub none : Told → HasNoneOf frames number
+  pub stands : Told → (bytes : List ℕ) → IsPageIn old.content page_size frames number bytes → IsInFile old.content page_size number bytes
   pub whole : number * page_size ≤ length old.content
   pub same : new ≡ old
 
@@ -82,11 +98,12 @@ CopiesPage Told page_size frames number old new = SkipsPage Told page_size frame
 abbrev pub FailsPage : Type 0 → ℕ → List Framed → ℕ → File → File → Type 0
 FailsPage Told page_size frames number old new = (new ≡ old) ⊎ TearsPage Told page_size frames number old new
 
--- The pages before `next` that the old content shows under the frames stand in the file; those that no frame has, too. The file reaches
--- to the next page, and is no longer than before, or than so many pages.
+-- The pages before `next` that the old content shows under the frames stand in the file; those that no frame has, too, and those from
+-- `next` on that stood there. The file reaches to the next page, and is no longer than before, or than so many pages.
 pub record CopiesTo (Told : Type 0) (page_size : ℕ) (frames : List Framed) (size next : ℕ) (old now : List ℕ) : Type 0 where
   pub still : Told → (number : ℕ) (bytes : List ℕ) → 1 ≤ number → HasNoneOf frames number → IsInFile old page_size number bytes → IsInFile now page_size number bytes
   pub stands : Told → (number : ℕ) (bytes : List ℕ) → 1 ≤ number → number < next → IsPageIn old page_size frames number bytes → IsInFile now page_size number bytes
+  pub ahead : (number : ℕ) (bytes : List ℕ) → 1 ≤ number → next ≤ number → IsInFile old page_size number bytes → IsInFile now page_size number bytes
   pub reaches : page_place page_size next ≤ length now
   pub grows : length old ≤ length now
   pub most : (m : ℕ) → length old ≤ m → size * page_size ≤ m → length now ≤ m

@@ -19,6 +19,7 @@ pub record SameState (old new : State) : Type 0 where
   pub is_failed : new.is_failed ≡ old.is_failed
   pub mark : new.mark ≡ old.mark
   pub copied : new.copied ≡ old.copied
+  pub copied_pages : new.copied_pages ≡ old.copied_pages
   pub sum : new.sum ≡ old.sum
   pub size : new.size ≡ old.size
   pub frames : SameFrames old.index new.index
@@ -33,6 +34,7 @@ pub record Admits (pages : List PageImage) (size : ℕ) (sum : Sum) (old new : S
   pub is_failed : new.is_failed ≡ old.is_failed
   pub mark : new.mark ≡ old.mark + length pages
   pub copied : new.copied ≡ old.copied
+  pub copied_pages : new.copied_pages ≡ old.copied_pages
   pub sum_is : new.sum ≡ sum
   pub size_is : new.size ≡ size
   pub frames : (p k : ℕ) → 1 ≤ p → k < length (frames_of new.index p) → IsOldOrNew old.mark pages (length pages) old.index p (slice_index (frames_of new.index p) k)
@@ -49,6 +51,7 @@ pub record Restarts (header : LogHeader) (has_header : Bool) (old new : State) :
   pub is_failed : new.is_failed ≡ old.is_failed
   pub mark : new.mark ≡ 0
   pub copied : new.copied ≡ 0
+  pub copied_pages : new.copied_pages ≡ 0
   pub sum_is : new.sum ≡ header_sum header
   pub size : new.size ≡ old.size
   pub none : (p : ℕ) → frames_of new.index p ≡ []

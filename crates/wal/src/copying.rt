@@ -5,10 +5,10 @@ ghost use Rattle.disk.specs.Calls.{FailsToCut, Syncs};
 ghost use Rattle.disk.specs.File.{IsSynced, IsCurrent, IsContentLeft};
 ghost use Rattle.walframe.specs.Accepted.{KeepsFile};
 ghost use Rattle.walindex.specs.Index.{FindsFrame, FindsNone};
-ghost use Rattle.wal.specs.Alone.{StandsAlone};
+ghost use Rattle.wal.specs.Alone.{HasCopiedPage, HasCopiedPages, StandsAlone};
 ghost use Rattle.wal.specs.Commits.{commits_of};
 ghost use Rattle.wal.specs.Copies.{Copies, CopiesMeanwhile, HasCopied, IsCopyRefusal, IsMissing, IsStateCopied, copied_size, sees_uncopied};
-ghost use Rattle.wal.specs.Copying.{AreReached, CopiesPage, CopiesTo, CutsTo, FailsPage, IsReached, LacksPage, Overwrites, LogStandsFor, copied_len, frames_to, page_place};
+ghost use Rattle.wal.specs.Copying.{AreReached, AreWhole, CopiesPage, CopiesTo, CutsTo, FailsPage, IsLeftOut, IsReached, LacksPage, Overwrites, LogStandsFor, ReachesPage, copied_len, frames_to, page_place, was_copied};
 ghost use Rattle.wal.specs.ErrorCauses.{AreErrorCauses, HasCause, TouchesDisk};
 ghost use Rattle.wal.specs.LogState.{state_in, seen_by};
 ghost use Rattle.wal.specs.Restarts.{is_copied};
@@ -65,7 +65,8 @@ impl State {
 
     /// The length that the database file has after its frames were copied.
     fn copied_len(&self, target: Snapshot) -> u64
-        ensures { result ≡ copied_len (state_in self.now) target self.now.db_len }
+        ensures is { result ≡ copied_len (state_in self.now) target self.now.db_len }
+        ensures long { copied_size (state_in self.now) target * self.now.page_size ≤ result }
     {
         let end = self.copied_size(target) as u64 * self.page_size as u64;
         if target.mark == self.mark || self.db_len < end {
@@ -81,6 +82,24 @@ impl State {
         ensures none { IsNone result → FindsNone number mark self.now.index }
     {
         self.index.find(number, mark)
+    }
+
+    /// Whether a page's frame is one of those that were copied, for a size that the page is within.
+    fn was_copied(&self, number: u32, frame: u32) -> bool
+        ensures { result ≡ was_copied self.now number frame }
+    {
+        frame <= self.copied && number <= self.copied_pages
+    }
+
+    /// The newest frame of a page up to a mark, unless it was copied before.
+    fn uncopied_frame(&self, mark: u32, number: u32) -> Option<u32>
+        ensures found { IfSome result (λ frame. FindsFrame number mark self.now.index frame) }
+        ensures none { IsNone result → IsLeftOut self.now mark number }
+    {
+        match self.newest_frame(mark, number) {
+            Some(frame) if self.was_copied(number, frame) => None,
+            newest => newest,
+        }
     }
 
     /// Where a page begins in the database file.
@@ -113,7 +132,7 @@ impl State {
         Ok(())
     }
 
-    /// Copies a page's newest frame up to a mark into the database file, if it has one.
+    /// Copies a page's newest frame up to a mark into the database file, if it has one that wasn't copied before.
     fn copy_page<D: Disk>(
         &self,
         db: &mut D,
@@ -123,10 +142,11 @@ impl State {
         page: &mut [u8],
     ) -> R<()>
         requires number { (1 ≤ number) × (number ≤ 65536) }
-        requires mark { mark ≤ self.now.mark }
+        requires mark { (self.now.copied ≤ mark) × (mark ≤ self.now.mark) }
         requires size { length page.old ≡ self.now.page_size }
-        requires there { IsTrue (D.tells db.old) → IsReached self.now mark number (length (D.file db.old).content) }
-        requires reaches { IsTrue (D.tells db.old) → page_place self.now.page_size number ≤ length (D.file db.old).content }
+        requires reaches { IsTrue (D.tells db.old) → ReachesPage self.now mark number (length (D.file db.old).content) }
+        requires copied { IsTrue (D.tells db.old) → IsTrue (D.tells log.old)
+            → HasCopiedPage self.now number (D.file db.old).content (D.file log.old).content }
         requires stands { IsTrue (D.tells log.old) → LogStandsFor self.now (D.file log.old).content }
         ensures copied { IsTrue (D.tells db.old) → OnOk result (CopiesPage (IsTrue (D.tells log.old)) self.now.page_size
             (frames_to self.now mark (D.file log.old).content) number (D.file db.old) (D.file db.new)) }
@@ -137,7 +157,7 @@ impl State {
         ensures causes { AreErrorCauses false result (D.failures db.old) (D.failures db.new) (D.failures log.old) (D.failures log.new) }
         ensures io { IfErr result (λ fault. fault ≡ Fault.Io) }
     {
-        let Some(frame) = self.newest_frame(mark, number) else {
+        let Some(frame) = self.uncopied_frame(mark, number) else {
             return Ok(());
         };
         let at = self.offset(frame) + FrameHeader::LEN as u64;
@@ -145,7 +165,7 @@ impl State {
         db.write_at(self.place(number), page)
     }
 
-    /// Copies the newest frame up to a mark of each page up to a size into the database file.
+    /// Copies the newest frame up to a mark of each page up to a size into the database file, except for those that were copied before.
     fn copy_pages<D: Disk>(
         &self,
         db: &mut D,
@@ -155,9 +175,11 @@ impl State {
         page: &mut [u8],
     ) -> R<()>
         requires few { size ≤ 65536 }
-        requires mark { mark ≤ self.now.mark }
+        requires mark { (self.now.copied ≤ mark) × (mark ≤ self.now.mark) }
         requires size { length page.old ≡ self.now.page_size }
-        requires there { IsTrue (D.tells db.old) → AreReached self.now mark size (length (D.file db.old).content) }
+        requires there { IsTrue (D.tells db.old) → AreWhole self.now mark size (length (D.file db.old).content) }
+        requires copied { IsTrue (D.tells db.old) → IsTrue (D.tells log.old)
+            → HasCopiedPages self.now size (D.file db.old).content (D.file log.old).content }
         requires stands { IsTrue (D.tells log.old) → LogStandsFor self.now (D.file log.old).content }
         ensures copied { IsTrue (D.tells db.old) → OnOk result (CopiesTo (IsTrue (D.tells log.old)) self.now.page_size
             (frames_to self.now mark (D.file log.old).content) size (size + 1) (D.file db.old).content (D.file db.new).content) }
@@ -183,8 +205,10 @@ impl State {
         target: Snapshot,
         page: &mut [u8],
     ) -> R<()>
-        requires seen { seen_by target ≤ self.now.mark }
+        requires seen { (self.now.copied ≤ seen_by target) × (seen_by target ≤ self.now.mark) }
         requires size { length page.old ≡ self.now.page_size }
+        requires copied { IsTrue (D.tells db.old) → IsTrue (D.tells log.old)
+            → HasCopiedPages self.now self.now.copied_pages (D.file db.old).content (D.file log.old).content }
         requires long { IsTrue (D.tells db.old) → self.now.db_len ≡ length (D.file db.old).content }
         requires there { AreReached self.now (seen_by target) (copied_size (state_in self.now) target) self.now.db_len }
         requires stands { IsTrue (D.tells log.old) → LogStandsFor self.now (D.file log.old).content }
@@ -211,9 +235,10 @@ impl<D: Disk> Log<D> {
 
     /// Copies the newest frame of each page up to a snapshot's mark into the database file: cuts it to the size of the newest commit
     /// where it is longer and all frames are copied, writes the pages by rising number, and syncs the file. Only then these frames
-    /// count as copied. Nothing is done where they were copied before. The log needs no sync: each commit synced it. (`Memory`; `Io`,
-    /// after which each call answers `Failed`; `Failed`; `Damaged(Size)` where a page that the snapshot sees is in neither file, before
-    /// anything is written.)
+    /// count as copied. A page whose newest frame was copied before isn't written again, unless its number is past the size that was
+    /// copied last; nothing is done where all frames were copied. The log needs no sync: each commit synced it. (`Memory`; `Io`, after which
+    /// each call answers `Failed`; `Failed`; `Damaged(Size)` where a page that the snapshot sees is in neither file, before anything is
+    /// written.)
     pub fn copy(&mut self, alloc: Global, target: Snapshot) -> R<()>
         ensures done { IsTrue (D.tells (db_of self.old)) → IsTrue (D.tells (log_of self.old))
             → OnOk result (Copies (state_of self.old) target (D.file (log_of self.old)).content (D.file (db_of self.old)) (D.file (db_of self.new))) }
@@ -241,8 +266,12 @@ impl<D: Disk> Log<D> {
         self.state.is_failed = true;
         self.state
             .copy_frames(&mut self.db, &mut self.log, target, &mut page)?;
-        self.state.db_len = self.state.copied_len(target);
+        let len = self.state.copied_len(target);
+        // No page counts as copied while the length changes.
+        self.state.copied_pages = 0;
+        self.state.db_len = len;
         self.state.copied = target.mark;
+        self.state.copied_pages = size;
         self.state.is_failed = false;
         Ok(())
     }

@@ -3,7 +3,7 @@
 ghost use Rattle.std.specs.Prelude.{◌≡◌, ◌≤◌, length, false, IsTrue, IsFalse, OnOk, IfErr};
 ghost use Rattle.disk.specs.File.{IsSynced};
 ghost use Rattle.walframe.specs.Accepted.{KeepsFile};
-ghost use Rattle.wal.specs.Alone.{StandsWhereCopied};
+ghost use Rattle.wal.specs.Alone.{HasCopiedPages, StandsWhereCopied};
 ghost use Rattle.wal.specs.Stale.{HasCleanTail};
 ghost use Rattle.wal.specs.Stands.{LogStands};
 ghost use Rattle.wal.specs.View.{IsPage, IsPageRefusal, IsThere};
@@ -58,6 +58,8 @@ pub struct Log<D: Disk> {
     pub(crate) state: State,
     ghost db_there: { IsFalse state.is_failed → IsTrue (D.tells db) → state.db_len ≡ length (D.file db).content },
     ghost db_copied: { IsFalse state.is_failed → IsTrue (D.tells db) → IsTrue (D.tells log) → StandsWhereCopied state.header state.is_begun state.mark state.copied state.page_size state.size (D.file db).content (D.file log).content },
+    ghost db_pages: { IsFalse state.is_failed → IsTrue (D.tells db) → IsTrue (D.tells log)
+        → HasCopiedPages state state.copied_pages (D.file db).content (D.file log).content },
     ghost log_clean: { IsFalse state.is_failed → IsTrue (D.tells log) → IsTrue state.is_clean → HasCleanTail state.header state.is_begun state.mark (D.file log).content },
     ghost log_synced: { IsFalse state.is_failed → IsTrue (D.tells log) → IsSynced (D.file log) },
     ghost log_there: { IsFalse state.is_failed → IsTrue (D.tells log) → LogStands state.header state.is_begun state.mark state.sum state.index (D.file log).content },

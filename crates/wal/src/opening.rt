@@ -110,7 +110,7 @@ fn recover<D: Disk>(
     ensures db { IsTrue (D.tells db.new) → IfOk result (λ state. state.db_len ≡ length (D.file db.new).content) }
     ensures log { IsTrue (D.tells log.new)
         → IfOk result (λ state. LogStands state.header state.is_begun state.mark state.sum state.index (D.file log.new).content) }
-    ensures known { IfOk result (λ state. IsOpened page_size salts (state_in state) × IsFalse state.is_clean) }
+    ensures known { IfOk result (λ state. IsOpened page_size salts (state_in state) × IsFalse state.is_clean × (state.copied_pages ≡ 0)) }
     ensures view { IsTrue (D.tells db.new) → IsTrue (D.tells log.new)
         → IfOk result (λ state. IsStateOf counted_size (D.file db.new).content (D.file log.new).content (state_in state)) }
     ensures refused { IfErr result (λ fault. IsOpenRefusal (Rose (D.failures db.old) (D.failures db.new)
@@ -140,6 +140,7 @@ fn recover<D: Disk>(
         is_failed: false,
         mark: scanned.frames.len() as u32,
         copied: 0,
+        copied_pages: 0,
         sum: sum_of(&scanned, &header),
         size,
         index: index_of(alloc, &scanned.frames)?,

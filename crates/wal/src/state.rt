@@ -42,6 +42,8 @@ pub struct State {
     pub mark: u32,
     /// How many of these frames were copied into the database file since it was opened.
     pub copied: u32,
+    /// Up to which number the database file has the pages of these frames: the size that was copied, or 0.
+    pub copied_pages: u32,
     pub sum: Sum,
     /// The size after the newest commit, in pages.
     pub size: u32,
@@ -50,6 +52,7 @@ pub struct State {
     ghost same_size: { header.page_size ≡ page_size },
     ghost few: { mark ≤ 1000000 },
     ghost copied_few: { copied ≤ mark },
+    ghost copied_long: { copied_pages * page_size ≤ db_len },
     ghost indexed: { IsIndexTo mark index },
     ghost served: { IsSizeWithinLimits page_size size },
 }
@@ -173,5 +176,6 @@ impl State {
         self.is_clean = true;
         self.mark = 0;
         self.copied = 0;
+        self.copied_pages = 0;
     }
 }

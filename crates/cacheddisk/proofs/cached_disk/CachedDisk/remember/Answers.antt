@@ -10,4 +10,5 @@ invariant_of-self g c = record {
       c.keep.ensures content c.max-self.result longer (omega (arith, c.max-self.ensures, c.in-Some.ensures)) (c.requires told));
   last = λ told.
       one_kept_longer c.args.self.now.end c.max-self.result (g.D.Disk.file c.args.self.now.disk).content c.args.self.now.written (omega (arith, c.max-self.ensures)) (c.args.self.now.last told);
+  long = c.args.self.now.long;
 }

@@ -8,4 +8,5 @@ invariant_of-self g c = record {
       kept_longer c.args.self.now.end c.max-self.result (g.D.Disk.file c.args.self.now.disk).content c.args.self.now.blocks.items (omega (arith, c.max-self.ensures)) (c.args.self.now.kept told);
   last = λ told.
       c.renew.ensures (g.D.Disk.file c.args.self.now.disk).content c.max-self.result (omega (arith, c.max-self.ensures, c.in-Some.ensures)) (c.requires told);
+  long = c.args.self.now.long;
 }

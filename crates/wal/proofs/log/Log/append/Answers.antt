@@ -1,7 +1,7 @@
 use Rattle.sqlval.specs.PageSizes.{is_size}
-use Rattle.std.proofs.Common.{◌≡◌, ◌∙◌, ◌+◌, ℕ, [], length, ap, sym, subst, arith, true, refl}
+use Rattle.std.proofs.Common.{◌≡◌, ◌∙◌, ◌+◌, ◌++◌, ℕ, List, [], length, ap, sym, subst, arith, true, refl}
 use Rattle.std.specs.Prelude.{IsTrue}
-use Rattle.walframe.specs.Written.{written}
+use Rattle.walframe.specs.Written.{Framed, written}
 use Rattle.wal.specs.LogState.{LogState, state_in}
 use Rattle.wal.specs.Pages.{ArePages, framed}
 use Rattle.disk.specs.Calls.{overwritten}
@@ -14,7 +14,7 @@ use Rattle.sqlval.proofs.PageSizeLemmas.{size_is}
 use Rattle.wal.proofs.CommitLemmas.{framed_fits, pages_len}
 use Rattle.wal.proofs.Staling.{base_is, place_is, clean_as, clean_begun}
 use Rattle.wal.proofs.Rooms.{strict_pages}
-use Rattle.wal.proofs.Standing.{copied_same, uncopied}
+use Rattle.wal.proofs.Standing.{copied_same, copies_after, copies_same, uncopied}
 use Rattle.wal.proofs.Same.{stands_as, known_same, reserved}
 use Rattle.wal.proofs.CommitCrashes.{writes_commit, writes_nothing}
 use Rattle.wal.proofs.log.Log.append.Goals as goal
@@ -28,6 +28,7 @@ invariant_of-self g c =
     record {
       db_there = λ ok told. omega (arith, same.db_len, c.args.self.now.db_there c.requires.whole told);
       db_copied = λ ok told told_log. copied_same old s (g.D.Disk.file c.args.self.now.db).content log same (c.args.self.now.db_copied c.requires.whole told told_log);
+      db_pages = λ ok told told_log. copies_same old s (g.D.Disk.file c.args.self.now.db).content log same (c.args.self.now.db_pages c.requires.whole told told_log);
       log_clean = λ ok told clean. clean_as old.header s.header old.is_begun s.is_begun old.mark s.mark log same.header same.is_begun same.mark (c.args.self.now.log_clean c.requires.whole told (sym same.is_clean ∙ clean));
       log_synced = λ ok told. c.args.self.now.log_synced c.requires.whole told;
       log_there = λ ok told. reserved old s log same (c.args.self.now.log_there c.requires.whole told);
@@ -42,6 +43,7 @@ invariant_of-self-in-Break-branch-3 g c =
     record {
       db_there = λ ok told. omega (arith, same.db_len, c.args.self.now.db_there c.requires.whole told);
       db_copied = λ ok told told_log. copied_same old s (g.D.Disk.file c.args.self.now.db).content log same (c.args.self.now.db_copied c.requires.whole told told_log);
+      db_pages = λ ok told told_log. copies_same old s (g.D.Disk.file c.args.self.now.db).content log same (c.args.self.now.db_pages c.requires.whole told told_log);
       log_clean = λ ok told clean. clean_as old.header s.header old.is_begun s.is_begun old.mark s.mark log same.header same.is_begun same.mark (c.args.self.now.log_clean c.requires.whole told (sym same.is_clean ∙ clean));
       log_synced = λ ok told. c.args.self.now.log_synced c.requires.whole told;
       log_there = λ ok told. reserved old s log same (c.args.self.now.log_there c.requires.whole told);
@@ -73,6 +75,10 @@ invariant_of-self-6 g c =
     record {
       db_there = λ ok told. omega (arith, admits.db_len, same.db_len, c.args.self.now.db_there c.requires.whole told);
       db_copied = λ ok told told_log. uncopied made (g.D.Disk.file c.args.self.now.db).content new (λ some all. omega (arith, all, admits.copied, admits.mark, s.copied_few, c.requires.some));
+      db_pages = λ ok told told_now.
+          let told_log : IsTrue (g.D.Disk.tells c.args.self.now.log) = sym c.in_ok-write_out.ensures.touches.tells_same ∙ told_now in
+          copies_after s made (g.D.Disk.file c.args.self.now.db).content log new fs admits.page_size admits.header admits.is_begun admits.copied admits.copied_pages ((grown told_log).frames_are ∙ ap (λ (l : List Framed). l ++ fs) (front told_log).frames_are)
+          (copies_same old s (g.D.Disk.file c.args.self.now.db).content log same (c.args.self.now.db_pages c.requires.whole told told_log));
       log_clean = λ ok told_now clean. clean_as s.header made.header true made.is_begun (s.mark + length c.args.pages.now) made.mark new admits.header admits.is_begun admits.mark
           (clean_begun s.header (s.mark + length c.args.pages.now) new (subst (λ (n : ℕ). IsStaleFrom s.header (s.mark + n) new) (pages_len c.args.pages.now c.args.size) (grown (sym c.in_ok-write_out.ensures.touches.tells_same ∙ told_now)).stale));
       log_synced = λ ok told_now. c.in_ok-write_out.ensures.synced (sym c.in_ok-write_out.ensures.touches.tells_same ∙ told_now);

@@ -10,7 +10,7 @@ use Rattle.wal.specs.Restarts.{restarted}
 use Rattle.wal.proofs.AnewCommits.{anew_commit, anew_grown, anew_stands, anew_clean, commits_anew, end_within, nothing_anew, writes_anew}
 use Rattle.wal.proofs.CommitLemmas.{pages_len}
 use Rattle.wal.proofs.Rooms.{strict_pages}
-use Rattle.wal.proofs.Standing.{copied_same, uncopied}
+use Rattle.wal.proofs.Standing.{copied_same, copies_same, no_copies, uncopied}
 use Rattle.wal.proofs.Same.{known_same, reserved}
 use Rattle.wal.proofs.Staling.{clean_as}
 use Rattle.wal.proofs.log.Log.commit_anew.Goals as goal
@@ -29,6 +29,7 @@ invariant_of-self g c =
     record {
       db_there = λ ok told. omega (arith, same.db_len, c.args.self.now.db_there c.requires.whole told);
       db_copied = λ ok told told_log. copied_same old s (g.D.Disk.file c.args.self.now.db).content log same (c.args.self.now.db_copied c.requires.whole told told_log);
+      db_pages = λ ok told told_log. copies_same old s (g.D.Disk.file c.args.self.now.db).content log same (c.args.self.now.db_pages c.requires.whole told told_log);
       log_clean = λ ok told clean. clean_as old.header s.header old.is_begun s.is_begun old.mark s.mark log same.header same.is_begun same.mark (c.args.self.now.log_clean c.requires.whole told (sym same.is_clean ∙ clean));
       log_synced = λ ok told. c.args.self.now.log_synced c.requires.whole told;
       log_there = λ ok told. reserved old s log same (c.args.self.now.log_there c.requires.whole told);
@@ -48,6 +49,7 @@ invariant_of-self-in-Break-branch-3 g c =
     record {
       db_there = λ ok told. omega (arith, same.db_len, c.args.self.now.db_there c.requires.whole told);
       db_copied = λ ok told told_log. copied_same old s (g.D.Disk.file c.args.self.now.db).content log same (c.args.self.now.db_copied c.requires.whole told told_log);
+      db_pages = λ ok told told_log. copies_same old s (g.D.Disk.file c.args.self.now.db).content log same (c.args.self.now.db_pages c.requires.whole told told_log);
       log_clean = λ ok told clean. clean_as old.header s.header old.is_begun s.is_begun old.mark s.mark log same.header same.is_begun same.mark (c.args.self.now.log_clean c.requires.whole told (sym same.is_clean ∙ clean));
       log_synced = λ ok told. c.args.self.now.log_synced c.requires.whole told;
       log_there = λ ok told. reserved old s log same (c.args.self.now.log_there c.requires.whole told);
@@ -109,6 +111,7 @@ invariant_of-self-4 g c =
     record {
       db_there = λ ok told. omega (arith, c.advance.ensures.db_len, c.restart.ensures.db_len, c.reserve.ensures.same.db_len, c.args.self.now.db_there c.requires.whole told);
       db_copied = λ ok told now. uncopied made (g.D.Disk.file c.args.self.now.db).content new_file.content (λ some all. omega (arith, all, c.advance.ensures.copied, c.advance.ensures.mark, c.restart.ensures.copied, c.requires.some));
+      db_pages = λ ok told now. no_copies made (g.D.Disk.file c.args.self.now.db).content new_file.content (c.advance.ensures.copied_pages ∙ c.restart.ensures.copied_pages);
       log_clean = λ ok now clean. anew_clean next c.args.size c.in_ok-bytes.sum_now c.args.pages.now _ r made (rewritten (told_before now)).begun.content new_file.content c.restart.ensures c.advance.ensures (all (told_before now));
       log_synced = λ ok now. (rewritten (told_before now)).synced;
       log_there = λ ok now. anew_stands next c.args.size c.in_ok-bytes.sum_now c.args.pages.now _ r made (rewritten (told_before now)).begun.content new_file.content c.restart.ensures c.advance.ensures after_is (all (told_before now));

@@ -1,7 +1,7 @@
-use Rattle.std.proofs.Common.{◌≡◌, ◌∙◌, ◌≤◌, ℕ, true, false, sym, subst, refl}
+use Rattle.std.proofs.Common.{◌≡◌, inl, ◌∙◌, ◌≤◌, ℕ, true, false, sym, subst, refl}
 use Rattle.std.specs.Prelude.{IsTrue}
 use Rattle.disk.specs.File.{File, IsSynced}
-use Rattle.wal.specs.Alone.{StandsAlone}
+use Rattle.wal.specs.Alone.{HasNewest, StandsAlone}
 use Rattle.wal.specs.Committed.{frames_under}
 use Rattle.wal.specs.LogState.{state_in}
 use Rattle.wal.specs.Stale.{HasCleanTail}
@@ -30,6 +30,9 @@ pub returns-in_err-page-clause-crash : goal.returns-in_err-page-clause-crash
 returns-in_err-page-clause-crash g c ok told told_log synced =
     shown_nothing (state_in c.args.self.now.state) c.args.target (g.D.Disk.file c.args.self.now.log).content (g.D.Disk.file c.args.self.now.db) synced
 
+pub copy_frames-requires-clause-copied : goal.copy_frames-requires-clause-copied
+copy_frames-requires-clause-copied g c told told_log = c.args.self.now.db_pages c.if-self.false told told_log
+
 pub copy_frames-requires-clause-there : goal.copy_frames-requires-clause-there
 copy_frames-requires-clause-there g c number low high none =
     c.in_ok-check_there.ensures.there number low (subst (λ (n : ℕ). number ≤ n) (sym c.copied_size-size.ensures.is) high) none
@@ -39,8 +42,8 @@ returns-in_err-copy_frames-clause-crash g c ok told told_log synced =
     meanwhile_known (state_in c.args.self.now.state) true c.args.target (g.D.Disk.file c.args.self.now.log).content (g.D.Disk.file c.args.self.now.db) (g.D.Disk.file c.copy_frames.new.db)
     (c.copy_frames.ensures.crash told told_log synced)
 
-pub invariant_of-self-5 : goal.invariant_of-self-5
-invariant_of-self-5 g c =
+pub invariant_of-self-7 : goal.invariant_of-self-7
+invariant_of-self-7 g c =
     let s = c.args.self.now.state in
     let log = g.D.Disk.file c.args.self.now.log in
     let new_log = g.D.Disk.file c.copy_frames.new.log in
@@ -50,10 +53,13 @@ invariant_of-self-5 g c =
     let before_log = λ (now : IsTrue (g.D.Disk.tells c.copy_frames.new.log)). (let told : IsTrue (g.D.Disk.tells c.args.self.now.log) = sym c.copy_frames.ensures.kept.1.tells_same ∙ now in told) in
     let same = λ (now : IsTrue (g.D.Disk.tells c.copy_frames.new.log)). (let is : log ≡ new_log = sym (c.copy_frames.ensures.kept.1.same (before_log now)) in is) in
     record {
-      db_there = λ ok now. c.copied_len-self.ensures ∙ sym (c.in_ok-copy_frames.ensures.synced (before now)).1;
+      db_there = λ ok now. c.copied_len-len.ensures.is ∙ sym (c.in_ok-copy_frames.ensures.synced (before now)).1;
       db_copied = λ ok now now_log some all.
           subst (λ (f : File). StandsAlone new s.page_size (frames_under (header_where s.is_begun s.header) f.content s.mark) s.size) (same now_log)
           (stands_alone (state_in s) c.args.target log.content old new (copied_known (state_in s) true c.args.target log.content old new (c.in_ok-copy_frames.ensures.done (before now) (before_log now_log))) all);
+      db_pages = λ ok now now_log number low high within.
+          subst (λ (f : File). HasNewest new s.page_size (frames_under (header_where s.is_begun s.header) f.content c.args.target.mark) number) (same now_log)
+          (λ k newest. (c.in_ok-copy_frames.ensures.done (before now) (before_log now_log)).stands number _ low (subst (λ (n : ℕ). number ≤ n) c.copied_size-size.ensures.is high) (inl (k, newest, refl)));
       log_clean = λ ok now clean. subst (λ (f : File). HasCleanTail s.header s.is_begun s.mark f.content) (same now) (c.args.self.now.log_clean c.if-self.false (before_log now) clean);
       log_synced = λ ok now. subst IsSynced (same now) (c.args.self.now.log_synced c.if-self.false (before_log now));
       log_there = λ ok now. subst (λ (f : File). LogStands s.header s.is_begun s.mark s.sum s.index f.content) (same now) (c.args.self.now.log_there c.if-self.false (before_log now));

@@ -1,7 +1,7 @@
 use Rattle.std.proofs.Common.{◌∙◌, ℕ, List, length, ap, sym, subst}
 use Rattle.std.specs.Prelude.{IsTrue}
 use Rattle.wal.specs.Stands.{LogStands}
-use Rattle.wal.proofs.Standing.{copied_cut}
+use Rattle.wal.proofs.Standing.{copied_cut, copies_cut}
 use Rattle.wal.proofs.Staling.{cut_clean}
 use Rattle.wal.proofs.Cutting.{stands_cut, cut_end, cut_crash, was_cut}
 use Rattle.wal.proofs.log.Log.cut_tail.Goals as goal
@@ -21,6 +21,8 @@ invariant_of-self-4 g c =
       db_there = λ ok told. c.args.self.now.db_there c.if-self.false told;
       db_copied = λ ok told told_now. copied_cut s c.end-end.result (g.D.Disk.file c.args.self.now.db).content log (g.D.Disk.file c.truncate_tail.new.log).content
           (c.args.self.now.log_there c.if-self.false (before told_now)) c.end-end.ensures (c.in_ok-truncate_tail.ensures.cut (before told_now)) (c.args.self.now.db_copied c.if-self.false told (before told_now));
+      db_pages = λ ok told told_now. copies_cut s c.end-end.result (g.D.Disk.file c.args.self.now.db).content log (g.D.Disk.file c.truncate_tail.new.log).content
+          (c.args.self.now.log_there c.if-self.false (before told_now)) c.end-end.ensures (c.in_ok-truncate_tail.ensures.cut (before told_now)) (c.args.self.now.db_pages c.if-self.false told (before told_now));
       log_clean = λ ok told_now clean. cut_clean s.header s.is_begun s.mark (g.D.Disk.file c.truncate_tail.new.log).content
           (ap (λ (l : List ℕ). length l) (c.in_ok-truncate_tail.ensures.cut (before told_now)) ∙ cut_end s.header s.is_begun s.mark c.end-end.result s.sum s.index log (c.args.self.now.log_there c.if-self.false (before told_now)) c.end-end.ensures);
       log_synced = λ ok told_now. c.in_ok-truncate_tail.ensures.synced (before told_now) (c.args.self.now.log_synced c.if-self.false (before told_now));

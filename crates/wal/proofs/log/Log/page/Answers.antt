@@ -1,7 +1,22 @@
-use Rattle.std.proofs.Common.{◌≡◌, inr, ◌∙◌, ◌+◌, ◌-◌, ◌*◌, ℕ, ap, sym, refl, arith, length, take, drop}
+use Rattle.std.proofs.Common.{◌≡◌, inr, ◌∙◌, ◌+◌, ◌-◌, ◌*◌, ℕ, ap, subst, sym, refl, arith, length, take, drop}
+use Rattle.std.specs.Prelude.{IsTrue}
+use Rattle.disk.specs.File.{File}
+use Rattle.wal.specs.Alone.{HasCopiedPages}
 use Rattle.wal.proofs.Paging.{found_page, filed_page, missing_page}
 use Rattle.wal.proofs.Results.{on_ok_from}
 use Rattle.wal.proofs.log.Log.page.Goals as goal
+
+pub invariant_of-self-clause-db_pages : goal.invariant_of-self-clause-db_pages
+invariant_of-self-clause-db_pages g c ok told told_now =
+    let s = c.args.self.now.state in
+    let told_log : IsTrue (g.D.Disk.tells c.args.self.now.log) = sym c.read_at.ensures.tells ∙ told_now in
+    subst (λ (f : File). HasCopiedPages s s.copied_pages (g.D.Disk.file c.args.self.now.db).content f.content) (sym (c.read_at.ensures.same told_log)) (c.args.self.now.db_pages ok told told_log)
+
+pub invariant_of-self-2-clause-db_pages : goal.invariant_of-self-2-clause-db_pages
+invariant_of-self-2-clause-db_pages g c ok told_now told_log =
+    let s = c.args.self.now.state in
+    let told : IsTrue (g.D.Disk.tells c.args.self.now.db) = sym c.read_at-2.ensures.tells ∙ told_now in
+    subst (λ (f : File). HasCopiedPages s s.copied_pages f.content (g.D.Disk.file c.args.self.now.log).content) (sym (c.read_at-2.ensures.same told)) (c.args.self.now.db_pages ok told told_log)
 
 pub returns-in-Some-clause-read : goal.returns-in-Some-clause-read
 returns-in-Some-clause-read g c told_db told until =

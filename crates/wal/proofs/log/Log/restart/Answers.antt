@@ -12,7 +12,7 @@ use Rattle.wal.specs.Stands.{LogStands, kept_at}
 use Rattle.wal.proofs.Crashing.{log_commits, still_commits}
 use Rattle.wal.proofs.Renewing.{IsNext, anew_known, anew_leaves, anew_stale, begins_anew, copied_begun, stands_anew}
 use Rattle.wal.proofs.Same.{stands_as}
-use Rattle.wal.proofs.Standing.{uncopied}
+use Rattle.wal.proofs.Standing.{no_copies, uncopied}
 use Rattle.wal.proofs.Staling.{clean_as, clean_begun}
 use Rattle.wal.proofs.log.Log.restart.Goals as goal
 
@@ -58,6 +58,7 @@ invariant_of-self-3 g c =
     record {
       db_there = λ ok told. omega (arith, is.db_len, c.args.self.now.db_there c.if-self.false told);
       db_copied = λ ok told now. uncopied made (g.D.Disk.file c.args.self.now.db).content new (λ some all. omega (arith, some, is.mark));
+      db_pages = λ ok told now. no_copies made (g.D.Disk.file c.args.self.now.db).content new is.copied_pages;
       log_clean = λ ok now clean. clean_as next made.header true made.is_begun 0 made.mark new is.header_is is.is_begun is.mark (clean_begun next 0 new (subst (IsStaleFrom next 0) (sym (written now)) (stale now)));
       log_synced = λ ok now. c.in_ok-clean_and_renew.ensures.synced (told_before now) (c.args.self.now.log_synced c.if-self.false (told_before now));
       log_there = λ ok now. stands_as next made.header true made.is_begun 0 made.mark (header_sum next) made.sum made.index new is.header_is is.is_begun is.mark is.sum_is

@@ -1,16 +1,18 @@
 use Rattle.std.proofs.Common.{inl, inr, ◌∙◌, ◌+◌, ℕ, ap, subst, refl, arith, take, drop}
 use Rattle.disk.specs.Calls.{Writes, FailsToWrite}
-use Rattle.wal.proofs.Fetched.{frame_low, page_inside, newest_found, has_none}
+use Rattle.wal.proofs.Fetched.{frame_low, page_inside, newest_found}
+use Rattle.wal.proofs.LeftOut.{left_out}
 use Rattle.wal.proofs.Results.{on_ok_from, on_err_from}
 use Rattle.wal.proofs.state.State.copy_page.Goals as goal
 
 pub returns-in_default-clause-copied : goal.returns-in_default-clause-copied
 returns-in_default-clause-copied g c told_db =
     let s = c.args.self.now in
-    let none = c.in_default.ensures.none refl in
+    let left = c.in_default.ensures.none refl in
     inl (record {
-      none = λ told. has_none s (g.D.Disk.file c.args.log.now).content c.args.mark c.args.number (c.requires.stands told) none c.requires.mark c.requires.number.0 c.requires.number.1;
-      whole = c.requires.there told_db none;
+      stands = λ told bytes. left_out s (g.D.Disk.file c.args.db.now).content (g.D.Disk.file c.args.log.now).content c.args.mark c.args.number (c.requires.stands told) c.requires.mark.0 c.requires.mark.1 c.requires.number.0 c.requires.number.1
+          (c.requires.copied told_db told) bytes left;
+      whole = (c.requires.reaches told_db).1 left;
       same = refl;
     })
 
@@ -29,7 +31,7 @@ returns-clause-copied g c told_db =
     (λ writes. inr (record {
       page = c.read_at.new.buf;
       size = omega (arith, c.read_at.auto.buf, c.requires.size);
-      newest = λ told. newest_found s log c.read_at.new.buf c.args.mark c.args.number c.in-Some.frame c.offset.result (c.requires.stands told) c.in-Some.ensures.found c.requires.mark c.requires.number.1 c.offset.ensures
+      newest = λ told. newest_found s log c.read_at.new.buf c.args.mark c.args.number c.in-Some.frame c.offset.result (c.requires.stands told) c.in-Some.ensures.found c.requires.mark.1 c.requires.number.1 c.offset.ensures
           (c.in_ok-read_at.ensures.read told ∙ ap (λ (n : ℕ). take n (drop (c.offset.result + 24) log)) c.requires.size);
       writes = subst (λ (at : ℕ). Writes at c.read_at.new.buf (g.D.Disk.file c.args.db.now) (g.D.Disk.file c.write_at.new.self)) c.place.ensures writes;
     }))
@@ -45,7 +47,7 @@ returns-clause-failed g c told_db =
       | inr fails ↦ inr (record {
         page = c.read_at.new.buf;
         size = omega (arith, c.read_at.auto.buf, c.requires.size);
-        newest = λ told. newest_found s log c.read_at.new.buf c.args.mark c.args.number c.in-Some.frame c.offset.result (c.requires.stands told) c.in-Some.ensures.found c.requires.mark c.requires.number.1 c.offset.ensures
+        newest = λ told. newest_found s log c.read_at.new.buf c.args.mark c.args.number c.in-Some.frame c.offset.result (c.requires.stands told) c.in-Some.ensures.found c.requires.mark.1 c.requires.number.1 c.offset.ensures
             (c.in_ok-read_at.ensures.read told ∙ ap (λ (n : ℕ). take n (drop (c.offset.result + 24) log)) c.requires.size);
         fails = subst (λ (at : ℕ). FailsToWrite at c.read_at.new.buf (g.D.Disk.file c.args.db.now) (g.D.Disk.file c.write_at.new.self)) c.place.ensures fails;
       })

@@ -1,18 +1,32 @@
-use Rattle.std.proofs.Common.{◌∙◌, ◌+◌, ap, sym, arith}
+use Rattle.std.proofs.Common.{◌∙◌, ◌+◌, ap, subst, sym, arith}
 use Rattle.std.specs.Prelude.{IsTrue}
 use Rattle.disk.specs.File.{File}
+use Rattle.wal.specs.Alone.{HasCopiedPage}
 use Rattle.wal.specs.Copying.{frames_to}
 use Rattle.wal.proofs.Fetched.{size_low}
 use Rattle.wal.proofs.Filling.{copies_more, copies_told, current_more, fails_told, keeps_on, left_torn, overwrites_more, overwrites_torn}
 use Rattle.wal.proofs.Results.{at_err}
 use Rattle.wal.proofs.state.State.copy_pages.Goals as goal
 
-pub copy_page-requires-clause-there : goal.copy_page-requires-clause-there
-copy_page-requires-clause-there g c told none =
+pub copy_page-requires-clause-reaches : goal.copy_page-requires-clause-reaches
+copy_page-requires-clause-reaches g c told =
     let inv = c.pages.invariant in
-    let before = sym inv.tells ∙ told in
-    let there = c.requires.there before (c.pages.i + 1) (omega arith) (omega (arith, c.pages-test.true)) none in
-    omega (arith, there, (inv.copies before).grows)
+    let before = sym inv.tells ∙ told in (
+      (inv.copies before).reaches,
+      λ left.
+          let there = c.requires.there before (c.pages.i + 1) (omega arith) (omega (arith, c.pages-test.true)) left in
+          omega (arith, there, (inv.copies before).grows),
+    )
+
+pub copy_page-requires-clause-copied : goal.copy_page-requires-clause-copied
+copy_page-requires-clause-copied g c told told_log =
+    let inv = c.pages.invariant in
+    let before : IsTrue (g.D.Disk.tells c.args.db.now) = sym inv.tells ∙ told in
+    let before_log : IsTrue (g.D.Disk.tells c.args.log.now) = sym inv.log.tells_same ∙ told_log in
+    let number = c.pages.i + 1 in
+    let was = c.requires.copied before before_log number (omega arith) (omega (arith, c.pages-test.true)) in
+    subst (λ (f : File). HasCopiedPage c.args.self.now number (g.D.Disk.file c.pages.db).content f.content) (sym (inv.log.same before_log))
+    (λ within k newest. (inv.copies before).ahead number _ (omega arith) (omega arith) (was within k newest))
 
 pub returns-in_err-copy_page-clause-crash : goal.returns-in_err-copy_page-clause-crash
 returns-in_err-copy_page-clause-crash g c told =
