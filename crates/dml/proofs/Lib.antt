@@ -14,5 +14,6 @@ pub mod GivenAsMeant
 pub mod Taken
 mod Updates
 mod SetRows
-mod Replaced
-mod SetTrees
+pub mod Replaced
+pub mod SetTrees
+mod Meant

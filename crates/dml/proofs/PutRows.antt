@@ -1,5 +1,6 @@
 -- What putting the rows of an INSERT into their tree comes to.
-use Rattle.std.proofs.Common.{◌≡◌, refl, sym, ap, subst, ◌∙◌, inl, inr, ◌⊎◌, ◌<ℤ◌, ℕ, ℤ, Bool, List, [], ◌∷◌, ◌++◌, length, Option, Some, Ok, Err, IsTrue}
+use Rattle.std.proofs.Common.{◌≡◌, refl, sym, ap, subst, ◌∙◌, inl, inr, ◌⊎◌, ◌<ℤ◌, ℕ, ℤ, Bool, List, [], ◌∷◌, ◌++◌, length, Option, Some, Ok, Err, map, IsTrue}
+use Rattle.std.specs.Global.{Vec}
 use Rattle.std.specs.Prelude.{Result, MatchResult, IsErrAnd, ⊤}
 use Rattle.sqlval.specs.declared.fault.Fault.{Fault}
 use Rattle.sqlval.specs.declared.fault.Fault.TheVariants as f
@@ -11,12 +12,13 @@ use Rattle.treepage.specs.Cells.{Pairwise}
 use Rattle.tabletree.specs.Calls.{BecomesRows, FindsLast, Stands}
 use Rattle.tabletree.specs.Rows as tree
 use Rattle.catalog.specs.declared.tables.Column.{Column}
+use Rattle.catalog.specs.declared.tables.TableRow as stored
 use Rattle.rowprog.specs.Rows.{IsRow, TableRow}
 use Rattle.rowprog.proofs.TreeOrder.{tree_rises}
 use Rattle.dml.specs.Inserting.{AllStorable, IsRefusedAs, last_rowid, row_added, rowid_after, rows_added}
-use Rattle.dml.specs.NewRows.{IsWritten}
+use Rattle.dml.specs.NewRows.{IsWritten, row_of}
 use Rattle.dml.specs.Putting.{AreUnder, ComeAfter, PutsAfter}
-use Rattle.dml.specs.Trees.{ArePutIn, IsPutRefusal, PutsRows}
+use Rattle.dml.specs.Trees.{ArePutIn, IsPutRefusal, PutsRows, TellsAdded}
 use Rattle.dml.proofs.FitRows.{fit_after}
 use Rattle.dml.proofs.Added.{are_rows, pairwise_append, pairwise_push}
 use Rattle.dml.proofs.Rising.{AreBelow, Rises, last_of_more, rises_on, rows_below, rows_rise}
@@ -78,31 +80,37 @@ come_after columns places (g ∷ given) rows (row ∷ added) last entries (entry
 -- ---- what the calls answer
 
 module _ (old new : PageMap) (size root : ℕ) (columns : List Column) (places : List (Option ℕ)) (given : List (List Value)) where
-  refused : (fault : Fault) (result : Result ⊤ Fault) → IsErrAnd result (λ e. e ≡ fault)
+  refused : {X : Type 0} (fault : Fault) (result : Result X Fault) → IsErrAnd result (λ e. e ≡ fault)
       → ((rows : List TableRow) (entries : List Entry) (used free : List ℕ) (is : Stands old size root entries used free) → Pairwise (IsRow (length columns)) entries rows → IsPutRefusal columns places given rows fault)
       → PutsRows old new size root columns places given result
   refused fault (Ok x) same why = absurd same
   refused fault (Err e) same why = λ rows entries used free is each. subst (λ (g : Fault). IsPutRefusal columns places given rows g) (sym same) (why rows entries used free is each)
 
-  pub no_last : (fault : Fault) (result : Result ⊤ Fault) → IsErrAnd result (λ e. e ≡ fault) → FindsLast old size root (Err fault) → PutsRows old new size root columns places given result
+  pub no_last : {X : Type 0} (fault : Fault) (result : Result X Fault) → IsErrAnd result (λ e. e ≡ fault) → FindsLast old size root (Err fault) → PutsRows old new size root columns places given result
   no_last fault result same finds = refused fault result same (λ rows entries used free is each. inl (inl (finds entries used is.free_are.whole is.tree)))
 
   module _ (last : Option ℤ) (finds : FindsLast old size root (Ok last)) where
     last_is : (rows : List TableRow) (entries : List Entry) (used free : List ℕ) → Stands old size root entries used free → Pairwise (IsRow (length columns)) entries rows → last ≡ last_rowid rows
     last_is rows entries used free is each = finds entries used is.free_are.whole is.tree ∙ last_same (length columns) entries rows each
 
-    pub not_added : (fault : Fault) (result : Result ⊤ Fault) → IsErrAnd result (λ e. e ≡ fault) → (fault ≡ f.Memory) ⊎ IsRefusedAs (rows_added columns places last given) fault → PutsRows old new size root columns places given result
+    pub not_added : {X : Type 0} (fault : Fault) (result : Result X Fault) → IsErrAnd result (λ e. e ≡ fault) → (fault ≡ f.Memory) ⊎ IsRefusedAs (rows_added columns places last given) fault → PutsRows old new size root columns places given result
     not_added fault result same why = refused fault result same (λ rows entries used free is each. by rows why (last_is rows entries used free is each))
       where
         by : (rows : List TableRow) → (fault ≡ f.Memory) ⊎ IsRefusedAs (rows_added columns places last given) fault → last ≡ last_rowid rows → IsPutRefusal columns places given rows fault
         by rows (inl memory) at = inl (inl (inl memory))
         by rows (inr why) at = inr (inl (subst (λ (l : Option ℤ). IsRefusedAs (rows_added columns places l given) fault) at why))
 
+    -- the rows that are answered
+    pub told_added : (them : Vec stored.TableRow) → rows_added columns places last given ≡ Ok (map row_of them.items) → TellsAdded old size root columns places given (Ok them)
+    told_added them answer rows whole has =
+        subst (λ (l : Option ℤ). rows_added columns places l given ≡ Ok (map row_of them.items))
+        (finds has.entries has.used whole has.tree ∙ last_same (length columns) has.entries rows has.each) answer
+
     module _ (added : List TableRow) (answer : rows_added columns places last given ≡ Ok added) where
       answer_is : (rows : List TableRow) → last ≡ last_rowid rows → rows_added columns places (last_rowid rows) given ≡ Ok added
       answer_is rows at = subst (λ (l : Option ℤ). rows_added columns places l given ≡ Ok added) at answer
 
-      pub not_stored : (fault : Fault) (result : Result ⊤ Fault) → IsErrAnd result (λ e. e ≡ fault) → (fault ≡ f.Memory) ⊎ ((fault ≡ f.TooLong) × (AllStorable added → ⊥)) → PutsRows old new size root columns places given result
+      pub not_stored : {X : Type 0} (fault : Fault) (result : Result X Fault) → IsErrAnd result (λ e. e ≡ fault) → (fault ≡ f.Memory) ⊎ ((fault ≡ f.TooLong) × (AllStorable added → ⊥)) → PutsRows old new size root columns places given result
       not_stored fault result same why = refused fault result same (λ rows entries used free is each. by rows why (last_is rows entries used free is each))
         where
           by : (rows : List TableRow) → (fault ≡ f.Memory) ⊎ ((fault ≡ f.TooLong) × (AllStorable added → ⊥)) → last ≡ last_rowid rows → IsPutRefusal columns places given rows fault
@@ -132,6 +140,16 @@ module _ (old new : PageMap) (size root : ℕ) (columns : List Column) (places :
             fit = fit_after columns places given rows added more (answer_is rows at) written;
           }
           by (Err fault) cannot = inl cannot
+
+  -- a call that passes it on
+  pub passed_on : {X : Type 0} (fault : Fault) (result : Result X Fault) → IsErrAnd result (λ e. e ≡ fault) → PutsRows {X = ⊤} old new size root columns places given (Err fault)
+      → PutsRows old new size root columns places given result
+  passed_on fault (Ok x) same puts = absurd same
+  passed_on fault (Err e) same puts = λ rows entries used free is each. subst (λ (g : Fault). IsPutRefusal columns places given rows g) (sym same) (puts rows entries used free is each)
+
+  pub none_told : (fault : Fault) (result : Result (Vec stored.TableRow) Fault) → IsErrAnd result (λ e. e ≡ fault) → TellsAdded old size root columns places given result
+  none_told fault (Ok x) same = absurd same
+  none_told fault (Err e) same = λ rows whole has. tt
 
 -- what a call does to pages that were only read before
 pub puts_after : {P K : Type 0} (below : P → K) (tells : K → Bool) (limits : K → Limits) (pages : P → PageMap) (old mid : P) (new : PageMap) (root : ℕ) (more : List Entry) (result : Result ⊤ Fault) → below mid ≡ below old → pages mid ≡ pages old

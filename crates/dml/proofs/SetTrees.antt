@@ -1,5 +1,6 @@
 -- What UPDATE leaves in a tree is what the definition says.
 use Rattle.std.proofs.Common.{◌≡◌, ◌⊎◌, inl, inr, refl, sym, ap, subst, ◌∙◌, ℕ, Bool, true, false, filter, List, [], ◌∷◌, ◌++◌, append_assoc, length, map, Option, Some, None, Result, Ok, Err}
+use Rattle.std.specs.Global.{Vec}
 use Rattle.std.specs.Prelude.{IsErrAnd, MatchResult, ⊤}
 use Rattle.std.proofs.lemmas.List.{append-nil}
 use Rattle.sqlval.specs.Refusals.{Answer, Refusal, ◌then◌, all_answers, refusal_of}
@@ -11,6 +12,7 @@ use Rattle.pages.specs.Map.{PageMap}
 use Rattle.treepage.specs.Cells.{Pairwise}
 use Rattle.tabletree.specs.Calls.{BecomesRows, Stands}
 use Rattle.catalog.specs.declared.tables.Column.{Column}
+use Rattle.catalog.specs.declared.tables.TableRow as stored
 use Rattle.bind.specs.declared.queries.BoundSource.{BoundSource}
 use Rattle.terms.specs.Outcome.{IsRefusedBy}
 use Rattle.terms.specs.Terms.{Term}
@@ -21,33 +23,33 @@ use Rattle.rowprog.specs.Trees.{HasRows}
 use Rattle.rowprog.proofs.TreeOrder.{tree_rises}
 use Rattle.dml.specs.Choosing.{is_chosen, tested}
 use Rattle.dml.specs.Inserting.{AllStorable}
-use Rattle.dml.specs.NewRows.{IsWritten}
+use Rattle.dml.specs.NewRows.{IsWritten, row_of}
 use Rattle.dml.specs.Setting.{rows_changed, rows_meant, rows_meant_set, rows_set, source_set}
-use Rattle.dml.specs.Updating.{AreSetIn, IsSetRefusal, ReplacesRows, SetsRows, with_all_replaced}
+use Rattle.dml.specs.Updating.{AreSetIn, IsSetRefusal, ReplacesRows, SetsRows, TellsChanged, with_all_replaced}
 use Rattle.dml.proofs.Replaced.{are_changed, are_set, fit_now, made, set_refused}
 use Rattle.dml.proofs.Rising.{Rises, rows_rise}
 use Rattle.dml.proofs.SetRows.{map_twice}
 
 -- what the condition says of each row, and of a row
-abbrev asked : Option Term → List TableRow → Answer (List (Option Bool))
+abbrev pub asked : Option Term → List TableRow → Answer (List (Option Bool))
 asked None rows = Ok []
 asked (Some c) rows = all_answers (map (tested c) rows)
 
-abbrev meant_by : Option Term → TableRow → Bool
+abbrev pub meant_by : Option Term → TableRow → Bool
 meant_by None = λ row. true
 meant_by (Some c) = is_chosen c
 
 abbrev given_rows : List Row → Answer (List Row)
 given_rows rows = Ok rows
 
-set_as : (columns : List Column) (sets : List (ℕ × Term)) (c : Option Term) (rows : List TableRow) → rows_set columns sets c rows ≡ (asked c rows then λ ts. rows_meant_set columns sets (meant_by c) rows)
+pub set_as : (columns : List Column) (sets : List (ℕ × Term)) (c : Option Term) (rows : List TableRow) → rows_set columns sets c rows ≡ (asked c rows then λ ts. rows_meant_set columns sets (meant_by c) rows)
 set_as columns sets None rows = refl
 set_as columns sets (Some c) rows = refl
 
 abbrev is_true : Answer (Option Bool) → Bool
 is_true test = elim test [ Ok (Some true) ↦ true | _ ↦ false ]
 
-meant_as : (c : Option Term) (before : List Row) (rows : List TableRow) → rows_meant c before (map as_source rows) ≡ (asked c rows then λ ts. Ok (before ++ map as_source (filter (meant_by c) rows)))
+pub meant_as : (c : Option Term) (before : List Row) (rows : List TableRow) → rows_meant c before (map as_source rows) ≡ (asked c rows then λ ts. Ok (before ++ map as_source (filter (meant_by c) rows)))
 meant_as None before [] = ap given_rows (sym (append-nil before))
 meant_as (Some c) before [] = ap given_rows (sym (append-nil before))
 meant_as None before (r ∷ rows) = meant_as None (before ++ as_source r ∷ []) rows ∙ ap given_rows (append_assoc before (as_source r ∷ []) (map as_source (filter (λ row. true) rows)))
@@ -82,7 +84,7 @@ module _ (columns : List Column) (sets : List (ℕ × Term)) (c : Option Term) w
       by (Ok ts) = ap all_answers (sym (map_twice (source_set columns sets) as_source (filter (meant_by c) rows)))
       by (Err r) = refl
 
-  changed_known : (rows new : List TableRow) → rows_changed columns sets c (map as_source rows) ≡ Ok new
+  pub changed_known : (rows new : List TableRow) → rows_changed columns sets c (map as_source rows) ≡ Ok new
       → (made columns sets (meant_by c) rows ≡ Ok new) × (rows_set columns sets c rows ≡ rows_meant_set columns sets (meant_by c) rows)
   changed_known rows new e = (let both = by (asked c rows) (sym (changed_as rows) ∙ e) in (both.0, set_as columns sets c rows ∙ both.1))
     where
@@ -91,7 +93,7 @@ module _ (columns : List Column) (sets : List (ℕ × Term)) (c : Option Term) w
       by (Ok ts) h = (h, refl)
       by (Err r) h = absurd cc
 
-  changed_refused : (rows : List TableRow) (why : Refusal) → rows_changed columns sets c (map as_source rows) ≡ Err why → rows_set columns sets c rows ≡ Err why
+  pub changed_refused : (rows : List TableRow) (why : Refusal) → rows_changed columns sets c (map as_source rows) ≡ Err why → rows_set columns sets c rows ≡ Err why
   changed_refused rows why e = set_as columns sets c rows ∙ by (asked c rows) (sym (changed_as rows) ∙ e)
     where
       by : (a : Answer (List (Option Bool))) → (a then λ ts. made columns sets (meant_by c) rows) ≡ Err why → (a then λ ts. rows_meant_set columns sets (meant_by c) rows) ≡ Err why
@@ -101,11 +103,21 @@ module _ (columns : List Column) (sets : List (ℕ × Term)) (c : Option Term) w
   -- ---- what the calls answer
 
   module _ (old new : PageMap) (size root : ℕ) where
-    refused : (fault : Fault) (result : Result ⊤ Fault) → IsErrAnd result (λ e. e ≡ fault)
+    refused : {X : Type 0} (fault : Fault) (result : Result X Fault) → IsErrAnd result (λ e. e ≡ fault)
         → ((rows : List TableRow) (entries : List Entry) (used free : List ℕ) → Stands old size root entries used free → Pairwise (IsRow (length columns)) entries rows → IsSetRefusal columns sets c rows fault)
         → SetsRows old new size root columns sets c result
     refused fault (Ok x) same why = absurd same
     refused fault (Err e) same why = λ rows entries used free is each. subst (λ (g : Fault). IsSetRefusal columns sets c rows g) (sym same) (why rows entries used free is each)
+
+    -- a call that passes it on
+    pub passed_on : {X : Type 0} (fault : Fault) (result : Result X Fault) → IsErrAnd result (λ e. e ≡ fault) → SetsRows {X = ⊤} old new size root columns sets c (Err fault)
+        → SetsRows old new size root columns sets c result
+    passed_on fault (Ok x) same sets_so = absurd same
+    passed_on fault (Err e) same sets_so = λ rows entries used free is each. subst (λ (g : Fault). IsSetRefusal columns sets c rows g) (sym same) (sets_so rows entries used free is each)
+
+    pub none_told : (fault : Fault) (result : Result (Vec stored.TableRow) Fault) → IsErrAnd result (λ e. e ≡ fault) → TellsChanged old size root columns sets c result
+    none_told fault (Ok x) same = absurd same
+    none_told fault (Err e) same = λ rows whole has. tt
 
     module _ (width : ℕ) (wide : width ≡ length columns) where
       abbrev source : BoundSource
@@ -114,25 +126,30 @@ module _ (columns : List Column) (sets : List (ℕ × Term)) (c : Option Term) w
       has_rows : (rows : List TableRow) (entries : List Entry) (used free : List ℕ) → Stands old size root entries used free → Pairwise (IsRow (length columns)) entries rows → HasRows old size root width rows
       has_rows rows entries used free is each = subst (λ w. HasRows old size root w rows) (sym wide) (record { entries = entries; used = used; tree = is.tree; each = each })
 
-      pub none_loaded : (fault : Fault) (result : Result ⊤ Fault) → IsErrAnd result (λ e. e ≡ fault) → LoadsRows old size source (Err fault) → SetsRows old new size root columns sets c result
+      pub none_loaded : {X : Type 0} (fault : Fault) (result : Result X Fault) → IsErrAnd result (λ e. e ≡ fault) → LoadsRows old size source (Err fault) → SetsRows old new size root columns sets c result
       none_loaded fault result same loads = refused fault result same (λ rows entries used free is each. inl (inl (loads rows is.free_are.whole (has_rows rows entries used free is each))))
 
       module _ (found : List Row) (loads : LoadsRows old size source (Ok found)) where
         found_are : (rows : List TableRow) (entries : List Entry) (used free : List ℕ) → Stands old size root entries used free → Pairwise (IsRow (length columns)) entries rows → found ≡ map as_source rows
         found_are rows entries used free is each = loads rows is.free_are.whole (has_rows rows entries used free is each)
 
-        pub none_changed : (fault : Fault) (result : Result ⊤ Fault) → IsErrAnd result (λ e. e ≡ fault) → IsRefusedBy (rows_changed columns sets c found) fault → SetsRows old new size root columns sets c result
+        pub none_changed : {X : Type 0} (fault : Fault) (result : Result X Fault) → IsErrAnd result (λ e. e ≡ fault) → IsRefusedBy (rows_changed columns sets c found) fault → SetsRows old new size root columns sets c result
         none_changed fault result same why = refused fault result same (λ rows entries used free is each. by rows (found_are rows entries used free is each) why)
           where
             by : (rows : List TableRow) → found ≡ map as_source rows → IsRefusedBy (rows_changed columns sets c found) fault → IsSetRefusal columns sets c rows fault
             by rows are (inl memory) = inl (inl (inl memory))
             by rows are (inr e) = inr (inl (changed_refused rows (refusal_of fault) (ap (rows_changed columns sets c) (sym are) ∙ e)))
 
+        -- the rows that are answered
+        pub told_changed : (them : Vec stored.TableRow) → rows_changed columns sets c found ≡ Ok (map row_of them.items) → TellsChanged old size root columns sets c (Ok them)
+        told_changed them answer rows whole has =
+            subst (λ (all : List Row). rows_changed columns sets c all ≡ Ok (map row_of them.items)) (loads rows whole (subst (λ w. HasRows old size root w rows) (sym wide) has)) answer
+
         module _ (changed : List TableRow) (answer : rows_changed columns sets c found ≡ Ok changed) where
           known : (rows : List TableRow) → found ≡ map as_source rows → (made columns sets (meant_by c) rows ≡ Ok changed) × (rows_set columns sets c rows ≡ rows_meant_set columns sets (meant_by c) rows)
           known rows are = changed_known rows changed (ap (rows_changed columns sets c) (sym are) ∙ answer)
 
-          pub none_stored : (fault : Fault) (result : Result ⊤ Fault) → IsErrAnd result (λ e. e ≡ fault) → (fault ≡ f.Memory) ⊎ ((fault ≡ f.TooLong) × (AllStorable changed → ⊥)) → SetsRows old new size root columns sets c result
+          pub none_stored : {X : Type 0} (fault : Fault) (result : Result X Fault) → IsErrAnd result (λ e. e ≡ fault) → (fault ≡ f.Memory) ⊎ ((fault ≡ f.TooLong) × (AllStorable changed → ⊥)) → SetsRows old new size root columns sets c result
           none_stored fault result same why = refused fault result same (λ rows entries used free is each. by rows (found_are rows entries used free is each) why)
             where
               by : (rows : List TableRow) → found ≡ map as_source rows → (fault ≡ f.Memory) ⊎ ((fault ≡ f.TooLong) × (AllStorable changed → ⊥)) → IsSetRefusal columns sets c rows fault

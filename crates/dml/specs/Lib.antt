@@ -11,3 +11,4 @@ pub mod Taking
 pub mod Setting
 pub mod Trees
 pub mod Updating
+pub mod Meaning

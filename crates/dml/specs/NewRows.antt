@@ -5,13 +5,13 @@ use Rattle.record.specs.Record.{IsRecord}
 use Rattle.page.specs.Leaf.{Entry}
 use Rattle.tabletree.specs.declared.changing.RowChange.{RowChange}
 use Rattle.catalog.specs.Rows.{is_value}
+use Rattle.catalog.specs.declared.tables.TableRow as stored
 use Rattle.rowprog.specs.Rows.{TableRow}
 use Rattle.dml.specs.Inserting.{entry_for}
-use Rattle.dml.specs.declared.inserting.NewRow.{NewRow}
 use Rattle.dml.specs.declared.inserting.RowRecord.{RowRecord}
 
 -- the row that it is
-abbrev pub row_of : NewRow → TableRow
+abbrev pub row_of : stored.TableRow → TableRow
 row_of new = (new.rowid, new.values.items)
 
 -- the entry that it is

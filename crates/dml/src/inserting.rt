@@ -12,7 +12,7 @@ ghost use Rattle.dml.specs.Agreement.{InsertsRows};
 ghost use Rattle.dml.specs.Inserting.{AllStorable, IsRefusedAs, given_at, row_added, row_stored, rows_added};
 ghost use Rattle.dml.specs.NewRows.{IsReplacement, IsWritten, entry_in, entry_left, row_of};
 
-use catalog::{Column, other_rows_are_listed};
+use catalog::{Column, TableRow, other_rows_are_listed};
 use record::{encode, is_storable};
 use sqlval::{Fault, R, Row, Value, apply};
 use std::alloc::Global;
@@ -39,13 +39,6 @@ fn place_of(places: &[Option<usize>], index: usize) -> Option<usize>
     } else {
         None
     }
-}
-
-/// A new row.
-#[derive(Drop)]
-pub(crate) struct NewRow {
-    pub(crate) rowid: i64,
-    pub(crate) values: Vec<Value>,
 }
 
 /// What a column stores of the value given for it.
@@ -90,17 +83,17 @@ fn new_row(
     places: &[Option<usize>],
     given: &[Value],
     last: Option<i64>,
-) -> R<NewRow>
+) -> R<TableRow>
     ensures added { IfOk result (λ row. row_added columns.now places.now last given.now ≡ Ok (row_of row)) }
     ensures refused { IfErr result (λ fault. (fault ≡ Fault.Memory) ⊎ IsRefusedAs (row_added columns.now places.now last given.now) fault) }
 {
     let values = stored_values(alloc, columns, places, given)?;
     let rowid = next_rowid(last)?;
-    Ok(NewRow { rowid, values })
+    Ok(TableRow { rowid, values })
 }
 
 /// The last rowid, once this row is added.
-fn last_after(row: &NewRow) -> Option<i64>
+fn last_after(row: &TableRow) -> Option<i64>
     ensures { result ≡ Some (row_of row.now).0 }
 {
     Some(row.rowid)
@@ -113,7 +106,7 @@ pub(crate) fn new_rows(
     places: &[Option<usize>],
     rows: &[Row],
     last: Option<i64>,
-) -> R<Vec<NewRow>>
+) -> R<Vec<TableRow>>
     ensures added { IfOk result (λ added. rows_added columns.now places.now last (map (λ row. row.items) rows.now) ≡ Ok (map row_of added.items)) }
     ensures refused { IfErr result (λ fault. (fault ≡ Fault.Memory)
         ⊎ IsRefusedAs (rows_added columns.now places.now last (map (λ row. row.items) rows.now)) fault) }
@@ -159,7 +152,7 @@ fn payload_of(alloc: Global, values: &[Value]) -> R<Vec<u8>>
 }
 
 /// The record of a new row.
-fn record_for(alloc: Global, row: &NewRow) -> R<RowRecord>
+fn record_for(alloc: Global, row: &TableRow) -> R<RowRecord>
     ensures written { IfOk result (λ made. IsWritten (row_of row.now) (entry_in made)) }
     ensures refused { IfErr result (λ fault. (fault ≡ Fault.Memory)
         ⊎ ((fault ≡ Fault.TooLong) × (AreStorable (row_of row.now).1 → ⊥))) }
@@ -171,7 +164,7 @@ fn record_for(alloc: Global, row: &NewRow) -> R<RowRecord>
 }
 
 /// The records of the new rows.
-pub(crate) fn records_of(alloc: Global, rows: &[NewRow]) -> R<Vec<RowRecord>>
+pub(crate) fn records_of(alloc: Global, rows: &[TableRow]) -> R<Vec<RowRecord>>
     ensures written { IfOk result (λ records. Pairwise IsWritten (map row_of rows.now) (map entry_in records.items)) }
     ensures refused { IfErr result (λ fault. (fault ≡ Fault.Memory)
         ⊎ ((fault ≡ Fault.TooLong) × (AllStorable (map row_of rows.now) → ⊥))) }
@@ -184,7 +177,7 @@ pub(crate) fn records_of(alloc: Global, rows: &[NewRow]) -> R<Vec<RowRecord>>
 }
 
 /// The change of the row of a rowid to this one, with its record.
-fn change_for(alloc: Global, row: &NewRow) -> R<RowChange>
+fn change_for(alloc: Global, row: &TableRow) -> R<RowChange>
     ensures made { IfOk result (λ made. IsWritten (row_of row.now) (entry_left made)) }
     ensures some { IfOk result IsReplacement }
     ensures refused { IfErr result (λ fault. (fault ≡ Fault.Memory)
@@ -196,7 +189,7 @@ fn change_for(alloc: Global, row: &NewRow) -> R<RowChange>
 }
 
 /// The changes of rows to these, with their records.
-pub(crate) fn changes_of(alloc: Global, rows: &[NewRow]) -> R<Vec<RowChange>>
+pub(crate) fn changes_of(alloc: Global, rows: &[TableRow]) -> R<Vec<RowChange>>
     ensures made { IfOk result (λ changes. Pairwise IsWritten (map row_of rows.now) (map entry_left changes.items)) }
     ensures some { IfOk result (λ changes. AllByRecursion IsReplacement changes.items) }
     ensures refused { IfErr result (λ fault. (fault ≡ Fault.Memory)

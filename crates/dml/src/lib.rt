@@ -5,6 +5,7 @@
 mod choosing;
 mod deleting;
 mod inserting;
+mod meaning;
 mod putting;
 mod setting;
 mod taking;
@@ -13,6 +14,7 @@ mod updating;
 pub use choosing::chosen_rowids;
 pub use deleting::delete_takes_its_rows;
 pub use inserting::insert_adds_its_rows;
-pub use putting::put_rows;
+pub use meaning::meant_rows;
+pub use putting::{put_new_rows, put_rows};
 pub use taking::take_rows;
-pub use updating::{set_rows, update_sets_its_rows};
+pub use updating::{set_new_rows, set_rows, update_sets_its_rows};

@@ -4,10 +4,11 @@ ghost use Rattle.std.specs.Prelude.{◌≡◌, map, IsTrue};
 ghost use Rattle.pages.specs.Calls.{Causes};
 ghost use Rattle.dml.specs.NewRows.{entry_in};
 ghost use Rattle.dml.specs.Putting.{PutsAfter, PutsLast};
-ghost use Rattle.dml.specs.Trees.{PutsRows};
+ghost use Rattle.dml.specs.Trees.{PutsRows, TellsAdded};
 
 use crate::inserting::{RowRecord, new_rows, records_of};
 use bind::BoundInsert;
+use catalog::TableRow;
 use pages::WritePages;
 use sqlval::{Damage, Fault, R};
 use std::alloc::Global;
@@ -48,11 +49,19 @@ fn put_records<P: WritePages>(
     Ok(())
 }
 
-/// Puts the rows of an INSERT into the tree of their table, after its own. Row by row, a real is `RealRefused`, and a row after the
-/// greatest rowid of all is `RowidFull`; only then a row that no record can hold is `TooLong`. (`Memory`, `Io`, `Full`.)
-pub fn put_rows<P: WritePages>(alloc: Global, pages: &mut P, insert: BoundInsert<'_>) -> R<()>
+/// Puts the rows of an INSERT into the tree of their table, after its own, and answers them. Row by row, a real is `RealRefused`, and a row
+/// after the greatest rowid of all is `RowidFull`; only then a row that no record can hold is `TooLong`. (`Memory`, `Io`, `Full`.)
+pub fn put_new_rows<P: WritePages>(
+    alloc: Global,
+    pages: &mut P,
+    insert: BoundInsert<'_>,
+) -> R<Vec<TableRow>>
     ensures put { IsTrue (P.Pages.tells (P.Pages.below pages.old))
         → PutsRows (P.Pages.map pages.old) (P.Pages.map pages.new) (P.Pages.limits (P.Pages.below pages.old)).page
+        insert.entry.table.now.root insert.entry.table.now.columns insert.entry.places.items
+        (map (λ row. row.items) insert.entry.rows.items) result }
+    ensures rows { IsTrue (P.Pages.tells (P.Pages.below pages.old))
+        → TellsAdded (P.Pages.map pages.old) (P.Pages.limits (P.Pages.below pages.old)).page
         insert.entry.table.now.root insert.entry.table.now.columns insert.entry.places.items
         (map (λ row. row.items) insert.entry.rows.items) result }
     ensures kept { P.Pages.below pages.new ≡ P.Pages.below pages.old }
@@ -67,5 +76,20 @@ pub fn put_rows<P: WritePages>(alloc: Global, pages: &mut P, insert: BoundInsert
     let last = last(pages, table.root)?;
     let added = new_rows(alloc, table.columns.as_slice(), &places, &rows, last)?;
     let records = records_of(alloc, &added)?;
-    put_records(alloc, pages, table.root, &records)
+    put_records(alloc, pages, table.root, &records)?;
+    Ok(added)
+}
+
+/// Puts the rows of an INSERT into the tree of their table, after its own. (As `put_new_rows`.)
+pub fn put_rows<P: WritePages>(alloc: Global, pages: &mut P, insert: BoundInsert<'_>) -> R<()>
+    ensures put { IsTrue (P.Pages.tells (P.Pages.below pages.old))
+        → PutsRows (P.Pages.map pages.old) (P.Pages.map pages.new) (P.Pages.limits (P.Pages.below pages.old)).page
+        insert.entry.table.now.root insert.entry.table.now.columns insert.entry.places.items
+        (map (λ row. row.items) insert.entry.rows.items) result }
+    ensures kept { P.Pages.below pages.new ≡ P.Pages.below pages.old }
+    ensures causes { Causes result (P.Pages.failures pages.old) (P.Pages.failures pages.new)
+        (P.Pages.count pages.new ≡ (P.Pages.limits (P.Pages.below pages.new)).most) }
+{
+    put_new_rows(alloc, pages, insert)?;
+    Ok(())
 }

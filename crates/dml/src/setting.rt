@@ -11,8 +11,8 @@ ghost use Rattle.dml.specs.Constraints.{with_affinity};
 ghost use Rattle.dml.specs.NewRows.{row_of};
 ghost use Rattle.dml.specs.Setting.{is_meant_for, rowid_number, rows_changed, rows_meant, set_over, source_set};
 
-use crate::inserting::{NewRow, stored_value};
-use catalog::Column;
+use crate::inserting::stored_value;
+use catalog::{Column, TableRow};
 use sqlval::{Fault, Many, R, Value};
 use std::alloc::Global;
 use std::array::from_ref;
@@ -59,7 +59,7 @@ fn push_if(places: &mut Vec<usize>, place: usize, is_meant: bool) -> R<()>
 }
 
 /// The places of the rows that are meant, in order. (What the condition refuses for a row, in order.)
-fn places_meant(alloc: Global, rows: &Many<SourceRow>, condition: &Option<Term>) -> R<Vec<usize>>
+pub(crate) fn places_meant(alloc: Global, rows: &Many<SourceRow>, condition: &Option<Term>) -> R<Vec<usize>>
     ensures { AnswersBy (λ places. map (row_at rows.now) places.items) (rows_meant condition.now [] rows.now) result }
 {
     let mut places = Vec::new(alloc);
@@ -71,7 +71,7 @@ fn places_meant(alloc: Global, rows: &Many<SourceRow>, condition: &Option<Term>)
 }
 
 /// Copies of the values of the row at a place. (`Memory`.)
-fn values_at(alloc: Global, rows: &Many<SourceRow>, place: usize) -> R<Vec<Value>>
+pub(crate) fn values_at(alloc: Global, rows: &Many<SourceRow>, place: usize) -> R<Vec<Value>>
     ensures copied { IfOk result (λ new. new.items ≡ (row_at rows.now place).values) }
     ensures refused { IfErr result (λ fault. fault ≡ Fault.Memory) }
 {
@@ -92,7 +92,7 @@ fn rowid_of(row: &SourceRow) -> i64
 }
 
 /// The rowid of the row at a place, 0 where there is none.
-fn rowid_at(rows: &Many<SourceRow>, place: usize) -> i64
+pub(crate) fn rowid_at(rows: &Many<SourceRow>, place: usize) -> i64
     ensures { result ≡ rowid_number (row_at rows.now place).rowid }
 {
     match rows.as_slice().get(place) {
@@ -140,7 +140,7 @@ fn changed_row(
     sets: &[(usize, Term)],
     rows: &Many<SourceRow>,
     place: usize,
-) -> R<NewRow>
+) -> R<TableRow>
     ensures { AnswersBy row_of (source_set columns.now sets.now (row_at rows.now place)) result }
 {
     let mut values = values_at(alloc, rows, place)?;
@@ -148,7 +148,7 @@ fn changed_row(
     let env = env_at(rows, picked.as_slice());
     set_each(alloc, &mut values, sets, env)?;
     let values = stored(alloc, columns, &values)?;
-    Ok(NewRow {
+    Ok(TableRow {
         rowid: rowid_at(rows, place),
         values,
     })
@@ -161,7 +161,7 @@ fn changed_at(
     sets: &[(usize, Term)],
     rows: &Many<SourceRow>,
     places: &[usize],
-) -> R<Vec<NewRow>>
+) -> R<Vec<TableRow>>
     ensures { AnswersBy (λ new. map row_of new.items)
         (all_answers (map (λ place. source_set columns.now sets.now (row_at rows.now place)) places.now)) result }
 {
@@ -179,7 +179,7 @@ pub(crate) fn changed_rows(
     sets: &[(usize, Term)],
     rows: &Many<SourceRow>,
     condition: &Option<Term>,
-) -> R<Vec<NewRow>>
+) -> R<Vec<TableRow>>
     ensures changed { AnswersBy (λ new. map row_of new.items) (rows_changed columns.now sets.now condition.now rows.now) result }
     ensures not_disk { IfErr result (λ fault. IsNotDiskFault fault) }
 {

@@ -3,12 +3,12 @@
 ghost use Rattle.std.specs.Prelude.{◌≡◌, IsTrue};
 ghost use Rattle.pages.specs.Calls.{Causes};
 ghost use Rattle.dml.specs.Agreement.{UpdatesSome};
-ghost use Rattle.dml.specs.Updating.{SetsRows};
+ghost use Rattle.dml.specs.Updating.{SetsRows, TellsChanged};
 
 use crate::inserting::changes_of;
 use crate::setting::changed_rows;
 use bind::BoundSource;
-use catalog::{Table, named_databases_are_one, other_rows_are_listed};
+use catalog::{Table, TableRow, named_databases_are_one, other_rows_are_listed};
 use pages::WritePages;
 use rowprog::source_rows;
 use sqlval::R;
@@ -24,9 +24,38 @@ pub fn update_sets_its_rows()
     named_databases_are_one();
 }
 
-/// Sets values in the rows of a table's tree for which a condition is true, or in all where there is none. The condition is asked of all
-/// rows before the first is set. (What `source_rows`, the condition, SET's expressions and `change_rows` refuse, a real, and `TooLong` for a
-/// row that no record can hold; only what `change_rows` refuses leaves rows that are set.)
+/// Sets values in the rows of a table's tree for which a condition is true, or in all where there is none, and answers what these rows have
+/// become. The condition is asked of all rows before the first is set. (What `source_rows`, the condition, SET's expressions and
+/// `change_rows` refuse, a real, and `TooLong` for a row that no record can hold; only what `change_rows` refuses leaves rows that are set.)
+pub fn set_new_rows<P: WritePages>(
+    alloc: Global,
+    pages: &mut P,
+    table: &Table,
+    condition: &Option<Term>,
+    sets: &[(usize, Term)],
+) -> R<Vec<TableRow>>
+    ensures set { IsTrue (P.Pages.tells (P.Pages.below pages.old))
+        → SetsRows (P.Pages.map pages.old) (P.Pages.map pages.new) (P.Pages.limits (P.Pages.below pages.old)).page
+        table.now.root table.now.columns sets.now condition.now result }
+    ensures rows { IsTrue (P.Pages.tells (P.Pages.below pages.old))
+        → TellsChanged (P.Pages.map pages.old) (P.Pages.limits (P.Pages.below pages.old)).page
+        table.now.root table.now.columns sets.now condition.now result }
+    ensures kept { P.Pages.below pages.new ≡ P.Pages.below pages.old }
+    ensures causes { Causes result (P.Pages.failures pages.old) (P.Pages.failures pages.new)
+        (P.Pages.count pages.new ≡ (P.Pages.limits (P.Pages.below pages.new)).most) }
+{
+    let source = BoundSource {
+        root: table.root,
+        width: table.columns.len(),
+    };
+    let rows = source_rows(alloc, pages, source)?;
+    let new = changed_rows(alloc, table.columns.as_slice(), sets, &rows, condition)?;
+    let changes = changes_of(alloc, &new)?;
+    change_rows(alloc, pages, table.root, &changes)?;
+    Ok(new)
+}
+
+/// Sets values in the rows of a table's tree for which a condition is true, or in all where there is none. (As `set_new_rows`.)
 pub fn set_rows<P: WritePages>(
     alloc: Global,
     pages: &mut P,
@@ -41,12 +70,6 @@ pub fn set_rows<P: WritePages>(
     ensures causes { Causes result (P.Pages.failures pages.old) (P.Pages.failures pages.new)
         (P.Pages.count pages.new ≡ (P.Pages.limits (P.Pages.below pages.new)).most) }
 {
-    let source = BoundSource {
-        root: table.root,
-        width: table.columns.len(),
-    };
-    let rows = source_rows(alloc, pages, source)?;
-    let new = changed_rows(alloc, table.columns.as_slice(), sets, &rows, condition)?;
-    let changes = changes_of(alloc, &new)?;
-    change_rows(alloc, pages, table.root, &changes)
+    set_new_rows(alloc, pages, table, condition, sets)?;
+    Ok(())
 }

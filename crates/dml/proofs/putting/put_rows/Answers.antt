@@ -1,54 +1,10 @@
-use Rattle.std.proofs.Common.{map, subst}
-use Rattle.treepage.specs.Cells.{Pairwise}
-use Rattle.dml.specs.NewRows.{IsWritten, entry_in, row_of}
-use Rattle.dml.specs.Putting.{PutsAfter}
-use Rattle.dml.proofs.PutRows.{no_last, not_added, not_stored, puts_after, rows_put}
+use Rattle.std.proofs.Common.{map}
+use Rattle.dml.proofs.PutRows.{passed_on}
 use Rattle.dml.proofs.putting.put_rows.Goals as goal
 
-pub returns-in_err-last-clause-put : goal.returns-in_err-last-clause-put
-returns-in_err-last-clause-put g c = λ told.
+pub returns-in_err-put_new_rows-clause-put : goal.returns-in_err-put_new_rows-clause-put
+returns-in_err-put_new_rows-clause-put g c = λ told.
     (let pages = g.P.Pages in
-    let old = pages.map c.args.pages.now in
-    let size = (pages.limits (pages.below c.args.pages.now)).page in
     let insert = c.args.insert in
-    no_last old (pages.map c.last.new.pages) size insert.table.now.root insert.table.now.columns insert.places.items (map (λ row. row.items) insert.rows.items)
-    c.in_err-last.field-0.0 c.from_residual.result c.from_residual.ensures.1 (c.in_err-last.ensures.found told))
-
-pub returns-in_err-added-clause-put : goal.returns-in_err-added-clause-put
-returns-in_err-added-clause-put g c = λ told.
-    (let pages = g.P.Pages in
-    let old = pages.map c.args.pages.now in
-    let size = (pages.limits (pages.below c.args.pages.now)).page in
-    let insert = c.args.insert in
-    not_added old (pages.map c.last.new.pages) size insert.table.now.root insert.table.now.columns insert.places.items (map (λ row. row.items) insert.rows.items)
-    c.in_ok-last.last (c.in_ok-last.ensures.found told) c.in_err-added.field-0.0 c.from_residual-in_err-added.result c.from_residual-in_err-added.ensures.1
-    (rw (c.as_slice.ensures, c.deref.ensures.value, c.deref-2.ensures.value) at c.in_err-added.ensures.refused))
-
-pub returns-in_err-records-clause-put : goal.returns-in_err-records-clause-put
-returns-in_err-records-clause-put g c = λ told.
-    (let pages = g.P.Pages in
-    let old = pages.map c.args.pages.now in
-    let size = (pages.limits (pages.below c.args.pages.now)).page in
-    let insert = c.args.insert in
-    not_stored old (pages.map c.last.new.pages) size insert.table.now.root insert.table.now.columns insert.places.items (map (λ row. row.items) insert.rows.items)
-    c.in_ok-last.last (c.in_ok-last.ensures.found told) (map row_of c.in_ok-added.added.items)
-    (rw (c.as_slice.ensures, c.deref.ensures.value, c.deref-2.ensures.value) at c.in_ok-added.ensures.added)
-    c.in_err-records.field-0.0 c.from_residual-in_err-records.result c.from_residual-in_err-records.ensures.1
-    (rw (c.deref-3.ensures.value) at c.in_err-records.ensures.refused))
-
-pub returns-clause-put : goal.returns-clause-put
-returns-clause-put g c = λ told.
-    (let pages = g.P.Pages in
-    let old = pages.map c.args.pages.now in
-    let new = pages.map c.put_records.new.pages in
-    let size = (pages.limits (pages.below c.args.pages.now)).page in
-    let insert = c.args.insert in
-    let root = insert.table.now.root in
-    let more = map entry_in c.in_ok-records.records.items in
-    let stays = c.in_ok-last.ensures.stays in
-    let written : Pairwise IsWritten (map row_of c.in_ok-added.added.items) more = rw (c.deref-3.ensures.value) at c.in_ok-records.ensures.written in
-    let puts = puts_after pages.below pages.tells pages.limits pages.map c.args.pages.now c.last.new.pages new root _ c.put_records.result stays.kept stays.same c.put_records.ensures.put told in
-    rows_put old new size root insert.table.now.columns insert.places.items (map (λ row. row.items) insert.rows.items)
-    c.in_ok-last.last (c.in_ok-last.ensures.found told) (map row_of c.in_ok-added.added.items)
-    (rw (c.as_slice.ensures, c.deref.ensures.value, c.deref-2.ensures.value) at c.in_ok-added.ensures.added) more c.put_records.result written
-    (subst (λ records. PutsAfter old new size root (map entry_in records) c.put_records.result) c.deref-4.ensures.value puts))
+    passed_on (pages.map c.args.pages.now) (pages.map c.put_new_rows.new.pages) (pages.limits (pages.below c.args.pages.now)).page insert.table.now.root insert.table.now.columns
+    insert.places.items (map (λ row. row.items) insert.rows.items) c.in_err-put_new_rows.field-0.0 c.from_residual.result c.from_residual.ensures.1 (c.in_err-put_new_rows.ensures.put told))

@@ -1,46 +1,9 @@
-use Rattle.std.proofs.Common.{map, subst}
-use Rattle.treepage.specs.Cells.{Pairwise}
-use Rattle.tabletree.specs.Calls.{ChangesRows}
-use Rattle.dml.specs.NewRows.{IsWritten, entry_left, row_of}
-use Rattle.dml.proofs.Replaced.{as_replaced, changes_after}
-use Rattle.dml.proofs.SetTrees.{none_changed, none_loaded, none_stored, rows_replaced}
+use Rattle.dml.proofs.SetTrees.{passed_on}
 use Rattle.dml.proofs.updating.set_rows.Goals as goal
 
-pub returns-in_err-rows-clause-set : goal.returns-in_err-rows-clause-set
-returns-in_err-rows-clause-set g c = λ told.
+pub returns-in_err-set_new_rows-clause-set : goal.returns-in_err-set_new_rows-clause-set
+returns-in_err-set_new_rows-clause-set g c = λ told.
     (let pages = g.P.Pages in
     let table = c.args.table.now in
-    none_loaded table.columns c.args.sets.now c.args.condition.now (pages.map c.args.pages.now) (pages.map c.source_rows.new.pages) (pages.limits (pages.below c.args.pages.now)).page table.root
-    c.len.result c.len.ensures c.in_err-rows.field-0.0 c.from_residual.result c.from_residual.ensures.1 (c.in_err-rows.ensures.loaded told))
-
-pub returns-in_err-new-clause-set : goal.returns-in_err-new-clause-set
-returns-in_err-new-clause-set g c = λ told.
-    (let pages = g.P.Pages in
-    let table = c.args.table.now in
-    none_changed table.columns c.args.sets.now c.args.condition.now (pages.map c.args.pages.now) (pages.map c.source_rows.new.pages) (pages.limits (pages.below c.args.pages.now)).page table.root
-    c.len.result c.len.ensures c.in_ok-rows.rows (c.in_ok-rows.ensures.loaded told) c.in_err-new.field-0.0 c.from_residual-in_err-new.result c.from_residual-in_err-new.ensures.1
-    (rw (c.as_slice.ensures) at c.in_err-new.ensures.changed))
-
-pub returns-in_err-changes-clause-set : goal.returns-in_err-changes-clause-set
-returns-in_err-changes-clause-set g c = λ told.
-    (let pages = g.P.Pages in
-    let table = c.args.table.now in
-    none_stored table.columns c.args.sets.now c.args.condition.now (pages.map c.args.pages.now) (pages.map c.source_rows.new.pages) (pages.limits (pages.below c.args.pages.now)).page table.root
-    c.len.result c.len.ensures c.in_ok-rows.rows (c.in_ok-rows.ensures.loaded told) (map row_of c.in_ok-new.new.items) (rw (c.as_slice.ensures) at c.in_ok-new.ensures.changed)
-    c.in_err-changes.field-0.0 c.from_residual-in_err-changes.result c.from_residual-in_err-changes.ensures.1 (rw (c.deref.ensures.value) at c.in_err-changes.ensures.refused))
-
-pub returns-clause-set : goal.returns-clause-set
-returns-clause-set g c = λ told.
-    (let pages = g.P.Pages in
-    let table = c.args.table.now in
-    let old = pages.map c.args.pages.now in
-    let new = pages.map c.change_rows.new.pages in
-    let size = (pages.limits (pages.below c.args.pages.now)).page in
-    let changes = c.in_ok-changes.changes.items in
-    let stays = c.in_ok-rows.ensures.stays in
-    let written : Pairwise IsWritten (map row_of c.in_ok-new.new.items) (map entry_left changes) = rw (c.deref.ensures.value) at c.in_ok-changes.ensures.made in
-    let changed = subst (λ them. ChangesRows old new size table.root them c.change_rows.result) c.deref-2.ensures.value
-    (changes_after pages.below pages.tells pages.limits pages.map c.args.pages.now c.source_rows.new.pages new table.root c.deref-2.result.now c.change_rows.result stays.kept stays.same c.change_rows.ensures.changed told) in
-    rows_replaced table.columns c.args.sets.now c.args.condition.now old new size table.root
-    c.len.result c.len.ensures c.in_ok-rows.rows (c.in_ok-rows.ensures.loaded told) (map row_of c.in_ok-new.new.items) (rw (c.as_slice.ensures) at c.in_ok-new.ensures.changed)
-    (map entry_left changes) c.change_rows.result written (as_replaced old new size table.root changes c.change_rows.result c.in_ok-changes.ensures.some changed))
+    passed_on table.columns c.args.sets.now c.args.condition.now (pages.map c.args.pages.now) (pages.map c.set_new_rows.new.pages) (pages.limits (pages.below c.args.pages.now)).page table.root
+    c.in_err-set_new_rows.field-0.0 c.from_residual.result c.from_residual.ensures.1 (c.in_err-set_new_rows.ensures.set told))

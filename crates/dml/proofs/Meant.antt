@@ -1,0 +1,85 @@
+-- The rows that a statement means are those that its condition chooses.
+use Rattle.std.proofs.Common.{◌≡◌, inl, inr, refl, sym, ap, subst, ◌∙◌, ◌<◌, ◌≤◌, ◌+◌, ℕ, Bool, filter, List, [], ◌∷◌, ◌++◌, length, map, take, slice_index_or, Option, Some, None, Result, Ok, Err}
+use Rattle.std.specs.Prelude.{IfErr, IfOk, IsErrAnd}
+use Rattle.std.specs.Global.{Vec}
+use Rattle.std.proofs.lemmas.List.{map_more, take_all}
+use Rattle.sqlval.specs.Faults.{IsNotDiskFault, IsOutside}
+use Rattle.sqlval.specs.Refusals.{Answer, Refusal, ◌then◌, all_answers}
+use Rattle.sqlval.specs.declared.fault.Fault.{Fault}
+use Rattle.sqlval.specs.declared.fault.Fault.TheVariants.{Memory}
+use Rattle.pages.specs.Map.{PageMap, AreWhole}
+use Rattle.catalog.specs.declared.tables.TableRow as stored
+use Rattle.bind.specs.declared.queries.BoundSource.{BoundSource}
+use Rattle.terms.specs.Outcome.{AnswersBy, IsRefusedBy}
+use Rattle.terms.specs.Rows.{row_at}
+use Rattle.terms.specs.Terms.{Term}
+use Rattle.terms.specs.Values.{Row}
+use Rattle.rowprog.specs.Rows.{TableRow}
+use Rattle.rowprog.specs.Sources.{LoadsRows, as_source}
+use Rattle.rowprog.specs.Trees.{AnswersOrFails, HasRows}
+use Rattle.dml.specs.Choosing.{is_chosen, tested}
+use Rattle.dml.specs.Meaning.{FindsMeant, as_row, meant}
+use Rattle.dml.specs.NewRows.{row_of}
+use Rattle.dml.specs.Setting.{rows_meant}
+use Rattle.dml.proofs.SetRows.{map_twice}
+use Rattle.dml.proofs.SetTrees.{asked, meant_as, meant_by}
+
+abbrev as_table : List Row → Answer (List TableRow)
+as_table them = Ok (map as_row them)
+
+-- ---- the calls
+
+-- those up to the next place
+pub one_further : (h : ℕ → TableRow) (places : List ℕ) (i : ℕ) → i < length places → map h (take i places) ++ h (slice_index_or places i 0) ∷ [] ≡ map h (take (i + 1) places)
+one_further h places i lt = sym (map_more h places i 0 lt)
+
+pub up_to_end : (h : ℕ → TableRow) (places : List ℕ) (i : ℕ) → length places ≤ i → map h (take i places) ≡ map h places
+up_to_end h places i le = ap (map h) (take_all i places le)
+
+-- copies of the rows that are meant
+pub copied : (c : Option Term) (rows : List Row) (places : List ℕ) (seen : List ℕ) (result : Result (Vec stored.TableRow) Fault) → rows_meant c [] rows ≡ Ok (map (row_at rows) places) → seen ≡ places
+    → IfOk result (λ them. map row_of them.items ≡ map (λ place. as_row (row_at rows place)) seen) → IfErr result (λ fault. fault ≡ Memory)
+    → AnswersBy (λ them. map row_of them.items) (rows_meant c [] rows then λ them. Ok (map as_row them)) result
+copied c rows places seen (Ok them) meant_are same copies refused =
+    ap (λ (a : Answer (List Row)). a then as_table) meant_are
+    ∙ ap (λ (rs : List TableRow). Ok rs) (sym (copies ∙ (ap (map (λ place. as_row (row_at rows place))) same ∙ map_twice as_row (row_at rows) places)))
+copied c rows places seen (Err fault) meant_are same copies refused = inl refused
+
+pub not_copied : (result : Result (Vec stored.TableRow) Fault) (c : Option Term) (rows : List Row) (f : Fault) → IsErrAnd result (λ e. e ≡ f) → IsRefusedBy (rows_meant c [] rows) f
+    → AnswersBy (λ them. map row_of them.items) (rows_meant c [] rows then λ them. Ok (map as_row them)) result
+not_copied (Ok x) c rows f same why = absurd same
+not_copied (Err e) c rows f same (inl memory) = inl (same ∙ memory)
+not_copied (Err e) c rows f same (inr is) =
+    subst (λ (g : Fault). IsRefusedBy (rows_meant c [] rows then as_table) g) (sym same) (inr (ap (λ (a : Answer (List Row)). a then as_table) is))
+
+-- ---- as the definition means
+
+back : (rows : List TableRow) → map as_row (map as_source rows) ≡ rows
+back [] = refl
+back (row ∷ rows) = ap (λ (rs : List TableRow). row ∷ rs) (back rows)
+
+all_rows : (rows : List TableRow) → filter (λ row. meant_by None row) rows ≡ rows
+all_rows [] = refl
+all_rows (row ∷ rows) = ap (λ (rs : List TableRow). row ∷ rs) (all_rows rows)
+
+as_meant : (c : Option Term) (rows : List TableRow) → (rows_meant c [] (map as_source rows) then as_table) ≡ meant c rows
+as_meant None rows = ap (λ (a : Answer (List Row)). a then as_table) (meant_as None [] rows) ∙ ap (λ (rs : List TableRow). Ok rs) (back (filter (meant_by None) rows) ∙ all_rows rows)
+as_meant (Some c) rows = ap (λ (a : Answer (List Row)). a then as_table) (meant_as (Some c) [] rows) ∙ by (all_answers (map (tested c) rows))
+  where
+    by : (a : Answer (List (Option Bool))) → ((a then λ ts. Ok (map as_source (filter (is_chosen c) rows))) then as_table) ≡ (a then λ tests. Ok (filter (is_chosen c) rows))
+    by (Ok ts) = ap (λ (rs : List TableRow). Ok rs) (back (filter (is_chosen c) rows))
+    by (Err r) = refl
+
+module _ (pages : PageMap) (size : ℕ) (table : BoundSource) (c : Option Term) where
+  pub none_found : (fault : Fault) (result : Result (Vec stored.TableRow) Fault) → IsErrAnd result (λ e. e ≡ fault) → LoadsRows pages size table (Err fault) → FindsMeant pages size table c result
+  none_found fault (Ok x) same loads = absurd same
+  none_found fault (Err e) same loads = λ rows whole has. inl (subst IsOutside (sym same) (loads rows whole has))
+
+  pub meant_found : (found : List Row) (result : Result (Vec stored.TableRow) Fault) → LoadsRows pages size table (Ok found)
+      → AnswersBy (λ them. map row_of them.items) (rows_meant c [] found then λ them. Ok (map as_row them)) result → FindsMeant pages size table c result
+  meant_found found result loads answers rows whole has = by result (subst (λ (rs : List Row). AnswersBy (λ them. map row_of them.items) (rows_meant c [] rs then as_table) result) (loads rows whole has) answers)
+    where
+      by : (r : Result (Vec stored.TableRow) Fault) → AnswersBy (λ them. map row_of them.items) (rows_meant c [] (map as_source rows) then as_table) r → AnswersOrFails (λ them. map row_of them.items) (meant c rows) r
+      by (Ok them) e = sym (as_meant c rows) ∙ e
+      by (Err f) (inl memory) = inl (inl memory)
+      by (Err f) (inr e) = inr (sym (as_meant c rows) ∙ e)

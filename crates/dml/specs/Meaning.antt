@@ -1,0 +1,29 @@
+-- The rows of a table that a statement means (SQL As Understood By SQLite, "DELETE", "UPDATE").
+use Rattle.std.specs.Prelude.{ℕ, List, map, Option, Some, None, Ok, Result}
+use Rattle.std.specs.Global.{Vec}
+use Rattle.sqlval.specs.Refusals.{Answer}
+use Rattle.sqlval.specs.declared.fault.Fault.{Fault}
+use Rattle.pages.specs.Map.{PageMap, AreWhole}
+use Rattle.catalog.specs.declared.tables.TableRow as stored
+use Rattle.bind.specs.declared.queries.BoundSource.{BoundSource}
+use Rattle.terms.specs.Terms.{Term}
+use Rattle.terms.specs.Values.{Row}
+use Rattle.rowprog.specs.Rows.{TableRow}
+use Rattle.rowprog.specs.Trees.{AnswersOrFails, HasRows}
+use Rattle.dml.specs.Choosing.{chosen}
+use Rattle.dml.specs.NewRows.{row_of}
+use Rattle.dml.specs.Setting.{rowid_number}
+
+-- the rows for which the condition is true, or all where there is none; or the first refusal
+abbrev pub meant : Option Term → List TableRow → Answer (List TableRow)
+meant None rows = Ok rows
+meant (Some condition) rows = chosen condition rows
+
+-- a source's row as a table has it
+abbrev pub as_row : Row → TableRow
+as_row row = (rowid_number row.rowid, row.values)
+
+-- Of a tree of rows these are the rows that are meant; or the condition is refused for a row, memory was short, or a disk's call failed.
+abbrev pub FindsMeant : PageMap → ℕ → BoundSource → Option Term → Result (Vec stored.TableRow) Fault → Type 0
+FindsMeant pages size table condition result = (rows : List TableRow) → AreWhole size pages → HasRows pages size table.root table.width rows
+    → AnswersOrFails (λ them. map row_of them.items) (meant condition rows) result
