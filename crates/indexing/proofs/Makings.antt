@@ -60,7 +60,7 @@ rest_rises : (row : TableRow) (rows : List TableRow) → is_rising int_cmp (map 
 rest_rises row [] rises = refl
 rest_rises row (next ∷ rows) rises = (both_of (is_lt (int_cmp row.0 next.0)) (is_rising int_cmp (next.0 ∷ map (λ r. r.0) rows)) rises).1
 
-are_apart : (rows : List TableRow) → is_rising int_cmp (map (λ r. r.0) rows) ≡ true → AreApart rows
+pub are_apart : (rows : List TableRow) → is_rising int_cmp (map (λ r. r.0) rows) ≡ true → AreApart rows
 are_apart [] rises = tt
 are_apart (row ∷ rows) rises = (others row.0 rows (are_above row.0 rows rises), are_apart rows (rest_rises row rows rises))
 

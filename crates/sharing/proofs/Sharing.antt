@@ -15,7 +15,7 @@ use Rattle.indextree.specs.Tree as index
 use Rattle.indextree.proofs.Staying as indexes
 use Rattle.sharing.specs.Layout.{Content, OfRows, OfEntries, Owner, HoldsUnder, IsTree, used_by, AreShared, IndexTreesStand, ReplacesTrees, TreesStand}
 
-used_both : (n : ℕ) (xs ys : List Owner) → occurs n (used_by (xs ++ ys)) ≡ occurs n (used_by xs) + occurs n (used_by ys)
+pub used_both : (n : ℕ) (xs ys : List Owner) → occurs n (used_by (xs ++ ys)) ≡ occurs n (used_by xs) + occurs n (used_by ys)
 used_both n [] ys = omega arith
 used_both n (x ∷ xs) ys =
     let e = used_both n xs ys in let a = occurs_both n x.used (used_by (xs ++ ys)) in let b = occurs_both n x.used (used_by xs) in omega arith
@@ -86,7 +86,7 @@ index_top_first : (depth : ℕ) (t : index.Tree depth) → 1 ≤ occurs (index.t
 index_top_first zero t = occurs_here t.page _
 index_top_first (suc depth) t = occurs_here t.page _
 
-owner_uses_root : (map : PageMap) (size root : ℕ) (used : List ℕ) (content : Content) → HoldsUnder map size root used content → 1 ≤ occurs root used
+pub owner_uses_root : (map : PageMap) (size root : ℕ) (used : List ℕ) (content : Content) → HoldsUnder map size root used content → 1 ≤ occurs root used
 owner_uses_root map size root used (OfRows rows) tree = uses_root map size root rows used tree
 owner_uses_root map size root used (OfEntries columns entries) tree =
     subst (λ (pages : List ℕ). 1 ≤ occurs root pages) tree.used_are

@@ -1,0 +1,181 @@
+-- What deleting rows with their entries comes to.
+use Rattle.std.proofs.Common.{◌≡◌, ◌⊎◌, inl, inr, refl, sym, ap, subst, ◌∙◌, ℕ, Bool, true, not, filter, List, [], ◌∷◌, ◌++◌, length, map, Option, Some, None, Ok, Err, arith}
+use Rattle.std.specs.Prelude.{Result, IsErrAnd, MatchResult, ⊤}
+use Rattle.std.specs.Global.{Vec}
+use Rattle.sqlval.specs.Faults.{IsOutside}
+use Rattle.sqlval.specs.PageSizes.{IsPageSize}
+use Rattle.sqlval.specs.Refusals.{Answer, Refusal, ◌then◌, all_answers, refusal_of}
+use Rattle.sqlval.specs.declared.fault.Fault.{Fault}
+use Rattle.pages.specs.Calls.{IsOutsideOrFull}
+use Rattle.pages.specs.Map.{PageMap}
+use Rattle.tabletree.specs.Calls.{BecomesRows}
+use Rattle.tabletree.specs.Freeing.{ClearsTree}
+use Rattle.sharing.specs.Layout.{Owner}
+use Rattle.catalog.specs.Listed.{plain_table}
+use Rattle.catalog.specs.Rows.{are_rows}
+use Rattle.catalog.specs.declared.tables.Index.{Index}
+use Rattle.catalog.specs.declared.tables.Table.{Table}
+use Rattle.catalog.specs.declared.tables.TableRow as stored
+use Rattle.bind.specs.declared.queries.BoundSource.{BoundSource}
+use Rattle.terms.specs.Terms.{Term}
+use Rattle.rowprog.specs.Rows.{TableRow}
+use Rattle.rowprog.specs.Trees.{AnswersOrFails}
+use Rattle.dml.specs.Choosing.{chosen, is_chosen, rows_left, tested}
+use Rattle.dml.specs.Meaning.{FindsMeant, meant}
+use Rattle.dml.specs.Taking.{AreTakenOut, IsTakeRefusal, TakesRows}
+use Rattle.dml.proofs.Taken.{fit_still}
+use Rattle.indexes.specs.Entries.{AreApart}
+use Rattle.indexes.specs.Keeping.{row_in}
+use Rattle.rowstore.specs.Changing.{AreDeleted, DeletesRows, HoldRows}
+use Rattle.rowstore.specs.Trees.{AreAmong}
+use Rattle.rowstore.specs.Turning.{ClearsIndexes, HaveEntries, HaveNow, TakesFromIndexes}
+use Rattle.rowstore.proofs.Among.{rows_tree}
+use Rattle.rowstore.proofs.Owned.{RowsStand, fit_apart, has_rows, indexes_stand, rows_among, same_entries, table_holds}
+use Rattle.rowstore.proofs.Shuffling.{parted, shuffled_apart, shuffled_entries}
+use Rattle.rowstore.proofs.Sides.{no_index}
+
+-- ---- all rows
+
+module _ (old mid : PageMap) (size : ℕ) (table : Table) where
+  pub none_cleared : (fault : Fault) (result : Result ⊤ Fault) → IsErrAnd result (λ e. e ≡ fault) → ClearsTree old mid size table.root (Err fault) → DeletesRows old mid size table None result
+  none_cleared fault (Ok done) same clears = absurd same
+  none_cleared fault (Err e) same clears = λ schema before after rows sized is_root among fit. (
+      let s = rows_among old size schema before table rows after among sized is_root in
+      subst IsOutsideOrFull (sym same) (inl (clears s.entries s.used s.free s.stands)))
+
+  pub all_deleted : (new : PageMap) (result : Result ⊤ Fault) → ClearsTree old mid size table.root (Ok tt) → ClearsIndexes mid new size table.indexes result → DeletesRows old new size table None result
+  all_deleted new result clears more schema before after rows sized is_root among fit =
+      by result (more rows schema (before ++ rows_tree table.root [] (table.root ∷ []) ∷ []) after sized is_root (indexes_stand old mid size schema before table rows after s [] now))
+    where
+      s : RowsStand old size schema before table rows after
+      s = rows_among old size schema before table rows after among sized is_root
+
+      now : BecomesRows old mid size table.root [] s.used s.free
+      now =
+          let cleared = clears s.entries s.used s.free s.stands in
+          record { now_used = table.root ∷ []; now_free = cleared.now_free; stands = cleared.stands; moves = cleared.moves; header = cleared.header }
+
+      by : (r : Result ⊤ Fault) → MatchResult r (λ done. HaveNow mid new size schema (before ++ rows_tree table.root [] (table.root ∷ []) ∷ []) table.indexes [] after) IsOutsideOrFull
+          → MatchResult r (λ done. HoldRows old new size schema before table [] after) IsOutsideOrFull
+      by (Ok done) have = record { holds = table_holds old mid size schema before table rows after s [] now new [] tt have; fit = refl }
+      by (Err fault) why = why
+
+-- ---- some rows
+
+abbrev stays : Term → TableRow → Bool
+stays c row = not (is_chosen c row)
+
+abbrev answer_of : List TableRow → Answer (List TableRow)
+answer_of rows = Ok rows
+
+same_rows : (a b : List TableRow) → answer_of a ≡ answer_of b → a ≡ b
+same_rows a b e = cc
+
+no_refusal : (r : Refusal) (a : List TableRow) → (let l : Answer (List TableRow) = Err r in l) ≡ Ok a → ⊥
+no_refusal r a e = absurd cc
+
+no_rows : (r : Refusal) (a : List TableRow) → answer_of a ≡ Err r → ⊥
+no_rows r a e = absurd cc
+
+same_refusal : (r s : Refusal) → (let l : Answer (List TableRow) = Err r in l) ≡ Err s → r ≡ s
+same_refusal r s e = cc
+
+filtered : (p : TableRow → Bool) (rows them : List TableRow) (a : Answer (List (Option Bool))) → (a then λ tests. answer_of (filter p rows)) ≡ Ok them → filter p rows ≡ them
+filtered p rows them (Ok tests) e = same_rows (filter p rows) them e
+filtered p rows them (Err r) e = absurd (no_refusal r them e)
+
+not_filtered : (p q : TableRow → Bool) (rows : List TableRow) (r : Refusal) (a : Answer (List (Option Bool))) → (a then λ tests. answer_of (filter p rows)) ≡ Err r → (a then λ tests. answer_of (filter q rows)) ≡ Err r
+not_filtered p q rows r (Ok tests) e = absurd (no_rows r (filter p rows) e)
+not_filtered p q rows r (Err s) e = ap (λ (x : Refusal). Err x) (same_refusal s r e)
+
+abbrev source : Table → BoundSource
+source table = record { root = table.root; width = length table.columns }
+
+-- as a query reads it
+pub same_source : (table : Table) (read : BoundSource) → read.root ≡ table.root → read.width ≡ length table.columns → read ≡ record { root = table.root; width = length table.columns }
+same_source table read root_is width_is = λ i. record { root = root_is i; width = width_is i }
+
+module _ (old mid : PageMap) (size : ℕ) (table : Table) (c : Term) where
+  abbrev IsRefused : List TableRow → Fault → Type 0
+  IsRefused rows fault = IsOutsideOrFull fault ⊎ (rows_left c rows ≡ Err (refusal_of fault))
+
+  abbrev reading : BoundSource
+  reading = record { root = table.root; width = length table.columns }
+
+  -- the rows that go aren't read
+  pub none_read : (condition : Option Term) → condition ≡ Some c → (fault : Fault) (result : Result ⊤ Fault) → IsErrAnd result (λ e. e ≡ fault) → FindsMeant old size reading condition (Err fault) → DeletesRows old mid size table (Some c) result
+  none_read condition is fault (Ok done) same finds = absurd same
+  none_read condition is fault (Err e) same finds = λ schema before after rows sized is_root among fit. (
+      let s = rows_among old size schema before table rows after among sized is_root in
+      subst (λ (f : Fault). IsRefused rows f) (sym same)
+      (by rows (subst (λ (o : Option Term). IsOutside fault ⊎ (meant o rows ≡ Err (refusal_of fault))) is (finds rows s.stands.free_are.whole (has_rows old size schema before table rows after s)))))
+    where
+      by : (rows : List TableRow) → IsOutside fault ⊎ (chosen c rows ≡ Err (refusal_of fault)) → IsRefused rows fault
+      by rows (inl outside) = inl (inl outside)
+      by rows (inr e) = inr (not_filtered (is_chosen c) (stays c) rows (refusal_of fault) (all_answers (map (tested c) rows)) e)
+
+  -- no row is taken
+  pub none_taken : (fault : Fault) (result : Result ⊤ Fault) → IsErrAnd result (λ e. e ≡ fault) → TakesRows old mid size reading c (Err fault) → DeletesRows old mid size table (Some c) result
+  none_taken fault (Ok done) same takes = absurd same
+  none_taken fault (Err e) same takes = λ schema before after rows sized is_root among fit. (
+      let s = rows_among old size schema before table rows after among sized is_root in
+      subst (λ (f : Fault). IsRefused rows f) (sym same) (takes rows s.entries s.used s.free s.stands s.each))
+
+  -- rows are taken; then the indexes follow
+  module _ (takes : TakesRows old mid size reading c (Ok tt)) (schema : Owner) (before after : List Owner) (rows : List TableRow) (s : RowsStand old size schema before table rows after)
+      (fit : are_rows (plain_table table rows) ≡ true) where
+    taken : AreTakenOut old mid size reading c rows s.used s.free
+    taken = takes rows s.entries s.used s.free s.stands s.each
+
+    left_is : filter (stays c) rows ≡ taken.left
+    left_is = filtered (stays c) rows taken.left (all_answers (map (tested c) rows)) taken.answer
+
+    fits : are_rows (plain_table table taken.left) ≡ true
+    fits = subst (λ (l : List TableRow). are_rows (plain_table table l) ≡ true) left_is (fit_still (stays c) table rows fit)
+
+    abbrev Before : List Owner
+    Before = before ++ rows_tree table.root taken.entries taken.becomes.now_used ∷ []
+
+    stand : HaveEntries mid size schema Before table.indexes rows after
+    stand = indexes_stand old mid size schema before table rows after s taken.entries taken.becomes
+
+    done_as : (new : PageMap) (r : Result ⊤ Fault) → MatchResult r (λ done. HaveNow mid new size schema Before table.indexes taken.left after) IsOutsideOrFull
+        → MatchResult r (λ done. AreDeleted old new size schema before table c rows after) (IsRefused rows)
+    done_as new (Ok done) have = record {
+      left = taken.left;
+      answer = taken.answer;
+      hold = record { holds = table_holds old mid size schema before table rows after s taken.entries taken.becomes new taken.left taken.each have; fit = fits };
+    }
+    done_as new (Err fault) why = inl why
+
+  -- of a table without indexes
+  pub bare_taken : length table.indexes ≡ 0 → (result : Result ⊤ Fault) → TakesRows old mid size reading c result → DeletesRows old mid size table (Some c) result
+  bare_taken bare (Ok done) takes = λ schema before after rows sized is_root among fit.
+      (let s = rows_among old size schema before table rows after among sized is_root in
+      done_as takes schema before after rows s fit mid (Ok tt)
+      (no_index mid size schema _ table.indexes rows (taken takes schema before after rows s fit).left after sized is_root bare (stand takes schema before after rows s fit)))
+  bare_taken bare (Err f) takes = none_taken f (Err f) refl takes
+
+  -- of a table with indexes
+  pub indexed_taken : (condition : Option Term) → condition ≡ Some c → (new : PageMap) (gone : Vec stored.TableRow) (result : Result ⊤ Fault) → FindsMeant old size reading condition (Ok gone) → TakesRows old mid size reading c (Ok tt)
+      → TakesFromIndexes mid new size table.indexes (map row_in gone.items) result → DeletesRows old new size table (Some c) result
+  indexed_taken condition is new gone result finds takes more schema before after rows sized is_root among fit =
+      done_as takes schema before after rows s fit new result (subst (λ (l : List TableRow). MatchResult result (λ done. HaveNow mid new size schema front table.indexes l after) IsOutsideOrFull) (left_is takes schema before after rows s fit)
+      (turns (filter (stays c) rows) (shuffled_apart (parted (is_chosen c) rows) apart) schema front after sized is_root
+      (same_entries mid size schema front table.indexes rows (filter (stays c) rows ++ filter (is_chosen c) rows) after (λ columns. shuffled_entries columns (parted (is_chosen c) rows) apart) (stand takes schema before after rows s fit))))
+    where
+      s : RowsStand old size schema before table rows after
+      s = rows_among old size schema before table rows after among sized is_root
+
+      front : List Owner
+      front = before ++ rows_tree table.root (taken takes schema before after rows s fit).entries (taken takes schema before after rows s fit).becomes.now_used ∷ []
+
+      apart : AreApart rows
+      apart = fit_apart table rows fit
+
+      gone_is : filter (is_chosen c) rows ≡ map row_in gone.items
+      gone_is = filtered (is_chosen c) rows (map row_in gone.items) (all_answers (map (tested c) rows))
+          (subst (λ (o : Option Term). meant o rows ≡ Ok (map row_in gone.items)) is (finds rows s.stands.free_are.whole (has_rows old size schema before table rows after s)))
+
+      turns : TakesFromIndexes mid new size table.indexes (filter (is_chosen c) rows) result
+      turns = subst (λ (rs : List TableRow). TakesFromIndexes mid new size table.indexes rs result) (sym gone_is) more

@@ -1,0 +1,11 @@
+mod Among
+mod Deleted
+mod Dropped
+mod Indexed
+mod Inserted
+mod Looping
+mod Owned
+mod SetShuffles
+mod Shuffling
+mod Sides
+mod Updated

@@ -1,0 +1,3 @@
+pub mod Trees
+pub mod Turning
+pub mod Changing

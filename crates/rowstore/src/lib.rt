@@ -1,0 +1,15 @@
+//! The rows of a table and the entries of its indexes, changed together among all trees of a file.
+#![tactic(auto)]
+
+mod deleting;
+mod dropping;
+mod entries;
+mod inserting;
+mod making;
+mod updating;
+
+pub use deleting::delete_rows;
+pub use dropping::{drop_trees, free_index};
+pub use inserting::insert_rows;
+pub use making::add_index;
+pub use updating::update_rows;
