@@ -43,11 +43,7 @@ fn copies_at(alloc: Global, rows: &Many<SourceRow>, places: &[usize]) -> R<Vec<T
 }
 
 /// Copies of the rows that are meant. (What the condition refuses for a row, in order.)
-fn copies_meant(
-    alloc: Global,
-    rows: &Many<SourceRow>,
-    condition: &Option<Term>,
-) -> R<Vec<TableRow>>
+fn copies_meant(alloc: Global, rows: &Many<SourceRow>, condition: &Option<Term>) -> R<Vec<TableRow>>
     ensures copied { AnswersBy (λ them. map row_of them.items) (rows_meant condition.now [] rows.now then λ them. Ok (map as_row them)) result }
     ensures not_disk { IfErr result (λ fault. IsNotDiskFault fault) }
 {

@@ -59,7 +59,11 @@ fn push_if(places: &mut Vec<usize>, place: usize, is_meant: bool) -> R<()>
 }
 
 /// The places of the rows that are meant, in order. (What the condition refuses for a row, in order.)
-pub(crate) fn places_meant(alloc: Global, rows: &Many<SourceRow>, condition: &Option<Term>) -> R<Vec<usize>>
+pub(crate) fn places_meant(
+    alloc: Global,
+    rows: &Many<SourceRow>,
+    condition: &Option<Term>,
+) -> R<Vec<usize>>
     ensures { AnswersBy (λ places. map (row_at rows.now) places.items) (rows_meant condition.now [] rows.now) result }
 {
     let mut places = Vec::new(alloc);

@@ -94,11 +94,7 @@ pub(crate) fn take_from_indexes<P: WritePages>(
 }
 
 /// Takes all entries out of the tree of each of these indexes. (What `clear` refuses. Then some trees may be without entries.)
-pub(crate) fn clear_indexes<P: WritePages>(
-    alloc: Global,
-    pages: &mut P,
-    indexes: &[Index],
-) -> R<()>
+pub(crate) fn clear_indexes<P: WritePages>(alloc: Global, pages: &mut P, indexes: &[Index]) -> R<()>
     ensures cleared { IsTrue (P.Pages.tells (P.Pages.below pages.old))
         → ClearsIndexes (P.Pages.map pages.old) (P.Pages.map pages.new) (P.Pages.limits (P.Pages.below pages.old)).page
         indexes.now result }
@@ -115,11 +111,7 @@ pub(crate) fn clear_indexes<P: WritePages>(
 }
 
 /// Gives the tree of each of these indexes back. (What `free_tree` refuses. Then some pages may be free.)
-pub(crate) fn free_indexes<P: WritePages>(
-    alloc: Global,
-    pages: &mut P,
-    indexes: &[Index],
-) -> R<()>
+pub(crate) fn free_indexes<P: WritePages>(alloc: Global, pages: &mut P, indexes: &[Index]) -> R<()>
     ensures freed { IsTrue (P.Pages.tells (P.Pages.below pages.old))
         → FreesIndexes (P.Pages.map pages.old) (P.Pages.map pages.new) (P.Pages.limits (P.Pages.below pages.old)).page
         indexes.now result }
