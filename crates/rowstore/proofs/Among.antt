@@ -1,16 +1,14 @@
 -- A tree among others gives way to another, goes or comes.
-use Rattle.std.proofs.Common.{◌≡◌, refl, sym, ap, subst, ◌∙◌, ℕ, List, [], ◌∷◌, ◌++◌, length, append_assoc, arith}
+use Rattle.std.proofs.Common.{◌≡◌, refl, sym, subst, ℕ, List, [], ◌∷◌, ◌++◌, append_assoc, arith}
 use Rattle.std.proofs.lemmas.Grind.{common_steps}
 use Rattle.std.proofs.lemmas.List.{append-nil}
 use Rattle.sqlval.specs.PageSizes.{IsPageSize}
-use Rattle.sqlval.specs.declared.collation.Collation.{Collation}
 use Rattle.page.specs.Leaf.{Entry as TableEntry}
 use Rattle.pages.specs.Counting.{Moves, fresh}
 use Rattle.pages.specs.Map.{PageMap}
 use Rattle.freelist.specs.Calls.{HasFree, KeepsHeader}
 use Rattle.tabletree.specs.Calls as tables
 use Rattle.indextree.specs.Calls as indexes
-use Rattle.indextree.specs.Entries.{Entry}
 use Rattle.sharing.specs.Layout.{AreShared, IsTree, OfEntries, OfRows, Owner, used_by}
 use Rattle.sharing.proofs.Sharing.{index_trees_stand, replaces_trees, trees_stand}
 use Rattle.catalog.specs.declared.tables.Index.{Index}

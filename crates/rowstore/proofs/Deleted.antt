@@ -1,9 +1,8 @@
 -- What deleting rows with their entries comes to.
-use Rattle.std.proofs.Common.{◌≡◌, ◌⊎◌, inl, inr, refl, sym, ap, subst, ◌∙◌, ℕ, Bool, true, not, filter, List, [], ◌∷◌, ◌++◌, length, map, Option, Some, None, Ok, Err, arith}
+use Rattle.std.proofs.Common.{◌≡◌, ◌⊎◌, inl, inr, refl, sym, ap, subst, ℕ, Bool, true, not, filter, List, [], ◌∷◌, ◌++◌, length, map, Option, Some, None, Ok, Err}
 use Rattle.std.specs.Prelude.{Result, IsErrAnd, MatchResult, ⊤}
 use Rattle.std.specs.Global.{Vec}
 use Rattle.sqlval.specs.Faults.{IsOutside}
-use Rattle.sqlval.specs.PageSizes.{IsPageSize}
 use Rattle.sqlval.specs.Refusals.{Answer, Refusal, ◌then◌, all_answers, refusal_of}
 use Rattle.sqlval.specs.declared.fault.Fault.{Fault}
 use Rattle.pages.specs.Calls.{IsOutsideOrFull}
@@ -13,21 +12,18 @@ use Rattle.tabletree.specs.Freeing.{ClearsTree}
 use Rattle.sharing.specs.Layout.{Owner}
 use Rattle.catalog.specs.Listed.{plain_table}
 use Rattle.catalog.specs.Rows.{are_rows}
-use Rattle.catalog.specs.declared.tables.Index.{Index}
 use Rattle.catalog.specs.declared.tables.Table.{Table}
 use Rattle.catalog.specs.declared.tables.TableRow as stored
 use Rattle.bind.specs.declared.queries.BoundSource.{BoundSource}
 use Rattle.terms.specs.Terms.{Term}
 use Rattle.rowprog.specs.Rows.{TableRow}
-use Rattle.rowprog.specs.Trees.{AnswersOrFails}
 use Rattle.dml.specs.Choosing.{chosen, is_chosen, rows_left, tested}
 use Rattle.dml.specs.Meaning.{FindsMeant, meant}
-use Rattle.dml.specs.Taking.{AreTakenOut, IsTakeRefusal, TakesRows}
+use Rattle.dml.specs.Taking.{AreTakenOut, TakesRows}
 use Rattle.dml.proofs.Taken.{fit_still}
 use Rattle.indexes.specs.Entries.{AreApart}
 use Rattle.indexes.specs.Keeping.{row_in}
 use Rattle.rowstore.specs.Changing.{AreDeleted, DeletesRows, HoldRows}
-use Rattle.rowstore.specs.Trees.{AreAmong}
 use Rattle.rowstore.specs.Turning.{ClearsIndexes, HaveEntries, HaveNow, TakesFromIndexes}
 use Rattle.rowstore.proofs.Among.{rows_tree}
 use Rattle.rowstore.proofs.Owned.{RowsStand, fit_apart, has_rows, indexes_stand, rows_among, same_entries, table_holds}

@@ -1,12 +1,11 @@
 -- What making the tree of a new index comes to.
-use Rattle.std.proofs.Common.{◌≡◌, ◌⊎◌, inl, inr, refl, sym, ap, subst, ◌∙◌, ℕ, Bool, true, false, List, [], ◌∷◌, ◌++◌, length, if◌then◌else◌, Ok, Err, arith}
+use Rattle.std.proofs.Common.{◌⊎◌, inl, inr, refl, sym, subst, ℕ, Bool, true, false, List, [], ◌∷◌, ◌++◌, length, if◌then◌else◌, Ok, Err}
 use Rattle.std.specs.Prelude.{Result, MatchResult}
 use Rattle.std.specs.List.{AllByRecursion}
 use Rattle.std.specs.Ordering.{is_gt}
 use Rattle.std.specs.declared.cmp.Ordering.{Ordering}
 use Rattle.std.proofs.lemmas.List.{append-nil}
 use Rattle.sqlval.specs.Lists.{placed}
-use Rattle.sqlval.specs.PageSizes.{IsPageSize}
 use Rattle.sqlval.specs.declared.fault.Fault.{Fault}
 use Rattle.record.specs.Writing.{AreStorable}
 use Rattle.pages.specs.Calls.{IsOutsideOrFull}

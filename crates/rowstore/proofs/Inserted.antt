@@ -1,15 +1,13 @@
 -- What inserting rows with their entries comes to.
-use Rattle.std.proofs.Common.{◌≡◌, ◌⊎◌, inl, inr, refl, sym, ap, subst, ◌∙◌, ℕ, List, [], ◌∷◌, ◌++◌, length, map, true, Option, Ok, Err}
+use Rattle.std.proofs.Common.{◌≡◌, ◌⊎◌, inl, inr, refl, sym, subst, ◌∙◌, ℕ, List, [], ◌∷◌, ◌++◌, map, true, Option, Ok, Err}
 use Rattle.std.specs.Prelude.{Result, IsErrAnd, MatchResult, ⊤}
 use Rattle.std.specs.Global.{Vec}
-use Rattle.sqlval.specs.PageSizes.{IsPageSize}
 use Rattle.sqlval.specs.Refusals.{Answer}
 use Rattle.sqlval.specs.declared.fault.Fault.{Fault}
 use Rattle.sqlval.specs.declared.fault.Fault.TheVariants.{TooLong}
 use Rattle.sqlval.specs.declared.value.Value.{Value}
 use Rattle.pages.specs.Calls.{IsOutsideOrFull}
 use Rattle.pages.specs.Map.{PageMap}
-use Rattle.sharing.specs.Layout.{Owner}
 use Rattle.catalog.specs.Listed.{plain_table}
 use Rattle.catalog.specs.Rows.{are_rows}
 use Rattle.catalog.specs.declared.tables.Table.{Table}
@@ -20,7 +18,6 @@ use Rattle.dml.specs.Trees.{ArePutIn, IsPutRefusal, PutsRows, TellsAdded}
 use Rattle.indexes.specs.Entries.{AreApart}
 use Rattle.indexes.specs.Keeping.{row_in}
 use Rattle.rowstore.specs.Changing.{AreInserted, InsertsRows, InsertsTooLong}
-use Rattle.rowstore.specs.Trees.{AreAmong}
 use Rattle.rowstore.specs.Turning.{AddsToIndexes, AreEntriesStorable, HaveNow}
 use Rattle.rowstore.proofs.Among.{rows_tree}
 use Rattle.rowstore.proofs.Owned.{RowsStand, fit_apart, has_rows, indexes_stand, rows_among, table_holds}

@@ -1,5 +1,5 @@
 -- A table's trees among all: that of its rows becomes one of other rows, and those of its indexes follow.
-use Rattle.std.proofs.Common.{◌≡◌, refl, sym, ap, subst, ◌≤◌, ◌&&◌, ℕ, Bool, true, false, List, [], ◌∷◌, ◌++◌, length, map, arith}
+use Rattle.std.proofs.Common.{◌≡◌, refl, sym, subst, ◌&&◌, ℕ, Bool, true, false, List, [], ◌∷◌, ◌++◌, length, map, arith}
 use Rattle.std.specs.List.{list_all}
 use Rattle.std.specs.Ordering.{int_cmp}
 use Rattle.sqlval.specs.Lists.{is_rising}
@@ -7,7 +7,6 @@ use Rattle.sqlval.specs.PageSizes.{IsPageSize}
 use Rattle.sqlval.specs.declared.value.Value.{Value}
 use Rattle.page.specs.Leaf.{Entry}
 use Rattle.pages.specs.Map.{PageMap}
-use Rattle.freelist.specs.Calls.{KeepsHeader}
 use Rattle.treepage.specs.Cells.{Pairwise}
 use Rattle.tabletree.specs.Calls.{BecomesRows, Stands}
 use Rattle.sharing.specs.Layout.{AreShared, OfEntries, Owner}

@@ -9,11 +9,11 @@ use Rattle.pages.specs.Calls.{IsOutsideOrFull}
 use Rattle.pages.specs.Map.{PageMap}
 use Rattle.freelist.specs.Calls.{KeepsHeader}
 use Rattle.treepage.specs.Cells.{Pairwise}
-use Rattle.indextree.specs.Calls.{AreGivenBack, BecomesEntries, ClearsTree, FreesTree, IsCleared}
+use Rattle.indextree.specs.Calls.{BecomesEntries, ClearsTree, FreesTree, IsCleared}
 use Rattle.sharing.specs.Layout.{AreShared, Owner}
 use Rattle.catalog.specs.declared.tables.Index.{Index}
 use Rattle.rowprog.specs.Rows.{TableRow}
-use Rattle.indexes.specs.Entries.{AreApart, Columns, collations, entries_of_rows}
+use Rattle.indexes.specs.Entries.{Columns, collations, entries_of_rows}
 use Rattle.indexes.specs.Keeping.{AddsEntries, TakesEntries, Turns}
 use Rattle.rowstore.specs.Trees.{IsEntriesTree, columns_of}
 use Rattle.rowstore.specs.Turning.{AddsToIndexes, AreEntriesStorable, AreLeft, CanBeIndexed, ClearsIndexes, FreesIndexes, HaveEntries, HaveNow, TakesFromIndexes, TurnIndexes}

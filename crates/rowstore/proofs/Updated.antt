@@ -1,10 +1,10 @@
 -- What updating rows with their entries comes to.
-use Rattle.std.proofs.Common.{◌≡◌, ◌⊎◌, inl, inr, refl, sym, ap, subst, ◌∙◌, ◌≤◌, ℕ, Bool, true, not, filter, List, [], ◌∷◌, ◌++◌, length, map, Option, Ok, Err, arith}
+use Rattle.std.proofs.Common.{◌≡◌, ◌⊎◌, inl, inr, refl, sym, subst, ℕ, true, not, filter, List, [], ◌∷◌, ◌++◌, length, map, Option, Ok, Err, arith}
 use Rattle.std.specs.Prelude.{Result, IsErrAnd, MatchResult, ⊤}
 use Rattle.std.specs.Global.{Vec}
 use Rattle.sqlval.specs.Faults.{IsOutside}
 use Rattle.sqlval.specs.PageSizes.{IsPageSize}
-use Rattle.sqlval.specs.Refusals.{Answer, refusal_of}
+use Rattle.sqlval.specs.Refusals.{refusal_of}
 use Rattle.sqlval.specs.declared.fault.Fault.{Fault}
 use Rattle.sqlval.specs.declared.fault.Fault.TheVariants.{TooLong}
 use Rattle.pages.specs.Calls.{IsOutsideOrFull}
@@ -23,7 +23,7 @@ use Rattle.dml.specs.Meaning.{FindsMeant, meant}
 use Rattle.dml.specs.Setting.{rows_set}
 use Rattle.dml.specs.Updating.{AreSetIn, IsSetRefusal, SetsRows, TellsChanged}
 use Rattle.dml.proofs.SetTrees.{meant_by}
-use Rattle.indexes.specs.Entries.{AreApart, Columns, entries_of_rows, indexed}
+use Rattle.indexes.specs.Entries.{AreApart, indexed}
 use Rattle.indexes.specs.Keeping.{row_in}
 use Rattle.rowstore.specs.Changing.{AreUpdated, UpdatesRows, UpdatesTooLong}
 use Rattle.rowstore.specs.Trees.{columns_of}

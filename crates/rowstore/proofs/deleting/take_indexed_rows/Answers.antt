@@ -1,6 +1,4 @@
 use Rattle.std.proofs.Common.{◌∙◌, ℕ, List, map, subst, Ok, Err}
-use Rattle.std.specs.Prelude.{Result, ⊤}
-use Rattle.sqlval.specs.declared.fault.Fault.{Fault}
 use Rattle.pages.specs.Map.{PageMap}
 use Rattle.catalog.specs.declared.tables.Index.{Index}
 use Rattle.catalog.specs.declared.tables.TableRow.{TableRow}

@@ -1,5 +1,4 @@
-use Rattle.std.proofs.Common.{rules, sym, subst, ◌∙◌, ◌-◌, ℕ, List, [], ◌∷◌, length, take, drop, Ok, Err}
-use Rattle.std.specs.Prelude.{⊤}
+use Rattle.std.proofs.Common.{rules, subst, ◌∙◌, ◌-◌, ℕ, List, length, take, drop, Ok, Err}
 use Rattle.catalog.specs.declared.tables.Index.{Index}
 use Rattle.indextree.specs.Calls.{FreesTree}
 use Rattle.rowstore.specs.Turning.{FreesIndexes}

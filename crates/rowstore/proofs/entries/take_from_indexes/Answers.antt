@@ -1,5 +1,4 @@
-use Rattle.std.proofs.Common.{rules, sym, subst, ◌∙◌, ◌-◌, ℕ, List, [], ◌∷◌, length, map, take, drop, Ok, Err}
-use Rattle.std.specs.Prelude.{⊤}
+use Rattle.std.proofs.Common.{rules, subst, ◌∙◌, ◌-◌, ℕ, List, length, map, take, drop, Ok, Err}
 use Rattle.catalog.specs.declared.tables.Index.{Index}
 use Rattle.indexes.specs.Keeping.{TakesEntries, row_in}
 use Rattle.rowstore.specs.Trees.{columns_of}
