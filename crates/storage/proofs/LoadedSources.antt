@@ -92,23 +92,24 @@ loads_same view pages size given tables result same loads = subst (λ (ts : List
 
 -- ---- the sources of a query
 
--- the rows of a listed table of a name
-of_listed : (rows_at : ℕ → List TableRow) (view : View → Answer (List Row)) (found : Option Table) (place : BoundSource) → option_map place_seen found ≡ Some place
-    → rows_of_object view (option_map (λ t. ATable (plain_table t (rows_at t.root))) found) ≡ Ok (map as_source (rows_at place.root))
-of_listed rows_at view None place is = (let bad : None ≡ Some place = is in cc)
-of_listed rows_at view (Some t) place is = ap (λ (p : BoundSource). Ok (map as_source (rows_at p.root))) (one (place_seen t) place is)
+-- the rows of a table are those at its place
+at_place : (rows_at : ℕ → List TableRow) (t : Table) (place : BoundSource) → option_map place_seen (Some t) ≡ Some place
+    → ◌≡◌ {A = Answer (List Row)} (Ok (map as_source (rows_at t.root))) (Ok (map as_source (rows_at place.root)))
+at_place rows_at t place is = ap (λ (p : BoundSource). Ok (map as_source (rows_at p.root))) (one (place_seen t) place is)
   where
     one : (a b : BoundSource) → Some a ≡ Some b → a ≡ b
     one a b e = cc
 
+-- a table that has a place is there
+placed_table : (found : Option Table) (place : BoundSource) → option_map place_seen found ≡ Some place → (t : Table) × (found ≡ Some t)
+placed_table None place is = (let bad : None ≡ Some place = is in cc)
+placed_table (Some t) place is = (t, refl)
+
 rows_named : (rows_at : ℕ → List TableRow) (tables : List Table) (db : Database) (name : Name) (place : BoundSource) → Lists rows_at tables db → option_map place_seen (table_named name tables) ≡ Some place
     → all_rows db name ≡ Ok (map as_source (rows_at place.root))
 rows_named rows_at tables db name place lists is =
-    by_found (table_named name tables) refl is
-  where
-    by_found : (found : Option Table) → table_named name tables ≡ found → option_map place_seen found ≡ Some place → all_rows db name ≡ Ok (map as_source (rows_at place.root))
-    by_found None named is = absurd cc
-    by_found (Some t) named is = ap (rows_of_object _) (table_found rows_at tables db name t lists named) ∙ of_listed rows_at _ (Some t) place is
+    let (t, named) = placed_table (table_named name tables) place is in
+    ap (rows_of_object _) (table_found rows_at tables db name t lists named) ∙ at_place rows_at t place (subst (λ (found : Option Table). option_map place_seen found ≡ Some place) named is)
 
 pub sources_loaded : (rows_at : ℕ → List TableRow) (tables : List Table) (db : Database) → Lists rows_at tables db → (sources : List (Name × Condition)) (places : List BoundSource) → ArePlaced tables sources places
     → all_answers (map (λ s. all_rows db s.0) sources) ≡ Ok (rows_in rows_at places)

@@ -51,6 +51,7 @@ use Rattle.storage.proofs.Insertions.{listed_table, named_folded}
 use Rattle.storage.proofs.Owners.{HasOwner, owner_of}
 use Rattle.storage.proofs.PutRows.{rows_here, rows_with, stands, stores_rows}
 use Rattle.storage.proofs.Roots.{own_pages}
+use Rattle.storage.proofs.BareTables.{table_found}
 
 -- what follows for every listed database, and for the trees of its file
 pub record Laws : Type 0 where
@@ -226,8 +227,8 @@ module _ (laws : Laws) (pages : PageMap) (size : ℕ) (tables : List Table) (db 
         name = u.table;
         table = t;
         rows = now;
-        is = lists_now now u.table ∙ (ap (option_map (λ (x : Table). ATable (plain_table x (rows_with held.rows_at t.root now x.root)))) named
-            ∙ ap (λ rows. Some (ATable (plain_table t rows))) (rows_here held.rows_at t.root t.root now refl));
+        is = table_found (rows_with held.rows_at t.root now) tables (with_now now) u.table t (lists_now now) named
+            ∙ ap (λ rows. Some (ATable (plain_table t rows))) (rows_here held.rows_at t.root t.root now refl);
         long = long;
       }
 
