@@ -23,17 +23,17 @@ use Rattle.catalog.specs.declared.tables.Table.{Table}
 use Rattle.catalog.proofs.NamedDatabases.{AreFolded, folded_twice, in_order, not_below, rising, same_test}
 use Rattle.catalog.proofs.OtherRows.{both_true, first_true, rest_true}
 
-same : (a b : Name) → bytes_eq a b ≡ true → a ≡ b
+pub same : (a b : Name) → bytes_eq a b ≡ true → a ≡ b
 same a b h = (bytes_eq-Decides a b).0 h
 
-tells : (a b : Name) → a ≡ b → bytes_eq a b ≡ true
+pub tells : (a b : Name) → a ≡ b → bytes_eq a b ≡ true
 tells a b h = (bytes_eq-Decides a b).1 h
 
 no_one : (b : Bool) → (b ≡ true → ⊥) → b ≡ false
 no_one true h = absurd (h refl)
 no_one false h = refl
 
-other_name : (a b : Name) → is_same_name a b ≡ false → is_same_name b a ≡ false
+pub other_name : (a b : Name) → is_same_name a b ≡ false → is_same_name b a ≡ false
 other_name a b h = no_one (is_same_name b a) (λ k. false≢true (sym h ∙ tells (folded a) (folded b) (sym (same (folded b) (folded a) k))))
 
 -- names that are one with a third are one
@@ -42,12 +42,12 @@ joined a b c h k = tells (folded a) (folded c) (same (folded a) (folded b) h ∙
 
 -- ---- what passes a test is found once
 
-abbrev kept : {A : Type 0} → (A → Bool) → Option A → Option A
+abbrev pub kept : {A : Type 0} → (A → Bool) → Option A → Option A
 kept p None = None
 kept p (Some x) = cond (p x) (Some x) None
 
 -- after the item that is found there is no other
-abbrev OnlyOnce : {A : Type 0} → (A → Bool) → List A → Type 0
+abbrev pub OnlyOnce : {A : Type 0} → (A → Bool) → List A → Type 0
 OnlyOnce t [] = Unit {0}
 OnlyOnce t (x ∷ xs) = (t x ≡ true → list.find t xs ≡ None) × OnlyOnce t xs
 
@@ -61,7 +61,7 @@ none_left p t (x ∷ xs) h = by_test (none_left p t xs) (t x) refl h (p x)
     by_test rest false e h true = ap (λ b. cond b (Some x) (list.find t (filter p xs))) e ∙ rest h
     by_test rest false e h false = rest h
 
-found_kept : {A : Type 0} (p t : A → Bool) (xs : List A) → OnlyOnce t xs → list.find t (filter p xs) ≡ kept p (list.find t xs)
+pub found_kept : {A : Type 0} (p t : A → Bool) (xs : List A) → OnlyOnce t xs → list.find t (filter p xs) ≡ kept p (list.find t xs)
 found_kept p t [] once = refl
 found_kept p t (x ∷ xs) once = by_test (found_kept p t xs once.1) (t x) refl (p x) refl
   where
@@ -75,10 +75,10 @@ found_kept p t (x ∷ xs) once = by_test (found_kept p t xs once.1) (t x) refl (
 -- ---- objects of a database
 
 -- the object of a key in a list of objects, whole
-abbrev entry_at : Name → Database → Option (Name × Object)
+abbrev pub entry_at : Name → Database → Option (Name × Object)
 entry_at k db = list.find (λ e. eq_by_cmp name_order k e.0) db
 
-found_entry : (k : Name) (db : Database) → find name_order k db ≡ option_map (λ e. e.1) (entry_at k db)
+pub found_entry : (k : Name) (db : Database) → find name_order k db ≡ option_map (λ e. e.1) (entry_at k db)
 found_entry k [] = refl
 found_entry k (e ∷ es) = by_test (found_entry k es) (eq_by_cmp name_order k e.0)
   where
@@ -94,7 +94,7 @@ no_entry k db h = by_found (entry_at k db) (sym (found_entry k db) ∙ h)
     by_found None h = refl
     by_found (Some e) h = absurd cc
 
-keyed_once : (k : Name) (db : Database) → is_sorted name_order db ≡ true → OnlyOnce (λ (e : Name × Object). eq_by_cmp name_order k e.0) db
+pub keyed_once : (k : Name) (db : Database) → is_sorted name_order db ≡ true → OnlyOnce (λ (e : Name × Object). eq_by_cmp name_order k e.0) db
 keyed_once k [] h = tt
 keyed_once k (e ∷ es) h = (
   λ is. no_entry k es (ap (λ n. find name_order n es) (tells_apart exact_bytes k e.0 is) ∙ not_below es e.0 (first_true (below_all name_order e.0 es) (is_sorted name_order es) h)),
@@ -103,10 +103,10 @@ keyed_once k (e ∷ es) h = (
 
 -- ---- listed objects
 
-abbrev has_name : Name → Name × Object → Bool
+abbrev pub has_name : Name → Name × Object → Bool
 has_name q o = is_same_name o.0 q
 
-once_named : (q : Name) (os : List (Name × Object)) → any_twice is_same_name (map (λ o. o.0) os) ≡ false → OnlyOnce (has_name q) os
+pub once_named : (q : Name) (os : List (Name × Object)) → any_twice is_same_name (map (λ o. o.0) os) ≡ false → OnlyOnce (has_name q) os
 once_named q [] h = tt
 once_named q (o ∷ os) h = (
   λ is. no_other os (neither (list_any (is_same_name o.0) (map (λ o. o.0) os)) (any_twice is_same_name (map (λ o. o.0) os)) h).0 is,
@@ -136,7 +136,7 @@ below_still p x (e ∷ es) h = by_test (p e) (below_still p x es (rest_true _ (b
     by_test true rest = both_true (is_lt (name_order x e.0)) (below_all name_order x (filter p es)) (first_true _ (below_all name_order x es) h) rest
     by_test false rest = rest
 
-sorted_still : (p : Name × Object → Bool) (es : Database) → is_sorted name_order es ≡ true → is_sorted name_order (filter p es) ≡ true
+pub sorted_still : (p : Name × Object → Bool) (es : Database) → is_sorted name_order es ≡ true → is_sorted name_order (filter p es) ≡ true
 sorted_still p [] h = refl
 sorted_still p (e ∷ es) h = by_test (p e) (sorted_still p es (rest_true _ (is_sorted name_order es) h))
   where
@@ -144,7 +144,7 @@ sorted_still p (e ∷ es) h = by_test (p e) (sorted_still p es (rest_true _ (is_
     by_test true rest = both_true (below_all name_order e.0 (filter p es)) (is_sorted name_order (filter p es)) (below_still p e.0 es (first_true (below_all name_order e.0 es) (is_sorted name_order es) h)) rest
     by_test false rest = rest
 
-folded_still : (p : Name × Object → Bool) (es : Database) → AreFolded es → AreFolded (filter p es)
+pub folded_still : (p : Name × Object → Bool) (es : Database) → AreFolded es → AreFolded (filter p es)
 folded_still p [] h = tt
 folded_still p (e ∷ es) h = by_test (p e) (folded_still p es h.1)
   where
@@ -152,7 +152,7 @@ folded_still p (e ∷ es) h = by_test (p e) (folded_still p es h.1)
     by_test true rest = (h.0, rest)
     by_test false rest = rest
 
-only_still : (p : Name × Object → Bool) (es : Database) → has_only_plain es ≡ true → has_only_plain (filter p es) ≡ true
+pub only_still : (p : Name × Object → Bool) (es : Database) → has_only_plain es ≡ true → has_only_plain (filter p es) ≡ true
 only_still p [] h = refl
 only_still p (e ∷ es) h = by_test (p e) (only_still p es (rest_true _ (has_only_plain es) h))
   where
@@ -163,7 +163,7 @@ only_still p (e ∷ es) h = by_test (p e) (only_still p es (rest_true _ (has_onl
 -- ---- the law
 
 -- the names of listed objects are those of the tables and of their indexes
-index_names : (tables : List Table) → map (λ (o : Name × Object). o.0) (flat_map index_objects tables) ≡ flat_map (λ (t : Table). map (λ (i : ListedIndex). i.name) t.indexes) tables
+pub index_names : (tables : List Table) → map (λ (o : Name × Object). o.0) (flat_map index_objects tables) ≡ flat_map (λ (t : Table). map (λ (i : ListedIndex). i.name) t.indexes) tables
 index_names [] = refl
 index_names (t ∷ ts) = of_indexes t.indexes (flat_map index_objects ts) (flat_map (λ (t : Table). map (λ (i : ListedIndex). i.name) t.indexes) ts) (index_names ts)
   where
@@ -177,7 +177,7 @@ object_names : (rows_at : ℕ → List (ℤ × List Value)) (tables : List Table
 object_names rows_at [] os names e = e
 object_names rows_at (t ∷ ts) os names e = ap (λ ns. t.name ∷ ns) (object_names rows_at ts os names e)
 
-names_are : (rows_at : ℕ → List (ℤ × List Value)) (tables : List Table) → map (λ (o : Name × Object). o.0) (objects_of rows_at tables) ≡ names_of tables
+pub names_are : (rows_at : ℕ → List (ℤ × List Value)) (tables : List Table) → map (λ (o : Name × Object). o.0) (objects_of rows_at tables) ≡ names_of tables
 names_are rows_at tables = object_names rows_at tables (flat_map index_objects tables) _ (index_names tables)
 
 -- ---- those that go
@@ -251,7 +251,7 @@ objects_left rows_at name tables none =
 
 -- ---- names that stand once
 
-neither : (a b : Bool) → (a || b) ≡ false → (a ≡ false) × (b ≡ false)
+pub neither : (a b : Bool) → (a || b) ≡ false → (a ≡ false) × (b ≡ false)
 neither true b h = absurd (false≢true (sym h))
 neither false b h = (refl, h)
 
@@ -296,7 +296,7 @@ none_among a name (t ∷ ts) same_as h =
       none_among a name ts same_as (none_after (is_same_name a) (map (λ (i : ListedIndex). i.name) t.indexes) names h),
     )
 
-is_no : (b : Bool) → not b ≡ true → b ≡ false
+pub is_no : (b : Bool) → not b ≡ true → b ≡ false
 is_no true h = absurd (false≢true h)
 is_no false h = refl
 
@@ -314,7 +314,7 @@ none_still p same (o ∷ os) h =
     by_test e rest true = ap (λ b. b || list_any same (map (λ o. o.0) (filter p os))) e ∙ rest
     by_test e rest false = rest
 
-once_still : (p : Name × Object → Bool) (os : List (Name × Object)) → any_twice is_same_name (map (λ o. o.0) os) ≡ false → any_twice is_same_name (map (λ o. o.0) (filter p os)) ≡ false
+pub once_still : (p : Name × Object → Bool) (os : List (Name × Object)) → any_twice is_same_name (map (λ o. o.0) os) ≡ false → any_twice is_same_name (map (λ o. o.0) (filter p os)) ≡ false
 once_still p [] h = refl
 once_still p (o ∷ os) h =
     let both = neither (list_any (is_same_name o.0) (map (λ o. o.0) os)) (any_twice is_same_name (map (λ o. o.0) os)) h in
@@ -327,7 +327,7 @@ once_still p (o ∷ os) h =
 
 -- ---- what is found
 
-found_holds : {A : Type 0} (t : A → Bool) (xs : List A) (x : A) → list.find t xs ≡ Some x → t x ≡ true
+pub found_holds : {A : Type 0} (t : A → Bool) (xs : List A) (x : A) → list.find t xs ≡ Some x → t x ≡ true
 found_holds t [] x h = absurd cc
 found_holds t (y ∷ ys) x h = by_test (found_holds t ys x) (t y) refl h
   where

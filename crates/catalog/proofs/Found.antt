@@ -7,7 +7,7 @@ use Rattle.sqlval.specs.Names.{is_same_name}
 use Rattle.sqlval.specs.declared.value.Value.{Value}
 use Rattle.catalog.specs.Database.{Name, Object, ATable, AnIndex, object}
 use Rattle.catalog.specs.Laws.{FindsListed, IsNoTable, NamesListed}
-use Rattle.catalog.specs.Listed.{has_index, has_table_name, index_objects, is_table, named_among, objects_of, plain_index, plain_table, table_named, table_object}
+use Rattle.catalog.specs.Listed.{has_index, has_table_name, index_objects, is_name_of, is_table, named_among, objects_of, plain_index, plain_table, table_named, table_object}
 use Rattle.catalog.specs.declared.tables.Index.{Index as ListedIndex}
 use Rattle.catalog.specs.declared.tables.Table.{Table}
 
@@ -113,9 +113,12 @@ found_or_behind : (rows_at : ℕ → List (ℤ × List Value)) (behind : Option 
 found_or_behind rows_at behind None = refl
 found_or_behind rows_at behind (Some t) = refl
 
-pub names_listed : NamesListed
-names_listed rows_at tables db name lists =
-    ap is_some (lists name ∙ listed_as rows_at name tables)
+pub names_found : (rows_at : ℕ → List (ℤ × List Value)) (name : Name) (tables : List Table) → is_some (named_among name (objects_of rows_at tables)) ≡ is_name_of tables name
+names_found rows_at name tables =
+    ap is_some (listed_as rows_at name tables)
     ∙ (found_or_behind rows_at (index_found name tables) (table_named name tables)
     ∙ (ap (λ b. b || is_some (index_found name tables)) (table_any name tables)
     ∙ (ap (λ b. list_any (is_table name) tables || b) (indexes_any name tables) ∙ sym (any_either name tables))))
+
+pub names_listed : NamesListed
+names_listed rows_at tables db name lists = ap is_some (lists name) ∙ names_found rows_at name tables

@@ -1,0 +1,407 @@
+-- A listed database with one index more, and with one less.
+use Rattle.std.proofs.Common.{◌≡◌, refl, sym, ap, subst, ◌∙◌, ℕ, ℤ, Bool, true, false, ◌||◌, List, [], ◌∷◌, ◌++◌, append_assoc, map, filter, not, Option, Some, None, cond}
+use Rattle.std.proofs.lemmas.Bool.{false≢true}
+use Rattle.std.proofs.lemmas.Cmp.{nat_list_cmp_total}
+use Rattle.std.proofs.lemmas.Grind.{flat_map-append}
+use Rattle.std.proofs.lemmas.List.{map-append}
+use Rattle.std.proofs.lemmas.List.Elements.{filter-append}
+use Rattle.std.proofs.lemmas.Map.Lookups.{exact_bytes}
+use Rattle.std.proofs.lemmas.Map.Views.{tells_apart}
+use Rattle.std.specs.FinMap.Entries.{find-put, is_sorted}
+use Rattle.std.specs.List as list
+use Rattle.std.specs.List.{AllByRecursion, list_any}
+use Rattle.std.specs.Ordering.{eq_by_cmp}
+use Rattle.std.specs.Prelude.{flat_map, is_some, option_map}
+use Rattle.std.specs.Str.{bytes_eq}
+use Rattle.sqlval.specs.Lists.{any_twice}
+use Rattle.sqlval.specs.Names.{folded, is_same_name}
+use Rattle.sqlval.specs.declared.value.Value.{Value}
+use Rattle.catalog.specs.Database.{Name, Database, Object, AnIndex, name_order, object}
+use Rattle.catalog.specs.Listed.{are_named_once, has_index, index_objects, is_name_of, is_table, named_among, names_of, objects_of, plain_index, replaced_by, table_named, table_object, with_replaced}
+use Rattle.catalog.specs.Named.{IsOfTables}
+use Rattle.catalog.specs.NewIndexes.{ListsNewIndex, ListsOtherIndexes, with_index, without_index, without_object}
+use Rattle.catalog.specs.declared.tables.Index.{Index as ListedIndex}
+use Rattle.catalog.specs.declared.tables.Table.{Table}
+use Rattle.catalog.proofs.Dropped.{entry_at, folded_still, found_entry, found_holds, found_kept, has_name, index_names, is_no, joined, kept, keyed_once, names_are, neither, once_named, once_still, only_still, other_name, same, sorted_still, tells}
+use Rattle.catalog.proofs.Found.{names_found}
+use Rattle.catalog.proofs.NamedDatabases.{folded_twice, in_order, keeps_named, rising, same_test}
+use Rattle.catalog.proofs.OtherRows.{only_plain}
+
+-- ---- a table in place of itself
+
+-- where its name stands once, only the table itself is replaced
+none_replaced : (new : Table) (tables : List Table) → list_any (is_same_name new.name) (map (λ (t : Table). t.name) tables) ≡ false → with_replaced new tables ≡ tables
+none_replaced new [] none = refl
+none_replaced new (u ∷ us) none =
+    let both = neither (is_same_name new.name u.name) (list_any (is_same_name new.name) (map (λ (t : Table). t.name) us)) none in
+    ap (λ b. cond b new u ∷ with_replaced new us) (other_name new.name u.name both.0) ∙ ap (λ ts. u ∷ ts) (none_replaced new us both.1)
+
+-- the tables before a table, and those after it
+record IsSplit (t : Table) (tables : List Table) : Type 0 where
+  before : List Table
+  after : List Table
+  parts : tables ≡ before ++ t ∷ after
+  replaced : (new : Table) → new.name ≡ t.name → with_replaced new tables ≡ before ++ new ∷ after
+
+abbrev table_names : List Table → List Name
+table_names tables = map (λ (t : Table). t.name) tables
+
+named_in_middle : (p : Name → Bool) (before : List Table) (t : Table) (after : List Table) → list_any p (table_names (before ++ t ∷ after)) ≡ false → p t.name ≡ false
+named_in_middle p [] t after none = (neither (p t.name) (list_any p (table_names after)) none).0
+named_in_middle p (u ∷ before) t after none = named_in_middle p before t after (neither (p u.name) (list_any p (table_names (before ++ t ∷ after))) none).1
+
+split_at : (p : Table → Bool) (tables : List Table) (t : Table) → any_twice is_same_name (table_names tables) ≡ false → list.find p tables ≡ Some t → IsSplit t tables
+split_at p [] t once found = absurd cc
+split_at p (u ∷ us) t once found =
+    let both = neither (list_any (is_same_name u.name) (table_names us)) (any_twice is_same_name (table_names us)) once in
+    by_test both.0 (split_at p us t both.1) (p u) found
+  where
+    by_test : list_any (is_same_name u.name) (table_names us) ≡ false → (list.find p us ≡ Some t → IsSplit t us) → (b : Bool) → cond b (Some u) (list.find p us) ≡ Some t → IsSplit t (u ∷ us)
+    by_test none later true found =
+        let is : u ≡ t = cc in record {
+          before = [];
+          after = us;
+          parts = ap (λ (x : Table). x ∷ us) is;
+          replaced = λ new name.
+              (let at : new.name ≡ u.name = name ∙ ap (λ (x : Table). x.name) (sym is) in
+              ap (λ b. cond b new u ∷ with_replaced new us) (tells (folded u.name) (folded new.name) (ap folded (sym at)))
+              ∙ ap (λ ts. new ∷ ts) (none_replaced new us (subst (λ (n : Name). list_any (is_same_name n) (table_names us) ≡ false) (sym at) none)));
+        }
+    by_test none later false found =
+        let rest = later found in
+        let other : is_same_name u.name t.name ≡ false = named_in_middle (is_same_name u.name) rest.before t rest.after (subst (λ (ts : List Table). list_any (is_same_name u.name) (table_names ts) ≡ false) rest.parts none) in record {
+          before = u ∷ rest.before;
+          after = rest.after;
+          parts = ap (λ ts. u ∷ ts) rest.parts;
+          replaced = λ new name.
+              ap (λ b. cond b new u ∷ with_replaced new us) (subst (λ (n : Name). is_same_name u.name n ≡ false) (sym name) other) ∙ ap (λ ts. u ∷ ts) (rest.replaced new name);
+        }
+
+-- ---- names
+
+first_part : (p : Name → Bool) (xs ys : List Name) → list_any p (xs ++ ys) ≡ false → (list_any p xs ≡ false) × (list_any p ys ≡ false)
+first_part p [] ys none = (refl, none)
+first_part p (x ∷ xs) ys none =
+    let both = neither (p x) (list_any p (xs ++ ys)) none in let rest = first_part p xs ys both.1 in (ap (λ b. b || list_any p xs) both.0 ∙ rest.0, rest.1)
+
+both_parts : (p : Name → Bool) (xs ys : List Name) → list_any p xs ≡ false → list_any p ys ≡ false → list_any p (xs ++ ys) ≡ false
+both_parts p [] ys none others = others
+both_parts p (x ∷ xs) ys none others = let both = neither (p x) (list_any p xs) none in ap (λ b. b || list_any p (xs ++ ys)) both.0 ∙ both_parts p xs ys both.1 others
+
+once_first : (xs ys : List Name) → any_twice is_same_name (xs ++ ys) ≡ false → any_twice is_same_name xs ≡ false
+once_first [] ys once = refl
+once_first (x ∷ xs) ys once =
+    let both = neither (list_any (is_same_name x) (xs ++ ys)) (any_twice is_same_name (xs ++ ys)) once in
+    ap (λ b. b || any_twice is_same_name xs) (first_part (is_same_name x) xs ys both.0).0 ∙ once_first xs ys both.1
+
+once_inserted : (xs : List Name) (x : Name) (ys : List Name) → any_twice is_same_name (xs ++ ys) ≡ false → list_any (is_same_name x) (xs ++ ys) ≡ false → any_twice is_same_name (xs ++ x ∷ ys) ≡ false
+once_inserted [] x ys once none = ap (λ b. b || any_twice is_same_name ys) none ∙ once
+once_inserted (y ∷ xs) x ys once none =
+    let both = neither (list_any (is_same_name y) (xs ++ ys)) (any_twice is_same_name (xs ++ ys)) once in
+    let others = neither (is_same_name x y) (list_any (is_same_name x) (xs ++ ys)) none in
+    let parts = first_part (is_same_name y) xs ys both.0 in
+    ap (λ b. b || any_twice is_same_name (xs ++ x ∷ ys))
+    (both_parts (is_same_name y) xs (x ∷ ys) parts.0 (ap (λ b. b || list_any (is_same_name y) ys) (other_name x y others.0) ∙ parts.1))
+    ∙ once_inserted xs x ys both.1 others.1
+
+-- what isn't found has a name of its own
+own : (name : Name) (os : List (Name × Object)) → named_among name os ≡ None → list_any (is_same_name name) (map (λ (o : Name × Object). o.0) os) ≡ false
+own name [] none = refl
+own name (o ∷ os) none = by_test (own name os) (is_same_name o.0 name) refl none
+  where
+    by_test : (named_among name os ≡ None → list_any (is_same_name name) (map (λ (o : Name × Object). o.0) os) ≡ false) → (b : Bool) → is_same_name o.0 name ≡ b
+        → option_map (λ (x : Name × Object). x.1) (cond b (Some o) (list.find (λ (x : Name × Object). is_same_name x.0 name) os)) ≡ None
+        → (is_same_name name o.0 || list_any (is_same_name name) (map (λ (o : Name × Object). o.0) os)) ≡ false
+    by_test rest true e none = absurd cc
+    by_test rest false e none = ap (λ b. b || list_any (is_same_name name) (map (λ (o : Name × Object). o.0) os)) (other_name o.0 name e) ∙ rest none
+
+-- ---- an object more
+
+inserted : (q : Name) (front : List (Name × Object)) (o : Name × Object) (back : List (Name × Object)) → (is_same_name o.0 q ≡ true → named_among q (front ++ back) ≡ None)
+    → named_among q (front ++ o ∷ back) ≡ cond (is_same_name o.0 q) (Some o.1) (named_among q (front ++ back))
+inserted q [] o back fresh = by_test (is_same_name o.0 q)
+  where
+    by_test : (b : Bool) → option_map (λ (x : Name × Object). x.1) (cond b (Some o) (list.find (λ (x : Name × Object). is_same_name x.0 q) back)) ≡ cond b (Some o.1) (named_among q back)
+    by_test true = refl
+    by_test false = refl
+inserted q (y ∷ front) o back fresh = by_test (inserted q front o back) (is_same_name y.0 q) refl fresh
+  where
+    none_same : (b : Bool) → (b ≡ true → Some y.1 ≡ None) → b ≡ false
+    none_same true h = absurd (let e = h refl in cc)
+    none_same false h = refl
+
+    by_test : ((is_same_name o.0 q ≡ true → named_among q (front ++ back) ≡ None) → named_among q (front ++ o ∷ back) ≡ cond (is_same_name o.0 q) (Some o.1) (named_among q (front ++ back)))
+        → (b : Bool) → is_same_name y.0 q ≡ b
+        → (is_same_name o.0 q ≡ true → option_map (λ (x : Name × Object). x.1) (cond b (Some y) (list.find (λ (x : Name × Object). is_same_name x.0 q) (front ++ back))) ≡ None)
+        → option_map (λ (x : Name × Object). x.1) (cond b (Some y) (list.find (λ (x : Name × Object). is_same_name x.0 q) (front ++ o ∷ back)))
+        ≡ cond (is_same_name o.0 q) (Some o.1) (option_map (λ (x : Name × Object). x.1) (cond b (Some y) (list.find (λ (x : Name × Object). is_same_name x.0 q) (front ++ back))))
+    by_test rest true e fresh = sym (ap (λ b. cond b (Some o.1) (Some y.1)) (none_same (is_same_name o.0 q) fresh))
+    by_test rest false e fresh = rest fresh
+
+-- the objects of tables with an index more, after one of them
+abbrev listed_before : (ℕ → List (ℤ × List Value)) → List Table → Table → List Table → List (Name × Object)
+listed_before rows_at before t after = map (table_object rows_at) (before ++ t ∷ after) ++ (flat_map index_objects before ++ index_objects t)
+
+objects_split : (rows_at : ℕ → List (ℤ × List Value)) (before : List Table) (t : Table) (after : List Table)
+    → objects_of rows_at (before ++ t ∷ after) ≡ listed_before rows_at before t after ++ flat_map index_objects after
+objects_split rows_at before t after =
+    ap (λ os. map (table_object rows_at) (before ++ t ∷ after) ++ os) (flat_map-append index_objects before (t ∷ after) ∙ sym (append_assoc (flat_map index_objects before) (index_objects t) (flat_map index_objects after)))
+    ∙ sym (append_assoc (map (table_object rows_at) (before ++ t ∷ after)) (flat_map index_objects before ++ index_objects t) (flat_map index_objects after))
+
+same_tables : (rows_at : ℕ → List (ℤ × List Value)) (before : List Table) (t : Table) (is : List ListedIndex) (after : List Table)
+    → map (table_object rows_at) (before ++ (record t { indexes = is }) ∷ after) ≡ map (table_object rows_at) (before ++ t ∷ after)
+same_tables rows_at [] t is after = refl
+same_tables rows_at (u ∷ before) t is after = ap (λ os. table_object rows_at u ∷ os) (same_tables rows_at before t is after)
+
+objects_more : (rows_at : ℕ → List (ℤ × List Value)) (before : List Table) (t : Table) (i : ListedIndex) (after : List Table)
+    → objects_of rows_at (before ++ with_index i t ∷ after) ≡ listed_before rows_at before t after ++ (i.name, AnIndex (plain_index t i)) ∷ flat_map index_objects after
+objects_more rows_at before t i after =
+    let new : List (Name × Object) = (i.name, AnIndex (plain_index t i)) ∷ [] in
+    objects_split rows_at before (with_index i t) after
+    ∙ (ap (λ os. (os ++ (flat_map index_objects before ++ index_objects (with_index i t))) ++ flat_map index_objects after) (same_tables rows_at before t (t.indexes ++ i ∷ []) after)
+    ∙ (ap (λ os. (map (table_object rows_at) (before ++ t ∷ after) ++ (flat_map index_objects before ++ os)) ++ flat_map index_objects after)
+    (map-append (λ (j : ListedIndex). (j.name, AnIndex (plain_index t j))) t.indexes (i ∷ []))
+    ∙ (ap (λ os. (map (table_object rows_at) (before ++ t ∷ after) ++ os) ++ flat_map index_objects after) (sym (append_assoc (flat_map index_objects before) (index_objects t) new))
+    ∙ (ap (λ os. os ++ flat_map index_objects after) (sym (append_assoc (map (table_object rows_at) (before ++ t ∷ after)) (flat_map index_objects before ++ index_objects t) new))
+    ∙ append_assoc (listed_before rows_at before t after) new (flat_map index_objects after)))))
+
+pub lists_new_index : ListsNewIndex
+lists_new_index rows_at tables db t i is found fresh = record {
+  lists = λ q.
+      find-put name_order nat_list_cmp_total (folded q) (folded i.name) (AnIndex (plain_index t i)) db
+      ∙ (ap (λ b. cond b (Some (AnIndex (plain_index t i))) (object db q)) (same_test (folded q) (folded i.name))
+      ∙ (ap (cond (is_same_name i.name q) (Some (AnIndex (plain_index t i)))) (is.lists q ∙ ap (named_among q) objects_are)
+      ∙ (sym (inserted q front new back (none_at q)) ∙ ap (named_among q) (sym objects_then))));
+  only = only_plain db i.name (AnIndex (plain_index t i)) is.only refl;
+  named = keeps_named db i.name (AnIndex (plain_index t i)) is.named;
+  once = ap not (ap (any_twice is_same_name) (sym (names_are rows_at (with_replaced (with_index i t) tables)) ∙ (ap (map (λ (o : Name × Object). o.0)) objects_then ∙ map-append (λ (o : Name × Object). o.0) front (new ∷ back)))
+      ∙ once_inserted (map (λ (o : Name × Object). o.0) front) i.name (map (λ (o : Name × Object). o.0) back)
+      (ap (any_twice is_same_name) (sym (map-append (λ (o : Name × Object). o.0) front back) ∙ (ap (map (λ (o : Name × Object). o.0)) (sym objects_are) ∙ names_are rows_at tables)) ∙ names_once)
+      (ap (list_any (is_same_name i.name)) (sym (map-append (λ (o : Name × Object). o.0) front back)) ∙ own i.name (front ++ back) none));
+}
+  where
+    names_once : any_twice is_same_name (names_of tables) ≡ false
+    names_once = is_no (any_twice is_same_name (names_of tables)) is.once
+
+    split : IsSplit t tables
+    split = split_at (is_table t.name) tables t (once_first (table_names tables) _ names_once) found
+
+    front : List (Name × Object)
+    front = listed_before rows_at split.before t split.after
+
+    back : List (Name × Object)
+    back = flat_map index_objects split.after
+
+    new : Name × Object
+    new = (i.name, AnIndex (plain_index t i))
+
+    objects_are : objects_of rows_at tables ≡ front ++ back
+    objects_are = ap (objects_of rows_at) split.parts ∙ objects_split rows_at split.before t split.after
+
+    objects_then : objects_of rows_at (with_replaced (with_index i t) tables) ≡ front ++ new ∷ back
+    objects_then = ap (objects_of rows_at) (split.replaced (with_index i t) refl) ∙ objects_more rows_at split.before t i split.after
+
+    nothing : (found : Option Object) → is_some found ≡ false → found ≡ None
+    nothing None h = refl
+    nothing (Some o) h = absurd (false≢true (sym h))
+
+    none : named_among i.name (front ++ back) ≡ None
+    none = ap (named_among i.name) (sym objects_are) ∙ nothing (named_among i.name (objects_of rows_at tables)) (names_found rows_at i.name tables ∙ fresh)
+
+    none_at : (q : Name) → is_same_name i.name q ≡ true → named_among q (front ++ back) ≡ None
+    none_at q h = ap (λ (n : Name). option_map (λ (x : Name × Object). x.1) (list.find (λ (x : Name × Object). bytes_eq (folded x.0) n) (front ++ back))) (sym (same (folded i.name) (folded q) h)) ∙ none
+
+-- ---- an index less
+
+abbrev stays : Name → Name × Object → Bool
+stays name o = not (is_same_name name o.0)
+
+all_stay : (name : Name) (os : List (Name × Object)) → list_any (is_same_name name) (map (λ (o : Name × Object). o.0) os) ≡ false → filter (stays name) os ≡ os
+all_stay name [] none = refl
+all_stay name (o ∷ os) none =
+    let both = neither (is_same_name name o.0) (list_any (is_same_name name) (map (λ (o : Name × Object). o.0) os)) none in
+    ap (λ b. cond (not b) (o ∷ filter (stays name) os) (filter (stays name) os)) both.0 ∙ ap (λ xs. o ∷ xs) (all_stay name os both.1)
+
+abbrev index_object : Table → ListedIndex → Name × Object
+index_object t i = (i.name, AnIndex (plain_index t i))
+
+turned : (a b : Name) → is_same_name a b ≡ is_same_name b a
+turned a b = by_test (is_same_name a b) refl
+  where
+    by_test : (c : Bool) → is_same_name a b ≡ c → c ≡ is_same_name b a
+    by_test true e = sym (tells (folded b) (folded a) (sym (same (folded a) (folded b) e)))
+    by_test false e = sym (other_name a b e)
+
+others_stay : (name : Name) (t : Table) (is : List ListedIndex) → filter (stays name) (map (index_object t) is) ≡ map (index_object t) (filter (λ (i : ListedIndex). not (is_same_name i.name name)) is)
+others_stay name t [] = refl
+others_stay name t (i ∷ is) = by_test (others_stay name t is) (is_same_name name i.name) (is_same_name i.name name) (turned name i.name)
+  where
+    by_test : filter (stays name) (map (index_object t) is) ≡ map (index_object t) (filter (λ (i : ListedIndex). not (is_same_name i.name name)) is) → (b c : Bool) → b ≡ c
+        → cond (not b) (index_object t i ∷ filter (stays name) (map (index_object t) is)) (filter (stays name) (map (index_object t) is))
+        ≡ map (index_object t) (cond (not c) (i ∷ filter (λ (i : ListedIndex). not (is_same_name i.name name)) is) (filter (λ (i : ListedIndex). not (is_same_name i.name name)) is))
+    by_test rest true c e = rest ∙ ap (λ c. map (index_object t) (cond (not c) (i ∷ filter (λ (i : ListedIndex). not (is_same_name i.name name)) is) (filter (λ (i : ListedIndex). not (is_same_name i.name name)) is))) e
+    by_test rest false c e =
+        ap (λ os. index_object t i ∷ os) rest
+        ∙ ap (λ c. map (index_object t) (cond (not c) (i ∷ filter (λ (i : ListedIndex). not (is_same_name i.name name)) is) (filter (λ (i : ListedIndex). not (is_same_name i.name name)) is))) e
+
+-- a name that one of two parts has, the other doesn't
+abbrev is_name : Name → Name → Bool
+is_name name n = is_same_name n name
+
+none_with : (x name : Name) (ys : List Name) → list_any (is_same_name x) ys ≡ false → list_any (is_name name) ys ≡ true → is_same_name name x ≡ false
+none_with x name [] none some = absurd (false≢true some)
+none_with x name (y ∷ ys) none some =
+    let both = neither (is_same_name x y) (list_any (is_same_name x) ys) none in by_test both.0 (none_with x name ys both.1) (is_name name y) refl some
+  where
+    by_other : is_same_name x y ≡ false → is_name name y ≡ true → (b : Bool) → is_same_name name x ≡ b → b ≡ false
+    by_other other at true e = absurd (false≢true (sym other ∙ joined x name y (tells (folded x) (folded name) (sym (same (folded name) (folded x) e))) at))
+    by_other other at false e = refl
+
+    by_test : is_same_name x y ≡ false → (list_any (is_name name) ys ≡ true → is_same_name name x ≡ false) → (b : Bool) → is_name name y ≡ b → (b || list_any (is_name name) ys) ≡ true → is_same_name name x ≡ false
+    by_test other rest true e some = by_other other e (is_same_name name x) refl
+    by_test other rest false e some = rest some
+
+none_before : (name : Name) (xs ys : List Name) → any_twice is_same_name (xs ++ ys) ≡ false → list_any (is_name name) ys ≡ true → list_any (is_same_name name) xs ≡ false
+none_before name [] ys once some = refl
+none_before name (x ∷ xs) ys once some =
+    let both = neither (list_any (is_same_name x) (xs ++ ys)) (any_twice is_same_name (xs ++ ys)) once in
+    ap (λ b. b || list_any (is_same_name name) xs) (none_with x name ys (first_part (is_same_name x) xs ys both.0).1 some) ∙ none_before name xs ys both.1 some
+
+none_like : (x name : Name) (ys : List Name) → is_name name x ≡ true → list_any (is_same_name x) ys ≡ false → list_any (is_same_name name) ys ≡ false
+none_like x name [] at none = refl
+none_like x name (y ∷ ys) at none =
+    let both = neither (is_same_name x y) (list_any (is_same_name x) ys) none in
+    ap (λ b. b || list_any (is_same_name name) ys) (subst (λ (k : Name). bytes_eq k (folded y) ≡ false) (same (folded x) (folded name) at) both.0) ∙ none_like x name ys at both.1
+
+none_behind : (name : Name) (xs ys : List Name) → any_twice is_same_name (xs ++ ys) ≡ false → list_any (is_name name) xs ≡ true → list_any (is_same_name name) ys ≡ false
+none_behind name [] ys once some = absurd (false≢true some)
+none_behind name (x ∷ xs) ys once some =
+    let both = neither (list_any (is_same_name x) (xs ++ ys)) (any_twice is_same_name (xs ++ ys)) once in by_test both.0 (none_behind name xs ys both.1) (is_name name x) refl some
+  where
+    by_test : list_any (is_same_name x) (xs ++ ys) ≡ false → (list_any (is_name name) xs ≡ true → list_any (is_same_name name) ys ≡ false) → (b : Bool) → is_name name x ≡ b → (b || list_any (is_name name) xs) ≡ true
+        → list_any (is_same_name name) ys ≡ false
+    by_test none rest true e some = none_like x name ys e (first_part (is_same_name x) xs ys none).1
+    by_test none rest false e some = rest some
+
+once_second : (xs ys : List Name) → any_twice is_same_name (xs ++ ys) ≡ false → any_twice is_same_name ys ≡ false
+once_second [] ys once = once
+once_second (x ∷ xs) ys once = once_second xs ys (neither (list_any (is_same_name x) (xs ++ ys)) (any_twice is_same_name (xs ++ ys)) once).1
+
+abbrev index_names_of : List Table → List Name
+index_names_of tables = flat_map (λ (t : Table). map (λ (i : ListedIndex). i.name) t.indexes) tables
+
+some_first : (p : Name → Bool) (xs ys : List Name) → list_any p xs ≡ true → list_any p (xs ++ ys) ≡ true
+some_first p [] ys some = absurd (false≢true some)
+some_first p (x ∷ xs) ys some = by_test (some_first p xs ys) (p x) some
+  where
+    by_test : (list_any p xs ≡ true → list_any p (xs ++ ys) ≡ true) → (b : Bool) → (b || list_any p xs) ≡ true → (b || list_any p (xs ++ ys)) ≡ true
+    by_test rest true e = refl
+    by_test rest false e = rest e
+
+some_second : (p : Name → Bool) (xs ys : List Name) → list_any p ys ≡ true → list_any p (xs ++ ys) ≡ true
+some_second p [] ys some = some
+some_second p (x ∷ xs) ys some = by_test (p x) (some_second p xs ys some)
+  where
+    by_test : (b : Bool) → list_any p (xs ++ ys) ≡ true → (b || list_any p (xs ++ ys)) ≡ true
+    by_test true e = refl
+    by_test false e = e
+
+named_index : (name : Name) (is : List ListedIndex) → list_any (λ (i : ListedIndex). is_same_name i.name name) is ≡ list_any (is_name name) (map (λ (i : ListedIndex). i.name) is)
+named_index name [] = refl
+named_index name (i ∷ is) = ap (λ b. is_same_name i.name name || b) (named_index name is)
+
+table_object_names : (rows_at : ℕ → List (ℤ × List Value)) (tables : List Table) → map (λ (o : Name × Object). o.0) (map (table_object rows_at) tables) ≡ table_names tables
+table_object_names rows_at [] = refl
+table_object_names rows_at (t ∷ ts) = ap (λ ns. t.name ∷ ns) (table_object_names rows_at ts)
+
+module _ (rows_at : ℕ → List (ℤ × List Value)) (name : Name) (before : List Table) (t : Table) (after : List Table) (some : has_index name t ≡ true)
+    (once : any_twice is_same_name (names_of (before ++ t ∷ after)) ≡ false) where
+  own_some : list_any (is_name name) (map (λ (i : ListedIndex). i.name) t.indexes) ≡ true
+  own_some = sym (named_index name t.indexes) ∙ some
+
+  parts : index_names_of (before ++ t ∷ after) ≡ index_names_of before ++ (map (λ (i : ListedIndex). i.name) t.indexes ++ index_names_of after)
+  parts = flat_map-append (λ (t : Table). map (λ (i : ListedIndex). i.name) t.indexes) before (t ∷ after)
+
+  indexes_once : any_twice is_same_name (index_names_of before ++ (map (λ (i : ListedIndex). i.name) t.indexes ++ index_names_of after)) ≡ false
+  indexes_once = ap (any_twice is_same_name) (sym parts) ∙ once_second (table_names (before ++ t ∷ after)) (index_names_of (before ++ t ∷ after)) once
+
+  here : list_any (is_name name) (map (λ (i : ListedIndex). i.name) t.indexes ++ index_names_of after) ≡ true
+  here = some_first (is_name name) (map (λ (i : ListedIndex). i.name) t.indexes) (index_names_of after) own_some
+
+  tables_stay : filter (stays name) (map (table_object rows_at) (before ++ t ∷ after)) ≡ map (table_object rows_at) (before ++ t ∷ after)
+  tables_stay = all_stay name (map (table_object rows_at) (before ++ t ∷ after)) (ap (list_any (is_same_name name)) (table_object_names rows_at (before ++ t ∷ after))
+      ∙ none_before name (table_names (before ++ t ∷ after)) (index_names_of (before ++ t ∷ after)) once
+      (ap (list_any (is_name name)) parts ∙ some_second (is_name name) (index_names_of before) (map (λ (i : ListedIndex). i.name) t.indexes ++ index_names_of after) here))
+
+  before_stay : filter (stays name) (flat_map index_objects before) ≡ flat_map index_objects before
+  before_stay = all_stay name (flat_map index_objects before) (ap (list_any (is_same_name name)) (index_names before)
+      ∙ none_before name (index_names_of before) (map (λ (i : ListedIndex). i.name) t.indexes ++ index_names_of after) indexes_once here)
+
+  after_stay : filter (stays name) (flat_map index_objects after) ≡ flat_map index_objects after
+  after_stay = all_stay name (flat_map index_objects after) (ap (list_any (is_same_name name)) (index_names after)
+      ∙ none_behind name (map (λ (i : ListedIndex). i.name) t.indexes) (index_names_of after)
+      (once_second (index_names_of before) (map (λ (i : ListedIndex). i.name) t.indexes ++ index_names_of after) indexes_once) own_some)
+
+  objects_less : filter (stays name) (objects_of rows_at (before ++ t ∷ after)) ≡ objects_of rows_at (before ++ without_index name t ∷ after)
+  objects_less =
+      ap (filter (stays name)) (objects_split rows_at before t after)
+      ∙ (filter-append (stays name) (listed_before rows_at before t after) (flat_map index_objects after)
+      ∙ (ap (λ os. filter (stays name) (listed_before rows_at before t after) ++ os) after_stay
+      ∙ (ap (λ os. os ++ flat_map index_objects after) (filter-append (stays name) (map (table_object rows_at) (before ++ t ∷ after)) (flat_map index_objects before ++ index_objects t))
+      ∙ (ap (λ os. (os ++ filter (stays name) (flat_map index_objects before ++ index_objects t)) ++ flat_map index_objects after) tables_stay
+      ∙ (ap (λ os. (map (table_object rows_at) (before ++ t ∷ after) ++ os) ++ flat_map index_objects after) (filter-append (stays name) (flat_map index_objects before) (index_objects t))
+      ∙ (ap (λ os. (map (table_object rows_at) (before ++ t ∷ after) ++ (os ++ filter (stays name) (index_objects t))) ++ flat_map index_objects after) before_stay
+      ∙ (ap (λ os. (map (table_object rows_at) (before ++ t ∷ after) ++ (flat_map index_objects before ++ os)) ++ flat_map index_objects after) (others_stay name t t.indexes)
+      ∙ (ap (λ os. (os ++ (flat_map index_objects before ++ index_objects (without_index name t))) ++ flat_map index_objects after) (sym (same_tables rows_at before t (without_index name t).indexes after))
+      ∙ sym (objects_split rows_at before (without_index name t) after)))))))))
+
+kept_alike : (name : Name) (found listed : Option (Name × Object)) → option_map (λ (o : Name × Object). o.1) found ≡ option_map (λ (o : Name × Object). o.1) listed
+    → ((o x : Name × Object) → found ≡ Some o → listed ≡ Some x → folded o.0 ≡ folded x.0)
+    → option_map (λ (o : Name × Object). o.1) (kept (stays name) found) ≡ option_map (λ (o : Name × Object). o.1) (kept (stays name) listed)
+kept_alike name None None e names = refl
+kept_alike name None (Some x) e names = absurd cc
+kept_alike name (Some o) None e names = absurd cc
+kept_alike name (Some o) (Some x) e names = by_test (stays name x) (ap (λ (k : Name). not (bytes_eq (folded name) k)) (names o x refl refl)) cc
+  where
+    by_test : (b : Bool) → stays name o ≡ b → o.1 ≡ x.1 → option_map (λ (y : Name × Object). y.1) (cond (stays name o) (Some o) None) ≡ option_map (λ (y : Name × Object). y.1) (cond b (Some x) None)
+    by_test true e is = ap (λ b. option_map (λ (y : Name × Object). y.1) (cond b (Some o) None)) e ∙ ap (λ y. Some y) is
+    by_test false e is = ap (λ b. option_map (λ (y : Name × Object). y.1) (cond b (Some o) None)) e
+
+pub lists_other_indexes : ListsOtherIndexes
+lists_other_indexes rows_at tables db name t is found = record {
+  lists = λ q.
+      let entry = entry_at (folded q) db in
+      let listed = list.find (has_name q) (objects_of rows_at tables) in
+      found_entry (folded q) (without_object name db)
+      ∙ (ap (option_map (λ (o : Name × Object). o.1)) (found_kept (stays name) (λ (e : Name × Object). eq_by_cmp name_order (folded q) e.0) db (keyed_once (folded q) db sorted))
+      ∙ (kept_alike name entry listed (sym (found_entry (folded q) db) ∙ is.lists q)
+      (λ o x at there. (ap folded (sym (tells_apart exact_bytes (folded q) o.0 (found_holds (λ (e : Name × Object). eq_by_cmp name_order (folded q) e.0) db o at)))
+      ∙ (folded_twice q ∙ sym (same (folded x.0) (folded q) (found_holds (has_name q) (objects_of rows_at tables) x there)))))
+      ∙ (ap (option_map (λ (o : Name × Object). o.1)) (sym (found_kept (stays name) (has_name q) (objects_of rows_at tables) (once_named q (objects_of rows_at tables) once)))
+      ∙ ap (named_among q) left)));
+  only = only_still (stays name) db is.only;
+  named = record {
+    rising = rising (without_object name db) (sorted_still (stays name) db sorted);
+    each_folded = folded_still (stays name) db is.named.each_folded;
+  };
+  once = ap not (ap (any_twice is_same_name) (sym (names_are rows_at (with_replaced (without_index name t) tables)) ∙ ap (map (λ (o : Name × Object). o.0)) (sym left)) ∙ once_still (stays name) (objects_of rows_at tables) once);
+}
+  where
+    sorted : is_sorted name_order db ≡ true
+    sorted = in_order db is.named.rising
+
+    names_once : any_twice is_same_name (names_of tables) ≡ false
+    names_once = is_no (any_twice is_same_name (names_of tables)) is.once
+
+    once : any_twice is_same_name (map (λ (o : Name × Object). o.0) (objects_of rows_at tables)) ≡ false
+    once = ap (any_twice is_same_name) (names_are rows_at tables) ∙ names_once
+
+    split : IsSplit t tables
+    split = split_at (has_index name) tables t (once_first (table_names tables) _ names_once) found
+
+    left : filter (stays name) (objects_of rows_at tables) ≡ objects_of rows_at (with_replaced (without_index name t) tables)
+    left =
+        ap (λ (ts : List Table). filter (stays name) (objects_of rows_at ts)) split.parts
+        ∙ (objects_less rows_at name split.before t split.after (found_holds (has_index name) tables t found)
+        (subst (λ (ts : List Table). any_twice is_same_name (names_of ts) ≡ false) split.parts names_once)
+        ∙ ap (objects_of rows_at) (sym (split.replaced (without_index name t) refl)))
