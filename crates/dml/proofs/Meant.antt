@@ -18,7 +18,7 @@ use Rattle.rowprog.specs.Rows.{TableRow}
 use Rattle.rowprog.specs.Sources.{LoadsRows, as_source}
 use Rattle.rowprog.specs.Trees.{AnswersOrFails, HasRows}
 use Rattle.dml.specs.Choosing.{is_chosen, tested}
-use Rattle.dml.specs.Meaning.{FindsMeant, as_row, meant}
+use Rattle.dml.specs.Meaning.{FindsMeant, as_row, chosen_or_all}
 use Rattle.dml.specs.NewRows.{row_of}
 use Rattle.dml.specs.Setting.{rows_meant}
 use Rattle.dml.proofs.SetRows.{map_twice}
@@ -62,7 +62,7 @@ all_rows : (rows : List TableRow) → filter (λ row. meant_by None row) rows �
 all_rows [] = refl
 all_rows (row ∷ rows) = ap (λ (rs : List TableRow). row ∷ rs) (all_rows rows)
 
-as_meant : (c : Option Term) (rows : List TableRow) → (rows_meant c [] (map as_source rows) then as_table) ≡ meant c rows
+as_meant : (c : Option Term) (rows : List TableRow) → (rows_meant c [] (map as_source rows) then as_table) ≡ chosen_or_all c rows
 as_meant None rows = ap (λ (a : Answer (List Row)). a then as_table) (meant_as None [] rows) ∙ ap (λ (rs : List TableRow). Ok rs) (back (filter (meant_by None) rows) ∙ all_rows rows)
 as_meant (Some c) rows = ap (λ (a : Answer (List Row)). a then as_table) (meant_as (Some c) [] rows) ∙ by (all_answers (map (tested c) rows))
   where
@@ -79,7 +79,7 @@ module _ (pages : PageMap) (size : ℕ) (table : BoundSource) (c : Option Term) 
       → AnswersBy (λ them. map row_of them.items) (rows_meant c [] found then λ them. Ok (map as_row them)) result → FindsMeant pages size table c result
   meant_found found result loads answers rows whole has = by result (subst (λ (rs : List Row). AnswersBy (λ them. map row_of them.items) (rows_meant c [] rs then as_table) result) (loads rows whole has) answers)
     where
-      by : (r : Result (Vec stored.TableRow) Fault) → AnswersBy (λ them. map row_of them.items) (rows_meant c [] (map as_source rows) then as_table) r → AnswersOrFails (λ them. map row_of them.items) (meant c rows) r
+      by : (r : Result (Vec stored.TableRow) Fault) → AnswersBy (λ them. map row_of them.items) (rows_meant c [] (map as_source rows) then as_table) r → AnswersOrFails (λ them. map row_of them.items) (chosen_or_all c rows) r
       by (Ok them) e = sym (as_meant c rows) ∙ e
       by (Err f) (inl memory) = inl (inl memory)
       by (Err f) (inr e) = inr (sym (as_meant c rows) ∙ e)

@@ -15,9 +15,9 @@ use Rattle.dml.specs.NewRows.{row_of}
 use Rattle.dml.specs.Setting.{rowid_number}
 
 -- the rows for which the condition is true, or all where there is none; or the first refusal
-abbrev pub meant : Option Term → List TableRow → Answer (List TableRow)
-meant None rows = Ok rows
-meant (Some condition) rows = chosen condition rows
+abbrev pub chosen_or_all : Option Term → List TableRow → Answer (List TableRow)
+chosen_or_all None rows = Ok rows
+chosen_or_all (Some condition) rows = chosen condition rows
 
 -- a source's row as a table has it
 abbrev pub as_row : Row → TableRow
@@ -26,4 +26,4 @@ as_row row = (rowid_number row.rowid, row.values)
 -- Of a tree of rows these are the rows that are meant; or the condition is refused for a row, memory was short, or a disk's call failed.
 abbrev pub FindsMeant : PageMap → ℕ → BoundSource → Option Term → Result (Vec stored.TableRow) Fault → Type 0
 FindsMeant pages size table condition result = (rows : List TableRow) → AreWhole size pages → HasRows pages size table.root table.width rows
-    → AnswersOrFails (λ them. map row_of them.items) (meant condition rows) result
+    → AnswersOrFails (λ them. map row_of them.items) (chosen_or_all condition rows) result

@@ -18,12 +18,12 @@ use Rattle.bind.specs.declared.queries.BoundSource.{BoundSource}
 use Rattle.terms.specs.Terms.{Term}
 use Rattle.rowprog.specs.Rows.{TableRow}
 use Rattle.dml.specs.Choosing.{chosen, is_chosen, rows_left, tested}
-use Rattle.dml.specs.Meaning.{FindsMeant, meant}
+use Rattle.dml.specs.Meaning.{FindsMeant, chosen_or_all}
 use Rattle.dml.specs.Taking.{AreTakenOut, TakesRows}
 use Rattle.dml.proofs.Taken.{fit_still}
 use Rattle.indexes.specs.Entries.{AreApart}
 use Rattle.indexes.specs.Keeping.{row_in}
-use Rattle.rowstore.specs.Changing.{AreDeleted, DeletesRows, HoldRows}
+use Rattle.rowstore.specs.Changing.{AreDeleted, DeletesInTrees, HoldsFitRows, IsRefusedDelete}
 use Rattle.rowstore.specs.Turning.{ClearsIndexes, HaveEntries, HaveNow, TakesFromIndexes}
 use Rattle.rowstore.proofs.Among.{rows_tree}
 use Rattle.rowstore.proofs.Owned.{RowsStand, fit_apart, has_rows, indexes_stand, rows_among, same_entries, table_holds}
@@ -33,13 +33,13 @@ use Rattle.rowstore.proofs.Sides.{no_index}
 -- ---- all rows
 
 module _ (old mid : PageMap) (size : ℕ) (table : Table) where
-  pub none_cleared : (fault : Fault) (result : Result ⊤ Fault) → IsErrAnd result (λ e. e ≡ fault) → ClearsTree old mid size table.root (Err fault) → DeletesRows old mid size table None result
+  pub none_cleared : (fault : Fault) (result : Result ⊤ Fault) → IsErrAnd result (λ e. e ≡ fault) → ClearsTree old mid size table.root (Err fault) → DeletesInTrees old mid size table None result
   none_cleared fault (Ok done) same clears = absurd same
   none_cleared fault (Err e) same clears = λ schema before after rows sized is_root among fit. (
       let s = rows_among old size schema before table rows after among sized is_root in
       subst IsOutsideOrFull (sym same) (inl (clears s.entries s.used s.free s.stands)))
 
-  pub all_deleted : (new : PageMap) (result : Result ⊤ Fault) → ClearsTree old mid size table.root (Ok tt) → ClearsIndexes mid new size table.indexes result → DeletesRows old new size table None result
+  pub all_deleted : (new : PageMap) (result : Result ⊤ Fault) → ClearsTree old mid size table.root (Ok tt) → ClearsIndexes mid new size table.indexes result → DeletesInTrees old new size table None result
   all_deleted new result clears more schema before after rows sized is_root among fit =
       by result (more rows schema (before ++ rows_tree table.root [] (table.root ∷ []) ∷ []) after sized is_root (indexes_stand old mid size schema before table rows after s [] now))
     where
@@ -52,7 +52,7 @@ module _ (old mid : PageMap) (size : ℕ) (table : Table) where
           record { now_used = table.root ∷ []; now_free = cleared.now_free; stands = cleared.stands; moves = cleared.moves; header = cleared.header }
 
       by : (r : Result ⊤ Fault) → MatchResult r (λ done. HaveNow mid new size schema (before ++ rows_tree table.root [] (table.root ∷ []) ∷ []) table.indexes [] after) IsOutsideOrFull
-          → MatchResult r (λ done. HoldRows old new size schema before table [] after) IsOutsideOrFull
+          → MatchResult r (λ done. HoldsFitRows old new size schema before table [] after) IsOutsideOrFull
       by (Ok done) have = record { holds = table_holds old mid size schema before table rows after s [] now new [] tt have; fit = refl }
       by (Err fault) why = why
 
@@ -84,38 +84,32 @@ not_filtered : (p q : TableRow → Bool) (rows : List TableRow) (r : Refusal) (a
 not_filtered p q rows r (Ok tests) e = absurd (no_rows r (filter p rows) e)
 not_filtered p q rows r (Err s) e = ap (λ (x : Refusal). Err x) (same_refusal s r e)
 
-abbrev source : Table → BoundSource
-source table = record { root = table.root; width = length table.columns }
-
 -- as a query reads it
 pub same_source : (table : Table) (read : BoundSource) → read.root ≡ table.root → read.width ≡ length table.columns → read ≡ record { root = table.root; width = length table.columns }
 same_source table read root_is width_is = λ i. record { root = root_is i; width = width_is i }
 
 module _ (old mid : PageMap) (size : ℕ) (table : Table) (c : Term) where
-  abbrev IsRefused : List TableRow → Fault → Type 0
-  IsRefused rows fault = IsOutsideOrFull fault ⊎ (rows_left c rows ≡ Err (refusal_of fault))
-
   abbrev reading : BoundSource
   reading = record { root = table.root; width = length table.columns }
 
   -- the rows that go aren't read
-  pub none_read : (condition : Option Term) → condition ≡ Some c → (fault : Fault) (result : Result ⊤ Fault) → IsErrAnd result (λ e. e ≡ fault) → FindsMeant old size reading condition (Err fault) → DeletesRows old mid size table (Some c) result
+  pub none_read : (condition : Option Term) → condition ≡ Some c → (fault : Fault) (result : Result ⊤ Fault) → IsErrAnd result (λ e. e ≡ fault) → FindsMeant old size reading condition (Err fault) → DeletesInTrees old mid size table (Some c) result
   none_read condition is fault (Ok done) same finds = absurd same
   none_read condition is fault (Err e) same finds = λ schema before after rows sized is_root among fit. (
       let s = rows_among old size schema before table rows after among sized is_root in
-      subst (λ (f : Fault). IsRefused rows f) (sym same)
-      (by rows (subst (λ (o : Option Term). IsOutside fault ⊎ (meant o rows ≡ Err (refusal_of fault))) is (finds rows s.stands.free_are.whole (has_rows old size schema before table rows after s)))))
+      subst (λ (f : Fault). IsRefusedDelete c rows f) (sym same)
+      (by rows (subst (λ (o : Option Term). IsOutside fault ⊎ (chosen_or_all o rows ≡ Err (refusal_of fault))) is (finds rows s.stands.free_are.whole (has_rows old size schema before table rows after s)))))
     where
-      by : (rows : List TableRow) → IsOutside fault ⊎ (chosen c rows ≡ Err (refusal_of fault)) → IsRefused rows fault
+      by : (rows : List TableRow) → IsOutside fault ⊎ (chosen c rows ≡ Err (refusal_of fault)) → IsRefusedDelete c rows fault
       by rows (inl outside) = inl (inl outside)
       by rows (inr e) = inr (not_filtered (is_chosen c) (stays c) rows (refusal_of fault) (all_answers (map (tested c) rows)) e)
 
   -- no row is taken
-  pub none_taken : (fault : Fault) (result : Result ⊤ Fault) → IsErrAnd result (λ e. e ≡ fault) → TakesRows old mid size reading c (Err fault) → DeletesRows old mid size table (Some c) result
+  pub none_taken : (fault : Fault) (result : Result ⊤ Fault) → IsErrAnd result (λ e. e ≡ fault) → TakesRows old mid size reading c (Err fault) → DeletesInTrees old mid size table (Some c) result
   none_taken fault (Ok done) same takes = absurd same
   none_taken fault (Err e) same takes = λ schema before after rows sized is_root among fit. (
       let s = rows_among old size schema before table rows after among sized is_root in
-      subst (λ (f : Fault). IsRefused rows f) (sym same) (takes rows s.entries s.used s.free s.stands s.each))
+      subst (λ (f : Fault). IsRefusedDelete c rows f) (sym same) (takes rows s.entries s.used s.free s.stands s.each))
 
   -- rows are taken; then the indexes follow
   module _ (takes : TakesRows old mid size reading c (Ok tt)) (schema : Owner) (before after : List Owner) (rows : List TableRow) (s : RowsStand old size schema before table rows after)
@@ -136,7 +130,7 @@ module _ (old mid : PageMap) (size : ℕ) (table : Table) (c : Term) where
     stand = indexes_stand old mid size schema before table rows after s taken.entries taken.becomes
 
     done_as : (new : PageMap) (r : Result ⊤ Fault) → MatchResult r (λ done. HaveNow mid new size schema Before table.indexes taken.left after) IsOutsideOrFull
-        → MatchResult r (λ done. AreDeleted old new size schema before table c rows after) (IsRefused rows)
+        → MatchResult r (λ done. AreDeleted old new size schema before table c rows after) (IsRefusedDelete c rows)
     done_as new (Ok done) have = record {
       left = taken.left;
       answer = taken.answer;
@@ -145,7 +139,7 @@ module _ (old mid : PageMap) (size : ℕ) (table : Table) (c : Term) where
     done_as new (Err fault) why = inl why
 
   -- of a table without indexes
-  pub bare_taken : length table.indexes ≡ 0 → (result : Result ⊤ Fault) → TakesRows old mid size reading c result → DeletesRows old mid size table (Some c) result
+  pub bare_taken : length table.indexes ≡ 0 → (result : Result ⊤ Fault) → TakesRows old mid size reading c result → DeletesInTrees old mid size table (Some c) result
   bare_taken bare (Ok done) takes = λ schema before after rows sized is_root among fit.
       (let s = rows_among old size schema before table rows after among sized is_root in
       done_as takes schema before after rows s fit mid (Ok tt)
@@ -154,7 +148,7 @@ module _ (old mid : PageMap) (size : ℕ) (table : Table) (c : Term) where
 
   -- of a table with indexes
   pub indexed_taken : (condition : Option Term) → condition ≡ Some c → (new : PageMap) (gone : Vec stored.TableRow) (result : Result ⊤ Fault) → FindsMeant old size reading condition (Ok gone) → TakesRows old mid size reading c (Ok tt)
-      → TakesFromIndexes mid new size table.indexes (map row_in gone.items) result → DeletesRows old new size table (Some c) result
+      → TakesFromIndexes mid new size table.indexes (map row_in gone.items) result → DeletesInTrees old new size table (Some c) result
   indexed_taken condition is new gone result finds takes more schema before after rows sized is_root among fit =
       done_as takes schema before after rows s fit new result (subst (λ (l : List TableRow). MatchResult result (λ done. HaveNow mid new size schema front table.indexes l after) IsOutsideOrFull) (left_is takes schema before after rows s fit)
       (turns (filter (stays c) rows) (shuffled_apart (parted (is_chosen c) rows) apart) schema front after sized is_root
@@ -171,7 +165,7 @@ module _ (old mid : PageMap) (size : ℕ) (table : Table) (c : Term) where
 
       gone_is : filter (is_chosen c) rows ≡ map row_in gone.items
       gone_is = filtered (is_chosen c) rows (map row_in gone.items) (all_answers (map (tested c) rows))
-          (subst (λ (o : Option Term). meant o rows ≡ Ok (map row_in gone.items)) is (finds rows s.stands.free_are.whole (has_rows old size schema before table rows after s)))
+          (subst (λ (o : Option Term). chosen_or_all o rows ≡ Ok (map row_in gone.items)) is (finds rows s.stands.free_are.whole (has_rows old size schema before table rows after s)))
 
       turns : TakesFromIndexes mid new size table.indexes (filter (is_chosen c) rows) result
       turns = subst (λ (rs : List TableRow). TakesFromIndexes mid new size table.indexes rs result) (sym gone_is) more

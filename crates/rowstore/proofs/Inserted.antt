@@ -17,7 +17,7 @@ use Rattle.dml.specs.Inserting.{IsRefusedAs, last_rowid, rows_added}
 use Rattle.dml.specs.Trees.{ArePutIn, IsPutRefusal, PutsRows, TellsAdded}
 use Rattle.indexes.specs.Entries.{AreApart}
 use Rattle.indexes.specs.Keeping.{row_in}
-use Rattle.rowstore.specs.Changing.{AreInserted, InsertsRows, InsertsTooLong}
+use Rattle.rowstore.specs.Changing.{AreInserted, InsertsInTrees, InsertsTooLong, IsRefusedInsert}
 use Rattle.rowstore.specs.Turning.{AddsToIndexes, AreEntriesStorable, HaveNow}
 use Rattle.rowstore.proofs.Among.{rows_tree}
 use Rattle.rowstore.proofs.Owned.{RowsStand, fit_apart, has_rows, indexes_stand, rows_among, table_holds}
@@ -29,24 +29,21 @@ same_rows : (a b : List TableRow) → answer_of a ≡ answer_of b → a ≡ b
 same_rows a b e = cc
 
 module _ (old mid : PageMap) (size : ℕ) (table : Table) (places : List (Option ℕ)) (given : List (List Value)) where
-  abbrev IsRefused : List TableRow → Fault → Type 0
-  IsRefused rows fault = IsOutsideOrFull fault ⊎ (IsRefusedAs (rows_added table.columns places (last_rowid rows) given) fault ⊎ InsertsTooLong table places given rows fault)
-
   -- no row was put
-  pub none_put : (fault : Fault) (result : Result ⊤ Fault) → IsErrAnd result (λ e. e ≡ fault) → PutsRows {X = ⊤} old mid size table.root table.columns places given (Err fault) → InsertsRows old mid size table places given result
+  pub none_put : (fault : Fault) (result : Result ⊤ Fault) → IsErrAnd result (λ e. e ≡ fault) → PutsRows {X = ⊤} old mid size table.root table.columns places given (Err fault) → InsertsInTrees old mid size table places given result
   none_put fault (Ok done) same puts = absurd same
   none_put fault (Err e) same puts = λ schema before after rows sized is_root among fit. (
       let s = rows_among old size schema before table rows after among sized is_root in
-      subst (λ (f : Fault). IsRefused rows f) (sym same) (by rows (puts rows s.entries s.used s.free s.stands s.each)))
+      subst (λ (f : Fault). IsRefusedInsert table places given rows f) (sym same) (by rows (puts rows s.entries s.used s.free s.stands s.each)))
     where
-      by : (rows : List TableRow) → IsPutRefusal table.columns places given rows fault → IsRefused rows fault
+      by : (rows : List TableRow) → IsPutRefusal table.columns places given rows fault → IsRefusedInsert table places given rows fault
       by rows (inl outside) = inl outside
       by rows (inr (inl as_rows)) = inr (inl as_rows)
       by rows (inr (inr long)) = inr (inr (record { is = long.is; added = long.added; answer = long.answer; long = λ both. long.long both.0 }))
 
   -- rows were put, and their entries are next
   pub rows_inserted : (new : PageMap) (them : Vec stored.TableRow) (result : Result ⊤ Fault) → PutsRows {X = ⊤} old mid size table.root table.columns places given (Ok tt)
-      → TellsAdded old size table.root table.columns places given (Ok them) → AddsToIndexes mid new size table.indexes (map row_in them.items) result → InsertsRows old new size table places given result
+      → TellsAdded old size table.root table.columns places given (Ok them) → AddsToIndexes mid new size table.indexes (map row_in them.items) result → InsertsInTrees old new size table places given result
   rows_inserted new them result puts tells adds schema before after rows sized is_root among fit =
       by result (subst (λ (more : List TableRow). AddsToIndexes mid new size table.indexes more result) (sym same) adds rows apart schema (before ++ rows_tree table.root put.entries put.becomes.now_used ∷ []) after sized is_root
       (indexes_stand old mid size schema before table rows after s put.entries put.becomes))
@@ -68,7 +65,7 @@ module _ (old mid : PageMap) (size : ℕ) (table : Table) (places : List (Option
 
       by : (r : Result ⊤ Fault) → MatchResult r (λ done. HaveNow mid new size schema (before ++ rows_tree table.root put.entries put.becomes.now_used ∷ []) table.indexes (rows ++ put.added) after)
           (λ fault. IsOutsideOrFull fault ⊎ ((fault ≡ TooLong) × (AreEntriesStorable table.indexes put.added → ⊥)))
-          → MatchResult r (λ done. AreInserted old new size schema before table places given rows after) (IsRefused rows)
+          → MatchResult r (λ done. AreInserted old new size schema before table places given rows after) (IsRefusedInsert table places given rows)
       by (Ok done) have = record {
         added = put.added;
         answer = put.answer;

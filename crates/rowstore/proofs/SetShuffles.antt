@@ -6,7 +6,7 @@ use Rattle.terms.specs.Terms.{Term}
 use Rattle.rowprog.specs.Rows.{TableRow}
 use Rattle.rowprog.specs.Sources.{as_source}
 use Rattle.dml.specs.Choosing.{is_chosen, tested}
-use Rattle.dml.specs.Meaning.{meant}
+use Rattle.dml.specs.Meaning.{chosen_or_all}
 use Rattle.dml.specs.Setting.{row_set, rows_changed, rows_meant_set, rows_set}
 use Rattle.dml.proofs.Replaced.{made}
 use Rattle.dml.proofs.SetTrees.{changed_known, meant_by}
@@ -81,7 +81,7 @@ all_rows : (rows : List TableRow) → filter (λ row. meant_by None row) rows �
 all_rows [] = refl
 all_rows (row ∷ rows) = ap (λ (rs : List TableRow). row ∷ rs) (all_rows rows)
 
-pub meant_are : (c : Option Term) (rows gone : List TableRow) → meant c rows ≡ Ok gone → filter (meant_by c) rows ≡ gone
+pub meant_are : (c : Option Term) (rows gone : List TableRow) → chosen_or_all c rows ≡ Ok gone → filter (meant_by c) rows ≡ gone
 meant_are None rows gone e = all_rows rows ∙ same_rows rows gone e
 meant_are (Some c) rows gone e = by (all_answers (map (tested c) rows)) e
   where
@@ -89,7 +89,7 @@ meant_are (Some c) rows gone e = by (all_answers (map (tested c) rows)) e
     by (Ok tests) h = same_rows (filter (is_chosen c) rows) gone h
     by (Err r) h = absurd (not_given r gone h)
 
-pub meant_refused : (columns : List Column) (sets : List (ℕ × Term)) (c : Option Term) (rows : List TableRow) (r : Refusal) → meant c rows ≡ Err r → rows_set columns sets c rows ≡ Err r
+pub meant_refused : (columns : List Column) (sets : List (ℕ × Term)) (c : Option Term) (rows : List TableRow) (r : Refusal) → chosen_or_all c rows ≡ Err r → rows_set columns sets c rows ≡ Err r
 meant_refused columns sets None rows r e = absurd (no_rows_refused rows r e)
 meant_refused columns sets (Some c) rows r e = by (all_answers (map (tested c) rows)) e
   where

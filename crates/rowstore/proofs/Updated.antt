@@ -19,13 +19,13 @@ use Rattle.bind.specs.declared.queries.BoundSource.{BoundSource}
 use Rattle.terms.specs.Terms.{Term}
 use Rattle.record.specs.Writing.{AreStorable}
 use Rattle.rowprog.specs.Rows.{TableRow}
-use Rattle.dml.specs.Meaning.{FindsMeant, meant}
+use Rattle.dml.specs.Meaning.{FindsMeant, chosen_or_all}
 use Rattle.dml.specs.Setting.{rows_set}
 use Rattle.dml.specs.Updating.{AreSetIn, IsSetRefusal, SetsRows, TellsChanged}
 use Rattle.dml.proofs.SetTrees.{meant_by}
 use Rattle.indexes.specs.Entries.{AreApart, indexed}
 use Rattle.indexes.specs.Keeping.{row_in}
-use Rattle.rowstore.specs.Changing.{AreUpdated, UpdatesRows, UpdatesTooLong}
+use Rattle.rowstore.specs.Changing.{AreUpdated, IsRefusedUpdate, UpdatesInTrees, UpdatesTooLong}
 use Rattle.rowstore.specs.Trees.{columns_of}
 use Rattle.rowstore.specs.Turning.{AddsToIndexes, AreEntriesStorable, HaveEntries, HaveNow, TakesFromIndexes}
 use Rattle.rowstore.proofs.Among.{keeps_then, rows_tree}
@@ -40,31 +40,28 @@ some_storable [] shuffle all = tt
 some_storable (index ∷ indexes) shuffle all = (all_come (λ row. AreStorable (indexed (columns_of index) row)) shuffle all.0, some_storable indexes shuffle all.1)
 
 module _ (old mid : PageMap) (size : ℕ) (table : Table) (c : Option Term) (sets : List (ℕ × Term)) where
-  abbrev IsRefused : List TableRow → Fault → Type 0
-  IsRefused rows fault = IsOutsideOrFull fault ⊎ ((rows_set table.columns sets c rows ≡ Err (refusal_of fault)) ⊎ UpdatesTooLong table c sets rows fault)
-
   abbrev reading : BoundSource
   reading = record { root = table.root; width = length table.columns }
 
   -- the rows that are meant aren't read
-  pub none_read : (fault : Fault) (result : Result ⊤ Fault) → IsErrAnd result (λ e. e ≡ fault) → FindsMeant old size reading c (Err fault) → UpdatesRows old mid size table c sets result
+  pub none_read : (fault : Fault) (result : Result ⊤ Fault) → IsErrAnd result (λ e. e ≡ fault) → FindsMeant old size reading c (Err fault) → UpdatesInTrees old mid size table c sets result
   none_read fault (Ok done) same finds = absurd same
   none_read fault (Err e) same finds = λ schema before after rows sized is_root among fit. (
       let s = rows_among old size schema before table rows after among sized is_root in
-      subst (λ (f : Fault). IsRefused rows f) (sym same) (by rows (finds rows s.stands.free_are.whole (has_rows old size schema before table rows after s))))
+      subst (λ (f : Fault). IsRefusedUpdate table c sets rows f) (sym same) (by rows (finds rows s.stands.free_are.whole (has_rows old size schema before table rows after s))))
     where
-      by : (rows : List TableRow) → IsOutside fault ⊎ (meant c rows ≡ Err (refusal_of fault)) → IsRefused rows fault
+      by : (rows : List TableRow) → IsOutside fault ⊎ (chosen_or_all c rows ≡ Err (refusal_of fault)) → IsRefusedUpdate table c sets rows fault
       by rows (inl outside) = inl (inl outside)
       by rows (inr e) = inr (inl (meant_refused table.columns sets c rows (refusal_of fault) e))
 
   -- no row is set
-  pub none_set : (fault : Fault) (result : Result ⊤ Fault) → IsErrAnd result (λ e. e ≡ fault) → SetsRows {X = ⊤} old mid size table.root table.columns sets c (Err fault) → UpdatesRows old mid size table c sets result
+  pub none_set : (fault : Fault) (result : Result ⊤ Fault) → IsErrAnd result (λ e. e ≡ fault) → SetsRows {X = ⊤} old mid size table.root table.columns sets c (Err fault) → UpdatesInTrees old mid size table c sets result
   none_set fault (Ok done) same sets_so = absurd same
   none_set fault (Err e) same sets_so = λ schema before after rows sized is_root among fit. (
       let s = rows_among old size schema before table rows after among sized is_root in
-      subst (λ (f : Fault). IsRefused rows f) (sym same) (by rows (sets_so rows s.entries s.used s.free s.stands s.each)))
+      subst (λ (f : Fault). IsRefusedUpdate table c sets rows f) (sym same) (by rows (sets_so rows s.entries s.used s.free s.stands s.each)))
     where
-      by : (rows : List TableRow) → IsSetRefusal table.columns sets c rows fault → IsRefused rows fault
+      by : (rows : List TableRow) → IsSetRefusal table.columns sets c rows fault → IsRefusedUpdate table c sets rows fault
       by rows (inl outside) = inl outside
       by rows (inr (inl e)) = inr (inl e)
       by rows (inr (inr long)) = inr (inr (record { is = long.is; now = long.now; answer = long.answer; long = λ both. long.long both.0 }))
@@ -92,7 +89,7 @@ module _ (old mid : PageMap) (size : ℕ) (table : Table) (c : Option Term) (set
     }
 
   -- of a table without indexes
-  pub bare_set : length table.indexes ≡ 0 → SetsRows {X = ⊤} old mid size table.root table.columns sets c (Ok tt) → UpdatesRows old mid size table c sets (Ok tt)
+  pub bare_set : length table.indexes ≡ 0 → SetsRows {X = ⊤} old mid size table.root table.columns sets c (Ok tt) → UpdatesInTrees old mid size table c sets (Ok tt)
   bare_set bare sets_so schema before after rows sized is_root among fit =
       let s = rows_among old size schema before table rows after among sized is_root in
       updated sets_so schema before after rows s fit mid
@@ -133,12 +130,12 @@ module _ (old mid : PageMap) (size : ℕ) (table : Table) (c : Option Term) (set
 
       -- the new ones are in, or the call is refused
       and_in : (new : PageMap) (result : Result ⊤ Fault) → HaveNow mid next size schema front table.indexes stay after → AddsToIndexes next new size table.indexes (map row_in come.items) result
-          → MatchResult result (λ done. AreUpdated old new size schema before table c sets rows after) (IsRefused rows)
+          → MatchResult result (λ done. AreUpdated old new size schema before table c sets rows after) (IsRefusedUpdate table c sets rows)
       and_in new result was adds = by result (adds stay (shuffled_apart came now_apart) schema front after sized is_root was.have)
         where
           by : (r : Result ⊤ Fault) → MatchResult r (λ done. HaveNow next new size schema front table.indexes (stay ++ map row_in come.items) after)
               (λ fault. IsOutsideOrFull fault ⊎ ((fault ≡ TooLong) × (AreEntriesStorable table.indexes (map row_in come.items) → ⊥)))
-              → MatchResult r (λ done. AreUpdated old new size schema before table c sets rows after) (IsRefused rows)
+              → MatchResult r (λ done. AreUpdated old new size schema before table c sets rows after) (IsRefusedUpdate table c sets rows)
           by (Ok done) have = updated sets_so schema before after rows s fit new (record {
             have = same_entries new size schema front table.indexes (stay ++ map row_in come.items) now after (λ columns. sym (shuffled_entries columns came now_apart)) have.have;
             header = keeps_then mid next new was.header have.header;
@@ -153,14 +150,14 @@ module _ (old mid : PageMap) (size : ℕ) (table : Table) (c : Option Term) (set
           }))
 
     -- the old entries aren't taken out
-    pub none_out : (fault : Fault) (result : Result ⊤ Fault) → IsErrAnd result (λ e. e ≡ fault) → TakesFromIndexes mid next size table.indexes (map row_in gone.items) (Err fault) → UpdatesRows old next size table c sets result
+    pub none_out : (fault : Fault) (result : Result ⊤ Fault) → IsErrAnd result (λ e. e ≡ fault) → TakesFromIndexes mid next size table.indexes (map row_in gone.items) (Err fault) → UpdatesInTrees old next size table c sets result
     none_out fault (Ok done) same takes = absurd same
     none_out fault (Err e) same takes = λ schema before after rows sized is_root among fit. (
         let s = rows_among old size schema before table rows after among sized is_root in
         inl (subst IsOutsideOrFull (sym same) (out schema before after rows sized is_root s fit (Err fault) takes)))
 
     pub indexed_set : (new : PageMap) (result : Result ⊤ Fault) → TakesFromIndexes mid next size table.indexes (map row_in gone.items) (Ok tt) → AddsToIndexes next new size table.indexes (map row_in come.items) result
-        → UpdatesRows old new size table c sets result
+        → UpdatesInTrees old new size table c sets result
     indexed_set new result takes adds schema before after rows sized is_root among fit =
         let s = rows_among old size schema before table rows after among sized is_root in
         and_in schema before after rows sized is_root s fit new result (out schema before after rows sized is_root s fit (Ok tt) takes) adds

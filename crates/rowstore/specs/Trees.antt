@@ -34,14 +34,16 @@ AreTreesOf table rows (owner ∷ others) = IsRowsTree table rows owner × Pairwi
 
 -- After the schema table's tree and some others stand those of a table with these rows, and then others. All share the pages of the file
 -- with the freelist ("Pages": each page has one use).
-pub record AreAmong (map : PageMap) (size : ℕ) (schema : Owner) (before : List Owner) (table : Table) (rows : List TableRow) (after : List Owner) : Type 0 where
+pub record AreAmong (map : PageMap) (size : ℕ) (schema : Owner) (before : List Owner) (table : Table) (rows : List TableRow)
+    (after : List Owner) : Type 0 where
   pub mine : List Owner
   pub are : AreTreesOf table rows mine
   pub free : List ℕ
   pub shared : AreShared map size (schema ∷ before ++ (mine ++ after)) free
 
 -- So they stand now. The header on page 1 says what it said, except for the freelist, and there are no fewer pages ("The Database Header").
-pub record HoldsNow (old new : PageMap) (size : ℕ) (schema : Owner) (before : List Owner) (table : Table) (rows : List TableRow) (after : List Owner) : Type 0 where
+pub record HoldsNow (old new : PageMap) (size : ℕ) (schema : Owner) (before : List Owner) (table : Table) (rows : List TableRow)
+    (after : List Owner) : Type 0 where
   pub among : AreAmong new size schema before table rows after
   pub header : KeepsHeader old new
   pub longer : length old ≤ length new

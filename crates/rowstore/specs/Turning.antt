@@ -25,14 +25,16 @@ abbrev pub AreEntriesStorable : List Index → List TableRow → Type 0
 AreEntriesStorable indexes rows = AllByRecursion (λ index. CanBeIndexed (columns_of index) rows) indexes
 
 -- after the schema table's tree and some others stand those of the indexes, each with the entries of the rows, and then others
-pub record HaveEntries (map : PageMap) (size : ℕ) (schema : Owner) (before : List Owner) (indexes : List Index) (rows : List TableRow) (after : List Owner) : Type 0 where
+pub record HaveEntries (map : PageMap) (size : ℕ) (schema : Owner) (before : List Owner) (indexes : List Index) (rows : List TableRow)
+    (after : List Owner) : Type 0 where
   pub mine : List Owner
   pub each : Pairwise (IsEntriesTree rows) indexes mine
   pub free : List ℕ
   pub shared : AreShared map size (schema ∷ before ++ (mine ++ after)) free
 
 -- so they stand now
-pub record HaveNow (old new : PageMap) (size : ℕ) (schema : Owner) (before : List Owner) (indexes : List Index) (rows : List TableRow) (after : List Owner) : Type 0 where
+pub record HaveNow (old new : PageMap) (size : ℕ) (schema : Owner) (before : List Owner) (indexes : List Index) (rows : List TableRow)
+    (after : List Owner) : Type 0 where
   pub have : HaveEntries new size schema before indexes rows after
   pub header : KeepsHeader old new
   pub longer : length old ≤ length new

@@ -2,7 +2,7 @@
 
 ghost use Rattle.std.specs.Prelude.{◌≡◌, IsTrue, None, Some, length};
 ghost use Rattle.pages.specs.Calls.{Causes};
-ghost use Rattle.rowstore.specs.Changing.{DeletesRows};
+ghost use Rattle.rowstore.specs.Changing.{DeletesInTrees};
 
 use crate::entries::{clear_indexes, take_from_indexes};
 use bind::BoundSource;
@@ -28,7 +28,7 @@ pub(crate) fn source_of(table: &Table) -> BoundSource
 /// Takes all rows out of a table's tree, and all entries out of the trees of its indexes. (What the two `clear` refuse.)
 fn clear_rows<P: WritePages>(alloc: Global, pages: &mut P, table: &Table) -> R<()>
     ensures deleted { IsTrue (P.Pages.tells (P.Pages.below pages.old))
-        → DeletesRows (P.Pages.map pages.old) (P.Pages.map pages.new) (P.Pages.limits (P.Pages.below pages.old)).page
+        → DeletesInTrees (P.Pages.map pages.old) (P.Pages.map pages.new) (P.Pages.limits (P.Pages.below pages.old)).page
         table.now None result }
     ensures kept { P.Pages.below pages.new ≡ P.Pages.below pages.old }
     ensures causes { Causes result (P.Pages.failures pages.old) (P.Pages.failures pages.new)
@@ -47,7 +47,7 @@ fn take_bare_rows<P: WritePages>(
 ) -> R<()>
     requires bare { length table.now.indexes ≡ 0 }
     ensures deleted { IsTrue (P.Pages.tells (P.Pages.below pages.old))
-        → DeletesRows (P.Pages.map pages.old) (P.Pages.map pages.new) (P.Pages.limits (P.Pages.below pages.old)).page
+        → DeletesInTrees (P.Pages.map pages.old) (P.Pages.map pages.new) (P.Pages.limits (P.Pages.below pages.old)).page
         table.now (Some condition.now) result }
     ensures kept { P.Pages.below pages.new ≡ P.Pages.below pages.old }
     ensures causes { Causes result (P.Pages.failures pages.old) (P.Pages.failures pages.new)
@@ -67,7 +67,7 @@ fn take_indexed_rows<P: WritePages>(
 ) -> R<()>
     requires is { condition.now ≡ Some term.now }
     ensures deleted { IsTrue (P.Pages.tells (P.Pages.below pages.old))
-        → DeletesRows (P.Pages.map pages.old) (P.Pages.map pages.new) (P.Pages.limits (P.Pages.below pages.old)).page
+        → DeletesInTrees (P.Pages.map pages.old) (P.Pages.map pages.new) (P.Pages.limits (P.Pages.below pages.old)).page
         table.now (Some term.now) result }
     ensures kept { P.Pages.below pages.new ≡ P.Pages.below pages.old }
     ensures causes { Causes result (P.Pages.failures pages.old) (P.Pages.failures pages.new)
@@ -88,7 +88,7 @@ pub fn delete_rows<P: WritePages>(
     condition: &Option<Term>,
 ) -> R<()>
     ensures deleted { IsTrue (P.Pages.tells (P.Pages.below pages.old))
-        → DeletesRows (P.Pages.map pages.old) (P.Pages.map pages.new) (P.Pages.limits (P.Pages.below pages.old)).page
+        → DeletesInTrees (P.Pages.map pages.old) (P.Pages.map pages.new) (P.Pages.limits (P.Pages.below pages.old)).page
         table.now condition.now result }
     ensures kept { P.Pages.below pages.new ≡ P.Pages.below pages.old }
     ensures causes { Causes result (P.Pages.failures pages.old) (P.Pages.failures pages.new)

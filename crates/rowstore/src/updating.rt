@@ -2,7 +2,7 @@
 
 ghost use Rattle.std.specs.Prelude.{◌≡◌, IsTrue, length};
 ghost use Rattle.pages.specs.Calls.{Causes};
-ghost use Rattle.rowstore.specs.Changing.{UpdatesRows};
+ghost use Rattle.rowstore.specs.Changing.{UpdatesInTrees};
 
 use crate::deleting::source_of;
 use crate::entries::{add_to_indexes, take_from_indexes};
@@ -23,7 +23,7 @@ fn set_bare_rows<P: WritePages>(
 ) -> R<()>
     requires bare { length table.now.indexes ≡ 0 }
     ensures updated { IsTrue (P.Pages.tells (P.Pages.below pages.old))
-        → UpdatesRows (P.Pages.map pages.old) (P.Pages.map pages.new) (P.Pages.limits (P.Pages.below pages.old)).page
+        → UpdatesInTrees (P.Pages.map pages.old) (P.Pages.map pages.new) (P.Pages.limits (P.Pages.below pages.old)).page
         table.now condition.now sets.now result }
     ensures kept { P.Pages.below pages.new ≡ P.Pages.below pages.old }
     ensures causes { Causes result (P.Pages.failures pages.old) (P.Pages.failures pages.new)
@@ -43,7 +43,7 @@ fn set_indexed_rows<P: WritePages>(
     sets: &[(usize, Term)],
 ) -> R<()>
     ensures updated { IsTrue (P.Pages.tells (P.Pages.below pages.old))
-        → UpdatesRows (P.Pages.map pages.old) (P.Pages.map pages.new) (P.Pages.limits (P.Pages.below pages.old)).page
+        → UpdatesInTrees (P.Pages.map pages.old) (P.Pages.map pages.new) (P.Pages.limits (P.Pages.below pages.old)).page
         table.now condition.now sets.now result }
     ensures kept { P.Pages.below pages.new ≡ P.Pages.below pages.old }
     ensures causes { Causes result (P.Pages.failures pages.old) (P.Pages.failures pages.new)
@@ -67,7 +67,7 @@ pub fn update_rows<P: WritePages>(
     sets: &[(usize, Term)],
 ) -> R<()>
     ensures updated { IsTrue (P.Pages.tells (P.Pages.below pages.old))
-        → UpdatesRows (P.Pages.map pages.old) (P.Pages.map pages.new) (P.Pages.limits (P.Pages.below pages.old)).page
+        → UpdatesInTrees (P.Pages.map pages.old) (P.Pages.map pages.new) (P.Pages.limits (P.Pages.below pages.old)).page
         table.now condition.now sets.now result }
     ensures kept { P.Pages.below pages.new ≡ P.Pages.below pages.old }
     ensures causes { Causes result (P.Pages.failures pages.old) (P.Pages.failures pages.new)
