@@ -2,6 +2,7 @@ mod BindingRows
 pub mod BoundLists
 pub mod CalmConditions
 pub mod ColumnNames
+pub mod ColumnPlaces
 pub mod CreatedTables
 mod FormRows
 pub mod InsertNames

@@ -1,6 +1,7 @@
 //! Functions and collations by name, and calls.
 
-ghost use Rattle.std.specs.Prelude.{◌≡◌, ◌&&◌, not, Some, true, length};
+ghost use Rattle.std.specs.Prelude.{◌≡◌, ◌&&◌, not, Some, true, length, IfErr};
+ghost use Rattle.sqlval.specs.Faults.{IsNotDiskFault};
 ghost use Rattle.terms.specs.Terms.{terms};
 ghost use Rattle.bind.specs.Checked.{known_map};
 ghost use Rattle.bind.specs.Expressions as meant;
@@ -22,7 +23,8 @@ pub enum Called {
 
 /// One of the three collations.
 pub fn collation_named(alloc: Global, name: &Name) -> R<Collation>
-    ensures { Names (meant.resolve_collation name.now) result }
+    ensures names { Names (meant.resolve_collation name.now) result }
+    ensures not_disk { IfErr result (λ fault. IsNotDiskFault fault) }
 {
     if name.is_same("binary") {
         Ok(Collation::Binary)

@@ -18,6 +18,7 @@ ghost use Rattle.bind.specs.Laws.{CalmIsNotRefused, KnowsListed};
 
 use catalog::listed_tables_are_found;
 pub use expressions::bind_term;
+pub use functions::collation_named;
 pub use inserting::{BoundInsert, Target, bind_target};
 pub use names::{find_table, missing};
 pub use queries::BoundSource;

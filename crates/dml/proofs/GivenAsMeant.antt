@@ -22,7 +22,8 @@ use Rattle.bind.specs.Views.{look_up}
 use Rattle.dml.specs.Binding.{row_with}
 use Rattle.dml.specs.Changes.{Given, Inserts, Resolved, no_outer, resolve_change, resolve_given}
 use Rattle.dml.specs.Inserting.{given_at}
-use Rattle.dml.proofs.PlacesByName.{column_place, list_places, listed_row, own_row, unknown_list, doubled_list}
+use Rattle.bind.proofs.ColumnPlaces.{column_place}
+use Rattle.dml.proofs.PlacesByName.{list_places, listed_row, own_row, unknown_list, doubled_list}
 
 -- ---- the target
 

@@ -27,112 +27,13 @@ use Rattle.bind.specs.declared.scope.ScopeColumn.{ScopeColumn}
 use Rattle.dml.specs.Binding.{row_with}
 use Rattle.dml.specs.Constraints.{set_values}
 use Rattle.dml.specs.Inserting.{given_at}
-
--- ---- names
-
-folded_twice : (a : List ℕ) → folded (folded a) ≡ folded a
-folded_twice [] = refl
-folded_twice (c ∷ cs) = ap (λ x. x ∷ folded (folded cs)) (lowercase-lowercase c) ∙ ap (λ xs. to_ascii_lowercase c ∷ xs) (folded_twice cs)
-
-same_folded : (a b : List ℕ) → is_same_name a (folded b) ≡ is_same_name a b
-same_folded a b = ap (bytes_eq (folded a)) (folded_twice b)
-
-same_is : (a b : List ℕ) → is_same_name a b ≡ true → folded a ≡ folded b
-same_is a b h = (bytes_eq-Decides (folded a) (folded b)).0 h
-
-is_same : (a b : List ℕ) → folded a ≡ folded b → is_same_name a b ≡ true
-is_same a b h = (bytes_eq-Decides (folded a) (folded b)).1 h
-
-same_turned : (a b : List ℕ) → is_same_name a b ≡ is_same_name b a
-same_turned a b = by (is_same_name a b) (is_same_name b a) refl refl
-  where
-    by : (x y : Bool) → is_same_name a b ≡ x → is_same_name b a ≡ y → x ≡ y
-    by true true h k = refl
-    by false false h k = refl
-    by true false h k = sym (is_same b a (sym (same_is a b h))) ∙ k
-    by false true h k = sym h ∙ is_same a b (sym (same_is b a k))
-
--- what is the same as one of two that are the same
-same_by : (a b c : List ℕ) → is_same_name a b ≡ true → is_same_name c b ≡ is_same_name a c
-same_by a b c h = ap (bytes_eq (folded c)) (sym (same_is a b h)) ∙ same_turned c a
-
-or_left : (a b : Bool) → (a || b) ≡ false → a ≡ false
-or_left true b h = h
-or_left false b h = refl
-
-or_right : (a b : Bool) → (a || b) ≡ false → b ≡ false
-or_right true b h = absurd (false≢true (sym h))
-or_right false b h = h
-
-or_true : (a b : Bool) → (a || b) ≡ true → (a ≡ true) ⊎ (b ≡ true)
-or_true true b h = inl refl
-or_true false b h = inr h
-
--- ---- the place of a name
-
-abbrev names_of : List Column → List (List ℕ)
-names_of cs = map (λ c. c.name) cs
-
-abbrev seen : List Column → List ScopeColumn
-seen cs = table_scope (record { columns = map plain_column cs; rowid_column = None; checks = []; rows = [] })
-
--- the places of a name, counted from i
-abbrev placed_from : ℕ → List ℕ → List ScopeColumn → List ℕ
-placed_from i n [] = []
-placed_from i n (c ∷ cs) =
-    let rest = placed_from (suc i) n cs in
-    elim c.name [ None ↦ rest | Some m ↦ (if is_same_name n m then (i ∷ rest) else rest) ]
-
-none_placed : (i : ℕ) (first n : List ℕ) (cs : List Column) → is_same_name first n ≡ true → list_any (is_same_name first) (names_of cs) ≡ false → placed_from i n (seen cs) ≡ []
-none_placed i first n [] h k = refl
-none_placed i first n (c ∷ cs) h k =
-    ap (λ b. cond b (i ∷ placed_from (suc i) n (seen cs)) (placed_from (suc i) n (seen cs)))
-    (same_folded n c.name ∙ (same_turned n c.name ∙ (same_by first n c.name h ∙ or_left (is_same_name first c.name) (list_any (is_same_name first) (names_of cs)) k)))
-    ∙ none_placed (suc i) first n cs h (or_right (is_same_name first c.name) (list_any (is_same_name first) (names_of cs)) k)
-
-abbrev IsPlaced : Option ℕ → List ℕ → Type 0
-IsPlaced None ps = ps ≡ []
-IsPlaced (Some k) ps = ps ≡ k ∷ []
-
-placed_by : (i : ℕ) (n : List ℕ) (c : Column) (cs : List Column) → is_twice_named (c ∷ cs) ≡ false → IsPlaced (position_from (is_column n) (i + 1) cs) (placed_from (suc i) n (seen cs))
-    → (b : Bool) → is_same_name c.name n ≡ b → IsPlaced (cond b (Some i) (position_from (is_column n) (i + 1) cs)) (cond b (i ∷ placed_from (suc i) n (seen cs)) (placed_from (suc i) n (seen cs)))
-placed_by i n c cs once rest true h = ap (λ ps. i ∷ ps) (none_placed (suc i) c.name n cs h (or_left (list_any (is_same_name c.name) (names_of cs)) (is_twice_named cs) once))
-placed_by i n c cs once rest false h = rest
-
-one_more : (i : ℕ) → i + 1 ≡ suc i
-one_more i = omega arith
-
-placed_is : (i : ℕ) (n : List ℕ) (cs : List Column) → is_twice_named cs ≡ false → IsPlaced (position_from (is_column n) i cs) (placed_from i n (seen cs))
-placed_is i n [] once = refl
-placed_is i n (c ∷ cs) once =
-    subst (λ b. IsPlaced (position_from (is_column n) i (c ∷ cs)) (cond b (i ∷ placed_from (suc i) n (seen cs)) (placed_from (suc i) n (seen cs))))
-    (sym (same_folded n c.name ∙ same_turned n c.name))
-    (placed_by i n c cs once (subst (λ j. IsPlaced (position_from (is_column n) (i + 1) cs) (placed_from j n (seen cs))) (one_more i)
-    (placed_is (i + 1) n cs (or_right (list_any (is_same_name c.name) (names_of cs)) (is_twice_named cs) once))) (is_same_name c.name n) refl)
-
--- the place of a name's column
-abbrev pub column_place : List Column → List ℕ → ℕ
-column_place cs name = unwrap_or (place_named name cs) 0
+use Rattle.bind.proofs.ColumnPlaces.{column_names, column_place, no_place, one_place, or_left, or_right, or_true, same_by, same_is, same_turned}
 
 module _ (as_name : List ℕ) (t : Table) (once : is_twice_named t.columns ≡ false) where
-  by_place : (o : Option ℕ) (ps : List ℕ) → IsPlaced o ps → is_none o ≡ false → the_one false 0 ps ≡ good (unwrap_or o 0)
-  by_place None ps h k = absurd (false≢true (sym k))
-  by_place (Some p) ps h k = ap (the_one false 0) h
-
-  by_none : (o : Option ℕ) (ps : List ℕ) → IsPlaced o ps → is_none o ≡ true → faults (the_one false 0 ps) ≡ NoSuch ∷ []
-  by_none None ps h k = ap (λ ps. faults (the_one false 0 ps)) h
-  by_none (Some p) ps h k = absurd (false≢true k)
-
-  one_place : (name : List ℕ) → is_none (place_named name t.columns) ≡ false → place_of (source_seen as_name t) name ≡ good (column_place t.columns name)
-  one_place name h = by_place (place_named name t.columns) (placed_from 0 name (seen t.columns)) (placed_is 0 name t.columns once) h
-
-  no_place : (name : List ℕ) → is_none (place_named name t.columns) ≡ true → faults (place_of (source_seen as_name t) name) ≡ NoSuch ∷ []
-  no_place name h = by_none (place_named name t.columns) (placed_from 0 name (seen t.columns)) (placed_is 0 name t.columns once) h
-
   all_places : (names : List (List ℕ)) → has_unknown t.columns names ≡ false → known_all (map (place_of (source_seen as_name t)) names) ≡ good (map (column_place t.columns) names)
   all_places [] h = refl
   all_places (n ∷ ns) h =
-      ap (λ k. both (λ x xs. x ∷ xs) k (known_all (map (place_of (source_seen as_name t)) ns))) (one_place n (or_left (is_none (place_named n t.columns)) (has_unknown t.columns ns) h))
+      ap (λ k. both (λ x xs. x ∷ xs) k (known_all (map (place_of (source_seen as_name t)) ns))) (one_place as_name t once n (or_left (is_none (place_named n t.columns)) (has_unknown t.columns ns) h))
       ∙ ap (both (λ x xs. x ∷ xs) (good (column_place t.columns n))) (all_places ns (or_right (is_none (place_named n t.columns)) (has_unknown t.columns ns) h))
 
   -- a list of columns stands for their places
@@ -150,7 +51,7 @@ module _ (as_name : List ℕ) (t : Table) (once : is_twice_named t.columns ≡ f
   unknown_refused (n ∷ ns) h =
       subst (λ rs. Contains rs NoSuch) (sym (both_faults (λ x xs. x ∷ xs) (place_of (source_seen as_name t) n) (known_all (map (place_of (source_seen as_name t)) ns))))
       (elim (or_true (is_none (place_named n t.columns)) (has_unknown t.columns ns) h) [
-        | inl e ↦ in_front (faults (known_all (map (place_of (source_seen as_name t)) ns))) NoSuch (faults (place_of (source_seen as_name t) n)) (no_place n e)
+        | inl e ↦ in_front (faults (known_all (map (place_of (source_seen as_name t)) ns))) NoSuch (faults (place_of (source_seen as_name t) n)) (no_place as_name t once n e)
         | inr e ↦ Contains-append_right (faults (place_of (source_seen as_name t) n)) (faults (known_all (map (place_of (source_seen as_name t)) ns))) NoSuch (unknown_refused ns e)
       ])
 
@@ -200,12 +101,12 @@ at_least test i p (x ∷ xs) h = by i p (test x) (position_from test (i + 1) xs)
 same_as : (a b c : List ℕ) → is_same_name a b ≡ true → is_same_name b c ≡ is_same_name a c
 same_as a b c h = ap (λ x. bytes_eq x (folded c)) (sym (same_is a b h))
 
-none_at : (first : List ℕ) (cs : List Column) (k : ℕ) (d : Column) → k < length cs → list_any (is_same_name first) (names_of cs) ≡ false → is_same_name first (get_or cs k d).name ≡ false
+none_at : (first : List ℕ) (cs : List Column) (k : ℕ) (d : Column) → k < length cs → list_any (is_same_name first) (column_names cs) ≡ false → is_same_name first (get_or cs k d).name ≡ false
 none_at first [] k d lt h = absurd (omega (arith, lt))
-none_at first (c ∷ cs) zero d lt h = or_left (is_same_name first c.name) (list_any (is_same_name first) (names_of cs)) h
-none_at first (c ∷ cs) (suc k) d lt h = none_at first cs k d (omega (arith, lt)) (or_right (is_same_name first c.name) (list_any (is_same_name first) (names_of cs)) h)
+none_at first (c ∷ cs) zero d lt h = or_left (is_same_name first c.name) (list_any (is_same_name first) (column_names cs)) h
+none_at first (c ∷ cs) (suc k) d lt h = none_at first cs k d (omega (arith, lt)) (or_right (is_same_name first c.name) (list_any (is_same_name first) (column_names cs)) h)
 
-first_place : (i p k : ℕ) (name : List ℕ) (c : Column) (cs : List Column) (d : Column) → list_any (is_same_name c.name) (names_of cs) ≡ false → k < suc (length cs) → is_same_name c.name name ≡ true → i ≡ p
+first_place : (i p k : ℕ) (name : List ℕ) (c : Column) (cs : List Column) (d : Column) → list_any (is_same_name c.name) (column_names cs) ≡ false → k < suc (length cs) → is_same_name c.name name ≡ true → i ≡ p
     → (p == i + k) ≡ is_same_name name (get_or (c ∷ cs) k d).name
 first_place i p zero name c cs d once lt same e = is_number p (i + 0) (omega (arith, e)) ∙ sym (same_turned name c.name ∙ same)
 first_place i p (suc k) name c cs d once lt same e =
@@ -223,12 +124,12 @@ later_place i p (suc k) name c cs d lt other more f = ap (λ m. p == m) (moved i
 named_at : (i p k : ℕ) (name : List ℕ) (cs : List Column) (d : Column) → is_twice_named cs ≡ false → position_from (is_column name) i cs ≡ Some p → k < length cs → (p == i + k) ≡ is_same_name name (get_or cs k d).name
 named_at i p k name [] d once h lt = absurd (omega (arith, lt))
 named_at i p k name (c ∷ cs) d once h lt =
-    by i p k name c cs d once lt (λ e j. named_at (i + 1) p j name cs d (or_right (list_any (is_same_name c.name) (names_of cs)) (is_twice_named cs) once) e) (is_same_name c.name name) refl h
+    by i p k name c cs d once lt (λ e j. named_at (i + 1) p j name cs d (or_right (list_any (is_same_name c.name) (column_names cs)) (is_twice_named cs) once) e) (is_same_name c.name name) refl h
   where
     by : (i p k : ℕ) (name : List ℕ) (c : Column) (cs : List Column) (d : Column) → is_twice_named (c ∷ cs) ≡ false → k < suc (length cs)
         → (position_from (is_column name) (i + 1) cs ≡ Some p → (j : ℕ) → j < length cs → (p == i + 1 + j) ≡ is_same_name name (get_or cs j d).name)
         → (b : Bool) → is_same_name c.name name ≡ b → cond b (Some i) (position_from (is_column name) (i + 1) cs) ≡ Some p → (p == i + k) ≡ is_same_name name (get_or (c ∷ cs) k d).name
-    by i p k name c cs d once lt f true same h = first_place i p k name c cs d (or_left (list_any (is_same_name c.name) (names_of cs)) (is_twice_named cs) once) lt same (some_in 0 i p h)
+    by i p k name c cs d once lt f true same h = first_place i p k name c cs d (or_left (list_any (is_same_name c.name) (column_names cs)) (is_twice_named cs) once) lt same (some_in 0 i p h)
     by i p k name c cs d once lt f false other h = later_place i p k name c cs d lt other (at_least (is_column name) (i + 1) p cs h) (f h)
 
 -- ---- the value of a column

@@ -33,7 +33,7 @@ pub one_refused : {A : Type 0} (found : List A) (k : Checked A) (rest : Checked 
 one_refused found (Meant x rs) (Meant ys ss) fault h = in_front rs ss fault h
 
 -- the next item of a list
-next_item : {A B : Type 0} (f : B → Checked A) (xs : List B) (i : ℕ) (y : B) (found : List A) → i < length xs → y ≡ get_or xs i y
+pub next_item : {A B : Type 0} (f : B → Checked A) (xs : List B) (i : ℕ) (y : B) (found : List A) → i < length xs → y ≡ get_or xs i y
     → onto_list found (known_all (map f (drop i xs))) ≡ onto_list found (both (λ y ys. y ∷ ys) (f y) (known_all (map f (drop (i + 1) xs))))
 next_item f xs i y found lt is =
     at_drop_more (λ zs. onto_list found (known_all (map f zs))) xs i y lt

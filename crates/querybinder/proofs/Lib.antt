@@ -1,5 +1,6 @@
 pub mod Chains
 pub mod Grown
+pub mod IndexNames
 pub mod Joining
 pub mod Keyless
 pub mod Placed

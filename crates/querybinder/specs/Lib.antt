@@ -1,3 +1,4 @@
 pub mod Assigned
+pub mod Indexed
 pub mod Marked
 pub mod Named

@@ -1,10 +1,11 @@
-//! The names of whole queries, looked up among the tables of a catalog.
+//! The names of whole queries and of CREATE INDEX, looked up among the tables of a catalog.
 #![tactic(auto)]
 
 mod assigning;
 mod clauses;
 mod copying;
 mod filtering;
+mod indexed;
 mod marking;
 mod parts;
 mod querying;
@@ -13,4 +14,5 @@ mod sources;
 
 pub use assigning::bind_sets;
 pub use filtering::bind_where;
+pub use indexed::{BoundIndex, bind_index, indexes_are_created_as_defined};
 pub use querying::{BoundReading, bind_reading};

@@ -39,7 +39,8 @@ use Rattle.dml.specs.Changes.{Resolved, Updates, no_outer, resolve_change}
 use Rattle.dml.specs.Inserting.{AllStorable}
 use Rattle.dml.specs.Setting.{rows_set}
 use Rattle.dml.specs.Updating.{IsSetRefusal, SetsRows}
-use Rattle.dml.proofs.PlacesByName.{column_place, doubled_list, list_places, unknown_list}
+use Rattle.bind.proofs.ColumnPlaces.{column_place}
+use Rattle.dml.proofs.PlacesByName.{doubled_list, list_places, unknown_list}
 use Rattle.trigger.specs.Binding.{IsFault}
 use Rattle.trigger.specs.Effects.{change}
 use Rattle.trigger.specs.Laws.{BindsAlone, UpdateSetsRows}
