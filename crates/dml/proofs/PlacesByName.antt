@@ -72,6 +72,9 @@ module _ (as_name : List ℕ) (t : Table) (once : is_twice_named t.columns ≡ f
 
 -- ---- the column of a place
 
+one_more : (i : ℕ) → i + 1 ≡ suc i
+one_more i = omega arith
+
 same_number : (m n : ℕ) → (m == n) ≡ true → m ≡ n
 same_number m n h = grind (arith, nat_tests)
 
