@@ -1,26 +1,25 @@
 -- A database of tables without one of them and its indexes.
 use Rattle.std.proofs.Common.{◌≡◌, refl, sym, ap, subst, ◌∙◌, ℕ, ℤ, Bool, true, false, ◌||◌, List, [], ◌∷◌, ◌++◌, map, filter, not, Option, Some, None, cond}
 use Rattle.std.proofs.lemmas.Bool.{false≢true}
-use Rattle.std.proofs.lemmas.Grind.{flat_map-append}
 use Rattle.std.proofs.lemmas.List.Elements.{filter-append}
 use Rattle.std.proofs.lemmas.Map.Lookups.{exact_bytes}
 use Rattle.std.proofs.lemmas.Map.Views.{tells_apart}
 use Rattle.std.proofs.lemmas.Slice.Eq.{bytes_eq-Decides}
 use Rattle.std.specs.FinMap.Entries.{below_all, find, is_sorted}
 use Rattle.std.specs.List as list
-use Rattle.std.specs.List.{AllByRecursion, list_all, list_any}
+use Rattle.std.specs.List.{AllByRecursion, list_any}
 use Rattle.std.specs.Ordering.{eq_by_cmp, is_lt}
-use Rattle.std.specs.Prelude.{flat_map, is_some, option_map}
+use Rattle.std.specs.Prelude.{flat_map, option_map}
 use Rattle.std.specs.Str.{bytes_eq}
 use Rattle.sqlval.specs.Lists.{any_twice}
 use Rattle.sqlval.specs.Names.{folded, is_same_name}
 use Rattle.sqlval.specs.declared.value.Value.{Value}
-use Rattle.catalog.specs.Database.{Name, Database, Object, ATable, AnIndex, AView, ATrigger, name_order, object}
-use Rattle.catalog.specs.Listed.{Lists, are_named_once, has_only_plain, index_objects, is_table, named_among, names_of, objects_of, plain_index, plain_table, table_named, table_object, without_table}
-use Rattle.catalog.specs.Named.{IsNamed, IsOfTables, ListsOthers, goes_with_table, without_table_object}
+use Rattle.catalog.specs.Database.{Name, Database, Object, ATable, AnIndex, AView, ATrigger, name_order}
+use Rattle.catalog.specs.Listed.{are_named_once, has_only_plain, index_objects, is_table, named_among, names_of, objects_of, plain_index, table_named, table_object, without_table}
+use Rattle.catalog.specs.Named.{ListsOthers, goes_with_table, without_table_object}
 use Rattle.catalog.specs.declared.tables.Index.{Index as ListedIndex}
 use Rattle.catalog.specs.declared.tables.Table.{Table}
-use Rattle.catalog.proofs.NamedDatabases.{AreFolded, folded_twice, in_order, not_below, rising, same_test}
+use Rattle.catalog.proofs.NamedDatabases.{AreFolded, folded_twice, in_order, not_below, rising}
 use Rattle.catalog.proofs.OtherRows.{both_true, first_true, rest_true}
 
 pub same : (a b : Name) → bytes_eq a b ≡ true → a ≡ b

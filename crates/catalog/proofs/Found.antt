@@ -1,5 +1,5 @@
 -- What the names of tables and of indexes find.
-use Rattle.std.proofs.Common.{◌≡◌, ◌⊎◌, inl, inr, refl, sym, ap, subst, ◌∙◌, ℕ, ℤ, Bool, true, false, List, [], ◌∷◌, ◌++◌, map, Option, Some, None, cond}
+use Rattle.std.proofs.Common.{◌≡◌, inl, inr, refl, sym, ap, subst, ◌∙◌, ℕ, ℤ, Bool, true, false, List, [], ◌∷◌, ◌++◌, map, Option, Some, None, cond}
 use Rattle.std.specs.Prelude.{flat_map, is_some, option_map, MatchOption, ◌||◌}
 use Rattle.std.specs.List as list
 use Rattle.std.specs.List.{list_any}

@@ -1,16 +1,14 @@
 -- Places and rowids that are free among those of tables.
-use Rattle.std.proofs.Common.{SFits, w64, ◌≡◌, ◌∙◌, refl, sym, ap, subst, inl, inr, ◌⊎◌, ℕ, zero, suc, ◌+◌, ◌-◌, ◌^◌, ◌<◌, ◌≤◌, ℤ, pos, negsuc, ◌+ℤ◌, ◌-ℤ◌, ◌<ℤ◌, ◌≤ℤ◌, List, [], ◌∷◌, ◌++◌, length, map, slice_index_or, Bool, true, false, nat_lt, arith}
+use Rattle.std.proofs.Common.{SFits, w64, ◌≡◌, ◌∙◌, refl, sym, ap, subst, ℕ, zero, suc, ◌-◌, ◌^◌, ◌<◌, ◌≤◌, ℤ, pos, negsuc, ◌+ℤ◌, ◌-ℤ◌, ◌<ℤ◌, ◌≤ℤ◌, List, [], ◌∷◌, ◌++◌, length, map, slice_index_or, Bool, true, false, nat_lt, arith}
 use Rattle.std.proofs.lemmas.Int.{ints}
 use Rattle.std.proofs.lemmas.Bool.Decides.{nat_tests}
-use Rattle.std.specs.Prelude.{⊤, min, take, drop}
+use Rattle.std.specs.Prelude.{min, take, drop}
 use Rattle.std.specs.List.{AllByRecursion, insert}
 use Rattle.std.specs.declared.alloc.Global.{Global}
 use Rattle.std.specs.declared.rc.Rc.{Rc}
 use Rattle.catalog.specs.Listed.{shared}
-use Rattle.catalog.proofs.Sharing.{handle_value}
 use Rattle.std.proofs.lemmas.List.{take-map, drop-map, map-append, take_min, drop_min}
 use Rattle.catalog.specs.FreeRowids.{IsFree, Rise, RiseAbove}
-use Rattle.catalog.specs.declared.tables.FreeRowid.{FreeRowid}
 use Rattle.catalog.specs.declared.tables.Table.{Table}
 
 -- ---- a handle more

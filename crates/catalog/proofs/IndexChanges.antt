@@ -9,16 +9,15 @@ use Rattle.std.proofs.lemmas.Map.Lookups.{exact_bytes}
 use Rattle.std.proofs.lemmas.Map.Views.{tells_apart}
 use Rattle.std.specs.FinMap.Entries.{find-put, is_sorted}
 use Rattle.std.specs.List as list
-use Rattle.std.specs.List.{AllByRecursion, list_any}
+use Rattle.std.specs.List.{list_any}
 use Rattle.std.specs.Ordering.{eq_by_cmp}
 use Rattle.std.specs.Prelude.{flat_map, is_some, option_map}
 use Rattle.std.specs.Str.{bytes_eq}
 use Rattle.sqlval.specs.Lists.{any_twice}
 use Rattle.sqlval.specs.Names.{folded, is_same_name}
 use Rattle.sqlval.specs.declared.value.Value.{Value}
-use Rattle.catalog.specs.Database.{Name, Database, Object, AnIndex, name_order, object}
-use Rattle.catalog.specs.Listed.{are_named_once, has_index, index_objects, is_name_of, is_table, named_among, names_of, objects_of, plain_index, replaced_by, table_named, table_object, with_replaced}
-use Rattle.catalog.specs.Named.{IsOfTables}
+use Rattle.catalog.specs.Database.{Name, Object, AnIndex, name_order, object}
+use Rattle.catalog.specs.Listed.{has_index, index_objects, is_table, named_among, names_of, objects_of, plain_index, table_object, with_replaced}
 use Rattle.catalog.specs.NewIndexes.{ListsNewIndex, ListsOtherIndexes, with_index, without_index, without_object}
 use Rattle.catalog.specs.declared.tables.Index.{Index as ListedIndex}
 use Rattle.catalog.specs.declared.tables.Table.{Table}

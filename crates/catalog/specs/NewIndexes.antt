@@ -1,5 +1,5 @@
 -- A listed database with one index more, and with one less.
-use Rattle.std.specs.Prelude.{◌≡◌, ℕ, ℤ, true, false, not, filter, List, [], ◌∷◌, ◌++◌, Some}
+use Rattle.std.specs.Prelude.{◌≡◌, ℕ, ℤ, false, not, filter, List, [], ◌∷◌, ◌++◌, Some}
 use Rattle.sqlval.specs.Names.{is_same_name}
 use Rattle.sqlval.specs.declared.value.Value.{Value}
 use Rattle.catalog.specs.Database.{Name, Database, AnIndex, with_object}

@@ -3,11 +3,11 @@ use Rattle.std.proofs.Common.{◌≡◌, inl, inr, refl, sym, ap, subst, ◌∙�
 use Rattle.std.specs.Prelude.{IfErr, IfOk, IsErrAnd}
 use Rattle.std.specs.Global.{Vec}
 use Rattle.std.proofs.lemmas.List.{map_more, take_all}
-use Rattle.sqlval.specs.Faults.{IsNotDiskFault, IsOutside}
-use Rattle.sqlval.specs.Refusals.{Answer, Refusal, ◌then◌, all_answers}
+use Rattle.sqlval.specs.Faults.{IsOutside}
+use Rattle.sqlval.specs.Refusals.{Answer, ◌then◌, all_answers}
 use Rattle.sqlval.specs.declared.fault.Fault.{Fault}
 use Rattle.sqlval.specs.declared.fault.Fault.TheVariants.{Memory}
-use Rattle.pages.specs.Map.{PageMap, AreWhole}
+use Rattle.pages.specs.Map.{PageMap}
 use Rattle.catalog.specs.declared.tables.TableRow as stored
 use Rattle.bind.specs.declared.queries.BoundSource.{BoundSource}
 use Rattle.terms.specs.Outcome.{AnswersBy, IsRefusedBy}
@@ -16,13 +16,13 @@ use Rattle.terms.specs.Terms.{Term}
 use Rattle.terms.specs.Values.{Row}
 use Rattle.rowprog.specs.Rows.{TableRow}
 use Rattle.rowprog.specs.Sources.{LoadsRows, as_source}
-use Rattle.rowprog.specs.Trees.{AnswersOrFails, HasRows}
+use Rattle.rowprog.specs.Trees.{AnswersOrFails}
 use Rattle.dml.specs.Choosing.{is_chosen, tested}
 use Rattle.dml.specs.Meaning.{FindsMeant, as_row, chosen_or_all}
 use Rattle.dml.specs.NewRows.{row_of}
 use Rattle.dml.specs.Setting.{rows_meant}
 use Rattle.dml.proofs.SetRows.{map_twice}
-use Rattle.dml.proofs.SetTrees.{asked, meant_as, meant_by}
+use Rattle.dml.proofs.SetTrees.{meant_as, meant_by}
 
 abbrev as_table : List Row → Answer (List TableRow)
 as_table them = Ok (map as_row them)

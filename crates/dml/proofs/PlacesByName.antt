@@ -1,5 +1,5 @@
 -- A value's column by its place in the table, and a column's value by its place in the row.
-use Rattle.std.proofs.Common.{◌≡◌, refl, sym, ap, subst, ◌∙◌, ◌⊎◌, inl, inr, ℕ, zero, suc, ◌+◌, ◌<◌, ◌≤◌, Bool, true, false, ◌||◌, ◌==◌, cond, if◌then◌else◌, List, [], ◌∷◌, ◌++◌, length, map, get_or, Option, Some, None, set, arith}
+use Rattle.std.proofs.Common.{◌≡◌, refl, sym, ap, subst, ◌∙◌, inl, inr, ℕ, zero, suc, ◌+◌, ◌<◌, ◌≤◌, Bool, true, false, ◌==◌, cond, if◌then◌else◌, List, [], ◌∷◌, ◌++◌, length, map, get_or, Option, Some, None, set, arith}
 use Rattle.std.specs.Prelude.{⊤, option_map, unwrap_or, zip, is_none}
 use Rattle.std.specs.List.{list_any, position_from, range_with_len, AllByRecursion, Contains}
 use Rattle.std.specs.Str.{bytes_eq}
@@ -8,9 +8,6 @@ use Rattle.std.proofs.lemmas.Bool.Decides.{nat_tests}
 use Rattle.std.proofs.lemmas.List.{ext_get_or, get_or-map, get_or-set_same, get_or-set_other, length-map, length-set}
 use Rattle.std.proofs.lemmas.List.Elements.{Contains-append_right}
 use Rattle.std.proofs.lemmas.List.FromFn.{length-map-range_with_len, length-range_with_len, get_or-map-range_with_len}
-use Rattle.std.proofs.lemmas.Str.Ascii.{lowercase-lowercase}
-use Rattle.std.proofs.lemmas.Slice.Eq.{bytes_eq-Decides}
-use Rattle.std.specs.Char.{to_ascii_lowercase}
 use Rattle.sqlval.specs.Names.{folded, is_same_name}
 use Rattle.sqlval.specs.Refusals.{Refusal, NoSuch, Misuse}
 use Rattle.sqlval.specs.declared.value.Value.{Value}
@@ -21,9 +18,8 @@ use Rattle.catalog.specs.declared.tables.Column.{Column}
 use Rattle.catalog.specs.declared.tables.Table.{Table}
 use Rattle.bind.specs.Bound.{is_twice_named, source_seen}
 use Rattle.bind.specs.Inserts.{has_unknown, places_in}
-use Rattle.bind.specs.Checked.{Checked, Meant, good, faults, both, known_all, the_one, unless}
-use Rattle.bind.specs.Scopes.{table_scope, place_of, resolve_places, is_doubled}
-use Rattle.bind.specs.declared.scope.ScopeColumn.{ScopeColumn}
+use Rattle.bind.specs.Checked.{Checked, Meant, good, faults, both, known_all, unless}
+use Rattle.bind.specs.Scopes.{place_of, resolve_places, is_doubled}
 use Rattle.dml.specs.Binding.{row_with}
 use Rattle.dml.specs.Constraints.{set_values}
 use Rattle.dml.specs.Inserting.{given_at}

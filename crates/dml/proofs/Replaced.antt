@@ -1,6 +1,6 @@
 -- Rows of a tree are replaced one after another.
 use Rattle.std.proofs.Common.{◌≡◌, inl, inr, refl, sym, ap, subst, ◌∙◌, ◌<ℤ◌, ◌≤ℤ◌, ◌&&◌, ◌==◌, ℕ, zero, suc, ℤ, Bool, true, false, cond, filter, List, [], ◌∷◌, ◌++◌, length, map, Option, Some, None, if◌then◌else◌, Result, Ok, Err, IsTrue, All, zip, slice_set, arith}
-use Rattle.std.specs.Prelude.{IsErrAnd, MatchResult, ⊤, int_lt}
+use Rattle.std.specs.Prelude.{MatchResult, ⊤, int_lt}
 use Rattle.std.specs.Global.{Vec}
 use Rattle.std.specs.List.{AllByRecursion, list_all}
 use Rattle.std.specs.Ordering.{int_cmp, int_eq}
@@ -15,7 +15,7 @@ use Rattle.page.specs.Leaf.{Entry}
 use Rattle.pages.specs.Calls.{IsOutsideOrFull, Limits}
 use Rattle.pages.specs.Map.{PageMap}
 use Rattle.treepage.specs.Cells.{Pairwise}
-use Rattle.tabletree.specs.Calls.{BecomesRows, ChangesRows, Stands}
+use Rattle.tabletree.specs.Calls.{BecomesRows, ChangesRows}
 use Rattle.tabletree.specs.Rows.{payload_at, with_row, with_change, with_changes, with_replaced}
 use Rattle.tabletree.specs.declared.changing.RowChange.{RowChange}
 use Rattle.tabletree.proofs.Orders.{less_not, not_less, same_or_other, lt_le}
@@ -31,7 +31,6 @@ use Rattle.rowprog.specs.Sources.{as_source}
 use Rattle.rowprog.proofs.RowOrder.{both_true}
 use Rattle.dml.specs.Constraints.{set_values, with_affinity}
 use Rattle.dml.specs.NewRows.{IsReplacement, IsWritten, entry_left}
-use Rattle.dml.specs.declared.inserting.RowRecord.{RowRecord}
 use Rattle.record.specs.Writing.{AreStorable}
 use Rattle.dml.specs.Setting.{row_set, rows_meant_set, values_set}
 use Rattle.dml.specs.Updating.{FitNow, ReplacesRows, with_all_replaced}

@@ -1,10 +1,10 @@
 -- CREATE INDEX on a listed table: what its names stand for, and what refuses it.
-use Rattle.std.proofs.Common.{◌≡◌, refl, sym, ap, subst, ◌∙◌, ◌⊎◌, inl, inr, ℕ, ◌+◌, ◌<◌, ℤ, Bool, true, false, ◌||◌, List, [], ◌∷◌, ◌++◌, append_assoc, length, drop, map, get_or, Option, Some, None, Result, Ok, Err, arith}
+use Rattle.std.proofs.Common.{◌≡◌, refl, sym, ap, subst, ◌∙◌, ◌⊎◌, inl, inr, ℕ, ◌+◌, ◌<◌, ℤ, Bool, true, false, ◌||◌, List, [], ◌∷◌, ◌++◌, append_assoc, length, drop, map, get_or, Option, Some, None, Ok, Err, arith}
 use Rattle.std.proofs.lemmas.Bool.{false≢true}
-use Rattle.std.proofs.lemmas.List.Elements.{Contains-append_left, Contains-append_right}
+use Rattle.std.proofs.lemmas.List.Elements.{Contains-append_right}
 use Rattle.std.specs.List.{Contains, list_any}
 use Rattle.std.proofs.lemmas.Option.{slice_get-map}
-use Rattle.std.specs.Prelude.{filter_map, if◌then◌else◌, option_map, is_none, is_some, slice_get, unwrap_or, IsErrAnd, MatchOption}
+use Rattle.std.specs.Prelude.{filter_map, option_map, is_none, is_some, slice_get, unwrap_or, MatchOption}
 use Rattle.sqlval.specs.Names.{folded}
 use Rattle.sqlval.specs.Refusals.{Refusal, Exists, Misuse, NoSuch, refusal_of}
 use Rattle.sqlval.specs.declared.collation.Collation.{Collation}
@@ -15,20 +15,20 @@ use Rattle.sqlval.specs.declared.value.Value.{Value}
 use Rattle.syntax.specs.declared.create.IndexColumn.{IndexColumn as Written}
 use Rattle.syntax.specs.declared.create.IndexDefinition.{IndexDefinition}
 use Rattle.syntax.specs.declared.create.NewObject.TheVariants as new
-use Rattle.catalog.specs.Database.{Name, Database, Object, TableColumn, ATable, AnIndex, Index, object, with_object}
+use Rattle.catalog.specs.Database.{Name, Database, Object, TableColumn, ATable, AnIndex, object, with_object}
 use Rattle.catalog.specs.Laws.{FindsListed, IsNoTable, NamesListed}
-use Rattle.catalog.specs.Listed.{Lists, is_name_of, is_reserved, place_named, plain_column, plain_table, table_named}
+use Rattle.catalog.specs.Listed.{Lists, is_reserved, place_named, plain_column, plain_table, table_named}
 use Rattle.catalog.specs.declared.tables.Column.{Column}
 use Rattle.catalog.specs.declared.tables.IndexColumn.{IndexColumn}
 use Rattle.catalog.specs.declared.tables.Table.{Table}
 use Rattle.bind.specs.Bound.{IsFaultOf, is_twice_named, source_seen}
 use Rattle.bind.specs.Checked.{Checked, Meant, good, bad, both, meant, faults, also, known_all, known_map, ◌and_then◌, unless}
 use Rattle.bind.specs.Expressions.{resolve_collation}
-use Rattle.bind.specs.Named.{Names, NamesBy}
-use Rattle.bind.specs.Schema.{create, create_index, index_made, resolve_index_column}
+use Rattle.bind.specs.Named.{Names}
+use Rattle.bind.specs.Schema.{create, index_made, resolve_index_column}
 use Rattle.bind.specs.Scopes.{is_doubled, place_of}
 use Rattle.bind.specs.Tables.{collation_at}
-use Rattle.bind.proofs.ColumnPlaces.{column_place, no_place, one_place}
+use Rattle.bind.proofs.ColumnPlaces.{no_place, one_place}
 use Rattle.querybinder.specs.Indexed.{IsIndexOn, IsIndexRefusal, MakesListedIndex, RefusesIndexAsDefined, collation_written, key_of, keys_known, names_in}
 use Rattle.querybinder.specs.Named.{onto_list}
 use Rattle.querybinder.proofs.Chains.{refused_first, refused_later, then_good}

@@ -1,5 +1,5 @@
 -- The columns that SET names.
-use Rattle.std.proofs.Common.{◌≡◌, ◌⊎◌, inl, inr, Result, Ok, Err, OnOk, refl, ap, Bool, true, false, ◌||◌, List, [], ◌∷◌, Option, Some, None, is_none, if◌then◌else◌}
+use Rattle.std.proofs.Common.{◌≡◌, ◌⊎◌, inl, inr, Result, Ok, Err, OnOk, refl, ap, Bool, true, false, ◌||◌, List, [], ◌∷◌, Some, None, is_none, if◌then◌else◌}
 use Rattle.std.specs.List.{find, list_any}
 use Rattle.sqlval.specs.Refusals.{NoSuch, refusal_of}
 use Rattle.sqlval.specs.declared.fault.Fault.{Fault}

@@ -1,6 +1,6 @@
-use Rattle.std.proofs.Common.{◌≡◌, ◌∙◌, ◌+◌, ◌-◌, ◌-ℤ◌, ◌≤◌, ℤ, ℕ, pos, length, rules, to_z, of_z, w64, SFits, sym, ap, subst, arith}
+use Rattle.std.proofs.Common.{◌≡◌, ◌∙◌, ◌+◌, ◌-ℤ◌, ℤ, ℕ, pos, length, rules, to_z, w64, SFits, sym, subst}
 use Rattle.std.proofs.lemmas.Int.{to_z-of_z}
-use Rattle.catalog.proofs.UnusedRowids.{AreTaken, all_taken, fits_before, one_taken}
+use Rattle.catalog.proofs.UnusedRowids.{AreTaken, all_taken, one_taken}
 use Rattle.catalog.proofs.rowids.greatest_unused.Goals as goal
 
 pub taken-preserved : goal.taken-preserved

@@ -1,5 +1,4 @@
-use Rattle.std.proofs.Common.{◌≡◌, ◌⊎◌, rules, map, subst, sym, List, arith}
-use Rattle.std.specs.List.{AllByRecursion}
+use Rattle.std.proofs.Common.{◌≡◌, ◌⊎◌, rules, map, arith}
 use Rattle.sqlval.specs.declared.fault.Fault.TheVariants.{Memory, TooLong}
 use Rattle.dml.specs.Inserting.{AllStorable}
 use Rattle.dml.specs.NewRows.{IsReplacement, IsWritten, entry_left, row_of}

@@ -1,4 +1,3 @@
-use Rattle.std.proofs.Common.{rules, refl}
 use Rattle.dml.proofs.Meant.{copied, not_copied}
 use Rattle.dml.proofs.SetRows.{not_meant}
 use Rattle.dml.proofs.meaning.copies_meant.Goals as goal

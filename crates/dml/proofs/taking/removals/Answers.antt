@@ -1,4 +1,4 @@
-use Rattle.std.proofs.Common.{rules, ◌≡◌, ◌∙◌, ◌++◌, ◌+◌, List, ℤ, pos, [], ◌∷◌, take, slice_index_or, refl, sym, ap, subst}
+use Rattle.std.proofs.Common.{◌≡◌, ◌++◌, ◌+◌, List, ℤ, pos, [], ◌∷◌, take, sym, subst}
 use Rattle.tabletree.specs.Rows.{with_changes}
 use Rattle.tabletree.specs.declared.changing.RowChange.{RowChange}
 use Rattle.dml.specs.Taking.{without_rows}

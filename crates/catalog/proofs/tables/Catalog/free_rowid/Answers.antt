@@ -1,4 +1,4 @@
-use Rattle.std.proofs.Common.{◌≡◌, ◌∙◌, ap, rules, SFits, w64, sym, subst, ℤ, pos, ◌+ℤ◌, length, List}
+use Rattle.std.proofs.Common.{◌≡◌, ◌∙◌, ap, rules, SFits, w64, sym, subst, pos, ◌+ℤ◌, length}
 use Rattle.std.proofs.lemmas.Int.{to_z-of_z}
 use Rattle.catalog.specs.FreeRowids.{IsFree, Rise}
 use Rattle.catalog.specs.Listed.{shared, tables_of}
