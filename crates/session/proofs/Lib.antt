@@ -41,4 +41,5 @@ pub mod StoredFiles
 pub mod Parking
 pub mod Switching
 pub mod FirstRefusals
+mod OtherForms
 mod Turning

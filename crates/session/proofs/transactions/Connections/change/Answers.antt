@@ -4,6 +4,7 @@ use Rattle.session.specs.Representation.{StepsOn, done_reply}
 use Rattle.storage.specs.Forms.{is_supported}
 use Rattle.storage.specs.Schema.{KeepsItsText}
 use Rattle.session.proofs.ErrorCauses.{causes_for}
+use Rattle.session.proofs.OtherForms.{no_other_form}
 use Rattle.session.proofs.StatementCauses.{changes_refused}
 use Rattle.session.proofs.transactions.Connections.change.Goals as goal
 
@@ -15,3 +16,8 @@ returns-in-Some g c = record {
   step = λ supported_forms keeps query. subst (λ (s : Statement). StepsOn c.args.self.now s (done_reply c.write.result) c.write.new.self) c.in-Some.ensures.same
       (c.write.ensures.step (subst (λ (s : Statement). is_supported s ≡ true) (sym c.in-Some.ensures.same) supported_forms) (subst KeepsItsText (sym c.in-Some.ensures.same) keeps));
 }
+
+pub returns-in-None-clause-step : goal.returns-in-None-clause-step
+returns-in-None-clause-step g c supported_forms keeps no_rows =
+    let other = c.in_default in
+    absurd (no_other_form c.args.statement.now supported_forms c.in-None.ensures.none no_rows other.not-Begin other.not-Commit other.not-Rollback other.not-RollbackTo other.not-Savepoint other.not-Release)
