@@ -19,6 +19,8 @@ pub struct FileDisk {
     file: File,
     /// Number of failed calls.
     failures: u64,
+    /// The file is at least so long, in bytes.
+    known_len: u64,
 }
 
 impl FileDisk {
@@ -30,9 +32,39 @@ impl FileDisk {
             .create(true)
             .open(files, name);
         match opened {
-            Ok(file) => Ok(FileDisk { file, failures: 0 }),
+            Ok(file) => Ok(FileDisk {
+                file,
+                failures: 0,
+                known_len: 0,
+            }),
             Err(_) => Err(Fault::Io),
         }
+    }
+
+    /// Writes bytes from an offset on, which is at most the length. The system is asked for it only where the offset isn't known to be.
+    fn write(&mut self, at: u64, bytes: &[u8]) -> io::Result<()>
+        ensures { self.new.failures ≡ self.old.failures }
+    {
+        if at > self.known_len {
+            self.known_len = length(&self.file)?;
+        }
+        if at > self.known_len {
+            return Err(io::ErrorKind::InvalidInput.into());
+        }
+        self.file.write_all_at(bytes, at)?;
+        self.known_len = self.known_len.max(at.saturating_add(bytes.len() as u64));
+        Ok(())
+    }
+
+    /// Cuts the file to a length, which is at most the present one.
+    fn cut_to(&mut self, len: u64) -> io::Result<()>
+        ensures { self.new.failures ≡ self.old.failures }
+    {
+        if len > length(&self.file)? {
+            return Err(io::ErrorKind::InvalidInput.into());
+        }
+        self.known_len = self.known_len.min(len);
+        self.file.set_len(len)
     }
 
     /// The answer of a call, which is counted if it failed.
@@ -61,20 +93,6 @@ fn read(file: &File, at: u64, buf: &mut [u8]) -> io::Result<()> {
     file.read_exact_at(buf, at)
 }
 
-fn write(file: &File, at: u64, bytes: &[u8]) -> io::Result<()> {
-    if at > length(file)? {
-        return Err(io::ErrorKind::InvalidInput.into());
-    }
-    file.write_all_at(bytes, at)
-}
-
-fn cut(file: &File, len: u64) -> io::Result<()> {
-    if len > length(file)? {
-        return Err(io::ErrorKind::InvalidInput.into());
-    }
-    file.set_len(len)
-}
-
 impl Disk for FileDisk {
     ghost use Rattle.std.specs.Prelude.{[], false};
     ghost use Rattle.disk.specs.Replay.{fresh};
@@ -96,12 +114,12 @@ impl Disk for FileDisk {
     }
 
     fn write_at(&mut self, at: u64, bytes: &[u8]) -> R<()> {
-        let answer = write(&self.file, at, bytes);
+        let answer = self.write(at, bytes);
         self.counted(answer)
     }
 
     fn cut(&mut self, len: u64) -> R<()> {
-        let answer = cut(&self.file, len);
+        let answer = self.cut_to(len);
         self.counted(answer)
     }
 
