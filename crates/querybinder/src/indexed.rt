@@ -113,7 +113,8 @@ pub fn bind_index<'a>(
     catalog: &'a Catalog,
     definition: &IndexDefinition,
 ) -> R<BoundIndex<'a>>
-    ensures made { AreOnce (tables_of catalog.now) → IfOk result (λ made. IsIndexOn (tables_of catalog.now) definition.now made.table.now made.columns) }
+    ensures made { AreOnce (tables_of catalog.now)
+        → IfOk result (λ made. IsIndexOn (tables_of catalog.now) definition.now made.table.now made.columns) }
     ensures refused { AreOnce (tables_of catalog.now) → IfErr result (λ fault. (fault ≡ Fault.Memory)
         ⊎ IsIndexRefusal (tables_of catalog.now) definition.now (refusal_of fault)) }
     ensures not_disk { IfErr result (λ fault. IsNotDiskFault fault) }
