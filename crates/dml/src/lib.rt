@@ -15,6 +15,6 @@ pub use choosing::chosen_rowids;
 pub use deleting::delete_takes_its_rows;
 pub use inserting::insert_adds_its_rows;
 pub use meaning::meant_rows;
-pub use putting::{put_new_rows, put_rows};
+pub use putting::put_new_rows;
 pub use taking::take_rows;
-pub use updating::{set_new_rows, set_rows, update_sets_its_rows};
+pub use updating::{set_new_rows, update_sets_its_rows};

@@ -79,17 +79,3 @@ pub fn put_new_rows<P: WritePages>(
     put_records(alloc, pages, table.root, &records)?;
     Ok(added)
 }
-
-/// Puts the rows of an INSERT into the tree of their table, after its own. (As `put_new_rows`.)
-pub fn put_rows<P: WritePages>(alloc: Global, pages: &mut P, insert: BoundInsert<'_>) -> R<()>
-    ensures put { IsTrue (P.Pages.tells (P.Pages.below pages.old))
-        → PutsRows (P.Pages.map pages.old) (P.Pages.map pages.new) (P.Pages.limits (P.Pages.below pages.old)).page
-        insert.entry.table.now.root insert.entry.table.now.columns insert.entry.places.items
-        (map (λ row. row.items) insert.entry.rows.items) result }
-    ensures kept { P.Pages.below pages.new ≡ P.Pages.below pages.old }
-    ensures causes { Causes result (P.Pages.failures pages.old) (P.Pages.failures pages.new)
-        (P.Pages.count pages.new ≡ (P.Pages.limits (P.Pages.below pages.new)).most) }
-{
-    put_new_rows(alloc, pages, insert)?;
-    Ok(())
-}

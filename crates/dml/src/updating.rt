@@ -54,22 +54,3 @@ pub fn set_new_rows<P: WritePages>(
     change_rows(alloc, pages, table.root, &changes)?;
     Ok(new)
 }
-
-/// Sets values in the rows of a table's tree for which a condition is true, or in all where there is none. (As `set_new_rows`.)
-pub fn set_rows<P: WritePages>(
-    alloc: Global,
-    pages: &mut P,
-    table: &Table,
-    condition: &Option<Term>,
-    sets: &[(usize, Term)],
-) -> R<()>
-    ensures set { IsTrue (P.Pages.tells (P.Pages.below pages.old))
-        → SetsRows (P.Pages.map pages.old) (P.Pages.map pages.new) (P.Pages.limits (P.Pages.below pages.old)).page
-        table.now.root table.now.columns sets.now condition.now result }
-    ensures kept { P.Pages.below pages.new ≡ P.Pages.below pages.old }
-    ensures causes { Causes result (P.Pages.failures pages.old) (P.Pages.failures pages.new)
-        (P.Pages.count pages.new ≡ (P.Pages.limits (P.Pages.below pages.new)).most) }
-{
-    set_new_rows(alloc, pages, table, condition, sets)?;
-    Ok(())
-}

@@ -19,7 +19,7 @@ use Rattle.dbheader.proofs.Fronts.{header_moves}
 use Rattle.session.specs.Holding.{Hold}
 use Rattle.session.proofs.Standing.{held_if_stored}
 use Rattle.session.specs.Stored.{ShowsDatabase}
-use Rattle.storage.specs.Stored.{schema_tree}
+use Rattle.stored.specs.Stored.{schema_tree}
 use Rattle.sharing.specs.Layout.{AreShared}
 use Rattle.tabletree.specs.Tree.{IsTableTree}
 use Rattle.tabletree.proofs.SinglePages.{own_tree}
@@ -155,17 +155,15 @@ nothing_shown : (page_size : ℕ) (page : List ℕ) → IsPageSize page_size →
 nothing_shown page_size page served e = record {
   stored = record {
     rows_at = λ root. [];
-    lists = λ name. refl;
-    only = refl;
-    named = record { rising = refl; each_folded = tt };
+    of_tables = record { lists = λ name. refl; only = refl; named = record { rising = refl; each_folded = tt }; once = refl };
     once = λ name t listed. none_listed t listed;
     header = empty_of page_size;
     header_is = subst (λ (b : List ℕ). IsHeader b (empty_of page_size)) (sym (only_page page_size page served e)) (page_header_is page_size page e);
     sized = refl;
     schema = [];
     schema_used = 1 ∷ [];
-    tell = tt;
-    owners = [];
+    tell = record { told = []; all = refl; each = tt };
+    held = [];
     free = [];
     each = tt;
     shared = nothing_shared page_size page served e;

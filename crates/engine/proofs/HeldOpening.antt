@@ -32,13 +32,13 @@ use Rattle.catalog.specs.declared.tables.Catalog.{Catalog}
 use Rattle.pager.specs.Views.{Tells, View, newest_view}
 use Rattle.session.specs.Holding.{StoreFiles, IsFound, IsSettled}
 use Rattle.session.specs.Machine.{fresh}
-use Rattle.storage.specs.Schema.{AreSameTables}
 use Rattle.session.specs.Representation.{RepresentsRunning, ShowTheSame, Represents}
 use Rattle.session.specs.Stored.{ShowsDatabase}
 use Rattle.session.specs.declared.transactions.Connections.{Connections}
-use Rattle.engine.proofs.SameStored.{stores_same}
 use Rattle.session.proofs.Settled.{still_settled}
-use Rattle.engine.specs.Opening.{SeatsList, StartsWith}
+use Rattle.stored.specs.Standing.{StoredOnce}
+use Rattle.stored.specs.Stored.{Stores}
+use Rattle.engine.specs.Opening.{StartsWith}
 use Rattle.session.specs.Seats.{AreFresh, catalog_in}
 use Rattle.session.specs.declared.seats.Seats.{Seats}
 use Rattle.sqlval.specs.Faults.{IsOrOutside, IsOutside}
@@ -159,18 +159,20 @@ seen_of db frames known = record { db = db; frames = frames; page_size = known.p
 
 -- ---- seats
 
-pub not_seated : (tables : List Table) (result : Result Seats Fault) (fault : Fault) → IsErrAnd result (λ e. e ≡ fault) → IsOutside fault → IsOrOutside (SeatsList tables) result
-not_seated tables (Ok seats) fault is why = absurd is
-not_seated tables (Err e) fault is why = subst IsOutside (sym is) why
-
--- seats of a catalog that was loaded
-pub seats_list : (tables : List Table) (catalog : Catalog) (result : Result Seats Fault) → IfOk result AreFresh → IfOk result (λ seats. catalog_in seats ≡ catalog) → IfErr result (λ f. f ≡ Memory) → AreSameTables tables (tables_of catalog) → IsOrOutside (SeatsList tables) result
-seats_list tables catalog (Ok seats) fresh is short lists = record { listed = subst (λ (c : Catalog). AreSameTables tables (tables_of c)) (sym is) lists; fresh = fresh }
-seats_list tables catalog (Err f) fresh is short lists = inl short
+pub short_at_most : (result : Result Seats Fault) → IfErr result (λ f. f ≡ Memory) → IfErr result IsOutside
+short_at_most (Ok seats) short = tt
+short_at_most (Err f) short = inl short
 
 pub seats_find : (Finds : Catalog → Type 0) (catalog : Catalog) (result : Result Seats Fault) → IfOk result (λ seats. catalog_in seats ≡ catalog) → Finds catalog → IfOk result (λ seats. Finds (catalog_in seats))
 seats_find Finds catalog (Ok seats) is finds = subst Finds (sym is) finds
 seats_find Finds catalog (Err f) is finds = tt
+
+-- what was found is the one database that the view shows
+found_shown : StoredOnce → (view : View) (catalog : Catalog) (tables : List Table) (database : Database) → FindsDatabase (pages_in view) view.page_size catalog → ShowsDatabase view tables database → ShowsDatabase view (tables_of catalog) database
+found_shown once view catalog tables database found shown = record {
+  stored = subst (Stores (pages_in view) view.page_size (tables_of catalog)) (once (pages_in view) view.page_size (tables_of catalog) tables found.database database found.stored shown.stored) found.stored;
+  served = shown.served;
+}
 
 module _ {D : Type 0} {g : Ghosts D} where
   -- ---- what was opened
@@ -201,21 +203,21 @@ module _ {D : Type 0} {g : Ghosts D} where
     found = subst IsFound (sym (cut_same old new known db cut)) settled.found;
   }
 
-  -- files that were read at most, and whose log was cut then, start with what was listed
-  pub starts : (tables : List Table) (database : Database) (old mid new : Log D g) (seats : Seats) → ShowTheSame old mid → IsSettled old → ShowsDatabase (newest_view old) tables database
+  -- files that were read at most, and whose log was cut then, start with what was found
+  pub starts : StoredOnce → (tables : List Table) (database : Database) (old mid new : Log D g) (seats : Seats) → ShowTheSame old mid → IsSettled old → ShowsDatabase (newest_view old) tables database
       → state_of new ≡ state_of mid → db_of new ≡ db_of mid → g.tells (log_of new) ≡ g.tells (log_of mid) → IsCut (state_of mid) (g.file (log_of mid)) (g.file (log_of new))
-      → SeatsList tables seats → StartsWith tables database new seats
-  starts tables database old mid new seats same settled stored known db tells cut lists = record {
-    listed = lists.listed;
-    fresh = lists.fresh;
+      → AreFresh seats → FindsDatabase (pages_in (newest_view old)) (newest_view old).page_size (catalog_in seats) → StartsWith database new seats
+  starts once tables database old mid new seats same settled stored known db tells cut fresh found = record {
+    fresh = fresh;
     told = record { db = subst (λ (d : D). IsTrue (g.tells d)) (sym db) same.told.db; log = tells ∙ same.told.log; whole = ap (λ (k : LogState). k.has_failed) known ∙ same.told.whole };
     settled = cut_settled mid new known db cut (still_settled old mid same settled);
-    stored = subst (λ (v : View). ShowsDatabase v tables database) (sym (cut_same mid new known db cut ∙ same.newest)) stored;
+    stored = subst (λ (v : View). ShowsDatabase v (tables_of (catalog_in seats)) database) (sym (cut_same mid new known db cut ∙ same.newest))
+        (found_shown once (newest_view old) (catalog_in seats) tables database found stored);
   }
 
-  pub not_started : (tables : List Table) (database : Database) (files : Log D g) (result : Result Seats Fault) (fault : Fault) → IsErrAnd result (λ e. e ≡ fault) → IsOutside fault → IsOrOutside (StartsWith tables database files) result
-  not_started tables database files (Ok seats) fault is why = absurd is
-  not_started tables database files (Err e) fault is why = subst IsOutside (sym is) why
+  pub not_started : (database : Database) (files : Log D g) (result : Result Seats Fault) (fault : Fault) → IsErrAnd result (λ e. e ≡ fault) → IsOutside fault → IsOrOutside (StartsWith database files) result
+  not_started database files (Ok seats) fault is why = absurd is
+  not_started database files (Err e) fault is why = subst IsOutside (sym is) why
 
   -- the files tell what they hold, and it is this
   pub record IsHeld (tables : List Table) (database : Database) (files : Log D g) : Type 0 where
@@ -269,10 +271,9 @@ module _ {D : Type 0} {g : Ghosts D} where
   }
 
   -- what was started shows the database
-  pub starts_shown : (connections : Connections D g) (tables : List Table) (database : Database) (files : Log D g) (seats : Seats) → StartsWith tables database files seats
+  pub starts_shown : (connections : Connections D g) (database : Database) (files : Log D g) (seats : Seats) → StartsWith database files seats
       → ((db : Database) → Tells files → IsSettled files → AreFresh seats → ShowsDatabase (newest_view files) (tables_of (catalog_in seats)) db → RepresentsRunning connections (fresh db)) → Represents connections (fresh database)
-  starts_shown connections tables database files seats start shown =
-      inr (shown database start.told start.settled start.fresh (record { stored = stores_same (pages_in (newest_view files)) (newest_view files).page_size tables (tables_of (catalog_in seats)) database start.listed start.stored.stored; served = start.stored.served }))
+  starts_shown connections database files seats start shown = inr (shown database start.told start.settled start.fresh start.stored)
 
 -- contents that can be opened are refused when out of memory, or where a call fails
 pub not_opened : (has_called : Type 0) (page_size : ℕ) (counted : Option ℕ) (db log : List ℕ) (told_db told_log : Bool) (fault : Fault)

@@ -9,7 +9,7 @@ use Rattle.grammar.specs.Statements as s
 use Rattle.grammar.specs.Statements.{IsStatement, IsText, is_statement_within}
 use Rattle.grammar.specs.Texts.{IsStatementText, body_end, sql_in}
 use Rattle.parser.proofs.KeptText.{kept_text}
-use Rattle.storage.specs.Schema.{KeepsItsText}
+use Rattle.storage.specs.Forms.{KeepsItsText}
 
 kept_is : (sql : List ℕ) (us : List Symbol) (c : Create) (x : Statement) → IsStatement sql us x → x ≡ statement.Create c → c.sql ≡ sql
 kept_is sql _ c _ (s.create {us = us} {o = o} d) e = sym (ap (λ (c : Create). c.sql) (same_create (record { sql = sql; object = o }) c e))

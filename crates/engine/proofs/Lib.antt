@@ -18,5 +18,4 @@ pub mod GivenUp
 pub mod Served
 pub mod Marked
 mod LoadedFiles
-mod SameStored
 mod OneView

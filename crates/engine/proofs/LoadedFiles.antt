@@ -16,7 +16,7 @@ use Rattle.pager.specs.Sights.{UnderReader, tells_reader, under_reader, view_und
 use Rattle.pager.specs.Views.{Tells, View, newest_view, view_at}
 use Rattle.pager.proofs.Mapping.{count_to, maps_shown}
 use Rattle.pager.proofs.Sighting.{view_told}
-use Rattle.storage.specs.Stored.{IsCounted, Stores}
+use Rattle.stored.specs.Stored.{IsCounted, Stores}
 use Rattle.session.specs.Holding.{IsFound}
 use Rattle.session.specs.Writers.{IsNewest}
 use Rattle.session.specs.Stored.{ShowsDatabase}

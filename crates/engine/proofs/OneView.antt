@@ -12,8 +12,8 @@ use Rattle.wal.proofs.Openable.{committed_one, one_size, some_size}
 use Rattle.catalog.specs.Database.{Database}
 use Rattle.pager.specs.Maps.{pages_in}
 use Rattle.pager.specs.Views.{View}
-use Rattle.storage.specs.Stored.{Stores}
-use Rattle.loading.specs.Unique.{StoredOnce}
+use Rattle.stored.specs.Stored.{Stores}
+use Rattle.stored.specs.Standing.{StoredOnce}
 use Rattle.session.specs.Holding.{StoreFiles}
 use Rattle.session.proofs.StoredFiles.{stored_if_held}
 use Rattle.engine.specs.Promises.{HeldOnce}

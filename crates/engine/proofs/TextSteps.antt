@@ -21,7 +21,7 @@ use Rattle.grammar.specs.Texts.{IsStatementText, IsUnsupportedText, pieces_of, s
 use Rattle.session.specs.Supported.{StepSoFar}
 use Rattle.session.specs.ConnectionState.{first_refusal}
 use Rattle.session.specs.Machine.{Machine, Reply, Refused}
-use Rattle.storage.specs.Schema.{KeepsItsText}
+use Rattle.storage.specs.Forms.{KeepsItsText}
 use Rattle.session.specs.Representation.{Steps}
 use Rattle.session.specs.Steps.{is_connection}
 use Rattle.session.specs.Texts.{IsCandidate, IsTextFault, StepByText, is_long}

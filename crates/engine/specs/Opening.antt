@@ -10,7 +10,6 @@ use Rattle.sqlval.specs.declared.fault.Fault.{Fault}
 use Rattle.sqlval.specs.declared.fault.Fault.TheVariants.{Io, Blank}
 use Rattle.catalog.specs.Database.{Database}
 use Rattle.catalog.specs.Listed.{tables_of}
-use Rattle.catalog.specs.declared.tables.Table.{Table}
 use Rattle.walframe.specs.Accepted.{KeepsFile}
 use Rattle.walframe.specs.Written.{Framed}
 use Rattle.walframe.specs.declared.log_header.Salts.{Salts}
@@ -25,7 +24,6 @@ use Rattle.pager.specs.Views.{Tells, newest_view}
 use Rattle.session.specs.Holding.{Hold, IsSettled}
 use Rattle.session.specs.ConnectionState.{files_of}
 use Rattle.session.specs.Machine.{fresh}
-use Rattle.storage.specs.Schema.{AreSameTables}
 use Rattle.session.specs.Representation.{Represents}
 use Rattle.session.specs.Seats.{AreFresh, catalog_in}
 use Rattle.session.specs.declared.seats.Seats.{Seats}
@@ -82,11 +80,6 @@ pub record IsRefusedOpen {D : Type 0} (tells : D → Bool) (file : D → File) (
   pub io : refused.fault ≡ Io → Rose (failures db) (failures refused.db) ⊎ Rose (failures log) (failures refused.log)
   pub blank : IsTrue (tells db) → TellsBlank (file db).content refused.fault
 
--- the catalog lists these tables, and no connection has a transaction
-pub record SeatsList (tables : List Table) (seats : Seats) : Type 0 where
-  pub listed : AreSameTables tables (tables_of (catalog_in seats))
-  pub fresh : AreFresh seats
-
 module _ {D : Type 0} {g : Ghosts D} where
   -- nothing is known anew of the log, and the files are as they were
   pub record KeepsFiles (old new : Log D g) : Type 0 where
@@ -124,13 +117,12 @@ module _ {D : Type 0} {g : Ghosts D} where
     pub db_counts : g.failures db ≤ g.failures (db_disk engine)
     pub log_counts : g.failures log ≤ g.failures (log_disk engine)
 
-  -- The catalog lists these tables, no connection has a transaction, and the files are settled and hold the database.
-  pub record StartsWith (tables : List Table) (database : Database) (files : Log D g) (seats : Seats) : Type 0 where
-    pub listed : AreSameTables tables (tables_of (catalog_in seats))
+  -- No connection has a transaction, and the files are settled and hold the database of the tables that the catalog lists.
+  pub record StartsWith (database : Database) (files : Log D g) (seats : Seats) : Type 0 where
     pub fresh : AreFresh seats
     pub told : Tells files
     pub settled : IsSettled files
-    pub stored : ShowsDatabase (newest_view files) tables database
+    pub stored : ShowsDatabase (newest_view files) (tables_of (catalog_in seats)) database
 
   -- What was opened shows the one database; or memory was short, or a disk's call failed.
   abbrev pub Opens : Database → Result (Engine D g) (Refused D) → Type 0

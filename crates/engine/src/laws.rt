@@ -4,7 +4,7 @@ ghost use Rattle.engine.specs.Promises.{CrashKeepsCommits, HeldOnce, HoldsEarlie
 
 use crate::opening::Engine;
 use disk::Disk;
-use loading::pages_store_one_database;
+use stored::pages_store_one_database;
 
 /// What a crash may leave only grows until the next sync: what is said of it at the end of that time is true before.
 pub fn held_earlier()

@@ -2,7 +2,7 @@
 
 ghost use Rattle.std.specs.Prelude.{◌≡◌, ◌⊎◌, List, Ok, Err, IfOk, IfErr, OnOk, MatchResult, IsTrue, IsFalse, true, false};
 ghost use Rattle.dbheader.specs.Header.{IsHeader};
-ghost use Rattle.sqlval.specs.Faults.{IsOrOutside};
+ghost use Rattle.sqlval.specs.Faults.{IsOrOutside, IsOutside};
 ghost use Rattle.dbheader.specs.declared.fields.Header.{Header as FileHeader};
 ghost use Rattle.catalog.specs.Database.{Database};
 ghost use Rattle.catalog.specs.declared.tables.Table.{Table};
@@ -10,13 +10,13 @@ ghost use Rattle.pager.specs.Views.{Tells, newest_view};
 ghost use Rattle.pager.specs.Maps.{pages_in};
 ghost use Rattle.session.specs.Holding.{IsFound, IsSettled};
 ghost use Rattle.session.specs.Stored.{ShowsDatabase};
-ghost use Rattle.loading.specs.Loading.{FindsDatabase, ListsTables};
+ghost use Rattle.loading.specs.Loading.{FindsDatabase};
 ghost use Rattle.disk.specs.File.{IsContentLeft, IsSynced, Throughout};
 ghost use Rattle.walframe.specs.Accepted.{KeepsFile};
 ghost use Rattle.wal.specs.LogState.{db_of, state_of, log_of};
 ghost use Rattle.session.specs.ConnectionState.{HasCause};
 ghost use Rattle.engine.specs.Creating.{CountsIo, is_blank_content};
-ghost use Rattle.engine.specs.Opening.{HasPageSize, IsCutTo, KeepsFiles, KeepsFilesBut, LeavesOpened, ReadsHeader, SeatsList, StartsWith, TellsBlank};
+ghost use Rattle.engine.specs.Opening.{HasPageSize, IsCutTo, KeepsFiles, KeepsFilesBut, LeavesOpened, ReadsHeader, StartsWith, TellsBlank};
 ghost use Rattle.sqlval.specs.declared.fault.Fault.TheVariants.{Io};
 ghost use Rattle.disk.specs.Calls.{Rose};
 ghost use Rattle.syntax.specs.declared.statement.Statement.{Statement};
@@ -37,6 +37,7 @@ use session::{Connections, Seats};
 use sqlval::limits::DATABASE_HEADER_LEN;
 use sqlval::{Fault, Misuse, R};
 use std::alloc::Global;
+use stored::pages_store_one_database;
 use wal::{Log, Refused, Synced, sync_both};
 use walframe::Salts;
 
@@ -72,7 +73,7 @@ fn load_files<D: Disk + Drop>(alloc: Global, log: &mut Log<D>) -> R<Catalog>
     ensures kept { KeepsFiles log.old log.new }
     // The tables of files that hold a database are loaded, unless memory runs out or a disk's call fails.
     ensures listed { (tables : List Table) (database : Database) → Tells log.old → ShowsDatabase (newest_view log.old) tables database
-        → IsFound (newest_view log.old) → IsOrOutside (ListsTables tables) result }
+        → IsFound (newest_view log.old) → IfErr result IsOutside }
     // Tables are loaded only of a database that the newest view holds.
     ensures found { Tells log.old → IfOk result (FindsDatabase (pages_in (newest_view log.old)) (newest_view log.old).page_size) }
     ensures cause { HasCause false result log.old log.new }
@@ -93,7 +94,7 @@ fn load_files<D: Disk + Drop>(alloc: Global, log: &mut Log<D>) -> R<Catalog>
 fn load_seats<D: Disk + Drop>(alloc: Global, log: &mut Log<D>) -> R<Seats>
     ensures kept { KeepsFiles log.old log.new }
     ensures listed { (tables : List Table) (database : Database) → Tells log.old → ShowsDatabase (newest_view log.old) tables database
-        → IsFound (newest_view log.old) → IsOrOutside (SeatsList tables) result }
+        → IsFound (newest_view log.old) → IfErr result IsOutside }
     ensures found { Tells log.old → IfOk result (λ seats. FindsDatabase (pages_in (newest_view log.old)) (newest_view log.old).page_size (catalog_in seats)) }
     ensures fresh { IfOk result AreFresh }
     ensures cause { HasCause false result log.old log.new }
@@ -119,12 +120,13 @@ fn load_and_truncate<D: Disk + Drop>(alloc: Global, log: &mut Log<D>) -> R<Seats
         → IfErr result (KeepsFilesBut Io (D.file (db_of log.old)) (D.file (log_of log.old)) (D.file (db_of log.new)) (D.file (log_of log.new))) }
     // Tables are loaded only of a database that the newest view holds.
     ensures found { Tells log.old → IfOk result (λ seats. FindsDatabase (pages_in (newest_view log.old)) (newest_view log.old).page_size (catalog_in seats)) }
-    // Of settled files that hold a database the catalog lists the tables, and the files stay settled.
+    // Of settled files that hold a database the catalog lists its tables, and the files stay settled.
     ensures opens { (tables : List Table) (database : Database) → Tells log.old → IsSettled log.old
-        → ShowsDatabase (newest_view log.old) tables database → IsOrOutside (StartsWith tables database log.new) result }
+        → ShowsDatabase (newest_view log.old) tables database → IsOrOutside (StartsWith database log.new) result }
     ensures cause { HasCause false result log.old log.new }
     ensures not_blank { IfErr result (λ fault. fault ≡ Fault.Blank → ⊥) }
 {
+    pages_store_one_database();
     let seats = load_seats(alloc, log)?;
     log.cut_tail()?;
     Ok(seats)

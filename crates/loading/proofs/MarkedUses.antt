@@ -72,7 +72,7 @@ module _ (map : PageMap) (size : ℕ) (header : Header) (old new : List Bool) (n
   pub marks_refused : (fault : Fault) (result : Result Catalog Fault) (catalog : Catalog) → IsErrAnd result (λ e. e ≡ fault) → IsLoaded map size header old new catalog → (AreAllMarked new → ⊥) → LoadsAll map size header result
   marks_refused fault result catalog is loaded missing =
       all_refused map size header fault result is
-      (λ tables uses are once. absurd (missing (all_marked map old new none long (pages_used uses) once (loaded.same tables uses are (once_unmarked map old new none long (pages_used uses) once)).1)))
+      (λ tables uses are once. absurd (missing (all_marked map old new none long (pages_used uses) once (loaded.same tables uses are (once_unmarked map old new none long (pages_used uses) once)))))
 
   -- each is
   pub all_loaded : (catalog : Catalog) → IsLoaded map size header old new catalog → AreAllMarked new → HasAll map size header catalog
@@ -82,5 +82,4 @@ module _ (map : PageMap) (size : ℕ) (header : Header) (old new : List Bool) (n
         uses = it;
         are = loaded.marked.is;
         once = once_marked map old new none long (pages_used it) all loaded.marked.marks (none_of_uses map size header (tables_of catalog) it loaded.marked.is);
-        same = λ tables others are once. (loaded.same tables others are (once_unmarked map old new none long (pages_used others) once)).0;
       }

@@ -10,12 +10,16 @@ use Rattle.freelist.specs.Freelist.{Trunk, AreTrunks, IsFreelist, first_of}
 use Rattle.treepage.specs.Cells.{Pairwise}
 use Rattle.treepage.specs.Node.{Local}
 use Rattle.overflow.specs.Chains.{IsChain}
-use Rattle.forest.specs.Sides.{Each, each_of, nothing}
+use Rattle.forest.specs.Sides.{Each, children, each_of, nothing}
 use Rattle.tabletree.specs.Tree.{Held, IsHeldAs, IsTableTree, Lies, Tree, pages_of}
-use Rattle.sharing.specs.Layout.{Owner, used_by}
+use Rattle.sqlval.specs.declared.collation.Collation.{Collation}
+use Rattle.indextree.specs.Entries.{Entry as IndexEntry}
+use Rattle.indextree.specs.Tree as index
+use Rattle.sharing.specs.Layout.{Content, HoldsUnder, IsTree, OfEntries, OfRows, Owner, used_by}
 use Rattle.catalog.specs.declared.tables.Table.{Table}
 use Rattle.pagecheck.proofs.Parting.{occurs_append}
-use Rattle.loading.specs.Uses.{AreUses, IsOwnerOf, Uses, pages_used}
+use Rattle.loading.specs.Uses.{AreUses, HasTrees, Uses, pages_held, pages_used}
+use Rattle.loading.proofs.TableChecks.{both_held}
 use Rattle.dbheader.specs.declared.fields.Header.{Header}
 
 none_first : (x : ℕ) (xs : List ℕ) → 1 ≤ x → occurs 0 xs ≡ 0 → occurs 0 (x ∷ xs) ≡ 0
@@ -49,6 +53,43 @@ none_of_tree map size (suc depth) t lies =
 none_of_table : (map : PageMap) (size root : ℕ) (rows : List Entry) (used : List ℕ) → IsTableTree map size root rows used → occurs 0 used ≡ 0
 none_of_table map size root rows used tree = subst (λ (pages : List ℕ). occurs 0 pages ≡ 0) tree.used_are (none_of_tree map size tree.depth tree.tree tree.lies)
 
+-- ---- an index's tree
+
+none_of_entries : (map : PageMap) (size : ℕ) (said : List Local) (entries : List index.Held) → Pairwise (index.IsHeldAs map size) said entries → occurs 0 (flat_map (λ held. held.pages) entries) ≡ 0
+none_of_entries map size [] [] all = refl
+none_of_entries map size [] (entry ∷ entries) all = absurd all
+none_of_entries map size (item ∷ said) [] all = absurd all
+none_of_entries map size (item ∷ said) (entry ∷ entries) all =
+    none_both entry.pages (flat_map (λ (held : index.Held). held.pages) entries) (none_of_chain map size _ entry.pages all.0.payload.chain) (none_of_entries map size said entries all.1)
+
+none_of_kids : {T : Type 0} (map : PageMap) (size : ℕ) (P : T → Type 0) (top : T → ℕ) (pages : T → List ℕ) → ((t : T) → P t → occurs 0 (pages t) ≡ 0)
+    → (said : List (ℕ × Local)) (kids : List (T × index.Held)) (last : T) → Pairwise (index.IsKidAs map size) said (children top kids) → Each P kids last
+    → occurs 0 (each_of pages (λ (held : index.Held). held.pages) kids last) ≡ 0
+none_of_kids map size P top pages none said [] last keys all = none last all
+none_of_kids map size P top pages none [] (kid ∷ kids) last keys all = absurd keys
+none_of_kids map size P top pages none (item ∷ said) (kid ∷ kids) last keys all =
+    none_both (pages kid.0) (kid.1.pages ++ each_of pages (λ (held : index.Held). held.pages) kids last) (none kid.0 all.0)
+    (none_both kid.1.pages (each_of pages (λ (held : index.Held). held.pages) kids last) (none_of_chain map size _ kid.1.pages keys.0.1.payload.chain) (none_of_kids map size P top pages none said kids last keys.1 all.1))
+
+none_of_index_tree : (map : PageMap) (size depth : ℕ) (t : index.Tree depth) → index.Lies map size depth t → occurs 0 (index.pages_of depth t) ≡ 0
+none_of_index_tree map size zero t lies = none_first t.page (flat_map (λ (held : index.Held). held.pages) t.entries) lies.says.has.first (none_of_entries map size lies.said t.entries lies.entries)
+none_of_index_tree map size (suc depth) t lies =
+    none_first t.page (each_of (index.pages_of depth) (λ (held : index.Held). held.pages) t.kids t.last) lies.0.says.has.first
+    (none_of_kids map size (index.Lies map size depth) (index.top depth) (index.pages_of depth) (none_of_index_tree map size depth) lies.0.said t.kids t.last lies.0.children lies.1)
+
+none_of_index : (map : PageMap) (size root : ℕ) (columns : List Collation) (entries : List IndexEntry) (used : List ℕ) → index.IsIndexTree map size root columns entries used → occurs 0 used ≡ 0
+none_of_index map size root columns entries used tree = subst (λ (pages : List ℕ). occurs 0 pages ≡ 0) tree.used_are (none_of_index_tree map size tree.depth tree.tree tree.lies)
+
+-- any tree
+none_of_content : (map : PageMap) (size root : ℕ) (used : List ℕ) (content : Content) → HoldsUnder map size root used content → occurs 0 used ≡ 0
+none_of_content map size root used (OfRows rows) tree = none_of_table map size root rows used tree
+none_of_content map size root used (OfEntries columns entries) tree = none_of_index map size root columns entries used tree
+
+none_of_trees : (map : PageMap) (size : ℕ) (owners : List Owner) → AllByRecursion (IsTree map size) owners → occurs 0 (used_by owners) ≡ 0
+none_of_trees map size [] all = refl
+none_of_trees map size (owner ∷ owners) all =
+    none_both owner.used (used_by owners) (none_of_content map size owner.root owner.used owner.content all.0) (none_of_trees map size owners all.1)
+
 -- ---- the freelist
 
 none_of_leaves : (map : PageMap) (leaves : List ℕ) → AllByRecursion (Has map) leaves → occurs 0 leaves ≡ 0
@@ -63,14 +104,16 @@ none_of_trunks map size (trunk ∷ trunks) all =
 
 -- ---- all of them
 
-none_of_owners : (map : PageMap) (size : ℕ) (tables : List Table) (owners : List Owner) → Pairwise (IsOwnerOf map size) tables owners → occurs 0 (used_by owners) ≡ 0
-none_of_owners map size [] [] all = refl
-none_of_owners map size [] (owner ∷ owners) all = absurd all
-none_of_owners map size (t ∷ tables) [] all = absurd all
-none_of_owners map size (t ∷ tables) (owner ∷ owners) all =
-    none_both owner.used (used_by owners) (none_of_table map size t.root all.0.entries owner.used all.0.tree) (none_of_owners map size tables owners all.1)
+none_of_held : (map : PageMap) (size : ℕ) (tables : List Table) (held : List (List Owner)) → Pairwise (HasTrees map size) tables held → occurs 0 (pages_held held) ≡ 0
+none_of_held map size [] [] all = refl
+none_of_held map size [] (trees ∷ held) all = absurd all
+none_of_held map size (t ∷ tables) [] all = absurd all
+none_of_held map size (t ∷ tables) (trees ∷ held) all =
+    let both = both_held trees held 0 in
+    let first = none_of_trees map size trees all.0.lie in
+    let rest = none_of_held map size tables held all.1 in omega (arith, both, first, rest)
 
 pub none_of_uses : (map : PageMap) (size : ℕ) (header : Header) (tables : List Table) (uses : Uses) → AreUses map size header tables uses → occurs 0 (pages_used uses) ≡ 0
 none_of_uses map size header tables uses are =
-    none_both uses.schema_used (used_by uses.owners ++ freelist.pages_of uses.trunks) (none_of_table map size 1 uses.schema uses.schema_used are.tree)
-    (none_both (used_by uses.owners) (freelist.pages_of uses.trunks) (none_of_owners map size tables uses.owners are.each) (none_of_trunks map size uses.trunks are.listed.trunks_are))
+    none_both uses.schema_used (pages_held uses.held ++ freelist.pages_of uses.trunks) (none_of_table map size 1 uses.schema uses.schema_used are.tree)
+    (none_both (pages_held uses.held) (freelist.pages_of uses.trunks) (none_of_held map size tables uses.held are.each) (none_of_trunks map size uses.trunks are.listed.trunks_are))

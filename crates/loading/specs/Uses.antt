@@ -1,5 +1,6 @@
--- What the pages of a database are used for: the schema table, a tree for each table, and the freelist.
-use Rattle.std.specs.Prelude.{◌≡◌, ◌≤◌, ◌<◌, ⊤, ℕ, Bool, List, [], ◌++◌, length, MatchOption, Result, Ok, Err}
+-- What the pages of a database are used for: the schema table, the trees of each table, and the freelist.
+use Rattle.std.specs.Prelude.{◌≡◌, ◌≤◌, ◌<◌, ⊤, true, ℕ, Bool, List, ◌++◌, length, MatchOption, Result, Ok, Err}
+use Rattle.std.specs.List.{AllByRecursion}
 use Rattle.sqlval.specs.declared.fault.Fault.{Fault}
 use Rattle.sqlval.specs.Faults.{IsOutside}
 use Rattle.dbheader.specs.Header.{IsHeader, counted_of}
@@ -10,15 +11,18 @@ use Rattle.pages.specs.Map.{PageMap}
 use Rattle.freelist.specs.Freelist.{Trunk, IsFreelist, pages_of}
 use Rattle.treepage.specs.Cells.{Pairwise}
 use Rattle.tabletree.specs.Tree.{IsTableTree}
-use Rattle.sharing.specs.Layout.{OfRows, Owner, used_by}
-use Rattle.catalog.specs.Listed.{tables_of}
+use Rattle.sharing.specs.Layout.{IsTree, Owner, used_by}
+use Rattle.holdings.specs.Trees.{AreTreesOf, IsEntriesTree}
+use Rattle.catalog.specs.Listed.{are_named_once, tables_of}
 use Rattle.catalog.specs.declared.tables.Catalog.{Catalog}
+use Rattle.catalog.specs.declared.tables.Index.{Index}
 use Rattle.catalog.specs.declared.tables.Table.{Table}
-use Rattle.rowprog.specs.Trees.{HoldsFit}
+use Rattle.rowprog.specs.Rows.{TableRow}
+use Rattle.rowprog.specs.Trees.{AreFitRows}
 use Rattle.pagecheck.specs.Exact.{HasMarked}
 use Rattle.pagecheck.specs.Marks.{mark_of, Marks, AreUnmarked}
-use Rattle.storage.specs.Schema.{AreRowsOf}
-use Rattle.loading.specs.Loading.{ListsTables}
+use Rattle.stored.specs.Schema.{AreRowsOf}
+use Rattle.stored.specs.Stored.{all_trees}
 
 -- Page 1 begins with this header, which tells this page size, and counts so many pages, where its count holds.
 pub record IsFirstHeader (page : List ℕ) (page_size size : ℕ) (header : Header) : Type 0 where
@@ -26,37 +30,46 @@ pub record IsFirstHeader (page : List ℕ) (page_size size : ℕ) (header : Head
   pub sized : header.page_size ≡ page_size
   pub counted : MatchOption (counted_of header) (⊤) (λ count. count ≡ size)
 
--- The tree lies under the table's root, and its rows are such as the table may hold.
-pub record IsOwnerOf (map : PageMap) (size : ℕ) (table : Table) (owner : Owner) : Type 0 where
-  pub root_is : owner.root ≡ table.root
-  pub entries : List Entry
-  pub content_is : owner.content ≡ OfRows entries
-  pub tree : IsTableTree map size table.root entries owner.used
-  pub fit : HoldsFit entries (length table.columns)
+-- The pages hold the tree, which has exactly the entries of the rows in the index.
+pub record HasEntries (map : PageMap) (size : ℕ) (rows : List TableRow) (index : Index) (owner : Owner) : Type 0 where
+  pub is : IsEntriesTree rows index owner
+  pub tree : IsTree map size owner
 
--- the schema table's rows and the pages of its tree, the trees of tables, and the freelist
+-- The pages hold these trees, which are those of the table and of its indexes. Their rows are such as the table may hold.
+pub record HasTrees (map : PageMap) (size : ℕ) (table : Table) (trees : List Owner) : Type 0 where
+  pub rows : List TableRow
+  pub are : AreTreesOf table rows trees
+  pub lie : AllByRecursion (IsTree map size) trees
+  pub fit : AreFitRows (length table.columns) rows
+
+-- the pages that the trees of tables use
+abbrev pub pages_held : List (List Owner) → List ℕ
+pages_held held = used_by (all_trees held)
+
+-- the schema table's rows and the pages of its tree, the trees of each table, and the freelist
 pub record Uses : Type 0 where
   pub schema : List Entry
   pub schema_used : List ℕ
-  pub owners : List Owner
+  pub held : List (List Owner)
   pub trunks : List Trunk
 
 -- the pages that are used
 abbrev pub pages_used : Uses → List ℕ
-pages_used uses = uses.schema_used ++ (used_by uses.owners ++ pages_of uses.trunks)
+pages_used uses = uses.schema_used ++ (pages_held uses.held ++ pages_of uses.trunks)
 
--- The pages are used so: the schema table's rows tell these tables, each of them has its tree, and the header tells the freelist.
+-- The pages are used so: the schema table's rows tell these tables, each of them has its trees, and the header tells the freelist.
 pub record AreUses (map : PageMap) (size : ℕ) (header : Header) (tables : List Table) (uses : Uses) : Type 0 where
   pub tree : IsTableTree map size 1 uses.schema uses.schema_used
-  pub tell : AreRowsOf (length map) [] tables uses.schema
-  pub each : Pairwise (IsOwnerOf map size) tables uses.owners
+  pub tell : AreRowsOf (length map) tables uses.schema
+  pub once : are_named_once tables ≡ true
+  pub each : Pairwise (HasTrees map size) tables uses.held
   pub listed : IsFreelist map size header.freelist_trunk header.freelist_count uses.trunks
 
--- The catalog's tables are those that these uses tell, and the pages are marked that are used so.
+-- The pages are marked that are used so for the catalog's tables, and so are those of any other uses.
 pub record IsLoaded (map : PageMap) (size : ℕ) (header : Header) (old new : List Bool) (catalog : Catalog) : Type 0 where
   pub marked : HasMarked (AreUses map size header (tables_of catalog)) pages_used old new
   pub same : (tables : List Table) (uses : Uses) → AreUses map size header tables uses → AreUnmarked old (pages_used uses)
-      → ListsTables tables catalog × Marks old new (pages_used uses)
+      → Marks old new (pages_used uses)
 
 -- where the call answered, tables were loaded and pages marked; where pages that aren't marked are used so, memory was short, or a disk's
 -- call failed
@@ -78,8 +91,6 @@ pub record HasAll (map : PageMap) (size : ℕ) (header : Header) (catalog : Cata
   pub uses : Uses
   pub are : AreUses map size header (tables_of catalog) uses
   pub once : IsEachOnce map (pages_used uses)
-  pub same : (tables : List Table) (others : Uses) → AreUses map size header tables others → IsEachOnce map (pages_used others)
-      → ListsTables tables catalog
 
 -- where the call answered, tables were loaded and each page is used once; where it is, memory was short, or a disk's call failed
 abbrev pub LoadsAll : PageMap → ℕ → Header → Result Catalog Fault → Type 0

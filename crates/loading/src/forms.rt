@@ -2,7 +2,7 @@
 
 ghost use Rattle.std.specs.Prelude.{◌≡◌, ◌==◌, length};
 ghost use Rattle.std.specs.List.{list_all};
-ghost use Rattle.storage.specs.Forms as supported_forms;
+ghost use Rattle.stored.specs.Forms as supported_forms;
 
 use sqlval::Many;
 use syntax::{ColumnDefinition, TableDefinition};

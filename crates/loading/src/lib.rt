@@ -1,15 +1,15 @@
-//! Reads a database's tables, and checks that its pages are theirs.
+//! Reads a database's tables and indexes, and checks that its pages are theirs.
 #![tactic(auto)]
 
+mod adding;
 mod first;
 mod forms;
-mod laws;
+mod index_rows;
 mod loading;
 mod schema;
 mod tables;
 mod tree;
 mod whole;
 
-pub use laws::pages_store_one_database;
 pub use loading::load;
 pub use tree::load_schema;

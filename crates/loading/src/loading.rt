@@ -1,7 +1,7 @@
-//! Loading the tables of a database.
+//! Loading the tables and indexes of a database.
 
 ghost use Rattle.std.specs.Prelude.{◌≡◌, ◌↔◌, ℕ, List, IsTrue, Ok, IfOk, IfErr, OnOk, length};
-ghost use Rattle.sqlval.specs.Faults.{IsNotDiskFault, IsOrOutside, IsOutside};
+ghost use Rattle.sqlval.specs.Faults.{IsNotDiskFault, IsOutside};
 ghost use Rattle.sqlval.specs.PageSizes.{IsPageSize};
 ghost use Rattle.pages.specs.Calls.{Stays};
 ghost use Rattle.pages.specs.Map.{PageMap, AreWhole};
@@ -9,8 +9,8 @@ ghost use Rattle.catalog.specs.Database.{Database};
 ghost use Rattle.catalog.specs.declared.tables.Table.{Table};
 ghost use Rattle.pagecheck.specs.Checks.{CanMark};
 ghost use Rattle.pagecheck.specs.Exact.{AreTold};
-ghost use Rattle.storage.specs.Stored.{IsCounted, Stores};
-ghost use Rattle.loading.specs.Loading.{FindsDatabase, ListsTables};
+ghost use Rattle.stored.specs.Stored.{IsCounted, Stores};
+ghost use Rattle.loading.specs.Loading.{FindsDatabase};
 ghost use Rattle.loading.specs.Uses.{AreAllMarked, LoadsAll, LoadsUses};
 
 use crate::first::read_header;
@@ -89,7 +89,7 @@ fn load_checked<P: Pages>(alloc: Global, pages: &mut P, size: u32) -> R<Catalog>
     ensures listed { (tables : List Table) (database : Database) → IsTrue (P.Pages.tells (P.Pages.below pages.old))
         → size ≡ length (P.Pages.map pages.old)
         → Stores (P.Pages.map pages.old) (P.Pages.limits (P.Pages.below pages.old)).page tables database
-        → IsCounted (P.Pages.map pages.old) → IsOrOutside (ListsTables tables) result }
+        → IsCounted (P.Pages.map pages.old) → IfErr result IsOutside }
     ensures found { IsTrue (P.Pages.tells (P.Pages.below pages.old)) → size ≡ length (P.Pages.map pages.old)
         → IfOk result (FindsDatabase (P.Pages.map pages.old) (P.Pages.limits (P.Pages.below pages.old)).page) }
     ensures stays { Stays P.Pages.below P.Pages.map P.Pages.count P.Pages.failures result pages.old pages.new }
@@ -119,7 +119,7 @@ pub fn load<P: Pages>(alloc: Global, pages: &mut P, size: u32) -> R<Catalog>
     ensures listed { (tables : List Table) (database : Database) → IsTrue (P.Pages.tells (P.Pages.below pages.old))
         → size ≡ length (P.Pages.map pages.old)
         → Stores (P.Pages.map pages.old) (P.Pages.limits (P.Pages.below pages.old)).page tables database
-        → IsCounted (P.Pages.map pages.old) → IsOrOutside (ListsTables tables) result }
+        → IsCounted (P.Pages.map pages.old) → IfErr result IsOutside }
     // Tables are loaded only of a database that the pages hold.
     ensures found { IsTrue (P.Pages.tells (P.Pages.below pages.old)) → size ≡ length (P.Pages.map pages.old)
         → IfOk result (FindsDatabase (P.Pages.map pages.old) (P.Pages.limits (P.Pages.below pages.old)).page) }

@@ -1,9 +1,8 @@
-//! The tables of the schema, as its rows tell them.
+//! The rows of the schema table, and the tables that they tell.
 
-ghost use Rattle.std.specs.Prelude.{◌≡◌, ◌<◌, ◌≤◌, ◌++◌, ◌∷◌, ℕ, List, [], Ok, None, IfOk, IfErr, IsOkAnd, OnOk, true, false, pos, codes, length, map};
+ghost use Rattle.std.specs.Prelude.{◌≡◌, ◌<◌, ◌≤◌, ◌++◌, ◌∷◌, ℕ, Bool, List, [], Ok, IfOk, IfErr, IsOkAnd, OnOk, true, false, pos, length, map};
 ghost use Rattle.sqlval.specs.Fields.{value_of};
 ghost use Rattle.sqlval.specs.declared.value.Value.TheVariants as value;
-ghost use Rattle.page.specs.Leaf.{Entry};
 ghost use Rattle.syntax.specs.declared.create.NewObject.TheVariants as new;
 ghost use Rattle.syntax.specs.declared.statement.Statement.{Statement as Parsed};
 ghost use Rattle.syntax.specs.declared.statement.Statement.TheVariants as parsed;
@@ -11,10 +10,11 @@ ghost use Rattle.grammar.specs.Statements.{is_statement_within};
 ghost use Rattle.grammar.specs.Texts.{IsStatementText};
 ghost use Rattle.syntax.specs.declared.create.Create.{Create as Made};
 ghost use Rattle.sqlval.specs.Faults.{IsOrMemory};
-ghost use Rattle.catalog.specs.Listed as listed;
-ghost use Rattle.catalog.specs.Listed.{defined, described, has_doubled, tables_of};
-ghost use Rattle.storage.specs.Schema.{schema_row, AreSameTables, IsRowOf, IsSameTable};
-ghost use Rattle.loading.specs.Loading.{AddsTables, AddsToldTable, AreRowValues, HasParts, IsOfRow, IsSchemaFault, TellsTable};
+ghost use Rattle.catalog.specs.Listed.{defined, described, has_doubled, is_name_of, tables_of};
+ghost use Rattle.stored.specs.Schema.{schema_row};
+ghost use Rattle.stored.specs.Schema as told;
+ghost use Rattle.loading.specs.Loading.{AreRowValues, HasParts, IsOfRow, IsSchemaFault, TellsTable, bare, kind_text};
+ghost use Rattle.loading.specs.Reading.{AreSound, FindsParts, ReadsTold};
 
 use crate::forms::is_table_supported;
 use catalog::{Catalog, Column, Table, columns_of, is_reserved};
@@ -26,23 +26,25 @@ use syntax::{Create, NewObject, Statement, TableDefinition};
 
 /// A row of the schema table.
 #[derive(Clone, Copy)]
-struct SchemaRow<'a> {
-    rowid: i64,
-    name: &'a str,
-    table_name: &'a str,
-    root: u32,
-    sql: &'a str,
+pub(crate) struct SchemaRow<'a> {
+    pub rowid: i64,
+    /// Whether it is that of a table. Else it is that of an index.
+    pub is_table: bool,
+    pub name: &'a str,
+    pub table_name: &'a str,
+    pub root: u32,
+    pub sql: &'a str,
 }
 
 /// The refusal of a schema row that breaks the format.
-fn damaged() -> Fault
+pub(crate) fn damaged() -> Fault
     ensures { IsSchemaFault result }
 {
     Fault::Damaged(Damage::Schema, 1)
 }
 
 /// The refusal of a schema text: unsupported, or `Memory`.
-fn outside(fault: Fault) -> Fault
+pub(crate) fn outside(fault: Fault) -> Fault
     ensures memory { fault ≡ Fault.Memory → result ≡ Fault.Memory }
     ensures not_disk { IsSchemaFault result }
 {
@@ -52,15 +54,16 @@ fn outside(fault: Fault) -> Fault
     }
 }
 
-/// Checks that the row is that of a table.
-fn is_of_table(kind: Field<'_>) -> R<()>
-    ensures tells { value_of kind.entry ≡ value.Text (codes "table") → result ≡ Ok tt }
-    ensures found { OnOk result (value_of kind.entry ≡ value.Text (codes "table")) }
+/// Whether the row is that of a table. Else it is that of an index.
+fn is_of_table(kind: Field<'_>) -> R<bool>
+    ensures tells { (is : Bool) → value_of kind.entry ≡ value.Text (kind_text is) → result ≡ Ok is }
+    ensures found { IfOk result (λ is. value_of kind.entry ≡ value.Text (kind_text is)) }
     ensures not_disk { IfErr result (λ fault. IsSchemaFault fault) }
 {
     match kind {
-        Field::Text("table") => Ok(()),
-        Field::Text("index") | Field::Text("view") | Field::Text("trigger") => {
+        Field::Text("table") => Ok(true),
+        Field::Text("index") => Ok(false),
+        Field::Text("view") | Field::Text("trigger") => {
             Err(Fault::Unsupported(Feature::StatementForm))
         }
         _ => Err(damaged()),
@@ -75,6 +78,19 @@ fn text_of<'a>(field: Field<'a>) -> R<&'a str>
 {
     match field {
         Field::Text(text) => Ok(text),
+        _ => Err(damaged()),
+    }
+}
+
+/// The text of a CREATE, in a row's field.
+fn sql_of<'a>(field: Field<'a>) -> R<&'a str>
+    ensures tells { (text : List ℕ) → value_of field.entry ≡ value.Text text → IsOkAnd result (λ found. found.now ≡ text) }
+    ensures found { IfOk result (λ text. value_of field.entry ≡ value.Text text.now) }
+    ensures not_disk { IfErr result (λ fault. IsSchemaFault fault) }
+{
+    match field {
+        Field::Text(text) => Ok(text),
+        Field::Null => Err(Fault::Unsupported(Feature::SchemaObject)),
         _ => Err(damaged()),
     }
 }
@@ -94,29 +110,29 @@ fn root_of(field: Field<'_>, size: u32) -> R<u32>
     }
 }
 
-/// The parts of a table's row of this rowid, in a database of `size` pages.
-fn row_of<'a>(rowid: i64, row: &Record<'a>, size: u32) -> R<SchemaRow<'a>>
-    ensures tells { (name table_name : List ℕ) (root : ℕ) (sql : List ℕ) → row.now ≡ schema_row name table_name root sql → 1 < root
-        → root ≤ size
-        → IsOkAnd result (HasParts rowid name table_name root sql) }
+/// The parts of a row of this rowid, in a database of `size` pages.
+pub(crate) fn row_of<'a>(rowid: i64, row: &Record<'a>, size: u32) -> R<SchemaRow<'a>>
+    ensures tells { (is : Bool) (name table_name : List ℕ) (root : ℕ) (sql : List ℕ)
+        → row.now ≡ schema_row (kind_text is) name table_name root sql → 1 < root → root ≤ size
+        → IsOkAnd result (HasParts rowid is name table_name root sql) }
     ensures found { IfOk result (λ parts. AreRowValues size parts row.now × (parts.rowid ≡ rowid)) }
     ensures not_disk { IfErr result (λ fault. IsSchemaFault fault) }
 {
     if row.len() != 5 {
         return Err(Fault::Unsupported(Feature::ColumnCount));
     }
-    is_of_table(row.column(0))?;
     Ok(SchemaRow {
         rowid,
+        is_table: is_of_table(row.column(0))?,
         name: text_of(row.column(1))?,
         table_name: text_of(row.column(2))?,
         root: root_of(row.column(3), size)?,
-        sql: text_of(row.column(4))?,
+        sql: sql_of(row.column(4))?,
     })
 }
 
 /// The statement that the text of a row is.
-fn statement_of(alloc: Global, sql: &str) -> R<Statement>
+pub(crate) fn statement_of(alloc: Global, sql: &str) -> R<Statement>
     ensures tells { (statement : Parsed) → IsStatementText sql.now statement → is_statement_within statement ≡ true
         → length sql.now ≤ 65536 → IsOrMemory (λ found. found ≡ statement) result }
     ensures found { IfOk result (λ statement. IsStatementText sql.now statement × (is_statement_within statement ≡ true)
@@ -130,7 +146,7 @@ fn statement_of(alloc: Global, sql: &str) -> R<Statement>
 }
 
 /// What a CREATE makes.
-fn created_by(statement: &Statement) -> R<&NewObject>
+pub(crate) fn created_by(statement: &Statement) -> R<&NewObject>
     ensures tells { (made : Made) → statement.now ≡ parsed.Create made → IsOkAnd result (λ object. object.now ≡ made.object) }
     ensures found { IfOk result (λ object. (made : Made) × (statement.now ≡ parsed.Create made) × (made.object ≡ object.now)) }
     ensures not_disk { IfErr result (λ fault. IsSchemaFault fault) }
@@ -201,12 +217,12 @@ fn is_of_row(definition: &TableDefinition, row: &SchemaRow<'_>) -> R<()>
 
 /// The table of this row and of the statement that its text is, under the name in the statement.
 fn table_made(alloc: Global, row: &SchemaRow<'_>, statement: &Statement) -> R<Table>
-    ensures tells { (before : List Table) (table : Table) (tells : TellsTable before table row.now) (made : Made)
+    ensures tells { (table : Table) (tells : TellsTable table row.now) (made : Made)
         → statement.now ≡ parsed.Create made → made.object ≡ new.Table tells.definition
-        → IsOrMemory (IsSameTable table) result }
+        → IsOrMemory (λ found. found ≡ bare table) result }
     ensures found { IsStatementText row.now.sql.now statement.now × (is_statement_within statement.now ≡ true)
         × (length row.now.sql.now ≤ 65536)
-        → IfOk result (λ table. (before : List Table) → listed.table_named table.name before ≡ None → TellsTable before table row.now) }
+        → IfOk result (λ table. TellsTable table row.now × (table.indexes ≡ [])) }
     ensures not_disk { IfErr result (λ fault. IsSchemaFault fault) }
 {
     let definition = definition_in(statement)?;
@@ -224,9 +240,8 @@ fn table_made(alloc: Global, row: &SchemaRow<'_>, statement: &Statement) -> R<Ta
 
 /// The table that a row tells, under the name in its definition.
 fn table_of(alloc: Global, row: &SchemaRow<'_>) -> R<Table>
-    ensures tells { (before : List Table) (table : Table) → TellsTable before table row.now → IsOrMemory (IsSameTable table) result }
-    ensures found { IfOk result (λ table. (before : List Table) → listed.table_named table.name before ≡ None
-        → TellsTable before table row.now) }
+    ensures tells { (table : Table) → TellsTable table row.now → IsOrMemory (λ found. found ≡ bare table) result }
+    ensures found { IfOk result (λ table. TellsTable table row.now × (table.indexes ≡ [])) }
     ensures not_disk { IfErr result (λ fault. IsSchemaFault fault) }
 {
     let statement = statement_of(alloc, row.sql)?;
@@ -235,32 +250,28 @@ fn table_of(alloc: Global, row: &SchemaRow<'_>) -> R<Table>
     table
 }
 
-/// Checks that no table of the catalog has this table's name.
+/// Checks that neither a table of the catalog nor an index has this table's name.
 fn is_new(catalog: &Catalog, table: &Table) -> R<()>
-    ensures tells { listed.table_named table.now.name (tables_of catalog.now) ≡ None → result ≡ Ok tt }
-    ensures found { OnOk result (listed.table_named table.now.name (tables_of catalog.now) ≡ None) }
+    ensures tells { is_name_of (tables_of catalog.now) table.now.name ≡ false → result ≡ Ok tt }
+    ensures found { OnOk result (is_name_of (tables_of catalog.now) table.now.name ≡ false) }
     ensures not_disk { IfErr result (λ fault. IsSchemaFault fault) }
 {
-    if catalog.table(table.name.as_str()).is_some() {
+    if catalog.has_name(table.name.as_str()) {
         return Err(Fault::Unsupported(Feature::SchemaObject));
     }
     Ok(())
 }
 
-/// Adds the table that a row of the schema table describes.
-pub fn add_row(alloc: Global, catalog: &mut Catalog, rowid: i64, payload: &[u8], size: u32) -> R<()>
-    // The table of such a row is listed after the others, unless memory runs out.
-    ensures tells { (before : List Table) (table : Table) (entry : Entry) → AreSameTables before (tables_of catalog.old)
-        → entry.rowid ≡ rowid → entry.payload ≡ payload.now → IsRowOf size before table entry
-        → AddsTables (before ++ table ∷ []) result catalog.new }
-    // What is listed after the others is the table that the row tells.
-    ensures found { (entry : Entry) → entry.rowid ≡ rowid → entry.payload ≡ payload.now
-        → OnOk result (AddsToldTable size entry catalog.old catalog.new) }
+/// Adds the table that a row tells, after the others.
+pub(crate) fn add_table(alloc: Global, catalog: &mut Catalog, row: &SchemaRow<'_>) -> R<()>
+    // Where a row tells a table of a new name, that is listed, unless memory runs out.
+    ensures tells { (table : Table) → TellsTable table row.now
+        → ReadsTold true (told.TableTold table) (tables_of catalog.old) (tables_of catalog.new) result }
+    // What is listed is the table that the row tells.
+    ensures found { row.now.is_table ≡ true → OnOk result (FindsParts true row.now (tables_of catalog.old) (tables_of catalog.new)) }
     ensures not_disk { IfErr result (λ fault. IsSchemaFault fault) }
 {
-    let found = Record::over(alloc, payload)?;
-    let row = row_of(rowid, &found, size)?;
-    let table = table_of(alloc, &row)?;
+    let table = table_of(alloc, row)?;
     is_new(catalog, &table)?;
     catalog.add(alloc, table)
 }

@@ -1,18 +1,22 @@
-//! The check of the tables' trees and of their rows.
+//! The check of the tables' trees, of their rows, and of the trees of their indexes.
 
-ghost use Rattle.std.specs.Prelude.{◌≡◌, ℕ, length};
+ghost use Rattle.std.specs.Prelude.{◌≡◌, ℕ, List, length};
 ghost use Rattle.pages.specs.Calls.{Stays};
 ghost use Rattle.pages.specs.Map.{PageMap};
 ghost use Rattle.treepage.specs.Cells.{Pairwise};
 ghost use Rattle.sharing.specs.Layout.{used_by};
 ghost use Rattle.catalog.specs.Listed.{shared};
+ghost use Rattle.rowprog.specs.Rows.{TableRow};
+ghost use Rattle.rowprog.specs.Trees.{HasRows};
 ghost use Rattle.pagecheck.specs.Checks.{CanMark};
 ghost use Rattle.pagecheck.specs.Exact.{AreTold, Checks};
-ghost use Rattle.loading.specs.Uses.{IsOwnerOf};
+ghost use Rattle.loading.specs.Uses.{HasEntries, HasTrees, pages_held};
 
 use bind::BoundSource;
-use catalog::Table;
-use pagecheck::check_tree;
+use catalog::{Index, Table};
+use indexes::collations_of;
+use indexing::check_entries;
+use pagecheck::{check_index_tree, check_tree};
 use pages::Pages;
 use rowprog::check_tree_rows;
 use sqlval::R;
@@ -30,7 +34,53 @@ fn source_of(table: &Table) -> BoundSource
     }
 }
 
-/// Checks a table's tree and its rows, and marks the tree's pages. (What `check_tree` and `check_tree_rows` refuse.)
+/// Checks the tree of an index of a table, and that it has exactly the entries of the table's rows. Marks the tree's pages. (`Memory`; what
+/// `check_index_tree` and `check_entries` refuse.)
+fn check_index<P: Pages>(
+    alloc: Global,
+    pages: &mut P,
+    table: &Table,
+    index: &Index,
+    marks: &mut Vec<bool>,
+) -> R<()>
+    ensures checked { (map : PageMap) (size : ℕ)
+        → AreTold P.Pages.below P.Pages.tells P.Pages.limits P.Pages.map pages.old map size → CanMark map size marks.old.items
+        → (rows : List TableRow) → HasRows map size table.now.root (length table.now.columns) rows
+        → Checks (HasEntries map size rows index.now) (λ owner. owner.used) marks.old.items marks.new.items result }
+    ensures long { length marks.new.items ≡ length marks.old.items }
+    ensures stays { Stays P.Pages.below P.Pages.map P.Pages.count P.Pages.failures result pages.old pages.new }
+{
+    let columns = index.columns.as_slice();
+    let collations = collations_of(alloc, columns)?;
+    check_index_tree(alloc, pages, index.root, &collations, marks)?;
+    check_entries(alloc, pages, index.root, source_of(table), columns)
+}
+
+/// Checks the trees of a table's indexes, and marks their pages. (What `check_index` refuses.)
+fn check_indexes<P: Pages>(
+    alloc: Global,
+    pages: &mut P,
+    table: &Table,
+    indexes: &[Index],
+    marks: &mut Vec<bool>,
+) -> R<()>
+    ensures checked { (map : PageMap) (size : ℕ)
+        → AreTold P.Pages.below P.Pages.tells P.Pages.limits P.Pages.map pages.old map size → CanMark map size marks.old.items
+        → (rows : List TableRow) → HasRows map size table.now.root (length table.now.columns) rows
+        → Checks (Pairwise (HasEntries map size rows) indexes.now) used_by marks.old.items marks.new.items result }
+    ensures long { length marks.new.items ≡ length marks.old.items }
+    ensures stays { Stays P.Pages.below P.Pages.map P.Pages.count P.Pages.failures result pages.old pages.new }
+{
+    let mut rest = indexes;
+    'indexes: while let [index, after @ ..] = rest {
+        check_index(alloc, pages, table, index, marks)?;
+        rest = after;
+    }
+    Ok(())
+}
+
+/// Checks a table's tree, its rows and the trees of its indexes, and marks their pages. (What `check_tree`, `check_tree_rows` and
+/// `check_indexes` refuse.)
 fn check_table<P: Pages>(
     alloc: Global,
     pages: &mut P,
@@ -39,15 +89,16 @@ fn check_table<P: Pages>(
 ) -> R<()>
     ensures checked { (map : PageMap) (size : ℕ)
         → AreTold P.Pages.below P.Pages.tells P.Pages.limits P.Pages.map pages.old map size → CanMark map size marks.old.items
-        → Checks (IsOwnerOf map size table.now) (λ owner. owner.used) marks.old.items marks.new.items result }
+        → Checks (HasTrees map size table.now) used_by marks.old.items marks.new.items result }
     ensures long { length marks.new.items ≡ length marks.old.items }
     ensures stays { Stays P.Pages.below P.Pages.map P.Pages.count P.Pages.failures result pages.old pages.new }
 {
     check_tree(alloc, pages, table.root, marks)?;
-    check_tree_rows(alloc, pages, source_of(table))
+    check_tree_rows(alloc, pages, source_of(table))?;
+    check_indexes(alloc, pages, table, table.indexes.as_slice(), marks)
 }
 
-/// Checks the trees of tables and their rows, and marks the trees' pages. (What `check_table` refuses.)
+/// Checks the trees of tables and of their indexes, and marks the trees' pages. (What `check_table` refuses.)
 pub(crate) fn check_tables<P: Pages>(
     alloc: Global,
     pages: &mut P,
@@ -56,7 +107,7 @@ pub(crate) fn check_tables<P: Pages>(
 ) -> R<()>
     ensures checked { (map : PageMap) (size : ℕ)
         → AreTold P.Pages.below P.Pages.tells P.Pages.limits P.Pages.map pages.old map size → CanMark map size marks.old.items
-        → Checks (Pairwise (IsOwnerOf map size) (shared tables.now)) used_by marks.old.items marks.new.items result }
+        → Checks (Pairwise (HasTrees map size) (shared tables.now)) pages_held marks.old.items marks.new.items result }
     ensures long { length marks.new.items ≡ length marks.old.items }
     ensures stays { Stays P.Pages.below P.Pages.map P.Pages.count P.Pages.failures result pages.old pages.new }
 {

@@ -14,7 +14,7 @@ use Rattle.sharing.proofs.Sharing.{index_trees_stand, replaces_trees, trees_stan
 use Rattle.catalog.specs.declared.tables.Index.{Index}
 use Rattle.rowprog.specs.Rows.{TableRow}
 use Rattle.indexes.specs.Entries.{collations, entries_of_rows}
-use Rattle.rowstore.specs.Trees.{IsEntriesTree, columns_of}
+use Rattle.holdings.specs.Trees.{IsEntriesTree, columns_of}
 
 -- the tree of rows, and that of an index's entries
 abbrev pub rows_tree : ℕ → List TableEntry → List ℕ → Owner

@@ -20,7 +20,7 @@ use Rattle.catalog.specs.declared.tables.Table.{Table}
 use Rattle.rowprog.specs.Rows.{TableRow}
 use Rattle.indexes.specs.Entries.{collations, entries_of_rows}
 use Rattle.rowstore.specs.Changing.{DropsTrees, FreesIndex, with_indexes}
-use Rattle.rowstore.specs.Trees.{HoldsNow, IsEntriesTree, columns_of}
+use Rattle.holdings.specs.Trees.{HoldsNow, IsEntriesTree, columns_of}
 use Rattle.rowstore.specs.Turning.{AreLeft, FreesIndexes}
 use Rattle.rowstore.proofs.Among.{entries_stand, keeps_then, one_gone, rows_tree}
 use Rattle.rowstore.proofs.Owned.{RowsStand, rows_among}

@@ -22,7 +22,7 @@ use Rattle.indexes.specs.Entries.{Columns, collations, entries_of_rows, indexed}
 use Rattle.indexes.specs.Keeping.{columns_in}
 use Rattle.indexing.specs.Making.{MakesIndex}
 use Rattle.rowstore.specs.Changing.{AddsIndex, HasIndex, IsTooLongFor, with_indexes}
-use Rattle.rowstore.specs.Trees.{HoldsNow, IsEntriesTree}
+use Rattle.holdings.specs.Trees.{HoldsNow, IsEntriesTree}
 use Rattle.rowstore.specs.Turning.{CanBeIndexed}
 use Rattle.rowstore.proofs.Among.{entries_tree, is_entries_tree, one_come, rows_tree}
 use Rattle.rowstore.proofs.Dropped.{after_some}

@@ -3,7 +3,7 @@ mod Deleted
 mod Dropped
 mod Indexed
 mod Inserted
-mod Looping
+pub mod Looping
 mod Owned
 mod SetShuffles
 mod Shuffling

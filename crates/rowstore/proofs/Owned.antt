@@ -18,7 +18,7 @@ use Rattle.rowprog.specs.Rows.{IsRow, TableRow}
 use Rattle.rowprog.specs.Trees.{HasRows}
 use Rattle.indexes.specs.Entries.{AreApart, Columns, collations, entries_of_rows}
 use Rattle.indexing.proofs.Makings.{are_apart}
-use Rattle.rowstore.specs.Trees.{AreAmong, AreTreesOf, HoldsNow, IsEntriesTree, IsRowsTree, columns_of}
+use Rattle.holdings.specs.Trees.{AreAmong, AreTreesOf, HoldsNow, IsEntriesTree, IsRowsTree, columns_of}
 use Rattle.rowstore.specs.Turning.{HaveEntries, HaveNow}
 use Rattle.rowstore.proofs.Among.{keeps_then, one_replaced, regrouped, rows_stand, rows_tree}
 

@@ -15,7 +15,7 @@ use Rattle.catalog.specs.declared.tables.Index.{Index}
 use Rattle.rowprog.specs.Rows.{TableRow}
 use Rattle.indexes.specs.Entries.{Columns, collations, entries_of_rows}
 use Rattle.indexes.specs.Keeping.{AddsEntries, TakesEntries, Turns}
-use Rattle.rowstore.specs.Trees.{IsEntriesTree, columns_of}
+use Rattle.holdings.specs.Trees.{IsEntriesTree, columns_of}
 use Rattle.rowstore.specs.Turning.{AddsToIndexes, AreEntriesStorable, AreLeft, CanBeIndexed, ClearsIndexes, FreesIndexes, HaveEntries, HaveNow, TakesFromIndexes, TurnIndexes}
 use Rattle.rowstore.proofs.Among.{entries_stand, entries_tree, is_entries_tree, keeps_all, keeps_then, one_gone, one_replaced, regrouped}
 

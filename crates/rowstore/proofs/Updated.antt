@@ -26,7 +26,7 @@ use Rattle.dml.proofs.SetTrees.{meant_by}
 use Rattle.indexes.specs.Entries.{AreApart, indexed}
 use Rattle.indexes.specs.Keeping.{row_in}
 use Rattle.rowstore.specs.Changing.{AreUpdated, IsRefusedUpdate, UpdatesInTrees, UpdatesTooLong}
-use Rattle.rowstore.specs.Trees.{columns_of}
+use Rattle.holdings.specs.Trees.{columns_of}
 use Rattle.rowstore.specs.Turning.{AddsToIndexes, AreEntriesStorable, HaveEntries, HaveNow, TakesFromIndexes}
 use Rattle.rowstore.proofs.Among.{keeps_then, rows_tree}
 use Rattle.rowstore.proofs.Owned.{RowsStand, fit_apart, has_rows, indexes_stand, rows_among, same_entries, table_holds}

@@ -20,7 +20,7 @@ use Rattle.dml.specs.Choosing.{rows_left}
 use Rattle.dml.specs.Inserting.{AllStorable, IsRefusedAs, last_rowid, rows_added}
 use Rattle.dml.specs.Setting.{rows_set}
 use Rattle.indexes.specs.Keeping.{columns_in}
-use Rattle.rowstore.specs.Trees.{AreAmong, HoldsNow}
+use Rattle.holdings.specs.Trees.{AreAmong, HoldsNow}
 use Rattle.rowstore.specs.Turning.{AreEntriesStorable, AreLeft, CanBeIndexed}
 
 -- Among all trees of a file stand those of the table, with rows that it may hold. Then what is made of them and of the rows holds, or the

@@ -1,3 +1,2 @@
-pub mod Trees
 pub mod Turning
 pub mod Changing

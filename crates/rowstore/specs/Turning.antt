@@ -14,7 +14,7 @@ use Rattle.sharing.specs.Layout.{AreShared, Owner}
 use Rattle.catalog.specs.declared.tables.Index.{Index}
 use Rattle.rowprog.specs.Rows.{TableRow}
 use Rattle.indexes.specs.Entries.{AreApart, Columns, indexed}
-use Rattle.rowstore.specs.Trees.{IsEntriesTree, columns_of}
+use Rattle.holdings.specs.Trees.{IsEntriesTree, columns_of}
 
 -- a record can hold the entry of each row in an index of these columns
 abbrev pub CanBeIndexed : Columns → List TableRow → Type 0

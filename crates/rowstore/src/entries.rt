@@ -3,7 +3,7 @@
 ghost use Rattle.std.specs.Prelude.{◌≡◌, IsTrue, map};
 ghost use Rattle.pages.specs.Calls.{Causes};
 ghost use Rattle.indexes.specs.Keeping.{AddsEntries, TakesEntries, row_in};
-ghost use Rattle.rowstore.specs.Trees.{columns_of};
+ghost use Rattle.holdings.specs.Trees.{columns_of};
 ghost use Rattle.rowstore.specs.Turning.{AddsToIndexes, ClearsIndexes, FreesIndexes, TakesFromIndexes};
 
 use catalog::{Index, TableRow};

@@ -25,7 +25,7 @@ use Rattle.session.specs.Supported.{StepSoFar}
 use Rattle.session.specs.ConnectionState.{files_of}
 use Rattle.session.specs.Machine.{Machine, Connection, Idle, Rows, Refused, Writes, another, is_writing, last_place, newest, with_connection}
 use Rattle.session.specs.Outcomes.{Gives, RefusedBy, begun, outcome}
-use Rattle.storage.specs.Stored.{Stores}
+use Rattle.stored.specs.Stored.{Stores}
 use Rattle.session.specs.Stored.{ShowsDatabase}
 use Rattle.pages.specs.Map.{PageMap}
 use Rattle.pager.specs.Maps.{pages_in}

@@ -27,7 +27,7 @@ use Rattle.pager.specs.Marks.{Changes, IsOverTheSame, now_of}
 use Rattle.pager.proofs.Sounding.{sound_alike, sound_from, sound_to}
 use Rattle.pager.proofs.WriterSights.{map_told}
 use Rattle.storage.specs.Changing as pages
-use Rattle.storage.specs.Stored.{Stores}
+use Rattle.stored.specs.Stored.{Stores}
 use Rattle.session.specs.Changing.{CanChange, ChangesPages, Listing, MakesCatalog, listing}
 use Rattle.session.specs.Representation.{ShowTheSame}
 use Rattle.session.specs.Writers.{IsNewest, IsWriter}

@@ -1,8 +1,8 @@
 -- Worked examples of connections.
-use Rattle.std.specs.Prelude.{◌≡◌, ⊤, false, refl, ℕ, zero, suc, pos, codes, None, Some, Err, List, [], ◌∷◌, ◌++◌}
+use Rattle.std.specs.Prelude.{◌≡◌, ⊤, Bool, true, false, refl, ℕ, zero, suc, pos, codes, None, Some, Err, List, [], ◌∷◌, ◌++◌}
 use Rattle.std.proofs.Common.{inl, inr, arith, sym, subst, ◌⊎◌}
 use mathlib.Core.Bool.{true≢false}
-use Rattle.sqlval.specs.Refusals.{Busy, StaleSnapshot, NoTransaction, NoSavepoint, InTransaction, Misuse, NoSuch, Raised, RaisedRollback, TooLong, Unsupported}
+use Rattle.sqlval.specs.Refusals.{Busy, Exists, StaleSnapshot, NoTransaction, NoSavepoint, InTransaction, Misuse, NoSuch, Raised, RaisedRollback, TooLong, Unsupported}
 use Rattle.sqlval.specs.declared.value.Value.{Value}
 use Rattle.syntax.specs.Tree.{Binary, Raise}
 use Rattle.syntax.specs.declared.create.NewObject.TheVariants as new
@@ -13,6 +13,7 @@ use Rattle.syntax.specs.declared.expr.Operator.TheVariants as op
 use Rattle.syntax.specs.declared.expr.RaiseAction.TheVariants.{Rollback}
 use Rattle.syntax.specs.declared.statement.BeginMode.TheVariants as begins
 use Rattle.syntax.specs.declared.statement.CheckpointMode.TheVariants as checkpoint
+use Rattle.syntax.specs.declared.statement.ObjectKind.TheVariants as kind
 use Rattle.syntax.specs.declared.statement.Statement.{Statement}
 use Rattle.syntax.specs.declared.statement.Statement.TheVariants as statement
 use Rattle.catalog.specs.Database.{Name, Database, ATrigger, with_object}
@@ -44,6 +45,14 @@ read = selecting (named a ∷ []) t
 abbrev x : Name
 x = codes "x"
 
+-- CREATE INDEX x ON t(a), or CREATE UNIQUE INDEX
+abbrev indexing : Bool → Statement
+indexing is_unique = creating (new.Index (record { is_unique = is_unique; name = x; table = t; columns = record { name = a; collation = None } ∷ [] }))
+
+-- DROP INDEX x
+abbrev dropping : Statement
+dropping = statement.Drop kind.Index x
+
 -- INSERT INTO nosuch VALUES (1)
 abbrev into_nosuch : Statement
 into_nosuch = inserting (codes "nosuch") (number 1 ∷ [])
@@ -54,6 +63,12 @@ times (suc n) a = a ∷ times n a
 
 abbrev i : ℕ → List Value
 i n = int n ∷ []
+
+-- an index is made and dropped once, beside rows that come
+pub indexed : replies (fresh []) ((1, create) ∷ (1, add 1) ∷ (2, indexing false) ∷ (1, indexing false) ∷ (1, add 2) ∷ (1, read) ∷ (1, dropping) ∷ (1, dropping) ∷ [])
+    ≡ ok ∷ ok ∷ ok ∷ Refused Exists ∷ ok ∷ Rows (i 1 ∷ i 2 ∷ []) ∷ ok ∷ Refused NoSuch ∷ []
+unfolding outcome
+indexed = refl
 
 pub snapshots : replies (fresh []) ((1, create) ∷ (1, add 1) ∷ (1, begin) ∷ (1, read) ∷ (2, add 2) ∷ (1, read) ∷ (1, add 3) ∷ (1, statement.Commit) ∷ (1, add 3) ∷ (1, read) ∷ [])
     ≡ ok ∷ ok ∷ ok ∷ Rows (i 1 ∷ []) ∷ ok ∷ Rows (i 1 ∷ []) ∷ Refused StaleSnapshot ∷ ok ∷ ok ∷ Rows (i 1 ∷ i 2 ∷ i 3 ∷ []) ∷ []
@@ -136,11 +151,8 @@ inserted = inr (inr (refl, refl, inl (inr (no_faults_behind one (insert t (numbe
 pub inserted_so_far : StepSoFar (fresh one) 1 (add 1) (Rows []) (after_commit (fresh one) 1 (with_object one t (table (col a ∷ []) ((pos 1, i 1) ∷ []))))
 inserted_so_far = inl (refl, inl inserted)
 
--- CREATE INDEX x ON t(a)
-abbrev indexing : Statement
-indexing = statement.Create (record { sql = []; object = new.Index (record { is_unique = false; name = x; table = t; columns = record { name = a; collation = None } ∷ [] }) })
-
-pub unsupported_form : StepSoFar (fresh one) 1 indexing (Refused Unsupported) (fresh one)
+-- CREATE UNIQUE INDEX x ON t(a)
+pub unsupported_form : StepSoFar (fresh one) 1 (indexing true) (Refused Unsupported) (fresh one)
 unsupported_form = inr (refl, refl, inr (inr (refl, refl, inl refl)))
 
 -- g AFTER DELETE ON t WHEN OLD.a = 99: DELETE FROM nosuch. DELETE FROM t, where t has no row

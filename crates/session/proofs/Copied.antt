@@ -26,7 +26,7 @@ use Rattle.pager.specs.Writers.{snapshot_of}
 use Rattle.pager.specs.declared.writer.Writer.{Writer}
 use Rattle.pager.proofs.Mapping.{maps_shown}
 use Rattle.checkpoint.specs.Shown.{Checkpoints, LeaveShown, MayCopy, Meanwhile, ShowsNewest, ShowsSame, view_over}
-use Rattle.storage.specs.Stored.{Stores}
+use Rattle.stored.specs.Stored.{Stores}
 use Rattle.session.specs.Holding.{Hold, HoldThroughout, IsFound, IsSettled, LeaveHeld}
 use Rattle.session.specs.Machine.{Connection}
 use Rattle.session.specs.Representation.{AreParked, IsSnapshotOf, IsTransaction, IsWritingIn, committed_at, newest_in}

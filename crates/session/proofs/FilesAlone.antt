@@ -18,7 +18,7 @@ use Rattle.pager.specs.Maps.{pages_in}
 use Rattle.pager.specs.Views.{View}
 use Rattle.pager.proofs.Mapping.{maps_shown, maps_within}
 use Rattle.pager.proofs.Standing.{alone_back, alone_forth}
-use Rattle.storage.specs.Stored.{Stores}
+use Rattle.stored.specs.Stored.{Stores}
 use Rattle.session.specs.Holding.{IsFound}
 use Rattle.session.specs.Stored.{ShowsDatabase}
 use Rattle.session.proofs.StandingViews.{one_header}

@@ -15,8 +15,8 @@ use Rattle.pager.specs.Maps.{pages_in}
 use Rattle.pager.specs.Views.{IsViewPage, View, ViewHas}
 use Rattle.pager.specs.Writers.{IsHeaded}
 use Rattle.pager.proofs.Mapping.{count_to, maps_shown, page_in, same_found, shows_mapped}
-use Rattle.storage.proofs.Headings.{IsReheaded, stores_new}
-use Rattle.storage.specs.Stored.{Stores}
+use Rattle.stored.proofs.Headings.{IsReheaded, stores_new}
+use Rattle.stored.specs.Stored.{Stores}
 use Rattle.session.specs.Stored.{ShowsDatabase}
 
 -- page 1, as a view's map has it

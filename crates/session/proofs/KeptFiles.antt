@@ -18,7 +18,7 @@ use Rattle.pager.specs.Writers.{snapshot_of}
 use Rattle.pager.specs.declared.writer.Writer.{Writer}
 use Rattle.pager.proofs.Sighting.{tells_read, view_told}
 use Rattle.pager.proofs.WriterSights.{map_told, tells_write}
-use Rattle.storage.specs.Stored.{Stores}
+use Rattle.stored.specs.Stored.{Stores}
 use Rattle.session.specs.Representation.{ShowTheSame}
 use Rattle.session.specs.Writers.{IsWriter}
 use Rattle.session.specs.Stored.{ShowsDatabase}

@@ -27,7 +27,7 @@ use Rattle.pager.specs.Writers.{BeginAtPageOne, seen, snapshot_of}
 use Rattle.pager.specs.declared.writer.Writer.{Writer}
 use Rattle.pager.proofs.Mapping.{count_to, maps_alike, shows_mapped}
 use Rattle.pager.proofs.NewPages.{new_twice}
-use Rattle.storage.specs.Stored.{Stores}
+use Rattle.stored.specs.Stored.{Stores}
 use Rattle.session.specs.ConnectionState.{files_of, has_failed_in, is_io}
 use Rattle.session.specs.Applying.{CanApply, CommitsChanges, CommitsDatabase, HoldsEither, IsAfterCommit, IsAfterRefusal, IsCommitCause, IsInDoubt, IsPast, IsUncommitted, WritesChanges}
 use Rattle.session.specs.Representation.{Beside, ShowTheSame, beside_in, is_alone}

@@ -17,7 +17,7 @@ use Rattle.pager.specs.Writers.{seen, snapshot_of}
 use Rattle.pager.proofs.Mapping.{maps_within}
 use Rattle.pager.proofs.Seeing.{seen_from, seen_to}
 use Rattle.checkpoint.specs.Shown.{ShowsSame}
-use Rattle.storage.specs.Stored.{Stores}
+use Rattle.stored.specs.Stored.{Stores}
 use Rattle.session.specs.Stored.{ShowsDatabase}
 use Rattle.session.proofs.FirstPages.{all_there}
 

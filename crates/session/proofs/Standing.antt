@@ -13,11 +13,11 @@ use Rattle.pager.specs.Maps.{pages_in}
 use Rattle.pager.specs.Views.{View}
 use Rattle.pager.proofs.Mapping.{count_to, maps_shown, shows_mapped}
 use Rattle.filecheck.specs.Stands.{StandsFor}
-use Rattle.storage.specs.Language.{supported_language}
-use Rattle.storage.specs.Stored.{IsCounted}
+use Rattle.stored.specs.Language.{supported_language}
+use Rattle.stored.specs.Stored.{IsCounted}
 use Rattle.session.specs.Holding.{Hold, IsFound, StoreFiles}
 use Rattle.session.specs.Stored.{ShowsDatabase}
-use Rattle.storage.proofs.Standing.{stand_if_stored}
+use Rattle.stored.proofs.Standing.{stand_if_stored}
 use Rattle.session.proofs.StandingViews.{ShowsEach, few_frames, files_make}
 
 module _ (log : List ℕ) (view : View) (commits : HasCommits view.page_size log view.frames) (found : IsFound view) (tables : List Table) (database : Database) (shown : ShowsDatabase view tables database) where

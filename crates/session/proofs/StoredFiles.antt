@@ -17,11 +17,11 @@ use Rattle.catalog.specs.Database.{Database}
 use Rattle.catalog.specs.declared.tables.Table.{Table}
 use Rattle.filecheck.specs.Files.{FilesStandFor}
 use Rattle.pager.specs.Views.{View, ViewHas}
-use Rattle.storage.specs.Language.{supported_language}
-use Rattle.storage.specs.Stored.{Stores}
+use Rattle.stored.specs.Language.{supported_language}
+use Rattle.stored.specs.Stored.{Stores}
 use Rattle.session.specs.Holding.{IsFound, StoreFiles}
 use Rattle.session.specs.Meaning.{HeldFilesAreStored}
-use Rattle.storage.proofs.StoredPages.{stored_if_standing}
+use Rattle.stored.proofs.StoredPages.{stored_if_standing}
 use Rattle.session.proofs.StandingViews.{ShowsEach, only_these}
 
 -- ---- the log's committed frames

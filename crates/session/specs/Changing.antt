@@ -31,6 +31,7 @@ written (write.Delete d) = statement.Change (change.Delete d.now)
 written (write.Update u) = statement.Change (change.Update u.now)
 written (write.Drop kind name) = statement.Drop kind name.now
 written (write.CreateTable sql d) = statement.Create (record { sql = sql.now; object = new.Table d.now })
+written (write.CreateIndex sql d) = statement.Create (record { sql = sql.now; object = new.Index d.now })
 
 -- ---- a writer's pages
 

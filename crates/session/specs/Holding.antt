@@ -13,7 +13,7 @@ use Rattle.catalog.specs.Database.{Database}
 use Rattle.catalog.specs.declared.tables.Table.{Table}
 use Rattle.pager.specs.Views.{View, IsViewPage, newest_view}
 use Rattle.filecheck.specs.Files.{FilesStandFor}
-use Rattle.storage.specs.Language.{supported_language}
+use Rattle.stored.specs.Language.{supported_language}
 use Rattle.session.specs.Machine.{Machine}
 use Rattle.session.specs.Crashes.{MayShow}
 use Rattle.session.specs.Stored.{ShowsDatabase}

@@ -12,8 +12,10 @@ ghost use Rattle.session.specs.Changing.{CanChange, ChangesPages, MakesCatalog, 
 ghost use Rattle.session.specs.ConnectionState.{HasCause};
 ghost use Rattle.session.specs.Limits.{may_be_full};
 ghost use Rattle.session.specs.Representation.{ShowTheSame};
-ghost use Rattle.storage.specs.Schema.{IsCreateOf, WhereSupported};
 ghost use Rattle.storage.specs.Forms as forms;
+ghost use Rattle.storage.specs.Forms.{WhereSupported};
+ghost use Rattle.stored.specs.Forms.{is_object_supported};
+ghost use Rattle.stored.specs.Schema.{IsCreateOf};
 
 use crate::savepoints::SavedCatalogs;
 use catalog::Catalog;
@@ -22,7 +24,8 @@ use pager::{Writer, Writing};
 use sqlval::{Name, R, Text};
 use std::alloc::Global;
 use syntax::{
-    Change, Create, Delete, Insert, NewObject, ObjectKind, Statement, TableDefinition, Update,
+    Change, Create, Delete, IndexDefinition, Insert, NewObject, ObjectKind, Statement,
+    TableDefinition, Update,
 };
 use wal::Log;
 
@@ -33,6 +36,7 @@ pub enum Write<'a> {
     Delete(&'a Delete),
     Update(&'a Update),
     CreateTable(&'a Text, &'a TableDefinition),
+    CreateIndex(&'a Text, &'a IndexDefinition),
     Drop(ObjectKind, &'a Name),
 }
 
@@ -52,6 +56,12 @@ pub fn write_of(statement: &Statement) -> Option<Write<'_>>
                 object: NewObject::Table(table),
             },
         ) => Some(Write::CreateTable(sql, table)),
+        Statement::Create(
+            Create {
+                sql,
+                object: NewObject::Index(index),
+            },
+        ) => Some(Write::CreateIndex(sql, index)),
         Statement::Drop(kind, name) => Some(Write::Drop(*kind, name)),
         _ => None,
     }
@@ -139,7 +149,7 @@ fn update<D: Disk + Drop>(
 }
 
 /// Makes a table's row in the schema table, and its tree. Answers the catalog with it.
-fn create_pages<D: Disk + Drop>(
+fn table_pages<D: Disk + Drop>(
     alloc: Global,
     log: &mut Log<D>,
     buffer: &mut Vec<u8>,
@@ -150,7 +160,7 @@ fn create_pages<D: Disk + Drop>(
 ) -> R<Catalog>
     ensures cause { HasCause true result log.old log.new }
     ensures reads { Tells log.old → ShowTheSame log.old log.new }
-    ensures applies { (db : Database) → forms.is_table_supported table.now ≡ true → IsCreateOf sql.now (object.Table table.now)
+    ensures applies { (db : Database) → is_object_supported (object.Table table.now) ≡ true → IsCreateOf sql.now (object.Table table.now)
         → CanChange (listing log.old catalog.now) writer.old db
         → MakesCatalog (statement.Create (record { sql = sql.now; object = object.Table table.now })) (listing log.old catalog.now)
         writer.old db result log.new writer.new }
@@ -179,7 +189,7 @@ fn create_table<D: Disk + Drop>(
 ) -> R<()>
     ensures cause { HasCause true result log.old log.new }
     ensures reads { Tells log.old → ShowTheSame log.old log.new }
-    ensures applies { (db : Database) → forms.is_table_supported table.now ≡ true → IsCreateOf sql.now (object.Table table.now)
+    ensures applies { (db : Database) → is_object_supported (object.Table table.now) ≡ true → IsCreateOf sql.now (object.Table table.now)
         → CanChange (listing log.old catalog.old) writer.old db
         → ChangesPages (statement.Create (record { sql = sql.now; object = object.Table table.now })) (listing log.old catalog.old)
         writer.old db result (listing log.new catalog.new) writer.new }
@@ -188,7 +198,63 @@ fn create_table<D: Disk + Drop>(
     // The commit is to count the schema cookie up.
     ensures noted { OnOk result (IsTrue (makes_objects writer.new)) }
 {
-    let made = create_pages(alloc, log, buffer, catalog, writer, sql, table)?;
+    let made = table_pages(alloc, log, buffer, catalog, writer, sql, table)?;
+    catalog.change_to(alloc, made)?;
+    writer.note_schema();
+    Ok(())
+}
+
+/// Makes an index's row in the schema table, and its tree. Answers the catalog with it.
+fn index_pages<D: Disk + Drop>(
+    alloc: Global,
+    log: &mut Log<D>,
+    buffer: &mut Vec<u8>,
+    catalog: &SavedCatalogs,
+    writer: &mut Writer,
+    sql: &Text,
+    index: &IndexDefinition,
+) -> R<Catalog>
+    ensures cause { HasCause true result log.old log.new }
+    ensures reads { Tells log.old → ShowTheSame log.old log.new }
+    ensures applies { (db : Database) → is_object_supported (object.Index index.now) ≡ true → IsCreateOf sql.now (object.Index index.now)
+        → CanChange (listing log.old catalog.now) writer.old db
+        → MakesCatalog (statement.Create (record { sql = sql.now; object = object.Index index.now })) (listing log.old catalog.now)
+        writer.old db result log.new writer.new }
+    ensures marks { marks_of writer.new ≡ marks_of writer.old }
+    ensures stands { IsOverTheSame writer.old writer.new }
+{
+    let mut pages = Writing {
+        alloc,
+        log,
+        writer,
+        buffer,
+        place: None,
+    };
+    storage::create_index(alloc, &mut pages, catalog.current(), sql, index)
+}
+
+/// Makes an index.
+fn create_index<D: Disk + Drop>(
+    alloc: Global,
+    log: &mut Log<D>,
+    buffer: &mut Vec<u8>,
+    catalog: &mut SavedCatalogs,
+    writer: &mut Writer,
+    sql: &Text,
+    index: &IndexDefinition,
+) -> R<()>
+    ensures cause { HasCause true result log.old log.new }
+    ensures reads { Tells log.old → ShowTheSame log.old log.new }
+    ensures applies { (db : Database) → is_object_supported (object.Index index.now) ≡ true → IsCreateOf sql.now (object.Index index.now)
+        → CanChange (listing log.old catalog.old) writer.old db
+        → ChangesPages (statement.Create (record { sql = sql.now; object = object.Index index.now })) (listing log.old catalog.old)
+        writer.old db result (listing log.new catalog.new) writer.new }
+    ensures marks { marks_of writer.new ≡ marks_of writer.old }
+    ensures stands { IsOverTheSame writer.old writer.new }
+    // The commit is to count the schema cookie up.
+    ensures noted { OnOk result (IsTrue (makes_objects writer.new)) }
+{
+    let made = index_pages(alloc, log, buffer, catalog, writer, sql, index)?;
     catalog.change_to(alloc, made)?;
     writer.note_schema();
     Ok(())
@@ -268,6 +334,9 @@ pub fn apply<D: Disk + Drop>(
         Write::Update(rows) => update(alloc, log, buffer, catalog, writer, rows),
         Write::CreateTable(sql, table) => {
             create_table(alloc, log, buffer, catalog, writer, sql, table)
+        }
+        Write::CreateIndex(sql, index) => {
+            create_index(alloc, log, buffer, catalog, writer, sql, index)
         }
         Write::Drop(kind, name) => drop_object(alloc, log, buffer, catalog, writer, kind, name),
     }

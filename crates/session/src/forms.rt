@@ -2,14 +2,15 @@
 
 ghost use Rattle.std.specs.Prelude.{◌≡◌, ◌==◌, length};
 ghost use Rattle.std.specs.List.{list_all};
+ghost use Rattle.stored.specs.Forms as object_forms;
 ghost use Rattle.storage.specs.Forms as supported_forms;
 
 use sqlval::Many;
-use syntax::{ColumnDefinition, Create, NewObject, Statement, TableDefinition};
+use syntax::{ColumnDefinition, NewObject, Statement, TableDefinition};
 
 /// Whether a table has columns of names and types alone.
 pub fn is_table_supported(table: &TableDefinition) -> bool
-    ensures { result ≡ supported_forms.is_table_supported table.now }
+    ensures { result ≡ object_forms.is_table_supported table.now }
 {
     table.rules.len() == 0 && are_columns_supported(&table.columns)
 }
@@ -26,17 +27,23 @@ fn is_column_supported(column: &ColumnDefinition) -> bool
     column.rules.len() == 0
 }
 
+/// Whether it is such a table, or an index that isn't UNIQUE.
+fn is_object_supported(object: &NewObject) -> bool
+    ensures { result ≡ object_forms.is_object_supported object.now }
+{
+    match object {
+        NewObject::Table(table) => is_table_supported(table),
+        NewObject::Index(index) => !index.is_unique,
+        _ => false,
+    }
+}
+
 /// Whether a statement's form is supported.
 pub fn is_supported(statement: &Statement) -> bool
     ensures { result ≡ supported_forms.is_supported statement.now }
 {
     match statement {
-        Statement::Create(
-            Create {
-                sql: _,
-                object: NewObject::Table(table),
-            },
-        ) => is_table_supported(table),
+        Statement::Create(create) => is_object_supported(&create.object),
         Statement::Change(_)
         | Statement::Select(_)
         | Statement::Drop(_, _)
@@ -47,6 +54,5 @@ pub fn is_supported(statement: &Statement) -> bool
         | Statement::Savepoint(_)
         | Statement::Release(_)
         | Statement::Checkpoint(_) => true,
-        _ => false,
     }
 }

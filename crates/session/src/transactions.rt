@@ -7,7 +7,7 @@ ghost use Rattle.pager.specs.Marks.{IsOverTheSame, marks_of, now_of};
 ghost use Rattle.pager.specs.Views.{Tells, newest_view};
 ghost use Rattle.storage.specs.Reading.{AnswersRead};
 ghost use Rattle.rowprog.specs.Rows.{values_of};
-ghost use Rattle.storage.specs.Schema.{KeepsItsText, WhereSupported};
+ghost use Rattle.storage.specs.Forms.{KeepsItsText, WhereSupported};
 ghost use Rattle.session.specs.Stored.{ShowsDatabase};
 ghost use Rattle.storage.specs.Works.{read_on};
 ghost use Rattle.catalog.specs.Database.{Database};

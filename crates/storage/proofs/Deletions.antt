@@ -9,42 +9,36 @@ use Rattle.syntax.specs.declared.change.Change.TheVariants as kind
 use Rattle.syntax.specs.declared.change.Delete.{Delete}
 use Rattle.syntax.specs.declared.statement.Statement.{Statement}
 use Rattle.syntax.specs.declared.statement.Statement.TheVariants as statement
-use Rattle.page.specs.Leaf.{Entry}
 use Rattle.pages.specs.Map.{PageMap}
-use Rattle.treepage.specs.Cells.{Pairwise}
-use Rattle.tabletree.specs.Calls.{BecomesRows, Stands}
-use Rattle.tabletree.specs.Freeing.{ClearsTree}
-use Rattle.sharing.specs.Layout.{ReplacesTrees, TreesStand}
+use Rattle.sharing.specs.Layout.{Owner}
+use Rattle.sqlval.specs.PageSizes.{IsPageSize}
+use Rattle.holdings.specs.Trees.{AreAmong}
 use Rattle.catalog.specs.Database.{ATable, Database, Name, with_object}
 use Rattle.catalog.specs.Laws.{KeepsOnlyPlain, ListsOtherRows}
 use Rattle.catalog.specs.Listed.{plain_table, table_named}
-use Rattle.catalog.specs.Named.{KeepsNamed}
-use Rattle.catalog.specs.Rows.{are_rows}
+use Rattle.catalog.specs.Named.{IsOfTables, KeepsNamed}
 use Rattle.catalog.specs.declared.tables.Table.{Table}
 use Rattle.bind.specs.Bound.{IsFaultOf, looked_up, source_seen}
 use Rattle.bind.specs.Checked.{Checked, Meant, ◌and_then◌, also, faults, good, known_map, noted}
 use Rattle.bind.specs.Queries.{resolve_filter}
 use Rattle.bind.specs.Scopes.{beside, source_of}
-use Rattle.bind.specs.declared.queries.BoundSource.{BoundSource}
 use Rattle.bind.specs.declared.scope.ScopeColumn.{ScopeColumn}
 use Rattle.bind.proofs.KnownTables.{known_listed}
 use Rattle.terms.specs.Terms.{Term}
-use Rattle.rowprog.specs.Rows.{IsRow, TableRow}
+use Rattle.rowprog.specs.Rows.{TableRow}
 use Rattle.dml.specs.Changes.{Deletes, Resolved, no_outer, resolve_change}
-use Rattle.dml.specs.Choosing.{is_chosen, rows_left, tested}
+use Rattle.dml.specs.Choosing.{rows_left}
 use Rattle.dml.specs.Constraints.{table_of}
-use Rattle.dml.specs.Taking.{IsTakeRefusal, TakesRows}
-use Rattle.dml.proofs.Taken.{fit_still}
+use Rattle.rowstore.specs.Changing.{DeletesInTrees, HoldsFitRows, IsRefusedDelete}
 use Rattle.trigger.specs.Binding.{IsFault}
 use Rattle.trigger.specs.Effects.{change}
 use Rattle.trigger.specs.Laws.{BindsAlone, DeleteTakesChosen, DeleteTakesRows}
 use Rattle.storage.specs.Changing.{IsChangeRefusal, IsMade}
-use Rattle.storage.specs.Stored.{Stores}
-use Rattle.storage.specs.Taking.{TakesFrom}
+use Rattle.stored.specs.Stored.{Stores, all_trees, schema_tree}
 use Rattle.storage.specs.Works.{Reaches, RefusesWith, change_made, of_answer}
 use Rattle.storage.proofs.Insertions.{listed_table, named_folded}
-use Rattle.storage.proofs.Owners.{HasOwner, owner_of}
-use Rattle.storage.proofs.PutRows.{stands, stores_rows}
+use Rattle.storage.proofs.Owners.{HasTable}
+use Rattle.storage.proofs.HeldTrees.{HoldsTrees, among, page_size, rows_with, stores_rows, held_table, trees_held}
 use Rattle.storage.proofs.Roots.{own_pages}
 
 -- what follows for every listed database, and for the trees of its file
@@ -55,8 +49,6 @@ pub record Laws : Type 0 where
   pub binds : BindsAlone
   pub deletes : DeleteTakesRows
   pub chosen : DeleteTakesChosen
-  pub stand : TreesStand
-  pub give_way : ReplacesTrees
 
 abbrev deleting : Delete → Statement
 deleting d = statement.Change (kind.Delete d)
@@ -105,29 +97,12 @@ as_refused fault.ViewReadOnly = (0, omega arith, refl)
 as_refused fault.Failed = (0, omega arith, refl)
 as_refused fault.Blank = (0, omega arith, refl)
 
-abbrev stays : Term → TableRow → Bool
-stays c row = not (is_chosen c row)
-
--- what a condition leaves
-left_fits : (c : Term) (t : Table) (rows left : List TableRow) → rows_left c rows ≡ Ok left → are_rows (plain_table t rows) ≡ true → are_rows (plain_table t left) ≡ true
-left_fits c t rows left e fit = by (all_answers (map (tested c) rows)) e
-  where
-    same : (a b : List TableRow) → (let l : Answer (List TableRow) = Ok a in l) ≡ Ok b → a ≡ b
-    same a b h = cc
-
-    none : (r : Refusal) → (let l : Answer (List TableRow) = Err r in l) ≡ Ok left → ⊥
-    none r h = absurd cc
-
-    by : (a : Answer (List (Option Bool))) → (a then λ tests. Ok (filter (stays c) rows)) ≡ Ok left → are_rows (plain_table t left) ≡ true
-    by (Ok tests) h = subst (λ (l : List TableRow). are_rows (plain_table t l) ≡ true) (same (filter (stays c) rows) left h) (fit_still (stays c) t rows fit)
-    by (Err r) h = absurd (none r h)
-
 module _ (laws : Laws) (pages : PageMap) (size : ℕ) (tables : List Table) (db : Database) (held : Stores pages size tables db) (d : Delete) where
   resolved : (found : Option Table) → table_named d.table tables ≡ found → resolve_change db no_outer (kind.Delete d) ≡ resolved_by d (looked_up found)
-  resolved found named = ap (resolved_by d) (known_listed held.rows_at tables db held.lists d.table ∙ ap looked_up named)
+  resolved found named = ap (resolved_by d) (known_listed held.rows_at tables db held.of_tables.lists d.table ∙ ap looked_up named)
 
   refused_so : (f : Fault) → Contains (faults (resolve_change db no_outer (kind.Delete d))) (refusal_of f) → IsChangeRefusal (deleting d) db f
-  refused_so f has = inr (inl (inl ((laws.binds db (kind.Delete d) (refusal_of f) held.only).1 has)))
+  refused_so f has = inr (inl (inl ((laws.binds db (kind.Delete d) (refusal_of f) held.of_tables.only).1 has)))
 
   -- a name that no table has
   pub name_refused : (f : Fault) → (f ≡ fault.Memory) ⊎ (refusal_of f ≡ NoSuch) × (table_named d.table tables ≡ None) → IsChangeRefusal (deleting d) db f
@@ -150,11 +125,11 @@ module _ (laws : Laws) (pages : PageMap) (size : ℕ) (tables : List Table) (db 
       bound : resolve_change db no_outer (kind.Delete d) ≡ Meant (Deletes (folded d.table) condition) []
       bound = resolved (Some t) named ∙ ap (λ (k : Checked (Option Term)). also [] (known_map (Deletes (folded d.table)) k)) known
 
-      owned : HasOwner pages size held.rows_at tables held.owners t
-      owned = owner_of pages size tables db held d.table t named
+      owned : HasTable held.rows_at tables held.held t
+      owned = held_table pages size tables db held d.table t named
 
       not_refused : (r : Refusal) → IsFault db (kind.Delete d) r → ⊥
-      not_refused r is = nothing (subst (λ (k : Checked Resolved). Contains (faults k) r) bound ((laws.binds db (kind.Delete d) r held.only).0 is))
+      not_refused r is = nothing (subst (λ (k : Checked Resolved). Contains (faults k) r) bound ((laws.binds db (kind.Delete d) r held.of_tables.only).0 is))
         where
           nothing : Contains [] r → ⊥
           nothing has = absurd (omega (arith, has.1))
@@ -169,78 +144,74 @@ module _ (laws : Laws) (pages : PageMap) (size : ℕ) (tables : List Table) (db 
       refuses : (f : Fault) → change db (kind.Delete d) ≡ Err (refusal_of f) → IsChangeRefusal (deleting d) db f
       refuses f e = inr (inl (inr (not_refused, subst (λ (a : Answer Database). RefusesWith (of_answer a) (refusal_of f)) (sym e) (as_refused f))))
 
-      stored : (new : PageMap) (left : List TableRow) (entries : List Entry) → BecomesRows pages new size t.root entries owned.split.at.used held.free
-          → Pairwise (IsRow (length t.columns)) entries left → are_rows (plain_table t left) ≡ true → Stores new size tables (with_left left)
-      stored new left entries now each fit =
-          stores_rows laws.give_way pages new size tables db (with_left left) t left entries held owned now each fit
-          (laws.lists held.rows_at tables db (folded d.table) t left held.lists (named_folded tables d.table t named)
-          (λ other u found here. own_pages pages size tables db held other (folded d.table) u t found (named_folded tables d.table t named) here))
-          (laws.tables db (folded d.table) (ATable (plain_table t left)) held.only refl) (laws.named db (folded d.table) (ATable (plain_table t left)) held.named)
+      of_tables : (left : List TableRow) → IsOfTables (rows_with held.rows_at t.root left) tables (with_left left)
+      of_tables left = record {
+        lists = laws.lists held.rows_at tables db (folded d.table) t left held.of_tables.lists (named_folded tables d.table t named)
+            (λ other u found here. own_pages pages size tables db held other (folded d.table) u t found (named_folded tables d.table t named) here);
+        only = laws.tables db (folded d.table) (ATable (plain_table t left)) held.of_tables.only refl;
+        named = laws.named db (folded d.table) (ATable (plain_table t left)) held.of_tables.named;
+        once = held.of_tables.once;
+      }
 
-      tree_stands : Stands pages size t.root owned.split.is.entries owned.split.at.used held.free
-      tree_stands = stands laws.stand pages size tables db held t owned
+      stored : (new : PageMap) (left : List TableRow) → HoldsFitRows pages new size (schema_tree held.schema held.schema_used) (all_trees owned.split.before) t left (all_trees owned.split.after)
+          → Stores new size tables (with_left left)
+      stored new left now = stores_rows pages new size tables db (with_left left) held t left owned now (of_tables left)
+
+      abbrev trees : HoldsTrees pages size held.rows_at tables held.schema
+      trees = trees_held pages size tables db held
+
+      its_trees : AreAmong pages size (schema_tree held.schema held.schema_used) (all_trees owned.split.before) t (held.rows_at t.root) (all_trees owned.split.after)
+      its_trees = among pages size held.rows_at tables held.schema trees t owned
 
       listed : table_of db (folded d.table) ≡ Ok (plain_table t (held.rows_at t.root))
-      listed = listed_table held.rows_at tables db d.table t held.lists named
+      listed = listed_table held.rows_at tables db d.table t held.of_tables.lists named
 
     abbrev Makes : PageMap → Result ⊤ Fault → Type 0
     Makes new result = MatchResult result (λ done. IsMade (deleting d) db new size tables) (IsChangeRefusal (deleting d) db)
 
-    clear_makes : condition_of ≡ Meant None [] → (new : PageMap) (result : Result ⊤ Fault) → ClearsTree pages new size t.root result → Makes new result
+    abbrev schema : Owner
+    schema = schema_tree held.schema held.schema_used
+
+    size_is : IsPageSize size
+    size_is = page_size pages size held.rows_at tables held.schema (trees_held pages size tables db held)
+
+    clear_makes : condition_of ≡ Meant None [] → (new : PageMap) (result : Result ⊤ Fault) → DeletesInTrees pages new size t None result → Makes new result
     clear_makes known new (Ok done) clears =
         let o = owned None known in
-        let cleared = clears o.split.is.entries o.split.at.used held.free (tree_stands None known) in
-        let now : BecomesRows pages new size t.root [] o.split.at.used held.free = record {
-          now_used = t.root ∷ [];
-          now_free = cleared.now_free;
-          stands = cleared.stands;
-          moves = cleared.moves;
-          header = cleared.header;
-        } in
+        let cleared = clears schema (all_trees o.split.before) (all_trees o.split.after) (held.rows_at t.root) size_is refl (its_trees None known) o.split.is.fit in
         record {
           made = with_left None known [];
-          reaches = reaches None known (with_left None known []) (laws.deletes db d t (held.rows_at t.root) held.only held.named (listed None known) o.split.is.fit (bound None known));
-          stored = stored None known new [] [] now tt refl;
+          reaches = reaches None known (with_left None known []) (laws.deletes db d t (held.rows_at t.root) held.of_tables.only held.of_tables.named (listed None known) o.split.is.fit (bound None known));
+          stored = stored None known new [] cleared;
         }
-    clear_makes known new (Err f) clears = inl (inl (clears (owned None known).split.is.entries (owned None known).split.at.used held.free (tree_stands None known)))
+    clear_makes known new (Err f) clears =
+        let o = owned None known in inl (clears schema (all_trees o.split.before) (all_trees o.split.after) (held.rows_at t.root) size_is refl (its_trees None known) o.split.is.fit)
 
     module _ (c : Term) (known : condition_of ≡ Meant (Some c) []) where
-      abbrev o : HasOwner pages size held.rows_at tables held.owners t
+      abbrev o : HasTable held.rows_at tables held.held t
       o = owned (Some c) known
-
-      abbrev place : BoundSource
-      place = record { root = t.root; width = length t.columns }
 
       change_is : (a : Answer (List TableRow)) → rows_left c (held.rows_at t.root) ≡ a → change db (kind.Delete d) ≡ (a then λ left. Ok (with_left (Some c) known left))
       change_is a e =
-          laws.chosen db d t (held.rows_at t.root) c held.only held.named (listed (Some c) known) o.split.is.fit (bound (Some c) known)
+          laws.chosen db d t (held.rows_at t.root) c held.of_tables.only held.of_tables.named (listed (Some c) known) o.split.is.fit (bound (Some c) known)
           ∙ ap (λ (x : Answer (List TableRow)). x then λ left. Ok (with_left (Some c) known left)) e
 
-      take_makes : (new : PageMap) (result : Result ⊤ Fault) → TakesRows pages new size place c result → Makes new result
+      take_makes : (new : PageMap) (result : Result ⊤ Fault) → DeletesInTrees pages new size t (Some c) result → Makes new result
       take_makes new (Ok done) takes =
-          let taken = takes (held.rows_at t.root) o.split.is.entries o.split.at.used held.free (tree_stands (Some c) known) o.split.is.each in
+          let taken = takes schema (all_trees o.split.before) (all_trees o.split.after) (held.rows_at t.root) size_is refl (its_trees (Some c) known) o.split.is.fit in
           record {
             made = with_left (Some c) known taken.left;
             reaches = reaches (Some c) known (with_left (Some c) known taken.left) (change_is (Ok taken.left) taken.answer);
-            stored = stored (Some c) known new taken.left taken.entries taken.becomes taken.each (left_fits c t (held.rows_at t.root) taken.left taken.answer o.split.is.fit);
+            stored = stored (Some c) known new taken.left taken.hold;
           }
-      take_makes new (Err f) takes = by (takes (held.rows_at t.root) o.split.is.entries o.split.at.used held.free (tree_stands (Some c) known) o.split.is.each)
+      take_makes new (Err f) takes =
+          by (takes schema (all_trees o.split.before) (all_trees o.split.after) (held.rows_at t.root) size_is refl (its_trees (Some c) known) o.split.is.fit)
         where
-          by : IsTakeRefusal c (held.rows_at t.root) f → IsChangeRefusal (deleting d) db f
+          by : IsRefusedDelete c (held.rows_at t.root) f → IsChangeRefusal (deleting d) db f
           by (inl outside) = inl outside
           by (inr e) = refuses (Some c) known f (change_is (Err (refusal_of f)) e)
 
-    -- what the call that takes the rows out comes to
-    pub taking_makes : (condition : Option Term) → condition_of ≡ Meant condition [] → (new : PageMap) (result : Result ⊤ Fault) → TakesFrom pages new size t condition result → Makes new result
+    -- what the call that deletes the rows comes to
+    pub taking_makes : (condition : Option Term) → condition_of ≡ Meant condition [] → (new : PageMap) (result : Result ⊤ Fault) → DeletesInTrees pages new size t condition result → Makes new result
     taking_makes None known new result takes = clear_makes known new result takes
     taking_makes (Some c) known new result takes = take_makes c known new result takes
-
--- ---- as the condition is
-
-module _ (old new : PageMap) (size : ℕ) (t : Table) (condition : Option Term) (result : Result ⊤ Fault) where
-  pub takes_some : (c : Term) (width : ℕ) → condition ≡ Some c → width ≡ length t.columns → TakesRows old new size (record { root = t.root; width = width }) c result → TakesFrom old new size t condition result
-  takes_some c width is wide takes =
-      subst (λ (w : Option Term). TakesFrom old new size t w result) (sym is) (subst (λ (n : ℕ). TakesRows old new size (record { root = t.root; width = n }) c result) wide takes)
-
-  pub takes_all : condition ≡ None → ClearsTree old new size t.root result → TakesFrom old new size t condition result
-  takes_all is clears = subst (λ (w : Option Term). TakesFrom old new size t w result) (sym is) clears

@@ -1,9 +1,8 @@
--- What a DROP comes to on the database that pages hold.
-use Rattle.std.proofs.Common.{◌≡◌, ◌⊎◌, ◌≤◌, ◌<◌, ◌<ℤ◌, ◌-ℤ◌, pos, ℤ, inl, inr, refl, sym, ap, subst, ◌∙◌, ℕ, Bool, true, false, cond, not, filter, ◌&&◌, ◌||◌, List, [], ◌∷◌, ◌++◌, length, Option, Some, None, arith}
-use Rattle.std.specs.Prelude.{Contains, option_map}
+-- What a DROP TABLE comes to on the database that pages hold, and what is refused where there is no such object.
+use Rattle.std.proofs.Common.{◌≡◌, ◌⊎◌, ◌≤◌, ℤ, inl, inr, refl, sym, ap, subst, ◌∙◌, ℕ, Bool, true, false, cond, map, not, filter, ◌&&◌, ◌||◌, List, [], ◌∷◌, ◌++◌, length, Option, Some, None, Result, Ok, Err, arith}
+use Rattle.std.specs.Prelude.{Contains, MatchOption, is_some, option_map}
 use Rattle.std.proofs.lemmas.Bool.{false≢true}
-use Rattle.std.proofs.lemmas.Int.{ints}
-use Rattle.std.proofs.lemmas.List.{append-nil}
+use Rattle.std.specs.List.{find, list_any}
 use Rattle.sqlval.specs.Names.{is_same_name}
 use Rattle.sqlval.specs.PageSizes.{IsPageSize}
 use Rattle.sqlval.specs.Refusals.{NoSuch, Refusal, refusal_of}
@@ -15,33 +14,36 @@ use Rattle.syntax.specs.declared.statement.Statement.{Statement}
 use Rattle.syntax.specs.declared.statement.Statement.TheVariants as statement
 use Rattle.page.specs.Leaf.{Entry}
 use Rattle.pages.specs.Calls.{IsOutsideOrFull}
-use Rattle.pages.specs.Counting.{Moves}
 use Rattle.pages.specs.Map.{PageMap}
 use Rattle.tabletree.specs.Calls.{BecomesRows, Stands}
-use Rattle.tabletree.specs.Freeing.{AreGivenBack}
-use Rattle.tabletree.specs.Rows.{payload_at, without_row}
-use Rattle.tabletree.specs.SingleLeaf.{AreRising}
-use Rattle.sharing.specs.Layout.{AreShared, Owner, ReplacesTrees, TreesStand, used_by}
-use Rattle.catalog.specs.Database.{Database, Name, Object, ATable, AnIndex, AView, ATrigger, object}
-use Rattle.catalog.specs.Listed.{are_named_once, has_only_plain, plain_table, table_named, without_table}
+use Rattle.sharing.specs.Layout.{ReplacesTrees, TreesStand}
+use Rattle.catalog.specs.Database as database
+use Rattle.catalog.specs.Database.{Database, Index, Name, Object, ATable, AnIndex, AView, ATrigger, object}
+use Rattle.catalog.specs.Laws.{FindsListed, IsNoTable, NamesListed}
+use Rattle.catalog.specs.Listed.{has_index, has_only_plain, has_table_name, is_name_of, is_table, plain_table, rowids_in, table_named, table_with_index, without_table}
 use Rattle.catalog.specs.Named.{IsOfTables, ListsOthers, without_table_object}
 use Rattle.catalog.specs.declared.tables.Table.{Table}
 use Rattle.bind.specs.Checked.{Checked, Meant, faults}
 use Rattle.bind.specs.Schema.{dropped, goes_with}
 use Rattle.rowprog.proofs.TreeOrder.{tree_rises}
+use Rattle.rowstore.specs.Changing.{DropsTrees}
+use Rattle.stored.specs.Schema.{AreRowsOf, Told, all_told, told_by}
+use Rattle.stored.specs.Stored.{Stores, all_trees, schema_tree}
 use Rattle.storage.specs.Changing.{IsChangeRefusal, IsMade}
-use Rattle.storage.specs.Schema.{AreRowsOf}
-use Rattle.storage.specs.Stored.{IsTreeOf, Stores, schema_tree}
+use Rattle.storage.specs.Listing.{AreThere, without_rows}
 use Rattle.storage.specs.Works.{Reaches, RefusesWith, change_made, of_known}
-use Rattle.storage.proofs.PutRows.{same_owner}
-use Rattle.storage.proofs.Telling.{more_pages, none_once, told_bare, told_once}
-use Rattle.storage.proofs.Untelling.{IsTakenOut, IsUntold, above_all, once_named, taken_out, untold}
-use Rattle.storage.proofs.BareTables.{bare_lists}
-use Rattle.storage.proofs.StandingLists.{own_names_once, told_apart}
+use Rattle.storage.proofs.FoundTables.{table_found}
+use Rattle.storage.proofs.HeldTrees.{HoldsTrees, among, page_size, schema_stands, stores_of, trees_held, with_schema}
+use Rattle.storage.proofs.HeldTrees as held_trees
+use Rattle.storage.proofs.Owners.{HasTable, table_of_parts}
+use Rattle.storage.proofs.Replacing.{IsSplit, found_is, names_once, split_at}
+use Rattle.storage.proofs.SchemaRows.{rising_distinct}
+use Rattle.storage.proofs.Telling.{AreLess, AreToldBy, as_rows, as_told, many_less, more_pages, rowids_told, told_append, told_around, told_as}
 
 -- what follows for every listed database, and for the trees of its file
 pub record Laws : Type 0 where
   pub others : ListsOthers
+  pub finds : FindsListed
   pub stand : TreesStand
   pub give_way : ReplacesTrees
 
@@ -76,126 +78,137 @@ goes_alone n ((name, AnIndex i) ∷ es) only = by_test (is_same_name n name || i
 goes_alone n ((name, AView v) ∷ es) only = absurd (false≢true only)
 goes_alone n ((name, ATrigger t) ∷ es) only = absurd (false≢true only)
 
-module _ (old : PageMap) (size : ℕ) (tables : List Table) (db : Database) (held : Stores old size tables db) (n : Name) where
-  -- ---- where there is none
+-- ---- where there is none
 
-  found_as : (t : Option Table) → table_named n tables ≡ t → object db n ≡ option_map (λ u. ATable (plain_table u (held.rows_at u.root))) t
-  found_as t named = bare_lists held.rows_at tables db (told_bare (length old) [] tables held.schema held.tell) held.lists n ∙ ap (option_map (λ u. ATable (plain_table u (held.rows_at u.root)))) named
+-- an object of another kind isn't dropped
+abbrev refuses_kind : Database → ObjectKind → Name → Option Object → Type 0
+refuses_kind db k n o = RefusesWith (of_known (dropped db k n o)) NoSuch
+
+module _ (finds : FindsListed) (old : PageMap) (size : ℕ) (tables : List Table) (db : Database) (held : Stores old size tables db) (n : Name) where
+  found_so : MatchOption (table_named n tables) (IsNoTable (object db n)) (λ t. object db n ≡ Some (ATable (plain_table t (held.rows_at t.root))))
+  found_so = finds held.rows_at tables db n held.of_tables.lists
 
   pub no_table : (f : Fault) → (f ≡ fault.Memory) ⊎ (refusal_of f ≡ NoSuch) × (table_named n tables ≡ None) → IsChangeRefusal (dropping kind.Table n) db f
   no_table f (inl memory) = inl (inl (inl memory))
-  no_table f (inr (is, none)) = inr (inl (subst (RefusesWith (change_made (dropping kind.Table n) db)) (sym is)
-      (subst (λ (o : Option Object). RefusesWith (of_known (dropped db kind.Table n o)) NoSuch) (sym (found_as None none)) (0, omega arith, refl))))
-
-  -- there are no objects but tables
-  pub no_other : (k : ObjectKind) → (k ≡ kind.Table → ⊥) → (f : Fault) → (f ≡ fault.Memory) ⊎ (refusal_of f ≡ NoSuch) → IsChangeRefusal (dropping k n) db f
-  no_other k other f (inl memory) = inl (inl (inl memory))
-  no_other k other f (inr is) = inr (inl (subst (RefusesWith (change_made (dropping k n) db)) (sym is)
-      (subst (λ (o : Option Object). RefusesWith (of_known (dropped db k n o)) NoSuch) (sym (found_as (table_named n tables) refl)) (by_kind k other (table_named n tables)))))
+  no_table f (inr (is, none)) = inr (inl (subst (RefusesWith (change_made (dropping kind.Table n) db)) (sym is) (by (subst (λ (t : Option Table). MatchOption t (IsNoTable (object db n)) (λ t. object db n ≡ Some (ATable (plain_table t (held.rows_at t.root))))) none found_so))))
     where
-      by_kind : (k : ObjectKind) → (k ≡ kind.Table → ⊥) → (t : Option Table) → RefusesWith (of_known (dropped db k n (option_map (λ u. ATable (plain_table u (held.rows_at u.root))) t))) NoSuch
-      by_kind kind.Table other t = absurd (other refl)
-      by_kind kind.Index other None = (0, omega arith, refl)
-      by_kind kind.Index other (Some t) = (0, omega arith, refl)
-      by_kind kind.View other None = (0, omega arith, refl)
-      by_kind kind.View other (Some t) = (0, omega arith, refl)
-      by_kind kind.Trigger other None = (0, omega arith, refl)
-      by_kind kind.Trigger other (Some t) = (0, omega arith, refl)
+      by : IsNoTable (object db n) → refuses_kind db kind.Table n (object db n)
+      by (inl nothing) = subst (refuses_kind db kind.Table n) (sym nothing) (0, omega arith, refl)
+      by (inr (i, is, unique)) = subst (refuses_kind db kind.Table n) (sym is) (0, omega arith, refl)
 
-module _ (laws : Laws) (old : PageMap) (size : ℕ) (tables : List Table) (db : Database) (held : Stores old size tables db) (n : Name) where
-  abbrev schema : Owner
-  schema = schema_tree held.schema held.schema_used
+  -- there are no objects but tables and indexes
+  pub no_other : (k : ObjectKind) → (k ≡ kind.Table → ⊥) → (k ≡ kind.Index → ⊥) → (f : Fault) → (f ≡ fault.Memory) ⊎ (refusal_of f ≡ NoSuch) → IsChangeRefusal (dropping k n) db f
+  no_other k other and f (inl memory) = inl (inl (inl memory))
+  no_other k other and f (inr is) = inr (inl (subst (RefusesWith (change_made (dropping k n) db)) (sym is) (by (table_named n tables) found_so)))
+    where
+      on_table : (k : ObjectKind) → (k ≡ kind.Table → ⊥) → (o : Object) → (t : database.Table) → o ≡ ATable t → refuses_kind db k n (Some o)
+      on_table kind.Table other o t e = absurd (other refl)
+      on_table kind.Index other o t e = subst (λ (x : Object). refuses_kind db kind.Index n (Some x)) (sym e) (0, omega arith, refl)
+      on_table kind.View other o t e = subst (λ (x : Object). refuses_kind db kind.View n (Some x)) (sym e) (0, omega arith, refl)
+      on_table kind.Trigger other o t e = subst (λ (x : Object). refuses_kind db kind.Trigger n (Some x)) (sym e) (0, omega arith, refl)
 
-  page_size : IsPageSize size
-  page_size = subst IsPageSize held.sized held.header_is.served
+      on_index : (k : ObjectKind) → (k ≡ kind.Index → ⊥) → (i : Index) → refuses_kind db k n (Some (AnIndex i))
+      on_index kind.Table and i = (0, omega arith, refl)
+      on_index kind.Index and i = absurd (and refl)
+      on_index kind.View and i = (0, omega arith, refl)
+      on_index kind.Trigger and i = (0, omega arith, refl)
 
-  pub schema_stands : Stands old size 1 held.schema held.schema_used held.free
-  schema_stands = laws.stand old size schema held.owners [] held.owners 1 held.schema held.schema_used held.free held.shared refl refl page_size
+      nothing : (k : ObjectKind) → refuses_kind db k n None
+      nothing k = (0, omega arith, refl)
 
-  -- its row isn't taken out
-  pub not_taken : (f : Fault) → IsOutsideOrFull f → IsChangeRefusal (dropping kind.Table n) db f
-  not_taken f full = inl full
+      by : (t : Option Table) → MatchOption t (IsNoTable (object db n)) (λ t. object db n ≡ Some (ATable (plain_table t (held.rows_at t.root)))) → refuses_kind db k n (object db n)
+      by (Some t) e = subst (refuses_kind db k n) (sym e) (on_table k other (ATable (plain_table t (held.rows_at t.root))) (plain_table t (held.rows_at t.root)) refl)
+      by None (inl none) = subst (refuses_kind db k n) (sym none) (nothing k)
+      by None (inr (i, is, unique)) = subst (refuses_kind db k n) (sym is) (on_index k and i)
 
-  -- ---- the table of the name
+  no_name : (ts : List Table) → table_named n ts ≡ None → table_with_index n ts ≡ None → is_name_of ts n ≡ false
+  no_name [] none and = refl
+  no_name (t ∷ ts) none and = by (is_table n t) (has_index n t) none and (no_name ts)
+    where
+      by : (a b : Bool) → cond a (Some t) (table_named n ts) ≡ None → cond b (Some t) (table_with_index n ts) ≡ None → (table_named n ts ≡ None → table_with_index n ts ≡ None → is_name_of ts n ≡ false)
+          → ((a || b) || is_name_of ts n) ≡ false
+      by true b none and rest = absurd cc
+      by false true none and rest = absurd cc
+      by false false none and rest = rest none and
 
-  module _ (t : Table) (named : table_named n tables ≡ Some t) where
-    below : (k : ℤ) → (k -ℤ pos 1) <ℤ k
-    below k = omega (arith, ints)
+  -- no index has the name
+  pub no_index : NamesListed → (f : Fault) → (f ≡ fault.Memory) ⊎ (refusal_of f ≡ NoSuch) × (table_with_index n tables ≡ None) → IsChangeRefusal (dropping kind.Index n) db f
+  no_index names f (inl memory) = inl (inl (inl memory))
+  no_index names f (inr (is, none)) = inr (inl (subst (RefusesWith (change_made (dropping kind.Index n) db)) (sym is) (by (table_named n tables) refl found_so)))
+    where
+      not_there : table_named n tables ≡ None → (i : Index) → object db n ≡ Some (AnIndex i) → ⊥
+      not_there named i e = some_named (sym (ap is_some e) ∙ (names held.rows_at tables db n held.of_tables.lists ∙ no_name tables named none))
+        where
+          some_named : true ≡ false → ⊥
+          some_named h = false≢true (sym h)
 
-    -- the rows that are left tell the tables that are left
-    pub gone : IsUntold (length old) [] n tables t held.schema
-    gone = by_rows held.schema held.tell (tree_rises old size 1 held.schema held.schema_used schema_stands.tree)
-      where
-        by_rows : (rows : List Entry) → AreRowsOf (length old) [] tables rows → AreRising rows → IsUntold (length old) [] n tables t rows
-        by_rows [] tell rising = untold (length old) n [] tables [] t (pos 0) tell tt named
-        by_rows (row ∷ rows) tell rising = untold (length old) n [] tables (row ∷ rows) t (row.rowid -ℤ pos 1) tell (below row.rowid, above_all row rows rising) named
+      by : (t : Option Table) → table_named n tables ≡ t → MatchOption t (IsNoTable (object db n)) (λ t. object db n ≡ Some (ATable (plain_table t (held.rows_at t.root)))) → refuses_kind db kind.Index n (object db n)
+      by (Some t) named e = subst (refuses_kind db kind.Index n) (sym e) (0, omega arith, refl)
+      by None named (inl nothing) = subst (refuses_kind db kind.Index n) (sym nothing) (0, omega arith, refl)
+      by None named (inr (i, e, unique)) = absurd (not_there named i e)
 
-    pub row_there : payload_at t.rowid held.schema ≡ None → ⊥
-    row_there = gone.row.there
+-- ---- a table that goes
 
-    pub out : IsTakenOut (IsTreeOf held.rows_at) n tables t held.owners
-    out = taken_out (IsTreeOf held.rows_at) n tables t held.owners (once_named (length old) n [] tables held.schema held.tell) named held.each
+module _ (laws : Laws) (old : PageMap) (size : ℕ) (tables : List Table) (db : Database) (held : Stores old size tables db) (n : Name) (t : Table) (named : table_named n tables ≡ Some t) where
+  abbrev trees : HoldsTrees old size held.rows_at tables held.schema
+  trees = trees_held old size tables db held
 
-    -- ---- its row is gone
+  pub schema_stand : Stands old size 1 held.schema held.schema_used held.free
+  schema_stand = schema_stands old size held.rows_at tables held.schema trees laws.stand
 
-    module _ (mid : PageMap) (becomes : BecomesRows old mid size 1 (without_row t.rowid held.schema) held.schema_used held.free) where
-      abbrev schema_then : Owner
-      schema_then = schema_tree (without_row t.rowid held.schema) becomes.now_used
+  pub split : IsSplit t tables
+  split = split_at (is_table n) tables t (names_once tables held.of_tables.once) named
 
-      shared_then : AreShared mid size (schema_then ∷ (out.before ++ out.at ∷ out.after)) becomes.now_free
-      shared_then =
-          subst (λ (os : List Owner). AreShared mid size (schema_then ∷ os) becomes.now_free) out.parts
-          (laws.give_way old mid size [] (schema ∷ []) (schema_then ∷ []) held.owners held.free becomes.now_free held.shared
-          (subst (λ (ps : List ℕ). Moves old mid ps held.free (used_by (schema_then ∷ [])) becomes.now_free) (sym (append-nil held.schema_used))
-          (subst (λ (ps : List ℕ). Moves old mid held.schema_used held.free ps becomes.now_free) (sym (append-nil becomes.now_used)) becomes.moves))
-          (becomes.stands.tree, tt) becomes.stands.free_are.has)
+  abbrev o : HasTable held.rows_at tables held.held t
+  o = table_of_parts held.rows_at tables held.held split.before t split.after split.parts held.each
 
-      pub tree_stands : Stands mid size t.root out.is.entries out.at.used becomes.now_free
-      tree_stands =
-          laws.stand mid size schema_then (out.before ++ out.at ∷ out.after) (schema_then ∷ out.before) out.after t.root out.is.entries out.at.used becomes.now_free shared_then refl
-          (ap (λ (x : Owner). schema_then ∷ (out.before ++ x ∷ out.after)) (same_owner held.rows_at t out.at out.is)) page_size
+  abbrev front : List Told
+  front = all_told split.before
 
-      pub after_first : 1 < t.root
-      after_first = gone.row.after_first
+  abbrev back : List Told
+  back = all_told split.after
 
-      -- ---- and its tree
+  -- the rows that are left tell the tables that are left
+  less : AreLess (length old) (front ++ back) (rowids_in t) held.schema
+  less = subst (λ (rs : List ℤ). AreLess (length old) (front ++ back) rs held.schema) (rowids_told t)
+      (many_less (length old) front (told_by t) back held.schema
+      (told_as (length old) (all_told tables) (front ++ (told_by t ++ back)) held.schema (ap all_told split.parts ∙ told_around split.before t split.after) (as_told (length old) tables held.schema held.tell))
+      (rising_distinct held.schema (tree_rises old size 1 held.schema held.schema_used held.shared.trees.0)))
 
-      module _ (new : PageMap) (freed : AreGivenBack mid new size out.at.used becomes.now_free) where
-        names_once : are_named_once tables ≡ true
-        names_once = own_names_once tables (told_bare (length old) [] tables held.schema held.tell) (told_apart (length old) [] tables held.schema held.tell)
+  pub rows_there : AreThere (rowids_in t) held.schema
+  rows_there = less.there
 
-        left : IsOfTables held.rows_at (without_table n tables) (without_table_object n db)
-        left = laws.others held.rows_at tables db n t (record { lists = held.lists; only = held.only; named = held.named; once = names_once }) named
+  module _ (mid : PageMap) (becomes : BecomesRows old mid size 1 (without_rows (rowids_in t) held.schema) held.schema_used held.free) where
+    abbrev schema_left : List Entry
+    schema_left = without_rows (rowids_in t) held.schema
 
-        longer : length old ≤ length new
-        longer = let a = becomes.moves.longer in let b = freed.moves.longer in omega (arith, a, b)
+    abbrev then_trees : HoldsTrees mid size held.rows_at tables schema_left
+    then_trees = with_schema old size held.rows_at tables held.schema trees laws.give_way mid schema_left becomes
 
-        stores_left : Stores new size (without_table n tables) (without_table_object n db)
-        stores_left =
-            let first = becomes.header held.header held.header_is in
-            let then_is = freed.header (record held.header { freelist_trunk = first.0; freelist_count = first.1 }) first.2 in
-            let tell = more_pages (length old) (length new) longer [] (without_table n tables) (without_row t.rowid held.schema) gone.tell in
-            record {
-              rows_at = held.rows_at;
-              lists = left.lists;
-              only = left.only;
-              named = left.named;
-              once = told_once (length new) [] (without_table n tables) (without_row t.rowid held.schema) tell none_once;
-              header = record held.header { freelist_trunk = then_is.0; freelist_count = then_is.1 };
-              header_is = then_is.2;
-              sized = held.sized;
-              schema = without_row t.rowid held.schema;
-              schema_used = becomes.now_used;
-              tell = tell;
-              owners = out.before ++ out.after;
-              free = freed.now_free;
-              each = out.others;
-              shared = laws.give_way mid new size (schema_then ∷ out.before) (out.at ∷ []) [] out.after becomes.now_free freed.now_free shared_then
-                  (subst (λ (ps : List ℕ). Moves mid new ps becomes.now_free [] freed.now_free) (sym (append-nil out.at.used)) freed.moves) tt freed.free_are.has;
-            }
+    reached : Reaches (change_made (dropping kind.Table n) db) (without_table_object n db)
+    reached = subst (λ (o : Option Object). Reaches (of_known (dropped db kind.Table n o)) (without_table_object n db))
+        (sym (table_found held.rows_at tables db n t held.of_tables.lists named)) (goes_alone n db held.of_tables.only)
 
-        reached : Reaches (change_made (dropping kind.Table n) db) (without_table_object n db)
-        reached = subst (λ (o : Option Object). Reaches (of_known (dropped db kind.Table n o)) (without_table_object n db)) (sym (found_as old size tables db held n (Some t) named)) (goes_alone n db held.only)
+    -- what the call that gives its trees back comes to
+    pub drops : (new : PageMap) → DropsTrees mid new size t (Ok tt) → (listed : List Table) → listed ≡ without_table n tables → IsMade (dropping kind.Table n) db new size listed
+    drops new gives listed same =
+        let left = gives (schema_tree schema_left becomes.now_used) (all_trees o.split.before) (all_trees o.split.after) (held.rows_at t.root)
+        (page_size mid size held.rows_at tables schema_left then_trees) refl (among mid size held.rows_at tables schema_left then_trees t o) o.split.is.fit in
+        let longer : length old ≤ length new = (let a = becomes.moves.longer in let b = left.same in omega (arith, a, b)) in
+        let others : split.before ++ split.after ≡ without_table n tables = sym (split.without n (found_is (is_table n) tables t named)) in
+        let tell : AreRowsOf (length new) (split.before ++ split.after) schema_left =
+        as_rows (length new) (split.before ++ split.after) (front ++ back) schema_left (told_append split.before split.after) (more_pages (length old) (length new) longer (front ++ back) schema_left less.tell) in
+        record {
+          made = without_table_object n db;
+          reaches = reached;
+          stored = subst (λ (ts : List Table). Stores new size ts (without_table_object n db)) (sym same)
+              (stores_of new size held.rows_at (without_table n tables) schema_left (without_table_object n db)
+              (subst (λ (ts : List Table). HoldsTrees new size held.rows_at ts schema_left) others (held_trees.dropped mid size held.rows_at tables schema_left then_trees t o new left))
+              (laws.others held.rows_at tables db n t held.of_tables named)
+              (subst (λ (ts : List Table). AreRowsOf (length new) ts schema_left) others tell));
+        }
 
-        pub drops : IsMade (dropping kind.Table n) db new size (without_table n tables)
-        drops = record { made = without_table_object n db; reaches = reached; stored = stores_left }
+    pub not_given : (new : PageMap) (f : Fault) → DropsTrees mid new size t (Err f) → IsChangeRefusal (dropping kind.Table n) db f
+    not_given new f gives =
+        inl (inl (gives (schema_tree schema_left becomes.now_used) (all_trees o.split.before) (all_trees o.split.after) (held.rows_at t.root)
+        (page_size mid size held.rows_at tables schema_left then_trees) refl (among mid size held.rows_at tables schema_left then_trees t o) o.split.is.fit))

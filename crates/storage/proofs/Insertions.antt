@@ -17,13 +17,12 @@ use Rattle.syntax.specs.declared.statement.Statement.{Statement}
 use Rattle.syntax.specs.declared.statement.Statement.TheVariants as statement
 use Rattle.pages.specs.Calls.{Limits}
 use Rattle.pages.specs.Map.{PageMap}
-use Rattle.tabletree.specs.Calls.{Stands}
-use Rattle.sharing.specs.Layout.{ReplacesTrees, TreesStand}
+use Rattle.holdings.specs.Trees.{AreAmong}
 use Rattle.catalog.specs.Database as database
 use Rattle.catalog.specs.Database.{ATable, Database, Name, Object, with_object}
 use Rattle.catalog.specs.Laws.{KeepsOnlyPlain, ListsOtherRows}
 use Rattle.catalog.specs.Listed.{Lists, has_only_plain, plain_table, table_named}
-use Rattle.catalog.specs.Named.{IsNamed, KeepsNamed}
+use Rattle.catalog.specs.Named.{IsOfTables, KeepsNamed}
 use Rattle.catalog.specs.declared.tables.Column.{Column}
 use Rattle.catalog.specs.declared.tables.Table.{Table}
 use Rattle.bind.specs.Bound.{columns_seen, count_wanted, is_twice_named, looked_up}
@@ -39,19 +38,23 @@ use Rattle.dml.specs.Changes.{Given, Inserts, Resolved, no_outer, resolve_change
 use Rattle.dml.specs.Constraints.{table_of}
 use Rattle.dml.specs.Inserting.{AllStorable, IsRefusedAs, given_at, last_rowid, rows_added}
 use Rattle.record.specs.Writing.{AreStorable}
-use Rattle.dml.specs.Trees.{IsPutRefusal, PutsRows}
+use Rattle.rowstore.specs.Changing.{InsertsInTrees, IsRefusedInsert}
+use Rattle.rowstore.specs.Turning.{AreEntriesStorable, CanBeIndexed}
+use Rattle.catalog.specs.declared.tables.Index.{Index}
+use Rattle.indexes.specs.Entries.{indexed}
+use Rattle.holdings.specs.Trees.{columns_of}
 use Rattle.dml.proofs.GivenAsMeant.{columns_refused, row_placed, source_refused, source_stands, table_missing, value_places}
 use Rattle.trigger.specs.Binding.{IsFault}
 use Rattle.trigger.specs.Effects.{change, given_rows}
 use Rattle.trigger.specs.Laws.{BindsAlone, InsertAddsRows, InsertIsRefused, InsertOfNoneStays}
 use Rattle.storage.specs.Changing.{HasLongRow, IsChangeRefusal, IsMade}
 use Rattle.storage.specs.Reading.{AnswersRead}
-use Rattle.storage.specs.Stored.{Stores}
+use Rattle.stored.specs.Stored.{Stores, all_trees, schema_tree}
 use Rattle.storage.specs.Works.{Reaches, RefusesWith, change_made, given_on, of_answer}
-use Rattle.storage.proofs.Owners.{HasOwner, owner_of}
-use Rattle.storage.proofs.PutRows.{named_as, rows_elsewhere, rows_here, rows_with, stands, stores_put}
+use Rattle.storage.proofs.Owners.{HasTable}
+use Rattle.storage.proofs.HeldTrees.{HoldsTrees, among, named_as, page_size, rows_elsewhere, rows_here, rows_with, stores_rows, held_table, trees_held}
 use Rattle.storage.proofs.Roots.{own_pages}
-use Rattle.storage.proofs.BareTables.{table_found}
+use Rattle.storage.proofs.FoundTables.{indexes_listed, table_found}
 
 -- what follows for every listed database, and for the trees of its file
 pub record Laws : Type 0 where
@@ -62,8 +65,6 @@ pub record Laws : Type 0 where
   pub refused : InsertIsRefused
   pub inserts : InsertAddsRows
   pub none : InsertOfNoneStays
-  pub stand : TreesStand
-  pub give_way : ReplacesTrees
 
 abbrev inserting : Insert → Statement
 inserting i = statement.Change (kind.Insert i)
@@ -96,12 +97,12 @@ pub target_refused : (laws : Laws) (pages : PageMap) (size : ℕ) (tables : List
     → IsChangeRefusal (inserting i) db f
 target_refused laws pages size tables db held i f (inl memory) = inl (inl (inl memory))
 target_refused laws pages size tables db held i f (inr (inl (e, none))) =
-    inr (inl (inl ((laws.binds db (kind.Insert i) (refusal_of f) held.only).1
+    inr (inl (inl ((laws.binds db (kind.Insert i) (refusal_of f) held.of_tables.only).1
     (subst (Contains (faults (resolve_change db no_outer (kind.Insert i)))) (sym e)
-    (table_missing db i.table i.columns i.source (known_listed held.rows_at tables db held.lists i.table ∙ ap looked_up none))))))
+    (table_missing db i.table i.columns i.source (known_listed held.rows_at tables db held.of_tables.lists i.table ∙ ap looked_up none))))))
 target_refused laws pages size tables db held i f (inr (inr (t, named, list))) =
-    inr (inl (inl ((laws.binds db (kind.Insert i) (refusal_of f) held.only).1
-    (columns_refused db i.table i.source t (known_listed held.rows_at tables db held.lists i.table ∙ ap looked_up named) (held.once i.table t named) i.columns (refusal_of f) list))))
+    inr (inl (inl ((laws.binds db (kind.Insert i) (refusal_of f) held.of_tables.only).1
+    (columns_refused db i.table i.source t (known_listed held.rows_at tables db held.of_tables.lists i.table ∙ ap looked_up named) (held.once i.table t named) i.columns (refusal_of f) list))))
 
 -- ---- what its source gives
 
@@ -159,7 +160,7 @@ pub record IsGivenAs (db : Database) (i : Insert) (t : Table) (places : List (Op
 module _ (laws : Laws) (pages : PageMap) (size : ℕ) (tables : List Table) (db : Database) (held : Stores pages size tables db) (i : Insert) (t : Table) (n : ℕ) (named : table_named i.table tables ≡ Some t)
     (columns : AreColumns t.columns i.columns) (n_is : n ≡ count_wanted i.columns t) where
   found : look_up db i.table ≡ good (columns_seen t)
-  found = known_listed held.rows_at tables db held.lists i.table ∙ ap looked_up named
+  found = known_listed held.rows_at tables db held.of_tables.lists i.table ∙ ap looked_up named
 
   once : is_twice_named t.columns ≡ false
   once = held.once i.table t named
@@ -169,7 +170,7 @@ module _ (laws : Laws) (pages : PageMap) (size : ℕ) (tables : List Table) (db 
 
   pub rows_refused : (f : Fault) → AnswersRead {X = List (List Value)} (λ rows. rows) (given_on db n i.source) (Err f) → IsChangeRefusal (inserting i) db f
   rows_refused f (inl outside) = inl (inl outside)
-  rows_refused f (inr (inl has)) = inr (inl (inl ((laws.binds db (kind.Insert i) (refusal_of f) held.only).1
+  rows_refused f (inr (inl has)) = inr (inl (inl ((laws.binds db (kind.Insert i) (refusal_of f) held.of_tables.only).1
       (source_refused db i.table i.source t found once i.columns (refusal_of f) (subst (λ m. Contains (faults (source_known db m i)) (refusal_of f)) n_is (in_it (source_known db n i) has))))))
     where
       in_it : (k : Checked Given) → Contains (faults (known_map (given_rows db no_outer) k)) (refusal_of f) → Contains (faults k) (refusal_of f)
@@ -177,8 +178,8 @@ module _ (laws : Laws) (pages : PageMap) (size : ℕ) (tables : List Table) (db 
   rows_refused f (inr (inr e)) =
       let is = is_meant (given_rows db no_outer) (source_known db n i) (Err (refusal_of f)) e in
       let stands = stands_so (meant (source_known db n i)) is.0 in
-      let refused = laws.refused db i t (held.rows_at t.root) (value_places t i.columns) (meant (source_known db n i)) (refusal_of f) (listed_table held.rows_at tables db i.table t held.lists named) stands is.1 in
-      inr (inl (inr (not_refused laws db i _ held.only stands, subst (λ (a : Answer Database). RefusesWith (of_answer a) (refusal_of f)) (sym refused) (refused_so f))))
+      let refused = laws.refused db i t (held.rows_at t.root) (value_places t i.columns) (meant (source_known db n i)) (refusal_of f) (listed_table held.rows_at tables db i.table t held.of_tables.lists named) stands is.1 in
+      inr (inl (inr (not_refused laws db i _ held.of_tables.only stands, subst (λ (a : Answer Database). RefusesWith (of_answer a) (refusal_of f)) (sym refused) (refused_so f))))
 
   pub given_as : (rows : List (List Value)) (places : List (Option ℕ)) → places ≡ places_in t.columns i.columns → given_on db n i.source ≡ Meant (Ok rows) [] → AllByRecursion (λ vs. length vs ≡ n) rows
       → IsGivenAs db i t places rows
@@ -208,6 +209,15 @@ all_of P (x ∷ xs) each (suc i) d lt = all_of P xs each.1 i d (omega (arith, lt
 all_behind : {A : Type 0} (P : A → Type 0) (xs ys : List A) → All P (xs ++ ys) → All P ys
 all_behind P xs ys all i d lt = subst P (get_or-append-add xs ys i d) (all (length xs + i) d (let sum = length-append xs ys in omega (arith, lt, sum)))
 
+all_last : {A : Type 0} (P : A → Type 0) (xs ys : List A) → AllByRecursion P (xs ++ ys) → AllByRecursion P ys
+all_last P [] ys all = all
+all_last P (x ∷ xs) ys all = all_last P xs ys all.1
+
+-- the entries of rows after others
+entries_behind : (rows added : List TableRow) (indexes : List Index) → AreEntriesStorable indexes (rows ++ added) → AreEntriesStorable indexes added
+entries_behind rows added [] all = tt
+entries_behind rows added (i ∷ is) all = (all_last (λ row. AreStorable (indexed (columns_of i) row)) rows added all.0, entries_behind rows added is all.1)
+
 some_or_none : {A : Type 0} (xs : List A) → (xs ≡ []) ⊎ (1 ≤ length xs)
 some_or_none [] = inl refl
 some_or_none (x ∷ xs) = inr (omega arith)
@@ -216,9 +226,7 @@ some_or_none (x ∷ xs) = inr (omega arith)
 pub record IsMadeOf (rows_at : ℕ → List TableRow) (tables : List Table) (db : Database) (i : Insert) (t : Table) (added : List TableRow) : Type 0 where
   pub made : Database
   pub is : change db (kind.Insert i) ≡ Ok made
-  pub lists : Lists (rows_with rows_at t.root (rows_at t.root ++ added)) tables made
-  pub only : has_only_plain made ≡ true
-  pub in_order : IsNamed made
+  pub of_tables : IsOfTables (rows_with rows_at t.root (rows_at t.root ++ added)) tables made
 
 abbrev rows_answer : List TableRow → Answer (List TableRow)
 rows_answer rows = Ok rows
@@ -231,8 +239,8 @@ not_none r e = absurd cc
 
 module _ (laws : Laws) (pages : PageMap) (size : ℕ) (tables : List Table) (db : Database) (held : Stores pages size tables db) (i : Insert) (t : Table) (places : List (Option ℕ)) (given : List (List Value)) (named : table_named i.table tables ≡ Some t)
     (is : IsGivenAs db i t places given) (long : length places ≡ length t.columns) where
-  owned : HasOwner pages size held.rows_at tables held.owners t
-  owned = owner_of pages size tables db held i.table t named
+  owned : HasTable held.rows_at tables held.held t
+  owned = held_table pages size tables db held i.table t named
 
   set_for : All (IsSetFor t places is.at) given
   set_for = all_of (IsSetFor t places is.at) given (each_for (λ vs. row_with t is.at vs ≡ map (given_at vs) places) (IsSetFor t places is.at) given one is.placed)
@@ -249,7 +257,7 @@ module _ (laws : Laws) (pages : PageMap) (size : ℕ) (tables : List Table) (db 
 
   change_is : 1 ≤ length given → change db (kind.Insert i) ≡ changed given
   change_is some =
-      laws.inserts db i t (held.rows_at t.root) is.at is.source places given held.only (listed_table held.rows_at tables db i.table t held.lists named) owned.split.is.fit is.stands is.answered set_for some
+      laws.inserts db i t (held.rows_at t.root) is.at is.source places given held.of_tables.only (listed_table held.rows_at tables db i.table t held.of_tables.lists named) owned.split.is.fit is.stands is.answered set_for some
 
   pub made : (added : List TableRow) → rows_added t.columns places (last_rowid (held.rows_at t.root)) given ≡ Ok added → IsMadeOf held.rows_at tables db i t added
   made added e = by (some_or_none given)
@@ -265,25 +273,31 @@ module _ (laws : Laws) (pages : PageMap) (size : ℕ) (tables : List Table) (db 
           let nothing = nothing_added added (subst (λ rows. rows_added t.columns places (last_rowid (held.rows_at t.root)) rows ≡ Ok added) none e) in
           record {
             made = db;
-            is = laws.none db i t (held.rows_at t.root) is.at is.source (listed_table held.rows_at tables db i.table t held.lists named) is.stands (is.answered ∙ ap (λ (rows : List (List Value)). Ok rows) none);
-            lists = subst (λ (rows_at : ℕ → List TableRow). Lists rows_at tables db) (λ k root. same nothing root k) held.lists;
-            only = held.only;
-            in_order = held.named;
+            is = laws.none db i t (held.rows_at t.root) is.at is.source (listed_table held.rows_at tables db i.table t held.of_tables.lists named) is.stands (is.answered ∙ ap (λ (rows : List (List Value)). Ok rows) none);
+            of_tables = record {
+              lists = subst (λ (rows_at : ℕ → List TableRow). Lists rows_at tables db) (λ k root. same nothing root k) held.of_tables.lists;
+              only = held.of_tables.only;
+              named = held.of_tables.named;
+              once = held.of_tables.once;
+            };
           }
       by (inr some) = record {
         made = with_object db (folded i.table) (ATable (plain_table t (held.rows_at t.root ++ added)));
         is = change_is some ∙ ap (λ (a : Answer (List TableRow)). a then λ added. Ok (with_object db (folded i.table) (ATable (plain_table t (held.rows_at t.root ++ added))))) e;
-        lists = laws.lists held.rows_at tables db (folded i.table) t (held.rows_at t.root ++ added) held.lists (named_folded tables i.table t named)
-            (λ other u found here. own_pages pages size tables db held other (folded i.table) u t found (named_folded tables i.table t named) here);
-        only = laws.tables db (folded i.table) (ATable (plain_table t (held.rows_at t.root ++ added))) held.only refl;
-        in_order = laws.named db (folded i.table) (ATable (plain_table t (held.rows_at t.root ++ added))) held.named;
+        of_tables = record {
+          lists = laws.lists held.rows_at tables db (folded i.table) t (held.rows_at t.root ++ added) held.of_tables.lists (named_folded tables i.table t named)
+              (λ other u found here. own_pages pages size tables db held other (folded i.table) u t found (named_folded tables i.table t named) here);
+          only = laws.tables db (folded i.table) (ATable (plain_table t (held.rows_at t.root ++ added))) held.of_tables.only refl;
+          named = laws.named db (folded i.table) (ATable (plain_table t (held.rows_at t.root ++ added))) held.of_tables.named;
+          once = held.of_tables.once;
+        };
       }
 
   pub reaches : (made : Database) → change db (kind.Insert i) ≡ Ok made → Reaches (change_made (inserting i) db) made
-  reaches made e = (not_refused laws db i _ held.only is.stands, subst (λ (a : Answer Database). Reaches (of_answer a) made) (sym e) refl)
+  reaches made e = (not_refused laws db i _ held.of_tables.only is.stands, subst (λ (a : Answer Database). Reaches (of_answer a) made) (sym e) refl)
 
   pub refused : (f : Fault) → IsRefusedAs (rows_added t.columns places (last_rowid (held.rows_at t.root)) given) f → work i db (refusal_of f)
-  refused f (what, e) = inr (not_refused laws db i _ held.only is.stands, subst (λ (a : Answer Database). RefusesWith (of_answer a) (refusal_of f)) (sym (by (some_or_none given))) (as_answer what))
+  refused f (what, e) = inr (not_refused laws db i _ held.of_tables.only is.stands, subst (λ (a : Answer Database). RefusesWith (of_answer a) (refusal_of f)) (sym (by (some_or_none given))) (as_answer what))
     where
       by : (given ≡ []) ⊎ (1 ≤ length given) → change db (kind.Insert i) ≡ Err (refusal_of f)
       by (inl none) = absurd (not_none (refusal_of f) (subst (λ rows. rows_added t.columns places (last_rowid (held.rows_at t.root)) rows ≡ Err (refusal_of f)) none e))
@@ -293,21 +307,19 @@ module _ (laws : Laws) (pages : PageMap) (size : ℕ) (tables : List Table) (db 
       as_answer (inl e) = subst (λ (x : Fault). RefusesWith (of_answer (Err (refusal_of x))) (refusal_of x)) (sym e) (0, omega arith, refl)
       as_answer (inr e) = subst (λ (x : Fault). RefusesWith (of_answer (Err (refusal_of x))) (refusal_of x)) (sym e) (0, omega arith, refl)
 
-  beside : Stands pages size t.root owned.split.is.entries owned.split.at.used held.free
-  beside = stands laws.stand pages size tables db held t owned
-
   -- the database has the rows that are too long
-  long_row : (added : List TableRow) (m : IsMadeOf held.rows_at tables db i t added) → (AllStorable added → ⊥) → HasLongRow m.made
+  long_row : (added : List TableRow) (m : IsMadeOf held.rows_at tables db i t added) → (AllStorable added × AreEntriesStorable t.indexes added → ⊥) → HasLongRow m.made
   long_row added m too_long = record {
     name = i.table;
     table = t;
     rows = held.rows_at t.root ++ added;
-    is = table_found (rows_with held.rows_at t.root (held.rows_at t.root ++ added)) tables m.made i.table t m.lists named
+    is = table_found (rows_with held.rows_at t.root (held.rows_at t.root ++ added)) tables m.made i.table t m.of_tables.lists named
         ∙ ap (λ rows. Some (ATable (plain_table t rows))) (rows_here held.rows_at t.root t.root (held.rows_at t.root ++ added) refl);
-    long = λ all. too_long (all_behind (λ row. AreStorable row.1) (held.rows_at t.root) added all);
+    indexed = indexes_listed (rows_with held.rows_at t.root (held.rows_at t.root ++ added)) tables m.made m.of_tables owned.front t owned.back owned.tables_are;
+    long = λ all. too_long (all_behind (λ row. AreStorable row.1) (held.rows_at t.root) added all.0, entries_behind (held.rows_at t.root) added t.indexes all.1);
   }
 
-  put_refused : (f : Fault) → IsPutRefusal t.columns places given (held.rows_at t.root) f → IsChangeRefusal (inserting i) db f
+  put_refused : (f : Fault) → IsRefusedInsert t places given (held.rows_at t.root) f → IsChangeRefusal (inserting i) db f
   put_refused f (inl outside) = inl outside
   put_refused f (inr (inl as_rows)) = inr (inl (refused f as_rows))
   put_refused f (inr (inr too_long)) =
@@ -319,18 +331,25 @@ module _ (laws : Laws) (pages : PageMap) (size : ℕ) (tables : List Table) (db 
         why = inl (long_row too_long.added m too_long.long);
       }))
 
+  abbrev trees : HoldsTrees pages size held.rows_at tables held.schema
+  trees = trees_held pages size tables db held
+
+  its_trees : AreAmong pages size (schema_tree held.schema held.schema_used) (all_trees owned.split.before) t (held.rows_at t.root) (all_trees owned.split.after)
+  its_trees = among pages size held.rows_at tables held.schema trees t owned
+
   -- what the call that puts the rows comes to
-  pub put_makes : (new : PageMap) (result : Result ⊤ Fault) → PutsRows pages new size t.root t.columns places given result
+  pub put_makes : (new : PageMap) (result : Result ⊤ Fault) → InsertsInTrees pages new size t places given result
       → MatchResult result (λ done. IsMade (inserting i) db new size tables) (IsChangeRefusal (inserting i) db)
   put_makes new (Ok done) puts =
-      let put = puts (held.rows_at t.root) owned.split.is.entries owned.split.at.used held.free beside owned.split.is.each in
+      let put = puts (schema_tree held.schema held.schema_used) (all_trees owned.split.before) (all_trees owned.split.after) (held.rows_at t.root) (page_size pages size held.rows_at tables held.schema trees) refl its_trees owned.split.is.fit in
       let m = made put.added put.answer in
       record {
         made = m.made;
         reaches = reaches m.made m.is;
-        stored = stores_put laws.give_way pages new size tables db m.made t t.columns places given held owned refl put m.lists m.only m.in_order;
+        stored = stores_rows pages new size tables db m.made held t (held.rows_at t.root ++ put.added) owned put.hold m.of_tables;
       }
-  put_makes new (Err f) puts = put_refused f (puts (held.rows_at t.root) owned.split.is.entries owned.split.at.used held.free beside owned.split.is.each)
+  put_makes new (Err f) puts =
+      put_refused f (puts (schema_tree held.schema held.schema_used) (all_trees owned.split.before) (all_trees owned.split.after) (held.rows_at t.root) (page_size pages size held.rows_at tables held.schema trees) refl its_trees owned.split.is.fit)
 
 -- a call that passes a refusal on
 pub passed_on : (P : ⊤ → Type 0) (Q : Fault → Type 0) (r : Result ⊤ Fault) (f : Fault) → IsErrAnd r (λ e. e ≡ f) → Q f → MatchResult r P Q

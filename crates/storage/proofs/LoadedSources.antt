@@ -28,11 +28,11 @@ use Rattle.rowprog.specs.Rows.{TableRow}
 use Rattle.rowprog.specs.Sources.{LoadsRows, as_source}
 use Rattle.rowprog.specs.Trees.{AnswersOrFails, HasRows}
 use Rattle.storage.specs.Reading.{HaveRows, LoadsAll, rows_in}
-use Rattle.storage.specs.Stored.{Stores}
+use Rattle.stored.specs.Stored.{Stores}
 use Rattle.storage.specs.Works.{read_on}
 use Rattle.storage.proofs.Answering.{answers}
-use Rattle.storage.proofs.Owners.{has_rows, owner_of}
-use Rattle.storage.proofs.BareTables.{table_found}
+use Rattle.storage.proofs.Owners.{has_rows}
+use Rattle.storage.proofs.FoundTables.{table_found}
 
 -- ---- reading
 
@@ -139,7 +139,7 @@ have_rows pages size tables db stored (s ∷ ss) (p ∷ ps) placed = (at (table_
     at None is e = (let bad : None ≡ Some p = e in cc)
     at (Some t) is e =
         subst (λ (x : BoundSource). HasRows pages size x.root x.width (stored.rows_at x.root)) (one (place_seen t) p e)
-        (has_rows pages size stored.rows_at tables stored.owners t (owner_of pages size tables db stored s.0 t is))
+        (has_rows pages size tables db stored s.0 t is)
       where
         one : (a b : BoundSource) → Some a ≡ Some b → a ≡ b
         one a b x = cc

@@ -1,5 +1,5 @@
 -- The trees of listed tables, among those that share a file's pages.
-use Rattle.std.proofs.Common.{◌≡◌, refl, ap, subst, cond, ℕ, Bool, true, false, List, [], ◌∷◌, ◌++◌, length, Some}
+use Rattle.std.proofs.Common.{◌≡◌, ◌∙◌, refl, sym, append_assoc, ap, subst, cond, ℕ, Bool, true, false, List, [], ◌∷◌, ◌++◌, length, Some}
 use Rattle.std.specs.List.{AllByRecursion, find}
 use Rattle.pages.specs.Map.{PageMap}
 use Rattle.treepage.specs.Cells.{Pairwise}
@@ -10,7 +10,8 @@ use Rattle.catalog.specs.Listed.{is_table, table_named}
 use Rattle.catalog.specs.declared.tables.Table.{Table}
 use Rattle.rowprog.specs.Rows.{TableRow}
 use Rattle.rowprog.specs.Trees.{HasRows}
-use Rattle.storage.specs.Stored.{IsTreeOf, Stores}
+use Rattle.holdings.specs.Trees.{AreTreesOf, IsRowsTree}
+use Rattle.stored.specs.Stored.{AreHeld, Stores, all_trees}
 
 -- an item of a list, with those before and after it
 pub record IsAmong {A : Type 0} (xs : List A) (x : A) : Type 0 where
@@ -58,32 +59,59 @@ pub one_of : {A : Type 0} (P : A → Type 0) (front : List A) (x : A) (back : Li
 one_of P [] x back each = each.0
 one_of P (a ∷ front) x back each = one_of P front x back each.1
 
--- the tree of a table, with those before and after it
-pub record HasOwner (map : PageMap) (size : ℕ) (rows_at : ℕ → List TableRow) (tables : List Table) (owners : List Owner) (t : Table) : Type 0 where
+-- the trees of all of two lists of groups
+pub trees_append : (xs ys : List (List Owner)) → all_trees (xs ++ ys) ≡ all_trees xs ++ all_trees ys
+trees_append [] ys = refl
+trees_append (x ∷ xs) ys = ap (λ zs. x ++ zs) (trees_append xs ys) ∙ sym (append_assoc x (all_trees xs) (all_trees ys))
+
+-- the trees of one table among those of all
+pub trees_around : (before : List (List Owner)) (at : List Owner) (after : List (List Owner)) → all_trees (before ++ at ∷ after) ≡ all_trees before ++ (at ++ all_trees after)
+trees_around before at after = trees_append before (at ∷ after)
+
+-- the trees of a table, with those before and after them
+pub record HasTable (rows_at : ℕ → List TableRow) (tables : List Table) (held : List (List Owner)) (t : Table) : Type 0 where
   pub front : List Table
   pub back : List Table
   pub tables_are : tables ≡ front ++ t ∷ back
-  pub split : Splits (IsTreeOf rows_at) front t back owners
-  pub tree : IsTableTree map size t.root split.is.entries split.at.used
+  pub split : Splits (AreHeld rows_at) front t back held
 
-pub tree_of : (map : PageMap) (size : ℕ) (rows_at : ℕ → List TableRow) (t : Table) (o : Owner) (is : IsTreeOf rows_at t o) → IsTree map size o → IsTableTree map size t.root is.entries o.used
-tree_of map size rows_at t o is tree =
+abbrev pub table_of_parts : (rows_at : ℕ → List TableRow) (tables : List Table) (held : List (List Owner)) (front : List Table) (t : Table) (back : List Table) → tables ≡ front ++ t ∷ back
+    → Pairwise (AreHeld rows_at) tables held → HasTable rows_at tables held t
+table_of_parts rows_at tables held front t back parts each = record {
+  front = front;
+  back = back;
+  tables_are = parts;
+  split = splits (AreHeld rows_at) front t back held (subst (λ ts. Pairwise (AreHeld rows_at) ts held) parts each);
+}
+
+-- the tree of its rows
+pub record HasRowsTree (rows : List TableRow) (t : Table) (trees : List Owner) : Type 0 where
+  pub first : Owner
+  pub others : List Owner
+  pub parts : trees ≡ first ∷ others
+  pub is : IsRowsTree t rows first
+
+pub rows_tree : (rows : List TableRow) (t : Table) (trees : List Owner) → AreTreesOf t rows trees → HasRowsTree rows t trees
+rows_tree rows t [] are = absurd are
+rows_tree rows t (first ∷ others) are = record { first = first; others = others; parts = refl; is = are.0 }
+
+pub tree_of : (map : PageMap) (size : ℕ) (rows : List TableRow) (t : Table) (o : Owner) (is : IsRowsTree t rows o) → IsTree map size o → IsTableTree map size t.root is.entries o.used
+tree_of map size rows t o is tree =
     subst (λ root. IsTableTree map size root is.entries o.used) is.root_is (subst (HoldsUnder map size o.root o.used) is.content_is tree)
 
-pub owner_of : (map : PageMap) (size : ℕ) (tables : List Table) (db : Database) (held : Stores map size tables db) (name : Name) (t : Table) → table_named name tables ≡ Some t
-    → HasOwner map size held.rows_at tables held.owners t
-owner_of map size tables db held name t named =
-    let among = found_among (is_table name) tables t named in
-    let split = splits (IsTreeOf held.rows_at) among.front t among.back held.owners (subst (λ ts. Pairwise (IsTreeOf held.rows_at) ts held.owners) among.parts held.each) in
-    record {
-      front = among.front;
-      back = among.back;
-      tables_are = among.parts;
-      split = split;
-      tree = tree_of map size held.rows_at t split.at split.is (one_of (IsTree map size) split.before split.at split.after (subst (AllByRecursion (IsTree map size)) split.parts held.shared.trees.1));
-    }
-
 -- a table's tree has its rows
-pub has_rows : (map : PageMap) (size : ℕ) (rows_at : ℕ → List TableRow) (tables : List Table) (owners : List Owner) (t : Table) → HasOwner map size rows_at tables owners t
-    → HasRows map size t.root (length t.columns) (rows_at t.root)
-has_rows map size rows_at tables owners t o = record { entries = o.split.is.entries; used = o.split.at.used; tree = o.tree; each = o.split.is.each }
+pub has_rows : (map : PageMap) (size : ℕ) (tables : List Table) (db : Database) (held : Stores map size tables db) (name : Name) (t : Table) → table_named name tables ≡ Some t
+    → HasRows map size t.root (length t.columns) (held.rows_at t.root)
+has_rows map size tables db held name t named =
+    let among = found_among (is_table name) tables t named in
+    let o = table_of_parts held.rows_at tables held.held among.front t among.back among.parts held.each in
+    let tree = rows_tree (held.rows_at t.root) t o.split.at o.split.is.are in
+    let around : all_trees held.held ≡ all_trees o.split.before ++ tree.first ∷ (tree.others ++ all_trees o.split.after) =
+    ap all_trees o.split.parts ∙ (trees_around o.split.before o.split.at o.split.after ∙ ap (λ (xs : List Owner). all_trees o.split.before ++ (xs ++ all_trees o.split.after)) tree.parts) in
+    record {
+      entries = tree.is.entries;
+      used = tree.first.used;
+      tree = tree_of map size (held.rows_at t.root) t tree.first tree.is
+          (one_of (IsTree map size) (all_trees o.split.before) tree.first (tree.others ++ all_trees o.split.after) (subst (AllByRecursion (IsTree map size)) around held.shared.trees.1));
+      each = tree.is.each;
+    }

@@ -1,5 +1,5 @@
 -- The trees of two listed tables don't begin at one page.
-use Rattle.std.proofs.Common.{◌≡◌, ◌≤◌, ◌∙◌, ◌==◌, refl, sym, ap, subst, cond, ℕ, zero, suc, Bool, true, false, List, [], ◌∷◌, ◌++◌, length, map, Some, arith}
+use Rattle.std.proofs.Common.{◌≡◌, ◌≤◌, ◌+◌, ◌∙◌, ◌==◌, refl, sym, ap, subst, cond, ℕ, zero, suc, Bool, true, false, List, [], ◌∷◌, ◌++◌, length, map, Some, arith}
 use Rattle.std.specs.List.{AllByRecursion, find}
 use Rattle.std.proofs.lemmas.Bool.Decides.{nat_tests}
 use Rattle.std.proofs.lemmas.Map.Lookups.{exact_bytes}
@@ -12,13 +12,14 @@ use Rattle.pages.specs.Map.{PageMap}
 use Rattle.pages.proofs.Moving.{occurs_append}
 use Rattle.treepage.specs.Cells.{Pairwise}
 use Rattle.tabletree.specs.Tree.{IsTableTree, Tree, top, pages_of}
-use Rattle.sharing.specs.Layout.{HoldsUnder, IsTree, Owner, used_by}
+use Rattle.sharing.specs.Layout.{AreShared, HoldsUnder, IsTree, Owner, used_by}
 use Rattle.catalog.specs.Database.{Database, Name}
 use Rattle.catalog.specs.Listed.{is_table, table_named}
 use Rattle.catalog.specs.declared.tables.Table.{Table}
 use Rattle.rowprog.specs.Rows.{TableRow}
-use Rattle.storage.specs.Stored.{IsTreeOf, Stores}
-use Rattle.storage.proofs.Owners.{found_among}
+use Rattle.holdings.specs.Trees.{AreTreesOf, IsRowsTree}
+use Rattle.stored.specs.Stored.{AreHeld, Stores, all_trees, schema_tree}
+use Rattle.storage.proofs.Owners.{found_among, tree_of}
 
 -- the page where each table's tree begins
 abbrev pub roots_of : List Table → List ℕ
@@ -36,37 +37,52 @@ uses_root pages size root rows used tree =
     subst (λ (ps : List ℕ). 1 ≤ occurs root ps) tree.used_are
     (subst (λ (n : ℕ). 1 ≤ occurs n (pages_of tree.depth tree.tree)) tree.root_is (top_first tree.depth tree.tree))
 
-owner_root : (pages : PageMap) (size : ℕ) (rows_at : ℕ → List TableRow) (t : Table) (o : Owner) → IsTreeOf rows_at t o → IsTree pages size o → 1 ≤ occurs t.root o.used
-owner_root pages size rows_at t o is tree =
-    uses_root pages size t.root is.entries o.used
-    (subst (λ root. IsTableTree pages size root is.entries o.used) is.root_is (subst (HoldsUnder pages size o.root o.used) is.content_is tree))
+owner_root : (pages : PageMap) (size : ℕ) (rows : List TableRow) (t : Table) (o : Owner) → IsRowsTree t rows o → IsTree pages size o → 1 ≤ occurs t.root o.used
+owner_root pages size rows t o is tree = uses_root pages size t.root is.entries o.used (tree_of pages size rows t o is tree)
 
 pub one_at : (n m : ℕ) → (if_same : Bool) → (m == n) ≡ if_same → (c : ℕ) → (n ≡ m → 1 ≤ c) → cond if_same 1 0 ≤ c
 one_at n m true e c has = has (grind (arith, nat_tests))
 one_at n m false e c has = omega arith
 
+-- what holds of all holds of the first of them, and of the others
+pub all_apart : {A : Type 0} (P : A → Type 0) (xs ys : List A) → AllByRecursion P (xs ++ ys) → AllByRecursion P xs × AllByRecursion P ys
+all_apart P [] ys all = (tt, all)
+all_apart P (x ∷ xs) ys all = let rest = all_apart P xs ys all.1 in ((all.0, rest.0), rest.1)
+
+pub used_both : (n : ℕ) (xs ys : List Owner) → occurs n (used_by (xs ++ ys)) ≡ occurs n (used_by xs) + occurs n (used_by ys)
+used_both n [] ys = omega arith
+used_both n (x ∷ xs) ys = let rest = used_both n xs ys in let a = occurs_append n x.used (used_by (xs ++ ys)) in let b = occurs_append n x.used (used_by xs) in omega (arith, rest, a, b)
+
+-- the table's root is used by one of its trees
+group_root : (pages : PageMap) (size : ℕ) (rows : List TableRow) (t : Table) (trees : List Owner) → AreTreesOf t rows trees → AllByRecursion (IsTree pages size) trees → 1 ≤ occurs t.root (used_by trees)
+group_root pages size rows t [] are trees = absurd are
+group_root pages size rows t (o ∷ os) are trees =
+    let own = owner_root pages size rows t o are.0 trees.0 in let sum = occurs_append t.root o.used (used_by os) in omega (arith, own, sum)
+
 -- each root is used by its tree
-pub roots_used : (pages : PageMap) (size : ℕ) (rows_at : ℕ → List TableRow) (n : ℕ) (tables : List Table) (owners : List Owner) → Pairwise (IsTreeOf rows_at) tables owners → AllByRecursion (IsTree pages size) owners
-    → occurs n (roots_of tables) ≤ occurs n (used_by owners)
+pub roots_used : (pages : PageMap) (size : ℕ) (rows_at : ℕ → List TableRow) (n : ℕ) (tables : List Table) (held : List (List Owner)) → Pairwise (AreHeld rows_at) tables held
+    → AllByRecursion (IsTree pages size) (all_trees held) → occurs n (roots_of tables) ≤ occurs n (used_by (all_trees held))
 roots_used pages size rows_at n [] [] each trees = omega arith
-roots_used pages size rows_at n [] (o ∷ owners) each trees = absurd each
+roots_used pages size rows_at n [] (o ∷ held) each trees = absurd each
 roots_used pages size rows_at n (t ∷ tables) [] each trees = absurd each
-roots_used pages size rows_at n (t ∷ tables) (o ∷ owners) each trees =
-    let rest = roots_used pages size rows_at n tables owners each.1 trees.1 in
-    let sum = occurs_append n o.used (used_by owners) in
-    let here : cond (t.root == n) 1 0 ≤ occurs n o.used = one_at n t.root (t.root == n) refl (occurs n o.used)
-    (λ same. subst (λ (k : ℕ). 1 ≤ occurs k o.used) (sym same) (owner_root pages size rows_at t o each.0 trees.0)) in
+roots_used pages size rows_at n (t ∷ tables) (os ∷ held) each trees =
+    let parts = all_apart (IsTree pages size) os (all_trees held) trees in
+    let rest = roots_used pages size rows_at n tables held each.1 parts.1 in
+    let sum = used_both n os (all_trees held) in
+    let here : cond (t.root == n) 1 0 ≤ occurs n (used_by os) = one_at n t.root (t.root == n) refl (occurs n (used_by os))
+    (λ same. subst (λ (k : ℕ). 1 ≤ occurs k (used_by os)) (sym same) (group_root pages size (rows_at t.root) t os each.0.are parts.0)) in
     omega (arith, rest, sum, here)
 
 fresh_once : (a b n : ℕ) → fresh a b n ≤ 1
 fresh_once a b n = grind (arith)
 
--- each root comes once, and none is page 1
-pub roots_once : (pages : PageMap) (size : ℕ) (tables : List Table) (db : Database) (held : Stores pages size tables db) (n : ℕ) → occurs n (roots_of tables) ≤ 1
-roots_once pages size tables db held n =
-    let used = roots_used pages size held.rows_at n tables held.owners held.each held.shared.trees.1 in
-    let sum = occurs_append n held.schema_used (used_by held.owners) in
-    let once = held.shared.once n in
+-- each root comes once
+pub roots_once : (pages : PageMap) (size : ℕ) (rows_at : ℕ → List TableRow) (tables : List Table) (schema : Owner) (held : List (List Owner)) (free : List ℕ) → Pairwise (AreHeld rows_at) tables held
+    → AreShared pages size (schema ∷ all_trees held) free → (n : ℕ) → occurs n (roots_of tables) ≤ 1
+roots_once pages size rows_at tables schema held free each shared n =
+    let used = roots_used pages size rows_at n tables held each shared.trees.1 in
+    let sum = occurs_append n schema.used (used_by (all_trees held)) in
+    let once = shared.once n in
     let one = fresh_once 0 (length pages) n in
     omega (arith, used, sum, once, one)
 
@@ -117,5 +133,5 @@ found_is p (y ∷ xs) x e = by_test (p y) refl (found_is p xs x) e
 pub own_pages : (pages : PageMap) (size : ℕ) (tables : List Table) (db : Database) (held : Stores pages size tables db) (a b : Name) (s t : Table) → table_named a tables ≡ Some s → table_named b tables ≡ Some t
     → s.root ≡ t.root → folded a ≡ folded b
 own_pages pages size tables db held a b s t h k same =
-    let is = one_table (is_table b) (is_table a) tables t s k h same (roots_once pages size tables db held t.root) in
+    let is = one_table (is_table b) (is_table a) tables t s k h same (roots_once pages size held.rows_at tables (schema_tree held.schema held.schema_used) held.held held.free held.each held.shared t.root) in
     sym (named_so s a (found_is (is_table a) tables s h)) ∙ (ap (λ (z : Table). folded z.name) (sym is) ∙ named_so t b (found_is (is_table b) tables t k))

@@ -28,7 +28,7 @@ use Rattle.rowprog.specs.Rows.{TableRow}
 use Rattle.rowprog.specs.Sources.{GivesRows, HoldRows, as_held, as_source}
 use Rattle.rowprog.specs.Trees.{AnswersOrFails, HasRows}
 use Rattle.storage.specs.Reading.{HaveRows, Streams, rows_in}
-use Rattle.storage.specs.Stored.{Stores}
+use Rattle.stored.specs.Stored.{Stores}
 use Rattle.storage.proofs.Answering.{Rows, answers}
 use Rattle.storage.proofs.LoadedSources.{answer_over, have_rows}
 
@@ -139,7 +139,7 @@ bound_streamed view law pages size tables db stored reading places table result 
   where
     over : answer_of db [] reading ≡ rows_over reading [] (beside_rows reading.sources (map as_source (stored.rows_at table.root) ∷ []))
     over =
-        answer_over law stored.rows_at tables db reading places stored.lists placed
+        answer_over law stored.rows_at tables db reading places stored.of_tables.lists placed
         ∙ ap (λ (them : List BoundSource). rows_over reading [] (beside_rows reading.sources (rows_in stored.rows_at them))) one
 
     held : HasRows pages size table.root table.width (stored.rows_at table.root)

@@ -11,16 +11,12 @@ use Rattle.syntax.specs.declared.change.Change.TheVariants as kind
 use Rattle.syntax.specs.declared.change.Update.{Update}
 use Rattle.syntax.specs.declared.statement.Statement.{Statement}
 use Rattle.syntax.specs.declared.statement.Statement.TheVariants as statement
-use Rattle.page.specs.Leaf.{Entry}
 use Rattle.pages.specs.Map.{PageMap}
-use Rattle.treepage.specs.Cells.{Pairwise}
-use Rattle.tabletree.specs.Calls.{BecomesRows, Stands}
-use Rattle.sharing.specs.Layout.{ReplacesTrees, TreesStand}
+use Rattle.holdings.specs.Trees.{AreAmong}
 use Rattle.catalog.specs.Database.{ATable, Database, Name, with_object}
 use Rattle.catalog.specs.Laws.{KeepsOnlyPlain, ListsOtherRows}
 use Rattle.catalog.specs.Listed.{Lists, plain_table, table_named}
-use Rattle.catalog.specs.Named.{KeepsNamed}
-use Rattle.catalog.specs.Rows.{are_rows}
+use Rattle.catalog.specs.Named.{IsOfTables, KeepsNamed}
 use Rattle.catalog.specs.declared.tables.Column.{Column}
 use Rattle.catalog.specs.declared.tables.Table.{Table}
 use Rattle.bind.specs.Bound.{IsFaultOf, looked_up, source_seen}
@@ -33,26 +29,27 @@ use Rattle.bind.specs.declared.scope.ScopeColumn.{ScopeColumn}
 use Rattle.bind.specs.declared.scope.ScopeSource.{ScopeSource}
 use Rattle.bind.proofs.KnownTables.{known_listed}
 use Rattle.terms.specs.Terms.{Term}
-use Rattle.rowprog.specs.Rows.{IsRow, TableRow}
+use Rattle.rowprog.specs.Rows.{TableRow}
 use Rattle.querybinder.specs.Assigned.{columns_set, set_known, sets_known}
 use Rattle.dml.specs.Changes.{Resolved, Updates, no_outer, resolve_change}
 use Rattle.dml.specs.Inserting.{AllStorable}
 use Rattle.dml.specs.Setting.{rows_set}
-use Rattle.dml.specs.Updating.{IsSetRefusal, SetsRows}
+use Rattle.rowstore.specs.Changing.{IsRefusedUpdate, UpdatesInTrees}
+use Rattle.rowstore.specs.Turning.{AreEntriesStorable}
 use Rattle.bind.proofs.ColumnPlaces.{column_place}
 use Rattle.dml.proofs.PlacesByName.{doubled_list, list_places, unknown_list}
 use Rattle.trigger.specs.Binding.{IsFault}
 use Rattle.trigger.specs.Effects.{change}
 use Rattle.trigger.specs.Laws.{BindsAlone, UpdateSetsRows}
 use Rattle.storage.specs.Changing.{HasLongRow, IsChangeRefusal, IsMade}
-use Rattle.storage.specs.Stored.{Stores}
+use Rattle.stored.specs.Stored.{Stores, all_trees, schema_tree}
 use Rattle.storage.specs.Works.{Reaches, RefusesWith, change_made, of_answer}
 use Rattle.storage.proofs.Deletions.{as_refused}
 use Rattle.storage.proofs.Insertions.{listed_table, named_folded}
-use Rattle.storage.proofs.Owners.{HasOwner, owner_of}
-use Rattle.storage.proofs.PutRows.{rows_here, rows_with, stands, stores_rows}
+use Rattle.storage.proofs.Owners.{HasTable}
+use Rattle.storage.proofs.HeldTrees.{HoldsTrees, among, page_size, rows_here, rows_with, stores_rows, held_table, trees_held}
 use Rattle.storage.proofs.Roots.{own_pages}
-use Rattle.storage.proofs.BareTables.{table_found}
+use Rattle.storage.proofs.FoundTables.{indexes_listed, table_found}
 
 -- what follows for every listed database, and for the trees of its file
 pub record Laws : Type 0 where
@@ -61,8 +58,6 @@ pub record Laws : Type 0 where
   pub named : KeepsNamed
   pub binds : BindsAlone
   pub updates : UpdateSetsRows
-  pub stand : TreesStand
-  pub give_way : ReplacesTrees
 
 abbrev updating : Update → Statement
 updating u = statement.Change (kind.Update u)
@@ -117,10 +112,10 @@ no_faults (Meant x rs) = refl
 
 module _ (laws : Laws) (pages : PageMap) (size : ℕ) (tables : List Table) (db : Database) (held : Stores pages size tables db) (u : Update) where
   resolved : (found : Option Table) → table_named u.table tables ≡ found → resolve_change db no_outer (kind.Update u) ≡ resolved_by u (looked_up found)
-  resolved found named = ap (resolved_by u) (known_listed held.rows_at tables db held.lists u.table ∙ ap looked_up named)
+  resolved found named = ap (resolved_by u) (known_listed held.rows_at tables db held.of_tables.lists u.table ∙ ap looked_up named)
 
   refused_so : (f : Fault) → Contains (faults (resolve_change db no_outer (kind.Update u))) (refusal_of f) → IsChangeRefusal (updating u) db f
-  refused_so f has = inr (inl (inl ((laws.binds db (kind.Update u) (refusal_of f) held.only).1 has)))
+  refused_so f has = inr (inl (inl ((laws.binds db (kind.Update u) (refusal_of f) held.of_tables.only).1 has)))
 
   -- a name that no table has
   pub name_refused : (f : Fault) → (f ≡ fault.Memory) ⊎ (refusal_of f ≡ NoSuch) × (table_named u.table tables ≡ None) → IsChangeRefusal (updating u) db f
@@ -184,11 +179,11 @@ module _ (laws : Laws) (pages : PageMap) (size : ℕ) (tables : List Table) (db 
       bound : resolve_change db no_outer (kind.Update u) ≡ Meant (Updates (folded u.table) sets (named_sets u) condition) []
       bound = parts ∙ (ap (λ (k : Checked (List (ℕ × Term))). both (as_updates u) k condition_of) sets_known_so ∙ ap (both (as_updates u) (Meant sets [])) known)
 
-      owned : HasOwner pages size held.rows_at tables held.owners t
-      owned = owner_of pages size tables db held u.table t named
+      owned : HasTable held.rows_at tables held.held t
+      owned = held_table pages size tables db held u.table t named
 
       not_refused : (r : Refusal) → IsFault db (kind.Update u) r → ⊥
-      not_refused r is = nothing (subst (λ (k : Checked Resolved). Contains (faults k) r) bound ((laws.binds db (kind.Update u) r held.only).0 is))
+      not_refused r is = nothing (subst (λ (k : Checked Resolved). Contains (faults k) r) bound ((laws.binds db (kind.Update u) r held.of_tables.only).0 is))
         where
           nothing : Contains [] r → ⊥
           nothing has = absurd (omega (arith, has.1))
@@ -205,47 +200,54 @@ module _ (laws : Laws) (pages : PageMap) (size : ℕ) (tables : List Table) (db 
 
       lists_now : (now : List TableRow) → Lists (rows_with held.rows_at t.root now) tables (with_now now)
       lists_now now =
-          laws.lists held.rows_at tables db (folded u.table) t now held.lists (named_folded tables u.table t named)
+          laws.lists held.rows_at tables db (folded u.table) t now held.of_tables.lists (named_folded tables u.table t named)
           (λ other x found here. own_pages pages size tables db held other (folded u.table) x t found (named_folded tables u.table t named) here)
 
-      stored : (new : PageMap) (now : List TableRow) (entries : List Entry) → BecomesRows pages new size t.root entries owned.split.at.used held.free
-          → Pairwise (IsRow (length t.columns)) entries now → are_rows (plain_table t now) ≡ true → Stores new size tables (with_now now)
-      stored new now entries becomes each fit =
-          stores_rows laws.give_way pages new size tables db (with_now now) t now entries held owned becomes each fit (lists_now now)
-          (laws.tables db (folded u.table) (ATable (plain_table t now)) held.only refl) (laws.named db (folded u.table) (ATable (plain_table t now)) held.named)
+      of_tables : (now : List TableRow) → IsOfTables (rows_with held.rows_at t.root now) tables (with_now now)
+      of_tables now = record {
+        lists = lists_now now;
+        only = laws.tables db (folded u.table) (ATable (plain_table t now)) held.of_tables.only refl;
+        named = laws.named db (folded u.table) (ATable (plain_table t now)) held.of_tables.named;
+        once = held.of_tables.once;
+      }
 
-      tree_stands : Stands pages size t.root owned.split.is.entries owned.split.at.used held.free
-      tree_stands = stands laws.stand pages size tables db held t owned
+      abbrev trees : HoldsTrees pages size held.rows_at tables held.schema
+      trees = trees_held pages size tables db held
+
+      its_trees : AreAmong pages size (schema_tree held.schema held.schema_used) (all_trees owned.split.before) t (held.rows_at t.root) (all_trees owned.split.after)
+      its_trees = among pages size held.rows_at tables held.schema trees t owned
 
       change_is : (a : Answer (List TableRow)) → rows_set t.columns sets condition (held.rows_at t.root) ≡ a → change db (kind.Update u) ≡ (a then λ now. Ok (with_now now))
       change_is a e =
-          laws.updates db u t (held.rows_at t.root) sets (named_sets u) condition held.only held.named (listed_table held.rows_at tables db u.table t held.lists named) owned.split.is.fit bound
+          laws.updates db u t (held.rows_at t.root) sets (named_sets u) condition held.of_tables.only held.of_tables.named (listed_table held.rows_at tables db u.table t held.of_tables.lists named) owned.split.is.fit bound
           ∙ ap (λ (x : Answer (List TableRow)). x then λ now. Ok (with_now now)) e
 
       -- the database has the rows that are too long
-      long_row : (now : List TableRow) → (AllStorable now → ⊥) → HasLongRow (with_now now)
+      long_row : (now : List TableRow) → (AllStorable now × AreEntriesStorable t.indexes now → ⊥) → HasLongRow (with_now now)
       long_row now long = record {
         name = u.table;
         table = t;
         rows = now;
         is = table_found (rows_with held.rows_at t.root now) tables (with_now now) u.table t (lists_now now) named
             ∙ ap (λ rows. Some (ATable (plain_table t rows))) (rows_here held.rows_at t.root t.root now refl);
+        indexed = indexes_listed (rows_with held.rows_at t.root now) tables (with_now now) (of_tables now) owned.front t owned.back owned.tables_are;
         long = long;
       }
 
       -- what the call that sets the rows comes to
-      pub set_makes : (new : PageMap) (result : Result ⊤ Fault) → SetsRows pages new size t.root t.columns sets condition result
+      pub set_makes : (new : PageMap) (result : Result ⊤ Fault) → UpdatesInTrees pages new size t condition sets result
           → MatchResult result (λ done. IsMade (updating u) db new size tables) (IsChangeRefusal (updating u) db)
       set_makes new (Ok done) set_so =
-          let set = set_so (held.rows_at t.root) owned.split.is.entries owned.split.at.used held.free tree_stands owned.split.is.each in
+          let set = set_so (schema_tree held.schema held.schema_used) (all_trees owned.split.before) (all_trees owned.split.after) (held.rows_at t.root) (page_size pages size held.rows_at tables held.schema trees) refl its_trees owned.split.is.fit in
           record {
             made = with_now set.now;
             reaches = reaches (with_now set.now) (change_is (Ok set.now) set.answer);
-            stored = stored new set.now set.entries set.becomes set.each (set.fit t refl owned.split.is.fit);
+            stored = stores_rows pages new size tables db (with_now set.now) held t set.now owned set.hold (of_tables set.now);
           }
-      set_makes new (Err f) set_so = by (set_so (held.rows_at t.root) owned.split.is.entries owned.split.at.used held.free tree_stands owned.split.is.each)
+      set_makes new (Err f) set_so =
+          by (set_so (schema_tree held.schema held.schema_used) (all_trees owned.split.before) (all_trees owned.split.after) (held.rows_at t.root) (page_size pages size held.rows_at tables held.schema trees) refl its_trees owned.split.is.fit)
         where
-          by : IsSetRefusal t.columns sets condition (held.rows_at t.root) f → IsChangeRefusal (updating u) db f
+          by : IsRefusedUpdate t condition sets (held.rows_at t.root) f → IsChangeRefusal (updating u) db f
           by (inl outside) = inl outside
           by (inr (inl e)) = refuses f (change_is (Err (refusal_of f)) e)
           by (inr (inr long)) = inr (inr (record {

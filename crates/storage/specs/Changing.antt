@@ -1,5 +1,7 @@
--- What a statement's change makes of the pages that hold a database (SQL As Understood By SQLite, "CREATE TABLE", "INSERT").
-use Rattle.std.specs.Prelude.{◌≡◌, ◌⊎◌, ℕ, List, Some, Result, MatchResult}
+-- What a statement's change makes of the pages that hold a database (SQL As Understood By SQLite, "CREATE TABLE", "CREATE INDEX", "INSERT").
+use Rattle.std.specs.Prelude.{◌≡◌, ◌⊎◌, codes, ℕ, List, Some, Result, MatchResult}
+use Rattle.std.specs.List.{AllByRecursion}
+use Rattle.sqlval.specs.Names.{folded}
 use Rattle.sqlval.specs.Refusals.{refusal_of}
 use Rattle.sqlval.specs.declared.fault.Fault.{Fault}
 use Rattle.sqlval.specs.declared.fault.Fault.TheVariants as fault
@@ -10,13 +12,15 @@ use Rattle.syntax.specs.declared.statement.Statement.TheVariants as statement
 use Rattle.record.specs.Writing.{AreStorable}
 use Rattle.pages.specs.Calls.{IsOutsideOrFull}
 use Rattle.pages.specs.Map.{PageMap}
-use Rattle.catalog.specs.Database.{ATable, Database, Name, object}
-use Rattle.catalog.specs.Listed.{plain_table}
+use Rattle.catalog.specs.Database.{AnIndex, ATable, Database, Name, object}
+use Rattle.catalog.specs.Listed.{plain_index, plain_table}
+use Rattle.catalog.specs.declared.tables.Index.{Index}
 use Rattle.catalog.specs.declared.tables.Table.{Table}
 use Rattle.rowprog.specs.Rows.{TableRow}
 use Rattle.dml.specs.Inserting.{AllStorable}
-use Rattle.storage.specs.Schema.{schema_row}
-use Rattle.storage.specs.Stored.{Stores}
+use Rattle.rowstore.specs.Turning.{AreEntriesStorable}
+use Rattle.stored.specs.Schema.{schema_row}
+use Rattle.stored.specs.Stored.{Stores}
 use Rattle.storage.specs.Works.{Reaches, RefusesWith, change_made}
 
 -- the pages hold a database that the statement makes of this one, with these tables
@@ -27,16 +31,23 @@ pub record IsMade (s : Statement) (db : Database) (new : PageMap) (size : ℕ) (
 
 -- ---- what can't be stored
 
--- a table of the database has a row that no record can hold
+-- this index of a table is one of the database
+abbrev pub IsIndexIn : Database → Table → Index → Type 0
+IsIndexIn db table index = object db index.name ≡ Some (AnIndex (plain_index table index))
+
+-- a table of the database has a row that no record can hold, or one whose entry in an index no record can hold
 pub record HasLongRow (db : Database) : Type 0 where
   pub name : Name
   pub table : Table
   pub rows : List TableRow
   pub is : object db name ≡ Some (ATable (plain_table table rows))
-  pub long : AllStorable rows → ⊥
+  pub indexed : AllByRecursion (IsIndexIn db table) table.indexes
+  pub long : AllStorable rows × AreEntriesStorable table.indexes rows → ⊥
 
 abbrev MakesLongText : List ℕ → NewObject → Type 0
-MakesLongText sql (new.Table d) = (root : ℕ) × (AreStorable (schema_row d.name d.name root sql) → ⊥)
+MakesLongText sql (new.Table d) = (root : ℕ) × (AreStorable (schema_row (codes "table") d.name d.name root sql) → ⊥)
+MakesLongText sql (new.Index d) =
+    (table : Name) × (root : ℕ) × (folded table ≡ folded d.table) × (AreStorable (schema_row (codes "index") d.name table root sql) → ⊥)
 MakesLongText sql _ = ⊥
 
 -- no record can hold the row of the schema table for what the statement creates
@@ -44,7 +55,7 @@ abbrev pub HasLongText : Statement → Type 0
 HasLongText (statement.Create c) = MakesLongText c.sql c.object
 HasLongText _ = ⊥
 
--- the statement's database can't be stored: a row is too long for a record
+-- the statement's database can't be stored: a row or an entry is too long for a record
 pub record IsTooMuch (s : Statement) (db : Database) (f : Fault) : Type 0 where
   pub is : f ≡ fault.TooLong
   pub made : Database

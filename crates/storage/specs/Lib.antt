@@ -1,10 +1,5 @@
 pub mod Changing
 pub mod Forms
-pub mod Language
 pub mod Listing
 pub mod Reading
-pub mod Schema
-pub mod Standing
-pub mod Stored
-pub mod Taking
 pub mod Works

@@ -1,6 +1,6 @@
 -- What statements come to on a database: a query's rows, and what a change makes of it (SQL As Understood By SQLite, "SELECT",
 -- "CREATE TABLE", "INSERT").
-use Rattle.std.specs.Prelude.{◌≡◌, ◌⊎◌, ℕ, Some, List, [], ◌∷◌, Ok, Err, Contains, if◌then◌else◌}
+use Rattle.std.specs.Prelude.{◌≡◌, ◌⊎◌, ℕ, Bool, false, Option, Some, List, [], ◌∷◌, Ok, Err, Contains, if◌then◌else◌}
 use Rattle.sqlval.specs.Refusals.{Answer, Refusal, Unique, Raised, RaisedRollback}
 use Rattle.sqlval.specs.declared.value.Value.{Value}
 use Rattle.syntax.specs.declared.change.Change.{Change}
@@ -10,10 +10,11 @@ use Rattle.syntax.specs.declared.create.NewObject.TheVariants as new
 use Rattle.syntax.specs.declared.query.Query.{Query}
 use Rattle.syntax.specs.declared.statement.Statement.{Statement}
 use Rattle.syntax.specs.declared.statement.Statement.TheVariants as statement
-use Rattle.catalog.specs.Database.{Name, Database}
+use Rattle.catalog.specs.Database.{AnIndex, ATable, Database, Index, Name, Object, object}
 use Rattle.bind.specs.Checked.{Checked, Meant, known_map}
 use Rattle.bind.specs.Queries.{resolve_query}
-use Rattle.bind.specs.Schema.{create, create_index, drop_object, index_clashes}
+use Rattle.bind.specs.Keys.{has_clash}
+use Rattle.bind.specs.Schema.{create, create_index, drop_object}
 use Rattle.bind.specs.Views.{look_up, answer_of}
 use Rattle.dml.specs.Changes.{no_outer, resolve_given}
 use Rattle.trigger.specs.Binding.{IsFault}
@@ -48,8 +49,20 @@ abbrev pub of_known : Checked Database → Work
 of_known (Meant db []) = Makes db
 of_known (Meant db (r ∷ rs)) = IsRefused (r ∷ rs)
 
+abbrev pub clashes_on : Index → Option Object → Bool
+clashes_on i (Some (ATable t)) = has_clash i t.rows
+clashes_on i _ = false
+
+abbrev pub clashes_in : Database → Option Object → Bool
+clashes_in db (Some (AnIndex i)) = clashes_on i (object db i.table)
+clashes_in db _ = false
+
+-- two rows of the table of a UNIQUE index have one key
+abbrev pub index_clashes : Database → Name → Bool
+index_clashes db n = clashes_in db (object db n)
+
 -- a UNIQUE index over rows with one key is refused once its names are known
-abbrev made_index : Name → Work → Work
+abbrev pub made_index : Name → Work → Work
 made_index n (Makes db) = if index_clashes db n then IsRefused (Unique ∷ []) else Makes db
 made_index n w = w
 

@@ -1,28 +1,31 @@
-//! CREATE TABLE.
+//! CREATE TABLE and CREATE INDEX.
 
-ghost use Rattle.std.specs.Prelude.{◌≡◌, ◌⊎◌, true, IsTrue, IfOk, IfErr};
+ghost use Rattle.std.specs.Prelude.{◌≡◌, ◌⊎◌, codes, true, false, IfOk, IfErr, IsTrue};
 ghost use Rattle.sqlval.specs.Faults.{IsNotDiskFault};
 ghost use Rattle.sqlval.specs.Refusals.{refusal_of};
 ghost use Rattle.pages.specs.Calls.{Causes};
 ghost use Rattle.syntax.specs.declared.create.NewObject.TheVariants as object;
 ghost use Rattle.syntax.specs.declared.statement.Statement.TheVariants as statement;
-ghost use Rattle.catalog.specs.Listed.{tables_of};
+ghost use Rattle.catalog.specs.Listed.{is_name_of, tables_of};
 ghost use Rattle.bind.specs.Creating.{IsCreateRefusal};
+ghost use Rattle.stored.specs.Forms.{is_table_supported};
+ghost use Rattle.stored.specs.Schema.{IsCreateOf, IsTableOf, schema_row};
 ghost use Rattle.storage.specs.Changing.{MakesChange};
-ghost use Rattle.storage.specs.Forms.{is_table_supported};
-ghost use Rattle.storage.specs.Listing.{AddsRow};
-ghost use Rattle.storage.specs.Schema.{IsCreateOf, IsMadeBeside, schema_row};
+ghost use Rattle.storage.specs.Listing.{AddsRow, IsNewTable};
 
 use catalog::{
-    Catalog, Table, columns_of, is_reserved, named_databases_are_one, new_tables_are_listed,
-    other_rows_are_listed,
+    Catalog, Index, Table, columns_of, indexes_come_and_go, is_reserved, named_databases_are_one,
+    new_tables_are_listed, other_rows_are_listed,
 };
 use pages::WritePages;
+use querybinder::{bind_index, indexes_are_created_as_defined};
 use record::encode_row;
+use rowstore::add_index;
 use sharing::{table_trees_stand, trees_give_way};
 use sqlval::{Damage, Fault, Many, Misuse, Name, R, Text, Value};
 use std::alloc::Global;
-use syntax::TableDefinition;
+use syntax::{IndexDefinition, TableDefinition};
+use tablecopy::with_index;
 use tabletree::{insert, new_tree, table_trees_stay};
 
 /// The page of a tree that isn't made yet.
@@ -31,15 +34,22 @@ const NO_PAGE: u32 = 0;
 /// The page where the tree of the schema table begins.
 pub(crate) const SCHEMA: u32 = 1;
 
-/// The values of a table's row in the schema table.
-fn schema_values(alloc: Global, name: &Name, root: u32, sql: &Text) -> R<Vec<Value>>
-    ensures values { IfOk result (λ values. values.items ≡ schema_row name.now name.now root sql.now) }
+/// The values of a row in the schema table.
+fn schema_values(
+    alloc: Global,
+    kind: &str,
+    name: &Name,
+    table: &Name,
+    root: u32,
+    sql: &Text,
+) -> R<Vec<Value>>
+    ensures values { IfOk result (λ values. values.items ≡ schema_row kind.now name.now table.now root sql.now) }
     ensures memory { IfErr result (λ fault. fault ≡ Fault.Memory) }
 {
     let mut values = Vec::new(alloc);
-    values.push(Value::Text(Text::from_str(alloc, "table")?))?;
+    values.push(Value::Text(Text::from_str(alloc, kind)?))?;
     values.push(Value::Text(Text::from_str(alloc, name.as_str())?))?;
-    values.push(Value::Text(Text::from_str(alloc, name.as_str())?))?;
+    values.push(Value::Text(Text::from_str(alloc, table.as_str())?))?;
     values.push(Value::Int(i64::from(root)))?;
     values.push(Value::Text(sql.copy(alloc)?))?;
     Ok(values)
@@ -47,7 +57,7 @@ fn schema_values(alloc: Global, name: &Name, root: u32, sql: &Text) -> R<Vec<Val
 
 /// The table of a definition, without a tree and a row in the schema table as yet. (`Misuse(ReservedName)`, `Exists`, and what `columns_of` refuses.)
 fn table_of(alloc: Global, catalog: &Catalog, definition: &TableDefinition) -> R<Table>
-    ensures made { IfOk result (λ table. IsMadeBeside (tables_of catalog.now) definition.now NO_PAGE table) }
+    ensures made { IfOk result (λ table. IsNewTable (tables_of catalog.now) definition.now table) }
     ensures why { IfErr result (λ fault. (fault ≡ Fault.Memory)
         ⊎ IsCreateRefusal (tables_of catalog.now) definition.now (refusal_of fault)) }
     ensures not_disk { IfErr result (λ fault. IsNotDiskFault fault) }
@@ -56,7 +66,7 @@ fn table_of(alloc: Global, catalog: &Catalog, definition: &TableDefinition) -> R
     if is_reserved(name.as_str()) {
         return Err(Fault::Misuse(Misuse::ReservedName));
     }
-    if catalog.table(name.as_str()).is_some() {
+    if catalog.has_name(name.as_str()) {
         return Err(Fault::Exists(name.copy(alloc)?));
     }
     Ok(Table {
@@ -108,10 +118,47 @@ pub fn create_table<P: WritePages>(
     table_trees_stand();
     table_trees_stay();
     let mut table = table_of(alloc, catalog, definition)?;
+    let rowid = catalog.unused_rowid(alloc)?;
+    table.rowid = rowid;
     table.root = new_tree(alloc, pages)?;
-    let values = schema_values(alloc, &definition.name, table.root, sql)?;
-    let free = catalog.free_rowid();
-    table.rowid = free.rowid;
-    add_row(alloc, pages, free.rowid, &values)?;
-    catalog.with(alloc, free.place, table)
+    let name = &definition.name;
+    let values = schema_values(alloc, "table", name, name, table.root, sql)?;
+    add_row(alloc, pages, rowid, &values)?;
+    catalog.with(alloc, 0, table)
+}
+
+/// Makes an index: its row in the schema table, and a tree with the entries of its table's rows. Answers the catalog with it. (What
+/// `bind_index` and `add_index` refuse; `TooLong` if no record can hold its row. Then some pages may have changed.)
+pub fn create_index<P: WritePages>(
+    alloc: Global,
+    pages: &mut P,
+    catalog: &Catalog,
+    sql: &Text,
+    definition: &IndexDefinition,
+) -> R<Catalog>
+    ensures made { IsTrue (P.Pages.tells (P.Pages.below pages.old)) → definition.now.is_unique ≡ false
+        → IsCreateOf sql.now (object.Index definition.now)
+        → MakesChange tables_of (statement.Create (record { sql = sql.now; object = object.Index definition.now })) (P.Pages.map pages.old)
+        (P.Pages.map pages.new) (P.Pages.limits (P.Pages.below pages.old)).page (tables_of catalog.now) result }
+    ensures kept { P.Pages.below pages.new ≡ P.Pages.below pages.old }
+    ensures causes { Causes result (P.Pages.failures pages.old) (P.Pages.failures pages.new)
+        (P.Pages.count pages.new ≡ (P.Pages.limits (P.Pages.below pages.new)).most) }
+{
+    indexes_come_and_go();
+    indexes_are_created_as_defined();
+    trees_give_way();
+    table_trees_stand();
+    let bound = bind_index(alloc, catalog, definition)?;
+    let rowid = catalog.unused_rowid(alloc)?;
+    let root = add_index(alloc, pages, bound.table, bound.columns.as_slice())?;
+    let (name, table) = (&definition.name, bound.table);
+    let values = schema_values(alloc, "index", name, &table.name, root, sql)?;
+    add_row(alloc, pages, rowid, &values)?;
+    let index = Index {
+        name: name.copy(alloc)?,
+        columns: bound.columns,
+        root,
+        rowid,
+    };
+    catalog.replacing(alloc, with_index(alloc, table, index)?)
 }

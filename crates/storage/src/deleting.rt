@@ -9,19 +9,13 @@ ghost use Rattle.syntax.specs.declared.change.Change.TheVariants as change;
 ghost use Rattle.syntax.specs.declared.statement.Statement.TheVariants as statement;
 ghost use Rattle.catalog.specs.Listed.{table_named, tables_of};
 ghost use Rattle.storage.specs.Changing.{MakesChange};
-ghost use Rattle.storage.specs.Taking.{TakesFrom};
 
-use bind::BoundSource;
 use catalog::{Catalog, Table, named_databases_are_one, other_rows_are_listed};
-use dml::take_rows;
 use pages::WritePages;
 use querybinder::bind_where;
-use sharing::{table_trees_stand, trees_give_way};
 use sqlval::{Fault, Name, Object, R};
 use std::alloc::Global;
 use syntax::Delete;
-use tabletree::clear;
-use terms::Term;
 use trigger::only_tables_set_nothing_off;
 
 /// The table of a name. (`NoSuch` if none has it.)
@@ -37,34 +31,8 @@ pub(crate) fn listed_table<'a>(alloc: Global, catalog: &'a Catalog, name: &Name)
     }
 }
 
-/// Takes the rows for which a condition is true out of a table's tree, or all where there is none. (What `take_rows` and `clear` refuse.)
-fn take_from<P: WritePages>(
-    alloc: Global,
-    pages: &mut P,
-    table: &Table,
-    condition: &Option<Term>,
-) -> R<()>
-    ensures taken { IsTrue (P.Pages.tells (P.Pages.below pages.old))
-        → TakesFrom (P.Pages.map pages.old) (P.Pages.map pages.new) (P.Pages.limits (P.Pages.below pages.old)).page
-        table.now condition.now result }
-    ensures kept { P.Pages.below pages.new ≡ P.Pages.below pages.old }
-    ensures causes { Causes result (P.Pages.failures pages.old) (P.Pages.failures pages.new)
-        (P.Pages.count pages.new ≡ (P.Pages.limits (P.Pages.below pages.new)).most) }
-{
-    match condition {
-        Some(condition) => {
-            let source = BoundSource {
-                root: table.root,
-                width: table.columns.len(),
-            };
-            take_rows(alloc, pages, source, condition)
-        }
-        None => clear(alloc, pages, table.root),
-    }
-}
-
 /// Removes the rows of a table for which WHERE is true, or all without one. (`NoSuch` and what else binding a DELETE refuses; what
-/// `take_rows` and `clear` refuse; then some pages may have changed.)
+/// `delete_rows` of `rowstore` refuses; then some pages may have changed.)
 pub fn delete_rows<P: WritePages>(
     alloc: Global,
     pages: &mut P,
@@ -81,9 +49,7 @@ pub fn delete_rows<P: WritePages>(
     other_rows_are_listed();
     named_databases_are_one();
     only_tables_set_nothing_off();
-    trees_give_way();
-    table_trees_stand();
     let table = listed_table(alloc, catalog, &delete.table)?;
     let condition = bind_where(alloc, &delete.table, table, &delete.condition)?;
-    take_from(alloc, pages, table, &condition)
+    rowstore::delete_rows(alloc, pages, table, &condition)
 }

@@ -19,7 +19,7 @@ ghost use Rattle.querybinder.specs.Named.{ArePlaced};
 ghost use Rattle.queries.specs.Answers.{HaveWidth};
 ghost use Rattle.rowprog.specs.Rows.{values_of};
 ghost use Rattle.storage.specs.Reading.{AnswersRead, Asks};
-ghost use Rattle.storage.specs.Stored.{Stores};
+ghost use Rattle.stored.specs.Stored.{Stores};
 ghost use Rattle.storage.specs.Works.{given_on};
 
 use crate::reading::bound_rows;

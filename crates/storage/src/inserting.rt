@@ -10,15 +10,14 @@ ghost use Rattle.storage.specs.Changing.{MakesChange};
 use crate::giving::given_rows;
 use bind::{BoundInsert, bind_target};
 use catalog::{Catalog, named_databases_are_one, other_rows_are_listed};
-use dml::put_rows;
 use pages::WritePages;
-use sharing::{table_trees_stand, trees_give_way};
+use rowstore::insert_rows;
 use sqlval::R;
 use std::alloc::Global;
 use syntax::Insert;
 use trigger::only_tables_set_nothing_off;
 
-/// Makes the rows of an INSERT: all are known before the first is stored. (What `bind_target`, `given_rows` and `put_rows` refuse;
+/// Makes the rows of an INSERT: all are known before the first is stored. (What `bind_target`, `given_rows` and `insert_rows` refuse;
 /// then some pages may have changed.)
 pub fn insert<P: WritePages>(
     alloc: Global,
@@ -36,8 +35,6 @@ pub fn insert<P: WritePages>(
     other_rows_are_listed();
     named_databases_are_one();
     only_tables_set_nothing_off();
-    trees_give_way();
-    table_trees_stand();
     let target = bind_target(alloc, insert, catalog)?;
     let rows = given_rows(alloc, pages, catalog, &insert.source, target.count)?;
     let bound = BoundInsert {
@@ -45,5 +42,5 @@ pub fn insert<P: WritePages>(
         places: target.places,
         rows,
     };
-    put_rows(alloc, pages, bound)
+    insert_rows(alloc, pages, bound)
 }

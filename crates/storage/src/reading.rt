@@ -12,7 +12,7 @@ ghost use Rattle.queries.specs.Parts.{is_row_by_row as row_by_row};
 ghost use Rattle.rowprog.specs.Rows.{values_of};
 ghost use Rattle.rowprog.specs.Trees.{AnswersOrFails};
 ghost use Rattle.storage.specs.Reading.{AnswersRead, LoadsAll, Streams};
-ghost use Rattle.storage.specs.Stored.{Stores};
+ghost use Rattle.stored.specs.Stored.{Stores};
 ghost use Rattle.storage.specs.Works.{read_on};
 
 use bind::{BoundSource, Reading};

@@ -9,17 +9,15 @@ ghost use Rattle.storage.specs.Changing.{MakesChange};
 
 use crate::deleting::listed_table;
 use catalog::{Catalog, named_databases_are_one, other_rows_are_listed};
-use dml::set_rows;
 use pages::WritePages;
 use querybinder::{bind_sets, bind_where};
-use sharing::{table_trees_stand, trees_give_way};
 use sqlval::R;
 use std::alloc::Global;
 use syntax::Update;
 use trigger::{only_tables_set_nothing_off, update_sets_off_nothing};
 
 /// Sets values in the rows of a table for which WHERE is true, or in all without one. (`NoSuch` and what else binding an UPDATE refuses;
-/// what `set_rows` refuses; then some pages may have changed.)
+/// what `update_rows` of `rowstore` refuses; then some pages may have changed.)
 pub fn update_rows<P: WritePages>(
     alloc: Global,
     pages: &mut P,
@@ -37,10 +35,8 @@ pub fn update_rows<P: WritePages>(
     named_databases_are_one();
     only_tables_set_nothing_off();
     update_sets_off_nothing();
-    trees_give_way();
-    table_trees_stand();
     let table = listed_table(alloc, catalog, &update.table)?;
     let sets = bind_sets(alloc, &update.table, table, update.assignments.as_slice())?;
     let condition = bind_where(alloc, &update.table, table, &update.condition)?;
-    set_rows(alloc, pages, table, &condition, &sets)
+    rowstore::update_rows(alloc, pages, table, &condition, &sets)
 }

@@ -13,7 +13,7 @@ use Rattle.engine.proofs.opening.load_and_truncate.Goals as goal
 
 pub returns-in_err-seats-clause-opens : goal.returns-in_err-seats-clause-opens
 returns-in_err-seats-clause-opens g c = λ tables database told settled stored.
-    not_started tables database c.load_seats.new.log c.from_residual.result c.in_err-seats.field-0.0 c.from_residual.ensures.1 (c.in_err-seats.ensures.listed tables database told stored settled.found)
+    not_started database c.load_seats.new.log c.from_residual.result c.in_err-seats.field-0.0 c.from_residual.ensures.1 (c.in_err-seats.ensures.listed tables database told stored settled.found)
 
 pub returns-in_err-seats-clause-left : goal.returns-in_err-seats-clause-left
 returns-in_err-seats-clause-left g c = λ whole told_db told_log db_left log_left.
@@ -48,7 +48,7 @@ returns-in_err-cut_tail g c = record {
       ));
   opens = λ tables database told settled stored.
       let k = c.load_seats.ensures.kept in
-      not_started tables database c.cut_tail.new.self c.from_residual-in_err-cut_tail.result c.in_err-cut_tail.field-0.0 c.from_residual-in_err-cut_tail.ensures.1
+      not_started database c.cut_tail.new.self c.from_residual-in_err-cut_tail.result c.in_err-cut_tail.field-0.0 c.from_residual-in_err-cut_tail.ensures.1
       (inr (cut_failed _ _ _ _ _ _ c.in_err-cut_tail.ensures.refused (ap (λ (known : LogState). known.has_failed) k.known ∙ told.whole)));
   cause =
       cut_causes g.D.Disk.failures _ c.from_residual-in_err-cut_tail.result c.in_err-cut_tail.field-0.0 _ (db_of c.args.log.now) (db_of c.load_seats.new.log) (db_of c.cut_tail.new.self) (log_of c.args.log.now) (log_of c.load_seats.new.log) (log_of c.cut_tail.new.self)
@@ -82,10 +82,10 @@ returns g c = record {
   found = λ told. c.in_ok-seats.ensures.found told;
   opens = λ tables database told settled stored.
       let k = c.load_seats.ensures.kept in
-      starts tables database c.args.log.now c.load_seats.new.log c.cut_tail.new.self _ (read_files c.args.log.now c.load_seats.new.log told k.known k.db k.log) settled stored
+      starts c.pages_store_one_database.ensures tables database c.args.log.now c.load_seats.new.log c.cut_tail.new.self _ (read_files c.args.log.now c.load_seats.new.log told k.known k.db k.log) settled stored
       c.in_ok-cut_tail.ensures.known c.cut_tail.ensures.same.db c.cut_tail.ensures.same.tells_same
       (c.in_ok-cut_tail.ensures.done (k.log.tells_same ∙ told.log))
-      (c.in_ok-seats.ensures.listed tables database told stored settled.found);
+      c.in_ok-seats.ensures.fresh (c.in_ok-seats.ensures.found told);
   cause = record {
     db = omega (arith, c.load_seats.ensures.cause.db, ap g.D.Disk.failures c.cut_tail.ensures.same.db);
     log = omega (arith, c.load_seats.ensures.cause.log, c.cut_tail.ensures.same.counts);

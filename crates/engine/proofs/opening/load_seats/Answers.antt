@@ -3,14 +3,15 @@ use Rattle.catalog.specs.declared.tables.Catalog.{Catalog}
 use Rattle.loading.specs.Loading.{FindsDatabase}
 use Rattle.pager.specs.Maps.{pages_in}
 use Rattle.pager.specs.Views.{newest_view}
+use Rattle.sqlval.specs.Faults.{IsOutside}
 use Rattle.sqlval.specs.declared.fault.Fault.TheVariants.{Blank}
 use Rattle.engine.proofs.CountedCalls.{causes_passed}
-use Rattle.engine.proofs.HeldOpening.{not_seated, seats_find, seats_list}
+use Rattle.engine.proofs.HeldOpening.{seats_find, short_at_most}
 use Rattle.engine.proofs.Refusing.{no_ok, on_err}
 use Rattle.engine.proofs.opening.load_seats.Goals as goal
 
 pub returns-in_err-catalog-clause-listed : goal.returns-in_err-catalog-clause-listed
-returns-in_err-catalog-clause-listed g c tables database told stored found = not_seated tables c.from_residual.result c.in_err-catalog.field-0.0 c.from_residual.ensures.1 (c.in_err-catalog.ensures.listed tables database told stored found)
+returns-in_err-catalog-clause-listed g c tables database told stored found = on_err IsOutside c.from_residual.result c.in_err-catalog.field-0.0 c.from_residual.ensures.1 (c.in_err-catalog.ensures.listed tables database told stored found)
 
 pub returns-in_err-catalog-clause-cause : goal.returns-in_err-catalog-clause-cause
 returns-in_err-catalog-clause-cause g c = causes_passed _ _ c.in_err-catalog.field-0.0 _ _ c.from_residual.ensures.1 c.in_err-catalog.ensures.cause
@@ -19,8 +20,7 @@ pub returns-in_err-catalog-clause-not_blank : goal.returns-in_err-catalog-clause
 returns-in_err-catalog-clause-not_blank g c = on_err (λ f. f ≡ Blank → ⊥) c.from_residual.result c.in_err-catalog.field-0.0 c.from_residual.ensures.1 c.in_err-catalog.ensures.not_blank
 
 pub returns-clause-listed : goal.returns-clause-listed
-returns-clause-listed g c tables database told stored found =
-    seats_list tables c.in_ok-catalog.catalog c.new.result c.new.ensures.fresh c.new.ensures.tables c.new.ensures.refused (c.in_ok-catalog.ensures.listed tables database told stored found)
+returns-clause-listed g c tables database told stored found = short_at_most c.new.result c.new.ensures.refused
 
 pub returns-clause-found : goal.returns-clause-found
 returns-clause-found g c told =

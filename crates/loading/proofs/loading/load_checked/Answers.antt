@@ -2,10 +2,9 @@ use Rattle.std.proofs.Common.{ℕ, refl, sym, subst}
 use Rattle.pages.specs.Map.{page_at}
 use Rattle.pagecheck.specs.Exact.{AreTold}
 use Rattle.pagecheck.proofs.Parting.{told_after}
-use Rattle.loading.specs.Loading.{ListsTables}
 use Rattle.loading.specs.Uses.{IsFirstHeader}
 use Rattle.loading.proofs.StoredUses.{first_header, first_there, found_by, listed_by, page_sized}
-use Rattle.loading.proofs.TreeTables.{outside_passed}
+use Rattle.loading.proofs.TreeTables.{if_refused}
 use Rattle.loading.proofs.loading.load_checked.Goals as goal
 
 pub returns-in_err-check_whole-clause-listed : goal.returns-in_err-check_whole-clause-listed
@@ -14,7 +13,7 @@ returns-in_err-check_whole-clause-listed g c = λ tables database told sized sto
     let old = c.args.pages.now in
     let map = p.map old in
     let page = (p.limits (p.below old)).page in
-    outside_passed (ListsTables tables) c.from_residual.result c.in_err-check_whole.field-0.0 c.from_residual.ensures.1
+    if_refused c.from_residual.result c.in_err-check_whole.field-0.0 c.from_residual.ensures.1
     (c.in_err-check_whole.ensures.only map page (record { told = told; map_is = refl; size_is = refl }) sized stored.shared.whole))
 
 pub returns-in_err-header-clause-listed : goal.returns-in_err-header-clause-listed
@@ -26,7 +25,7 @@ returns-in_err-header-clause-listed g c = λ tables database told sized stored c
     let stays = c.in_ok-check_whole.ensures.stays in
     let now = told_after p.below p.tells p.limits p.map old c.check_whole.new.pages map page stays.kept stays.same (record { told = told; map_is = refl; size_is = refl }) in
     let first = subst (λ (n : ℕ). IsFirstHeader (page_at map 1) page n stored.header) (sym sized) (first_header map page tables database stored counted) in
-    outside_passed (ListsTables tables) c.from_residual-in_err-header.result c.in_err-header.field-0.0 c.from_residual-in_err-header.ensures.1
+    if_refused c.from_residual-in_err-header.result c.in_err-header.field-0.0 c.from_residual-in_err-header.ensures.1
     (c.in_err-header.ensures.only map page stored.header now (first_there map page stored.header stored.shared.whole stored.header_is) first))
 
 pub returns-clause-listed : goal.returns-clause-listed

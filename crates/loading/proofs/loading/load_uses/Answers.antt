@@ -1,13 +1,12 @@
 use Rattle.std.proofs.Common.{List, Ok, Err, subst}
 use Rattle.sqlval.specs.Faults.{IsOutside}
 use Rattle.treepage.specs.Cells.{Pairwise}
-use Rattle.sharing.specs.Layout.{used_by}
 use Rattle.catalog.specs.declared.tables.Table.{Table}
 use Rattle.pagecheck.specs.Checks.{CanMark, IsChecked, IsCheckedList, IsUnmarked, IsUnmarkedList, MarksList, MarksTree}
 use Rattle.pagecheck.specs.Exact.{Checks}
 use Rattle.pagecheck.proofs.Parting.{can_after, told_after}
-use Rattle.loading.specs.Loading.{LoadsTree, TellsTree}
-use Rattle.loading.specs.Uses.{IsOwnerOf}
+use Rattle.loading.specs.Reading.{LoadsTree, TellsTree}
+use Rattle.loading.specs.Uses.{HasTrees, pages_held}
 use Rattle.loading.proofs.LoadedUses.{list_refused, schema_refused, schema_tree_refused, tables_refused, uses_loaded}
 use Rattle.loading.proofs.TableChecks.{told_as}
 use Rattle.loading.proofs.loading.load_uses.Goals as goal
@@ -47,7 +46,7 @@ returns-in_err-check_tables-clause-loaded g c = λ map page told can sized.
     (told_as p.below p.tells p.limits p.map c.args.pages.now map page (λ m n. CanMark m n old → MarksTree m n 1 old mid) told c.in_ok-check_tree.ensures.same can)
     (told_as p.below p.tells p.limits p.map c.check_tree.new.pages map page (λ m n. LoadsTree m n c.args.size (Ok catalog)) now c.in_ok-catalog.ensures.loaded)
     c.check_tables.new.marks.items c.check_tables.new.marks.items fault c.from_residual-in_err-check_tables.result c.from_residual-in_err-check_tables.ensures.1
-    (subst (λ (ts : List Table). Checks (Pairwise (IsOwnerOf map page) ts) used_by mid c.check_tables.new.marks.items (Err fault)) c.tables.ensures (c.in_err-check_tables.ensures.checked map page then still)))
+    (subst (λ (ts : List Table). Checks (Pairwise (HasTrees map page) ts) pages_held mid c.check_tables.new.marks.items (Err fault)) c.tables.ensures (c.in_err-check_tables.ensures.checked map page then still)))
 
 pub returns-in_err-check_freelist-clause-loaded : goal.returns-in_err-check_freelist-clause-loaded
 returns-in_err-check_freelist-clause-loaded g c = λ map page told can sized.
@@ -71,7 +70,7 @@ returns-in_err-check_freelist-clause-loaded g c = λ map page told can sized.
     (told_as p.below p.tells p.limits p.map c.args.pages.now map page (λ m n. CanMark m n old → MarksTree m n 1 old mid) told c.in_ok-check_tree.ensures.same can)
     (told_as p.below p.tells p.limits p.map c.check_tree.new.pages map page (λ m n. LoadsTree m n c.args.size (Ok catalog)) now c.in_ok-catalog.ensures.loaded)
     late
-    (subst (λ (ts : List Table). Checks (Pairwise (IsOwnerOf map page) ts) used_by mid late (Ok tt)) c.tables.ensures (c.in_ok-check_tables.ensures.checked map page then still))
+    (subst (λ (ts : List Table). Checks (Pairwise (HasTrees map page) ts) pages_held mid late (Ok tt)) c.tables.ensures (c.in_ok-check_tables.ensures.checked map page then still))
     c.check_freelist.new.marks.items fault c.from_residual-in_err-check_freelist.result c.from_residual-in_err-check_freelist.ensures.1
     (told_as p.below p.tells p.limits p.map c.check_tables.new.pages map page (λ m n. CanMark m n late → IsUnmarkedList m n first many late → IsOutside fault) done c.in_err-check_freelist.ensures.only yet))
 
@@ -97,7 +96,7 @@ returns-clause-loaded g c = λ map page told can sized.
     (told_as p.below p.tells p.limits p.map c.args.pages.now map page (λ m n. CanMark m n old → MarksTree m n 1 old mid) told c.in_ok-check_tree.ensures.same can)
     (told_as p.below p.tells p.limits p.map c.check_tree.new.pages map page (λ m n. LoadsTree m n c.args.size (Ok catalog)) now c.in_ok-catalog.ensures.loaded)
     late
-    (subst (λ (ts : List Table). Checks (Pairwise (IsOwnerOf map page) ts) used_by mid late (Ok tt)) c.tables.ensures (c.in_ok-check_tables.ensures.checked map page then still))
+    (subst (λ (ts : List Table). Checks (Pairwise (HasTrees map page) ts) pages_held mid late (Ok tt)) c.tables.ensures (c.in_ok-check_tables.ensures.checked map page then still))
     new
     (told_as p.below p.tells p.limits p.map c.args.pages.now map page (λ m n. CanMark m n old → IsChecked m n 1 old mid) told c.in_ok-check_tree.ensures.found can)
     (told_as p.below p.tells p.limits p.map c.check_tree.new.pages map page (λ m n. TellsTree m n c.args.size (Ok catalog)) now c.in_ok-catalog.ensures.told)

@@ -1,59 +1,63 @@
-use Rattle.std.proofs.Common.{rules, ◌≡◌, Ok, None, inl}
-use Rattle.std.specs.Prelude.{⊤}
-use Rattle.sqlval.specs.Faults.{IsNotDiskFault}
-use Rattle.pages.specs.Calls.{Stays}
-use Rattle.loading.proofs.TreeTables.{all_loaded, all_told, at_start, batch_refused, loads_on, nothing_told, outside_passed, stops_there}
+use Rattle.std.proofs.Common.{refl, true, false, [], Ok, Err}
+use Rattle.pagecheck.proofs.Parting.{told_after}
+use Rattle.pagecheck.specs.Exact.{AreTold}
+use Rattle.catalog.specs.Listed.{tables_of}
+use Rattle.loading.specs.Reading.{AreSound, FindsRows, IsLoading, LoadsRows}
+use Rattle.loading.proofs.RowPasses.{all_listed, first_begins, second_begins}
+use Rattle.loading.proofs.RowsFound.{rows_columns, rows_tell}
+use Rattle.loading.proofs.TableChecks.{told_as}
+use Rattle.loading.proofs.TreeTables.{outside_passed}
 use Rattle.loading.proofs.tree.load_schema.Goals as goal
 
-pub batches-init : goal.batches-init
-batches-init g c =
-    let gs = g.P.Pages in
-    at_start gs.below gs.tells gs.limits gs.map gs.count gs.failures c.args.size c.args.pages.now c.new-cursor.result.root c.new-cursor.result.next c.empty-catalog.result c.new-cursor.ensures.root c.new-cursor.ensures.first
-    c.empty-catalog.ensures
+pub returns-in_err-add_rows-clause-loaded : goal.returns-in_err-add_rows-clause-loaded
+returns-in_err-add_rows-clause-loaded g c = λ told tables rows used whole tree tell once.
+    (let sound : AreSound tables = record { columns = rows_columns c.args.size tables rows tell; named = once } in
+    outside_passed _ c.from_residual.result c.in_err-add_rows.field-0.0 c.from_residual.ensures.1
+    (c.in_err-add_rows.ensures.loaded told tables rows used whole tree sound (first_begins c.args.size tables rows (tables_of c.empty-catalog.result) c.empty-catalog.ensures tell)))
 
-pub returns-in_err-next_batch-clause-loaded : goal.returns-in_err-next_batch-clause-loaded
-returns-in_err-next_batch-clause-loaded g c = λ told tables rows used whole tree tell.
-    (let gs = g.P.Pages in
-    outside_passed _ c.from_residual.result c.in_err-next_batch.field-0.0 c.from_residual.ensures.1
-    (batch_refused gs.below gs.tells gs.limits gs.map gs.count gs.failures c.args.size c.args.pages.now c.batches.pages c.batches.cursor.root c.batches.cursor.next c.next_batch.new.self.next c.batches.catalog
-    c.next_batch.new.batch c.batches.invariant c.in_err-next_batch.field-0.0 c.in_err-next_batch.ensures.given told rows used whole tree))
-
-pub returns-in_err-next_batch-clause-told : goal.returns-in_err-next_batch-clause-told
-returns-in_err-next_batch-clause-told g c = λ told rows used whole tree. nothing_told _ c.from_residual.result c.in_err-next_batch.field-0.0 c.from_residual.ensures.1
-
-pub batches-preserved : goal.batches-preserved
-batches-preserved g c =
-    let gs = g.P.Pages in
-    let stays : Stays gs.below gs.map gs.count gs.failures {T = ⊤} (Ok tt) c.args.pages.now c.next_batch.new.pages = search rules in
-    loads_on gs.below gs.tells gs.limits gs.map gs.count gs.failures c.args.size c.args.pages.now c.batches.pages c.batches.cursor.root c.batches.cursor.next c.next_batch.new.self.next c.batches.catalog
-    c.next_batch.new.batch c.batches.invariant c.next_batch.new.pages c.next_batch.new.self.root c.add_batch.new.catalog c.in_ok-next_batch.ensures.root stays c.in_ok-next_batch.ensures.given
-    c.in_ok-add_batch.ensures.loaded c.in_ok-add_batch.ensures.told
-
-pub returns-in_err-add_batch-clause-loaded : goal.returns-in_err-add_batch-clause-loaded
-returns-in_err-add_batch-clause-loaded g c = λ told tables rows used whole tree tell.
-    (let gs = g.P.Pages in
-    outside_passed _ c.from_residual-in_err-add_batch.result c.in_err-add_batch.field-0.0 c.from_residual-in_err-add_batch.ensures.1
-    (inl (stops_there gs.below gs.tells gs.limits gs.map gs.count gs.failures c.args.size c.args.pages.now c.batches.pages c.batches.cursor.root c.batches.cursor.next c.next_batch.new.self.next c.batches.catalog
-    c.next_batch.new.batch c.batches.invariant c.in_err-add_batch.field-0.0 c.add_batch.new.catalog c.in_ok-next_batch.ensures.given c.in_err-add_batch.ensures.loaded told tables rows used whole tree tell)))
-
-pub returns-in_err-add_batch-clause-told : goal.returns-in_err-add_batch-clause-told
-returns-in_err-add_batch-clause-told g c = λ told rows used whole tree. nothing_told _ c.from_residual-in_err-add_batch.result c.in_err-add_batch.field-0.0 c.from_residual-in_err-add_batch.ensures.1
-
-pub returns-in_err-add_batch-clause-stays : goal.returns-in_err-add_batch-clause-stays
-returns-in_err-add_batch-clause-stays g c =
-    let calm : IsNotDiskFault c.in_err-add_batch.field-0.0 = c.in_err-add_batch.ensures.not_disk.0 in
-    search rules
+pub returns-in_err-add_rows-2-clause-loaded : goal.returns-in_err-add_rows-2-clause-loaded
+returns-in_err-add_rows-2-clause-loaded g c = λ told tables rows used whole tree tell once.
+    (let p = g.P.Pages in
+    let old = c.args.pages.now in
+    let map = p.map old in
+    let page = (p.limits (p.below old)).page in
+    let fault = c.in_err-add_rows-2.field-0.0 in
+    let sound : AreSound tables = record { columns = rows_columns c.args.size tables rows tell; named = once } in
+    let mid : IsLoading true c.args.size tables [] (tables_of c.add_rows.new.catalog) =
+    c.in_ok-add_rows.ensures.loaded told tables rows used whole tree sound (first_begins c.args.size tables rows (tables_of c.empty-catalog.result) c.empty-catalog.ensures tell) in
+    let stays = c.in_ok-add_rows.ensures.stays in
+    let before : AreTold p.below p.tells p.limits p.map old map page = record { told = told; map_is = refl; size_is = refl } in
+    let now = told_after p.below p.tells p.limits p.map old c.add_rows.new.pages map page stays.kept stays.same before in
+    outside_passed _ c.from_residual-in_err-add_rows-2.result fault c.from_residual-in_err-add_rows-2.ensures.1
+    (told_as p.below p.tells p.limits p.map c.add_rows.new.pages map page (λ m n. LoadsRows false m n c.args.size (tables_of c.add_rows.new.catalog) (tables_of c.add_rows-2.new.catalog) (Err fault)) now c.in_err-add_rows-2.ensures.loaded
+    tables rows used whole tree sound (second_begins c.args.size tables rows (tables_of c.add_rows.new.catalog) tell mid)))
 
 pub returns-clause-loaded : goal.returns-clause-loaded
-returns-clause-loaded g c = λ told tables rows used whole tree tell.
-    (let gs = g.P.Pages in
-    let none : c.batches.cursor.next ≡ None = search rules in
-    all_loaded gs.below gs.tells gs.limits gs.map gs.count gs.failures c.args.size c.args.pages.now c.batches.pages c.batches.cursor.root c.batches.cursor.next c.batches.cursor.next c.batches.catalog c.batches.batch c.batches.invariant
-    none told tables rows used whole tree tell)
+returns-clause-loaded g c = λ told tables rows used whole tree tell once.
+    (let p = g.P.Pages in
+    let old = c.args.pages.now in
+    let map = p.map old in
+    let page = (p.limits (p.below old)).page in
+    let sound : AreSound tables = record { columns = rows_columns c.args.size tables rows tell; named = once } in
+    let mid : IsLoading true c.args.size tables [] (tables_of c.add_rows.new.catalog) =
+    c.in_ok-add_rows.ensures.loaded told tables rows used whole tree sound (first_begins c.args.size tables rows (tables_of c.empty-catalog.result) c.empty-catalog.ensures tell) in
+    let stays = c.in_ok-add_rows.ensures.stays in
+    let before : AreTold p.below p.tells p.limits p.map old map page = record { told = told; map_is = refl; size_is = refl } in
+    let now = told_after p.below p.tells p.limits p.map old c.add_rows.new.pages map page stays.kept stays.same before in
+    all_listed c.args.size tables (tables_of c.add_rows-2.new.catalog)
+    (told_as p.below p.tells p.limits p.map c.add_rows.new.pages map page (λ m n. LoadsRows false m n c.args.size (tables_of c.add_rows.new.catalog) (tables_of c.add_rows-2.new.catalog) (Ok tt)) now c.in_ok-add_rows-2.ensures.loaded
+    tables rows used whole tree sound (second_begins c.args.size tables rows (tables_of c.add_rows.new.catalog) tell mid)))
 
 pub returns-clause-told : goal.returns-clause-told
 returns-clause-told g c = λ told rows used whole tree.
-    (let gs = g.P.Pages in
-    let none : c.batches.cursor.next ≡ None = search rules in
-    all_told gs.below gs.tells gs.limits gs.map gs.count gs.failures c.args.size c.args.pages.now c.batches.pages c.batches.cursor.root c.batches.cursor.next c.batches.cursor.next c.batches.catalog c.batches.batch c.batches.invariant
-    none told rows used whole tree)
+    (let p = g.P.Pages in
+    let old = c.args.pages.now in
+    let map = p.map old in
+    let page = (p.limits (p.below old)).page in
+    let stays = c.in_ok-add_rows.ensures.stays in
+    let before : AreTold p.below p.tells p.limits p.map old map page = record { told = told; map_is = refl; size_is = refl } in
+    let now = told_after p.below p.tells p.limits p.map old c.add_rows.new.pages map page stays.kept stays.same before in
+    rows_tell c.bytes_determine_values.ensures c.args.size rows (tables_of c.empty-catalog.result) (tables_of c.add_rows.new.catalog) (tables_of c.add_rows-2.new.catalog) c.empty-catalog.ensures
+    (c.in_ok-add_rows.ensures.told told rows used whole tree)
+    (told_as p.below p.tells p.limits p.map c.add_rows.new.pages map page (λ m n. FindsRows false m n c.args.size (tables_of c.add_rows.new.catalog) (tables_of c.add_rows-2.new.catalog) (Ok tt)) now c.in_ok-add_rows-2.ensures.told
+    rows used whole tree))

@@ -1,7 +1,7 @@
 use Rattle.std.proofs.Common.{rules, subst, ◌∙◌, ◌-◌, ℕ, List, length, map, take, drop, Ok, Err}
 use Rattle.catalog.specs.declared.tables.Index.{Index}
 use Rattle.indexes.specs.Keeping.{TakesEntries, row_in}
-use Rattle.rowstore.specs.Trees.{columns_of}
+use Rattle.holdings.specs.Trees.{columns_of}
 use Rattle.rowstore.specs.Turning.{TakesFromIndexes}
 use Rattle.rowstore.proofs.Looping.{first_of, none_left, since}
 use Rattle.rowstore.proofs.Sides.{takes_more, takes_none, takes_stop}

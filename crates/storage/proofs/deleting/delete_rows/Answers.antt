@@ -12,8 +12,6 @@ returns-in_err-table-clause-made g c told db held =
       binds = c.only_tables_set_nothing_off.ensures.binds;
       deletes = c.only_tables_set_nothing_off.ensures.deletes;
       chosen = c.only_tables_set_nothing_off.ensures.chosen;
-      stand = c.table_trees_stand.ensures;
-      give_way = c.trees_give_way.ensures;
     } in
     passed_on _ _ c.from_residual.result c.in_err-table.field-0.0 c.from_residual.ensures.1
     (name_refused laws _ _ (tables_of c.args.catalog.now) db held c.args.delete.now c.in_err-table.field-0.0 c.in_err-table.ensures.refused)
@@ -27,8 +25,6 @@ returns-in_err-condition-clause-made g c told db held =
       binds = c.only_tables_set_nothing_off.ensures.binds;
       deletes = c.only_tables_set_nothing_off.ensures.deletes;
       chosen = c.only_tables_set_nothing_off.ensures.chosen;
-      stand = c.table_trees_stand.ensures;
-      give_way = c.trees_give_way.ensures;
     } in
     passed_on _ _ c.from_residual-in_err-condition.result c.in_err-condition.field-0.0 c.from_residual-in_err-condition.ensures.1
     (where_refused laws _ _ (tables_of c.args.catalog.now) db held c.args.delete.now c.in_ok-table.table.now c.in_ok-table.ensures.found c.in_err-condition.field-0.0 c.in_err-condition.ensures.named)
@@ -42,8 +38,6 @@ returns-clause-made g c told db held =
       binds = c.only_tables_set_nothing_off.ensures.binds;
       deletes = c.only_tables_set_nothing_off.ensures.deletes;
       chosen = c.only_tables_set_nothing_off.ensures.chosen;
-      stand = c.table_trees_stand.ensures;
-      give_way = c.trees_give_way.ensures;
     } in
     taking_makes laws _ _ (tables_of c.args.catalog.now) db held c.args.delete.now c.in_ok-table.table.now c.in_ok-table.ensures.found
-    c.in_ok-condition.condition c.in_ok-condition.ensures.named _ c.take_from.result (c.take_from.ensures.taken told)
+    c.in_ok-condition.condition c.in_ok-condition.ensures.named _ c.delete_rows.result (c.delete_rows.ensures.deleted told)

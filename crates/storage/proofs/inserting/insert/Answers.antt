@@ -1,6 +1,6 @@
 use Rattle.std.proofs.Common.{◌≡◌, ◌∙◌, ap, map, length}
 use Rattle.catalog.specs.Listed.{tables_of}
-use Rattle.dml.specs.Trees.{PutsRows}
+use Rattle.rowstore.specs.Changing.{InsertsInTrees}
 use Rattle.storage.proofs.Insertions.{Laws, given_as, passed_on, places_long, put_makes, read_before, rows_refused, target_refused}
 use Rattle.storage.proofs.inserting.insert.Goals as goal
 
@@ -14,8 +14,6 @@ returns-in_err-target-clause-made g c told db held =
       refused = c.only_tables_set_nothing_off.ensures.refused;
       inserts = c.only_tables_set_nothing_off.ensures.inserts;
       none = c.only_tables_set_nothing_off.ensures.none;
-      stand = c.table_trees_stand.ensures;
-      give_way = c.trees_give_way.ensures;
     } in
     passed_on _ _ c.from_residual.result c.in_err-target.field-0.0 c.from_residual.ensures.1
     (target_refused laws _ _ (tables_of c.args.catalog.now) db held c.args.insert.now c.in_err-target.field-0.0 c.in_err-target.ensures.refused)
@@ -30,8 +28,6 @@ returns-in_err-rows-clause-made g c told db held =
       refused = c.only_tables_set_nothing_off.ensures.refused;
       inserts = c.only_tables_set_nothing_off.ensures.inserts;
       none = c.only_tables_set_nothing_off.ensures.none;
-      stand = c.table_trees_stand.ensures;
-      give_way = c.trees_give_way.ensures;
     } in
     let target = c.in_ok-target.target in
     passed_on _ _ c.from_residual-in_err-rows.result c.in_err-rows.field-0.0 c.from_residual-in_err-rows.ensures.1
@@ -53,8 +49,6 @@ returns-clause-made g c told db held =
       refused = c.only_tables_set_nothing_off.ensures.refused;
       inserts = c.only_tables_set_nothing_off.ensures.inserts;
       none = c.only_tables_set_nothing_off.ensures.none;
-      stand = c.table_trees_stand.ensures;
-      give_way = c.trees_give_way.ensures;
     } in
     let given = c.in_ok-rows.ensures.given db told held in
     let is = given_as laws _ _ tables db held i t target.count c.in_ok-target.ensures.table c.in_ok-target.ensures.listed c.in_ok-target.ensures.count rows target.places.items
@@ -62,7 +56,7 @@ returns-clause-made g c told db held =
     let long : length target.places.items ≡ length t.columns = ap length c.in_ok-target.ensures.places ∙ places_long t.columns i.columns in
     let pages = g.P.Pages in
     let stays = c.in_ok-rows.ensures.stays in
-    let new = pages.map c.put_rows.new.pages in
-    let puts = read_before pages.below pages.tells pages.limits pages.map (λ old size. PutsRows old new size t.root t.columns target.places.items rows c.put_rows.result)
-    c.args.pages.now c.given_rows.new.pages stays.kept stays.same c.put_rows.ensures.put told in
-    put_makes laws _ _ tables db held i t target.places.items rows c.in_ok-target.ensures.table is long new c.put_rows.result puts
+    let new = pages.map c.insert_rows.new.pages in
+    let puts = read_before pages.below pages.tells pages.limits pages.map (λ old size. InsertsInTrees old new size t target.places.items rows c.insert_rows.result)
+    c.args.pages.now c.given_rows.new.pages stays.kept stays.same c.insert_rows.ensures.inserted told in
+    put_makes laws _ _ tables db held i t target.places.items rows c.in_ok-target.ensures.table is long new c.insert_rows.result puts

@@ -23,5 +23,5 @@ returns-clause-answered g c tables db told stored placed =
     let loads : LoadsAll (λ sources. sources.items) (g.P.Pages.map c.args.pages.now) (g.P.Pages.limits (g.P.Pages.below c.args.pages.now)).page bound.tables (Ok c.in_ok-sources.sources) =
     subst (λ (ts : List BoundSource). LoadsAll (λ sources. sources.items) (g.P.Pages.map c.args.pages.now) (g.P.Pages.limits (g.P.Pages.below c.args.pages.now)).page ts (Ok c.in_ok-sources.sources)) c.as_slice.ensures (c.in_ok-sources.ensures.loaded told) in
     let are = loads stored.rows_at stored.shared.whole (have_rows _ _ tables db stored bound.reading.sources bound.tables placed) in
-    rows_answered (λ rows. map values_of rows.items) c.rows_are_loaded_beside_conditions.ensures stored.rows_at tables db bound.reading bound.tables c.deref.result.now c.answer.result stored.lists
+    rows_answered (λ rows. map values_of rows.items) c.rows_are_loaded_beside_conditions.ensures stored.rows_at tables db bound.reading bound.tables c.deref.result.now c.answer.result stored.of_tables.lists
     placed (c.deref.ensures.value ∙ are) c.answer.ensures.answered

@@ -150,7 +150,7 @@ returns-in-Ok-load_and_truncate g c =
               database = found.database;
               held = held_if_stored _ _ found.database
                   (held_as _ _ (file c.args.db).content (file c.args.log).content found.database (sym (were.db_kept.same told_db)) (sym (were.log_kept.same told_log)) (found_held opened _ (catalog_in c.in-Ok-load_and_truncate.seats) found served view known));
-              shown = starts_shown _ (tables_of (catalog_in c.in-Ok-load_and_truncate.seats)) found.database c.load_and_truncate.new.log _ (c.in-Ok-load_and_truncate.ensures.opens (tables_of (catalog_in c.in-Ok-load_and_truncate.seats)) found.database tells settled (record { stored = found.stored; served = served })) c.new.ensures.shown;
+              shown = starts_shown _ found.database c.load_and_truncate.new.log _ (c.in-Ok-load_and_truncate.ensures.opens (tables_of (catalog_in c.in-Ok-load_and_truncate.seats)) found.database tells settled (record { stored = found.stored; served = served })) c.new.ensures.shown;
             };
         whole = c.new.ensures.whole;
         not_blank = λ told_db blank. c.in-Ok.ensures.blank (told told_db) (ap is_blank_content (synced.db_kept.same told_db) ∙ blank);
@@ -190,7 +190,7 @@ returns-in-Ok-load_and_truncate g c =
           let now = held_as _ _ (file (db_of opened)).content (file (log_of opened)).content database (were.db_kept.same told_db) (were.log_kept.same told_log) held in
           let is = opened_held c.args.salts opened database c.in-Ok.header _ now found c.counted_size.ensures c.in_ok-log.ensures.known (c.in_ok-log.ensures.view (header.db_kept.tells_same ∙ told_db) (header.log_kept.tells_same ∙ told_log))
           (db_synced told_db) (log_synced told_log) (were.db_kept.tells_same ∙ told_db) (were.log_kept.tells_same ∙ told_log) in
-          starts_shown _ held.tables database c.load_and_truncate.new.log _ (c.in-Ok-load_and_truncate.ensures.opens held.tables database is.told is.settled is.stored) c.new.ensures.shown;
+          starts_shown _ database c.load_and_truncate.new.log _ (c.in-Ok-load_and_truncate.ensures.opens held.tables database is.told is.settled is.stored) c.new.ensures.shown;
     }
 
 pub returns-in-Err-load_and_truncate : goal.returns-in-Err-load_and_truncate

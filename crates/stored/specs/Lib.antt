@@ -1,0 +1,6 @@
+pub mod Forms
+pub mod Language
+pub mod Reordering
+pub mod Schema
+pub mod Standing
+pub mod Stored

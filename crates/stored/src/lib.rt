@@ -1,0 +1,6 @@
+//! Which database pages hold whose tables and indexes are listed.
+#![tactic(auto)]
+
+mod laws;
+
+pub use laws::{pages_store_one_database, standing_pages_are_stored, stored_pages_stand};
