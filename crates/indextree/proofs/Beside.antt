@@ -35,7 +35,7 @@ use Rattle.indextree.proofs.Givings.{none_given}
 use Rattle.indextree.proofs.Growth.{chain, pages_in}
 use Rattle.indextree.proofs.Leaves.{usual, at_most}
 use Rattle.indextree.proofs.Pairs.{one}
-use Rattle.indextree.proofs.Rooms.{cells_fit}
+use Rattle.packing.proofs.Rooms.{cells_fit}
 use Rattle.indextree.proofs.Rows.{children_append}
 use Rattle.indextree.proofs.Shares.{start_after, after_first}
 use Rattle.indextree.proofs.Subtrees.{pages_split, top_there}

@@ -26,7 +26,7 @@ use Rattle.forest.specs.Storing.{cells_of}
 use Rattle.forest.specs.declared.storing.Fan.{Fan}
 use Rattle.indextree.specs.Growing.{replaced, IsFanned}
 use Rattle.indextree.proofs.Leaves.{parts_few, at_most_two}
-use Rattle.indextree.proofs.Rooms.{cells_fit}
+use Rattle.packing.proofs.Rooms.{cells_fit}
 use Rattle.indextree.proofs.Sums.{room_added, room_swapped, room_append}
 
 -- ---- as items

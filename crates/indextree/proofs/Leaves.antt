@@ -39,7 +39,7 @@ use Rattle.indextree.proofs.Branches.{starts_at}
 use Rattle.indextree.proofs.Clearing.{number_far}
 use Rattle.indextree.proofs.Cutting.{cut_leaf, values}
 use Rattle.indextree.proofs.Emptied.{large_size}
-use Rattle.indextree.proofs.Rooms.{cells_fit}
+use Rattle.packing.proofs.Rooms.{cells_fit}
 use Rattle.indextree.proofs.Shares.{beside_used, others_kept, start_after}
 use Rattle.indextree.proofs.Staying.{lies_kept}
 use Rattle.indextree.proofs.Sums.{room_added}

@@ -12,7 +12,6 @@ mod Givings
 mod Clearing
 mod Emptied
 mod Inserts
-mod Rooms
 mod Sums
 mod Rows
 mod Branches

@@ -27,7 +27,7 @@ use Rattle.indextree.proofs.Emptied.{large_size}
 use Rattle.indextree.proofs.Fans.{between_third}
 use Rattle.indextree.proofs.Leaves.{usual, at_most}
 use Rattle.indextree.proofs.OneLess.{IsOnePage, one_page}
-use Rattle.indextree.proofs.Rooms.{cells_fit}
+use Rattle.packing.proofs.Rooms.{cells_fit}
 use Rattle.indextree.proofs.Sums.{room_append}
 use Rattle.indextree.proofs.Tops.{branch_few}
 

@@ -21,7 +21,7 @@ use Rattle.forest.specs.Storing.{cells_of}
 use Rattle.forest.specs.declared.storing.Fan.{Fan}
 use Rattle.indextree.specs.Growing.{replaced, Fans, IsFanned}
 use Rattle.indextree.specs.Joining.{without_at}
-use Rattle.indextree.proofs.Rooms.{cells_fit}
+use Rattle.packing.proofs.Rooms.{cells_fit}
 use Rattle.indextree.proofs.Sums.{room_swapped}
 
 abbrev Item : Type 0

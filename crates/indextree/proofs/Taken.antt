@@ -33,7 +33,7 @@ use Rattle.indextree.proofs.Inserts.{nothing}
 use Rattle.indextree.proofs.Leaves.{usual, at_most}
 use Rattle.indextree.proofs.OneLess.{none_in, pairwise_without}
 use Rattle.indextree.proofs.Readings.{said_there}
-use Rattle.indextree.proofs.Rooms.{cells_fit}
+use Rattle.packing.proofs.Rooms.{cells_fit}
 use Rattle.indextree.proofs.Shares.{beside_used, others_kept, start_after}
 use Rattle.indextree.proofs.Staying.{entries_kept}
 use Rattle.indextree.proofs.Subtrees.{entries_at, entries_between, told, row_pages}

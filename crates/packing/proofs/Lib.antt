@@ -12,3 +12,4 @@ pub mod SmallLemmas
 pub mod SplicingLemmas
 pub mod CountLemmas
 pub mod Splices
+pub mod Rooms

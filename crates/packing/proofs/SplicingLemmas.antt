@@ -1,16 +1,27 @@
 -- Cells that are read off pages, and what they are packed as.
-use Rattle.std.proofs.Common.{◌≡◌, ◌≤◌, ◌<◌, ◌+◌, ◌-◌, ◌^◌, ℕ, Bool, List, [], ◌∷◌, ◌++◌, append_assoc, length, take, drop, map, get_or, Option, Bor, Result, Ok, Err, IsErrAnd, IfOk, IfErr, MatchResult, refl, sym, ap, subst, ◌∙◌, arith}
-use Rattle.std.proofs.lemmas.List.{take_more, get_or-drop, length-drop, take_all, map_push, map-append}
+use Rattle.std.proofs.Common.{◌≡◌, ◌≤◌, ◌<◌, ◌+◌, ◌-◌, ◌^◌, ℕ, Bool, List, [], ◌∷◌, ◌++◌, append_assoc, length, take, drop, map, get_or, Option, None, Some, true, Bor, Result, Ok, Err, IsErrAnd, IfOk, IfErr, MatchResult, refl, sym, ap, subst, ◌∙◌, arith}
+use Rattle.std.proofs.lemmas.List.{take_more, get_or-drop, length-drop, take_all, map_push, map-append, take-append-drop, length-take-le}
+use Rattle.std.proofs.Math.Dec.{eqb}
+use Rattle.std.proofs.lemmas.Bool.{eqb-true, true≢false}
+use Rattle.std.specs.Option.{option_eq}
+use Rattle.std.specs.List.{AllByRecursion, insert}
 use Rattle.sqlval.specs.declared.fault.Fault.{Fault}
 use Rattle.sqlval.specs.declared.fault.Fault.TheVariants.{Memory}
+use Rattle.treepage.specs.Cells.{Pairwise}
 use Rattle.treepage.specs.Node.{Node, Rows, Keys, Entries, Between, IsRowCell, IsKeyCell, IsEntryCell, IsBetweenCell, code_of, right_of, IsNode}
 use Rattle.treepage.specs.Reading.{Place, type_of, count_of, last_of}
 use Rattle.treepage.specs.declared.items.Kind.{Kind}
 use Rattle.treepage.specs.declared.items.Kind.TheVariants.{TableLeaf, TableInterior, IndexLeaf, IndexInterior}
+use Rattle.cellroom.specs.Placing.{IsPlaced}
 use Rattle.packing.specs.declared.spreading.Packed.{Packed}
-use Rattle.packing.specs.Building.{right_bytes}
-use Rattle.packing.specs.Packing.{CanPack, AreOf, Packs}
+use Rattle.packing.specs.Building.{cell_room, right_room, right_bytes}
+use Rattle.packing.specs.Splicing.{spliced}
+use Rattle.packing.specs.declared.spreading.Piece.{Piece}
+use Rattle.packing.specs.Parts.{total}
+use Rattle.packing.specs.Packing.{CanPack, AreOf, nodes_of, images, dividers_of, Divide, Packs}
 use Rattle.packing.proofs.SayLemmas.{pairwise_length}
+use Rattle.packing.proofs.DividingLemmas.{none_divide}
+use Rattle.packing.proofs.Rooms.{cells_fit}
 use Rattle.packing.proofs.SmallLemmas.{node_packs}
 
 abbrev bytes_of : List (Bor (List ℕ)) → List (List ℕ)
@@ -94,6 +105,60 @@ around_is none first second third between a b to from len le e empty one two thr
 -- all cells of the first page
 pub whole_is : (n : ℕ) (all a rest : List (List ℕ)) → n ≡ length a → all ≡ take n a ++ rest → all ≡ a ++ rest
 whole_is n all a rest e is = is ∙ ap (λ (xs : List (List ℕ)). xs ++ rest) (take_all n a (omega (arith, e)))
+
+-- ---- one cell more
+
+-- one cell where no other gives way
+pub spliced_one : (from count : ℕ) (cells : List (List ℕ)) (more : List (Bor (List ℕ))) (none : Bor (List ℕ)) → count ≡ 0 → 1 ≤ length more → length more < 2
+    → spliced from count (bytes_of more) cells ≡ insert cells from (get_or more 0 none).now
+spliced_one from count cells [] none zero some few = absurd (omega (arith, some))
+spliced_one from count cells (cell ∷ []) none zero some few = ap (λ (n : ℕ). take from cells ++ cell.now ∷ drop n cells) (omega (arith, zero))
+spliced_one from count cells (cell ∷ other ∷ more) none zero some few = absurd (omega (arith, few))
+
+-- what the code compares
+pub same_last : (a b : Option ℕ) → option_eq eqb a b ≡ true → a ≡ b
+same_last None None e = refl
+same_last None (Some y) e = absurd (true≢false (sym e))
+same_last (Some x) None e = absurd (true≢false (sym e))
+same_last (Some x) (Some y) e = ap Some (eqb-true x y e)
+
+-- what stands between the header and the pointers of a page of this kind
+right_wide : (kind : Kind) (node : Node) → type_of kind ≡ code_of node → right_room kind ≡ length (right_of node)
+right_wide TableLeaf (Rows rows) e = refl
+right_wide TableInterior (Keys kids last) e = refl
+right_wide IndexLeaf (Entries entries) e = refl
+right_wide IndexInterior (Between kids last) e = refl
+right_wide kind node e = absurd (omega (arith, e))
+
+-- one page says all of a node
+lone_node : (node : Node) → nodes_of [] node ≡ node ∷ []
+lone_node (Rows rows) = refl
+lone_node (Keys kids last) = refl
+lone_node (Entries entries) = refl
+lone_node (Between kids last) = refl
+
+-- a page that says all is packed alone
+pub packs_alone : (kind : Kind) (page : List ℕ) (start : ℕ) (rises : Bool) (cells : List (List ℕ)) (node : Node) (packed : Packed) → packed.pieces.items ≡ [] → type_of kind ≡ code_of node → start ≤ length page
+    → IsPlaced page start cells node packed.last.items → Packs kind (length page) (take start page) rises cells node packed
+packs_alone kind page start rises cells node packed alone same near placed =
+    let new = packed.last.items in
+    let is = placed.is in
+    let wide = right_wide kind node same in
+    let front : length (take start page) ≡ start = length-take-le start page near in
+    let lie = cells_fit (code_of node) new start (right_of node) is.cells is.page_is in
+    let size : total (map cell_room cells) ≡ total (map cell_room is.cells) = ap (λ (xs : List (List ℕ)). total (map cell_room xs)) (sym placed.cells_are) in
+    let fits : total (map cell_room cells) ≤ length page - length (take start page) - 8 - right_room kind = omega (arith, wide, front, lie, size, placed.long) in
+    let images_are : images packed ≡ new ∷ [] = ap (λ (pieces : List Piece). map (λ (piece : Piece). piece.page.items) pieces ++ new ∷ []) alone in
+    record {
+      counts = [];
+      cut = record { one = λ e. refl; lone = λ lt e. absurd (omega (arith, lt, fits)); parts = λ lt e. absurd (omega (arith, lt, fits)) };
+      say = subst (λ (pages : List (List ℕ)). Pairwise (λ image part. IsNode image (length (take start page)) part) pages (nodes_of [] node)) (sym images_are)
+          (subst (λ (nodes : List Node). Pairwise (λ image part. IsNode image (length (take start page)) part) (new ∷ []) nodes) (sym (lone_node node))
+          (subst (λ (n : ℕ). IsNode new n node) (sym front) is, tt));
+      sized = subst (AllByRecursion (λ image. length image ≡ length page)) (sym images_are) (placed.long, tt);
+      front_is = λ e. (drop start new, sym (take-append-drop start new) ∙ ap (λ (xs : List ℕ). xs ++ drop start new) placed.front);
+      divide = subst (λ (pieces : List Piece). Divide (length page) (map (λ (piece : Piece). piece.divider.items) pieces) (dividers_of [] node)) (sym alone) (none_divide (length page) node);
+    }
 
 -- ---- what is packed
 

@@ -1,10 +1,12 @@
 -- Pages some of whose cells give way to others, and pages that are joined.
-use Rattle.std.specs.Prelude.{◌≡◌, ◌≤◌, ◌<◌, ◌+◌, ◌^◌, ◌==◌, ℕ, false, List, [], ◌++◌, length, take, drop, Result, MatchResult}
+use Rattle.std.specs.Prelude.{◌≡◌, ◌≤◌, ◌<◌, ◌+◌, ◌^◌, ◌==◌, ℕ, false, List, [], ◌++◌, length, take, drop, IfOk, IfSome, Option, Result, MatchResult}
+use Rattle.std.specs.Global.{Vec}
 use Rattle.sqlval.specs.declared.fault.Fault.{Fault}
 use Rattle.sqlval.specs.declared.fault.Fault.TheVariants.{Memory}
-use Rattle.treepage.specs.Node.{Node, IsNode, code_of, right_of}
+use Rattle.treepage.specs.Node.{Node, IsNode, Say, code_of, right_of}
 use Rattle.treepage.specs.Reading.{type_of}
 use Rattle.treepage.specs.declared.items.Kind.{Kind}
+use Rattle.cellroom.specs.Placing.{IsPlaced}
 use Rattle.packing.specs.declared.spreading.Packed.{Packed}
 use Rattle.packing.specs.Packing.{AreOf, Packs}
 
@@ -25,6 +27,13 @@ Splices page start from count cells right result =
     (kind : Kind) (old new : Node) (is : IsNode page start old) → IsUsual page start → type_of kind ≡ code_of old → from + count ≤ length is.cells
     → AreOf kind (length page) right (spliced from count cells is.cells) new
     → MatchResult result (Packs kind (length page) (take start page) (from + count == length is.cells) (spliced from count cells is.cells) new) (λ fault. fault ≡ Memory)
+
+-- Where this is so, and the new node has the old one's last child, a page that is answered says the new one.
+abbrev pub SplicesOne : List ℕ → ℕ → ℕ → ℕ → List (List ℕ) → Result (Option (Vec ℕ)) Fault → Type 0
+SplicesOne page start from count cells result =
+    (old new : Node) (is : IsNode page start old) → IsUsual page start → from + count ≤ length is.cells → code_of new ≡ code_of old
+    → right_of new ≡ right_of old → Say (length page) (spliced from count cells is.cells) new
+    → IfOk result (λ answer. IfSome answer (λ written. IsPlaced page start (spliced from count cells is.cells) new written.items))
 
 -- Where the cells of two pages of one kind, and those given between them, say a node, it is packed, with the last child of the second;
 -- or memory was short.

@@ -1,10 +1,12 @@
 //! What holds of the parts that counts make, whatever the cells say.
 
-ghost use Rattle.std.specs.Prelude.{◌≡◌, ◌≤◌, ◌<◌, ◌+◌, ◌-◌, ◌*◌, ◌^◌, ℕ, ℤ, Bool, true, false, List, [], ◌∷◌, length, take};
+ghost use Rattle.std.specs.Prelude.{◌≡◌, ◌≤◌, ◌<◌, ◌+◌, ◌-◌, ◌*◌, ◌^◌, ℕ, ℤ, Bool, true, false, List, [], ◌∷◌, length, map, take};
 ghost use Rattle.std.specs.List.{AllByRecursion};
 ghost use Rattle.packing.specs.Parts.{total, IsCut};
+ghost use Rattle.packing.specs.Building.{cell_room};
 ghost use Rattle.packing.specs.Filling.{AreWithin, BeginsAboutHalf};
 ghost use Rattle.packing.specs.Rows.{Rises, last_number, Parted, LieWithin};
+ghost use Rattle.treepage.specs.Cells.{IsTreePage};
 ghost use Rattle.treepage.specs.Node.{Local, Node, Rows, Keys, IsRowCell, IsKeyCell, IsEntryCell, IsBetweenCell};
 ghost use Rattle.packing.specs.Packing.{IsSmall, CanPack, AreOf, divider_bytes, Packs};
 ghost use Rattle.packing.specs.Lists.{parts_of, row_parts, fan, pieces, entry_parts, between, Side, side_parts, joined, side_pieces};
@@ -99,4 +101,10 @@ pub fn cells_are_small()
         → IsBetweenCell page_size cell kid → IsSmall Kind.IndexInterior page_size cell }
     ensures all { (kind : Kind) (page_size start : ℕ) (right : List ℕ) (cells : List (List ℕ)) (node : Node)
         → 512 ≤ page_size → page_size < 2 ^ 16 → start ≤ 100 → AreOf kind page_size right cells node → CanPack page_size start kind cells }
+{}
+
+/// The cells of a page, each with its pointer, lie on it beside the header.
+pub fn cells_lie_on_pages()
+    ensures { (kind : ℕ) (page : List ℕ) (start : ℕ) (right : List ℕ) (cells : List (List ℕ)) → IsTreePage kind page start right cells
+        → start + 8 + length right + total (map cell_room cells) ≤ length page }
 {}

@@ -3,9 +3,10 @@
 ghost use Rattle.std.specs.Prelude.{◌≡◌, ◌⊎◌, ◌≤◌, ◌-◌, ◌++◌, length, map, take, drop, IfErr, MatchResult};
 ghost use Rattle.treepage.specs.Node.{Node, IsNode};
 ghost use Rattle.packing.specs.Building.{right_bytes};
-ghost use Rattle.packing.specs.Splicing.{Splices, Joins};
+ghost use Rattle.packing.specs.Splicing.{Splices, SplicesOne, Joins};
 
 use crate::spreading::{Packed, pack};
+use cellroom::place_cell;
 use sqlval::{Damage, Fault, R};
 use std::alloc::Global;
 use treepage::TreePage;
@@ -47,6 +48,25 @@ fn cells_around<'a>(
     Ok(all)
 }
 
+/// The page with one cell more, where no other gives way to it, and there is room without moving any.
+/// (`Memory` alone.)
+fn splice_one(
+    alloc: Global,
+    page: &[u8],
+    start: usize,
+    from: usize,
+    count: usize,
+    cells: &[&[u8]],
+) -> R<Option<Vec<u8>>>
+    ensures placed { SplicesOne page.now start from count (map (λ cell. cell.now) cells.now) result }
+    ensures refused { IfErr result (λ fault. fault ≡ Fault.Memory) }
+{
+    match cells {
+        [cell] if count == 0 => place_cell(alloc, page, start, from, cell),
+        _ => Ok(None),
+    }
+}
+
 /// Puts the cells of a page, `count` of which from place `from` on give way to `cells`, onto as many pages as they need, as `pack`
 /// does. `right` is the last child of an interior page then. (`Damaged(Page, 0)` or `Damaged(Cell, 0)` for a page that says nothing,
 /// or has no such cells, and as for `pack`.)
@@ -67,6 +87,14 @@ pub fn splice<'a>(
     let len = tree.len();
     if len < from || len - from < count {
         return Err(Fault::Damaged(Damage::Cell, 0));
+    }
+    if tree.last_child() == right {
+        if let Some(last) = splice_one(alloc, page, start, from, count, cells)? {
+            return Ok(Packed {
+                pieces: Vec::new(alloc),
+                last,
+            });
+        }
     }
     let end = from + count;
     let all = cells_around(alloc, &tree, from, cells, &tree, end)?;

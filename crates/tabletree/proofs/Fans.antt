@@ -21,7 +21,7 @@ use Rattle.forest.specs.Sides.{Side, behind}
 use Rattle.forest.specs.Storing.{cells_of}
 use Rattle.forest.specs.declared.storing.Fan.{Fan}
 use Rattle.tabletree.specs.Fanning.{fanned, IsFanned}
-use Rattle.tabletree.proofs.Rooms.{cells_fit}
+use Rattle.packing.proofs.Rooms.{cells_fit}
 use Rattle.tabletree.proofs.Sums.{room_added, room_swapped, room_append}
 
 -- ---- as items

@@ -45,7 +45,6 @@ mod Leaves
 mod Starts
 mod Few
 mod Branches
-mod Rooms
 mod Cutting
 mod Growth
 mod Planting

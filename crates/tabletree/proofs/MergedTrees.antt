@@ -31,7 +31,7 @@ use Rattle.tabletree.proofs.Cutting.{cut_into, each_split}
 use Rattle.tabletree.proofs.Few.{few_parts}
 use Rattle.tabletree.proofs.Holes.{Kids, keys_of, seen, pages_in, children_append, parted_join}
 use Rattle.tabletree.proofs.Leaves.{chains_of, cut_leaf}
-use Rattle.tabletree.proofs.Rooms.{cells_fit}
+use Rattle.packing.proofs.Rooms.{cells_fit}
 use Rattle.tabletree.proofs.Roots.{sorted_wider}
 use Rattle.tabletree.proofs.Starts.{rows_counted, parts_counted, sides_count}
 use Rattle.tabletree.proofs.Sums.{room_append}

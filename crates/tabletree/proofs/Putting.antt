@@ -36,7 +36,7 @@ use Rattle.tabletree.proofs.Few.{few_parts, large_size}
 use Rattle.tabletree.proofs.Leaves.{chains_of, cut_leaf, put_chains}
 use Rattle.tabletree.proofs.Orders.{ids_of, put_in, put_spliced, leaf_with, leaf_rises}
 use Rattle.tabletree.proofs.Passing.{beside_used, others_seen}
-use Rattle.tabletree.proofs.Rooms.{cells_fit}
+use Rattle.packing.proofs.Rooms.{cells_fit}
 use Rattle.tabletree.proofs.Staying.{lies_stays}
 use Rattle.tabletree.proofs.Starts.{are_counted, rows_counted, begins_same, no_counts, front_alone}
 use Rattle.tabletree.proofs.Sums.{room_added}

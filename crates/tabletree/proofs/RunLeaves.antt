@@ -33,7 +33,7 @@ use Rattle.tabletree.proofs.Few.{few_parts, large_size}
 use Rattle.tabletree.proofs.Givings.{chain_of, after_part, IsAfterPart}
 use Rattle.tabletree.proofs.Leaves.{chains_of, cut_leaf}
 use Rattle.tabletree.proofs.Passing.{beside_used, others_seen}
-use Rattle.tabletree.proofs.Rooms.{cells_fit}
+use Rattle.packing.proofs.Rooms.{cells_fit}
 use Rattle.tabletree.proofs.RunLists.{kept, kept_pages, new_pages, exchanged_room, exchanged_pairs}
 use Rattle.tabletree.proofs.RunRows.{IsRunOf, run_few, run_rises, rises_exchanged, rows_exchanged}
 use Rattle.tabletree.proofs.Starts.{are_counted, rows_counted, begins_same, no_counts, front_alone}

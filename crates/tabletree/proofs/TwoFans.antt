@@ -21,7 +21,7 @@ use Rattle.forest.specs.Storing.{cells_of}
 use Rattle.forest.specs.declared.storing.Fan.{Fan}
 use Rattle.tabletree.specs.Fanning.{fanned, Fans, IsFanned}
 use Rattle.tabletree.specs.Joining.{without_at}
-use Rattle.tabletree.proofs.Rooms.{cells_fit}
+use Rattle.packing.proofs.Rooms.{cells_fit}
 use Rattle.tabletree.proofs.Starts.{front_alone}
 use Rattle.tabletree.proofs.Sums.{room_swapped}
 

@@ -1,8 +1,9 @@
-use Rattle.std.proofs.Common.{◌≡◌, ◌+◌, ◌==◌, min, length, map, take, refl, ap, ◌∙◌, arith}
+use Rattle.std.proofs.Common.{◌≡◌, ◌+◌, ◌==◌, min, length, map, take, refl, sym, ap, ◌∙◌, arith}
 use Rattle.std.proofs.lemmas.List.{take_min, length-take}
+use Rattle.treepage.specs.Node.{right_of}
 use Rattle.packing.specs.Building.{right_bytes}
 use Rattle.packing.specs.Splicing.{spliced}
-use Rattle.packing.proofs.SplicingLemmas.{refused_on, len_of, kind_of, packing_of, packs_or_memory}
+use Rattle.packing.proofs.SplicingLemmas.{refused_on, len_of, kind_of, last_of_page, same_last, packs_alone, packing_of, packs_or_memory}
 use Rattle.packing.proofs.splicing.splice.Goals as goal
 use Rattle.packing.proofs.splicing.splice.Goals.{then-len-from-via-then-len-from, then-len-from-via-else-len-from+then-len-from-2}
 
@@ -23,6 +24,19 @@ returns-in_err-all-clause-spliced c =
     λ kind old new is usual same within say.
     let around = rw c.in_ok-tree.ensures.place at c.in_err-all.ensures.around in
     refused_on c.from_residual-in_err-all.result c.in_err-all.field-0.0 _ c.from_residual-in_err-all.ensures.1 (around old old is is (omega (arith, within)) within)
+
+pub returns-in-Some-clause-spliced : goal.returns-in-Some-clause-spliced
+returns-in-Some-clause-spliced c =
+    λ kind old new is usual same within say.
+    let page = c.args.page.now in
+    let start = c.args.start in
+    let least = usual.least in
+    let near = usual.near in
+    let stays = last_of_page _ page start c.last_child.result old is c.in_ok-tree.ensures.place c.last_child.ensures in
+    let right : right_of new ≡ right_of old = say.right_is ∙ ap right_bytes (sym (same_last c.last_child.result c.args.right (sym c.if-eq.ensures))) ∙ stays in
+    let placed = (rw c.in-Some.is at c.in_ok-last.ensures.placed) old new is usual within (sym say.kind_is ∙ same) right say.say in
+    packs_alone kind page start (c.args.from + c.args.count == length is.cells) (spliced c.args.from c.args.count (map (λ cell. cell.now) c.args.cells.now) is.cells) new _ c.new.ensures.items say.kind_is
+    (omega (arith, least, near)) placed
 
 pub returns-clause-spliced : goal.returns-clause-spliced
 returns-clause-spliced c =
