@@ -80,10 +80,6 @@ pub rows_entries : (pages : PageMap) (size root width : ℕ) (columns : Columns)
 rows_entries pages size root width columns rows has =
     entries_rise columns rows (are_apart rows (rowids_rise width has.entries rows (tree_rises pages size root has.entries has.used has.tree) has.each))
 
-collations_same : (columns : List IndexColumn) → map (λ column. column.collation) columns ≡ collations (columns_in columns)
-collations_same [] = refl
-collations_same (column ∷ columns) = ap (λ (l : List Collation). column.collation ∷ l) (collations_same columns)
-
 -- ---- the call
 
 -- the rows aren't read, or memory is short
@@ -93,13 +89,10 @@ not_made old new size table columns fault (Ok root) is why = absurd is
 not_made old new size table columns fault (Err e) is why = λ rows free free_are sized has. inl (inl (subst IsOutside (sym is) (why rows free free_are has)))
 
 -- its tree was filled
-pub index_made : (old new : PageMap) (size : ℕ) (table : BoundSource) (columns : List IndexColumn) (them : List Collation) (entries : List Entry) (result : Result ℕ Fault)
-    → them ≡ map (λ column. column.collation) columns → SortsEntries old size table columns (Ok entries) → FillsTree old new size them entries result → MakesIndex old new size table columns result
-index_made old new size table columns them entries result them_are sorts fills = λ rows free free_are sized has.
-    (let same = them_are ∙ collations_same columns in
+pub index_made : (old new : PageMap) (size : ℕ) (table : BoundSource) (columns : List IndexColumn) (entries : List Entry) (result : Result ℕ Fault) → SortsEntries old size table columns (Ok entries)
+    → FillsTree old new size entries result → MakesIndex old new size table columns result
+index_made old new size table columns entries result sorts fills = λ rows free free_are sized has.
+    (let them = collations (columns_in columns) in
     let are = sorts rows free_are.whole has in
-    subst (λ (l : List Entry). MatchResult result (IsFilled old new size (collations (columns_in columns)) l free) (IsFillRefusal l)) are
-    (subst (λ (l : List Collation). MatchResult result (IsFilled old new size l entries free) (IsFillRefusal entries)) same
-    (fills free free_are sized
-    (subst (λ (l : List Entry). AreEntries them l) (sym are) (subst (λ (l : List Collation). AreEntries l (entries_of_rows (columns_in columns) rows)) (sym same)
-    (rows_entries old size table.root table.width (columns_in columns) rows has))))))
+    subst (λ (l : List Entry). MatchResult result (IsFilled old new size them l free) (IsFillRefusal l)) are
+    (fills them free free_are sized (subst (λ (l : List Entry). AreEntries them l) (sym are) (rows_entries old size table.root table.width (columns_in columns) rows has))))

@@ -7,7 +7,6 @@ ghost use Rattle.indexing.specs.Making.{MakesIndex};
 use crate::entries::sorted_entries;
 use bind::BoundSource;
 use catalog::IndexColumn;
-use indexes::collations_of;
 use indextree::fill_tree;
 use pages::WritePages;
 use sqlval::R;
@@ -28,6 +27,5 @@ pub fn make_index<P: WritePages>(
         (P.Pages.count pages.new ≡ (P.Pages.limits (P.Pages.below pages.new)).most) }
 {
     let entries = sorted_entries(alloc, pages, table, columns)?;
-    let collations = collations_of(alloc, columns)?;
-    fill_tree(alloc, pages, collations.as_slice(), entries.as_slice())
+    fill_tree(alloc, pages, entries.as_slice())
 }

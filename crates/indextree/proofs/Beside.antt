@@ -1,13 +1,13 @@
 -- Two trees side by side, whose top pages are packed together with an entry between them or none.
-use Rattle.std.proofs.Common.{◌≡◌, ◌≤◌, ◌<◌, ◌+◌, ◌-◌, ◌*◌, ◌^◌, ℕ, zero, suc, false, List, [], ◌∷◌, ◌++◌, length, map, refl, sym, ap, subst, ◌∙◌, inl, arith}
+use Rattle.std.proofs.Common.{◌≡◌, ◌<◌, ◌+◌, ◌-◌, ◌*◌, ℕ, zero, suc, false, List, [], ◌∷◌, ◌++◌, length, map, refl, sym, ap, subst, ◌∙◌, arith}
 use Rattle.std.proofs.lemmas.List.{map-append}
 use Rattle.std.proofs.lemmas.List.Concat.{flat_map-append}
 use Rattle.std.specs.Int.{w32, to_be_bytes}
 use Rattle.std.specs.Prelude.{Result, Ok, Err, MatchResult}
 use Rattle.sqlval.specs.Faults.{IsOutside}
 use Rattle.sqlval.specs.declared.fault.Fault.{Fault}
-use Rattle.pages.specs.Counting.{occurs, Moves}
-use Rattle.pages.specs.Map.{PageMap, page_at, AreWhole, IsThere}
+use Rattle.pages.specs.Counting.{occurs}
+use Rattle.pages.specs.Map.{PageMap, page_at, IsThere}
 use Rattle.pages.proofs.Moving.{occurs_append}
 use Rattle.treepage.specs.Cells.{Pairwise}
 use Rattle.treepage.specs.Node.{Local, Node, Entries, Between, IsNode, IsEntryCell, IsBetweenCell}
@@ -20,12 +20,12 @@ use Rattle.packing.proofs.SmallLemmas.{entry_len}
 use Rattle.packing.proofs.Splices.{pairwise_append}
 use Rattle.forest.specs.Frames.{goes}
 use Rattle.forest.specs.Saying.{Says}
-use Rattle.forest.specs.Sides.{Each, children, each_of}
+use Rattle.forest.specs.Sides.{children}
 use Rattle.forest.proofs.Windows.{frame_gives, each_join}
 use Rattle.indextree.specs.Entries.{Entry}
 use Rattle.indextree.specs.Freeing.{chains_of, below_of}
 use Rattle.indextree.specs.Growing.{IsDivider, IsPlanned, entries_in}
-use Rattle.indextree.specs.Joining.{AreBeside, Unites, Binds, Merges}
+use Rattle.indextree.specs.Joining.{AreBeside, Merges}
 use Rattle.indextree.specs.Tree.{Held, IsHeldAs, IsKidAs, Leaf, Tree, top, entries_of, pages_of, Lies}
 use Rattle.indextree.proofs.Cutting.{values}
 use Rattle.indextree.proofs.Emptied.{large_size}

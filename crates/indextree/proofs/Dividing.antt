@@ -1,5 +1,5 @@
 -- The cell of an entry that stands on a page.
-use Rattle.std.proofs.Common.{◌≡◌, ◌≤◌, ℕ, List, length, refl, sym, ap, ◌∙◌, inl}
+use Rattle.std.proofs.Common.{◌≡◌, ◌≤◌, ℕ, length, sym, ap, ◌∙◌, inl}
 use Rattle.std.specs.Global.{Vec}
 use Rattle.std.specs.Prelude.{Result, Ok, Err, IfOk, IfErr, MatchResult}
 use Rattle.sqlval.specs.Faults.{IsOutside}

@@ -202,10 +202,10 @@ module _ (old : PageMap) (size depth root : ℕ) (entries : List Entry) (used fr
 -- ---- a tree that is built after subtrees moved
 
 module _ (old mid : PageMap) (size deep root : ℕ) (entries : List Entry) (used free : List ℕ) (fan : Fan) (b : BecomeRow old mid size deep entries used free fan) where
-  root_stays : Has old root → Has mid root
+  pub root_stays : Has old root → Has mid root
   root_stays has = record { first = has.first; last = (let last = has.last in let longer = b.moves.longer in omega (arith, last, longer)) }
 
-  still_unfree : Has old root → occurs root used + occurs root free ≡ 0 → occurs root b.now_used + occurs root b.now_free ≡ 0
+  pub still_unfree : Has old root → occurs root used + occurs root free ≡ 0 → occurs root b.now_used + occurs root b.now_free ≡ 0
   still_unfree has none = (let at = b.moves.counts root in let old_page = not_fresh (length old) (length mid) root has.last in omega (arith, at, old_page, none))
 
   built_then : (new : PageMap) (most : ℕ) → IsBuilt mid new size root most entries b.now_used b.now_free → IsBuilt old new size root most entries used free
@@ -226,7 +226,7 @@ module _ (old mid : PageMap) (size deep root : ℕ) (entries : List Entry) (used
         };
       }
 
-  built_or : (new : PageMap) (most : ℕ) (result : Result ⊤ Fault) → MatchResult result (λ done. IsBuilt mid new size root most entries b.now_used b.now_free) IsOutsideOrFull
+  pub built_or : (new : PageMap) (most : ℕ) (result : Result ⊤ Fault) → MatchResult result (λ done. IsBuilt mid new size root most entries b.now_used b.now_free) IsOutsideOrFull
       → MatchResult result (λ done. IsBuilt old new size root most entries used free) IsOutsideOrFull
   built_or new most (Ok done) c = built_then new most c
   built_or new most (Err fault) refused = refused

@@ -1,7 +1,7 @@
 -- Two children of an interior page that are joined.
-use Rattle.std.proofs.Common.{◌≡◌, ◌≤◌, ◌<◌, ◌+◌, ◌-◌, ◌^◌, ℕ, zero, suc, min, List, [], ◌∷◌, ◌++◌, append_assoc, length, map, slice_index_or, refl, sym, ap, subst, ◌∙◌, inl, arith}
+use Rattle.std.proofs.Common.{◌≡◌, ◌≤◌, ◌<◌, ◌+◌, ◌-◌, ◌^◌, ℕ, suc, min, List, [], ◌∷◌, ◌++◌, append_assoc, length, map, slice_index_or, sym, ap, subst, ◌∙◌, arith}
 use Rattle.std.specs.Global.{Vec}
-use Rattle.std.specs.Prelude.{⊤, Result, Ok, Err, MatchResult}
+use Rattle.std.specs.Prelude.{Result, Ok, Err, MatchResult}
 use Rattle.sqlval.specs.Faults.{IsOutside}
 use Rattle.sqlval.specs.PageSizes.{IsPageSize}
 use Rattle.sqlval.specs.declared.fault.Fault.{Fault}
@@ -20,15 +20,14 @@ use Rattle.indextree.specs.Entries.{Entry}
 use Rattle.indextree.specs.Freeing.{StandsUnder, chains_of, below_of}
 use Rattle.indextree.specs.Growing.{IsDivider, IsPlanned}
 use Rattle.indextree.specs.Joining.{tree_at, left_at, right_at, held_at, entries_around, AreBeside, FindsKid, GivesEntry, Binds, Unites, SpreadsTwo}
-use Rattle.indextree.specs.Tree.{Held, Tree, top, entries_of, pages_of, Lies}
+use Rattle.indextree.specs.Tree.{Held, Tree, top, entries_of, pages_of}
 use Rattle.indextree.proofs.Clearing.{few_kids}
 use Rattle.indextree.proofs.Inserts.{nothing}
 use Rattle.indextree.proofs.Pairs.{one, pair_entries, held_is, between_len}
 use Rattle.indextree.proofs.Rows.{child_there}
 use Rattle.indextree.proofs.Shares.{IsAfter, after, beside_used, others_kept}
 use Rattle.indextree.proofs.Staying.{lies_kept}
-use Rattle.indextree.proofs.Subtrees.{told, entries_at, entries_between, pages_split, below_up}
-use Rattle.indextree.proofs.Taken.{held_among, entry_freed}
+use Rattle.indextree.proofs.Subtrees.{told, entries_between, below_up}
 use Rattle.indextree.proofs.TwoPlans.{left_tree, right_tree, belows, pair_counts, two_beside, page_says}
 use Rattle.indextree.proofs.Widening.{kids_alike}
 

@@ -27,6 +27,7 @@ mod Openings
 mod Fourths
 mod Gatherings
 mod Flattened
+mod Plantings
 mod StoredTops
 mod Batches
 mod Without

@@ -1,21 +1,18 @@
 -- The cells of two pages, packed together.
-use Rattle.std.proofs.Common.{◌≡◌, ◌≤◌, ◌<◌, ◌+◌, ◌-◌, ◌*◌, ◌^◌, ℕ, zero, suc, false, List, [], ◌∷◌, ◌++◌, length, map, take, drop, refl, sym, ap, subst, ◌∙◌, inl, arith, slice_index_or}
+use Rattle.std.proofs.Common.{◌≡◌, ◌≤◌, ◌<◌, ◌+◌, ◌-◌, ℕ, zero, false, List, [], ◌∷◌, ◌++◌, length, map, refl, sym, ap, subst, ◌∙◌, inl, arith}
 use Rattle.std.proofs.lemmas.List.{append-nil}
 use Rattle.std.specs.Int.{w32, to_be_bytes}
 use Rattle.std.specs.Prelude.{Result, Ok, Err, MatchResult}
-use Rattle.sqlval.specs.Faults.{IsOutside}
 use Rattle.sqlval.specs.PageSizes.{IsPageSize}
 use Rattle.sqlval.specs.declared.fault.Fault.{Fault}
 use Rattle.sqlval.specs.declared.fault.Fault.TheVariants.{Memory}
 use Rattle.treepage.specs.Cells.{Pairwise}
-use Rattle.treepage.specs.Node.{Local, Node, Between, IsNode, IsBetweenCell, code_of, right_of}
-use Rattle.treepage.specs.Reading.{type_of}
-use Rattle.treepage.specs.declared.items.Kind.{Kind}
+use Rattle.treepage.specs.Node.{Local, Between, IsNode, IsBetweenCell}
 use Rattle.treepage.specs.declared.items.Kind.TheVariants.{IndexInterior}
 use Rattle.packing.specs.Building.{cell_room}
 use Rattle.packing.specs.Packing.{AreOf, Packs}
 use Rattle.packing.specs.Parts.{total}
-use Rattle.packing.specs.Splicing.{IsUsual, Joins}
+use Rattle.packing.specs.Splicing.{Joins}
 use Rattle.packing.specs.declared.spreading.Packed.{Packed}
 use Rattle.packing.proofs.Splices.{pairwise_append}
 use Rattle.forest.specs.Sides.{Side}

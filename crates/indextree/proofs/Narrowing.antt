@@ -1,11 +1,11 @@
 -- An interior page one of whose children lost an entry.
-use Rattle.std.proofs.Common.{◌≡◌, ◌≤◌, ◌<◌, ◌+◌, ℕ, zero, suc, true, List, [], ◌∷◌, length, map, refl, sym, ap, subst, ◌∙◌, ◌⊎◌, inl, inr, arith}
+use Rattle.std.proofs.Common.{◌≡◌, ◌≤◌, ◌<◌, ◌+◌, ℕ, suc, true, List, [], ◌∷◌, length, refl, sym, ap, subst, ◌∙◌, arith}
 use Rattle.std.specs.Prelude.{Result, Ok, Err, MatchResult}
 use Rattle.sqlval.specs.declared.collation.Collation.{Collation}
 use Rattle.sqlval.specs.declared.fault.Fault.{Fault}
 use Rattle.sqlval.specs.declared.fault.Fault.TheVariants.{Memory}
 use Rattle.pages.specs.Calls.{IsOutsideOrFull}
-use Rattle.pages.specs.Counting.{occurs, Moves}
+use Rattle.pages.specs.Counting.{Moves}
 use Rattle.pages.specs.Map.{PageMap, page_at, AreWhole, IsThere}
 use Rattle.pages.proofs.Moving.{in_sequence}
 use Rattle.overflow.proofs.Laying.{keeps_then}
@@ -19,7 +19,7 @@ use Rattle.forest.specs.declared.storing.Fan.{Fan}
 use Rattle.indextree.specs.Comparing.{front_count, is_less, child_at}
 use Rattle.indextree.specs.Entries.{Entry, has_entry, without_entry}
 use Rattle.indextree.specs.Freeing.{StandsUnder, below_of}
-use Rattle.indextree.specs.Growing.{IsEqualAt, IsUnder, IsPlanned, IsPut, IsWayTo, Fans, IsFanned, replaced}
+use Rattle.indextree.specs.Growing.{IsEqualAt, IsUnder, IsPlanned, IsPut, IsWayTo, Fans}
 use Rattle.indextree.specs.Joining.{JoinsAt}
 use Rattle.indextree.specs.Removing.{IsLessened, Lessens}
 use Rattle.indextree.specs.Tree.{Held, IsKidAs, Tree, top, entries_of, pages_of}
@@ -32,7 +32,7 @@ use Rattle.indextree.proofs.Growth.{IsGrown, grown, planned_after, can_store}
 use Rattle.indextree.proofs.Leaves.{usual}
 use Rattle.indextree.proofs.Orders.{count_within}
 use Rattle.indextree.proofs.Rows.{child_there}
-use Rattle.indextree.proofs.Shares.{IsAfter, after, once_after, start_after}
+use Rattle.indextree.proofs.Shares.{IsAfter, after, start_after}
 use Rattle.indextree.proofs.Subtrees.{IsTold, told, entries_between, tree_up, below_up}
 use Rattle.indextree.proofs.Widening.{full_or}
 use Rattle.indextree.proofs.Without.{without_local}

@@ -1,9 +1,9 @@
 -- Two subtrees side by side in a row.
-use Rattle.std.proofs.Common.{◌≡◌, ◌≤◌, ◌<◌, ◌+◌, ℕ, zero, suc, List, [], ◌∷◌, ◌++◌, append_assoc, length, map, slice_index_or, refl, sym, ap, subst, ◌∙◌, arith}
+use Rattle.std.proofs.Common.{◌≡◌, ◌<◌, ◌+◌, ℕ, zero, suc, List, [], ◌∷◌, ◌++◌, append_assoc, length, map, slice_index_or, refl, sym, ap, ◌∙◌, arith}
 use Rattle.std.proofs.lemmas.List.{append-nil}
 use Rattle.pages.specs.Counting.{occurs}
 use Rattle.pages.proofs.Moving.{occurs_append}
-use Rattle.forest.specs.Sides.{Side, Each, behind, children, each_of}
+use Rattle.forest.specs.Sides.{Each, children, each_of}
 use Rattle.indextree.specs.Entries.{Entry}
 use Rattle.indextree.specs.Freeing.{chains_of}
 use Rattle.indextree.specs.Joining.{tree_at, left_at, right_at, held_at, without_at}

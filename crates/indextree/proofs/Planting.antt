@@ -5,6 +5,7 @@ use Rattle.pages.specs.Map.{PageMap, page_at}
 use Rattle.pages.proofs.Moving.{occurs_append}
 use Rattle.treepage.specs.Cells.{Pairwise}
 use Rattle.treepage.specs.Node.{Local, Node, IsNode, IsBetweenCell}
+use Rattle.packing.specs.declared.spreading.Piece.{Piece}
 use Rattle.forest.specs.Saying.{Says}
 use Rattle.forest.specs.Sides.{children, each_of, Each}
 use Rattle.forest.specs.Staying.{AreKept}
@@ -184,3 +185,14 @@ module _ (m : PageMap) (size depth : ℕ) where
   plant (k ∷ fronts) n (image ∷ images) (kid ∷ kids) last (divider ∷ dividers) on tops divide =
       plant_more k fronts n image kid (entries_in depth kids last) (each_of (below_of depth) (λ (held : Held). held.pages) kids last) divider dividers on.0 tops.0 divide.0
       (plant fronts n images kids last dividers on.1 tops.1 divide.1)
+
+-- a packed page alone is the top of one subtree
+pub lone_top : (m : PageMap) (size depth : ℕ) (pieces : List Piece) (image : List ℕ) (kids : List (Tree depth × Held)) (last : Tree depth) → pieces ≡ []
+    → Pairwise (IsTop m size depth) (map (λ (piece : Piece). piece.page.items) pieces ++ image ∷ []) (all_of kids last) → (kids ≡ []) × IsTop m size depth image last
+lone_top m size depth [] image [] last none tops = (refl, tops.0)
+lone_top m size depth [] image (kid ∷ []) last none tops = absurd tops.1
+lone_top m size depth [] image (kid ∷ other ∷ kids) last none tops = absurd tops.1
+lone_top m size depth (piece ∷ pieces) image kids last none tops = absurd (no_cons none)
+  where
+    no_cons : {x : Piece} {xs : List Piece} → x ∷ xs ≡ [] → ⊥
+    no_cons e = cc

@@ -1,19 +1,17 @@
 -- An entry that is taken out of a tree, from the page at the top on.
-use Rattle.std.proofs.Common.{◌≡◌, ◌≤◌, ◌<◌, ◌+◌, ℕ, zero, suc, true, false, List, [], ◌∷◌, ◌++◌, append_assoc, length, map, slice_index_or, None, Some, refl, sym, ap, subst, ◌∙◌, arith}
-use Rattle.std.specs.Ordering.{is_eq}
+use Rattle.std.proofs.Common.{◌≡◌, ◌<◌, ◌+◌, ℕ, zero, suc, false, List, ◌∷◌, ◌++◌, append_assoc, length, map, slice_index_or, sym, ap, subst, ◌∙◌, arith}
 use Rattle.std.specs.Prelude.{Result, Ok, Err, MatchResult}
 use Rattle.sqlval.specs.declared.collation.Collation.{Collation}
 use Rattle.sqlval.specs.declared.fault.Fault.{Fault}
 use Rattle.pages.specs.Calls.{IsOutsideOrFull}
 use Rattle.pages.specs.Map.{PageMap}
 use Rattle.packing.specs.declared.spreading.Packed.{Packed}
-use Rattle.indextree.specs.Entries.{Entry, entry_cmp, AreEntries, has_entry, without_entry}
+use Rattle.indextree.specs.Entries.{Entry, AreEntries, has_entry, without_entry}
 use Rattle.indextree.specs.Freeing.{below_of}
 use Rattle.indextree.specs.Growing.{IsEqualAt, StepsFrom, IsUnder, IsPlanned, IsWayTo}
-use Rattle.indextree.specs.Joining.{tree_at, left_at, right_at, held_at, entries_around}
+use Rattle.indextree.specs.Joining.{tree_at, left_at, right_at}
 use Rattle.indextree.specs.Removing.{TakesAt, IsLessened, Lessens, Narrows, count_at, entries_cut}
 use Rattle.indextree.specs.Tree.{Held, Tree, top, entries_of}
-use Rattle.indextree.specs.declared.placing.Step.{Step}
 use Rattle.indextree.specs.declared.placing.Step.TheVariants.{Found, Here, Down}
 use Rattle.indextree.specs.declared.removing.Loss.{Loss}
 use Rattle.indextree.specs.declared.removing.Loss.TheVariants.{Still, Done, Spread}

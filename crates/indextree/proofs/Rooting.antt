@@ -40,7 +40,7 @@ use Rattle.indextree.proofs.Clearing.{top_and_below}
 use Rattle.indextree.proofs.Emptied.{large_size, standing, can_stand}
 use Rattle.indextree.proofs.Growth.{chain, pages_in, moves_top, planned_after, planned_once, number_there, number_unfree}
 use Rattle.indextree.proofs.Inserts.{still_rise}
-use Rattle.indextree.proofs.Planting.{plant, tops_kept, dividers_kept, moved_to, top_moved, entries_moved, pages_moved, lies_moved}
+use Rattle.indextree.proofs.Planting.{lone_top, plant, tops_kept, dividers_kept, moved_to, top_moved, entries_moved, pages_moved, lies_moved}
 use Rattle.indextree.proofs.Clearing.{number_far}
 use Rattle.indextree.proofs.Shares.{after, beside_used, others_kept, start_after}
 use Rattle.indextree.proofs.Subtrees.{tree_up}
@@ -160,20 +160,9 @@ module _ (old : PageMap) (size root : ℕ) (columns : List Collation) (entries :
           (in_sequence old mid new (root ∷ below_of depth tree) free (root ∷ at_parts) plan.now_free pages now_free first second)
 
     -- one page took the place of the root's
-    one_top : (new : PageMap) (pieces : List Piece) (kids : List (Tree depth × Held)) → pieces ≡ []
-        → Pairwise (IsTop new size depth) (map (λ (piece : Piece). piece.page.items) pieces ++ packed.last.items ∷ []) (all_of kids plan.last)
-        → (kids ≡ []) × IsTop new size depth packed.last.items plan.last
-    one_top new [] [] none tops = (refl, tops.0)
-    one_top new [] (kid ∷ []) none tops = absurd tops.1
-    one_top new [] (kid ∷ other ∷ kids) none tops = absurd tops.1
-    one_top new (piece ∷ pieces) kids none tops = absurd (no_cons none)
-      where
-        no_cons : {x : Piece} {xs : List Piece} → x ∷ xs ≡ [] → ⊥
-        no_cons e = cc
-
     rewritten_becomes : (new : PageMap) → packed.pieces.items ≡ [] → IsRewritten mid new size plan.now_free root packed.last.items → BecomesEntries old new size root columns all used free
     rewritten_becomes new none r =
-        let alone = one_top new packed.pieces.items plan.kids none (tops_now new (root ∷ []) plan.now_free r.moves) in
+        let alone = lone_top new size depth packed.pieces.items packed.last.items plan.kids plan.last none (tops_now new (root ∷ []) plan.now_free r.moves) in
         let t = moved_to depth root plan.last in
         let there = root_there in
         let bytes : page_at new root ≡ packed.last.items = ap (λ (m : PageMap). page_at m root) r.is ∙ put_there mid root packed.last.items there in

@@ -1,5 +1,5 @@
 -- Two interior pages side by side, where other subtrees stand in place of the last child of the first and the first child of the second.
-use Rattle.std.proofs.Common.{◌≡◌, ◌≤◌, ◌<◌, ◌+◌, ◌-◌, ◌*◌, ◌^◌, ℕ, zero, suc, false, List, [], ◌∷◌, ◌++◌, append_assoc, length, map, refl, sym, ap, subst, ◌∙◌, inl, arith}
+use Rattle.std.proofs.Common.{◌≡◌, ◌≤◌, ◌<◌, ◌+◌, ℕ, zero, suc, false, List, [], ◌∷◌, ◌++◌, append_assoc, length, refl, sym, ap, subst, ◌∙◌, arith}
 use Rattle.std.proofs.lemmas.List.{append-nil}
 use Rattle.std.specs.List.{AllByRecursion}
 use Rattle.std.specs.Prelude.{Result, Ok, Err, MatchResult}
@@ -8,10 +8,10 @@ use Rattle.sqlval.specs.declared.fault.Fault.{Fault}
 use Rattle.pages.specs.Calls.{IsOutsideOrFull}
 use Rattle.pages.specs.Counting.{occurs, Moves}
 use Rattle.pages.specs.Laws.{IsJoined}
-use Rattle.pages.specs.Map.{PageMap, page_at, AreWhole, Has}
+use Rattle.pages.specs.Map.{PageMap, AreWhole, Has}
 use Rattle.pages.proofs.Moving.{occurs_append}
 use Rattle.treepage.specs.Cells.{Pairwise}
-use Rattle.treepage.specs.Node.{Local, Between, IsBetweenCell}
+use Rattle.treepage.specs.Node.{Local, Between}
 use Rattle.packing.specs.declared.spreading.Packed.{Packed}
 use Rattle.forest.specs.Saying.{Says}
 use Rattle.forest.specs.Sides.{Side, Each, children, each_of}
@@ -32,7 +32,7 @@ use Rattle.indextree.proofs.Pairs.{one}
 use Rattle.indextree.proofs.Rows.{row_gives, row_split, seen, seen_row, pair_row, holds_at, row_kept, pages_among}
 use Rattle.indextree.proofs.Shares.{AreUpTo, beside_used, others_kept, after_first, up_append}
 use Rattle.indextree.proofs.Staying.{lies_kept}
-use Rattle.indextree.proofs.Subtrees.{entries_between, row_pages, pages_split, top_there, tree_up, below_up}
+use Rattle.indextree.proofs.Subtrees.{entries_between, row_pages, pages_split, top_there, below_up}
 use Rattle.indextree.proofs.Tops.{branch_tops, planned_by}
 use Rattle.indextree.proofs.Widening.{full_or}
 

@@ -100,7 +100,7 @@ row_pages pages n (kid ∷ kids) last =
 
 -- ---- the pages of a tree are there
 
-entries_up : (m : PageMap) (size : ℕ) (said : List Local) (entries : List Held) → Pairwise (IsHeldAs m size) said entries → AreUpTo (length m) (chains_of entries)
+pub entries_up : (m : PageMap) (size : ℕ) (said : List Local) (entries : List Held) → Pairwise (IsHeldAs m size) said entries → AreUpTo (length m) (chains_of entries)
 entries_up m size [] [] all = up_none (length m)
 entries_up m size [] (held ∷ entries) all = absurd all
 entries_up m size (it ∷ said) [] all = absurd all

@@ -1,14 +1,14 @@
 -- An entry whose overflow pages are given back, and a leaf without it.
-use Rattle.std.proofs.Common.{◌≡◌, ◌≤◌, ◌<◌, ◌+◌, ◌-◌, ◌==◌, ℕ, zero, suc, List, [], ◌∷◌, ◌++◌, length, map, slice_index_or, refl, sym, ap, subst, ◌∙◌, inl, arith}
+use Rattle.std.proofs.Common.{◌≡◌, ◌≤◌, ◌<◌, ◌+◌, ◌-◌, ◌==◌, ℕ, zero, suc, List, [], ◌∷◌, length, slice_index_or, refl, sym, ap, subst, inl, arith}
 use Rattle.std.specs.Prelude.{⊤, Result, Ok, Err, MatchResult}
 use Rattle.sqlval.specs.Faults.{IsOutside}
 use Rattle.sqlval.specs.PageSizes.{IsPageSize}
 use Rattle.sqlval.specs.declared.fault.Fault.{Fault}
-use Rattle.pages.specs.Counting.{occurs, Moves}
+use Rattle.pages.specs.Counting.{occurs}
 use Rattle.pages.specs.Map.{PageMap, page_at, AreWhole, IsThere}
 use Rattle.pages.proofs.Moving.{occurs_append}
 use Rattle.treepage.specs.Cells.{Pairwise}
-use Rattle.treepage.specs.Node.{Local, Node, Entries, IsNode, IsEntryCell}
+use Rattle.treepage.specs.Node.{Local, Entries, IsNode, IsEntryCell}
 use Rattle.treepage.specs.declared.items.Kind.TheVariants.{IndexLeaf}
 use Rattle.treepage.proofs.HeaderLemmas.{same_length}
 use Rattle.packing.specs.Building.{cell_room}
@@ -36,7 +36,7 @@ use Rattle.indextree.proofs.Readings.{said_there}
 use Rattle.packing.proofs.Rooms.{cells_fit}
 use Rattle.indextree.proofs.Shares.{beside_used, others_kept, start_after}
 use Rattle.indextree.proofs.Staying.{entries_kept}
-use Rattle.indextree.proofs.Subtrees.{entries_at, entries_between, told, row_pages}
+use Rattle.indextree.proofs.Subtrees.{entries_at, told, row_pages}
 use Rattle.indextree.proofs.Sums.{room_swapped}
 use Rattle.indextree.proofs.Tops.{leaf_tops, planned_by}
 

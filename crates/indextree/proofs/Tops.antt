@@ -1,10 +1,10 @@
 -- Packed pages as the tops of subtrees.
-use Rattle.std.proofs.Common.{◌≡◌, ◌≤◌, ◌<◌, ◌+◌, ◌-◌, ◌*◌, ℕ, zero, suc, Bool, false, List, [], ◌∷◌, ◌++◌, length, map, refl, sym, ap, subst, ◌∙◌, arith}
+use Rattle.std.proofs.Common.{◌≡◌, ◌≤◌, ℕ, zero, suc, Bool, List, [], ◌∷◌, length, map, sym, ap, subst, ◌∙◌, arith}
 use Rattle.std.proofs.lemmas.List.{length-map}
 use Rattle.std.specs.List.{AllByRecursion}
 use Rattle.pages.specs.Counting.{occurs, Moves}
 use Rattle.pages.specs.Map.{PageMap}
-use Rattle.freelist.specs.Calls.{AreFree, HasFree, KeepsHeader}
+use Rattle.freelist.specs.Calls.{HasFree, KeepsHeader}
 use Rattle.treepage.specs.Cells.{Pairwise}
 use Rattle.treepage.specs.Node.{Local, Entries, Between, IsNode, IsEntryCell}
 use Rattle.treepage.specs.declared.items.Kind.TheVariants.{IndexLeaf, IndexInterior}

@@ -1,5 +1,5 @@
 -- An interior page two of whose children give way to others.
-use Rattle.std.proofs.Common.{◌≡◌, ◌≤◌, ◌<◌, ◌+◌, ◌^◌, ℕ, zero, suc, List, [], ◌∷◌, ◌++◌, length, map, refl, sym, ap, subst, ◌∙◌, ◌⊎◌, inl, inr, arith}
+use Rattle.std.proofs.Common.{◌≡◌, ◌≤◌, ◌<◌, ◌+◌, ℕ, suc, List, [], ◌∷◌, ◌++◌, length, refl, sym, ap, subst, ◌∙◌, arith}
 use Rattle.std.specs.List.{AllByRecursion}
 use Rattle.std.specs.Prelude.{Result, Ok, Err, MatchResult}
 use Rattle.sqlval.specs.PageSizes.{IsPageSize}
@@ -21,22 +21,21 @@ use Rattle.forest.specs.Staying.{AreKept}
 use Rattle.forest.specs.Storing.{IsStored, Stores, cells_of}
 use Rattle.forest.specs.declared.storing.Fan.{Fan}
 use Rattle.forest.proofs.Staying.{kept_of, says_kept, occurs_here}
-use Rattle.indextree.specs.Comparing.{child_at}
 use Rattle.indextree.specs.Entries.{Entry}
 use Rattle.indextree.specs.Freeing.{StandsUnder, chains_of, below_of}
 use Rattle.indextree.specs.Growing.{replaced, IsFanned, IsPlanned, entries_in}
 use Rattle.indextree.specs.Joining.{tree_at, left_at, right_at, held_at, without_at, entries_around, pair_below, AreBeside, FansTwo}
 use Rattle.indextree.specs.Tree.{Held, IsKidAs, Tree, top, entries_of, pages_of, Lies}
 use Rattle.indextree.proofs.Branches.{kids_kept}
-use Rattle.indextree.proofs.Clearing.{number_far, top_and_below}
+use Rattle.indextree.proofs.Clearing.{number_far}
 use Rattle.indextree.proofs.Emptied.{large_size}
 use Rattle.indextree.proofs.Grown.{can_store_all, grown_after, grown_all}
 use Rattle.indextree.proofs.Growth.{IsGrown, chain, pages_in}
 use Rattle.indextree.proofs.Leaves.{usual}
 use Rattle.indextree.proofs.OneLess.{pairwise_without}
-use Rattle.indextree.proofs.Pairs.{one, left_same, right_same, children_without, each_without, pair_pages, pair_entries}
-use Rattle.indextree.proofs.Rows.{row_gives, seen, seen_row, pair_row, child_there, holds_at, row_kept, pages_among, row_split}
-use Rattle.indextree.proofs.Shares.{AreUpTo, beside_used, others_kept, start_after, after_first, up_append}
+use Rattle.indextree.proofs.Pairs.{one, left_same, right_same, children_without, each_without, pair_pages}
+use Rattle.indextree.proofs.Rows.{row_gives, seen, seen_row, pair_row, holds_at, row_kept, pages_among, row_split}
+use Rattle.indextree.proofs.Shares.{AreUpTo, beside_used, others_kept, start_after, after_first}
 use Rattle.indextree.proofs.Staying.{lies_kept}
 use Rattle.indextree.proofs.Subtrees.{entries_between, row_pages, pages_split, top_there, below_up}
 use Rattle.indextree.proofs.Tops.{branch_tops, planned_by}

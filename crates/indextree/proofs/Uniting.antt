@@ -1,5 +1,5 @@
 -- Two trees side by side that are joined along their seam.
-use Rattle.std.proofs.Common.{◌≡◌, ℕ, zero, suc, List, [], ◌∷◌, ◌++◌, refl, sym, subst, ◌∙◌}
+use Rattle.std.proofs.Common.{◌≡◌, ℕ, zero, suc, List, [], ◌∷◌, sym, subst, ◌∙◌}
 use Rattle.std.specs.Prelude.{Result, Ok, Err, MatchResult}
 use Rattle.sqlval.specs.Faults.{IsOutside}
 use Rattle.sqlval.specs.declared.fault.Fault.{Fault}
@@ -10,8 +10,8 @@ use Rattle.forest.specs.Storing.{IsStored, Stores}
 use Rattle.forest.specs.declared.storing.Fan.{Fan}
 use Rattle.indextree.specs.Growing.{IsPlanned}
 use Rattle.indextree.specs.Joining.{AreBeside, Unites, FindsKid, FindsLastKid}
-use Rattle.indextree.specs.Tree.{Tree, top, entries_of}
-use Rattle.indextree.proofs.Beside.{left_says, right_says, said_left, said_right}
+use Rattle.indextree.specs.Tree.{Tree, top}
+use Rattle.indextree.proofs.Beside.{right_says, said_left, said_right}
 use Rattle.indextree.proofs.Rows.{child_there}
 use Rattle.indextree.proofs.Seams.{first_tree, tops_in, belows_in, joined_entries, inner_beside, store_in}
 use Rattle.indextree.proofs.Spreading.{stores_two}

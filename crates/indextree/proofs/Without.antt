@@ -1,9 +1,9 @@
 -- Entries without one.
-use Rattle.std.proofs.Common.{◌≡◌, refl, sym, ◌∙◌, ap, subst, ℕ, zero, suc, ◌<◌, ◌+◌, Bool, true, false, not, ◌&&◌, cond, List, [], ◌∷◌, ◌++◌, length, map, filter, slice_index_or, if◌then◌else◌, arith}
+use Rattle.std.proofs.Common.{◌≡◌, refl, sym, ◌∙◌, ap, subst, ℕ, zero, suc, ◌+◌, Bool, true, false, not, ◌&&◌, cond, List, [], ◌∷◌, ◌++◌, length, map, arith}
 use Rattle.std.proofs.lemmas.List.{append-nil}
 use Rattle.std.proofs.lemmas.List.Elements.{filter-append}
 use Rattle.std.specs.List.{AllByRecursion}
-use Rattle.std.specs.Ordering.{is_lt, is_eq, is_gt}
+use Rattle.std.specs.Ordering.{is_lt, is_eq}
 use Rattle.sqlval.specs.Lists.{is_rising}
 use Rattle.sqlval.specs.declared.collation.Collation.{Collation}
 use Rattle.indextree.specs.Entries.{Entry, entry_cmp, AreEntries, without_entry}
@@ -11,7 +11,7 @@ use Rattle.indextree.specs.Growing.{IsEqualAt}
 use Rattle.indextree.specs.Joining.{without_at}
 use Rattle.indextree.specs.Tree.{Held}
 use Rattle.indextree.proofs.Branches.{IsLocalTo}
-use Rattle.indextree.proofs.Inserts.{gt_not_eq, lt_not_eq, entries_part, nothing, by_bool}
+use Rattle.indextree.proofs.Inserts.{gt_not_eq, lt_not_eq, entries_part, nothing}
 use Rattle.indextree.proofs.Orders.{greater, not_less, not_less_first, after_equal}
 
 true_false : true ≡ false → ⊥

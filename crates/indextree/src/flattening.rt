@@ -22,7 +22,7 @@ use treepage::{Kind, TreePage};
 
 /// So many levels of interior pages at most stand between a root and its leaves: a page number has 32 bits, and each level has at most a
 /// fourth as many pages as that below it, and one more.
-const LEVELS: u32 = 15;
+pub(crate) const LEVELS: u32 = 15;
 
 // ---- the children of pages side by side
 
@@ -186,7 +186,7 @@ fn gathered<P: WritePages>(alloc: Global, pages: &mut P, fan: &Fan) -> R<Fan>
     ensures causes { Causes result (P.Pages.failures pages.old) (P.Pages.failures pages.new)
         (P.Pages.count pages.new ≡ (P.Pages.limits (P.Pages.below pages.new)).most) }
 {
-    let cells = cells_in(alloc, fan)?;
+    let cells = cells_in(alloc, fan.cells.as_slice())?;
     let packed = pack(
         alloc,
         &[],
@@ -204,14 +204,14 @@ fn fits_root(alloc: Global, page_size: usize, root: u32, fan: &Fan) -> R<bool>
     ensures fits { IfOk result (λ fit. IsTrue fit ↔ Fits page_size (counting.start_of root) 4 (cells_of fan.now)) }
     ensures refused { IfErr result (λ fault. fault ≡ Fault.Memory) }
 {
-    let cells = cells_in(alloc, fan)?;
+    let cells = cells_in(alloc, fan.cells.as_slice())?;
     let start = start_of(root);
     Ok(fits(page_size, start, Kind::IndexInterior, cells.as_slice()))
 }
 
 /// Makes a root the top of a tree over the pages of a fan, with as many levels between as `levels` at most. (`Damaged(Depth, root)` if
 /// more are needed; what `gathered` and `raise` refuse.)
-fn build_over<P: WritePages>(
+pub(crate) fn build_over<P: WritePages>(
     alloc: Global,
     pages: &mut P,
     root: u32,

@@ -72,16 +72,16 @@ pub(crate) fn parent_cell(alloc: Global, cell: &[u8], child: u32) -> R<Vec<u8>>
     Ok(moved)
 }
 
-/// The cells of a fan.
-pub(crate) fn cells_in<'a>(alloc: Global, fan: &'a Fan) -> R<Vec<&'a [u8]>>
-    ensures cells { IfOk result (λ cells. map (λ cell. cell.now) cells.items ≡ cells_of fan.now) }
+/// The bytes of cells, without copies.
+pub(crate) fn cells_in<'a>(alloc: Global, cells: &'a [Vec<u8>]) -> R<Vec<&'a [u8]>>
+    ensures cells { IfOk result (λ lent. map (λ cell. cell.now) lent.items ≡ map (λ cell. cell.items) cells.now) }
     ensures refused { IfErr result (λ fault. fault ≡ Fault.Memory) }
 {
-    let mut cells = Vec::with_capacity(alloc, fan.cells.len())?;
-    'cells: for cell in fan.cells.as_slice() {
-        cells.push(cell.as_slice())?;
+    let mut lent = Vec::with_capacity(alloc, cells.len())?;
+    'cells: for cell in cells {
+        lent.push(cell.as_slice())?;
     }
-    Ok(cells)
+    Ok(lent)
 }
 
 /// The pages that an interior page gives way to when a fan stands in place of the child at a place of it.
@@ -91,11 +91,11 @@ pub(crate) fn fanned(alloc: Global, page: &[u8], place: usize, fan: &Fan) -> R<P
 {
     let node = TreePage::over(page, 0)?;
     if place >= node.len() {
-        let cells = cells_in(alloc, fan)?;
+        let cells = cells_in(alloc, fan.cells.as_slice())?;
         return splice(alloc, page, 0, place, 0, cells.as_slice(), Some(fan.last));
     }
     let moved = parent_cell(alloc, node.cell(place)?, fan.last)?;
-    let mut cells = cells_in(alloc, fan)?;
+    let mut cells = cells_in(alloc, fan.cells.as_slice())?;
     cells.push(moved.as_slice())?;
     splice(
         alloc,

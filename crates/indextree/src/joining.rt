@@ -87,7 +87,7 @@ fn seamed<P: Pages>(alloc: Global, pages: &mut P, left: u32, fan: &Fan, right: u
         last: fan.last,
     };
     let other = fanned(alloc, pages.loaded(), 0, &alone)?;
-    let cells = cells_in(alloc, fan)?;
+    let cells = cells_in(alloc, fan.cells.as_slice())?;
     pages.load(left)?;
     join(
         alloc,

@@ -1,4 +1,4 @@
-use Rattle.std.proofs.Common.{rules, ◌≡◌, List, inl, sym, subst, map, IsTrue}
+use Rattle.std.proofs.Common.{rules, ◌≡◌, List, sym, subst, IsTrue}
 use Rattle.pages.specs.Map.{PageMap}
 use Rattle.indextree.specs.Entries.{Entry}
 use Rattle.indextree.specs.Filling.{FillsTree}
@@ -12,13 +12,6 @@ returns-in_err-entries-clause-made g c = λ told.
     not_made (p.map old) _ (p.limits (p.below old)).page c.args.table c.args.columns.now c.in_err-entries.field-0.0 c.from_residual.result c.from_residual.ensures.1
     (λ rows free free_are has. c.in_err-entries.ensures.sorted told rows free_are.whole has))
 
-pub returns-in_err-collations-clause-made : goal.returns-in_err-collations-clause-made
-returns-in_err-collations-clause-made g c = λ told.
-    (let p = g.P.Pages in
-    let old = c.args.pages.now in
-    not_made (p.map old) _ (p.limits (p.below old)).page c.args.table c.args.columns.now c.in_err-collations.field-0.0 c.from_residual-in_err-collations.result c.from_residual-in_err-collations.ensures.1
-    (λ rows free free_are has. inl c.in_err-collations.ensures.refused))
-
 pub returns-clause-made : goal.returns-clause-made
 returns-clause-made g c = λ told.
     (let p = g.P.Pages in
@@ -26,10 +19,9 @@ returns-clause-made g c = λ told.
     let mid = c.sorted_entries.new.pages in
     let new = p.map c.fill_tree.new.pages in
     let stays = c.in_ok-entries.ensures.stays in
-    let them : c.as_slice.result.now ≡ map (λ column. column.collation) c.args.columns.now = search rules in
-    let entries : c.as_slice-2.result.now ≡ c.in_ok-entries.entries = search rules in
+    let entries : c.as_slice.result.now ≡ c.in_ok-entries.entries = search rules in
     let fills = c.fill_tree.ensures.filled (subst (λ k. IsTrue (p.tells k)) (sym stays.kept) told) in
-    let here = subst (λ (m : PageMap). FillsTree m new (p.limits (p.below old)).page c.as_slice.result.now c.as_slice-2.result.now c.fill_tree.result) stays.same
-    (subst (λ k. FillsTree (p.map mid) new (p.limits k).page c.as_slice.result.now c.as_slice-2.result.now c.fill_tree.result) stays.kept fills) in
-    index_made (p.map old) new (p.limits (p.below old)).page c.args.table c.args.columns.now c.as_slice.result.now c.in_ok-entries.entries c.fill_tree.result them (c.in_ok-entries.ensures.sorted told)
-    (subst (λ (l : List Entry). FillsTree (p.map old) new (p.limits (p.below old)).page c.as_slice.result.now l c.fill_tree.result) entries here))
+    let here = subst (λ (m : PageMap). FillsTree m new (p.limits (p.below old)).page c.as_slice.result.now c.fill_tree.result) stays.same
+    (subst (λ k. FillsTree (p.map mid) new (p.limits k).page c.as_slice.result.now c.fill_tree.result) stays.kept fills) in
+    index_made (p.map old) new (p.limits (p.below old)).page c.args.table c.args.columns.now c.in_ok-entries.entries c.fill_tree.result (c.in_ok-entries.ensures.sorted told)
+    (subst (λ (l : List Entry). FillsTree (p.map old) new (p.limits (p.below old)).page l c.fill_tree.result) entries here))

@@ -1,67 +1,58 @@
-use Rattle.std.proofs.Common.{rules, ◌≡◌, ◌<◌, ◌∙◌, ℕ, Bool, inl, length, slice_index_or, Ok, Err, subst, arith}
-use Rattle.indextree.specs.Calls.{InsertsEntry}
-use Rattle.indextree.proofs.Fillings.{does_since, fill_begins, fill_more, fill_there, fill_stops, refused_as}
+use Rattle.std.proofs.Common.{◌∙◌, ℕ, List, map, Ok, Err, ap, inl, subst}
+use Rattle.std.specs.Global.{Vec}
+use Rattle.indextree.specs.Filling.{MakesCells, PlantsLeaves}
+use Rattle.indextree.proofs.Fillings.{does_since, refused_as, are_ready, tree_filled}
 use Rattle.indextree.proofs.filling.fill_tree.Goals as goal
 
 pub returns-in_err-root-clause-filled : goal.returns-in_err-root-clause-filled
-returns-in_err-root-clause-filled g c = λ told free free_are sized are.
-    refused_as c.args.entries.now _ c.from_residual.result c.in_err-root.field-0.0 c.from_residual.ensures.1 (inl (c.in_err-root.ensures.made told c.args.columns.now free free_are sized))
+returns-in_err-root-clause-filled g c = λ told columns free free_are sized are.
+    refused_as c.args.entries.now _ c.from_residual.result c.in_err-root.field-0.0 c.from_residual.ensures.1 (inl (c.in_err-root.ensures.made told columns free free_are sized))
 
-pub entries-init : goal.entries-init
-entries-init g c =
-    let p = g.P.Pages in
-    let old = c.args.pages.now in
-    record {
-      kept = c.in_ok-root.ensures.kept;
-      causes = search rules;
-      filled = λ told free free_are sized are. (
-          fill_begins (p.map old) (p.map c.new_tree.new.pages) (p.limits (p.below old)).page c.args.columns.now free c.in_ok-root.root (c.in_ok-root.ensures.made told c.args.columns.now free free_are sized));
-    }
-
-pub returns-in_err-insert-clause-filled : goal.returns-in_err-insert-clause-filled
-returns-in_err-insert-clause-filled g c = λ told free free_are sized are.
+pub returns-in_err-cells-clause-filled : goal.returns-in_err-cells-clause-filled
+returns-in_err-cells-clause-filled g c = λ told columns free free_are sized are.
     (let p = g.P.Pages in
     let old = c.args.pages.now in
-    let mid = c.entries.pages in
-    let size = (p.limits (p.below old)).page in
-    let y = c.as_slice.result.now in
-    let lt : c.entries.index < length c.args.entries.now = omega (arith, c.entries-test.true) in
-    let there : y ≡ slice_index_or c.args.entries.now c.entries.index y = search rules in
-    let does = does_since p.below p.tells p.limits old mid (λ (n : ℕ). InsertsEntry (p.map mid) (p.map c.insert.new.pages) n c.in_ok-root.root c.args.columns.now y (Err c.in_err-insert.field-0.0)) c.entries.invariant.kept
-    c.in_err-insert.ensures.inserted told in
-    refused_as c.args.entries.now _ c.from_residual-in_err-insert.result c.in_err-insert.field-0.0 c.from_residual-in_err-insert.ensures.1
-    (fill_stops (p.map old) (p.map mid) (p.map c.insert.new.pages) size c.in_ok-root.root c.args.columns.now c.args.entries.now c.entries.index y lt there free are (c.entries.invariant.filled told free free_are sized are)
-    c.in_err-insert.field-0.0 does))
+    let mid = c.new_tree.new.pages in
+    let t = c.in_ok-root.ensures.made told columns free free_are sized in
+    let makes = does_since p.below p.tells p.limits old mid (λ (n : ℕ). MakesCells (λ (made : Vec (Vec ℕ)). map (λ (cell : Vec ℕ). cell.items) made.items) (p.map mid) (p.map c.cells_for.new.pages) n c.args.entries.now (Err c.in_err-cells.field-0.0))
+    c.in_ok-root.ensures.kept c.in_err-cells.ensures.made told in
+    refused_as c.args.entries.now _ c.from_residual-in_err-cells.result c.in_err-cells.field-0.0 c.from_residual-in_err-cells.ensures.1 (makes t.now_free t.stands.free_are sized))
 
-pub returns-then-not-branch-clause-filled : goal.returns-then-not-branch-clause-filled
-returns-then-not-branch-clause-filled g c = λ told free free_are sized are.
+pub returns-in_err-plant-clause-filled : goal.returns-in_err-plant-clause-filled
+returns-in_err-plant-clause-filled g c = λ told columns free free_are sized are.
     (let p = g.P.Pages in
     let old = c.args.pages.now in
-    let mid = c.entries.pages in
+    let mid = c.new_tree.new.pages in
+    let next = c.cells_for.new.pages in
     let size = (p.limits (p.below old)).page in
-    let y = c.as_slice.result.now in
-    let lt : c.entries.index < length c.args.entries.now = omega (arith, c.entries-test.true) in
-    let there : y ≡ slice_index_or c.args.entries.now c.entries.index y = search rules in
-    let does = does_since p.below p.tells p.limits old mid (λ (n : ℕ). InsertsEntry (p.map mid) (p.map c.insert.new.pages) n c.in_ok-root.root c.args.columns.now y (Ok c.in_ok-insert.field-0)) c.entries.invariant.kept
-    c.in_ok-insert.ensures.inserted told in
-    absurd (fill_there (p.map old) (p.map mid) (p.map c.insert.new.pages) size c.in_ok-root.root c.args.columns.now c.args.entries.now c.entries.index y lt there free are (c.entries.invariant.filled told free free_are sized are)
-    (subst (λ (b : Bool). InsertsEntry (p.map mid) (p.map c.insert.new.pages) size c.in_ok-root.root c.args.columns.now y (Ok b)) c.if-not-branch.true does)))
+    let entries = c.args.entries.now in
+    let cells = map (λ (cell : Vec ℕ). cell.items) c.in_ok-cells.cells.items in
+    let t = c.in_ok-root.ensures.made told columns free free_are sized in
+    let makes = does_since p.below p.tells p.limits old mid (λ (n : ℕ). MakesCells (λ (made : Vec (Vec ℕ)). map (λ (cell : Vec ℕ). cell.items) made.items) (p.map mid) (p.map next) n entries (Ok c.in_ok-cells.cells))
+    c.in_ok-root.ensures.kept c.in_ok-cells.ensures.made told in
+    let a = makes t.now_free t.stands.free_are sized in
+    let plants = does_since p.below p.tells p.limits old next (λ (n : ℕ). PlantsLeaves (p.map next) (p.map c.plant.new.pages) n c.in_ok-root.root (map (λ (cell : Vec ℕ). cell.items) c.as_slice.result.now) (Err c.in_err-plant.field-0.0))
+    (c.in_ok-cells.ensures.kept ∙ c.in_ok-root.ensures.kept) c.in_err-plant.ensures.planted told in
+    let here = subst (λ (cs : List (List ℕ)). PlantsLeaves (p.map next) (p.map c.plant.new.pages) size c.in_ok-root.root cs (Err c.in_err-plant.field-0.0)) (ap (map (λ (cell : Vec ℕ). cell.items)) c.as_slice.ensures.value) plants in
+    refused_as entries _ c.from_residual-in_err-plant.result c.in_err-plant.field-0.0 c.from_residual-in_err-plant.ensures.1
+    (inl (here entries _ a.now_free (are_ready (p.map old) (p.map mid) (p.map next) size c.in_ok-root.root columns entries free cells free_are sized t a))))
 
-pub entries-preserved : goal.entries-preserved
-entries-preserved g c =
-    let p = g.P.Pages in
+pub returns-clause-filled : goal.returns-clause-filled
+returns-clause-filled g c = λ told columns free free_are sized are.
+    (let p = g.P.Pages in
     let old = c.args.pages.now in
-    let mid = c.entries.pages in
+    let mid = c.new_tree.new.pages in
+    let next = c.cells_for.new.pages in
+    let new = c.plant.new.pages in
     let size = (p.limits (p.below old)).page in
-    let y = c.as_slice.result.now in
-    let lt : c.entries.index < length c.args.entries.now = omega (arith, c.entries-test.true) in
-    let there : y ≡ slice_index_or c.args.entries.now c.entries.index y = search rules in
-    record {
-      kept = c.in_ok-insert.ensures.kept ∙ c.entries.invariant.kept;
-      causes = search rules;
-      filled = λ told free free_are sized are. (
-          let does = does_since p.below p.tells p.limits old mid (λ (n : ℕ). InsertsEntry (p.map mid) (p.map c.insert.new.pages) n c.in_ok-root.root c.args.columns.now y (Ok c.in_ok-insert.field-0)) c.entries.invariant.kept
-          c.in_ok-insert.ensures.inserted told in
-          fill_more (p.map old) (p.map mid) (p.map c.insert.new.pages) size c.in_ok-root.root c.args.columns.now c.args.entries.now c.entries.index y lt there free are (c.entries.invariant.filled told free free_are sized are)
-          (subst (λ (b : Bool). InsertsEntry (p.map mid) (p.map c.insert.new.pages) size c.in_ok-root.root c.args.columns.now y (Ok b)) c.if-not-branch.false does));
-    }
+    let entries = c.args.entries.now in
+    let cells = map (λ (cell : Vec ℕ). cell.items) c.in_ok-cells.cells.items in
+    let t = c.in_ok-root.ensures.made told columns free free_are sized in
+    let makes = does_since p.below p.tells p.limits old mid (λ (n : ℕ). MakesCells (λ (made : Vec (Vec ℕ)). map (λ (cell : Vec ℕ). cell.items) made.items) (p.map mid) (p.map next) n entries (Ok c.in_ok-cells.cells))
+    c.in_ok-root.ensures.kept c.in_ok-cells.ensures.made told in
+    let a = makes t.now_free t.stands.free_are sized in
+    let plants = does_since p.below p.tells p.limits old next (λ (n : ℕ). PlantsLeaves (p.map next) (p.map new) n c.in_ok-root.root (map (λ (cell : Vec ℕ). cell.items) c.as_slice.result.now) (Ok tt))
+    (c.in_ok-cells.ensures.kept ∙ c.in_ok-root.ensures.kept) c.in_ok-plant.ensures.planted told in
+    let here = subst (λ (cs : List (List ℕ)). PlantsLeaves (p.map next) (p.map new) size c.in_ok-root.root cs (Ok tt)) (ap (map (λ (cell : Vec ℕ). cell.items)) c.as_slice.ensures.value) plants in
+    tree_filled (p.map old) (p.map mid) (p.map next) size c.in_ok-root.root columns entries free cells free_are sized t a (p.map new) are
+    (here entries _ a.now_free (are_ready (p.map old) (p.map mid) (p.map next) size c.in_ok-root.root columns entries free cells free_are sized t a)))

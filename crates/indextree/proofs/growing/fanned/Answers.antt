@@ -20,7 +20,7 @@ pub returns-then-place-len-clause-fans : goal.returns-then-place-len-clause-fans
 returns-then-place-len-clause-fans c = λ said news last is usual le near pair few.
     (let here = subst (λ (page : Place). IsNode page.bytes page.start (Between said last)) (sym c.in_ok-node.ensures.place) is in
     let long = c.len.ensures (Between said last) here in
-    let cells = ap (map (λ cell. cell.now)) c.as_slice.ensures.value ∙ c.in_ok-cells.ensures.cells in
+    let cells = ap (map (λ cell. cell.now)) c.as_slice-then-place-len.ensures.value ∙ c.in_ok-cells.ensures.cells ∙ ap (map (λ cell. cell.items)) c.as_slice.ensures.value in
     fan_last c.args.page.now c.args.place c.args.fan.now said news last is usual pair near few (omega (arith, long, le, c.if-place-len.true)) c.splice.result
     (subst (λ (news : List (List ℕ)). Splices c.args.page.now 0 c.args.place 0 news (to_be_bytes w32 c.args.fan.now.last) c.splice.result) cells c.splice.ensures.spliced))
 
@@ -47,9 +47,9 @@ returns-clause-fans c = λ said news last is usual le near pair few.
     let lt : c.args.place < length said = omega (arith, long, c.if-place-len.false) in
     let cell = cell_on c.in_ok-node.node c.args.page.now 0 c.args.place c.in_ok-cell.field-0.now c.in_ok-node.ensures.place c.in_ok-cell.ensures.only (Between said last) is lt in
     let moved = c.in_ok-moved.ensures.parents (length c.args.page.now) (slice_index_or said c.args.place nothing) (cell_at c.args.page.now c.args.place said last nothing is c.in_ok-cell.field-0.now cell lt) in
-    let pushed : map (λ cell. cell.now) c.as_slice-3.result.now ≡ cells_of c.args.fan.now ++ c.in_ok-moved.moved.items ∷ [] = (
-    ap (map (λ cell. cell.now)) (c.as_slice-3.ensures.value ∙ c.in_ok-push.ensures.items) ∙ map-append (λ cell. cell.now) c.in_ok-cells-2.cells.items (c.as_slice-2.result ∷ [])
-    ∙ ap (λ xs. xs ++ c.as_slice-2.result.now ∷ []) c.in_ok-cells-2.ensures.cells ∙ ap (λ x. cells_of c.args.fan.now ++ x ∷ []) c.as_slice-2.ensures.value) in
+    let pushed : map (λ cell. cell.now) c.as_slice-4.result.now ≡ cells_of c.args.fan.now ++ c.in_ok-moved.moved.items ∷ [] = (
+    ap (map (λ cell. cell.now)) (c.as_slice-4.ensures.value ∙ c.in_ok-push.ensures.items) ∙ map-append (λ cell. cell.now) c.in_ok-cells-2.cells.items (c.as_slice-3.result ∷ [])
+    ∙ ap (λ xs. xs ++ c.as_slice-3.result.now ∷ []) (c.in_ok-cells-2.ensures.cells ∙ ap (map (λ cell. cell.items)) c.as_slice-2.ensures.value) ∙ ap (λ x. cells_of c.args.fan.now ++ x ∷ []) c.as_slice-3.ensures.value) in
     let right : right_bytes c.last_child.result ≡ to_be_bytes w32 last = ap (λ (r : Option ℕ). right_bytes r) (c.last_child.ensures (Between said last) here) in
     fan_mid c.args.page.now c.args.place c.args.fan.now said news last is usual pair near few nothing c.in_ok-moved.moved.items lt moved.0 (moved.1 ∙ ap length cell) is.say.1 c.splice-2.result
     (subst (λ (bytes : List ℕ). Splices c.args.page.now 0 c.args.place 1 (cells_of c.args.fan.now ++ c.in_ok-moved.moved.items ∷ []) bytes c.splice-2.result) right

@@ -1,9 +1,9 @@
-use Rattle.std.proofs.Common.{◌≡◌, ◌-◌, ◌∙◌, ◌++◌, ℕ, zero, suc, List, [], ◌∷◌, IsTrue, Ok, Err, sym, subst, arith}
+use Rattle.std.proofs.Common.{◌≡◌, ◌-◌, ◌∙◌, ◌++◌, ℕ, zero, suc, [], ◌∷◌, IsTrue, Ok, Err, sym, subst, arith}
 use Rattle.pages.specs.Map.{PageMap}
 use Rattle.forest.specs.Storing.{Stores}
 use Rattle.indextree.specs.Freeing.{below_of}
 use Rattle.indextree.specs.Growing.{IsPlanned}
-use Rattle.indextree.specs.Joining.{Unites, FindsKid, FindsLastKid, Seams}
+use Rattle.indextree.specs.Joining.{Unites, FindsKid, Seams}
 use Rattle.indextree.specs.Tree.{entries_of}
 use Rattle.indextree.proofs.Beside.{left_there, right_there, unites_leaves}
 use Rattle.indextree.proofs.Readings.{full_err, outside_full, since}

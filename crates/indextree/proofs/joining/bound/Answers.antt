@@ -1,8 +1,7 @@
-use Rattle.std.proofs.Common.{rules, ◌≡◌, ◌-◌, ◌∙◌, ◌++◌, ℕ, zero, suc, List, [], ◌∷◌, IsTrue, Ok, Err, sym, ap, subst, arith, inl}
+use Rattle.std.proofs.Common.{◌≡◌, ◌-◌, ◌∙◌, ◌++◌, ℕ, zero, suc, [], ◌∷◌, sym, ap, subst, arith}
 use Rattle.std.specs.Int.{w32, to_be_bytes}
 use Rattle.pages.specs.Map.{PageMap, page_at, IsThere}
-use Rattle.treepage.specs.Node.{Between}
-use Rattle.indextree.specs.Joining.{Binds, Merges, FindsLastKid}
+use Rattle.indextree.specs.Joining.{Binds, Merges}
 use Rattle.indextree.specs.Tree.{top}
 use Rattle.indextree.proofs.Beside.{left_there, right_there, binds_leaves, binds_inner, said_left}
 use Rattle.indextree.proofs.Readings.{refused, since}

@@ -1,4 +1,4 @@
-use Rattle.std.proofs.Common.{◌≡◌, ◌∙◌, ℕ, List, [], length, sym, subst, slice_index_or}
+use Rattle.std.proofs.Common.{◌∙◌, [], slice_index_or}
 use Rattle.treepage.specs.Node.{Local}
 use Rattle.treepage.specs.Reading.{local_of}
 use Rattle.indextree.proofs.Comparisons.{local_within, held_at}

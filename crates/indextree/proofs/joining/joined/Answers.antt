@@ -1,7 +1,5 @@
-use Rattle.std.proofs.Common.{◌≡◌, ◌∙◌, ℕ, suc, List, IsTrue, Ok, Err, sym, ap, subst}
-use Rattle.std.specs.Prelude.{Result}
+use Rattle.std.proofs.Common.{◌∙◌, ℕ, suc, List, Ok, Err, sym, subst}
 use Rattle.pages.specs.Map.{PageMap}
-use Rattle.indextree.specs.Entries.{Entry}
 use Rattle.indextree.specs.Freeing.{below_of}
 use Rattle.indextree.specs.Growing.{IsPlanned, IsDivider}
 use Rattle.indextree.specs.Joining.{FindsKid, GivesEntry, Binds, SpreadsTwo}

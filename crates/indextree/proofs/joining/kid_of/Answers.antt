@@ -1,4 +1,4 @@
-use Rattle.std.proofs.Common.{◌≡◌, ◌∙◌, Option, Some, None, sym}
+use Rattle.std.proofs.Common.{◌∙◌, sym}
 use Rattle.treepage.specs.Node.{Between}
 use Rattle.indextree.proofs.Clearing.{none_some}
 use Rattle.indextree.proofs.Readings.{refused}

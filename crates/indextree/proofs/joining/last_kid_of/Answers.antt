@@ -1,9 +1,8 @@
-use Rattle.std.proofs.Common.{◌≡◌, ◌≤◌, ◌∙◌, ℕ, length, map, sym, subst, arith}
+use Rattle.std.proofs.Common.{◌≡◌, ℕ, map, subst, arith}
 use Rattle.pages.specs.Map.{PageMap}
 use Rattle.std.specs.Prelude.{MatchResult}
 use Rattle.sqlval.specs.Faults.{IsOutside}
 use Rattle.treepage.specs.Node.{Between}
-use Rattle.indextree.specs.Comparing.{child_at}
 use Rattle.indextree.specs.Joining.{FindsKid}
 use Rattle.indextree.proofs.Readings.{refused, since, child_after, said_counted, locals_mapped}
 use Rattle.indextree.proofs.joining.last_kid_of.Goals as goal

@@ -1,5 +1,4 @@
 use Rattle.std.proofs.Common.{rules, ◌≡◌, ◌∙◌, ℕ, List, [], ◌∷◌, IsTrue, sym, ap, subst}
-use Rattle.packing.specs.Splicing.{Joins}
 use Rattle.pages.specs.Map.{PageMap, page_at}
 use Rattle.indextree.specs.Joining.{Merges}
 use Rattle.indextree.proofs.Merging.{merges}

@@ -1,6 +1,5 @@
-use Rattle.std.proofs.Common.{◌≡◌, ◌∙◌, ◌++◌, ℕ, suc, List, IsTrue, Ok, Err, sym, ap, subst}
+use Rattle.std.proofs.Common.{◌∙◌, ◌++◌, ℕ, suc, IsTrue, Ok, Err, sym, subst}
 use Rattle.pages.specs.Map.{PageMap}
-use Rattle.indextree.specs.Entries.{Entry}
 use Rattle.indextree.specs.Freeing.{FreesEntry, below_of}
 use Rattle.indextree.specs.Growing.{IsPlanned}
 use Rattle.indextree.specs.Joining.{FindsKid, Unites, SpreadsTwo, entries_around}

@@ -1,12 +1,10 @@
-use Rattle.std.proofs.Common.{rules, ◌≡◌, ◌≤◌, ◌∙◌, ℕ, zero, List, [], length, map, IsTrue, Ok, Err, refl, sym, ap, subst, inl, arith}
+use Rattle.std.proofs.Common.{rules, ◌≡◌, ◌∙◌, ℕ, zero, List, [], length, map, IsTrue, sym, ap, subst, inl, arith}
 use Rattle.pages.specs.Map.{PageMap, page_at}
 use Rattle.treepage.specs.Cells.{Pairwise}
 use Rattle.treepage.specs.Node.{Between, IsNode, IsBetweenCell}
 use Rattle.packing.specs.Splicing.{Joins}
-use Rattle.forest.specs.Saying.{Says}
 use Rattle.forest.specs.Storing.{cells_of}
-use Rattle.indextree.specs.Growing.{replaced, Fans}
-use Rattle.indextree.specs.Joining.{IsSeamed}
+use Rattle.indextree.specs.Growing.{replaced}
 use Rattle.indextree.proofs.Beside.{at_start}
 use Rattle.indextree.proofs.Emptied.{large_size}
 use Rattle.indextree.proofs.Leaves.{usual}
@@ -43,10 +41,10 @@ returns-clause-seams g c = λ told said news more last end whole sized far_left 
     let left : c.loaded-2.result.now ≡ page_at old c.args.left = c.loaded-2.ensures ∙ c.in_ok-load-2.ensures.bytes told_mid ∙ ap (λ (m : PageMap). page_at m c.args.left) stays.same in
     let left_node = subst (λ (page : List ℕ). IsNode page 0 (Between said last)) (sym left) (at_start old c.args.left (Between said last) far_left left_says) in
     let left_long : length c.loaded-2.result.now ≡ size = ap length left ∙ whole c.args.left left_says.has in
-    let right : c.as_slice-2.result.now ≡ c.in_ok-other.other.last.items = c.as_slice-2.ensures.value in
-    let between : map (λ cell. cell.now) c.as_slice.result.now ≡ cells_of c.args.fan.now = ap (map (λ cell. cell.now)) c.as_slice.ensures.value ∙ c.in_ok-cells.ensures.cells in
+    let right : c.as_slice-3.result.now ≡ c.in_ok-other.other.last.items = c.as_slice-3.ensures.value in
+    let between : map (λ cell. cell.now) c.as_slice-2.result.now ≡ cells_of c.args.fan.now = ap (map (λ cell. cell.now)) c.as_slice-2.ensures.value ∙ c.in_ok-cells.ensures.cells ∙ ap (map (λ cell. cell.items)) c.as_slice.ensures.value in
     let s = replaced zero ([], c.args.fan.now.last) more end in
     let right_node = subst (λ (page : List ℕ). IsNode page 0 (Between s.0 s.1)) (sym right) one.says in
-    let joins = subst (λ (them : List (List ℕ)). Joins c.loaded-2.result.now them c.as_slice-2.result.now c.join.result) between c.join.ensures.joined in
+    let joins = subst (λ (them : List (List ℕ)). Joins c.loaded-2.result.now them c.as_slice-3.result.now c.join.result) between c.join.ensures.joined in
     memory_outside _ c.join.result
-    (seamed_or c.loaded-2.result.now c.as_slice-2.result.now size c.args.fan.now said news more last end left_node sized left_long cells few right_node (ap length right ∙ one.long) c.join.result joins))
+    (seamed_or c.loaded-2.result.now c.as_slice-3.result.now size c.args.fan.now said news more last end left_node sized left_long cells few right_node (ap length right ∙ one.long) c.join.result joins))

@@ -1,9 +1,5 @@
-use Rattle.std.proofs.Common.{◌≡◌, ◌∙◌, ℕ, suc, List, [], ◌∷◌, IsTrue, Ok, Err, sym, subst, inl}
-use Rattle.pages.specs.Map.{PageMap, page_at, IsThere}
-use Rattle.std.specs.Prelude.{Result}
-use Rattle.sqlval.specs.declared.fault.Fault.{Fault}
-use Rattle.forest.specs.Storing.{Stores}
-use Rattle.forest.specs.declared.storing.Fan.{Fan}
+use Rattle.std.proofs.Common.{◌≡◌, ◌∙◌, suc, IsTrue, Ok, Err, sym, subst}
+use Rattle.pages.specs.Map.{page_at, IsThere}
 use Rattle.indextree.specs.Freeing.{below_of}
 use Rattle.indextree.specs.Growing.{IsPlanned}
 use Rattle.indextree.specs.Joining.{entries_around}

@@ -1,7 +1,4 @@
-use Rattle.std.proofs.Common.{rules, ◌≡◌, ◌≤◌, ◌-◌, ◌+◌, ◌∙◌, ℕ, suc, Option, Some, Ok, Err, sym, subst, arith}
-use Rattle.std.specs.Prelude.{Result, MatchResult}
-use Rattle.sqlval.specs.Faults.{IsOutside}
-use Rattle.pages.specs.Map.{PageMap}
+use Rattle.std.proofs.Common.{◌-◌, ℕ, Option, Ok, Err, subst, arith}
 use Rattle.indextree.specs.Comparing.{FindsChild}
 use Rattle.indextree.specs.Removing.{FindsDepth}
 use Rattle.indextree.proofs.Depths.{child_unread, no_child, not_flat, one_deeper}

@@ -1,4 +1,4 @@
-use Rattle.std.proofs.Common.{◌≡◌, ◌-◌, ◌∙◌, ℕ, zero, suc, IsTrue, Ok, Err, sym, subst, arith}
+use Rattle.std.proofs.Common.{◌≡◌, ◌-◌, ◌∙◌, ℕ, suc, IsTrue, Ok, Err, sym, subst, arith}
 use Rattle.pages.specs.Map.{PageMap}
 use Rattle.indextree.specs.Growing.{StepsFrom}
 use Rattle.indextree.specs.Removing.{TakesAt, IsLessened, Lessens, Narrows}

@@ -1,7 +1,6 @@
-use Rattle.std.proofs.Common.{◌≡◌, ◌∙◌, ℕ, zero, IsTrue, Ok, Err, [], List, sym, subst, inl}
-use Rattle.pages.specs.Map.{PageMap, page_at, IsThere}
+use Rattle.std.proofs.Common.{◌≡◌, ◌∙◌, zero, IsTrue, Ok, Err, sym, subst}
+use Rattle.pages.specs.Map.{page_at, IsThere}
 use Rattle.indextree.specs.Freeing.{below_of}
-use Rattle.indextree.specs.Growing.{IsPlanned}
 use Rattle.indextree.specs.Joining.{without_at}
 use Rattle.indextree.specs.Tree.{entries_of}
 use Rattle.indextree.proofs.Readings.{refused}

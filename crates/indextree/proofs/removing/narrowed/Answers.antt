@@ -1,4 +1,4 @@
-use Rattle.std.proofs.Common.{rules, ◌≡◌, ◌<◌, ◌≤◌, ◌∙◌, ℕ, suc, IsTrue, Ok, Err, length, List, inl, sym, subst, arith}
+use Rattle.std.proofs.Common.{rules, ◌≡◌, ◌<◌, ◌∙◌, ℕ, suc, IsTrue, Ok, Err, length, inl, sym, subst, arith}
 use Rattle.pages.specs.Map.{PageMap, page_at, IsThere}
 use Rattle.indextree.specs.Comparing.{CountsEntries}
 use Rattle.indextree.specs.Joining.{JoinsAt}
@@ -7,7 +7,6 @@ use Rattle.indextree.specs.declared.removing.Loss.TheVariants.{Done, Spread}
 use Rattle.indextree.proofs.Narrowing.{store_refused, page_there, narrowed_spread, narrowed_done, narrowed_joined, told_now, whole_now, put_kids, lessened_since}
 use Rattle.indextree.proofs.Pairs.{between_len}
 use Rattle.indextree.proofs.Readings.{full_err, outside_full, since}
-use Rattle.indextree.proofs.Subtrees.{entries_between}
 use Rattle.indextree.proofs.Widening.{no_cells}
 use Rattle.indextree.proofs.removing.narrowed.Goals as goal
 

@@ -1,5 +1,4 @@
-use Rattle.std.proofs.Common.{◌≡◌, ◌-◌, ℕ, zero, suc, sym, subst, arith}
-use Rattle.pages.specs.Map.{PageMap}
+use Rattle.std.proofs.Common.{◌≡◌, ◌-◌, ℕ, suc, sym, subst, arith}
 use Rattle.indextree.specs.Removing.{TakesAt}
 use Rattle.indextree.proofs.Spreading.{outside_or_full}
 use Rattle.indextree.proofs.removing.taken_out.Goals as goal
