@@ -17,3 +17,4 @@ mod SetRows
 pub mod Replaced
 pub mod SetTrees
 mod Meant
+mod Sought

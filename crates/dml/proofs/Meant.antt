@@ -15,10 +15,10 @@ use Rattle.terms.specs.Rows.{row_at}
 use Rattle.terms.specs.Terms.{Term}
 use Rattle.terms.specs.Values.{Row}
 use Rattle.rowprog.specs.Rows.{TableRow}
-use Rattle.rowprog.specs.Sources.{LoadsRows, as_source}
+use Rattle.rowprog.specs.Sources.{as_source}
 use Rattle.rowprog.specs.Trees.{AnswersOrFails}
 use Rattle.dml.specs.Choosing.{is_chosen, tested}
-use Rattle.dml.specs.Meaning.{FindsMeant, as_row, chosen_or_all}
+use Rattle.dml.specs.Meaning.{FindsMeant, LoadsMeant, as_row, chosen_or_all}
 use Rattle.dml.specs.NewRows.{row_of}
 use Rattle.dml.specs.Setting.{rows_meant}
 use Rattle.dml.proofs.SetRows.{map_twice}
@@ -71,13 +71,13 @@ as_meant (Some c) rows = ap (λ (a : Answer (List Row)). a then as_table) (meant
     by (Err r) = refl
 
 module _ (pages : PageMap) (size : ℕ) (table : BoundSource) (c : Option Term) where
-  pub none_found : (fault : Fault) (result : Result (Vec stored.TableRow) Fault) → IsErrAnd result (λ e. e ≡ fault) → LoadsRows pages size table (Err fault) → FindsMeant pages size table c result
+  pub none_found : (fault : Fault) (result : Result (Vec stored.TableRow) Fault) → IsErrAnd result (λ e. e ≡ fault) → LoadsMeant pages size table c (Err fault) → FindsMeant pages size table c result
   none_found fault (Ok x) same loads = absurd same
   none_found fault (Err e) same loads = λ rows whole has. inl (subst IsOutside (sym same) (loads rows whole has))
 
-  pub meant_found : (found : List Row) (result : Result (Vec stored.TableRow) Fault) → LoadsRows pages size table (Ok found)
+  pub meant_found : (found : List Row) (result : Result (Vec stored.TableRow) Fault) → LoadsMeant pages size table c (Ok found)
       → AnswersBy (λ them. map row_of them.items) (rows_meant c [] found then λ them. Ok (map as_row them)) result → FindsMeant pages size table c result
-  meant_found found result loads answers rows whole has = by result (subst (λ (rs : List Row). AnswersBy (λ them. map row_of them.items) (rows_meant c [] rs then as_table) result) (loads rows whole has) answers)
+  meant_found found result loads answers rows whole has = by result (subst (λ (a : Answer (List Row)). AnswersBy (λ them. map row_of them.items) (a then as_table) result) (loads rows whole has) answers)
     where
       by : (r : Result (Vec stored.TableRow) Fault) → AnswersBy (λ them. map row_of them.items) (rows_meant c [] (map as_source rows) then as_table) r → AnswersOrFails (λ them. map row_of them.items) (chosen_or_all c rows) r
       by (Ok them) e = sym (as_meant c rows) ∙ e

@@ -1,6 +1,7 @@
 -- The rows of a table that a statement means (SQL As Understood By SQLite, "DELETE", "UPDATE").
-use Rattle.std.specs.Prelude.{ℕ, List, map, Option, Some, None, Ok, Result}
+use Rattle.std.specs.Prelude.{◌≡◌, ℕ, List, [], map, Option, Some, None, Ok, Result, MatchResult}
 use Rattle.std.specs.Global.{Vec}
+use Rattle.sqlval.specs.Faults.{IsOutside}
 use Rattle.sqlval.specs.Refusals.{Answer}
 use Rattle.sqlval.specs.declared.fault.Fault.{Fault}
 use Rattle.pages.specs.Map.{PageMap, AreWhole}
@@ -9,10 +10,11 @@ use Rattle.bind.specs.declared.queries.BoundSource.{BoundSource}
 use Rattle.terms.specs.Terms.{Term}
 use Rattle.terms.specs.Values.{Row}
 use Rattle.rowprog.specs.Rows.{TableRow}
+use Rattle.rowprog.specs.Sources.{as_source}
 use Rattle.rowprog.specs.Trees.{AnswersOrFails, HasRows}
 use Rattle.dml.specs.Choosing.{chosen}
 use Rattle.dml.specs.NewRows.{row_of}
-use Rattle.dml.specs.Setting.{rowid_number}
+use Rattle.dml.specs.Setting.{rowid_number, rows_meant}
 
 -- the rows for which the condition is true, or all where there is none; or the first refusal
 abbrev pub chosen_or_all : Option Term → List TableRow → Answer (List TableRow)
@@ -22,6 +24,11 @@ chosen_or_all (Some condition) rows = chosen condition rows
 -- a source's row as a table has it
 abbrev pub as_row : Row → TableRow
 as_row row = (rowid_number row.rowid, row.values)
+
+-- Of a tree of rows, the condition means among these the rows that it means among all; or memory was short, or a disk's call failed.
+abbrev pub LoadsMeant : PageMap → ℕ → BoundSource → Option Term → Result (List Row) Fault → Type 0
+LoadsMeant pages size table condition result = (rows : List TableRow) → AreWhole size pages → HasRows pages size table.root table.width rows
+    → MatchResult result (λ found. rows_meant condition [] found ≡ rows_meant condition [] (map as_source rows)) IsOutside
 
 -- Of a tree of rows these are the rows that are meant; or the condition is refused for a row, memory was short, or a disk's call failed.
 abbrev pub FindsMeant : PageMap → ℕ → BoundSource → Option Term → Result (Vec stored.TableRow) Fault → Type 0

@@ -1,1 +1,3 @@
 pub mod Others
+pub mod Scans
+pub mod Words

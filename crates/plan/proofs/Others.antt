@@ -15,22 +15,21 @@ use Rattle.sqlval.specs.declared.affinity.Affinity.{Affinity}
 use Rattle.sqlval.specs.declared.affinity.Affinity.TheVariants as kind
 use Rattle.sqlval.specs.declared.collation.Collation.{Collation}
 use Rattle.sqlval.specs.declared.value.Value.{Value}
-use Rattle.sqlval.specs.declared.value.Value.TheVariants.{Null, Int, Text, Blob}
+use Rattle.sqlval.specs.declared.value.Value.TheVariants.{Int}
 use Rattle.terms.specs.Terms.{Term, Cell, Digits, Two, collation_of_two}
 use Rattle.terms.specs.Values.{Environment, and_after, and_also, both_hold, cell, compare, compared, conversion, of_bool, of_truth, truth, value}
 use Rattle.terms.specs.declared.tree.Comparison.TheVariants.{Equal}
 use Rattle.terms.specs.declared.tree.Place.TheVariants.{RowId}
 use Rattle.terms.specs.declared.tree.TwoSided.TheVariants.{Compare, And}
 use Rattle.bind.specs.Calm.{converts, is_calm, is_side, parts}
-use Rattle.bind.specs.Laws.{CalmIsNotRefused}
 use Rattle.bind.proofs.CalmConditions.{calm_is_good}
-use Rattle.plan.specs.Seeking.{OtherRowsFail, Seeks, is_rowid}
+use Rattle.plan.specs.Seeking.{OtherRowsFail, is_rowid}
 
-left : (x y : Bool) → (x && y) ≡ true → x ≡ true
+pub left : (x y : Bool) → (x && y) ≡ true → x ≡ true
 left true y h = refl
 left false y h = h
 
-right : (x y : Bool) → (x && y) ≡ true → y ≡ true
+pub right : (x y : Bool) → (x && y) ≡ true → y ≡ true
 right true y h = h
 right false y h = absurd (true≢false (sym h))
 
@@ -116,8 +115,18 @@ fails_compare (Some kind.Numeric) c rowid k apart = subst Fails (ap Ok (sym (une
 
 -- ---- conditions
 
-no_part : {A : Type 0} → false || false ≡ true → A
+pub no_part : {A : Type 0} → false || false ≡ true → A
 no_part h = absurd (true≢false (sym h))
+
+pub only : (b : Bool) → b || false ≡ true → b ≡ true
+only true e = refl
+only false e = e
+
+-- a number that a rowid is compared with, without a refusal, fits a word
+pub word_of : (s : ℕ) (a : Option Affinity) (c : Collation) (j : ℕ) → is_calm (Two (Compare Equal) (Cell s RowId a c) (Digits j)) ≡ true → is_word (pos j) ≡ true
+word_of s a c j e =
+    left (is_side (Digits j)) (converts (conversion None a) (Digits j))
+    (right (is_side (Cell s RowId a c) && converts (conversion a None) (Cell s RowId a c)) (is_side (Digits j) && converts (conversion None a) (Digits j)) e)
 
 module _ (source k : ℕ) (env : Environment) (rowid : ℤ) (at : cell env source RowId ≡ Int rowid) (apart : rowid ≡ pos k → ⊥) where
   fails : (t : Term) → is_calm t ≡ true → list_any (is_rowid source k) (parts t) ≡ true → Fails (value t env)
@@ -129,10 +138,7 @@ module _ (source k : ℕ) (env : Environment) (rowid : ℤ) (at : cell env sourc
     by (inr q) first second = fails_second (value a env) (value b env) (calm_is_good a (left (is_calm a) _ h) env) (second q)
   fails (Two (Compare Equal) (Cell s RowId a c) (Digits j)) h p = met where
     both : ((s == source) && (j == k)) ≡ true
-    both = only ((s == source) && (j == k)) p where
-      only : (b : Bool) → b || false ≡ true → b ≡ true
-      only true e = refl
-      only false e = e
+    both = only ((s == source) && (j == k)) p
 
     same_source : s ≡ source
     same_source = eqb-true s source (left (s == source) (j == k) both)
@@ -140,11 +146,8 @@ module _ (source k : ℕ) (env : Environment) (rowid : ℤ) (at : cell env sourc
     same_rowid : j ≡ k
     same_rowid = eqb-true j k (right (s == source) (j == k) both)
 
-    word_of : is_calm (Two (Compare Equal) (Cell s RowId a c) (Digits j)) ≡ true → is_word (pos j) ≡ true
-    word_of e = left (is_side (Digits j)) (converts (conversion None a) (Digits j)) (right (is_side (Cell s RowId a c) && converts (conversion a None) (Cell s RowId a c)) (is_side (Digits j) && converts (conversion None a) (Digits j)) e)
-
     is : value (Digits j) env ≡ Ok (Int (pos j))
-    is = ap (λ b. cond b (Ok (Int (pos j))) (Err RealRefused)) (word_of h)
+    is = ap (λ b. cond b (Ok (Int (pos j))) (Err RealRefused)) (word_of s a c j h)
 
     row : cell env s RowId ≡ Int rowid
     row = subst (λ (n : ℕ). cell env n RowId ≡ Int rowid) (sym same_source) at

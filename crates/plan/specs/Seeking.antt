@@ -39,6 +39,10 @@ pub record Seeks (source : ℕ) (condition : Term) (k : ℕ) : Type 0 where
   pub calm : is_calm condition ≡ true
   pub part : list_any (is_rowid source k) (parts condition) ≡ true
 
+-- the condition seeks this rowid of the source
+abbrev pub SeeksRowid : ℕ → Term → ℤ → Type 0
+SeeksRowid source condition rowid = (k : ℕ) × (rowid ≡ pos k) × Seeks source condition k
+
 -- no column begins an index
 abbrev pub no_index : ℕ → Bool
 no_index place = false

@@ -2,14 +2,22 @@
 #![tactic(auto)]
 
 mod calm;
+mod searching;
 mod seeking;
 
 ghost use Rattle.plan.specs.Seeking.{OtherRowsFail};
+ghost use Rattle.plan.specs.Searching.{SearchesAsScans};
 
 pub use calm::is_calm;
+pub use searching::searched_rowid;
 pub use seeking::sought_rowid;
 
 /// A condition that seeks a rowid is false for each row of another one, and is refused for none.
 pub fn other_rows_fail()
     ensures { OtherRowsFail }
+{}
+
+/// A query that seeks a rowid of its only source gives the same over the rows of that rowid as over all.
+pub fn searches_as_scans()
+    ensures { SearchesAsScans }
 {}

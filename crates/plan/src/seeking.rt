@@ -3,7 +3,7 @@
 ghost use Rattle.std.specs.Prelude.{◌≡◌, false, true, IfErr, IfNone, IfOk, IfSome};
 ghost use Rattle.std.specs.List.{list_any};
 ghost use Rattle.bind.specs.Calm as calm;
-ghost use Rattle.plan.specs.Seeking.{Seeks, asked, digits, is_rowid, is_rowid_cell, no_index};
+ghost use Rattle.plan.specs.Seeking.{Seeks, SeeksRowid, asked, digits, is_rowid, is_rowid_cell, no_index};
 
 use crate::calm::is_calm;
 use sqlval::{Fault, R};
@@ -55,9 +55,9 @@ fn asked_in(condition: &Term, source: usize) -> Option<u64>
     }
 }
 
-/// The rowid that a condition seeks in a source, by its number: for a row of another one the condition is false. None where it seeks
+/// The number of the rowid that a condition seeks in a source: for a row of another one the condition is false. None where it seeks
 /// none, or may be refused. (`Memory`.)
-pub fn sought_rowid(alloc: Global, condition: &Term, source: usize) -> R<Option<u64>>
+fn sought_number(alloc: Global, condition: &Term, source: usize) -> R<Option<u64>>
     ensures found { IfOk result (λ sought. IfSome sought (λ rowid. Seeks source condition.now rowid)) }
     ensures only { IfOk result (λ sought. IfNone sought (calm.is_search source no_index condition.now ≡ false)) }
     ensures refused { IfErr result (λ fault. fault ≡ Fault.Memory) }
@@ -66,4 +66,17 @@ pub fn sought_rowid(alloc: Global, condition: &Term, source: usize) -> R<Option<
         return Ok(None);
     }
     Ok(asked_in(condition, source))
+}
+
+/// The rowid that a condition seeks in a source: for a row of another one the condition is false. None where it seeks none, or may be
+/// refused. (`Memory`.)
+pub fn sought_rowid(alloc: Global, condition: &Term, source: usize) -> R<Option<i64>>
+    ensures found { IfOk result (λ sought. IfSome sought (λ rowid. SeeksRowid source condition.now rowid)) }
+    ensures only { IfOk result (λ sought. IfNone sought (calm.is_search source no_index condition.now ≡ false)) }
+    ensures refused { IfErr result (λ fault. fault ≡ Fault.Memory) }
+{
+    match sought_number(alloc, condition, source)? {
+        Some(number) => Ok(i64::try_from(number).ok()),
+        None => Ok(None),
+    }
 }

@@ -4,6 +4,7 @@ pub mod HeldRows
 pub mod RowLemmas
 pub mod RowOrder
 pub mod Steps
+mod SoughtRows
 mod SourceRows
 pub mod TreeAnswers
 pub mod TreeOrder

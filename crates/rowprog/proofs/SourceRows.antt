@@ -27,7 +27,7 @@ abbrev fine : {A : Type 0} → A → Result A Fault
 fine x = Ok x
 
 -- an entry that is a row is held as it
-held_is : HoldsValues → (width : ℕ) (entry : Entry) (row : TableRow) → IsRow width entry row → as_held entry ≡ as_source row
+pub held_is : HoldsValues → (width : ℕ) (entry : Entry) (row : TableRow) → IsRow width entry row → as_held entry ≡ as_source row
 held_is holds width entry row is =
     ap (λ (values : List Value). record { rowid = Int entry.rowid; values = values }) (holds entry.payload row.1 is.values)
     ∙ ap (λ (rowid : ℤ). record { rowid = Int rowid; values = row.1 }) is.rowid

@@ -49,3 +49,7 @@ are_rising low (row ∷ next ∷ rows) high goes (suc (suc j)) d le lt =
 -- each row's number is greater than that of the row before it
 pub tree_rises : (pages : PageMap) (size root : ℕ) (rows : List Entry) (used : List ℕ) → IsTableTree pages size root rows used → AreRising rows
 tree_rises pages size root rows used is = subst AreRising is.rows_are (are_rising is.low (rows_of is.depth is.tree) is.high (of_tree is.depth is.low is.tree is.high is.sorted))
+
+-- the rowids of a tree rise, above one and up to another
+pub tree_goes : (pages : PageMap) (size root : ℕ) (rows : List Entry) (used : List ℕ) → (is : IsTableTree pages size root rows used) → Goes is.low rows is.high
+tree_goes pages size root rows used is = subst (λ (them : List Entry). Goes is.low them is.high) is.rows_are (of_tree is.depth is.low is.tree is.high is.sorted)

@@ -1,5 +1,6 @@
 -- The rows of a table as a query's source has them.
-use Rattle.std.specs.Prelude.{◌≡◌, ℕ, ℤ, ◌++◌, List, map, Option, Result, Ok, MatchResult}
+use Rattle.std.specs.Prelude.{◌≡◌, ℕ, ℤ, ◌++◌, List, filter, map, Option, Result, Ok, MatchResult}
+use Rattle.std.specs.Ordering.{int_eq}
 use Rattle.sqlval.specs.Faults.{IsOutside}
 use Rattle.sqlval.specs.declared.fault.Fault.{Fault}
 use Rattle.sqlval.specs.declared.value.Value.TheVariants.{Int}
@@ -30,6 +31,15 @@ source_at entry = Ok (as_held entry)
 abbrev pub LoadsRows : PageMap → ℕ → BoundSource → Result (List Row) Fault → Type 0
 LoadsRows pages size table result = (rows : List TableRow) → AreWhole size pages → HasRows pages size table.root table.width rows
     → MatchResult result (λ found. found ≡ map as_source rows) IsOutside
+
+-- the rows of this rowid
+abbrev pub rows_at : ℤ → List TableRow → List TableRow
+rows_at rowid rows = filter (λ row. int_eq row.0 rowid) rows
+
+-- of a tree of rows these are those of a rowid; or memory was short, or a disk's call failed
+abbrev pub LoadsRowsAt : PageMap → ℕ → BoundSource → ℤ → Result (List Row) Fault → Type 0
+LoadsRowsAt pages size table rowid result = (rows : List TableRow) → AreWhole size pages → HasRows pages size table.root table.width rows
+    → MatchResult result (λ found. found ≡ map as_source (rows_at rowid rows)) IsOutside
 
 -- Of a tree these are the next rows that come, as a source has them, and the others come later; or memory was short, or a disk's call
 -- failed.

@@ -6,14 +6,14 @@ ghost use Rattle.sqlval.specs.Gives.{Gives};
 ghost use Rattle.pages.specs.Calls.{Stays};
 ghost use Rattle.tabletree.specs.Scanning.{IsForward, entry_in};
 ghost use Rattle.rowprog.specs.Answers.{left};
-ghost use Rattle.rowprog.specs.Sources.{GivesRows, HoldRows, LoadsRows, as_held, source_at};
+ghost use Rattle.rowprog.specs.Sources.{GivesRows, HoldRows, LoadsRows, LoadsRowsAt, as_held, source_at};
 
 use bind::BoundSource;
 use pages::Pages;
 use record::records_hold_their_values;
 use sqlval::{Many, R};
 use std::alloc::Global;
-use tabletree::{Batch, BatchEntry, Cursor};
+use tabletree::{Batch, BatchEntry, Cursor, get};
 use terms::SourceRow;
 
 /// The row of a batch as a source has it. (`Memory`.)
@@ -47,6 +47,26 @@ pub fn source_rows<P: Pages>(alloc: Global, pages: &mut P, table: BoundSource) -
     'batches: while cursor.next.is_some() {
         cursor.next_batch(pages, &mut batch)?;
         add_source_rows(alloc, &batch, &mut rows)?;
+    }
+    Ok(rows)
+}
+
+/// The row of a table that has this rowid, if there is one. (What `get` refuses.)
+pub fn source_rows_at<P: Pages>(
+    alloc: Global,
+    pages: &mut P,
+    table: BoundSource,
+    rowid: i64,
+) -> R<Many<SourceRow>>
+    ensures loaded { IsTrue (P.Pages.tells (P.Pages.below pages.old))
+        → LoadsRowsAt (P.Pages.map pages.old) (P.Pages.limits (P.Pages.below pages.old)).page table rowid result }
+    ensures stays { Stays P.Pages.below P.Pages.map P.Pages.count P.Pages.failures result pages.old pages.new }
+{
+    records_hold_their_values();
+    let mut rows = Many::new(alloc);
+    let mut payload = Vec::new(alloc);
+    if get(pages, table.root, rowid, &mut payload)? {
+        rows.push(SourceRow::new(alloc, Some(rowid), payload.as_slice())?)?;
     }
     Ok(rows)
 }

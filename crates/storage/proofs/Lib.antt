@@ -14,6 +14,7 @@ pub mod Owners
 pub mod Replacing
 pub mod Roots
 pub mod SchemaRows
+mod SearchedRows
 pub mod StreamedRows
 pub mod Telling
 pub mod Updates
