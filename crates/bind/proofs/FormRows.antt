@@ -3,7 +3,7 @@ use Rattle.std.specs.Prelude.{◌≡◌, ◌==◌, refl, true, false, codes, Som
 use Rattle.sqlval.specs.Affinity.{is_number, rest_after_digits, ends_number, ends_exponent}
 use Rattle.sqlval.specs.declared.affinity.Affinity.{Affinity}
 use Rattle.sqlval.specs.declared.affinity.Affinity.TheVariants as kind
-use Rattle.sqlval.specs.declared.collation.Collation.TheVariants.{Binary}
+use Rattle.sqlval.specs.declared.collation.Collation.TheVariants.{Binary, NoCase}
 use Rattle.sqlval.specs.declared.value.Value.TheVariants.{Text}
 use Rattle.catalog.specs.Database.{Name}
 use Rattle.bind.specs.Calm.{is_calm, is_search}
@@ -47,26 +47,33 @@ not_calm_truth = refl
 abbrev by_rowid : Term
 by_rowid = Two (Compare Equal) (Cell 0 RowId (Some kind.Integer) Binary) (Digits 5)
 
-pub search : is_search 0 (λ k. false) (Two And by_rowid (Two (Compare Less) (cell kind.Blob) (Digits 1))) ≡ true
+pub search : is_search 0 (λ k c. false) (Two And by_rowid (Two (Compare Less) (cell kind.Blob) (Digits 1))) ≡ true
 search = refl
 
-pub no_search : is_search 0 (λ k. false) (Two And by_rowid (Two (Compare Greater) (cell kind.Blob) (One Negated (Digits 1)))) ≡ false
+pub no_search : is_search 0 (λ k c. false) (Two And by_rowid (Two (Compare Greater) (cell kind.Blob) (One Negated (Digits 1)))) ≡ false
 no_search = refl
 
 -- c = 5 is a search where an index begins with c
-pub search_by_index : is_search 0 (λ k. k == 0) (Two (Compare Equal) (cell kind.Blob) (Digits 5)) ≡ true
+pub search_by_index : is_search 0 (λ k c. k == 0) (Two (Compare Equal) (cell kind.Blob) (Digits 5)) ≡ true
 search_by_index = refl
 
-pub no_index : is_search 0 (λ k. false) (Two (Compare Equal) (cell kind.Blob) (Digits 5)) ≡ false
+pub search_by_text : is_search 0 (λ k c. k == 0) (Two (Compare Equal) (cell kind.Text) (Const (Text a))) ≡ true
+search_by_text = refl
+
+pub no_index : is_search 0 (λ k c. false) (Two (Compare Equal) (cell kind.Blob) (Digits 5)) ≡ false
 no_index = refl
 
+-- an index under NOCASE serves no comparison under BINARY
+pub other_collation : is_search 0 (λ k c. elim c [ NoCase ↦ true | _ ↦ false ]) (Two (Compare Equal) (cell kind.Text) (Const (Text a))) ≡ false
+other_collation = refl
+
 -- in a trigger's program: SELECT a FROM t WHERE OLD.rowid = 1, and WHERE NEW.a = 5 beside an index on a, read all of t
-pub no_search_by_old : is_search 1 (λ k. true) (Two (Compare Equal) (Cell 0 RowId (Some kind.Integer) Binary) (Digits 1)) ≡ false
+pub no_search_by_old : is_search 1 (λ k c. true) (Two (Compare Equal) (Cell 0 RowId (Some kind.Integer) Binary) (Digits 1)) ≡ false
 no_search_by_old = refl
 
-pub no_search_by_new : is_search 1 (λ k. true) (Two (Compare Equal) (cell kind.Blob) (Digits 5)) ≡ false
+pub no_search_by_new : is_search 1 (λ k c. true) (Two (Compare Equal) (cell kind.Blob) (Digits 5)) ≡ false
 no_search_by_new = refl
 
 -- SELECT a FROM t WHERE rowid = 1 there is a search
-pub search_beside_old : is_search 1 (λ k. false) (Two (Compare Equal) (Cell 1 RowId (Some kind.Integer) Binary) (Digits 1)) ≡ true
+pub search_beside_old : is_search 1 (λ k c. false) (Two (Compare Equal) (Cell 1 RowId (Some kind.Integer) Binary) (Digits 1)) ≡ true
 search_beside_old = refl

@@ -60,13 +60,15 @@ abbrev pub parts : Term → List Term
 parts (Two And a b) = parts a ++ parts b
 parts t = t ∷ []
 
--- `rowid = k` of the source of this number, or `c = k` where an index of that source begins with its column c
-abbrev pub finds : ℕ → (ℕ → Bool) → Term → Bool
+-- `rowid = k` of the source of this number, or `c = k` where an index of that source begins with its column c, under the collation that the
+-- comparison has
+abbrev pub finds : ℕ → (ℕ → Collation → Bool) → Term → Bool
 finds n begins (Two (Compare Equal) (Cell s RowId a c) (Digits k)) = s == n
-finds n begins (Two (Compare Equal) (Cell s (At i) a c) (Digits k)) = s == n && begins i
+finds n begins (Two (Compare Equal) (Cell s (At i) a c) (Digits k)) = s == n && begins i c
+finds n begins (Two (Compare Equal) (Cell s (At i) a c) (Const v)) = s == n && begins i c
 finds n begins _ = false
 
 -- The plan of a SELECT from one table with this WHERE is a search. The table is the source of this number: in a trigger's program NEW
 -- and OLD stand before it, and what is asked of them finds no row of the table.
-abbrev pub is_search : ℕ → (ℕ → Bool) → Term → Bool
+abbrev pub is_search : ℕ → (ℕ → Collation → Bool) → Term → Bool
 is_search n begins t = is_calm t && list_any (finds n begins) (parts t)

@@ -44,8 +44,8 @@ abbrev pub SeeksRowid : ℕ → Term → ℤ → Type 0
 SeeksRowid source condition rowid = (k : ℕ) × (rowid ≡ pos k) × Seeks source condition k
 
 -- no column begins an index
-abbrev pub no_index : ℕ → Bool
-no_index place = false
+abbrev pub no_index : ℕ → Collation → Bool
+no_index place collation = false
 
 -- For each row of another rowid the condition is false.
 abbrev pub OtherRowsFail : Type 0

@@ -2,7 +2,7 @@ use Rattle.std.proofs.Common.{◌≡◌, ◌∙◌, ap, length}
 use Rattle.std.specs.Prelude.{min}
 use Rattle.std.specs.List.{insert}
 use Rattle.catalog.specs.Listed.{shared}
-use Rattle.catalog.proofs.Gaps.{inserted}
+use Rattle.catalog.proofs.Inserted.{inserted}
 use Rattle.catalog.proofs.Sharing.{handle_value}
 use Rattle.catalog.proofs.tables.put_at.Goals as goal
 
