@@ -4,6 +4,7 @@ use Rattle.std.specs.List.{list_any}
 use Rattle.sqlval.specs.Conversion.{is_word, converted}
 use Rattle.sqlval.specs.declared.affinity.Affinity.{Affinity}
 use Rattle.sqlval.specs.declared.affinity.Affinity.TheVariants as kind
+use Rattle.sqlval.specs.declared.collation.Collation.{Collation}
 use Rattle.sqlval.specs.declared.value.Value.TheVariants.{Int}
 use Rattle.terms.specs.Terms.{Term, Terms, Const, Digits, Cell, One, Two, In, Between, End, More, affinity}
 use Rattle.terms.specs.declared.tree.Comparison.TheVariants.{Equal}
