@@ -2,13 +2,7 @@
 #![tactic(auto)]
 
 #[cfg(test)]
-mod calls;
-#[cfg(test)]
 mod checkpoint_crashes;
-#[cfg(test)]
-mod checkpoints;
-#[cfg(test)]
-mod connections;
 #[cfg(test)]
 mod crashes;
 #[cfg(test)]
@@ -16,10 +10,6 @@ mod databases;
 #[cfg(test)]
 mod held_output;
 #[cfg(test)]
-mod replies;
-#[cfg(test)]
 mod same_files;
-#[cfg(test)]
-mod savepoints;
 #[cfg(test)]
 mod tree_crashes;

@@ -1,8 +1,11 @@
-//! The files that some lines leave in memory. tests/program asks the same bytes of the files that the built program leaves.
+//! The files that some lines leave in memory, and a file in which no database is made. tests/program asks the same bytes of the files that
+//! the built program leaves.
 
-use crate::databases::{file, opened, reply};
+use crate::databases::{file, filled, opened, reply};
+use disk::Disk;
 use engine::create;
 use sha2::{Digest, Sha256};
+use sqlval::Fault;
 use std::test::*;
 
 /// The lines of tests/scripts/files.lines.
@@ -34,5 +37,20 @@ fn the_files_of_some_lines(rt: HostRuntime) -> Result<(), Fail> {
     let (db, log) = engine.into_disks();
     assert!(rt; has_sum(db.content(), DATABASE_SUM));
     assert!(rt; has_sum(log.content(), LOG_SUM));
+    Ok(())
+}
+
+#[test]
+fn a_file_that_is_not_blank_is_no_new_database(rt: HostRuntime) -> Result<(), Fail> {
+    let alloc = rt.alloc();
+    let mut full = file(alloc, &filled(alloc, 1, 40)?, None)?;
+    let mut log = file(alloc, b"", None)?;
+    assert!(rt;
+        matches!(
+            create(alloc, &mut full, &mut log, 512),
+            Err(Fault::Misuse(_))
+        )
+    );
+    assert_eq!(rt; full.len()?, 40);
     Ok(())
 }

@@ -1,6 +1,6 @@
 //! Reading, emptying and giving back the trees of tables.
 
-use crate::databases::new_database;
+use crate::databases::new_pages;
 use pages::{MemPages, Pages};
 use sqlval::R;
 use std::alloc::Global;
@@ -67,7 +67,7 @@ fn free_count(pages: &mut MemPages) -> R<u32> {
 #[test]
 fn a_cursor_reads_all_rows_in_order(rt: HostRuntime) -> Result<(), Fail> {
     let alloc = rt.alloc();
-    let mut pages = new_database(alloc)?.pages;
+    let mut pages = new_pages(alloc)?;
     let root = new_tree(alloc, &mut pages)?;
     assert_eq!(rt; root, 2);
     assert_eq!(rt; count_of(alloc, &mut pages, 2, 200)?, Some(0));
@@ -79,7 +79,7 @@ fn a_cursor_reads_all_rows_in_order(rt: HostRuntime) -> Result<(), Fail> {
 #[test]
 fn the_last_row_is_the_greatest(rt: HostRuntime) -> Result<(), Fail> {
     let alloc = rt.alloc();
-    let mut pages = new_database(alloc)?.pages;
+    let mut pages = new_pages(alloc)?;
     let root = new_tree(alloc, &mut pages)?;
     assert_eq!(rt; last(&mut pages, root)?, None);
     grow_tree(alloc, &mut pages, root, 100, 200)?;
@@ -95,7 +95,7 @@ fn the_last_row_is_the_greatest(rt: HostRuntime) -> Result<(), Fail> {
 #[test]
 fn a_cleared_tree_is_one_page(rt: HostRuntime) -> Result<(), Fail> {
     let alloc = rt.alloc();
-    let mut pages = new_database(alloc)?.pages;
+    let mut pages = new_pages(alloc)?;
     let root = new_tree(alloc, &mut pages)?;
     grow_tree(alloc, &mut pages, root, 20, 1000)?;
     assert_eq!(rt; count_of(alloc, &mut pages, root, 1000)?, Some(20));
@@ -110,7 +110,7 @@ fn a_cleared_tree_is_one_page(rt: HostRuntime) -> Result<(), Fail> {
 #[test]
 fn pages_of_a_freed_tree_are_used_again(rt: HostRuntime) -> Result<(), Fail> {
     let alloc = rt.alloc();
-    let mut pages = new_database(alloc)?.pages;
+    let mut pages = new_pages(alloc)?;
     let root = new_tree(alloc, &mut pages)?;
     grow_tree(alloc, &mut pages, root, 50, 100)?;
     let size = pages.size();

@@ -1,6 +1,6 @@
 //! Trees of indexes whose ways from the root to a leaf have as many pages as the format's readers follow.
 
-use crate::databases::new_database;
+use crate::databases::new_pages;
 use indextree::{insert, new_tree, remove};
 use pagecheck::{are_all_marked, check_freelist, check_index_tree, check_tree};
 use pages::{MemPages, Pages, WritePages};
@@ -209,7 +209,7 @@ fn has_first(alloc: Global, pages: &mut MemPages, root: u32, letter: &str, many:
 #[test]
 fn a_way_of_20_pages_of_an_index_gives_way_to_a_short_one(rt: HostRuntime) -> Result<(), Fail> {
     let alloc = rt.alloc();
-    let mut pages = new_database(alloc)?.pages;
+    let mut pages = new_pages(alloc)?;
     let leaf = new_tree(alloc, &mut pages)?;
     let root = add_above(alloc, &mut pages, leaf, 0)?;
     for step in 0..4 {
@@ -229,7 +229,7 @@ fn a_way_of_20_pages_of_an_index_gives_way_to_a_short_one(rt: HostRuntime) -> Re
 #[test]
 fn a_way_of_20_pages_grows_when_an_entry_goes(rt: HostRuntime) -> Result<(), Fail> {
     let alloc = rt.alloc();
-    let mut pages = new_database(alloc)?.pages;
+    let mut pages = new_pages(alloc)?;
     let page = add_short(alloc, &mut pages)?;
     let root = add_above(alloc, &mut pages, page, 1)?;
     assert_eq!(rt; stands_in(alloc, &mut pages, root, 20)?, true);

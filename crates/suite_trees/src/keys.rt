@@ -1,6 +1,6 @@
 //! The trees of indexes, and their check.
 
-use crate::databases::new_database;
+use crate::databases::new_pages;
 use indextree::{insert, new_tree, remove};
 use pagecheck::{are_all_marked, check_freelist, check_index_tree, check_tree};
 use pages::{MemPages, Pages, WritePages};
@@ -94,7 +94,7 @@ fn is_whole(alloc: Global, pages: &mut MemPages, root: u32, collation: Collation
 
 /// Whether an index under this collation is sound when it is full, and when each second entry was taken out.
 fn is_kept_whole(alloc: Global, collation: Collation) -> R<bool> {
-    let mut pages = new_database(alloc)?.pages;
+    let mut pages = new_pages(alloc)?;
     let root = grown(alloc, &mut pages, collation, 77)?;
     if !is_whole(alloc, &mut pages, root, collation)? {
         return Ok(false);
@@ -156,7 +156,7 @@ fn an_index_without_spaces_is_whole(rt: HostRuntime) -> Result<(), Fail> {
 #[test]
 fn an_index_of_another_collation_is_refused(rt: HostRuntime) -> Result<(), Fail> {
     let alloc = rt.alloc();
-    let mut pages = new_database(alloc)?.pages;
+    let mut pages = new_pages(alloc)?;
     let root = grown(alloc, &mut pages, Collation::NoCase, 77)?;
     let found = damage_in(alloc, &mut pages, root)?;
     assert!(rt; matches!(found, Some((Damage::Order, _))));
@@ -177,7 +177,7 @@ fn three_numbers(alloc: Global, pages: &mut MemPages) -> R<u32> {
 #[test]
 fn an_entry_out_of_order_is_refused(rt: HostRuntime) -> Result<(), Fail> {
     let alloc = rt.alloc();
-    let mut pages = new_database(alloc)?.pages;
+    let mut pages = new_pages(alloc)?;
     let root = three_numbers(alloc, &mut pages)?;
     assert!(rt; damage_in(alloc, &mut pages, root)?.is_none());
     let high = byte_of(&mut pages, root, 8)?;
@@ -198,7 +198,7 @@ fn an_entry_out_of_order_is_refused(rt: HostRuntime) -> Result<(), Fail> {
 #[test]
 fn an_index_page_that_is_given_twice_is_refused(rt: HostRuntime) -> Result<(), Fail> {
     let alloc = rt.alloc();
-    let mut pages = new_database(alloc)?.pages;
+    let mut pages = new_pages(alloc)?;
     let root = grown(alloc, &mut pages, Collation::Binary, 77)?;
     assert_eq!(rt; byte_of(&mut pages, root, 0)?, 2);
     set_byte(alloc, &mut pages, root, 11, u8::try_from(root).unwrap_or(0))?;
@@ -214,7 +214,7 @@ fn an_index_page_that_is_given_twice_is_refused(rt: HostRuntime) -> Result<(), F
 #[test]
 fn a_leaf_at_another_depth_is_refused(rt: HostRuntime) -> Result<(), Fail> {
     let alloc = rt.alloc();
-    let mut pages = new_database(alloc)?.pages;
+    let mut pages = new_pages(alloc)?;
     let leaf = new_tree(alloc, &mut pages)?;
     let root = grown(alloc, &mut pages, Collation::Binary, 77)?;
     set_byte(alloc, &mut pages, root, 10, 0)?;

@@ -2,11 +2,7 @@
 #![tactic(auto)]
 
 #[cfg(test)]
-mod checks;
-#[cfg(test)]
 mod databases;
-#[cfg(test)]
-mod deletions;
 #[cfg(test)]
 mod forests;
 #[cfg(test)]
@@ -15,8 +11,6 @@ mod index_ways;
 mod keys;
 #[cfg(test)]
 mod removals;
-#[cfg(test)]
-mod statements;
 #[cfg(test)]
 mod tables;
 #[cfg(test)]

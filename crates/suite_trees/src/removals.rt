@@ -1,6 +1,6 @@
 //! Rows that are taken out of the trees of tables.
 
-use crate::databases::new_database;
+use crate::databases::new_pages;
 use pagecheck::{are_all_marked, check_freelist, check_tree};
 use pages::{MemPages, Pages};
 use sqlval::R;
@@ -90,7 +90,7 @@ fn free_count(pages: &mut MemPages) -> R<u32> {
 
 /// Whether a tree that has all rows is its root alone when they are taken out by the multiples of a number.
 fn is_emptied(alloc: Global, factor: i64) -> R<bool> {
-    let mut pages = new_database(alloc)?.pages;
+    let mut pages = new_pages(alloc)?;
     let root = new_tree(alloc, &mut pages)?;
     grow(alloc, &mut pages, root)?;
     let grown = is_whole(alloc, &mut pages, root)?;
@@ -121,7 +121,7 @@ fn mixed_rows_are_taken_out(rt: HostRuntime) -> Result<(), Fail> {
 #[test]
 fn the_schema_table_is_emptied(rt: HostRuntime) -> Result<(), Fail> {
     let alloc = rt.alloc();
-    let mut pages = new_database(alloc)?.pages;
+    let mut pages = new_pages(alloc)?;
     grow(alloc, &mut pages, 1)?;
     assert_eq!(rt; empties(alloc, &mut pages, 1, 77)?, true);
     assert_eq!(rt; free_count(&mut pages)?.saturating_add(1), pages.size());
@@ -131,7 +131,7 @@ fn the_schema_table_is_emptied(rt: HostRuntime) -> Result<(), Fail> {
 #[test]
 fn a_row_that_is_not_there_stays_out(rt: HostRuntime) -> Result<(), Fail> {
     let alloc = rt.alloc();
-    let mut pages = new_database(alloc)?.pages;
+    let mut pages = new_pages(alloc)?;
     let root = new_tree(alloc, &mut pages)?;
     assert_eq!(rt; remove(alloc, &mut pages, root, 1)?, false);
     insert(alloc, &mut pages, root, 1, &[1])?;
@@ -154,7 +154,7 @@ fn replace(alloc: Global, pages: &mut MemPages, root: u32, rowid: i64, payload: 
 #[test]
 fn a_payload_is_replaced(rt: HostRuntime) -> Result<(), Fail> {
     let alloc = rt.alloc();
-    let mut pages = new_database(alloc)?.pages;
+    let mut pages = new_pages(alloc)?;
     let root = new_tree(alloc, &mut pages)?;
     grow(alloc, &mut pages, root)?;
     let free = free_count(&mut pages)?;
@@ -226,7 +226,7 @@ fn changes_up_to(alloc: Global, most: i64) -> R<Vec<RowChange>> {
 #[test]
 fn runs_of_rows_are_changed(rt: HostRuntime) -> Result<(), Fail> {
     let alloc = rt.alloc();
-    let mut pages = new_database(alloc)?.pages;
+    let mut pages = new_pages(alloc)?;
     let root = new_tree(alloc, &mut pages)?;
     grow(alloc, &mut pages, root)?;
     let changes = changes_up_to(alloc, ROWS)?;
@@ -245,7 +245,7 @@ fn runs_of_rows_are_changed(rt: HostRuntime) -> Result<(), Fail> {
 #[test]
 fn changes_in_any_order_are_made(rt: HostRuntime) -> Result<(), Fail> {
     let alloc = rt.alloc();
-    let mut pages = new_database(alloc)?.pages;
+    let mut pages = new_pages(alloc)?;
     let root = new_tree(alloc, &mut pages)?;
     grow(alloc, &mut pages, root)?;
     let mut changes = changes_up_to(alloc, ROWS)?;
@@ -285,7 +285,7 @@ fn begins_with(pages: &mut MemPages, kind: u8, cells: u8) -> R<bool> {
 #[test]
 fn a_row_without_room_beside_the_header_lies_below(rt: HostRuntime) -> Result<(), Fail> {
     let alloc = rt.alloc();
-    let mut pages = new_database(alloc)?.pages;
+    let mut pages = new_pages(alloc)?;
     assert_eq!(rt; puts_large(alloc, &mut pages, 1, 1)?, true);
     assert_eq!(rt; begins_with(&mut pages, 5, 0)?, true);
     assert_eq!(rt; free_count(&mut pages)?.saturating_add(2), pages.size());
@@ -302,7 +302,7 @@ fn a_row_without_room_beside_the_header_lies_below(rt: HostRuntime) -> Result<()
 #[test]
 fn a_short_payload_leaves_its_page(rt: HostRuntime) -> Result<(), Fail> {
     let alloc = rt.alloc();
-    let mut pages = new_database(alloc)?.pages;
+    let mut pages = new_pages(alloc)?;
     let root = new_tree(alloc, &mut pages)?;
     assert_eq!(rt; puts_large(alloc, &mut pages, root, 1)?, true);
     assert_eq!(rt; puts_large(alloc, &mut pages, root, 2)?, true);

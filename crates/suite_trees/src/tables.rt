@@ -1,7 +1,7 @@
 //! Rows that are put into the trees of tables.
 
-use dbheader::Header;
-use pages::{MemPages, Pages, WritePages};
+use crate::databases::new_pages;
+use pages::{MemPages, Pages};
 use sqlval::R;
 use std::alloc::Global;
 use std::test::*;
@@ -9,13 +9,7 @@ use tabletree::{insert, new_tree};
 
 /// A file of two pages of 512 bytes: page 1 with an empty leaf after the database's header, and an empty leaf.
 fn two_leaves(alloc: Global) -> R<MemPages> {
-    let mut pages = MemPages::new(alloc, 512, 65536);
-    pages.grow()?;
-    let mut first = Vec::new(alloc);
-    first.extend_from_slice(&dbheader::write(&Header::empty(512)))?;
-    first.extend_from_slice(&[13, 0, 0, 0, 0, 2, 0, 0])?;
-    first.resize(512, 0)?;
-    pages.put(1, &first)?;
+    let mut pages = new_pages(alloc)?;
     new_tree(alloc, &mut pages)?;
     Ok(pages)
 }

@@ -1,6 +1,6 @@
 //! Trees whose ways from the root to a leaf have as many pages as the format's readers follow.
 
-use crate::databases::new_database;
+use crate::databases::new_pages;
 use pagecheck::{are_all_marked, check_freelist, check_tree};
 use pages::{MemPages, Pages, WritePages};
 use sqlval::R;
@@ -129,7 +129,7 @@ fn has_row(alloc: Global, pages: &mut MemPages, root: u32, step: u8) -> R<bool> 
 #[test]
 fn a_way_of_20_pages_gives_way_to_a_short_one(rt: HostRuntime) -> Result<(), Fail> {
     let alloc = rt.alloc();
-    let mut pages = new_database(alloc)?.pages;
+    let mut pages = new_pages(alloc)?;
     let root = add_tree(alloc, &mut pages)?;
     put_last(alloc, &mut pages, root, 2)?;
     assert_eq!(rt; way_of(&mut pages, root)?, 20);

@@ -1,0 +1,33 @@
+1 CREATE TABLE a (n INTEGER, t TEXT)
+1 CREATE TABLE b (t TEXT, n INTEGER)
+1 INSERT INTO a VALUES (7, 'seven'), (-1, '')
+1 INSERT INTO b VALUES ('one', 1)
+1 INSERT INTO a (t, n) VALUES ('nine', 9)
+1 INSERT INTO b (n) VALUES (2)
+1 SELECT * FROM a
+1 SELECT n, 'x' FROM b
+1 CREATE TABLE t (n INTEGER, t TEXT)
+1 INSERT INTO t VALUES (5, 'a'), (5, 'b')
+1 INSERT INTO t VALUES (5, 'c')
+1 SELECT rowid, t FROM t
+1 INSERT INTO t VALUES (9223372036854775808, 'b')
+1 INSERT INTO t VALUES (1, 'b'), (2)
+1 INSERT INTO none VALUES (1, 'b')
+1 SELECT count(*) FROM t
+1 CREATE TABLE T (other TEXT)
+1 CREATE TABLE sqlite_t (n INTEGER)
+1 DELETE FROM t
+1 INSERT INTO t VALUES (2 + 3 * 4, 'a' || 'b'), (-(7), upper('c'))
+1 SELECT * FROM t
+1 DELETE FROM t
+1 INSERT INTO t VALUES (1, 'a'), (2, 'b'), (3, 'a'), (NULL, 'a'), (5, NULL)
+1 DELETE FROM t WHERE t = 'a' AND n > 1
+1 SELECT rowid, coalesce(t, '-') FROM t
+1 DELETE FROM t WHERE rowid <> 2
+1 SELECT rowid, coalesce(t, '-') FROM t
+1 DELETE FROM t WHERE 1
+1 SELECT rowid, coalesce(t, '-') FROM t
+1 INSERT INTO t VALUES (1, 'a'), (9223372036854775807, 'b')
+1 DELETE FROM t WHERE n + 1 > 0
+1 DELETE FROM t WHERE m = 1
+1 SELECT n, t FROM t
