@@ -9,12 +9,14 @@ pub mod HeldTrees
 pub mod IndexCreations
 pub mod IndexDroppings
 pub mod Insertions
+mod KeyedRows
 pub mod LoadedSources
 pub mod Owners
 pub mod Replacing
 pub mod Roots
 pub mod SchemaRows
 mod SearchedRows
+mod Searching
 pub mod StreamedRows
 pub mod Telling
 pub mod Updates

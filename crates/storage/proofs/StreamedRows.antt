@@ -132,10 +132,12 @@ module _ {P K : Type 0} (below : P → K) (tells : K → Bool) (limits : K → L
 -- ---- of a database
 
 -- the rows of a query with one source
-pub bound_streamed : {X : Type 0} (view : X → Rows) (law : LoadsBeside) (pages : PageMap) (size : ℕ) (tables : List Table) (db : Database) (stored : Stores pages size tables db) (reading : Reading) (places : List BoundSource)
-    (table : BoundSource) (result : Result X Fault) → places ≡ table ∷ [] → ArePlaced tables reading.sources places → Streams view pages size reading table result → AnswersOrFails view (answer_of db [] reading) result
-bound_streamed view law pages size tables db stored reading places table result one placed streams =
-    subst (λ (a : Answer Rows). AnswersOrFails view a result) (sym over) (streams (stored.rows_at table.root) stored.shared.whole held)
+pub bound_over : {X : Type 0} (view : X → Rows) (law : LoadsBeside) (pages : PageMap) (size : ℕ) (tables : List Table) (db : Database) (stored : Stores pages size tables db) (reading : Reading) (places : List BoundSource)
+    (table : BoundSource) (result : Result X Fault) → places ≡ table ∷ [] → ArePlaced tables reading.sources places
+    → (AreWhole size pages → HasRows pages size table.root table.width (stored.rows_at table.root) → AnswersOrFails view (rows_over reading [] (beside_rows reading.sources (map as_source (stored.rows_at table.root) ∷ []))) result)
+    → AnswersOrFails view (answer_of db [] reading) result
+bound_over view law pages size tables db stored reading places table result one placed answered =
+    subst (λ (a : Answer Rows). AnswersOrFails view a result) (sym over) (answered stored.shared.whole held)
   where
     over : answer_of db [] reading ≡ rows_over reading [] (beside_rows reading.sources (map as_source (stored.rows_at table.root) ∷ []))
     over =

@@ -1,5 +1,5 @@
 -- What a query answers (SQL As Understood By SQLite, "SELECT").
-use Rattle.std.specs.Prelude.{◌≡◌, ◌⊎◌, ℕ, false, List, [], ◌∷◌, map, Contains, MatchResult, Result, Ok, Err}
+use Rattle.std.specs.Prelude.{◌≡◌, ◌⊎◌, ℕ, false, List, [], ◌∷◌, map, Contains, MatchResult, Option, Some, Result, Ok, Err}
 use Rattle.std.specs.List.{AllByRecursion}
 use Rattle.sqlval.specs.Faults.{IsOutside}
 use Rattle.sqlval.specs.Refusals.{Answer, refusal_of}
@@ -7,12 +7,19 @@ use Rattle.sqlval.specs.declared.fault.Fault.{Fault}
 use Rattle.sqlval.specs.declared.value.Value.{Value}
 use Rattle.pages.specs.Map.{PageMap, AreWhole}
 use Rattle.syntax.specs.declared.query.Query.{Query}
-use Rattle.catalog.specs.Database.{Database}
+use Rattle.indextree.specs.Tree.{IsIndexTree}
+use Rattle.indexes.specs.Entries.{collations, entries_of_rows}
+use Rattle.holdings.specs.Trees.{columns_of}
+use Rattle.catalog.specs.Database.{Database, Name}
+use Rattle.catalog.specs.Listed.{table_named}
+use Rattle.catalog.specs.declared.tables.Index.{Index}
+use Rattle.catalog.specs.declared.tables.Table.{Table}
 use Rattle.terms.specs.Values.{Row}
 use Rattle.bind.specs.Checked.{Checked, Meant, faults}
 use Rattle.bind.specs.Queries.{resolve_query}
 use Rattle.bind.specs.Views.{look_up}
 use Rattle.bind.specs.declared.queries.BoundSource.{BoundSource}
+use Rattle.bind.specs.declared.reading.Condition.{Condition}
 use Rattle.bind.specs.declared.reading.Reading.{Reading}
 use Rattle.rowprog.specs.Rows.{TableRow}
 use Rattle.rowprog.specs.Sources.{as_source}
@@ -48,3 +55,28 @@ LoadsAll view pages size tables result = (rows_at : ℕ → List TableRow) → A
 abbrev pub Streams : {X : Type 0} → (X → List (List Value)) → PageMap → ℕ → Reading → BoundSource → Result X Fault → Type 0
 Streams view pages size reading table result = (rows : List TableRow) → AreWhole size pages → HasRows pages size table.root table.width rows
     → AnswersOrFails view (rows_over reading [] (beside_rows reading.sources (map as_source rows ∷ []))) result
+
+-- ---- searches
+
+-- the index's tree has the entries of these rows
+abbrev pub HasEntries : PageMap → ℕ → List TableRow → Index → Type 0
+HasEntries pages size rows index = (used : List ℕ) × IsIndexTree pages size index.root (collations (columns_of index)) (entries_of_rows (columns_of index) rows) used
+
+-- What a call answered, seen by `view`, is what a query comes to over the rows of its only source, where its tree has some and that of an
+-- index their entries; or one of its refusals.
+abbrev pub SearchesBy : {X : Type 0} → (X → List (List Value)) → PageMap → ℕ → Reading → BoundSource → Index → Result X Fault → Type 0
+SearchesBy view pages size reading table index result = (rows : List TableRow) → AreWhole size pages → HasRows pages size table.root table.width rows
+    → HasEntries pages size rows index → AnswersOrFails view (rows_over reading [] (beside_rows reading.sources (map as_source rows ∷ []))) result
+
+-- each of the indexes' trees has them
+abbrev pub HaveEntries : PageMap → ℕ → List TableRow → List Index → Type 0
+HaveEntries pages size rows indexes = AllByRecursion (HasEntries pages size rows) indexes
+
+-- the same where each of some indexes has them
+abbrev pub Searches : {X : Type 0} → (X → List (List Value)) → PageMap → ℕ → Reading → BoundSource → List Index → Result X Fault → Type 0
+Searches view pages size reading table indexes result = (rows : List TableRow) → AreWhole size pages → HasRows pages size table.root table.width rows
+    → HaveEntries pages size rows indexes → AnswersOrFails view (rows_over reading [] (beside_rows reading.sources (map as_source rows ∷ []))) result
+
+-- the table is that of a query's only source
+abbrev pub IsOnly : List Table → List (Name × Condition) → Table → Type 0
+IsOnly tables sources table = (name : Name) × (condition : Condition) × (sources ≡ (name, condition) ∷ []) × (table_named name tables ≡ Some table)

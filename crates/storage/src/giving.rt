@@ -8,7 +8,6 @@ ghost use Rattle.pages.specs.Calls.{Stays};
 ghost use Rattle.syntax.specs.declared.change.InsertSource.TheVariants as source;
 ghost use Rattle.catalog.specs.Database.{Database};
 ghost use Rattle.catalog.specs.Listed.{tables_of};
-ghost use Rattle.catalog.specs.declared.tables.Table.{Table as Listed};
 ghost use Rattle.syntax.specs.declared.query.Query.{Query as Asked};
 ghost use Rattle.bind.specs.Checked.{known_all};
 ghost use Rattle.bind.specs.Expressions.{resolve};
@@ -112,19 +111,20 @@ fn written_rows(alloc: Global, rows: &[Many<Expr>], count: usize) -> R<Rows>
 fn counted_rows<P: Pages>(
     alloc: Global,
     pages: &mut P,
+    catalog: &Catalog,
     bound: &BoundReading,
     count: usize,
 ) -> R<Rows>
-    ensures given { (tables : List Listed) (db : Database) (query : Asked) → IsTrue (P.Pages.tells (P.Pages.below pages.old))
-        → Stores (P.Pages.map pages.old) (P.Pages.limits (P.Pages.below pages.old)).page tables db → ArePlaced tables bound.now.reading.sources bound.now.tables
-        → Asks db query bound.now.reading → AnswersRead (λ found. map values_of found.items) (given_on db count (source.Query query)) result }
+    ensures given { (db : Database) (query : Asked) → IsTrue (P.Pages.tells (P.Pages.below pages.old))
+        → Stores (P.Pages.map pages.old) (P.Pages.limits (P.Pages.below pages.old)).page (tables_of catalog.now) db
+        → ArePlaced (tables_of catalog.now) bound.now.reading.sources bound.now.tables → Asks db query bound.now.reading → AnswersRead (λ found. map values_of found.items) (given_on db count (source.Query query)) result }
     ensures wide { IfOk result (λ found. HaveWidth count (map values_of found.items)) }
     ensures stays { Stays P.Pages.below P.Pages.map P.Pages.count P.Pages.failures result pages.old pages.new }
 {
     if bound.reading.results.len() != count {
         return Err(Fault::Misuse(Misuse::Count));
     }
-    bound_rows(alloc, pages, bound)
+    bound_rows(alloc, pages, catalog, bound)
 }
 
 /// The rows of a query, which must have `count` results. (What `bind_reading` and `counted_rows` refuse.)
@@ -142,7 +142,7 @@ fn queried_rows<P: Pages>(
     ensures stays { Stays P.Pages.below P.Pages.map P.Pages.count P.Pages.failures result pages.old pages.new }
 {
     let bound = bind_reading(alloc, catalog, query)?;
-    counted_rows(alloc, pages, &bound, count)
+    counted_rows(alloc, pages, catalog, &bound, count)
 }
 
 /// The rows that an INSERT gives, each of `count` values. (What `written_rows` and `queried_rows` refuse.)

@@ -7,6 +7,7 @@ mod dropping;
 mod giving;
 mod inserting;
 mod reading;
+mod searching;
 mod updating;
 
 pub use creating::{create_index, create_table};

@@ -1,34 +1,33 @@
 //! The rows of a query.
 
-ghost use Rattle.std.specs.Prelude.{◌≡◌, ◌∷◌, [], length, map, true, IfErr, IfOk, IfSome, IsTrue, List};
+ghost use Rattle.std.specs.Prelude.{◌≡◌, ◌∷◌, [], length, map, true, IfOk, IfSome, IsTrue, List};
 ghost use Rattle.pages.specs.Calls.{Stays};
 ghost use Rattle.catalog.specs.Database.{Database};
 ghost use Rattle.catalog.specs.Listed.{tables_of};
 ghost use Rattle.catalog.specs.declared.tables.Table.{Table as Listed};
 ghost use Rattle.bind.specs.Views.{answer_of};
 ghost use Rattle.querybinder.specs.Named.{ArePlaced};
-ghost use Rattle.plan.specs.Searching.{Searches};
 ghost use Rattle.queries.specs.Answers.{HaveWidth};
 ghost use Rattle.queries.specs.Parts.{is_row_by_row as row_by_row};
 ghost use Rattle.rowprog.specs.Rows.{values_of};
 ghost use Rattle.rowprog.specs.Trees.{AnswersOrFails};
-ghost use Rattle.storage.specs.Reading.{AnswersRead, LoadsAll, Streams};
+ghost use Rattle.storage.specs.Reading.{AnswersRead, IsOnly, LoadsAll, Streams};
 ghost use Rattle.stored.specs.Stored.{Stores};
 ghost use Rattle.storage.specs.Works.{read_on};
 
+use crate::searching::searched_rows;
 use bind::{BoundSource, Reading};
-use catalog::Catalog;
+use catalog::{Catalog, Table};
 use pages::Pages;
-use plan::{searched_rowid, searches_as_scans};
+use plan::search_of;
 use queries::{
     GivenRows, answer, finish, give_rows, is_row_by_row, rows_are_given_in_parts,
     rows_are_loaded_beside_conditions,
 };
 use querybinder::{BoundReading, bind_reading};
-use rowprog::{Rows, next_source_rows, rows_are_held, source_rows, source_rows_at};
-use sqlval::{Fault, Many, R};
+use rowprog::{Rows, next_source_rows, rows_are_held, source_rows};
+use sqlval::{Many, R};
 use std::alloc::Global;
-use std::array::from_ref;
 use syntax::Query;
 use tabletree::{Batch, Cursor};
 use terms::SourceRow;
@@ -93,68 +92,43 @@ fn streamed_rows<P: Pages>(
     finish(alloc, reading, found)
 }
 
-/// The rows of a query that seeks a rowid of its only source: of its tree the row of that rowid is read. (What `source_rows_at` and `answer`
-/// refuse.)
-fn sought_rows<P: Pages>(
-    alloc: Global,
-    pages: &mut P,
-    reading: &Reading,
-    table: BoundSource,
-    rowid: i64,
-) -> R<Rows>
-    ensures answered { IsTrue (P.Pages.tells (P.Pages.below pages.old)) → Searches reading.now rowid
-        → Streams (λ rows. map values_of rows.items) (P.Pages.map pages.old) (P.Pages.limits (P.Pages.below pages.old)).page reading.now table result }
-    ensures wide { IfOk result (λ rows. HaveWidth (length reading.now.results) (map values_of rows.items)) }
-    ensures stays { Stays P.Pages.below P.Pages.map P.Pages.count P.Pages.failures result pages.old pages.new }
+/// The only source of a query, and the table that it is. None where there are more, or none.
+fn only_source<'a>(catalog: &'a Catalog, bound: &BoundReading) -> Option<(BoundSource, &'a Table)>
+    ensures only { IfSome result (λ it. bound.now.tables ≡ it.0 ∷ []) }
+    ensures named { IfSome result (λ it. IsOnly (tables_of catalog.now) bound.now.reading.sources it.1.now) }
 {
-    searches_as_scans();
-    let rows = source_rows_at(alloc, pages, table, rowid)?;
-    answer(alloc, reading, from_ref(&rows).as_slice())
-}
-
-/// The table of a query that seeks a rowid of its only source, and the rowid. (`Memory`.)
-fn sought_in(alloc: Global, bound: &BoundReading) -> R<Option<(BoundSource, i64)>>
-    ensures seeks { IfOk result (λ sought. IfSome sought (λ it. Searches bound.now.reading it.1)) }
-    ensures only { IfOk result (λ sought. IfSome sought (λ it. bound.now.tables ≡ it.0 ∷ [])) }
-    ensures refused { IfErr result (λ fault. fault ≡ Fault.Memory) }
-{
-    let [table] = bound.tables.as_slice() else {
-        return Ok(None);
-    };
-    match searched_rowid(alloc, &bound.reading)? {
-        Some(rowid) => Ok(Some((*table, rowid))),
-        None => Ok(None),
-    }
-}
-
-/// The table of a query that is row by row.
-fn only_table(bound: &BoundReading) -> Option<BoundSource>
-    ensures row_by_row { IfSome result (λ table. row_by_row bound.now.reading ≡ true) }
-    ensures only { IfSome result (λ table. bound.now.tables ≡ table ∷ []) }
-{
-    match bound.tables.as_slice() {
-        [table] if is_row_by_row(&bound.reading) => Some(*table),
+    match (bound.tables.as_slice(), bound.reading.sources.as_slice()) {
+        ([source], [(name, _)]) => Some((*source, catalog.table(name)?)),
         _ => None,
     }
 }
 
-/// The rows of a query whose names are looked up. (What `loaded_rows`, `streamed_rows` and `sought_rows` refuse.)
-pub(crate) fn bound_rows<P: Pages>(alloc: Global, pages: &mut P, bound: &BoundReading) -> R<Rows>
-    ensures answered { (tables : List Listed) (db : Database) → IsTrue (P.Pages.tells (P.Pages.below pages.old))
-        → Stores (P.Pages.map pages.old) (P.Pages.limits (P.Pages.below pages.old)).page tables db
-        → ArePlaced tables bound.now.reading.sources bound.now.tables
+/// The rows of a query whose names are looked up. (What `search_of`, `searched_rows`, `streamed_rows` and `loaded_rows` refuse.)
+pub(crate) fn bound_rows<P: Pages>(
+    alloc: Global,
+    pages: &mut P,
+    catalog: &Catalog,
+    bound: &BoundReading,
+) -> R<Rows>
+    ensures answered { (db : Database) → IsTrue (P.Pages.tells (P.Pages.below pages.old))
+        → Stores (P.Pages.map pages.old) (P.Pages.limits (P.Pages.below pages.old)).page (tables_of catalog.now) db
+        → ArePlaced (tables_of catalog.now) bound.now.reading.sources bound.now.tables
         → AnswersOrFails (λ rows. map values_of rows.items) (answer_of db [] bound.now.reading) result }
     ensures wide { IfOk result (λ rows. HaveWidth (length bound.now.reading.results) (map values_of rows.items)) }
     ensures stays { Stays P.Pages.below P.Pages.map P.Pages.count P.Pages.failures result pages.old pages.new }
 {
     rows_are_loaded_beside_conditions();
-    if let Some((table, rowid)) = sought_in(alloc, bound)? {
-        return sought_rows(alloc, pages, &bound.reading, table, rowid);
-    }
-    let Some(table) = only_table(bound) else {
+    let Some((source, table)) = only_source(catalog, bound) else {
         return loaded_rows(alloc, pages, bound);
     };
-    streamed_rows(alloc, pages, &bound.reading, table)
+    let indexes = table.indexes.as_slice();
+    if let Some(search) = search_of(alloc, &bound.reading, indexes)? {
+        return searched_rows(alloc, pages, &bound.reading, source, indexes, search);
+    }
+    if is_row_by_row(&bound.reading) {
+        return streamed_rows(alloc, pages, &bound.reading, source);
+    }
+    loaded_rows(alloc, pages, bound)
 }
 
 /// The rows of a query. (What `bind_reading`, `source_rows` and `answer` refuse.)
@@ -165,5 +139,5 @@ pub fn read<P: Pages>(alloc: Global, pages: &mut P, catalog: &Catalog, query: &Q
     ensures stays { Stays P.Pages.below P.Pages.map P.Pages.count P.Pages.failures result pages.old pages.new }
 {
     let bound = bind_reading(alloc, catalog, query)?;
-    bound_rows(alloc, pages, &bound)
+    bound_rows(alloc, pages, catalog, &bound)
 }

@@ -14,13 +14,13 @@ use Rattle.storage.proofs.GivenQueries.{miscounted, other_count, well_counted}
 use Rattle.storage.proofs.giving.counted_rows.Goals as goal
 
 pub returns-then-len-count-clause-given : goal.returns-then-len-count-clause-given
-returns-then-len-count-clause-given g c tables db query told stored placed asks =
+returns-then-len-count-clause-given g c db query told stored placed asks =
     (let other = other_count c.len.result (length c.args.bound.now.reading.results) c.args.count c.len.ensures c.if-len-count.true in
     refused_by_text (λ (found : Vec (SmallVec Value) Global). map values_of found.items) (given_on db c.args.count (source.Query query)) (Misuse Count) (miscounted db c.args.count query c.args.bound.now.reading asks.0 asks.1 (Misuse Count) other refl))
 
 pub returns-clause-given : goal.returns-clause-given
-returns-clause-given g c tables db query told stored placed asks =
+returns-clause-given g c db query told stored placed asks =
     (let same : (c.args.count == length c.args.bound.now.reading.results) ≡ true = search rules in
     bound_read (λ found. map values_of found.items) (answer_of db [] c.args.bound.now.reading) (given_on db c.args.count (source.Query query)) c.bound_rows.result
     (well_counted db c.args.count query c.args.bound.now.reading asks.0 asks.1 same)
-    (c.bound_rows.ensures.answered tables db told stored placed))
+    (c.bound_rows.ensures.answered db told stored placed))

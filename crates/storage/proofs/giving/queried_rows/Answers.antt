@@ -14,5 +14,5 @@ returns-in_err-bound-clause-given g c db told stored =
 
 pub returns-clause-given : goal.returns-clause-given
 returns-clause-given g c db told stored =
-    c.counted_rows.ensures.given (tables_of c.args.catalog.now) db c.args.query.now told stored c.in_ok-bound.ensures.placed
+    c.counted_rows.ensures.given db c.args.query.now told stored c.in_ok-bound.ensures.placed
     (c.in_ok-bound.ensures.named (look_up db) (known_listed stored.rows_at (tables_of c.args.catalog.now) db stored.of_tables.lists), c.in_ok-bound.ensures.closed)

@@ -3,7 +3,7 @@ use Rattle.std.proofs.lemmas.Int.{to_z-of_z}
 use Rattle.rowprog.specs.Rows.{values_of}
 use Rattle.rowprog.specs.Sources.{LoadsRowsAt}
 use Rattle.storage.proofs.SearchedRows.{not_searched, searched_rows}
-use Rattle.storage.proofs.reading.sought_rows.Goals as goal
+use Rattle.storage.proofs.searching.sought_rows.Goals as goal
 
 pub returns-in_err-rows-clause-answered : goal.returns-in_err-rows-clause-answered
 returns-in_err-rows-clause-answered g c = λ told seeks.
