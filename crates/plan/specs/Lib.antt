@@ -1,2 +1,4 @@
 pub mod Seeking
 pub mod Searching
+pub mod Keys
+pub mod Asking

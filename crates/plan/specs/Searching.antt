@@ -38,7 +38,3 @@ SearchesAsScans = (q : Reading) (rowid : ℤ) → Searches q rowid → (rows : L
 abbrev pub is_plain : List (Name × Condition) → Bool
 is_plain ((name, Always) ∷ []) = true
 is_plain _ = false
-
--- whether the plan of a query is a search by rowid
-abbrev pub is_rowid_search : Reading → Bool
-is_rowid_search q = elim q.filter [ None ↦ false | Some condition ↦ is_plain q.sources && is_search 0 no_index condition ]

@@ -29,7 +29,7 @@ fn is_numeric(affinity: Option<Affinity>) -> bool
 }
 
 /// What is applied to a side beside the other.
-fn conversion(own: Option<Affinity>, other: Option<Affinity>) -> Affinity
+pub(crate) fn conversion(own: Option<Affinity>, other: Option<Affinity>) -> Affinity
     ensures { result ≡ meant.conversion own other }
 {
     match (own, other) {

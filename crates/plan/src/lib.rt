@@ -2,14 +2,16 @@
 #![tactic(auto)]
 
 mod calm;
+mod keys;
 mod searching;
 mod seeking;
 
+ghost use Rattle.plan.specs.Keys.{KeySearchesAsScans};
 ghost use Rattle.plan.specs.Seeking.{OtherRowsFail};
 ghost use Rattle.plan.specs.Searching.{SearchesAsScans};
 
 pub use calm::is_calm;
-pub use searching::searched_rowid;
+pub use searching::{Search, search_of};
 pub use seeking::sought_rowid;
 
 /// A condition that seeks a rowid is false for each row of another one, and is refused for none.
@@ -20,4 +22,9 @@ pub fn other_rows_fail()
 /// A query that seeks a rowid of its only source gives the same over the rows of that rowid as over all.
 pub fn searches_as_scans()
     ensures { SearchesAsScans }
+{}
+
+/// A query that seeks the key of an index of its only source gives the same over the rows of that key as over all.
+pub fn key_searches_as_scans()
+    ensures { KeySearchesAsScans }
 {}

@@ -55,17 +55,16 @@ fn asked_in(condition: &Term, source: usize) -> Option<u64>
     }
 }
 
-/// The number of the rowid that a condition seeks in a source: for a row of another one the condition is false. None where it seeks
-/// none, or may be refused. (`Memory`.)
-fn sought_number(alloc: Global, condition: &Term, source: usize) -> R<Option<u64>>
-    ensures found { IfOk result (λ sought. IfSome sought (λ rowid. Seeks source condition.now rowid)) }
-    ensures only { IfOk result (λ sought. IfNone sought (calm.is_search source no_index condition.now ≡ false)) }
-    ensures refused { IfErr result (λ fault. fault ≡ Fault.Memory) }
+/// The rowid that a condition which can't be refused seeks in a source, or None where it seeks none.
+pub(crate) fn rowid_in(condition: &Term, source: usize) -> Option<i64>
+    requires { calm.is_calm condition.now ≡ true }
+    ensures found { IfSome result (λ rowid. SeeksRowid source condition.now rowid) }
+    ensures none { IfNone result (list_any (calm.finds source no_index) (calm.parts condition.now) ≡ false) }
 {
-    if !is_calm(alloc, condition)? {
-        return Ok(None);
+    match asked_in(condition, source) {
+        Some(number) => i64::try_from(number).ok(),
+        None => None,
     }
-    Ok(asked_in(condition, source))
 }
 
 /// The rowid that a condition seeks in a source: for a row of another one the condition is false. None where it seeks none, or may be
@@ -75,8 +74,8 @@ pub fn sought_rowid(alloc: Global, condition: &Term, source: usize) -> R<Option<
     ensures only { IfOk result (λ sought. IfNone sought (calm.is_search source no_index condition.now ≡ false)) }
     ensures refused { IfErr result (λ fault. fault ≡ Fault.Memory) }
 {
-    match sought_number(alloc, condition, source)? {
-        Some(number) => Ok(i64::try_from(number).ok()),
-        None => Ok(None),
+    if !is_calm(alloc, condition)? {
+        return Ok(None);
     }
+    Ok(rowid_in(condition, source))
 }

@@ -1,0 +1,104 @@
+-- Which rows an index finds for a condition: those whose values of its first columns are the ones that the condition asks for (The SQLite
+-- Query Optimizer Overview, "WHERE Clause Analysis"; Query Planning, "Multi-Column Indices").
+use Rattle.std.specs.Prelude.{◌≡◌, ◌⊎◌, ⊤, ℕ, pos, Bool, true, false, ◌&&◌, ◌==◌, List, [], ◌∷◌, filter, slice_index_or, slice_get, Option, None, Some, Ok}
+use Rattle.std.specs.List.{list_any}
+use Rattle.std.specs.Ordering.{is_eq}
+use Rattle.sqlval.specs.Conversion.{converted}
+use Rattle.sqlval.specs.Order.{order}
+use Rattle.sqlval.specs.declared.affinity.Affinity.{Affinity}
+use Rattle.sqlval.specs.declared.collation.Collation.{Collation}
+use Rattle.sqlval.specs.declared.value.Value.{Value}
+use Rattle.sqlval.specs.declared.value.Value.TheVariants.{Null, Int}
+use Rattle.catalog.specs.Database.{Name}
+use Rattle.catalog.specs.declared.tables.Index.{Index}
+use Rattle.catalog.specs.declared.tables.IndexColumn.{IndexColumn}
+use Rattle.terms.specs.Terms.{Term, Const, Digits, Cell, Two, collation_index}
+use Rattle.terms.specs.Values.{Row, conversion}
+use Rattle.terms.specs.declared.tree.Comparison.TheVariants.{Equal}
+use Rattle.terms.specs.declared.tree.Place.TheVariants.{At}
+use Rattle.terms.specs.declared.tree.TwoSided.TheVariants.{Compare, And}
+use Rattle.bind.specs.Calm.{is_calm, is_search}
+use Rattle.bind.specs.Readings.{rows_over}
+use Rattle.bind.specs.declared.reading.Condition.TheVariants.{Always}
+use Rattle.bind.specs.declared.reading.Reading.{Reading}
+use Rattle.plan.specs.Searching.{Searches, is_plain}
+use Rattle.plan.specs.declared.searching.Search.{Search}
+use Rattle.plan.specs.declared.searching.Search.TheVariants.{Rowid, Key}
+
+-- ---- rows of a key
+
+-- whether a row's values of the first columns are tied with a key, each under its column's collation
+abbrev pub has_key : List IndexColumn → List Value → List Value → Bool
+has_key (column ∷ columns) (k ∷ key) values = is_eq (order column.collation (slice_index_or values column.place Null) k) && has_key columns key values
+has_key columns key values = true
+
+-- the rows of a key
+abbrev pub keyed : List IndexColumn → List Value → List Row → List Row
+keyed columns key rows = filter (λ row. has_key columns key row.values) rows
+
+-- ---- what a condition asks for
+
+-- the value that a column of this affinity is compared with beside a literal
+abbrev pub IsKeyOf : Option Affinity → Term → Value → Type 0
+IsKeyOf a (Const v) k = converted (conversion None a) v ≡ Ok k
+IsKeyOf a (Digits n) k = converted (conversion None a) (Int (pos n)) ≡ Ok k
+IsKeyOf a t k = ⊥
+
+-- `c = literal` of a column of the source of this number, under the index's collation
+abbrev pub IsAsked : ℕ → IndexColumn → Value → Term → Type 0
+IsAsked n column k (Two (Compare Equal) (Cell s (At i) a c) literal) = (s ≡ n) × (i ≡ column.place) × (c ≡ column.collation) × IsKeyOf a literal k
+IsAsked n column k t = ⊥
+
+-- it is so of one of the parts that AND joins
+abbrev pub HasPart : (Term → Type 0) → Term → Type 0
+HasPart P (Two And a b) = HasPart P a ⊎ HasPart P b
+HasPart P t = P t
+
+-- for each value of the key there is such a part
+abbrev pub AreAsked : ℕ → List IndexColumn → List Value → Term → Type 0
+AreAsked n columns [] condition = ⊤
+AreAsked n [] (k ∷ key) condition = ⊥
+AreAsked n (column ∷ columns) (k ∷ key) condition = HasPart (IsAsked n column k) condition × AreAsked n columns key condition
+
+-- The condition can't be refused, and AND joins what the key asks of the source with what else it asks.
+pub record SeeksKey (source : ℕ) (condition : Term) (columns : List IndexColumn) (key : List Value) : Type 0 where
+  pub calm : is_calm condition ≡ true
+  pub asked : AreAsked source columns key condition
+  pub some : key ≡ [] → ⊥
+
+-- ---- queries
+
+-- The query has one source, whose rows join without a condition, and its WHERE seeks this key of it.
+pub record SearchesKey (q : Reading) (columns : List IndexColumn) (key : List Value) : Type 0 where
+  pub name : Name
+  pub alone : q.sources ≡ (name, Always) ∷ []
+  pub condition : Term
+  pub filter_is : q.filter ≡ Some condition
+  pub seeks : SeeksKey 0 condition columns key
+
+-- Such a query gives the same over the rows of that key as over all.
+abbrev pub KeySearchesAsScans : Type 0
+KeySearchesAsScans = (q : Reading) (columns : List IndexColumn) (key : List Value) → SearchesKey q columns key → (rows : List Row)
+    → rows_over q [] ((Always, rows) ∷ []) ≡ rows_over q [] ((Always, keyed columns key rows) ∷ [])
+
+-- whether two collations are one
+abbrev pub is_same_collation : Collation → Collation → Bool
+is_same_collation c d = collation_index c == collation_index d
+
+-- whether the first of these columns stands at this place, under this collation
+abbrev pub is_first : ℕ → Collation → List IndexColumn → Bool
+is_first place collation [] = false
+is_first place collation (column ∷ columns) = column.place == place && is_same_collation column.collation collation
+
+-- whether one of the indexes begins with the column of this place, under this collation
+abbrev pub begins : List Index → ℕ → Collation → Bool
+begins indexes place collation = list_any (λ i. is_first place collation i.columns) indexes
+
+-- whether the plan of a query is a search, by rowid or by one of the table's indexes
+abbrev pub is_table_search : List Index → Reading → Bool
+is_table_search indexes q = elim q.filter [ None ↦ false | Some condition ↦ is_plain q.sources && is_search 0 (begins indexes) condition ]
+
+-- the query seeks this rowid, or this key of the index at this place
+abbrev pub IsSearchOf : List Index → Reading → Search → Type 0
+IsSearchOf indexes q (Rowid rowid) = Searches q rowid
+IsSearchOf indexes q (Key place key) = (index : Index) × (slice_get indexes place ≡ Some index) × SearchesKey q index.columns key
