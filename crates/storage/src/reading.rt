@@ -98,7 +98,7 @@ fn only_source<'a>(catalog: &'a Catalog, bound: &BoundReading) -> Option<(BoundS
     ensures named { IfSome result (λ it. IsOnly (tables_of catalog.now) bound.now.reading.sources it.1.now) }
 {
     match (bound.tables.as_slice(), bound.reading.sources.as_slice()) {
-        ([source], [(name, _)]) => Some((*source, catalog.table(name)?)),
+        ([source], [(name, _)]) => Some((*source, catalog.table(name.as_str())?)),
         _ => None,
     }
 }
