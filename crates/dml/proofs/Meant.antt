@@ -1,10 +1,10 @@
 -- The rows that a statement means are those that its condition chooses.
-use Rattle.std.proofs.Common.{◌≡◌, inl, inr, refl, sym, ap, subst, ◌∙◌, ◌<◌, ◌≤◌, ◌+◌, ℕ, Bool, filter, List, [], ◌∷◌, ◌++◌, length, map, take, slice_index_or, Option, Some, None, Result, Ok, Err}
+use Rattle.std.proofs.Common.{◌≡◌, inl, inr, refl, sym, ap, subst, ◌∙◌, ◌<◌, ◌≤◌, ◌+◌, ℕ, List, [], ◌∷◌, ◌++◌, length, map, take, slice_index_or, Option, Result, Ok, Err}
 use Rattle.std.specs.Prelude.{IfErr, IfOk, IsErrAnd}
 use Rattle.std.specs.Global.{Vec}
 use Rattle.std.proofs.lemmas.List.{map_more, take_all}
 use Rattle.sqlval.specs.Faults.{IsOutside}
-use Rattle.sqlval.specs.Refusals.{Answer, ◌then◌, all_answers}
+use Rattle.sqlval.specs.Refusals.{Answer, ◌then◌}
 use Rattle.sqlval.specs.declared.fault.Fault.{Fault}
 use Rattle.sqlval.specs.declared.fault.Fault.TheVariants.{Memory}
 use Rattle.pages.specs.Map.{PageMap}
@@ -17,14 +17,13 @@ use Rattle.terms.specs.Values.{Row}
 use Rattle.rowprog.specs.Rows.{TableRow}
 use Rattle.rowprog.specs.Sources.{as_source}
 use Rattle.rowprog.specs.Trees.{AnswersOrFails}
-use Rattle.dml.specs.Choosing.{is_chosen, tested}
-use Rattle.dml.specs.Meaning.{FindsMeant, LoadsMeant, as_row, chosen_or_all}
+use Rattle.dml.specs.Meaning.{AreEnough, FindsMeant, LoadsMeant, as_row, chosen_or_all}
 use Rattle.dml.specs.NewRows.{row_of}
 use Rattle.dml.specs.Setting.{rows_meant}
 use Rattle.dml.proofs.SetRows.{map_twice}
-use Rattle.dml.proofs.SetTrees.{meant_as, meant_by}
+use Rattle.dml.proofs.SetTrees.{as_sources, meant_as_chosen}
 
-abbrev as_table : List Row → Answer (List TableRow)
+abbrev pub as_table : List Row → Answer (List TableRow)
 as_table them = Ok (map as_row them)
 
 -- ---- the calls
@@ -58,16 +57,11 @@ back : (rows : List TableRow) → map as_row (map as_source rows) ≡ rows
 back [] = refl
 back (row ∷ rows) = ap (λ (rs : List TableRow). row ∷ rs) (back rows)
 
-all_rows : (rows : List TableRow) → filter (λ row. meant_by None row) rows ≡ rows
-all_rows [] = refl
-all_rows (row ∷ rows) = ap (λ (rs : List TableRow). row ∷ rs) (all_rows rows)
-
-as_meant : (c : Option Term) (rows : List TableRow) → (rows_meant c [] (map as_source rows) then as_table) ≡ chosen_or_all c rows
-as_meant None rows = ap (λ (a : Answer (List Row)). a then as_table) (meant_as None [] rows) ∙ ap (λ (rs : List TableRow). Ok rs) (back (filter (meant_by None) rows) ∙ all_rows rows)
-as_meant (Some c) rows = ap (λ (a : Answer (List Row)). a then as_table) (meant_as (Some c) [] rows) ∙ by (all_answers (map (tested c) rows))
+pub as_meant : (c : Option Term) (rows : List TableRow) → (rows_meant c [] (map as_source rows) then as_table) ≡ chosen_or_all c rows
+as_meant c rows = ap (λ (a : Answer (List Row)). a then as_table) (meant_as_chosen c rows) ∙ by (chosen_or_all c rows)
   where
-    by : (a : Answer (List (Option Bool))) → ((a then λ ts. Ok (map as_source (filter (is_chosen c) rows))) then as_table) ≡ (a then λ tests. Ok (filter (is_chosen c) rows))
-    by (Ok ts) = ap (λ (rs : List TableRow). Ok rs) (back (filter (is_chosen c) rows))
+    by : (a : Answer (List TableRow)) → ((a then as_sources) then as_table) ≡ a
+    by (Ok them) = ap (λ (rs : List TableRow). Ok rs) (back them)
     by (Err r) = refl
 
 module _ (pages : PageMap) (size : ℕ) (table : BoundSource) (c : Option Term) where
@@ -77,9 +71,12 @@ module _ (pages : PageMap) (size : ℕ) (table : BoundSource) (c : Option Term) 
 
   pub meant_found : (found : List Row) (result : Result (Vec stored.TableRow) Fault) → LoadsMeant pages size table c (Ok found)
       → AnswersBy (λ them. map row_of them.items) (rows_meant c [] found then λ them. Ok (map as_row them)) result → FindsMeant pages size table c result
-  meant_found found result loads answers rows whole has = by result (subst (λ (a : Answer (List Row)). AnswersBy (λ them. map row_of them.items) (a then as_table) result) (loads rows whole has) answers)
+  meant_found found result loads answers rows whole has = by result (subst (λ (a : Answer (List TableRow)). AnswersBy (λ them. map row_of them.items) a result) (known (loads rows whole has)) answers)
     where
-      by : (r : Result (Vec stored.TableRow) Fault) → AnswersBy (λ them. map row_of them.items) (rows_meant c [] (map as_source rows) then as_table) r → AnswersOrFails (λ them. map row_of them.items) (chosen_or_all c rows) r
-      by (Ok them) e = sym (as_meant c rows) ∙ e
+      known : AreEnough c found rows → (rows_meant c [] found then as_table) ≡ chosen_or_all c rows
+      known enough = ap (λ (them : List Row). rows_meant c [] them then as_table) enough.are ∙ (as_meant c enough.some ∙ enough.same)
+
+      by : (r : Result (Vec stored.TableRow) Fault) → AnswersBy (λ them. map row_of them.items) (chosen_or_all c rows) r → AnswersOrFails (λ them. map row_of them.items) (chosen_or_all c rows) r
+      by (Ok them) e = e
       by (Err f) (inl memory) = inl (inl memory)
-      by (Err f) (inr e) = inr (sym (as_meant c rows) ∙ e)
+      by (Err f) (inr e) = inr e

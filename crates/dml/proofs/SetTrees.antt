@@ -18,11 +18,12 @@ use Rattle.terms.specs.Outcome.{IsRefusedBy}
 use Rattle.terms.specs.Terms.{Term}
 use Rattle.terms.specs.Values.{Row}
 use Rattle.rowprog.specs.Rows.{IsRow, TableRow}
-use Rattle.rowprog.specs.Sources.{LoadsRows, as_source}
+use Rattle.rowprog.specs.Sources.{as_source}
 use Rattle.rowprog.specs.Trees.{HasRows}
 use Rattle.rowprog.proofs.TreeOrder.{tree_rises}
 use Rattle.dml.specs.Choosing.{is_chosen, tested}
 use Rattle.dml.specs.Inserting.{AllStorable}
+use Rattle.dml.specs.Meaning.{AreEnough, LoadsMeant, chosen_or_all}
 use Rattle.dml.specs.NewRows.{IsWritten, row_of}
 use Rattle.dml.specs.Setting.{rows_changed, rows_meant, rows_meant_set, rows_set, source_set}
 use Rattle.dml.specs.Updating.{AreSetIn, IsSetRefusal, ReplacesRows, SetsRows, TellsChanged, with_all_replaced}
@@ -71,6 +72,22 @@ meant_as (Some c) before (r ∷ rows) = by (λ more. meant_as (Some c) more rows
     by again (Ok (Some false)) it = rw (it, ap is_true it) (again before ∙ passed (asked (Some c) rows) (Some false) (map as_source (filter (is_chosen c) rows)))
     by again (Ok None) it = rw (it, ap is_true it) (again before ∙ passed (asked (Some c) rows) None (map as_source (filter (is_chosen c) rows)))
 
+abbrev pub as_sources : List TableRow → Answer (List Row)
+as_sources them = Ok (map as_source them)
+
+all_rows : (rows : List TableRow) → filter (meant_by None) rows ≡ rows
+all_rows [] = refl
+all_rows (row ∷ rows) = ap (λ (rs : List TableRow). row ∷ rs) (all_rows rows)
+
+-- the rows that are meant are those that the condition chooses
+pub meant_as_chosen : (c : Option Term) (rows : List TableRow) → rows_meant c [] (map as_source rows) ≡ (chosen_or_all c rows then as_sources)
+meant_as_chosen None rows = meant_as None [] rows ∙ ap as_sources (all_rows rows)
+meant_as_chosen (Some c) rows = meant_as (Some c) [] rows ∙ by (all_answers (map (tested c) rows))
+  where
+    by : (a : Answer (List (Option Bool))) → (a then λ ts. given_rows (map as_source (filter (is_chosen c) rows))) ≡ ((a then λ tests. Ok (filter (is_chosen c) rows)) then as_sources)
+    by (Ok ts) = refl
+    by (Err r) = refl
+
 module _ (columns : List Column) (sets : List (ℕ × Term)) (c : Option Term) where
   abbrev changes : List Row → Answer (List TableRow)
   changes them = all_answers (map (source_set columns sets) them)
@@ -100,6 +117,13 @@ module _ (columns : List Column) (sets : List (ℕ × Term)) (c : Option Term) w
       by (Ok ts) h = set_refused columns sets (meant_by c) rows why h
       by (Err r) h = h
 
+  -- what the rows become of which it's enough to read some
+  enough_changed : (found : List Row) (rows : List TableRow) → AreEnough c found rows → rows_changed columns sets c found ≡ rows_changed columns sets c (map as_source rows)
+  enough_changed found rows enough =
+      ap (rows_changed columns sets c) enough.are
+      ∙ ap (λ (a : Answer (List Row)). a then changes)
+      (meant_as_chosen c enough.some ∙ (ap (λ (a : Answer (List TableRow)). a then as_sources) enough.same ∙ sym (meant_as_chosen c rows)))
+
   -- ---- what the calls answer
 
   module _ (old new : PageMap) (size root : ℕ) where
@@ -126,36 +150,36 @@ module _ (columns : List Column) (sets : List (ℕ × Term)) (c : Option Term) w
       has_rows : (rows : List TableRow) (entries : List Entry) (used free : List ℕ) → Stands old size root entries used free → Pairwise (IsRow (length columns)) entries rows → HasRows old size root width rows
       has_rows rows entries used free is each = subst (λ w. HasRows old size root w rows) (sym wide) (record { entries = entries; used = used; tree = is.tree; each = each })
 
-      pub none_loaded : {X : Type 0} (fault : Fault) (result : Result X Fault) → IsErrAnd result (λ e. e ≡ fault) → LoadsRows old size source (Err fault) → SetsRows old new size root columns sets c result
+      pub none_loaded : {X : Type 0} (fault : Fault) (result : Result X Fault) → IsErrAnd result (λ e. e ≡ fault) → LoadsMeant old size source c (Err fault) → SetsRows old new size root columns sets c result
       none_loaded fault result same loads = refused fault result same (λ rows entries used free is each. inl (inl (loads rows is.free_are.whole (has_rows rows entries used free is each))))
 
-      module _ (found : List Row) (loads : LoadsRows old size source (Ok found)) where
-        found_are : (rows : List TableRow) (entries : List Entry) (used free : List ℕ) → Stands old size root entries used free → Pairwise (IsRow (length columns)) entries rows → found ≡ map as_source rows
+      module _ (found : List Row) (loads : LoadsMeant old size source c (Ok found)) where
+        found_are : (rows : List TableRow) (entries : List Entry) (used free : List ℕ) → Stands old size root entries used free → Pairwise (IsRow (length columns)) entries rows → AreEnough c found rows
         found_are rows entries used free is each = loads rows is.free_are.whole (has_rows rows entries used free is each)
 
         pub none_changed : {X : Type 0} (fault : Fault) (result : Result X Fault) → IsErrAnd result (λ e. e ≡ fault) → IsRefusedBy (rows_changed columns sets c found) fault → SetsRows old new size root columns sets c result
         none_changed fault result same why = refused fault result same (λ rows entries used free is each. by rows (found_are rows entries used free is each) why)
           where
-            by : (rows : List TableRow) → found ≡ map as_source rows → IsRefusedBy (rows_changed columns sets c found) fault → IsSetRefusal columns sets c rows fault
-            by rows are (inl memory) = inl (inl (inl memory))
-            by rows are (inr e) = inr (inl (changed_refused rows (refusal_of fault) (ap (rows_changed columns sets c) (sym are) ∙ e)))
+            by : (rows : List TableRow) → AreEnough c found rows → IsRefusedBy (rows_changed columns sets c found) fault → IsSetRefusal columns sets c rows fault
+            by rows enough (inl memory) = inl (inl (inl memory))
+            by rows enough (inr e) = inr (inl (changed_refused rows (refusal_of fault) (sym (enough_changed found rows enough) ∙ e)))
 
         -- the rows that are answered
         pub told_changed : (them : Vec stored.TableRow) → rows_changed columns sets c found ≡ Ok (map row_of them.items) → TellsChanged old size root columns sets c (Ok them)
         told_changed them answer rows whole has =
-            subst (λ (all : List Row). rows_changed columns sets c all ≡ Ok (map row_of them.items)) (loads rows whole (subst (λ w. HasRows old size root w rows) (sym wide) has)) answer
+            sym (enough_changed found rows (loads rows whole (subst (λ w. HasRows old size root w rows) (sym wide) has))) ∙ answer
 
         module _ (changed : List TableRow) (answer : rows_changed columns sets c found ≡ Ok changed) where
-          known : (rows : List TableRow) → found ≡ map as_source rows → (made columns sets (meant_by c) rows ≡ Ok changed) × (rows_set columns sets c rows ≡ rows_meant_set columns sets (meant_by c) rows)
-          known rows are = changed_known rows changed (ap (rows_changed columns sets c) (sym are) ∙ answer)
+          known : (rows : List TableRow) → AreEnough c found rows → (made columns sets (meant_by c) rows ≡ Ok changed) × (rows_set columns sets c rows ≡ rows_meant_set columns sets (meant_by c) rows)
+          known rows enough = changed_known rows changed (sym (enough_changed found rows enough) ∙ answer)
 
           pub none_stored : {X : Type 0} (fault : Fault) (result : Result X Fault) → IsErrAnd result (λ e. e ≡ fault) → (fault ≡ f.Memory) ⊎ ((fault ≡ f.TooLong) × (AllStorable changed → ⊥)) → SetsRows old new size root columns sets c result
           none_stored fault result same why = refused fault result same (λ rows entries used free is each. by rows (found_are rows entries used free is each) why)
             where
-              by : (rows : List TableRow) → found ≡ map as_source rows → (fault ≡ f.Memory) ⊎ ((fault ≡ f.TooLong) × (AllStorable changed → ⊥)) → IsSetRefusal columns sets c rows fault
-              by rows are (inl memory) = inl (inl (inl memory))
-              by rows are (inr (long, cannot)) =
-                  let is = known rows are in
+              by : (rows : List TableRow) → AreEnough c found rows → (fault ≡ f.Memory) ⊎ ((fault ≡ f.TooLong) × (AllStorable changed → ⊥)) → IsSetRefusal columns sets c rows fault
+              by rows enough (inl memory) = inl (inl (inl memory))
+              by rows enough (inr (long, cannot)) =
+                  let is = known rows enough in
                   let set = are_changed columns sets (meant_by c) rows changed is.0 in
                   inr (inr (record { is = long; now = set.now; answer = is.1 ∙ set.answer; long = λ all. cannot (set.storable all) }))
 

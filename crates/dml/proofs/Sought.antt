@@ -1,4 +1,4 @@
--- Over the rows of the rowid that a condition seeks the same rows are meant as over all.
+-- Of the rows of the rowid that a condition seeks it chooses the same rows as of all.
 use Rattle.std.proofs.Common.{◌≡◌, refl, sym, ap, ◌∙◌, ℕ, ℤ, pos, Bool, true, false, cond, List, [], ◌∷◌, ◌++◌, map, Option, Some, Result, Ok, Err, if◌then◌else◌}
 use mathlib.Core.Bool.{true≢false}
 use Rattle.std.specs.Prelude.{unwrap_or}
@@ -14,8 +14,10 @@ use Rattle.bind.specs.declared.queries.BoundSource.{BoundSource}
 use Rattle.plan.specs.Seeking.{OtherRowsFail, SeeksRowid}
 use Rattle.rowprog.specs.Rows.{TableRow}
 use Rattle.rowprog.specs.Sources.{LoadsRows, LoadsRowsAt, as_source, rows_at}
+use Rattle.dml.specs.Choosing.{chosen}
 use Rattle.dml.specs.Meaning.{LoadsMeant}
 use Rattle.dml.specs.Setting.{is_meant_for, rows_meant}
+use Rattle.dml.proofs.Meant.{as_meant, as_table}
 
 -- ---- the rows that are meant
 
@@ -51,13 +53,18 @@ module _ (fail : OtherRowsFail) (term : Term) (rowid : ℤ) (seeks : SeeksRowid 
         ap (λ (is : Bool). rows_meant (Some term) before (map as_source (with_row is row rows))) it
         ∙ (same before ∙ sym (ap (after before (as_source row) (map as_source rows)) (not_meant row it)))
 
+  same_chosen : (rows : List TableRow) → chosen term (rows_at rowid rows) ≡ chosen term rows
+  same_chosen rows =
+      sym (as_meant (Some term) (rows_at rowid rows)) ∙ (ap (λ (a : Answer (List Row)). a then as_table) (same_meant rows []) ∙ as_meant (Some term) rows)
+
 -- ---- what is loaded
 
 module _ (pages : PageMap) (size : ℕ) (table : BoundSource) where
   pub loads_all : (condition : Option Term) (result : Result (List Row) Fault) → LoadsRows pages size table result → LoadsMeant pages size table condition result
-  loads_all condition (Ok found) loads = λ rows whole has. ap (rows_meant condition []) (loads rows whole has)
+  loads_all condition (Ok found) loads = λ rows whole has. record { some = rows; are = loads rows whole has; same = refl }
   loads_all condition (Err fault) loads = λ rows whole has. loads rows whole has
 
   pub loads_sought : (fail : OtherRowsFail) (term : Term) (rowid : ℤ) → SeeksRowid 0 term rowid → (result : Result (List Row) Fault) → LoadsRowsAt pages size table rowid result → LoadsMeant pages size table (Some term) result
-  loads_sought fail term rowid seeks (Ok found) loads = λ rows whole has. ap (rows_meant (Some term) []) (loads rows whole has) ∙ same_meant fail term rowid seeks rows []
+  loads_sought fail term rowid seeks (Ok found) loads = λ rows whole has.
+      record { some = rows_at rowid rows; are = loads rows whole has; same = same_chosen fail term rowid seeks rows }
   loads_sought fail term rowid seeks (Err fault) loads = λ rows whole has. loads rows whole has

@@ -6,7 +6,7 @@ use Rattle.std.specs.List.{list_all}
 use Rattle.std.specs.Ordering.{int_cmp}
 use Rattle.std.proofs.lemmas.List.{take_all, take_more}
 use Rattle.sqlval.specs.Lists.{is_rising}
-use Rattle.sqlval.specs.Refusals.{◌then◌, refusal_of}
+use Rattle.sqlval.specs.Refusals.{Answer, ◌then◌, refusal_of}
 use Rattle.sqlval.specs.declared.fault.Fault.{Fault}
 use Rattle.sqlval.specs.declared.fault.Fault.TheVariants.{Memory}
 use Rattle.page.specs.Leaf.{Entry}
@@ -24,10 +24,11 @@ use Rattle.terms.specs.Outcome.{IsRefusedBy}
 use Rattle.terms.specs.Terms.{Term}
 use Rattle.terms.specs.Values.{Row}
 use Rattle.rowprog.specs.Rows.{IsRow, TableRow}
-use Rattle.rowprog.specs.Sources.{LoadsRows, as_source}
+use Rattle.rowprog.specs.Sources.{as_source}
 use Rattle.rowprog.proofs.RowOrder.{both_true}
 use Rattle.rowprog.proofs.TreeOrder.{tree_rises}
 use Rattle.dml.specs.Choosing.{chosen, is_chosen, rows_left}
+use Rattle.dml.specs.Meaning.{AreEnough, LoadsMeant}
 use Rattle.tabletree.specs.declared.changing.RowChange.{RowChange}
 use Rattle.dml.specs.Taking.{AreTakenOut, IsTakeRefusal, MakesRows, TakesRows, without_rows}
 use Rattle.dml.proofs.Chosen.{chosen_and_left, chosen_refused}
@@ -166,27 +167,37 @@ module _ (old new : PageMap) (size : ℕ) (table : BoundSource) (condition : Ter
   pub none_listed : (fault : Fault) (result : Result ⊤ Fault) → IsErrAnd result (λ e. e ≡ fault) → fault ≡ Memory → TakesRows old new size table condition result
   none_listed fault result same memory = refused fault result same (λ rows entries used free is each. inl (inl (inl memory)))
 
-  pub none_loaded : (fault : Fault) (result : Result ⊤ Fault) → IsErrAnd result (λ e. e ≡ fault) → LoadsRows old size table (Err fault) → TakesRows old new size table condition result
+  pub none_loaded : (fault : Fault) (result : Result ⊤ Fault) → IsErrAnd result (λ e. e ≡ fault) → LoadsMeant old size table (Some condition) (Err fault) → TakesRows old new size table condition result
   none_loaded fault result same loads = refused fault result same (λ rows entries used free is each. inl (inl (loads rows is.free_are.whole (record { entries = entries; used = used; tree = is.tree; each = each }))))
 
-  module _ (found : List Row) (loads : LoadsRows old size table (Ok found)) where
-    found_are : (rows : List TableRow) (entries : List Entry) (used free : List ℕ) → Stands old size table.root entries used free → Pairwise (IsRow table.width) entries rows → found ≡ map as_source rows
+  -- their rowids, of rows that are chosen
+  abbrev rowids_of : Answer (List TableRow) → Answer (List ℤ)
+  rowids_of rows = rows then λ them. Ok (map (λ row. row.0) them)
+
+  module _ (found : List Row) (loads : LoadsMeant old size table (Some condition) (Ok found)) where
+    found_are : (rows : List TableRow) (entries : List Entry) (used free : List ℕ) → Stands old size table.root entries used free → Pairwise (IsRow table.width) entries rows → AreEnough (Some condition) found rows
     found_are rows entries used free is each = loads rows is.free_are.whole (record { entries = entries; used = used; tree = is.tree; each = each })
 
     pub none_chosen : (fault : Fault) (result : Result ⊤ Fault) → IsErrAnd result (λ e. e ≡ fault)
-        → ((rows : List TableRow) → found ≡ map as_source rows → IsRefusedBy (chosen condition rows then λ them. Ok (map (λ row. row.0) them)) fault) → TakesRows old new size table condition result
-    none_chosen fault result same why = refused fault result same (λ rows entries used free is each. by rows (why rows (found_are rows entries used free is each)))
+        → ((some : List TableRow) → found ≡ map as_source some → IsRefusedBy (chosen condition some then λ them. Ok (map (λ row. row.0) them)) fault) → TakesRows old new size table condition result
+    none_chosen fault result same why = refused fault result same (λ rows entries used free is each. of_all rows (found_are rows entries used free is each))
       where
-        by : (rows : List TableRow) → IsRefusedBy (chosen condition rows then λ them. Ok (map (λ row. row.0) them)) fault → IsTakeRefusal condition rows fault
+        by : (rows : List TableRow) → IsRefusedBy (rowids_of (chosen condition rows)) fault → IsTakeRefusal condition rows fault
         by rows (inl memory) = inl (inl (inl memory))
         by rows (inr e) = inr (chosen_refused condition rows (refusal_of fault) e)
 
-    pub rows_taken : (rowids : List ℤ) (result : Result ⊤ Fault) → ((rows : List TableRow) → found ≡ map as_source rows → (chosen condition rows then λ them. Ok (map (λ row. row.0) them)) ≡ Ok rowids)
+        of_all : (rows : List TableRow) → AreEnough (Some condition) found rows → IsTakeRefusal condition rows fault
+        of_all rows enough = by rows (subst (λ (a : Answer (List TableRow)). IsRefusedBy (rowids_of a) fault) enough.same (why enough.some enough.are))
+
+    pub rows_taken : (rowids : List ℤ) (result : Result ⊤ Fault) → ((some : List TableRow) → found ≡ map as_source some → (chosen condition some then λ them. Ok (map (λ row. row.0) them)) ≡ Ok rowids)
         → MakesRows old new size table.root (without_rows rowids) result → TakesRows old new size table condition result
     rows_taken rowids result chosen_are makes rows entries used free is each = by result (makes entries used free is)
       where
+        enough : AreEnough (Some condition) found rows
+        enough = found_are rows entries used free is each
+
         known : (rowids ≡ rowids_in (filter (is_chosen condition) rows)) × (rows_left condition rows ≡ Ok (filter (λ row. not (is_chosen condition row)) rows))
-        known = chosen_and_left condition rows rowids (chosen_are rows (found_are rows entries used free is each))
+        known = chosen_and_left condition rows rowids (ap rowids_of (sym enough.same) ∙ chosen_are enough.some enough.are)
 
         rises : Rises rows
         rises = rows_rise table.width entries rows (tree_rises old size table.root entries used is.tree) each

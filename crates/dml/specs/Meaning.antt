@@ -1,5 +1,5 @@
 -- The rows of a table that a statement means (SQL As Understood By SQLite, "DELETE", "UPDATE").
-use Rattle.std.specs.Prelude.{◌≡◌, ℕ, List, [], map, Option, Some, None, Ok, Result, MatchResult}
+use Rattle.std.specs.Prelude.{◌≡◌, ℕ, List, map, Option, Some, None, Ok, Result, MatchResult}
 use Rattle.std.specs.Global.{Vec}
 use Rattle.sqlval.specs.Faults.{IsOutside}
 use Rattle.sqlval.specs.Refusals.{Answer}
@@ -14,7 +14,7 @@ use Rattle.rowprog.specs.Sources.{as_source}
 use Rattle.rowprog.specs.Trees.{AnswersOrFails, HasRows}
 use Rattle.dml.specs.Choosing.{chosen}
 use Rattle.dml.specs.NewRows.{row_of}
-use Rattle.dml.specs.Setting.{rowid_number, rows_meant}
+use Rattle.dml.specs.Setting.{rowid_number}
 
 -- the rows for which the condition is true, or all where there is none; or the first refusal
 abbrev pub chosen_or_all : Option Term → List TableRow → Answer (List TableRow)
@@ -25,10 +25,17 @@ chosen_or_all (Some condition) rows = chosen condition rows
 abbrev pub as_row : Row → TableRow
 as_row row = (rowid_number row.rowid, row.values)
 
--- Of a tree of rows, the condition means among these the rows that it means among all; or memory was short, or a disk's call failed.
+-- Of all rows it's enough to read some: the condition chooses the same of them, or is refused as for all (The SQLite Query Optimizer
+-- Overview, "WHERE Clause Analysis").
+pub record AreEnough (condition : Option Term) (found : List Row) (all : List TableRow) : Type 0 where
+  pub some : List TableRow
+  pub are : found ≡ map as_source some
+  pub same : chosen_or_all condition some ≡ chosen_or_all condition all
+
+-- Of a tree of rows these are enough for the condition; or memory was short, or a disk's call failed.
 abbrev pub LoadsMeant : PageMap → ℕ → BoundSource → Option Term → Result (List Row) Fault → Type 0
 LoadsMeant pages size table condition result = (rows : List TableRow) → AreWhole size pages → HasRows pages size table.root table.width rows
-    → MatchResult result (λ found. rows_meant condition [] found ≡ rows_meant condition [] (map as_source rows)) IsOutside
+    → MatchResult result (λ found. AreEnough condition found rows) IsOutside
 
 -- Of a tree of rows these are the rows that are meant; or the condition is refused for a row, memory was short, or a disk's call failed.
 abbrev pub FindsMeant : PageMap → ℕ → BoundSource → Option Term → Result (Vec stored.TableRow) Fault → Type 0

@@ -7,6 +7,7 @@ mod deleting;
 mod inserting;
 mod meaning;
 mod putting;
+mod seeking;
 mod setting;
 mod taking;
 mod updating;

@@ -6,16 +6,15 @@ ghost use Rattle.sqlval.specs.Refusals.{◌then◌};
 ghost use Rattle.pages.specs.Calls.{Stays};
 ghost use Rattle.terms.specs.Outcome.{AnswersBy};
 ghost use Rattle.terms.specs.Rows.{row_at};
-ghost use Rattle.dml.specs.Meaning.{FindsMeant, LoadsMeant, as_row};
+ghost use Rattle.dml.specs.Meaning.{FindsMeant, as_row};
 ghost use Rattle.dml.specs.NewRows.{row_of};
 ghost use Rattle.dml.specs.Setting.{rows_meant};
 
+use crate::seeking::rows_for;
 use crate::setting::{places_meant, rowid_at, values_at};
 use bind::BoundSource;
 use catalog::TableRow;
 use pages::Pages;
-use plan::{other_rows_fail, sought_rowid};
-use rowprog::{source_rows, source_rows_at};
 use sqlval::{Fault, Many, R};
 use std::alloc::Global;
 use terms::{SourceRow, Term};
@@ -52,28 +51,7 @@ fn copies_meant(alloc: Global, rows: &Many<SourceRow>, condition: &Option<Term>)
     copies_at(alloc, rows, &places)
 }
 
-/// The rows of a table that a condition may mean: that of the rowid which it seeks, or all. (What `source_rows` and `source_rows_at` refuse.)
-fn rows_for<P: Pages>(
-    alloc: Global,
-    pages: &mut P,
-    table: BoundSource,
-    condition: &Option<Term>,
-) -> R<Many<SourceRow>>
-    ensures loaded { IsTrue (P.Pages.tells (P.Pages.below pages.old))
-        → LoadsMeant (P.Pages.map pages.old) (P.Pages.limits (P.Pages.below pages.old)).page table condition.now result }
-    ensures stays { Stays P.Pages.below P.Pages.map P.Pages.count P.Pages.failures result pages.old pages.new }
-{
-    other_rows_fail();
-    let Some(term) = condition else {
-        return source_rows(alloc, pages, table);
-    };
-    match sought_rowid(alloc, term, 0)? {
-        Some(rowid) => source_rows_at(alloc, pages, table, rowid),
-        None => source_rows(alloc, pages, table),
-    }
-}
-
-/// The rows of a table for which a condition is true, or all where there is none, in order. (What `source_rows` refuses, and then what the
+/// The rows of a table for which a condition is true, or all where there is none, in order. (What `rows_for` refuses, and then what the
 /// condition does for a row, in order.)
 pub fn meant_rows<P: Pages>(
     alloc: Global,

@@ -7,9 +7,9 @@ ghost use Rattle.tabletree.specs.Rows.{with_changes};
 ghost use Rattle.dml.specs.Taking.{TakesRows, without_rows};
 
 use crate::choosing::chosen_rowids;
+use crate::seeking::rows_sought;
 use bind::BoundSource;
 use pages::WritePages;
-use rowprog::source_rows;
 use sqlval::{Fault, R};
 use std::alloc::Global;
 use tabletree::{RowChange, change_rows};
@@ -38,7 +38,7 @@ fn removals(alloc: Global, rowids: &[i64]) -> R<Vec<RowChange>>
     Ok(changes)
 }
 
-/// Takes the rows for which a condition is true out of a table's tree. (What `source_rows`, the condition and `change_rows` refuse; where the
+/// Takes the rows for which a condition is true out of a table's tree. (What `rows_sought`, the condition and `change_rows` refuse; where the
 /// condition is refused, no row is taken out.)
 pub fn take_rows<P: WritePages>(
     alloc: Global,
@@ -53,7 +53,7 @@ pub fn take_rows<P: WritePages>(
     ensures causes { Causes result (P.Pages.failures pages.old) (P.Pages.failures pages.new)
         (P.Pages.count pages.new ≡ (P.Pages.limits (P.Pages.below pages.new)).most) }
 {
-    let rows = source_rows(alloc, pages, table)?;
+    let rows = rows_sought(alloc, pages, table, condition)?;
     let rowids = chosen_rowids(alloc, &rows, condition)?;
     let changes = removals(alloc, &rowids)?;
     change_rows(alloc, pages, table.root, &changes)

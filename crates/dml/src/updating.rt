@@ -6,11 +6,11 @@ ghost use Rattle.dml.specs.Agreement.{UpdatesSome};
 ghost use Rattle.dml.specs.Updating.{SetsRows, TellsChanged};
 
 use crate::inserting::changes_of;
+use crate::seeking::rows_for;
 use crate::setting::changed_rows;
 use bind::BoundSource;
 use catalog::{Table, TableRow, named_databases_are_one, other_rows_are_listed};
 use pages::WritePages;
-use rowprog::source_rows;
 use sqlval::R;
 use std::alloc::Global;
 use tabletree::change_rows;
@@ -25,8 +25,8 @@ pub fn update_sets_its_rows()
 }
 
 /// Sets values in the rows of a table's tree for which a condition is true, or in all where there is none, and answers what these rows have
-/// become. The condition is asked of all rows before the first is set. (What `source_rows`, the condition, SET's expressions and
-/// `change_rows` refuse, a real, and `TooLong` for a row that no record can hold; only what `change_rows` refuses leaves rows that are set.)
+/// become. The rows are chosen before the first is set. (What `rows_for`, the condition, SET's expressions and `change_rows`
+/// refuse, a real, and `TooLong` for a row that no record can hold; only what `change_rows` refuses leaves rows that are set.)
 pub fn set_new_rows<P: WritePages>(
     alloc: Global,
     pages: &mut P,
@@ -48,7 +48,7 @@ pub fn set_new_rows<P: WritePages>(
         root: table.root,
         width: table.columns.len(),
     };
-    let rows = source_rows(alloc, pages, source)?;
+    let rows = rows_for(alloc, pages, source, condition)?;
     let new = changed_rows(alloc, table.columns.as_slice(), sets, &rows, condition)?;
     let changes = changes_of(alloc, &new)?;
     change_rows(alloc, pages, table.root, &changes)?;

@@ -10,19 +10,19 @@ use Rattle.dml.proofs.taking.take_rows.Goals as goal
 pub returns-in_err-rows-clause-taken : goal.returns-in_err-rows-clause-taken
 returns-in_err-rows-clause-taken g c = λ told.
     (let pages = g.P.Pages in
-    none_loaded (pages.map c.args.pages.now) (pages.map c.source_rows.new.pages) (pages.limits (pages.below c.args.pages.now)).page c.args.table c.args.condition.now
+    none_loaded (pages.map c.args.pages.now) (pages.map c.rows_sought.new.pages) (pages.limits (pages.below c.args.pages.now)).page c.args.table c.args.condition.now
     c.in_err-rows.field-0.0 c.from_residual.result c.from_residual.ensures.1 (c.in_err-rows.ensures.loaded told))
 
 pub returns-in_err-rowids-clause-taken : goal.returns-in_err-rowids-clause-taken
 returns-in_err-rowids-clause-taken g c = λ told.
     (let pages = g.P.Pages in
-    none_chosen (pages.map c.args.pages.now) (pages.map c.source_rows.new.pages) (pages.limits (pages.below c.args.pages.now)).page c.args.table c.args.condition.now
+    none_chosen (pages.map c.args.pages.now) (pages.map c.rows_sought.new.pages) (pages.limits (pages.below c.args.pages.now)).page c.args.table c.args.condition.now
     c.in_ok-rows.rows (c.in_ok-rows.ensures.loaded told) c.in_err-rowids.field-0.0 c.from_residual-in_err-rowids.result c.from_residual-in_err-rowids.ensures.1 c.in_err-rowids.ensures.chosen)
 
 pub returns-in_err-changes-clause-taken : goal.returns-in_err-changes-clause-taken
 returns-in_err-changes-clause-taken g c = λ told.
     (let pages = g.P.Pages in
-    none_listed (pages.map c.args.pages.now) (pages.map c.source_rows.new.pages) (pages.limits (pages.below c.args.pages.now)).page c.args.table c.args.condition.now
+    none_listed (pages.map c.args.pages.now) (pages.map c.rows_sought.new.pages) (pages.limits (pages.below c.args.pages.now)).page c.args.table c.args.condition.now
     c.in_err-changes.field-0.0 c.from_residual-in_err-changes.result c.from_residual-in_err-changes.ensures.1 c.in_err-changes.ensures.refused)
 
 pub returns-clause-taken : goal.returns-clause-taken
@@ -35,7 +35,7 @@ returns-clause-taken g c = λ told.
     let stays = c.in_ok-rows.ensures.stays in
     let changes = c.in_ok-changes.changes.items in
     let changed = subst (λ them. ChangesRows old new size root them c.change_rows.result) c.deref-2.ensures.value
-    (changes_after pages.below pages.tells pages.limits pages.map c.args.pages.now c.source_rows.new.pages new root c.deref-2.result.now c.change_rows.result stays.kept stays.same c.change_rows.ensures.changed told) in
+    (changes_after pages.below pages.tells pages.limits pages.map c.args.pages.now c.rows_sought.new.pages new root c.deref-2.result.now c.change_rows.result stays.kept stays.same c.change_rows.ensures.changed told) in
     let made = λ (rows : List Entry). subst (λ rowids. with_changes changes rows ≡ without_rows rowids rows) c.deref.ensures.value (c.in_ok-changes.ensures.made rows) in
     rows_taken old new size c.args.table c.args.condition.now c.in_ok-rows.rows (c.in_ok-rows.ensures.loaded told) c.in_ok-rowids.rowids.items c.change_rows.result c.in_ok-rowids.ensures.chosen
     (as_made old new size root changes c.in_ok-rowids.rowids.items c.change_rows.result made changed))

@@ -10,14 +10,14 @@ pub returns-in_err-rows-clause-set : goal.returns-in_err-rows-clause-set
 returns-in_err-rows-clause-set g c = λ told.
     (let pages = g.P.Pages in
     let table = c.args.table.now in
-    none_loaded table.columns c.args.sets.now c.args.condition.now (pages.map c.args.pages.now) (pages.map c.source_rows.new.pages) (pages.limits (pages.below c.args.pages.now)).page table.root
+    none_loaded table.columns c.args.sets.now c.args.condition.now (pages.map c.args.pages.now) (pages.map c.rows_for.new.pages) (pages.limits (pages.below c.args.pages.now)).page table.root
     c.len.result c.len.ensures c.in_err-rows.field-0.0 c.from_residual.result c.from_residual.ensures.1 (c.in_err-rows.ensures.loaded told))
 
 pub returns-in_err-new-clause-set : goal.returns-in_err-new-clause-set
 returns-in_err-new-clause-set g c = λ told.
     (let pages = g.P.Pages in
     let table = c.args.table.now in
-    none_changed table.columns c.args.sets.now c.args.condition.now (pages.map c.args.pages.now) (pages.map c.source_rows.new.pages) (pages.limits (pages.below c.args.pages.now)).page table.root
+    none_changed table.columns c.args.sets.now c.args.condition.now (pages.map c.args.pages.now) (pages.map c.rows_for.new.pages) (pages.limits (pages.below c.args.pages.now)).page table.root
     c.len.result c.len.ensures c.in_ok-rows.rows (c.in_ok-rows.ensures.loaded told) c.in_err-new.field-0.0 c.from_residual-in_err-new.result c.from_residual-in_err-new.ensures.1
     (rw (c.as_slice.ensures) at c.in_err-new.ensures.changed))
 
@@ -25,7 +25,7 @@ pub returns-in_err-changes-clause-set : goal.returns-in_err-changes-clause-set
 returns-in_err-changes-clause-set g c = λ told.
     (let pages = g.P.Pages in
     let table = c.args.table.now in
-    none_stored table.columns c.args.sets.now c.args.condition.now (pages.map c.args.pages.now) (pages.map c.source_rows.new.pages) (pages.limits (pages.below c.args.pages.now)).page table.root
+    none_stored table.columns c.args.sets.now c.args.condition.now (pages.map c.args.pages.now) (pages.map c.rows_for.new.pages) (pages.limits (pages.below c.args.pages.now)).page table.root
     c.len.result c.len.ensures c.in_ok-rows.rows (c.in_ok-rows.ensures.loaded told) (map row_of c.in_ok-new.new.items) (rw (c.as_slice.ensures) at c.in_ok-new.ensures.changed)
     c.in_err-changes.field-0.0 c.from_residual-in_err-changes.result c.from_residual-in_err-changes.ensures.1 (rw (c.deref.ensures.value) at c.in_err-changes.ensures.refused))
 
@@ -40,7 +40,7 @@ returns-in_err-change_rows-clause-set g c = λ told.
     let stays = c.in_ok-rows.ensures.stays in
     let written : Pairwise IsWritten (map row_of c.in_ok-new.new.items) (map entry_left changes) = rw (c.deref.ensures.value) at c.in_ok-changes.ensures.made in
     let changed = subst (λ them. ChangesRows old new size table.root them (Err c.in_err-change_rows.field-0.0)) c.deref-2.ensures.value
-    (changes_after pages.below pages.tells pages.limits pages.map c.args.pages.now c.source_rows.new.pages new table.root c.deref-2.result.now (Err c.in_err-change_rows.field-0.0) stays.kept stays.same c.in_err-change_rows.ensures.changed told) in
+    (changes_after pages.below pages.tells pages.limits pages.map c.args.pages.now c.rows_for.new.pages new table.root c.deref-2.result.now (Err c.in_err-change_rows.field-0.0) stays.kept stays.same c.in_err-change_rows.ensures.changed told) in
     passed_on table.columns c.args.sets.now c.args.condition.now old new size table.root
     c.in_err-change_rows.field-0.0 c.from_residual-in_err-change_rows.result c.from_residual-in_err-change_rows.ensures.1
     (rows_replaced table.columns c.args.sets.now c.args.condition.now old new size table.root
@@ -58,7 +58,7 @@ returns-clause-set g c = λ told.
     let stays = c.in_ok-rows.ensures.stays in
     let written : Pairwise IsWritten (map row_of c.in_ok-new.new.items) (map entry_left changes) = rw (c.deref.ensures.value) at c.in_ok-changes.ensures.made in
     let changed = subst (λ them. ChangesRows old new size table.root them (Ok tt)) c.deref-2.ensures.value
-    (changes_after pages.below pages.tells pages.limits pages.map c.args.pages.now c.source_rows.new.pages new table.root c.deref-2.result.now (Ok tt) stays.kept stays.same c.in_ok-change_rows.ensures.changed told) in
+    (changes_after pages.below pages.tells pages.limits pages.map c.args.pages.now c.rows_for.new.pages new table.root c.deref-2.result.now (Ok tt) stays.kept stays.same c.in_ok-change_rows.ensures.changed told) in
     rows_replaced table.columns c.args.sets.now c.args.condition.now old new size table.root
     c.len.result c.len.ensures c.in_ok-rows.rows (c.in_ok-rows.ensures.loaded told) (map row_of c.in_ok-new.new.items) (rw (c.as_slice.ensures) at c.in_ok-new.ensures.changed)
     (map entry_left changes) (Ok tt) written (as_replaced old new size table.root changes (Ok tt) c.in_ok-changes.ensures.some changed))
