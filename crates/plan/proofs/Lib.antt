@@ -1,3 +1,6 @@
+pub mod KeyedRows
 pub mod Others
+pub mod Parts
 pub mod Scans
+pub mod Untrue
 pub mod Words
