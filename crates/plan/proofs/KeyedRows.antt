@@ -2,7 +2,6 @@
 -- false, or NULL.
 use Rattle.std.proofs.Common.{◌≡◌, refl, sym, ap, ◌∙◌, subst, ℕ, pos, Bool, true, false, ◌&&◌, List, [], ◌∷◌, slice_index_or, Option, Some, None, Ok}
 use mathlib.Core.Bool.{true≢false}
-use Rattle.std.specs.Prelude.{slice_get, unwrap_or}
 use Rattle.std.specs.Ordering.{is_eq}
 use Rattle.std.proofs.lemmas.Option.{unwrap_or-slice_get}
 use Rattle.sqlval.specs.Conversion.{converted}

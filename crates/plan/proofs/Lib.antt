@@ -1,4 +1,7 @@
+pub mod Asked
+mod KeyRows
 pub mod KeyedRows
+pub mod Longest
 pub mod Others
 pub mod Parts
 pub mod Scans

@@ -1,5 +1,5 @@
 -- A query of one source gives the same without rows that its WHERE doesn't keep: so one that seeks a rowid without those of another.
-use Rattle.std.proofs.Common.{◌≡◌, refl, sym, ap, ◌∙◌, ℤ, pos, Bool, true, false, not, cond, List, [], ◌∷◌, map, filter, Option, Some, None, Ok}
+use Rattle.std.proofs.Common.{◌≡◌, refl, sym, ap, ◌∙◌, ℤ, Bool, true, false, not, cond, List, [], ◌∷◌, map, filter, Option, Some, None, Ok}
 use mathlib.Core.Bool.{true≢false}
 use Rattle.std.specs.Prelude.{unwrap_or}
 use Rattle.std.specs.Ordering.{int_eq}
@@ -13,7 +13,7 @@ use Rattle.terms.specs.Values.{Row}
 use Rattle.bind.specs.Readings.{combined, cut, env_of, environments, filtered, holds, in_order, once, rows_over, sortable}
 use Rattle.bind.specs.declared.reading.Condition.TheVariants.{Always}
 use Rattle.bind.specs.declared.reading.Reading.{Reading}
-use Rattle.plan.specs.Searching.{SearchesAsScans, Searches, has_other}
+use Rattle.plan.specs.Searching.{SearchesAsScans, has_other}
 use Rattle.plan.proofs.Others.{other_rows_fail}
 
 -- ---- what WHERE keeps of one source

@@ -1,5 +1,5 @@
 -- A condition of which a part isn't true isn't true either, and isn't refused.
-use Rattle.std.proofs.Common.{◌≡◌, refl, sym, ap, ◌∙◌, subst, Bool, true, false, Option, Some, None, Ok, Err, inl, inr, ◌⊎◌}
+use Rattle.std.proofs.Common.{◌≡◌, refl, sym, ap, ◌∙◌, subst, Bool, true, false, Option, Some, None, Ok, inl, inr}
 use Rattle.sqlval.specs.Refusals.{Answer, ◌then◌}
 use Rattle.sqlval.specs.declared.value.Value.{Value}
 use Rattle.terms.specs.Terms.{Term, Two}
