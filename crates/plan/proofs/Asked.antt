@@ -24,7 +24,7 @@ use Rattle.terms.specs.declared.tree.Comparison.TheVariants.{Equal}
 use Rattle.terms.specs.declared.tree.Place.TheVariants.{RowId, At}
 use Rattle.terms.specs.declared.tree.TwoSided.TheVariants.{Compare, And}
 use Rattle.bind.specs.Calm.{converts, finds, is_calm, is_search, is_side, parts}
-use Rattle.plan.specs.Asking.{IsNotAsked, asked_key, is_column, key_for, key_in, key_of, led_by}
+use Rattle.plan.specs.Asking.{IsNotAsked, asked_key, is_key_column, key_for, key_in, literal_key, led_by}
 use Rattle.plan.specs.Keys.{AreAsked, HasPart, IsAsked, IsKeyOf, begins, is_first, is_same_collation}
 use Rattle.plan.specs.Seeking.{no_index}
 use Rattle.plan.proofs.Others.{word_of}
@@ -36,7 +36,7 @@ the_ok : (answer : Answer Value) (k : Value) → result_ok answer ≡ Some k →
 the_ok (Ok v) k e = ap (λ o. elim o [ None ↦ Ok v | Some w ↦ Ok w ]) e
 the_ok (Err refusal) k e = absurd (none-some k e)
 
-key_is : (a : Option Affinity) (t : Term) (k : Value) → key_of a t ≡ Some k → IsKeyOf a t k
+key_is : (a : Option Affinity) (t : Term) (k : Value) → literal_key a t ≡ Some k → IsKeyOf a t k
 key_is a (Const v) k e = the_ok (converted (conversion None a) v) k e
 key_is a (Digits n) k e = by (is_word (pos n)) e where
   by : (test : Bool) → result_ok (cond test (Ok (Int (pos n))) (Err RealRefused) then converted (conversion None a)) ≡ Some k → converted (conversion None a) (Int (pos n)) ≡ Ok k
@@ -57,8 +57,8 @@ one_collation RTrim NoCase e = absurd (true≢false (sym e))
 
 module _ (n : ℕ) (column : IndexColumn) (k : Value) where
   sides_ask : (a b : Term) → asked_key n column a b ≡ Some k → IsAsked n column k (Two (Compare Equal) a b)
-  sides_ask (Cell s (At i) a c) b e = by (is_column n column (Cell s (At i) a c)) refl e where
-    by : (test : Bool) → is_column n column (Cell s (At i) a c) ≡ test → cond test (key_of a b) None ≡ Some k → IsAsked n column k (Two (Compare Equal) (Cell s (At i) a c) b)
+  sides_ask (Cell s (At i) a c) b e = by (is_key_column n column (Cell s (At i) a c)) refl e where
+    by : (test : Bool) → is_key_column n column (Cell s (At i) a c) ≡ test → cond test (literal_key a b) None ≡ Some k → IsAsked n column k (Two (Compare Equal) (Cell s (At i) a c) b)
     by false is e = absurd (none-some k e)
     by true is e =
         (let rest = right (s == n) (column.place == i && is_same_collation column.collation c) is in (
@@ -107,11 +107,11 @@ number_there kind.Numeric n = (Int (pos n), refl)
 number_there kind.Integer n = (Int (pos n), refl)
 
 -- a literal that a column is compared with, without a refusal, is converted
-text_there : (s i : ℕ) (a : Option Affinity) (c : Collation) (v : Value) → is_calm (Two (Compare Equal) (Cell s (At i) a c) (Const v)) ≡ true → IsThere (key_of a (Const v))
+text_there : (s i : ℕ) (a : Option Affinity) (c : Collation) (v : Value) → is_calm (Two (Compare Equal) (Cell s (At i) a c) (Const v)) ≡ true → IsThere (literal_key a (Const v))
 text_there s i a c v calm =
     const_there (conversion None a) v (right (is_side (Cell s (At i) a c) && converts (conversion a None) (Cell s (At i) a c)) (converts (conversion None a) (Const v)) calm)
 
-digits_there : (s i : ℕ) (a : Option Affinity) (c : Collation) (n : ℕ) → is_calm (Two (Compare Equal) (Cell s (At i) a c) (Digits n)) ≡ true → IsThere (key_of a (Digits n))
+digits_there : (s i : ℕ) (a : Option Affinity) (c : Collation) (n : ℕ) → is_calm (Two (Compare Equal) (Cell s (At i) a c) (Digits n)) ≡ true → IsThere (literal_key a (Digits n))
 digits_there s i a c n calm =
     (let it = number_there (conversion None a) n in
     (it.0, ap (λ test. result_ok (cond test (Ok (Int (pos n))) (Err RealRefused) then converted (conversion None a))) (word_of s (At i) a c n calm) ∙ it.1))
@@ -124,7 +124,7 @@ neither true y e = absurd (true≢false e)
 neither false y e = (refl, e)
 
 -- a comparison of a column that begins none of the indexes
-module _ (s i : ℕ) (a : Option Affinity) (c : Collation) (t : Term) (here : (s == 0) ≡ true) (key : IsThere (key_of a t)) where
+module _ (s i : ℕ) (a : Option Affinity) (c : Collation) (t : Term) (here : (s == 0) ≡ true) (key : IsThere (literal_key a t)) where
   abbrev part : Term
   part = Two (Compare Equal) (Cell s (At i) a c) t
 
@@ -133,8 +133,8 @@ module _ (s i : ℕ) (a : Option Affinity) (c : Collation) (t : Term) (here : (s
   not_first (column ∷ columns) e = by (column.place == i && is_same_collation column.collation c) refl where
     asks : (column.place == i && is_same_collation column.collation c) ≡ true → key_in 0 column part ≡ Some key.0
     asks is =
-        ap (λ test. cond (test && (column.place == i && is_same_collation column.collation c)) (key_of a t) None) here
-        ∙ (ap (λ test. cond test (key_of a t) None) is ∙ key.1)
+        ap (λ test. cond (test && (column.place == i && is_same_collation column.collation c)) (literal_key a t) None) here
+        ∙ (ap (λ test. cond test (literal_key a t) None) is ∙ key.1)
 
     by : (test : Bool) → (column.place == i && is_same_collation column.collation c) ≡ test → test ≡ false
     by false is = refl
@@ -145,7 +145,7 @@ module _ (s i : ℕ) (a : Option Affinity) (c : Collation) (t : Term) (here : (s
   begins_none (index ∷ indexes) e = ap (λ test. test || begins indexes i c) (not_first index.columns e.0) ∙ begins_none indexes e.1
 
 module _ (indexes : List Index) where
-  of_column : (s i : ℕ) (a : Option Affinity) (c : Collation) (t : Term) → IsThere (key_of a t) → IsNotAsked (Two (Compare Equal) (Cell s (At i) a c) t) indexes → ((s == 0) && begins indexes i c) ≡ false
+  of_column : (s i : ℕ) (a : Option Affinity) (c : Collation) (t : Term) → IsThere (literal_key a t) → IsNotAsked (Two (Compare Equal) (Cell s (At i) a c) t) indexes → ((s == 0) && begins indexes i c) ≡ false
   of_column s i a c t key e = by (s == 0) refl where
     by : (test : Bool) → (s == 0) ≡ test → (test && begins indexes i c) ≡ false
     by false is = refl

@@ -25,8 +25,8 @@ pub enum Search {
 }
 
 /// The longer of two keys, each with its index's place; the first if they are of one length.
-fn longer(found: (usize, Many<Value>), other: (usize, Many<Value>)) -> (usize, Many<Value>)
-    ensures { result ≡ asking.longer found other }
+fn longer_key(found: (usize, Many<Value>), other: (usize, Many<Value>)) -> (usize, Many<Value>)
+    ensures { result ≡ asking.longer_key found other }
 {
     if found.1.len() < other.1.len() {
         other
@@ -37,13 +37,13 @@ fn longer(found: (usize, Many<Value>), other: (usize, Many<Value>)) -> (usize, M
 
 /// The longest key that a condition asks for of an index, with the index's place; the first of those of one length. (`Memory`.)
 fn longest_key(alloc: Global, condition: &Term, indexes: &[Index]) -> R<(usize, Many<Value>)>
-    ensures found { IfOk result (λ found. found ≡ asking.longest condition.now 0 (0, []) indexes.now) }
+    ensures found { IfOk result (λ found. found ≡ asking.longest_key condition.now 0 (0, []) indexes.now) }
     ensures refused { IfErr result (λ fault. fault ≡ Fault.Memory) }
 {
     let mut found = (0, Many::new(alloc));
     'indexes: for place in 0..indexes.len() {
         let key = key_for(alloc, condition, 0, indexes[place].columns.as_slice())?;
-        found = longer(found, (place, key));
+        found = longer_key(found, (place, key));
     }
     Ok(found)
 }
