@@ -1,6 +1,7 @@
 -- The key that a condition asks for of an index, part by part, and the longest of several (The SQLite Query Optimizer Overview, "WHERE Clause
 -- Analysis"; Query Planning, "Multi-Column Indices").
 use Rattle.std.specs.Prelude.{◌≡◌, ⊤, ℕ, ◌+◌, pos, Bool, false, ◌&&◌, ◌==◌, List, [], ◌∷◌, length, slice_get, Option, None, Some, if◌then◌else◌, nat_lt}
+use Rattle.std.specs.List.{list_any}
 use Rattle.std.specs.Option.{option_or}
 use Rattle.std.specs.Result.{result_ok}
 use Rattle.sqlval.specs.Conversion.{converted, word}
@@ -14,8 +15,9 @@ use Rattle.terms.specs.Values.{conversion}
 use Rattle.terms.specs.declared.tree.Comparison.TheVariants.{Equal}
 use Rattle.terms.specs.declared.tree.Place.TheVariants.{At}
 use Rattle.terms.specs.declared.tree.TwoSided.TheVariants.{Compare, And}
+use Rattle.bind.specs.Calm.{finds, parts}
 use Rattle.plan.specs.Keys.{SeeksKey, is_same_collation}
-use Rattle.plan.specs.Seeking.{SeeksRowid}
+use Rattle.plan.specs.Seeking.{SeeksRowid, no_index}
 use Rattle.plan.specs.declared.searching.Search.{Search}
 use Rattle.plan.specs.declared.searching.Search.TheVariants.{Rowid, Key}
 
@@ -68,3 +70,8 @@ IsSought indexes condition (Key place key) = (index : Index) × (slice_get index
 abbrev pub IsNotAsked : Term → List Index → Type 0
 IsNotAsked condition [] = ⊤
 IsNotAsked condition (index ∷ indexes) = (key_for 0 condition index.columns ≡ []) × IsNotAsked condition indexes
+
+-- It is a rowid, or where none is asked for the longest key, the first of those of one length.
+abbrev pub IsChosen : List Index → Term → Search → Type 0
+IsChosen indexes condition (Rowid rowid) = ⊤
+IsChosen indexes condition (Key place key) = (list_any (finds 0 no_index) (parts condition) ≡ false) × ((place, key) ≡ longest_key condition 0 (0, []) indexes)

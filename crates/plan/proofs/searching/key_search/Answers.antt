@@ -8,4 +8,4 @@ returns-then-len-eq0-clause-only c =
 
 pub returns-clause-found : goal.returns-clause-found
 returns-clause-found c =
-    sought_key c.args.condition.now c.args.indexes.now c.in_ok-place.place c.in_ok-place.key c.requires c.in_ok-place.ensures.found (λ e. c.if-len-eq0.false (c.len.ensures ∙ ap length e))
+    sought_key c.args.condition.now c.args.indexes.now c.in_ok-place.place c.in_ok-place.key c.requires.calm c.in_ok-place.ensures.found (λ e. c.if-len-eq0.false (c.len.ensures ∙ ap length e))
