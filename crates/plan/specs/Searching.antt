@@ -1,17 +1,16 @@
 -- A query of one source whose WHERE seeks a rowid: the source's other rows needn't be read (The SQLite Query Optimizer Overview, "WHERE
 -- Clause Analysis").
-use Rattle.std.specs.Prelude.{◌≡◌, ℤ, Bool, true, false, not, ◌&&◌, List, [], ◌∷◌, filter, Option, None, Some}
+use Rattle.std.specs.Prelude.{◌≡◌, ℤ, Bool, true, false, not, List, [], ◌∷◌, filter, Some}
 use Rattle.std.specs.Ordering.{int_eq}
 use Rattle.sqlval.specs.declared.value.Value.TheVariants.{Int}
 use Rattle.catalog.specs.Database.{Name}
 use Rattle.terms.specs.Terms.{Term}
 use Rattle.terms.specs.Values.{Row}
-use Rattle.bind.specs.Calm.{is_search}
 use Rattle.bind.specs.Readings.{rows_over}
 use Rattle.bind.specs.declared.reading.Condition.{Condition}
 use Rattle.bind.specs.declared.reading.Condition.TheVariants.{Always}
 use Rattle.bind.specs.declared.reading.Reading.{Reading}
-use Rattle.plan.specs.Seeking.{SeeksRowid, no_index}
+use Rattle.plan.specs.Seeking.{SeeksRowid}
 
 -- whether a row has another rowid than this one
 abbrev pub has_other : ℤ → Row → Bool

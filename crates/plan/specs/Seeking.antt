@@ -3,7 +3,6 @@
 use Rattle.std.specs.Prelude.{◌≡◌, ℕ, ℤ, pos, Bool, true, false, ◌&&◌, ◌==◌, Option, None, Some, Ok, if◌then◌else◌}
 use Rattle.std.specs.List.{list_any}
 use Rattle.sqlval.specs.Refusals.{◌then◌}
-use Rattle.sqlval.specs.declared.affinity.Affinity.{Affinity}
 use Rattle.sqlval.specs.declared.collation.Collation.{Collation}
 use Rattle.sqlval.specs.declared.value.Value.TheVariants.{Int}
 use Rattle.terms.specs.Terms.{Term, Cell, Digits, Two}
@@ -11,7 +10,7 @@ use Rattle.terms.specs.Values.{Environment, cell, truth, value}
 use Rattle.terms.specs.declared.tree.Comparison.TheVariants.{Equal}
 use Rattle.terms.specs.declared.tree.Place.TheVariants.{RowId}
 use Rattle.terms.specs.declared.tree.TwoSided.TheVariants.{Compare}
-use Rattle.bind.specs.Calm.{finds, is_calm, is_search, parts}
+use Rattle.bind.specs.Calm.{is_calm, parts}
 
 -- whether it is `rowid = k` of the source of this number
 abbrev pub is_rowid : ℕ → ℕ → Term → Bool

@@ -23,8 +23,8 @@ fn is_same(left: Collation, right: Collation) -> bool
 }
 
 /// Whether an expression is an index's column of a source, compared under the index's collation.
-fn is_column(term: &Term, source: usize, column: IndexColumn) -> bool
-    ensures { result ≡ asking.is_column source column term.now }
+fn is_key_column(term: &Term, source: usize, column: IndexColumn) -> bool
+    ensures { result ≡ asking.is_key_column source column term.now }
 {
     match &term.node {
         Node::Cell(number, Place::At(place), _, collation) => {
@@ -35,7 +35,7 @@ fn is_column(term: &Term, source: usize, column: IndexColumn) -> bool
 }
 
 /// A value as a column of this affinity is compared with it, or None where its conversion is refused. (`Memory`.)
-fn key_of_value(alloc: Global, affinity: Option<Affinity>, value: Value) -> R<Option<Value>>
+fn value_key(alloc: Global, affinity: Option<Affinity>, value: Value) -> R<Option<Value>>
     ensures found { IfOk result (λ key. key ≡ result_ok (converted (meant.conversion None affinity) value)) }
     ensures refused { IfErr result (λ fault. fault ≡ Fault.Memory) }
 {
@@ -48,24 +48,24 @@ fn key_of_value(alloc: Global, affinity: Option<Affinity>, value: Value) -> R<Op
 }
 
 /// A number as a column of this affinity is compared with it, or None where it doesn't have 64 bits. (`Memory`.)
-fn key_of_number(alloc: Global, affinity: Option<Affinity>, number: u64) -> R<Option<Value>>
-    ensures found { IfOk result (λ key. key ≡ asking.key_of affinity (tree.Digits number)) }
+fn number_key(alloc: Global, affinity: Option<Affinity>, number: u64) -> R<Option<Value>>
+    ensures found { IfOk result (λ key. key ≡ asking.literal_key affinity (tree.Digits number)) }
     ensures refused { IfErr result (λ fault. fault ≡ Fault.Memory) }
 {
     match i64::try_from(number) {
-        Ok(number) => key_of_value(alloc, affinity, Value::Int(number)),
+        Ok(number) => value_key(alloc, affinity, Value::Int(number)),
         Err(_) => Ok(None),
     }
 }
 
 /// A literal as a column of this affinity is compared with it, or None where its conversion is refused or it is no literal. (`Memory`.)
-fn key_of(alloc: Global, affinity: Option<Affinity>, term: &Term) -> R<Option<Value>>
-    ensures found { IfOk result (λ key. key ≡ asking.key_of affinity term.now) }
+fn literal_key(alloc: Global, affinity: Option<Affinity>, term: &Term) -> R<Option<Value>>
+    ensures found { IfOk result (λ key. key ≡ asking.literal_key affinity term.now) }
     ensures refused { IfErr result (λ fault. fault ≡ Fault.Memory) }
 {
     match &term.node {
-        Node::Const(value) => key_of_value(alloc, affinity, value.copy(alloc)?),
-        Node::Digits(number) => key_of_number(alloc, affinity, *number),
+        Node::Const(value) => value_key(alloc, affinity, value.copy(alloc)?),
+        Node::Digits(number) => number_key(alloc, affinity, *number),
         _ => Ok(None),
     }
 }
@@ -81,10 +81,10 @@ fn asked_key(
     ensures found { IfOk result (λ key. key ≡ asking.asked_key source column left.now right.now) }
     ensures refused { IfErr result (λ fault. fault ≡ Fault.Memory) }
 {
-    if !is_column(left, source, column) {
+    if !is_key_column(left, source, column) {
         return Ok(None);
     }
-    key_of(alloc, affinity(left), right)
+    literal_key(alloc, affinity(left), right)
 }
 
 /// The value that one of two conditions asks of an index's column. (`Memory`.)

@@ -1,10 +1,12 @@
 //! What a query of one source seeks of it.
 
 ghost use Rattle.std.specs.Prelude.{◌≡◌, [], false, true, IfErr, IfNone, IfOk, IfSome};
+ghost use Rattle.std.specs.List.{list_any};
 ghost use Rattle.bind.specs.Calm as calm;
 ghost use Rattle.plan.specs.Asking as asking;
-ghost use Rattle.plan.specs.Asking.{IsSought};
+ghost use Rattle.plan.specs.Asking.{IsChosen, IsSought};
 ghost use Rattle.plan.specs.Keys.{IsSearchOf, begins, is_table_search};
+ghost use Rattle.plan.specs.Seeking.{no_index};
 
 use crate::calm::is_calm;
 use crate::keys::key_for;
@@ -25,8 +27,8 @@ pub enum Search {
 }
 
 /// The longer of two keys, each with its index's place; the first if they are of one length.
-fn longer(found: (usize, Many<Value>), other: (usize, Many<Value>)) -> (usize, Many<Value>)
-    ensures { result ≡ asking.longer found other }
+fn longer_key(found: (usize, Many<Value>), other: (usize, Many<Value>)) -> (usize, Many<Value>)
+    ensures { result ≡ asking.longer_key found other }
 {
     if found.1.len() < other.1.len() {
         other
@@ -37,13 +39,13 @@ fn longer(found: (usize, Many<Value>), other: (usize, Many<Value>)) -> (usize, M
 
 /// The longest key that a condition asks for of an index, with the index's place; the first of those of one length. (`Memory`.)
 fn longest_key(alloc: Global, condition: &Term, indexes: &[Index]) -> R<(usize, Many<Value>)>
-    ensures found { IfOk result (λ found. found ≡ asking.longest condition.now 0 (0, []) indexes.now) }
+    ensures found { IfOk result (λ found. found ≡ asking.longest_key condition.now 0 (0, []) indexes.now) }
     ensures refused { IfErr result (λ fault. fault ≡ Fault.Memory) }
 {
     let mut found = (0, Many::new(alloc));
     'indexes: for place in 0..indexes.len() {
         let key = key_for(alloc, condition, 0, indexes[place].columns.as_slice())?;
-        found = longer(found, (place, key));
+        found = longer_key(found, (place, key));
     }
     Ok(found)
 }
@@ -51,8 +53,10 @@ fn longest_key(alloc: Global, condition: &Term, indexes: &[Index]) -> R<(usize, 
 /// The key that a condition seeks of an index: the longest, and of those of one length the first. None where it asks for no index's first
 /// column. (`Memory`.)
 fn key_search(alloc: Global, condition: &Term, indexes: &[Index]) -> R<Option<Search>>
-    requires { calm.is_calm condition.now ≡ true }
+    requires calm { calm.is_calm condition.now ≡ true }
+    requires none { list_any (calm.finds 0 no_index) (calm.parts condition.now) ≡ false }
     ensures found { IfOk result (λ found. IfSome found (λ it. IsSought indexes.now condition.now it)) }
+    ensures chosen { IfOk result (λ found. IfSome found (λ it. IsChosen indexes.now condition.now it)) }
     ensures only { IfOk result (λ found. IfNone found (asking.IsNotAsked condition.now indexes.now)) }
     ensures refused { IfErr result (λ fault. fault ≡ Fault.Memory) }
 {
@@ -67,6 +71,7 @@ fn key_search(alloc: Global, condition: &Term, indexes: &[Index]) -> R<Option<Se
 /// (`Memory`.)
 fn sought(alloc: Global, condition: &Term, indexes: &[Index]) -> R<Option<Search>>
     ensures found { IfOk result (λ found. IfSome found (λ it. IsSought indexes.now condition.now it)) }
+    ensures chosen { IfOk result (λ found. IfSome found (λ it. IsChosen indexes.now condition.now it)) }
     ensures only { IfOk result (λ found. IfNone found (calm.is_search 0 (begins indexes.now) condition.now ≡ false)) }
     ensures refused { IfErr result (λ fault. fault ≡ Fault.Memory) }
 {
@@ -83,6 +88,7 @@ fn sought(alloc: Global, condition: &Term, indexes: &[Index]) -> R<Option<Search
 /// may be refused. (`Memory`.)
 pub fn search_of(alloc: Global, reading: &Reading, indexes: &[Index]) -> R<Option<Search>>
     ensures found { IfOk result (λ found. IfSome found (λ it. IsSearchOf indexes.now reading.now it)) }
+    ensures chosen { IfOk result (λ found. IfSome found (λ it. IfSome reading.now.filter (λ condition. IsChosen indexes.now condition it))) }
     ensures only { IfOk result (λ found. IfNone found (is_table_search indexes.now reading.now ≡ false)) }
     ensures refused { IfErr result (λ fault. fault ≡ Fault.Memory) }
 {

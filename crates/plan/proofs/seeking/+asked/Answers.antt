@@ -1,7 +1,7 @@
-use Rattle.std.proofs.Common.{rules, ◌≡◌, true}
-use Rattle.bind.specs.Calm.{finds, parts}
-use Rattle.plan.specs.Seeking.{is_rowid, no_index}
-use Rattle.plan.proofs.Others.{or_found, or_none}
+use Rattle.std.proofs.Common.{rules}
+use Rattle.bind.specs.Calm.{parts}
+use Rattle.plan.specs.Seeking.{is_rowid}
+use Rattle.plan.proofs.Parts.{or_found}
 use Rattle.plan.proofs.seeking.+asked.Goals as goal
 
 pub returns-in-Two-And-default-default-clause-found :

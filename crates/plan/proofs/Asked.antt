@@ -1,0 +1,194 @@
+-- The values that a condition asks of an index's columns are those that its parts ask for, and there are some where it is a search.
+use Rattle.std.proofs.Common.{◌≡◌, refl, sym, ap, ◌∙◌, ℕ, pos, Bool, true, false, ◌&&◌, ◌||◌, ◌==◌, cond, List, [], ◌∷◌, Option, Some, None, Ok, Err, inl, inr}
+use mathlib.Core.Bool.{true≢false}
+use Rattle.std.specs.Prelude.{Result, IfNone, IfOk, is_ok}
+use Rattle.std.specs.List.{list_any}
+use Rattle.std.specs.Option.{option_or}
+use Rattle.std.specs.Result.{result_ok}
+use Rattle.std.proofs.lemmas.Bool.{eqb-true}
+use Rattle.std.proofs.lemmas.List.Folds.{list_any-append}
+use Rattle.std.proofs.lemmas.Option.{none-some}
+use Rattle.sqlval.specs.Conversion.{converted, is_word}
+use Rattle.sqlval.specs.Refusals.{Answer, ◌then◌, RealRefused}
+use Rattle.sqlval.specs.declared.affinity.Affinity.{Affinity}
+use Rattle.sqlval.specs.declared.affinity.Affinity.TheVariants as kind
+use Rattle.sqlval.specs.declared.collation.Collation.{Collation}
+use Rattle.sqlval.specs.declared.collation.Collation.TheVariants.{Binary, NoCase, RTrim}
+use Rattle.sqlval.specs.declared.value.Value.{Value}
+use Rattle.sqlval.specs.declared.value.Value.TheVariants.{Int}
+use Rattle.catalog.specs.declared.tables.Index.{Index}
+use Rattle.catalog.specs.declared.tables.IndexColumn.{IndexColumn}
+use Rattle.terms.specs.Terms.{Term, Const, Digits, Cell, Two}
+use Rattle.terms.specs.Values.{conversion}
+use Rattle.terms.specs.declared.tree.Comparison.TheVariants.{Equal}
+use Rattle.terms.specs.declared.tree.Place.TheVariants.{RowId, At}
+use Rattle.terms.specs.declared.tree.TwoSided.TheVariants.{Compare, And}
+use Rattle.bind.specs.Calm.{converts, finds, is_calm, is_search, is_side, parts}
+use Rattle.plan.specs.Asking.{IsNotAsked, asked_key, is_key_column, key_for, key_in, literal_key, led_by}
+use Rattle.plan.specs.Keys.{AreAsked, HasPart, IsAsked, IsKeyOf, begins, is_first, is_same_collation}
+use Rattle.plan.specs.Seeking.{no_index}
+use Rattle.plan.proofs.Others.{word_of}
+use Rattle.plan.proofs.Parts.{left, right}
+
+-- ---- each value is asked for
+
+the_ok : (answer : Answer Value) (k : Value) → result_ok answer ≡ Some k → answer ≡ Ok k
+the_ok (Ok v) k e = ap (λ o. elim o [ None ↦ Ok v | Some w ↦ Ok w ]) e
+the_ok (Err refusal) k e = absurd (none-some k e)
+
+key_is : (a : Option Affinity) (t : Term) (k : Value) → literal_key a t ≡ Some k → IsKeyOf a t k
+key_is a (Const v) k e = the_ok (converted (conversion None a) v) k e
+key_is a (Digits n) k e = by (is_word (pos n)) e where
+  by : (test : Bool) → result_ok (cond test (Ok (Int (pos n))) (Err RealRefused) then converted (conversion None a)) ≡ Some k → converted (conversion None a) (Int (pos n)) ≡ Ok k
+  by true e = the_ok (converted (conversion None a) (Int (pos n))) k e
+  by false e = absurd (none-some k e)
+key_is a _ k e = absurd (none-some k e)
+
+one_collation : (c d : Collation) → is_same_collation c d ≡ true → c ≡ d
+one_collation Binary Binary e = refl
+one_collation NoCase NoCase e = refl
+one_collation RTrim RTrim e = refl
+one_collation Binary NoCase e = absurd (true≢false (sym e))
+one_collation Binary RTrim e = absurd (true≢false (sym e))
+one_collation NoCase Binary e = absurd (true≢false (sym e))
+one_collation NoCase RTrim e = absurd (true≢false (sym e))
+one_collation RTrim Binary e = absurd (true≢false (sym e))
+one_collation RTrim NoCase e = absurd (true≢false (sym e))
+
+module _ (n : ℕ) (column : IndexColumn) (k : Value) where
+  sides_ask : (a b : Term) → asked_key n column a b ≡ Some k → IsAsked n column k (Two (Compare Equal) a b)
+  sides_ask (Cell s (At i) a c) b e = by (is_key_column n column (Cell s (At i) a c)) refl e where
+    by : (test : Bool) → is_key_column n column (Cell s (At i) a c) ≡ test → cond test (literal_key a b) None ≡ Some k → IsAsked n column k (Two (Compare Equal) (Cell s (At i) a c) b)
+    by false is e = absurd (none-some k e)
+    by true is e =
+        (let rest = right (s == n) (column.place == i && is_same_collation column.collation c) is in (
+          eqb-true s n (left (s == n) (column.place == i && is_same_collation column.collation c) is),
+          sym (eqb-true column.place i (left (column.place == i) (is_same_collation column.collation c) rest)),
+          sym (one_collation column.collation c (right (column.place == i) (is_same_collation column.collation c) rest)),
+          key_is a b k e,
+        ))
+  sides_ask _ b e = absurd (none-some k e)
+
+  part_asks : (t : Term) → key_in n column t ≡ Some k → HasPart (IsAsked n column k) t
+  part_asks (Two And a b) e = by (key_in n column a) refl e (part_asks a) (part_asks b) where
+    by : (first : Option Value) → key_in n column a ≡ first → option_or first (key_in n column b) ≡ Some k → (key_in n column a ≡ Some k → HasPart (IsAsked n column k) a)
+        → (key_in n column b ≡ Some k → HasPart (IsAsked n column k) b) → HasPart (IsAsked n column k) (Two And a b)
+    by None is e one other = inr (other e)
+    by (Some v) is e one other = inl (one (is ∙ e))
+  part_asks (Two (Compare Equal) a b) e = sides_ask a b e
+  part_asks _ e = absurd (none-some k e)
+
+pub parts_ask : (n : ℕ) (t : Term) (columns : List IndexColumn) → AreAsked n columns (key_for n t columns) t
+parts_ask n t [] = tt
+parts_ask n t (column ∷ columns) = by (key_in n column t) refl (parts_ask n t columns) where
+  by : (first : Option Value) → key_in n column t ≡ first → AreAsked n columns (key_for n t columns) t → AreAsked n (column ∷ columns) (led_by first (key_for n t columns)) t
+  by None is more = tt
+  by (Some k) is more = (part_asks n column k t is, more)
+
+-- ---- where none is, it is no search
+
+abbrev IsThere : Option Value → Type 0
+IsThere o = (k : Value) × (o ≡ Some k)
+
+there : (answer : Answer Value) → is_ok answer ≡ true → IsThere (result_ok answer)
+there (Ok k) e = (k, refl)
+there (Err refusal) e = absurd (true≢false (sym e))
+
+const_there : (a : Affinity) (v : Value) → converts a (Const v) ≡ true → IsThere (result_ok (converted a v))
+const_there kind.Blob v e = (v, refl)
+const_there kind.Text v e = there (converted kind.Text v) e
+const_there kind.Numeric v e = there (converted kind.Numeric v) e
+const_there kind.Integer v e = there (converted kind.Integer v) e
+
+number_there : (a : Affinity) (n : ℕ) → IsThere (result_ok (converted a (Int (pos n))))
+number_there kind.Blob n = (Int (pos n), refl)
+number_there kind.Text n = (_, refl)
+number_there kind.Numeric n = (Int (pos n), refl)
+number_there kind.Integer n = (Int (pos n), refl)
+
+-- a literal that a column is compared with, without a refusal, is converted
+text_there : (s i : ℕ) (a : Option Affinity) (c : Collation) (v : Value) → is_calm (Two (Compare Equal) (Cell s (At i) a c) (Const v)) ≡ true → IsThere (literal_key a (Const v))
+text_there s i a c v calm =
+    const_there (conversion None a) v (right (is_side (Cell s (At i) a c) && converts (conversion a None) (Cell s (At i) a c)) (converts (conversion None a) (Const v)) calm)
+
+digits_there : (s i : ℕ) (a : Option Affinity) (c : Collation) (n : ℕ) → is_calm (Two (Compare Equal) (Cell s (At i) a c) (Digits n)) ≡ true → IsThere (literal_key a (Digits n))
+digits_there s i a c n calm =
+    (let it = number_there (conversion None a) n in
+    (it.0, ap (λ test. result_ok (cond test (Ok (Int (pos n))) (Err RealRefused) then converted (conversion None a))) (word_of s (At i) a c n calm) ∙ it.1))
+
+some_value : (k : Value) (key : List Value) → k ∷ key ≡ [] → ⊥
+some_value k key e = true≢false (ap (λ values. elim values [ [] ↦ false | v ∷ vs ↦ true ]) e)
+
+neither : (x y : Bool) → x || y ≡ false → (x ≡ false) × (y ≡ false)
+neither true y e = absurd (true≢false e)
+neither false y e = (refl, e)
+
+-- a comparison of a column that begins none of the indexes
+module _ (s i : ℕ) (a : Option Affinity) (c : Collation) (t : Term) (here : (s == 0) ≡ true) (key : IsThere (literal_key a t)) where
+  abbrev part : Term
+  part = Two (Compare Equal) (Cell s (At i) a c) t
+
+  not_first : (columns : List IndexColumn) → key_for 0 part columns ≡ [] → is_first i c columns ≡ false
+  not_first [] e = refl
+  not_first (column ∷ columns) e = by (column.place == i && is_same_collation column.collation c) refl where
+    asks : (column.place == i && is_same_collation column.collation c) ≡ true → key_in 0 column part ≡ Some key.0
+    asks is =
+        ap (λ test. cond (test && (column.place == i && is_same_collation column.collation c)) (literal_key a t) None) here
+        ∙ (ap (λ test. cond test (literal_key a t) None) is ∙ key.1)
+
+    by : (test : Bool) → (column.place == i && is_same_collation column.collation c) ≡ test → test ≡ false
+    by false is = refl
+    by true is = absurd (some_value key.0 (key_for 0 part columns) (sym (ap (λ first. led_by first (key_for 0 part columns)) (asks is)) ∙ e))
+
+  begins_none : (indexes : List Index) → IsNotAsked part indexes → begins indexes i c ≡ false
+  begins_none [] e = refl
+  begins_none (index ∷ indexes) e = ap (λ test. test || begins indexes i c) (not_first index.columns e.0) ∙ begins_none indexes e.1
+
+module _ (indexes : List Index) where
+  of_column : (s i : ℕ) (a : Option Affinity) (c : Collation) (t : Term) → IsThere (literal_key a t) → IsNotAsked (Two (Compare Equal) (Cell s (At i) a c) t) indexes → ((s == 0) && begins indexes i c) ≡ false
+  of_column s i a c t key e = by (s == 0) refl where
+    by : (test : Bool) → (s == 0) ≡ test → (test && begins indexes i c) ≡ false
+    by false is = refl
+    by true is = begins_none s i a c t is key indexes e
+
+  of_part : (t : Term) → is_calm t ≡ true → finds 0 no_index t ≡ false → IsNotAsked t indexes → finds 0 (begins indexes) t ≡ false
+  of_part (Two (Compare Equal) (Cell s RowId a c) (Digits n)) calm none e = none
+  of_part (Two (Compare Equal) (Cell s (At i) a c) (Digits n)) calm none e = of_column s i a c (Digits n) (digits_there s i a c n calm) e
+  of_part (Two (Compare Equal) (Cell s (At i) a c) (Const v)) calm none e = of_column s i a c (Const v) (text_there s i a c v calm) e
+  of_part _ calm none e = refl
+
+module _ (a b : Term) where
+  asked_by_neither : (columns : List IndexColumn) → key_for 0 (Two And a b) columns ≡ [] → (key_for 0 a columns ≡ []) × (key_for 0 b columns ≡ [])
+  asked_by_neither [] e = (refl, refl)
+  asked_by_neither (column ∷ columns) e = by (key_in 0 column a) (key_in 0 column b) refl refl e where
+    by : (x y : Option Value) → key_in 0 column a ≡ x → key_in 0 column b ≡ y → led_by (option_or x y) (key_for 0 (Two And a b) columns) ≡ []
+        → (led_by (key_in 0 column a) (key_for 0 a columns) ≡ []) × (led_by (key_in 0 column b) (key_for 0 b columns) ≡ [])
+    by None None first second e = (ap (λ o. led_by o (key_for 0 a columns)) first, ap (λ o. led_by o (key_for 0 b columns)) second)
+    by None (Some k) first second e = absurd (some_value k (key_for 0 (Two And a b) columns) e)
+    by (Some k) y first second e = absurd (some_value k (key_for 0 (Two And a b) columns) e)
+
+  not_asked_by_either : (indexes : List Index) → IsNotAsked (Two And a b) indexes → IsNotAsked a indexes × IsNotAsked b indexes
+  not_asked_by_either [] e = (tt, tt)
+  not_asked_by_either (index ∷ indexes) e =
+      (let x = asked_by_neither index.columns e.0 in let y = not_asked_by_either indexes e.1 in
+      ((x.0, y.0), (x.1, y.1)))
+
+unfound : (indexes : List Index) (t : Term) → is_calm t ≡ true → list_any (finds 0 no_index) (parts t) ≡ false → IsNotAsked t indexes → list_any (finds 0 (begins indexes)) (parts t) ≡ false
+unfound indexes (Two And a b) calm none e =
+    (let x = neither (list_any (finds 0 no_index) (parts a)) (list_any (finds 0 no_index) (parts b)) (sym (list_any-append (finds 0 no_index) (parts a) (parts b)) ∙ none) in
+    let y = not_asked_by_either a b indexes e in
+    list_any-append (finds 0 (begins indexes)) (parts a) (parts b)
+    ∙ (ap (λ test. test || list_any (finds 0 (begins indexes)) (parts b)) (unfound indexes a (left (is_calm a) (is_calm b) calm) x.0 y.0)
+    ∙ unfound indexes b (right (is_calm a) (is_calm b) calm) x.1 y.1))
+unfound indexes t calm none e = ap (λ test. test || false) (of_part indexes t calm (neither (finds 0 no_index t) false none).0 e)
+
+-- a condition that asks for neither a rowid nor an index's first column is no search
+pub no_search : (indexes : List Index) (t : Term) → is_calm t ≡ true → list_any (finds 0 no_index) (parts t) ≡ false → IsNotAsked t indexes → is_search 0 (begins indexes) t ≡ false
+no_search indexes t calm none e = ap (λ test. test && list_any (finds 0 (begins indexes)) (parts t)) calm ∙ unfound indexes t calm none e
+
+-- the same of what a search for a key found
+pub only_search : {X E : Type 0} (indexes : List Index) (t : Term) → is_calm t ≡ true → list_any (finds 0 no_index) (parts t) ≡ false → (result : Result (Option X) E)
+    → IfOk result (λ found. IfNone found (IsNotAsked t indexes)) → IfOk result (λ found. IfNone found (is_search 0 (begins indexes) t ≡ false))
+only_search indexes t calm none (Ok None) e = no_search indexes t calm none e
+only_search indexes t calm none (Ok (Some x)) e = tt
+only_search indexes t calm none (Err fault) e = tt

@@ -1,0 +1,119 @@
+-- Worked examples of searches by a key: t(a TEXT, b) with indexes on a and on (b, a).
+use Rattle.std.specs.Prelude.{◌≡◌, refl, pos, true, false, codes, List, [], ◌∷◌, None, Some}
+use Rattle.std.proofs.Common.{inl, inr}
+use Rattle.std.specs.Fmt.{digits}
+use Rattle.sqlval.specs.declared.affinity.Affinity.TheVariants as kind
+use Rattle.sqlval.specs.declared.collation.Collation.{Collation}
+use Rattle.sqlval.specs.declared.collation.Collation.TheVariants.{Binary, NoCase}
+use Rattle.sqlval.specs.declared.value.Value.{Value}
+use Rattle.sqlval.specs.declared.value.Value.TheVariants.{Null, Int, Text}
+use Rattle.catalog.specs.declared.tables.Index.{Index}
+use Rattle.catalog.specs.declared.tables.IndexColumn.{IndexColumn}
+use Rattle.terms.specs.Terms.{Term, Const, Digits, Cell, Two}
+use Rattle.terms.specs.declared.tree.Comparison.TheVariants.{Equal, Less}
+use Rattle.terms.specs.declared.tree.Place.TheVariants.{At}
+use Rattle.terms.specs.declared.tree.TwoSided.TheVariants.{Compare, And, Or}
+use Rattle.bind.specs.declared.reading.Condition.TheVariants.{Always}
+use Rattle.bind.specs.declared.reading.Reading.{Reading}
+use Rattle.plan.specs.Asking.{key_for, longest_key}
+use Rattle.plan.specs.Keys.{AreAsked, has_key, is_table_search, keyed}
+
+abbrev a : Term
+a = Cell 0 (At 0) (Some kind.Text) Binary
+
+abbrev b : Term
+b = Cell 0 (At 1) (Some kind.Blob) Binary
+
+abbrev x : Value
+x = Text (codes "x")
+
+abbrev first : Collation → IndexColumn
+first collation = record { place = 0; collation = collation }
+
+abbrev second : IndexColumn
+second = record { place = 1; collation = Binary }
+
+abbrev index_on : List IndexColumn → Index
+index_on columns = record { name = codes "i"; columns = columns; root = 3; rowid = pos 2 }
+
+abbrev on_a : Index
+on_a = index_on (first Binary ∷ [])
+
+abbrev on_both : Index
+on_both = index_on (second ∷ first Binary ∷ [])
+
+-- a = 'x' AND b = 5
+abbrev both : Term
+both = Two And (Two (Compare Equal) a (Const x)) (Two (Compare Equal) b (Digits 5))
+
+-- ---- keys
+
+pub key_of_a : key_for 0 both on_a.columns ≡ x ∷ []
+key_of_a = refl
+
+pub key_of_both : key_for 0 both on_both.columns ≡ Int (pos 5) ∷ x ∷ []
+key_of_both = refl
+
+pub parts_ask : AreAsked 0 on_both.columns (Int (pos 5) ∷ x ∷ []) both
+parts_ask = (inr (refl, refl, refl, refl), (inl (refl, refl, refl, refl), tt))
+
+-- the index with the most columns asked for, and the first of two with one each
+pub longest_of_both : longest_key both 0 (0, []) (on_a ∷ on_both ∷ []) ≡ (1, Int (pos 5) ∷ x ∷ [])
+longest_of_both = refl
+
+pub first_of_equals : longest_key both 0 (0, []) (on_a ∷ on_a ∷ []) ≡ (0, x ∷ [])
+first_of_equals = refl
+
+-- a = 'x' alone asks nothing of (b, a), whose first column is b
+pub not_from_the_first : key_for 0 (Two (Compare Equal) a (Const x)) on_both.columns ≡ []
+not_from_the_first = refl
+
+-- a = 5 of a TEXT column asks for the text
+pub number_as_text : key_for 0 (Two (Compare Equal) a (Digits 5)) on_a.columns ≡ Text (codes "5") ∷ []
+unfolding digits
+number_as_text = refl
+
+-- an index under NOCASE isn't asked by a comparison under BINARY
+pub other_collation : key_for 0 both (first NoCase ∷ []) ≡ []
+other_collation = refl
+
+-- ---- rows
+
+pub same_key : has_key on_both.columns (Int (pos 5) ∷ x ∷ []) (x ∷ Int (pos 5) ∷ []) ≡ true
+same_key = refl
+
+pub other_key : has_key on_both.columns (Int (pos 5) ∷ x ∷ []) (Text (codes "y") ∷ Int (pos 5) ∷ []) ≡ false
+other_key = refl
+
+-- a key of fewer columns than the index
+pub shorter_key : has_key on_both.columns (Int (pos 5) ∷ []) (Text (codes "y") ∷ Int (pos 5) ∷ []) ≡ true
+shorter_key = refl
+
+-- a column that the row is too short for is NULL, as where it was added later
+pub short_row : has_key on_both.columns (Null ∷ []) (x ∷ []) ≡ true
+short_row = refl
+
+pub rows_of_x : keyed on_a.columns (x ∷ []) (record { rowid = Int (pos 1); values = x ∷ Null ∷ [] } ∷ record { rowid = Int (pos 2); values = Null ∷ Null ∷ [] } ∷ [])
+    ≡ record { rowid = Int (pos 1); values = x ∷ Null ∷ [] } ∷ []
+rows_of_x = refl
+
+-- ---- queries
+
+-- SELECT a FROM t WHERE ..
+abbrev query : Term → Reading
+query condition =
+    record { sources = (codes "t", Always) ∷ []; filter = Some condition; is_grouped = false; keys = []; results = a ∷ []; columns = []; is_open = false; order = []; distinct = false; limit = None; offset = 0 }
+
+pub by_index : is_table_search (on_both ∷ on_a ∷ []) (query both) ≡ true
+by_index = refl
+
+pub by_no_index : is_table_search (index_on (first NoCase ∷ []) ∷ []) (query both) ≡ false
+by_no_index = refl
+
+-- OR joins what no index finds
+pub by_either : is_table_search (on_both ∷ on_a ∷ []) (query (Two Or (Two (Compare Equal) a (Const x)) (Two (Compare Equal) b (Digits 5)))) ≡ false
+by_either = refl
+
+-- nor does one find what is less
+pub by_less : is_table_search (on_both ∷ on_a ∷ []) (query (Two (Compare Less) b (Digits 5))) ≡ false
+by_less = refl
