@@ -60,8 +60,8 @@ have_entries pages size tables db held name t named =
     let among = found_among (is_table name) tables t named in
     let o = table_of_parts held.rows_at tables held.held among.front t among.back among.parts held.each in
     let trees : AllByRecursion (IsTree pages size) (o.split.at ++ all_trees o.split.after) =
-        rest_of (IsTree pages size) (all_trees o.split.before) (o.split.at ++ all_trees o.split.after)
-        (subst (AllByRecursion (IsTree pages size)) (ap all_trees o.split.parts ∙ trees_around o.split.before o.split.at o.split.after) held.shared.trees.1) in
+    rest_of (IsTree pages size) (all_trees o.split.before) (o.split.at ++ all_trees o.split.after)
+    (subst (AllByRecursion (IsTree pages size)) (ap all_trees o.split.parts ∙ trees_around o.split.before o.split.at o.split.after) held.shared.trees.1) in
     by o.split.at o.split.is.are trees
   where
     by : (at : List Owner) {others : List Owner} → AreTreesOf t (held.rows_at t.root) at → AllByRecursion (IsTree pages size) (at ++ others) → HaveEntries pages size (held.rows_at t.root) t.indexes
