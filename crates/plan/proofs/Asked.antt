@@ -25,7 +25,7 @@ use Rattle.terms.specs.declared.tree.Place.TheVariants.{RowId, At}
 use Rattle.terms.specs.declared.tree.TwoSided.TheVariants.{Compare, And}
 use Rattle.bind.specs.Calm.{converts, finds, is_calm, is_search, is_side, parts}
 use Rattle.plan.specs.Asking.{IsNotAsked, asked_key, is_key_column, key_for, key_in, literal_key, led_by}
-use Rattle.plan.specs.Keys.{AreAsked, HasPart, IsAsked, IsKeyOf, begins, is_first, is_same_collation}
+use Rattle.plan.specs.Keys.{AreAsked, AsksPart, IsAsked, IsLiteralKey, is_led_by, is_first, is_same_collation}
 use Rattle.plan.specs.Seeking.{no_index}
 use Rattle.plan.proofs.Others.{word_of}
 use Rattle.plan.proofs.Parts.{left, right}
@@ -36,7 +36,7 @@ the_ok : (answer : Answer Value) (k : Value) → result_ok answer ≡ Some k →
 the_ok (Ok v) k e = ap (λ o. elim o [ None ↦ Ok v | Some w ↦ Ok w ]) e
 the_ok (Err refusal) k e = absurd (none-some k e)
 
-key_is : (a : Option Affinity) (t : Term) (k : Value) → literal_key a t ≡ Some k → IsKeyOf a t k
+key_is : (a : Option Affinity) (t : Term) (k : Value) → literal_key a t ≡ Some k → IsLiteralKey a t k
 key_is a (Const v) k e = the_ok (converted (conversion None a) v) k e
 key_is a (Digits n) k e = by (is_word (pos n)) e where
   by : (test : Bool) → result_ok (cond test (Ok (Int (pos n))) (Err RealRefused) then converted (conversion None a)) ≡ Some k → converted (conversion None a) (Int (pos n)) ≡ Ok k
@@ -69,10 +69,10 @@ module _ (n : ℕ) (column : IndexColumn) (k : Value) where
         ))
   sides_ask _ b e = absurd (none-some k e)
 
-  part_asks : (t : Term) → key_in n column t ≡ Some k → HasPart (IsAsked n column k) t
+  part_asks : (t : Term) → key_in n column t ≡ Some k → AsksPart (IsAsked n column k) t
   part_asks (Two And a b) e = by (key_in n column a) refl e (part_asks a) (part_asks b) where
-    by : (first : Option Value) → key_in n column a ≡ first → option_or first (key_in n column b) ≡ Some k → (key_in n column a ≡ Some k → HasPart (IsAsked n column k) a)
-        → (key_in n column b ≡ Some k → HasPart (IsAsked n column k) b) → HasPart (IsAsked n column k) (Two And a b)
+    by : (first : Option Value) → key_in n column a ≡ first → option_or first (key_in n column b) ≡ Some k → (key_in n column a ≡ Some k → AsksPart (IsAsked n column k) a)
+        → (key_in n column b ≡ Some k → AsksPart (IsAsked n column k) b) → AsksPart (IsAsked n column k) (Two And a b)
     by None is e one other = inr (other e)
     by (Some v) is e one other = inl (one (is ∙ e))
   part_asks (Two (Compare Equal) a b) e = sides_ask a b e
@@ -140,18 +140,18 @@ module _ (s i : ℕ) (a : Option Affinity) (c : Collation) (t : Term) (here : (s
     by false is = refl
     by true is = absurd (some_value key.0 (key_for 0 part columns) (sym (ap (λ first. led_by first (key_for 0 part columns)) (asks is)) ∙ e))
 
-  begins_none : (indexes : List Index) → IsNotAsked part indexes → begins indexes i c ≡ false
+  begins_none : (indexes : List Index) → IsNotAsked part indexes → is_led_by indexes i c ≡ false
   begins_none [] e = refl
-  begins_none (index ∷ indexes) e = ap (λ test. test || begins indexes i c) (not_first index.columns e.0) ∙ begins_none indexes e.1
+  begins_none (index ∷ indexes) e = ap (λ test. test || is_led_by indexes i c) (not_first index.columns e.0) ∙ begins_none indexes e.1
 
 module _ (indexes : List Index) where
-  of_column : (s i : ℕ) (a : Option Affinity) (c : Collation) (t : Term) → IsThere (literal_key a t) → IsNotAsked (Two (Compare Equal) (Cell s (At i) a c) t) indexes → ((s == 0) && begins indexes i c) ≡ false
+  of_column : (s i : ℕ) (a : Option Affinity) (c : Collation) (t : Term) → IsThere (literal_key a t) → IsNotAsked (Two (Compare Equal) (Cell s (At i) a c) t) indexes → ((s == 0) && is_led_by indexes i c) ≡ false
   of_column s i a c t key e = by (s == 0) refl where
-    by : (test : Bool) → (s == 0) ≡ test → (test && begins indexes i c) ≡ false
+    by : (test : Bool) → (s == 0) ≡ test → (test && is_led_by indexes i c) ≡ false
     by false is = refl
     by true is = begins_none s i a c t is key indexes e
 
-  of_part : (t : Term) → is_calm t ≡ true → finds 0 no_index t ≡ false → IsNotAsked t indexes → finds 0 (begins indexes) t ≡ false
+  of_part : (t : Term) → is_calm t ≡ true → finds 0 no_index t ≡ false → IsNotAsked t indexes → finds 0 (is_led_by indexes) t ≡ false
   of_part (Two (Compare Equal) (Cell s RowId a c) (Digits n)) calm none e = none
   of_part (Two (Compare Equal) (Cell s (At i) a c) (Digits n)) calm none e = of_column s i a c (Digits n) (digits_there s i a c n calm) e
   of_part (Two (Compare Equal) (Cell s (At i) a c) (Const v)) calm none e = of_column s i a c (Const v) (text_there s i a c v calm) e
@@ -173,22 +173,22 @@ module _ (a b : Term) where
       (let x = asked_by_neither index.columns e.0 in let y = not_asked_by_either indexes e.1 in
       ((x.0, y.0), (x.1, y.1)))
 
-unfound : (indexes : List Index) (t : Term) → is_calm t ≡ true → list_any (finds 0 no_index) (parts t) ≡ false → IsNotAsked t indexes → list_any (finds 0 (begins indexes)) (parts t) ≡ false
+unfound : (indexes : List Index) (t : Term) → is_calm t ≡ true → list_any (finds 0 no_index) (parts t) ≡ false → IsNotAsked t indexes → list_any (finds 0 (is_led_by indexes)) (parts t) ≡ false
 unfound indexes (Two And a b) calm none e =
     (let x = neither (list_any (finds 0 no_index) (parts a)) (list_any (finds 0 no_index) (parts b)) (sym (list_any-append (finds 0 no_index) (parts a) (parts b)) ∙ none) in
     let y = not_asked_by_either a b indexes e in
-    list_any-append (finds 0 (begins indexes)) (parts a) (parts b)
-    ∙ (ap (λ test. test || list_any (finds 0 (begins indexes)) (parts b)) (unfound indexes a (left (is_calm a) (is_calm b) calm) x.0 y.0)
+    list_any-append (finds 0 (is_led_by indexes)) (parts a) (parts b)
+    ∙ (ap (λ test. test || list_any (finds 0 (is_led_by indexes)) (parts b)) (unfound indexes a (left (is_calm a) (is_calm b) calm) x.0 y.0)
     ∙ unfound indexes b (right (is_calm a) (is_calm b) calm) x.1 y.1))
 unfound indexes t calm none e = ap (λ test. test || false) (of_part indexes t calm (neither (finds 0 no_index t) false none).0 e)
 
 -- a condition that asks for neither a rowid nor an index's first column is no search
-pub no_search : (indexes : List Index) (t : Term) → is_calm t ≡ true → list_any (finds 0 no_index) (parts t) ≡ false → IsNotAsked t indexes → is_search 0 (begins indexes) t ≡ false
-no_search indexes t calm none e = ap (λ test. test && list_any (finds 0 (begins indexes)) (parts t)) calm ∙ unfound indexes t calm none e
+pub no_search : (indexes : List Index) (t : Term) → is_calm t ≡ true → list_any (finds 0 no_index) (parts t) ≡ false → IsNotAsked t indexes → is_search 0 (is_led_by indexes) t ≡ false
+no_search indexes t calm none e = ap (λ test. test && list_any (finds 0 (is_led_by indexes)) (parts t)) calm ∙ unfound indexes t calm none e
 
 -- the same of what a search for a key found
 pub only_search : {X E : Type 0} (indexes : List Index) (t : Term) → is_calm t ≡ true → list_any (finds 0 no_index) (parts t) ≡ false → (result : Result (Option X) E)
-    → IfOk result (λ found. IfNone found (IsNotAsked t indexes)) → IfOk result (λ found. IfNone found (is_search 0 (begins indexes) t ≡ false))
+    → IfOk result (λ found. IfNone found (IsNotAsked t indexes)) → IfOk result (λ found. IfNone found (is_search 0 (is_led_by indexes) t ≡ false))
 only_search indexes t calm none (Ok None) e = no_search indexes t calm none e
 only_search indexes t calm none (Ok (Some x)) e = tt
 only_search indexes t calm none (Err fault) e = tt

@@ -16,7 +16,7 @@ use Rattle.terms.specs.declared.tree.TwoSided.TheVariants.{Compare, And, Or}
 use Rattle.bind.specs.declared.reading.Condition.TheVariants.{Always}
 use Rattle.bind.specs.declared.reading.Reading.{Reading}
 use Rattle.plan.specs.Asking.{key_for, longest_key}
-use Rattle.plan.specs.Keys.{AreAsked, has_key, is_table_search, keyed}
+use Rattle.plan.specs.Keys.{AreAsked, has_key, is_table_search, rows_of_key}
 
 abbrev a : Term
 a = Cell 0 (At 0) (Some kind.Text) Binary
@@ -93,7 +93,7 @@ shorter_key = refl
 pub short_row : has_key on_both.columns (Null ∷ []) (x ∷ []) ≡ true
 short_row = refl
 
-pub rows_of_x : keyed on_a.columns (x ∷ []) (record { rowid = Int (pos 1); values = x ∷ Null ∷ [] } ∷ record { rowid = Int (pos 2); values = Null ∷ Null ∷ [] } ∷ [])
+pub rows_of_x : rows_of_key on_a.columns (x ∷ []) (record { rowid = Int (pos 1); values = x ∷ Null ∷ [] } ∷ record { rowid = Int (pos 2); values = Null ∷ Null ∷ [] } ∷ [])
     ≡ record { rowid = Int (pos 1); values = x ∷ Null ∷ [] } ∷ []
 rows_of_x = refl
 

@@ -20,7 +20,7 @@ use Rattle.terms.specs.declared.tree.Place.TheVariants.{At}
 use Rattle.terms.specs.declared.tree.TwoSided.TheVariants.{Compare}
 use Rattle.bind.specs.Calm.{is_calm}
 use Rattle.bind.specs.Readings.{env_of, holds}
-use Rattle.plan.specs.Keys.{AreAsked, IsAsked, IsKeyOf, KeySearchesAsScans, has_key}
+use Rattle.plan.specs.Keys.{AreAsked, IsAsked, IsLiteralKey, KeySearchesAsScans, has_key}
 use Rattle.plan.proofs.Others.{value_of_digits, word_of}
 use Rattle.plan.proofs.Scans.{IsUntrue, LeavesOut, scans}
 use Rattle.plan.proofs.Untrue.{IsOf, SurvivesAnd, of_whole}
@@ -89,7 +89,7 @@ compares c a v w k e =
     ap (λ x. (x then λ y. converted (conversion None a) w then λ z. pair y z) then λ p. Ok (compared Equal c p.0 p.1)) (column_stays a v)
     ∙ ap (λ x. (x then pair v) then λ p. Ok (compared Equal c p.0 p.1)) e
 
-beside : (s i : ℕ) (a : Option Affinity) (c : Collation) (t : Term) (k : Value) (env : Environment) → is_calm (Two (Compare Equal) (Cell s (At i) a c) t) ≡ true → IsKeyOf a t k
+beside : (s i : ℕ) (a : Option Affinity) (c : Collation) (t : Term) (k : Value) (env : Environment) → is_calm (Two (Compare Equal) (Cell s (At i) a c) t) ≡ true → IsLiteralKey a t k
     → value (Two (Compare Equal) (Cell s (At i) a c) t) env ≡ Ok (compared Equal c (cell env s (At i)) k)
 beside s i a c (Const w) k env calm is = compares c a (cell env s (At i)) w k is
 beside s i a c (Digits j) k env calm is =

@@ -7,7 +7,7 @@ use Rattle.std.specs.Prelude.{IfNone, IfSome}
 use Rattle.terms.specs.Terms.{Term, Two}
 use Rattle.terms.specs.declared.tree.TwoSided.TheVariants.{And}
 use Rattle.bind.specs.Calm.{is_calm, parts}
-use Rattle.plan.specs.Keys.{HasPart}
+use Rattle.plan.specs.Keys.{AsksPart}
 
 pub left : (x y : Bool) → (x && y) ≡ true → x ≡ true
 left true y h = refl
@@ -62,16 +62,16 @@ or_none test None None xs ys f g = both xs f where
     either false e more = more e
 
 -- a condition of which a part passes a test has such a part
-pub passing : (test : Term → Bool) (t : Term) → list_any test (parts t) ≡ true → HasPart (λ x. test x ≡ true) t
+pub passing : (test : Term → Bool) (t : Term) → list_any test (parts t) ≡ true → AsksPart (λ x. test x ≡ true) t
 passing test (Two And a b) h = by (in_either test (parts a) (parts b) h) (passing test a) (passing test b) where
-  by : (list_any test (parts a) ≡ true) ⊎ (list_any test (parts b) ≡ true) → (list_any test (parts a) ≡ true → HasPart (λ x. test x ≡ true) a)
-      → (list_any test (parts b) ≡ true → HasPart (λ x. test x ≡ true) b) → HasPart (λ x. test x ≡ true) (Two And a b)
+  by : (list_any test (parts a) ≡ true) ⊎ (list_any test (parts b) ≡ true) → (list_any test (parts a) ≡ true → AsksPart (λ x. test x ≡ true) a)
+      → (list_any test (parts b) ≡ true → AsksPart (λ x. test x ≡ true) b) → AsksPart (λ x. test x ≡ true) (Two And a b)
   by (inl e) first second = inl (first e)
   by (inr e) first second = inr (second e)
 passing test t h = only (test t) h
 
 -- the part of a condition that can't be refused can't be either
-pub calm_part : (P : Term → Type 0) (t : Term) → is_calm t ≡ true → HasPart P t → (x : Term) × (is_calm x ≡ true) × P x
+pub calm_part : (P : Term → Type 0) (t : Term) → is_calm t ≡ true → AsksPart P t → (x : Term) × (is_calm x ≡ true) × P x
 calm_part P (Two And a b) calm (inl h) = calm_part P a (left (is_calm a) (is_calm b) calm) h
 calm_part P (Two And a b) calm (inr h) = calm_part P b (right (is_calm a) (is_calm b) calm) h
 calm_part P t calm h = (t, calm, h)

@@ -7,7 +7,7 @@ use Rattle.terms.specs.Values.{Environment, and_after, and_also, both_hold, of_b
 use Rattle.terms.specs.declared.tree.TwoSided.TheVariants.{And}
 use Rattle.bind.specs.Calm.{is_calm}
 use Rattle.bind.proofs.CalmConditions.{calm_is_good}
-use Rattle.plan.specs.Keys.{HasPart}
+use Rattle.plan.specs.Keys.{AsksPart}
 use Rattle.plan.proofs.Parts.{left, right}
 
 -- an answer whose truth value is such a one
@@ -36,7 +36,7 @@ module _ (P : Option Bool → Type 0) where
       subst (IsOf P) (sym (ap (λ x. x then λ y. and_also y b) e ∙ (ap (λ x. x then λ y. and_after y b) f ∙ ap (and_after t) g))) (after t w u h p)
 
 module _ (P : Option Bool → Type 0) (survives : SurvivesAnd P) (Q : Term → Type 0) (env : Environment) (of_part : (x : Term) → is_calm x ≡ true → Q x → IsOf P (value x env)) where
-  pub of_whole : (t : Term) → is_calm t ≡ true → HasPart Q t → IsOf P (value t env)
+  pub of_whole : (t : Term) → is_calm t ≡ true → AsksPart Q t → IsOf P (value t env)
   of_whole (Two And a b) calm (inl h) =
       let x = of_whole a (left (is_calm a) (is_calm b) calm) h in
       let y = calm_is_good b (right (is_calm a) (is_calm b) calm) env in

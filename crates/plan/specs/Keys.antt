@@ -33,32 +33,32 @@ has_key (column ∷ columns) (k ∷ key) values = is_eq (order column.collation 
 has_key columns key values = true
 
 -- the rows of a key
-abbrev pub keyed : List IndexColumn → List Value → List Row → List Row
-keyed columns key rows = filter (λ row. has_key columns key row.values) rows
+abbrev pub rows_of_key : List IndexColumn → List Value → List Row → List Row
+rows_of_key columns key rows = filter (λ row. has_key columns key row.values) rows
 
 -- ---- what a condition asks for
 
 -- the value that a column of this affinity is compared with beside a literal
-abbrev pub IsKeyOf : Option Affinity → Term → Value → Type 0
-IsKeyOf a (Const v) k = converted (conversion None a) v ≡ Ok k
-IsKeyOf a (Digits n) k = converted (conversion None a) (Int (pos n)) ≡ Ok k
-IsKeyOf a t k = ⊥
+abbrev pub IsLiteralKey : Option Affinity → Term → Value → Type 0
+IsLiteralKey a (Const v) k = converted (conversion None a) v ≡ Ok k
+IsLiteralKey a (Digits n) k = converted (conversion None a) (Int (pos n)) ≡ Ok k
+IsLiteralKey a t k = ⊥
 
 -- `c = literal` of a column of the source of this number, under the index's collation
 abbrev pub IsAsked : ℕ → IndexColumn → Value → Term → Type 0
-IsAsked n column k (Two (Compare Equal) (Cell s (At i) a c) literal) = (s ≡ n) × (i ≡ column.place) × (c ≡ column.collation) × IsKeyOf a literal k
+IsAsked n column k (Two (Compare Equal) (Cell s (At i) a c) literal) = (s ≡ n) × (i ≡ column.place) × (c ≡ column.collation) × IsLiteralKey a literal k
 IsAsked n column k t = ⊥
 
 -- it is so of one of the parts that AND joins
-abbrev pub HasPart : (Term → Type 0) → Term → Type 0
-HasPart P (Two And a b) = HasPart P a ⊎ HasPart P b
-HasPart P t = P t
+abbrev pub AsksPart : (Term → Type 0) → Term → Type 0
+AsksPart P (Two And a b) = AsksPart P a ⊎ AsksPart P b
+AsksPart P t = P t
 
 -- for each value of the key there is such a part
 abbrev pub AreAsked : ℕ → List IndexColumn → List Value → Term → Type 0
 AreAsked n columns [] condition = ⊤
 AreAsked n [] (k ∷ key) condition = ⊥
-AreAsked n (column ∷ columns) (k ∷ key) condition = HasPart (IsAsked n column k) condition × AreAsked n columns key condition
+AreAsked n (column ∷ columns) (k ∷ key) condition = AsksPart (IsAsked n column k) condition × AreAsked n columns key condition
 
 -- The condition can't be refused, and AND joins what the key asks of the source with what else it asks.
 pub record SeeksKey (source : ℕ) (condition : Term) (columns : List IndexColumn) (key : List Value) : Type 0 where
@@ -79,7 +79,7 @@ pub record SearchesKey (q : Reading) (columns : List IndexColumn) (key : List Va
 -- Such a query gives the same over the rows of that key as over all.
 abbrev pub KeySearchesAsScans : Type 0
 KeySearchesAsScans = (q : Reading) (columns : List IndexColumn) (key : List Value) → SearchesKey q columns key → (rows : List Row)
-    → rows_over q [] ((Always, rows) ∷ []) ≡ rows_over q [] ((Always, keyed columns key rows) ∷ [])
+    → rows_over q [] ((Always, rows) ∷ []) ≡ rows_over q [] ((Always, rows_of_key columns key rows) ∷ [])
 
 -- whether two collations are one
 abbrev pub is_same_collation : Collation → Collation → Bool
@@ -91,12 +91,12 @@ is_first place collation [] = false
 is_first place collation (column ∷ columns) = column.place == place && is_same_collation column.collation collation
 
 -- whether one of the indexes begins with the column of this place, under this collation
-abbrev pub begins : List Index → ℕ → Collation → Bool
-begins indexes place collation = list_any (λ i. is_first place collation i.columns) indexes
+abbrev pub is_led_by : List Index → ℕ → Collation → Bool
+is_led_by indexes place collation = list_any (λ i. is_first place collation i.columns) indexes
 
 -- whether the plan of a query is a search, by rowid or by one of the table's indexes
 abbrev pub is_table_search : List Index → Reading → Bool
-is_table_search indexes q = elim q.filter [ None ↦ false | Some condition ↦ is_plain q.sources && is_search 0 (begins indexes) condition ]
+is_table_search indexes q = elim q.filter [ None ↦ false | Some condition ↦ is_plain q.sources && is_search 0 (is_led_by indexes) condition ]
 
 -- the query seeks this rowid, or this key of the index at this place
 abbrev pub IsSearchOf : List Index → Reading → Search → Type 0

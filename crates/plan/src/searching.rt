@@ -5,7 +5,7 @@ ghost use Rattle.std.specs.List.{list_any};
 ghost use Rattle.bind.specs.Calm as calm;
 ghost use Rattle.plan.specs.Asking as asking;
 ghost use Rattle.plan.specs.Asking.{IsChosen, IsSought};
-ghost use Rattle.plan.specs.Keys.{IsSearchOf, begins, is_table_search};
+ghost use Rattle.plan.specs.Keys.{IsSearchOf, is_led_by, is_table_search};
 ghost use Rattle.plan.specs.Seeking.{no_index};
 
 use crate::calm::is_calm;
@@ -72,7 +72,7 @@ fn key_search(alloc: Global, condition: &Term, indexes: &[Index]) -> R<Option<Se
 fn sought(alloc: Global, condition: &Term, indexes: &[Index]) -> R<Option<Search>>
     ensures found { IfOk result (λ found. IfSome found (λ it. IsSought indexes.now condition.now it)) }
     ensures chosen { IfOk result (λ found. IfSome found (λ it. IsChosen indexes.now condition.now it)) }
-    ensures only { IfOk result (λ found. IfNone found (calm.is_search 0 (begins indexes.now) condition.now ≡ false)) }
+    ensures only { IfOk result (λ found. IfNone found (calm.is_search 0 (is_led_by indexes.now) condition.now ≡ false)) }
     ensures refused { IfErr result (λ fault. fault ≡ Fault.Memory) }
 {
     if !is_calm(alloc, condition)? {

@@ -17,7 +17,7 @@ use Rattle.bind.specs.declared.queries.BoundSource.{BoundSource}
 use Rattle.bind.specs.declared.reading.Condition.{Condition}
 use Rattle.bind.specs.declared.reading.Condition.TheVariants.{Always}
 use Rattle.bind.specs.declared.reading.Reading.{Reading}
-use Rattle.plan.specs.Keys.{AreAsked, KeySearchesAsScans, SearchesKey, has_key, keyed}
+use Rattle.plan.specs.Keys.{AreAsked, KeySearchesAsScans, SearchesKey, has_key, rows_of_key}
 use Rattle.queries.specs.Nesting.{beside_rows}
 use Rattle.rowprog.specs.Rows.{TableRow}
 use Rattle.rowprog.specs.Sources.{as_source}
@@ -37,9 +37,9 @@ one_more row same others true e = ap (λ (them : List Row). as_source row ∷ th
 one_more row same others false e = e
 
 -- the rows of a key, as a query's source has them
-keyed_are : (columns : List IndexColumn) (key : List Value) (rows : List TableRow) → map as_source (filter (λ row. has_key columns key row.1) rows) ≡ keyed columns key (map as_source rows)
+keyed_are : (columns : List IndexColumn) (key : List Value) (rows : List TableRow) → map as_source (filter (λ row. has_key columns key row.1) rows) ≡ rows_of_key columns key (map as_source rows)
 keyed_are columns key [] = refl
-keyed_are columns key (row ∷ rows) = one_more row (filter (λ row. has_key columns key row.1) rows) (keyed columns key (map as_source rows)) (has_key columns key row.1) (keyed_are columns key rows)
+keyed_are columns key (row ∷ rows) = one_more row (filter (λ row. has_key columns key row.1) rows) (rows_of_key columns key (map as_source rows)) (has_key columns key row.1) (keyed_are columns key rows)
 
 -- such a query comes to the same over these rows as over all
 same_over : KeySearchesAsScans → (q : Reading) (columns : List IndexColumn) (key : List Value) → SearchesKey q columns key → (rows : List TableRow)
