@@ -27,7 +27,8 @@ pub struct Counts {
 
 /// Copies the frames that a snapshot sees into the database file, if the log has frames.
 fn copy_seen<D: Disk + Drop>(alloc: Global, log: &mut Log<D>, target: Snapshot) -> R<()>
-    ensures known { OnOk result ((state_of log.new ≡ after_copying (state_of log.old) target) × (D.tells (log_of log.new) ≡ D.tells (log_of log.old))) }
+    ensures known { OnOk result ((state_of log.new ≡ after_copying (state_of log.old) target)
+        × (D.tells (log_of log.new) ≡ D.tells (log_of log.old))) }
     ensures done { MayCopy log.old target → OnOk result (Checkpoints log.old target false log.new) }
     ensures crash { MayCopy log.old target → Meanwhile log.old target log.new }
     ensures refused { MayCopy log.old target → IfErr result (IsCheckpointRefusal log.old log.new) }
@@ -43,7 +44,8 @@ fn copy_seen<D: Disk + Drop>(alloc: Global, log: &mut Log<D>, target: Snapshot) 
 /// answers `Failed`; what `Log::copy` refuses.)
 pub fn passive<D: Disk + Drop>(alloc: Global, log: &mut Log<D>, target: Snapshot) -> R<Counts>
     ensures answer { IfOk result (λ counts. (counts ≡ counts_of false (state_of log.old) target) × (counts.copied ≤ counts.frames)) }
-    ensures known { OnOk result ((state_of log.new ≡ after_copying (state_of log.old) target) × (D.tells (log_of log.new) ≡ D.tells (log_of log.old))) }
+    ensures known { OnOk result ((state_of log.new ≡ after_copying (state_of log.old) target)
+        × (D.tells (log_of log.new) ≡ D.tells (log_of log.old))) }
     ensures done { MayCopy log.old target → OnOk result (Checkpoints log.old target false log.new) }
     ensures crash { MayCopy log.old target → Meanwhile log.old target log.new }
     ensures refused { MayCopy log.old target → IfErr result (IsCheckpointRefusal log.old log.new) }
@@ -103,7 +105,8 @@ pub fn restart<D: Disk + Drop>(
 ) -> R<Counts>
     ensures answer { IfOk result (λ counts. (counts ≡ counts_of (not is_alone) (state_of log.old) target) × (counts.copied ≤ counts.frames)) }
     ensures done { MayCopy log.old target → OnOk result (Checkpoints log.old target is_alone log.new) }
-    ensures anew { Tells log.old → (IsTrue is_alone → seen_by target ≡ (state_of log.old).frames) → OnOk result (IsTrue is_alone → (state_of log.new).frames ≡ 0) }
+    ensures anew { Tells log.old → (IsTrue is_alone → seen_by target ≡ (state_of log.old).frames)
+        → OnOk result (IsTrue is_alone → (state_of log.new).frames ≡ 0) }
     ensures crash { MayCopy log.old target → Meanwhile log.old target log.new }
     ensures refused { MayCopy log.old target → IfErr result (IsCheckpointRefusal log.old log.new) }
     ensures cause { HasCause false result log.old log.new }
@@ -126,9 +129,11 @@ pub fn truncate<D: Disk + Drop>(
     target: Snapshot,
     is_alone: bool,
 ) -> R<Counts>
-    ensures answer { IfOk result (λ counts. (counts ≡ (if is_alone then no_counts else counts_of true (state_of log.old) target)) × (counts.copied ≤ counts.frames)) }
+    ensures answer { IfOk result (λ counts.
+        (counts ≡ (if is_alone then no_counts else counts_of true (state_of log.old) target)) × (counts.copied ≤ counts.frames)) }
     ensures done { MayCopy log.old target → OnOk result (Checkpoints log.old target is_alone log.new) }
-    ensures anew { (IsTrue is_alone → seen_by target ≡ (state_of log.old).frames) → OnOk result (IsTrue is_alone → IsTrue (D.tells (log_of log.old)) → (D.file (log_of log.new)).content ≡ []) }
+    ensures anew { (IsTrue is_alone → seen_by target ≡ (state_of log.old).frames)
+        → OnOk result (IsTrue is_alone → IsTrue (D.tells (log_of log.old)) → (D.file (log_of log.new)).content ≡ []) }
     ensures crash { MayCopy log.old target → Meanwhile log.old target log.new }
     ensures refused { MayCopy log.old target → IfErr result (IsCheckpointRefusal log.old log.new) }
     ensures cause { HasCause false result log.old log.new }

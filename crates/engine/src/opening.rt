@@ -95,7 +95,8 @@ fn load_seats<D: Disk + Drop>(alloc: Global, log: &mut Log<D>) -> R<Seats>
     ensures kept { KeepsFiles log.old log.new }
     ensures listed { (tables : List Table) (database : Database) → Tells log.old → ShowsDatabase (newest_view log.old) tables database
         → IsFound (newest_view log.old) → IfErr result IsOutside }
-    ensures found { Tells log.old → IfOk result (λ seats. FindsDatabase (pages_in (newest_view log.old)) (newest_view log.old).page_size (catalog_in seats)) }
+    ensures found { Tells log.old
+        → IfOk result (λ seats. FindsDatabase (pages_in (newest_view log.old)) (newest_view log.old).page_size (catalog_in seats)) }
     ensures fresh { IfOk result AreFresh }
     ensures cause { HasCause false result log.old log.new }
     ensures not_blank { IfErr result (λ fault. fault ≡ Fault.Blank → ⊥) }
@@ -119,7 +120,8 @@ fn load_and_truncate<D: Disk + Drop>(alloc: Global, log: &mut Log<D>) -> R<Seats
     ensures kept { IsTrue (D.tells (db_of log.old)) → IsTrue (D.tells (log_of log.old))
         → IfErr result (KeepsFilesBut Io (D.file (db_of log.old)) (D.file (log_of log.old)) (D.file (db_of log.new)) (D.file (log_of log.new))) }
     // Tables are loaded only of a database that the newest view holds.
-    ensures found { Tells log.old → IfOk result (λ seats. FindsDatabase (pages_in (newest_view log.old)) (newest_view log.old).page_size (catalog_in seats)) }
+    ensures found { Tells log.old
+        → IfOk result (λ seats. FindsDatabase (pages_in (newest_view log.old)) (newest_view log.old).page_size (catalog_in seats)) }
     // Of settled files that hold a database the catalog lists its tables, and the files stay settled.
     ensures opens { (tables : List Table) (database : Database) → Tells log.old → IsSettled log.old
         → ShowsDatabase (newest_view log.old) tables database → IsOrOutside (StartsWith database log.new) result }
