@@ -21,8 +21,8 @@ use Rattle.plan.specs.Keys.{AreAsked, KeySearchesAsScans, SearchesKey, has_key, 
 use Rattle.queries.specs.Nesting.{beside_rows}
 use Rattle.rowprog.specs.Rows.{TableRow}
 use Rattle.rowprog.specs.Sources.{as_source}
-use Rattle.indexsearch.specs.Searching.{LoadsKeyed}
-use Rattle.storage.specs.Reading.{SearchesBy}
+use Rattle.rowsearch.specs.Searching.{LoadsKeyed}
+use Rattle.storage.specs.Reading.{AnswersKeyed}
 use Rattle.storage.proofs.Answering.{Rows, answers}
 
 -- a key isn't longer than the columns of its index
@@ -53,7 +53,7 @@ same_over law q columns key seeks rows =
 -- the query is answered over the rows of its key
 pub keyed_rows : {X : Type 0} (view : X → Rows) → KeySearchesAsScans → (pages : PageMap) (size : ℕ) (q : Reading) (table : BoundSource) (index : Index) (key : List Value) (found : List Row) (sources : List (List Row)) (result : Result X Fault)
     → SearchesKey q index.columns key → sources ≡ found ∷ [] → LoadsKeyed pages size table index.root index.columns key (Ok found)
-    → (length sources ≡ length q.sources → AnswersBy view (rows_over q [] (beside_rows q.sources sources)) result) → SearchesBy view pages size q table index result
+    → (length sources ≡ length q.sources → AnswersBy view (rows_over q [] (beside_rows q.sources sources)) result) → AnswersKeyed view pages size q table index result
 keyed_rows view law pages size q table index key found sources result seeks one loads answered rows whole has entries =
     answers view (rows_over q [] (beside_rows q.sources (map as_source rows ∷ []))) result (subst (λ (a : Answer Rows). AnswersBy view a result) over (answered long))
   where
@@ -70,7 +70,7 @@ keyed_rows view law pages size q table index key found sources result seeks one 
 
 -- the rows of its key aren't read
 pub not_keyed : {X : Type 0} (view : X → Rows) (pages : PageMap) (size : ℕ) (q : Reading) (table : BoundSource) (index : Index) (key : List Value) (fault : Fault) (result : Result X Fault) → SearchesKey q index.columns key
-    → IsErrAnd result (λ e. e ≡ fault) → LoadsKeyed pages size table index.root index.columns key (Err fault) → SearchesBy view pages size q table index result
+    → IsErrAnd result (λ e. e ≡ fault) → LoadsKeyed pages size table index.root index.columns key (Err fault) → AnswersKeyed view pages size q table index result
 not_keyed view pages size q table index key fault (Ok x) seeks same loads = absurd same
 not_keyed view pages size q table index key fault (Err e) seeks same loads = λ rows whole has entries.
     inl (subst IsOutside (sym same) (loads rows entries.0 whole has entries.1 (short 0 index.columns key seeks.condition seeks.seeks.asked)))

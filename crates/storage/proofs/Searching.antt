@@ -21,7 +21,7 @@ use Rattle.querybinder.specs.Named.{ArePlaced, place_seen}
 use Rattle.queries.specs.Answers.{LoadsBeside}
 use Rattle.rowprog.specs.Rows.{TableRow}
 use Rattle.rowprog.specs.Trees.{AnswersOrFails}
-use Rattle.storage.specs.Reading.{HasEntries, HaveEntries, IsOnly, Searches}
+use Rattle.storage.specs.Reading.{HasEntriesOf, HaveEntriesOf, IsOnly, AnswersSearched}
 use Rattle.stored.specs.Stored.{Stores, all_trees}
 use Rattle.storage.proofs.Answering.{Rows}
 use Rattle.storage.proofs.Owners.{found_among, rows_tree, table_of_parts, trees_around}
@@ -38,12 +38,12 @@ one_at P (y ∷ ys) (suc n) x at all = one_at P ys n x at all.1
 
 -- ---- the trees of a table's indexes
 
-entries_tree : (pages : PageMap) (size : ℕ) (rows : List TableRow) (i : Index) (o : Owner) → IsEntriesTree rows i o → IsTree pages size o → HasEntries pages size rows i
+entries_tree : (pages : PageMap) (size : ℕ) (rows : List TableRow) (i : Index) (o : Owner) → IsEntriesTree rows i o → IsTree pages size o → HasEntriesOf pages size rows i
 entries_tree pages size rows i o is tree =
     (o.used, subst (λ root. IsIndexTree pages size root (collations (columns_of i)) (entries_of_rows (columns_of i) rows) o.used) is.root_is (subst (HoldsUnder pages size o.root o.used) is.content_is tree))
 
 entries_trees : (pages : PageMap) (size : ℕ) (rows : List TableRow) (indexes : List Index) (owners others : List Owner) → Pairwise (IsEntriesTree rows) indexes owners
-    → AllByRecursion (IsTree pages size) (owners ++ others) → HaveEntries pages size rows indexes
+    → AllByRecursion (IsTree pages size) (owners ++ others) → HaveEntriesOf pages size rows indexes
 entries_trees pages size rows [] [] others each trees = tt
 entries_trees pages size rows [] (o ∷ os) others each trees = absurd each
 entries_trees pages size rows (i ∷ is) [] others each trees = absurd each
@@ -55,7 +55,7 @@ rest_of P [] back all = all
 rest_of P (x ∷ front) back all = rest_of P front back all.1
 
 have_entries : (pages : PageMap) (size : ℕ) (tables : List Table) (db : Database) (held : Stores pages size tables db) (name : Name) (t : Table) → table_named name tables ≡ Some t
-    → HaveEntries pages size (held.rows_at t.root) t.indexes
+    → HaveEntriesOf pages size (held.rows_at t.root) t.indexes
 have_entries pages size tables db held name t named =
     let among = found_among (is_table name) tables t named in
     let o = table_of_parts held.rows_at tables held.held among.front t among.back among.parts held.each in
@@ -64,7 +64,7 @@ have_entries pages size tables db held name t named =
     (subst (AllByRecursion (IsTree pages size)) (ap all_trees o.split.parts ∙ trees_around o.split.before o.split.at o.split.after) held.shared.trees.1) in
     by o.split.at o.split.is.are trees
   where
-    by : (at : List Owner) {others : List Owner} → AreTreesOf t (held.rows_at t.root) at → AllByRecursion (IsTree pages size) (at ++ others) → HaveEntries pages size (held.rows_at t.root) t.indexes
+    by : (at : List Owner) {others : List Owner} → AreTreesOf t (held.rows_at t.root) at → AllByRecursion (IsTree pages size) (at ++ others) → HaveEntriesOf pages size (held.rows_at t.root) t.indexes
     by [] are trees = absurd are
     by (first ∷ mine) {others} are trees = entries_trees pages size (held.rows_at t.root) t.indexes mine others are.1 trees.1
 
@@ -83,10 +83,10 @@ same_root tables sources places place t placed one only = at (subst (λ (ps : Li
 
 pub bound_searched : {X : Type 0} (view : X → Rows) (law : LoadsBeside) (pages : PageMap) (size : ℕ) (tables : List Table) (db : Database) (stored : Stores pages size tables db) (reading : Reading) (places : List BoundSource)
     (place : BoundSource) (t : Table) (result : Result X Fault) → places ≡ place ∷ [] → ArePlaced tables reading.sources places → IsOnly tables reading.sources t
-    → Searches view pages size reading place t.indexes result → AnswersOrFails view (answer_of db [] reading) result
+    → AnswersSearched view pages size reading place t.indexes result → AnswersOrFails view (answer_of db [] reading) result
 bound_searched view law pages size tables db stored reading places place t result one placed only searches =
     bound_over view law pages size tables db stored reading places place result one placed
     (λ whole has. searches (stored.rows_at place.root) whole has entries)
   where
-    entries : HaveEntries pages size (stored.rows_at place.root) t.indexes
-    entries = subst (λ root. HaveEntries pages size (stored.rows_at root) t.indexes) (same_root tables reading.sources places place t placed one only) (have_entries pages size tables db stored only.0 t only.3)
+    entries : HaveEntriesOf pages size (stored.rows_at place.root) t.indexes
+    entries = subst (λ root. HaveEntriesOf pages size (stored.rows_at root) t.indexes) (same_root tables reading.sources places place t placed one only) (have_entries pages size tables db stored only.0 t only.3)

@@ -59,23 +59,23 @@ Streams view pages size reading table result = (rows : List TableRow) → AreWho
 -- ---- searches
 
 -- the index's tree has the entries of these rows
-abbrev pub HasEntries : PageMap → ℕ → List TableRow → Index → Type 0
-HasEntries pages size rows index = (used : List ℕ) × IsIndexTree pages size index.root (collations (columns_of index)) (entries_of_rows (columns_of index) rows) used
+abbrev pub HasEntriesOf : PageMap → ℕ → List TableRow → Index → Type 0
+HasEntriesOf pages size rows index = (used : List ℕ) × IsIndexTree pages size index.root (collations (columns_of index)) (entries_of_rows (columns_of index) rows) used
 
 -- What a call answered, seen by `view`, is what a query comes to over the rows of its only source, where its tree has some and that of an
 -- index their entries; or one of its refusals.
-abbrev pub SearchesBy : {X : Type 0} → (X → List (List Value)) → PageMap → ℕ → Reading → BoundSource → Index → Result X Fault → Type 0
-SearchesBy view pages size reading table index result = (rows : List TableRow) → AreWhole size pages → HasRows pages size table.root table.width rows
-    → HasEntries pages size rows index → AnswersOrFails view (rows_over reading [] (beside_rows reading.sources (map as_source rows ∷ []))) result
+abbrev pub AnswersKeyed : {X : Type 0} → (X → List (List Value)) → PageMap → ℕ → Reading → BoundSource → Index → Result X Fault → Type 0
+AnswersKeyed view pages size reading table index result = (rows : List TableRow) → AreWhole size pages → HasRows pages size table.root table.width rows
+    → HasEntriesOf pages size rows index → AnswersOrFails view (rows_over reading [] (beside_rows reading.sources (map as_source rows ∷ []))) result
 
 -- each of the indexes' trees has them
-abbrev pub HaveEntries : PageMap → ℕ → List TableRow → List Index → Type 0
-HaveEntries pages size rows indexes = AllByRecursion (HasEntries pages size rows) indexes
+abbrev pub HaveEntriesOf : PageMap → ℕ → List TableRow → List Index → Type 0
+HaveEntriesOf pages size rows indexes = AllByRecursion (HasEntriesOf pages size rows) indexes
 
 -- the same where each of some indexes has them
-abbrev pub Searches : {X : Type 0} → (X → List (List Value)) → PageMap → ℕ → Reading → BoundSource → List Index → Result X Fault → Type 0
-Searches view pages size reading table indexes result = (rows : List TableRow) → AreWhole size pages → HasRows pages size table.root table.width rows
-    → HaveEntries pages size rows indexes → AnswersOrFails view (rows_over reading [] (beside_rows reading.sources (map as_source rows ∷ []))) result
+abbrev pub AnswersSearched : {X : Type 0} → (X → List (List Value)) → PageMap → ℕ → Reading → BoundSource → List Index → Result X Fault → Type 0
+AnswersSearched view pages size reading table indexes result = (rows : List TableRow) → AreWhole size pages → HasRows pages size table.root table.width rows
+    → HaveEntriesOf pages size rows indexes → AnswersOrFails view (rows_over reading [] (beside_rows reading.sources (map as_source rows ∷ []))) result
 
 -- the table is that of a query's only source
 abbrev pub IsOnly : List Table → List (Name × Condition) → Table → Type 0

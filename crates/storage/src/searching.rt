@@ -3,18 +3,18 @@
 ghost use Rattle.std.specs.Prelude.{◌≡◌, length, map, IfOk, IsTrue};
 ghost use Rattle.pages.specs.Calls.{Stays};
 ghost use Rattle.plan.specs.Keys.{IsSearchOf, SearchesKey};
-ghost use Rattle.plan.specs.Searching.{Searches as SeeksRowid};
+ghost use Rattle.plan.specs.Searching.{Searches};
 ghost use Rattle.queries.specs.Answers.{HaveWidth};
 ghost use Rattle.rowprog.specs.Rows.{values_of};
-ghost use Rattle.storage.specs.Reading.{Searches, SearchesBy, Streams};
+ghost use Rattle.storage.specs.Reading.{AnswersSearched, AnswersKeyed, Streams};
 
 use bind::{BoundSource, Reading};
 use catalog::Index;
-use indexsearch::rows_by_key;
 use pages::Pages;
 use plan::{Search, key_searches_as_scans, searches_as_scans};
 use queries::answer;
 use rowprog::{Rows, source_rows_at};
+use rowsearch::rows_by_key;
 use sqlval::{Many, R, Value};
 use std::alloc::Global;
 use std::array::from_ref;
@@ -28,7 +28,7 @@ fn sought_rows<P: Pages>(
     table: BoundSource,
     rowid: i64,
 ) -> R<Rows>
-    ensures answered { IsTrue (P.Pages.tells (P.Pages.below pages.old)) → SeeksRowid reading.now rowid
+    ensures answered { IsTrue (P.Pages.tells (P.Pages.below pages.old)) → Searches reading.now rowid
         → Streams (λ rows. map values_of rows.items) (P.Pages.map pages.old) (P.Pages.limits (P.Pages.below pages.old)).page reading.now table result }
     ensures wide { IfOk result (λ rows. HaveWidth (length reading.now.results) (map values_of rows.items)) }
     ensures stays { Stays P.Pages.below P.Pages.map P.Pages.count P.Pages.failures result pages.old pages.new }
@@ -50,7 +50,7 @@ fn keyed_rows<P: Pages>(
 ) -> R<Rows>
     requires { SearchesKey reading.now index.now.columns key }
     ensures answered { IsTrue (P.Pages.tells (P.Pages.below pages.old))
-        → SearchesBy (λ rows. map values_of rows.items) (P.Pages.map pages.old) (P.Pages.limits (P.Pages.below pages.old)).page reading.now table index.now result }
+        → AnswersKeyed (λ rows. map values_of rows.items) (P.Pages.map pages.old) (P.Pages.limits (P.Pages.below pages.old)).page reading.now table index.now result }
     ensures wide { IfOk result (λ rows. HaveWidth (length reading.now.results) (map values_of rows.items)) }
     ensures stays { Stays P.Pages.below P.Pages.map P.Pages.count P.Pages.failures result pages.old pages.new }
 {
@@ -70,7 +70,7 @@ pub(crate) fn searched_rows<P: Pages>(
 ) -> R<Rows>
     requires { IsSearchOf indexes.now reading.now search }
     ensures answered { IsTrue (P.Pages.tells (P.Pages.below pages.old))
-        → Searches (λ rows. map values_of rows.items) (P.Pages.map pages.old) (P.Pages.limits (P.Pages.below pages.old)).page reading.now table indexes.now result }
+        → AnswersSearched (λ rows. map values_of rows.items) (P.Pages.map pages.old) (P.Pages.limits (P.Pages.below pages.old)).page reading.now table indexes.now result }
     ensures wide { IfOk result (λ rows. HaveWidth (length reading.now.results) (map values_of rows.items)) }
     ensures stays { Stays P.Pages.below P.Pages.map P.Pages.count P.Pages.failures result pages.old pages.new }
 {

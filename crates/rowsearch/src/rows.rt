@@ -2,7 +2,7 @@
 
 ghost use Rattle.std.specs.Prelude.{IsTrue};
 ghost use Rattle.pages.specs.Calls.{Stays};
-ghost use Rattle.indexsearch.specs.Finding.{AddsRowsAt, LoadsRowsOf};
+ghost use Rattle.rowsearch.specs.Loading.{AddsRowsAt, LoadsRowsOf};
 
 use bind::BoundSource;
 use pages::Pages;

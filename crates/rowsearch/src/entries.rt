@@ -9,7 +9,7 @@ ghost use Rattle.pages.specs.Calls.{Stays};
 ghost use Rattle.record.specs.Record.{IsRecord};
 ghost use Rattle.treepage.specs.Cells.{Pairwise};
 ghost use Rattle.indextree.specs.Entries.{Entry};
-ghost use Rattle.indexsearch.specs.Finding.{AddsFirst, AddsRowids, EndsWithRowid, FindsRowids, rowid_in, sought};
+ghost use Rattle.rowsearch.specs.Finding.{AddsFirst, AddsRowids, EndsWithRowid, FindsRowids, begins_with, rowid_in, sought};
 
 use indextree::{Cursor, Key, compare_entry};
 use pages::Pages;
@@ -30,6 +30,14 @@ fn rowid_of(entry: &Record<'_>) -> Option<i64>
     }
 }
 
+/// Whether an entry begins with a key. (`Memory`.)
+fn is_keyed(alloc: Global, key: Key<'_>, entry: &Record<'_>) -> R<bool>
+    ensures is { IfOk result (λ is. is ≡ begins_with key.entry.columns.now key.entry.values.now entry.now) }
+    ensures refused { IfErr result (λ fault. fault ≡ Fault.Memory) }
+{
+    Ok(compare_entry(alloc, key, entry)?.is_eq())
+}
+
 /// The rowid of the entry of a record, if it begins with a key. (`Memory`, and what `Record::over` refuses; `Damaged(Index, root)` for an
 /// entry that ends with no rowid.)
 fn rowid_by_key(alloc: Global, root: u32, key: Key<'_>, bytes: &[u8]) -> R<Option<i64>>
@@ -38,7 +46,7 @@ fn rowid_by_key(alloc: Global, root: u32, key: Key<'_>, bytes: &[u8]) -> R<Optio
     ensures not_disk { IfErr result IsNotDiskFault }
 {
     let entry = Record::over(alloc, bytes)?;
-    if compare_entry(alloc, key, &entry)?.is_ne() {
+    if !is_keyed(alloc, key, &entry)? {
         return Ok(None);
     }
     match rowid_of(&entry) {

@@ -1,6 +1,6 @@
--- The entries of an index that begin with a key, and the rows of their rowids (Query Planning, "Indices").
-use Rattle.std.specs.Prelude.{◌≡◌, ◌++◌, ℕ, ℤ, pos, Bool, List, [], ◌∷◌, map, if◌then◌else◌, ⊤, Option, None, Some, Result, MatchResult}
-use Rattle.std.specs.List.{AllByRecursion, flat_map, list_all}
+-- The rowids of the entries of an index that begin with a key (Query Planning, "Indices").
+use Rattle.std.specs.Prelude.{◌≡◌, ◌++◌, ℕ, ℤ, pos, Bool, false, List, [], ◌∷◌, if◌then◌else◌, ⊤, Option, None, Some, Result, MatchResult}
+use Rattle.std.specs.List.{AllByRecursion, list_all}
 use Rattle.std.specs.Ordering.{int_cmp, is_eq}
 use Rattle.sqlval.specs.Faults.{IsOutside}
 use Rattle.sqlval.specs.Lists.{sorted}
@@ -9,11 +9,7 @@ use Rattle.sqlval.specs.declared.fault.Fault.{Fault}
 use Rattle.sqlval.specs.declared.value.Value.{Value}
 use Rattle.sqlval.specs.declared.value.Value.TheVariants.{Int}
 use Rattle.pages.specs.Map.{PageMap, AreWhole}
-use Rattle.terms.specs.Values.{Row, number_in}
-use Rattle.bind.specs.declared.queries.BoundSource.{BoundSource}
-use Rattle.rowprog.specs.Rows.{TableRow}
-use Rattle.rowprog.specs.Sources.{as_source, rows_at}
-use Rattle.rowprog.specs.Trees.{HasRows}
+use Rattle.terms.specs.Values.{number_in}
 use Rattle.indextree.specs.Entries.{Entry, entries_from, entry_cmp}
 use Rattle.indextree.specs.Tree.{IsIndexTree}
 
@@ -62,14 +58,3 @@ abbrev pub FindsRowids : PageMap → ℕ → ℕ → List Collation → List Val
 FindsRowids pages size root columns key result = (entries : List Entry) (used : List ℕ) → AreWhole size pages
     → IsIndexTree pages size root columns entries used → AllByRecursion EndsWithRowid entries
     → MatchResult result (λ found. found ≡ sorted int_cmp (first_rowids columns key (entries_from false columns key entries))) IsOutside
-
--- of a tree of rows that of a rowid comes after others; or memory was short, or a disk's call failed
-abbrev pub AddsRowsAt : PageMap → ℕ → BoundSource → ℤ → List Row → List Row → Result ⊤ Fault → Type 0
-AddsRowsAt pages size table rowid before after result = (rows : List TableRow) → AreWhole size pages
-    → HasRows pages size table.root table.width rows
-    → MatchResult result (λ done. after ≡ before ++ map as_source (rows_at rowid rows)) IsOutside
-
--- of a tree of rows these are those of each of these rowids; or memory was short, or a disk's call failed
-abbrev pub LoadsRowsOf : PageMap → ℕ → BoundSource → List ℤ → Result (List Row) Fault → Type 0
-LoadsRowsOf pages size table rowids result = (rows : List TableRow) → AreWhole size pages → HasRows pages size table.root table.width rows
-    → MatchResult result (λ found. found ≡ map as_source (flat_map (λ rowid. rows_at rowid rows) rowids)) IsOutside

@@ -2,7 +2,7 @@
 
 ghost use Rattle.std.specs.Prelude.{IsTrue};
 ghost use Rattle.pages.specs.Calls.{Stays};
-ghost use Rattle.indexsearch.specs.Searching.{LoadsKeyed};
+ghost use Rattle.rowsearch.specs.Searching.{LoadsKeyed};
 
 use crate::entries::keyed_rowids;
 use crate::rows::rows_of;

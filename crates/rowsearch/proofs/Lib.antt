@@ -1,8 +1,11 @@
+mod Batches
+mod Ends
 pub mod Gathered
+pub mod KeyRows
 pub mod Keyed
 pub mod LookedUp
-pub mod Tied
-mod Batches
 mod Records
 mod Searched
+mod Sorted
 mod Sought
+pub mod Tied

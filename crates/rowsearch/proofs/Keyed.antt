@@ -1,0 +1,96 @@
+-- The rows of the entries that begin with a key, by rising rowid, are those of the key.
+use Rattle.std.proofs.Common.{◌≡◌, refl, ap, ◌∙◌, ◌≤◌, ℤ, Bool, true, false, ◌&&◌, cond, List, [], ◌∷◌, length, map, filter, slice_index_or, arith}
+use Rattle.std.proofs.lemmas.Cmp.{eq_by_cmp_equiv, int_cmp_total}
+use Rattle.std.proofs.lemmas.Map.Lookups.{exact_signed}
+use Rattle.std.specs.List.{AllByRecursion, flat_map}
+use Rattle.std.specs.Ordering.{int_cmp, is_eq, is_gt, ordering_then}
+use Rattle.std.specs.declared.cmp.Ordering.{Ordering}
+use Rattle.std.specs.declared.cmp.Ordering.TheVariants.{Less, Equal, Greater}
+use Rattle.sqlval.specs.Lists.{is_rising, placed, sorted}
+use Rattle.sqlval.specs.Order.{order}
+use Rattle.sqlval.specs.declared.collation.Collation.{Collation}
+use Rattle.sqlval.specs.declared.value.Value.{Value}
+use Rattle.sqlval.specs.declared.value.Value.TheVariants.{Null}
+use Rattle.sqlval.proofs.Ordering.{total}
+use Rattle.indextree.specs.Entries.{entries_from, entry_cmp}
+use Rattle.indexes.specs.Entries.{Columns, collations, entries_of_rows, indexed}
+use Rattle.rowprog.specs.Rows.{TableRow}
+use Rattle.rowprog.specs.Sources.{rows_at}
+use Rattle.indexes.specs.Keeping.{columns_in}
+use Rattle.catalog.specs.declared.tables.IndexColumn.{IndexColumn}
+use Rattle.rowsearch.specs.Finding.{EndsWithRowid, begins_with, first_rowids, rowid_in}
+use Rattle.plan.specs.Keys.{has_key}
+use Rattle.rowsearch.proofs.Ends.{ends_with}
+use Rattle.rowsearch.proofs.Gathered.{of_sorted}
+use Rattle.rowsearch.proofs.LookedUp.{all_chosen, ascending, chosen_ascend, chosen_through, each_found, each_through, looked_up, sorted_already}
+use Rattle.rowsearch.proofs.Tied.{first_are_tied}
+
+-- ---- an entry of a row
+
+ends_so : (columns : Columns) (row : TableRow) → EndsWithRowid (indexed columns row)
+ends_so columns row = record { values = map (λ column. slice_index_or row.1 column.0 Null) columns; rowid = row.0; is = refl }
+
+both_tied : (o p : Ordering) → is_eq (ordering_then o p) ≡ (is_eq o && is_eq p)
+both_tied Less p = refl
+both_tied Equal p = refl
+both_tied Greater p = refl
+
+-- it begins with a key where the row has that key
+pub begins_as : (columns : List IndexColumn) (key : List Value) (row : TableRow) → length key ≤ length columns
+    → begins_with (collations (columns_in columns)) key (indexed (columns_in columns) row) ≡ has_key columns key row.1
+begins_as [] [] row le = refl
+begins_as [] (k ∷ key) row le = absurd (omega (arith, le))
+begins_as (column ∷ columns) [] row le = refl
+begins_as (column ∷ columns) (k ∷ key) row le =
+    let value = slice_index_or row.1 column.place Null in
+    both_tied (order column.collation k value) (entry_cmp (collations (columns_in columns)) key (indexed (columns_in columns) row))
+    ∙ (ap (λ b. b && begins_with (collations (columns_in columns)) key (indexed (columns_in columns) row)) ((eq_by_cmp_equiv (total column.collation)).symm k value)
+    ∙ ap (λ b. is_eq (order column.collation value k) && b) (begins_as columns key row (omega (arith, le))))
+
+-- ---- all entries
+
+module _ {X : Type 0} (P : X → Type 0) (cmp : X → X → Ordering) where
+  all_placed : (x : X) (xs : List X) → P x → AllByRecursion P xs → AllByRecursion P (placed cmp x xs)
+  all_placed x [] is all = (is, tt)
+  all_placed x (y ∷ ys) is all = by (is_gt (cmp x y)) (all_placed x ys is all.1)
+    where
+      by : (b : Bool) → AllByRecursion P (placed cmp x ys) → AllByRecursion P (cond b (y ∷ placed cmp x ys) (x ∷ y ∷ ys))
+      by true rest = (all.0, rest)
+      by false rest = (is, all)
+
+  all_sorted : (xs : List X) → AllByRecursion P xs → AllByRecursion P (sorted cmp xs)
+  all_sorted [] all = tt
+  all_sorted (x ∷ xs) all = all_placed x (sorted cmp xs) all.0 (all_sorted xs all.1)
+
+each_ends : (columns : Columns) (rows : List TableRow) → AllByRecursion EndsWithRowid (map (indexed columns) rows)
+each_ends columns [] = tt
+each_ends columns (row ∷ rows) = (ends_so columns row, each_ends columns rows)
+
+-- the entries of rows end with rowids
+pub all_end : (columns : Columns) (rows : List TableRow) → AllByRecursion EndsWithRowid (entries_of_rows columns rows)
+all_end columns rows = all_sorted EndsWithRowid (entry_cmp (collations columns)) (map (indexed columns) rows) (each_ends columns rows)
+
+-- ---- rows of a key
+
+module _ (columns : List IndexColumn) (key : List Value) (rows : List TableRow) where
+  abbrev under : List Collation
+  under = collations (columns_in columns)
+
+  abbrev chosen : List TableRow
+  chosen = filter (λ row. has_key columns key row.1) rows
+
+  abbrev looked : List ℤ → List TableRow
+  looked rowids = flat_map (λ rowid. rows_at rowid rows) (sorted int_cmp rowids)
+
+  -- of entries that rise, and of rows by rising rowid
+  pub keyed_found : length key ≤ length columns → is_rising (entry_cmp under) (entries_of_rows (columns_in columns) rows) ≡ true → is_rising int_cmp (map (λ row. row.0) rows) ≡ true
+      → looked (first_rowids under key (entries_from false under key (entries_of_rows (columns_in columns) rows))) ≡ chosen
+  keyed_found le entries_rise rows_rise =
+      let ascend = ascending rows rows_rise in
+      ap looked (first_are_tied under key (entries_of_rows (columns_in columns) rows) entries_rise)
+      ∙ (ap (flat_map (λ rowid. rows_at rowid rows)) (of_sorted int_cmp int_cmp_total exact_signed (entry_cmp under) rowid_in (begins_with under key) (map (indexed (columns_in columns)) rows))
+      ∙ (ap (λ es. looked (map rowid_in es)) (chosen_through (begins_with under key) (indexed (columns_in columns)) rows)
+      ∙ (ap (λ (those : List TableRow). looked (map rowid_in (map (indexed (columns_in columns)) those))) (λ i. filter (λ row. begins_as columns key row le i) rows)
+      ∙ (ap looked (each_through rowid_in (indexed (columns_in columns)) (λ row. row.0) (λ row. ends_with (map (λ column. slice_index_or row.1 column.0 Null) (columns_in columns)) row.0) chosen)
+      ∙ (ap (flat_map (λ rowid. rows_at rowid rows)) (sorted_already chosen (chosen_ascend (λ row. has_key columns key row.1) rows ascend))
+      ∙ looked_up rows chosen (all_chosen (λ (row : TableRow). rows_at row.0 rows ≡ row ∷ []) (λ row. has_key columns key row.1) rows (each_found rows ascend)))))))
