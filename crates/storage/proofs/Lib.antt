@@ -16,7 +16,7 @@ pub mod Replacing
 pub mod Roots
 pub mod SchemaRows
 mod SearchedRows
-mod Searching
+mod IndexTrees
 pub mod StreamedRows
 pub mod Telling
 pub mod Updates
