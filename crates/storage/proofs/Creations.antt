@@ -1,5 +1,5 @@
 -- What a CREATE TABLE comes to on the database that pages hold.
-use Rattle.std.proofs.Common.{◌≡◌, ◌⊎◌, ◌≤◌, ◌+◌, inl, inr, refl, sym, ap, subst, ◌∙◌, ℕ, ℤ, Bool, true, false, not, ◌||◌, cond, codes, map, List, [], ◌∷◌, ◌++◌, length, Option, None, Some, Result, Ok, Err, arith}
+use Rattle.std.proofs.Common.{◌≡◌, ◌⊎◌, ◌≤◌, inl, inr, refl, sym, ap, subst, ◌∙◌, ℕ, ℤ, Bool, true, false, not, ◌||◌, cond, codes, map, List, [], ◌∷◌, ◌++◌, length, Option, None, Some, Result, Ok, Err, arith}
 use Rattle.std.specs.Prelude.{Contains, IfErr, IsErrAnd, MatchResult, IfOk, flat_map, is_some, option_map}
 use Rattle.std.specs.List as list
 use Rattle.std.specs.List.{list_any}
@@ -14,7 +14,6 @@ use Rattle.syntax.specs.declared.create.TableDefinition.{TableDefinition}
 use Rattle.syntax.specs.declared.statement.Statement.{Statement}
 use Rattle.syntax.specs.declared.statement.Statement.TheVariants as statement
 use Rattle.record.specs.Record.{IsRecord}
-use Rattle.page.specs.Leaf.{Entry}
 use Rattle.pages.specs.Calls.{IsOutsideOrFull}
 use Rattle.pages.specs.Counting.{occurs}
 use Rattle.pages.specs.Map.{PageMap}
@@ -35,12 +34,12 @@ use Rattle.catalog.specs.declared.tables.Index.{Index}
 use Rattle.catalog.specs.declared.tables.Table.{Table}
 use Rattle.catalog.proofs.Found.{names_found}
 use Rattle.bind.specs.Checked.{Checked, Meant, faults}
-use Rattle.bind.specs.Creating.{HasColumnsOf, IsCreateRefusal, has_no_rules}
+use Rattle.bind.specs.Creating.{IsCreateRefusal, has_no_rules}
 use Rattle.bind.specs.Schema.{create}
 use Rattle.bind.proofs.CreatedTables.{makes_table, refuses_table}
 use Rattle.rowprog.specs.Rows.{TableRow}
 use Rattle.stored.specs.Forms.{is_table_supported}
-use Rattle.stored.specs.Schema.{AreRowsOf, IndexTold, IsCreateOf, IsTableOf, IsTableRow, TableTold, Told, all_told, schema_row, told_by}
+use Rattle.stored.specs.Schema.{AreRowsOf, IndexTold, IsCreateOf, IsTableRow, TableTold, all_told, schema_row}
 use Rattle.stored.specs.Stored.{Stores}
 use Rattle.storage.specs.Changing.{IsChangeRefusal, IsMade}
 use Rattle.storage.specs.Listing.{AreTooLong, IsAdded, IsNewTable}

@@ -1,10 +1,8 @@
 -- What a DROP TABLE comes to on the database that pages hold, and what is refused where there is no such object.
-use Rattle.std.proofs.Common.{◌≡◌, ◌⊎◌, ◌≤◌, ℤ, inl, inr, refl, sym, ap, subst, ◌∙◌, ℕ, Bool, true, false, cond, map, not, filter, ◌&&◌, ◌||◌, List, [], ◌∷◌, ◌++◌, length, Option, Some, None, Result, Ok, Err, arith}
-use Rattle.std.specs.Prelude.{Contains, MatchOption, is_some, option_map}
+use Rattle.std.proofs.Common.{◌≡◌, ◌⊎◌, ◌≤◌, ℤ, inl, inr, refl, sym, ap, subst, ◌∙◌, ℕ, Bool, true, false, cond, not, filter, ◌&&◌, ◌||◌, List, [], ◌∷◌, ◌++◌, length, Option, Some, None, Ok, Err, arith}
+use Rattle.std.specs.Prelude.{Contains, MatchOption, is_some}
 use Rattle.std.proofs.lemmas.Bool.{false≢true}
-use Rattle.std.specs.List.{find, list_any}
 use Rattle.sqlval.specs.Names.{is_same_name}
-use Rattle.sqlval.specs.PageSizes.{IsPageSize}
 use Rattle.sqlval.specs.Refusals.{NoSuch, Refusal, refusal_of}
 use Rattle.sqlval.specs.declared.fault.Fault.{Fault}
 use Rattle.sqlval.specs.declared.fault.Fault.TheVariants as fault
@@ -13,15 +11,14 @@ use Rattle.syntax.specs.declared.statement.ObjectKind.TheVariants as kind
 use Rattle.syntax.specs.declared.statement.Statement.{Statement}
 use Rattle.syntax.specs.declared.statement.Statement.TheVariants as statement
 use Rattle.page.specs.Leaf.{Entry}
-use Rattle.pages.specs.Calls.{IsOutsideOrFull}
 use Rattle.pages.specs.Map.{PageMap}
 use Rattle.tabletree.specs.Calls.{BecomesRows, Stands}
 use Rattle.sharing.specs.Layout.{ReplacesTrees, TreesStand}
 use Rattle.catalog.specs.Database as database
 use Rattle.catalog.specs.Database.{Database, Index, Name, Object, ATable, AnIndex, AView, ATrigger, object}
 use Rattle.catalog.specs.Laws.{FindsListed, IsNoTable, NamesListed}
-use Rattle.catalog.specs.Listed.{has_index, has_only_plain, has_table_name, is_name_of, is_table, plain_table, rowids_in, table_named, table_with_index, without_table}
-use Rattle.catalog.specs.Named.{IsOfTables, ListsOthers, without_table_object}
+use Rattle.catalog.specs.Listed.{has_index, has_only_plain, is_name_of, is_table, plain_table, rowids_in, table_named, table_with_index, without_table}
+use Rattle.catalog.specs.Named.{ListsOthers, without_table_object}
 use Rattle.catalog.specs.declared.tables.Table.{Table}
 use Rattle.bind.specs.Checked.{Checked, Meant, faults}
 use Rattle.bind.specs.Schema.{dropped, goes_with}
@@ -38,7 +35,7 @@ use Rattle.storage.proofs.HeldTrees as held_trees
 use Rattle.storage.proofs.Owners.{HasTable, table_of_parts}
 use Rattle.storage.proofs.Replacing.{IsSplit, found_is, names_once, split_at}
 use Rattle.storage.proofs.SchemaRows.{rising_distinct}
-use Rattle.storage.proofs.Telling.{AreLess, AreToldBy, as_rows, as_told, many_less, more_pages, rowids_told, told_append, told_around, told_as}
+use Rattle.storage.proofs.Telling.{AreLess, as_rows, as_told, many_less, more_pages, rowids_told, told_append, told_around, told_as}
 
 -- what follows for every listed database, and for the trees of its file
 pub record Laws : Type 0 where

@@ -1,5 +1,5 @@
 -- What the names of a listed table and of its indexes find.
-use Rattle.std.proofs.Common.{◌≡◌, refl, sym, ap, ◌∙◌, ◌==◌, ◌&&◌, ℕ, Bool, true, false, not, ◌||◌, cond, map, List, [], ◌∷◌, ◌++◌, append_assoc, Option, Some, None, arith}
+use Rattle.std.proofs.Common.{◌≡◌, refl, sym, ap, ◌∙◌, ◌==◌, ◌&&◌, ℕ, Bool, true, false, not, ◌||◌, cond, map, List, [], ◌∷◌, ◌++◌, append_assoc, Some, arith}
 use Rattle.std.proofs.lemmas.Bool.{false≢true}
 use Rattle.std.proofs.lemmas.Grind.{flat_map-append}
 use Rattle.std.proofs.lemmas.Bool.Decides.{nat_tests}

@@ -1,5 +1,5 @@
 -- The trees of a file's tables, whatever its schema table tells, and how they come out of a change.
-use Rattle.std.proofs.Common.{◌≡◌, ◌≤◌, ◌+◌, ◌<◌, refl, sym, ap, subst, ◌∙◌, ℕ, Bool, true, false, List, [], ◌∷◌, ◌++◌, length, ◌==◌, cond, Some, arith}
+use Rattle.std.proofs.Common.{◌≡◌, ◌≤◌, ◌+◌, refl, sym, ap, subst, ◌∙◌, ℕ, Bool, true, false, List, [], ◌∷◌, ◌++◌, length, ◌==◌, cond, Some, arith}
 use Rattle.std.proofs.lemmas.Bool.Decides.{nat_tests}
 use Rattle.std.specs.List.{find}
 use Rattle.std.specs.Str.{bytes_eq}
@@ -22,14 +22,14 @@ use Rattle.catalog.specs.Named.{IsOfTables}
 use Rattle.catalog.specs.Rows.{are_rows}
 use Rattle.catalog.specs.declared.tables.Index.{Index}
 use Rattle.catalog.specs.declared.tables.Table.{Table}
-use Rattle.rowprog.specs.Rows.{IsRow, TableRow}
+use Rattle.rowprog.specs.Rows.{TableRow}
 use Rattle.holdings.specs.Trees.{AreAmong, AreTreesOf, HoldsNow, IsEntriesTree}
 use Rattle.rowstore.specs.Changing.{HoldsFitRows}
 use Rattle.rowstore.specs.Turning.{AreLeft}
 use Rattle.stored.specs.Schema.{AreRowsOf, all_told}
 use Rattle.stored.specs.Stored.{AreHeld, Stores, all_trees, schema_tree}
 use Rattle.storage.proofs.Owners.{HasTable, found_among, joins, table_of_parts, trees_append, trees_around}
-use Rattle.storage.proofs.Roots.{roots_of, roots_once, roots_used, used_both}
+use Rattle.storage.proofs.Roots.{roots_of, roots_once, roots_used}
 use Rattle.storage.proofs.Telling.{as_rows, as_told, more_pages, once_told}
 
 -- ---- rows by roots

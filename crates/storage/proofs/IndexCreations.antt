@@ -1,11 +1,10 @@
 -- What a CREATE INDEX comes to on the database that pages hold.
-use Rattle.std.proofs.Common.{◌≡◌, ◌⊎◌, ◌<◌, ◌≤◌, ◌+◌, inl, inr, refl, sym, ap, subst, ◌∙◌, ℕ, zero, suc, ℤ, pos, Bool, true, false, not, ◌||◌, ◌&&◌, if◌then◌else◌, codes, map, List, [], ◌∷◌, ◌++◌, append_assoc, length, Option, None, Some, Result, Ok, Err, arith}
-use Rattle.std.specs.Prelude.{Contains, ⊤, flat_map}
+use Rattle.std.proofs.Common.{◌≡◌, ◌⊎◌, ◌<◌, ◌≤◌, ◌+◌, inl, inr, refl, sym, ap, subst, ◌∙◌, ℕ, zero, suc, ℤ, pos, Bool, true, false, not, ◌||◌, ◌&&◌, if◌then◌else◌, codes, map, List, [], ◌∷◌, ◌++◌, append_assoc, length, Option, None, Some, Ok, Err, arith}
+use Rattle.std.specs.Prelude.{Contains}
 use Rattle.std.proofs.lemmas.Bool.{cases_eq, cases_lt}
 use Rattle.std.proofs.lemmas.Grind.{common_steps}
 use Rattle.std.specs.List.{AllByRecursion, list_any}
 use Rattle.sqlval.specs.Names.{folded}
-use Rattle.sqlval.specs.PageSizes.{IsPageSize}
 use Rattle.sqlval.specs.Refusals.{Refusal, Unique, refusal_of}
 use Rattle.sqlval.specs.declared.collation.Collation.{Collation}
 use Rattle.sqlval.specs.declared.fault.Fault.{Fault}
@@ -14,21 +13,19 @@ use Rattle.syntax.specs.declared.create.IndexDefinition.{IndexDefinition}
 use Rattle.syntax.specs.declared.create.NewObject.TheVariants as object
 use Rattle.syntax.specs.declared.statement.Statement.{Statement}
 use Rattle.syntax.specs.declared.statement.Statement.TheVariants as statement
-use Rattle.page.specs.Leaf.{Entry}
 use Rattle.pages.specs.Calls.{IsOutsideOrFull}
 use Rattle.pages.specs.Counting.{occurs, fresh}
 use Rattle.pages.specs.Map.{PageMap}
 use Rattle.pages.proofs.Moving.{occurs_append}
-use Rattle.treepage.specs.Cells.{Pairwise}
 use Rattle.tabletree.specs.Calls.{Stands}
 use Rattle.tabletree.specs.Rows.{payload_at, with_row}
 use Rattle.indextree.specs.Entries.{Entry as IndexEntry}
 use Rattle.indextree.specs.Tree as index
 use Rattle.indextree.specs.Tree.{IsIndexTree}
-use Rattle.sharing.specs.Layout.{AreShared, HoldsUnder, IsTree, Owner, ReplacesTrees, TreesStand, used_by}
+use Rattle.sharing.specs.Layout.{HoldsUnder, IsTree, Owner, ReplacesTrees, TreesStand, used_by}
 use Rattle.catalog.specs.Database as database
 use Rattle.catalog.specs.Database.{AnIndex, ATable, ATrigger, AView, Database, Name, with_object, object as object_in}
-use Rattle.catalog.specs.Listed.{is_name_of, is_table, plain_index, plain_table, rowids_of, table_named, with_replaced}
+use Rattle.catalog.specs.Listed.{is_name_of, is_table, plain_index, rowids_of, table_named, with_replaced}
 use Rattle.catalog.specs.Named.{IsOfTables}
 use Rattle.catalog.specs.NewIndexes.{ListsNewIndex, with_index}
 use Rattle.catalog.specs.UnusedRowids.{is_among}
@@ -41,13 +38,12 @@ use Rattle.bind.specs.Schema.{create}
 use Rattle.sqlval.specs.declared.value.Value.{Value}
 use Rattle.querybinder.specs.Indexed.{IsIndexOn, IsIndexRefusal, MakesListedIndex, RefusesIndexAsDefined, key_of}
 use Rattle.rowprog.specs.Rows.{TableRow}
-use Rattle.dml.specs.Inserting.{AllStorable}
-use Rattle.holdings.specs.Trees.{AreAmong, AreTreesOf, HoldsNow, IsEntriesTree, columns_of}
+use Rattle.holdings.specs.Trees.{AreTreesOf, HoldsNow, IsEntriesTree, columns_of}
 use Rattle.indexes.specs.Keeping.{columns_in}
 use Rattle.rowstore.specs.Changing.{AddsIndex, IsTooLongFor}
-use Rattle.rowstore.specs.Turning.{AreEntriesStorable, CanBeIndexed}
-use Rattle.stored.specs.Schema.{AreRowsOf, IndexTold, IsCreateOf, IsIndexRow, TableTold, Tells, Told, all_told, schema_row, told_by}
-use Rattle.stored.specs.Stored.{AreHeld, Stores, all_trees, schema_tree}
+use Rattle.rowstore.specs.Turning.{CanBeIndexed}
+use Rattle.stored.specs.Schema.{AreRowsOf, IndexTold, IsCreateOf, IsIndexRow, TableTold, Told, all_told, schema_row, told_by}
+use Rattle.stored.specs.Stored.{Stores, all_trees, schema_tree}
 use Rattle.storage.specs.Changing.{HasLongRow, IsChangeRefusal, IsIndexIn, IsMade}
 use Rattle.storage.specs.Listing.{AddsRow, AreTooLong, IsAdded}
 use Rattle.storage.specs.Works.{IsRefused, Makes, Reaches, RefusesWith, Work, change_made, clashes_in, clashes_on, index_clashes, made_index, of_known}

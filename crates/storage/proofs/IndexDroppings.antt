@@ -1,6 +1,6 @@
 -- What a DROP INDEX comes to on the database that pages hold.
-use Rattle.std.proofs.Common.{◌≡◌, ◌⊎◌, ◌≤◌, ℤ, inl, inr, refl, sym, ap, subst, ◌∙◌, ℕ, Bool, true, false, cond, map, not, filter, ◌&&◌, ◌||◌, List, [], ◌∷◌, ◌++◌, append_assoc, length, Option, Some, None, Result, Ok, Err, arith}
-use Rattle.std.specs.Prelude.{MatchOption, bytes_eq, flat_map, option_map}
+use Rattle.std.proofs.Common.{◌≡◌, ◌≤◌, inl, refl, sym, ap, subst, ◌∙◌, ℕ, Bool, true, false, cond, map, not, filter, ◌&&◌, ◌||◌, List, [], ◌∷◌, ◌++◌, append_assoc, length, Option, Some, None, Ok, Err, arith}
+use Rattle.std.specs.Prelude.{flat_map, option_map}
 use Rattle.std.proofs.lemmas.Bool.{false≢true}
 use Rattle.std.proofs.lemmas.Map.Lookups.{exact_bytes}
 use Rattle.std.proofs.lemmas.Map.Views.{tells_apart}
@@ -12,7 +12,6 @@ use Rattle.std.specs.Ordering.{eq_by_cmp, is_eq, is_lt}
 use Rattle.std.specs.declared.cmp.Ordering.{Ordering}
 use Rattle.std.specs.declared.cmp.Ordering.TheVariants.{Less, Equal, Greater}
 use Rattle.sqlval.specs.Names.{folded, is_same_name}
-use Rattle.sqlval.specs.PageSizes.{IsPageSize}
 use Rattle.sqlval.specs.declared.fault.Fault.{Fault}
 use Rattle.syntax.specs.declared.statement.ObjectKind.TheVariants as kind
 use Rattle.page.specs.Leaf.{Entry}
@@ -21,7 +20,7 @@ use Rattle.tabletree.specs.Calls.{BecomesRows, Stands}
 use Rattle.tabletree.specs.Rows.{payload_at, without_row}
 use Rattle.catalog.specs.Database as database
 use Rattle.catalog.specs.Database.{Database, Name, Object, ATable, AnIndex, AView, ATrigger, name_order, object}
-use Rattle.catalog.specs.Listed.{Lists, has_index, has_only_plain, index_objects, is_table, named_among, plain_index, plain_table, table_named, table_with_index, with_replaced}
+use Rattle.catalog.specs.Listed.{Lists, has_index, has_only_plain, index_objects, is_table, named_among, plain_index, table_named, table_with_index, with_replaced}
 use Rattle.catalog.specs.Named.{IsNamed, IsOfTables}
 use Rattle.catalog.specs.NewIndexes.{ListsOtherIndexes, without_index, without_object}
 use Rattle.catalog.specs.declared.tables.Index.{Index}
@@ -32,7 +31,7 @@ use Rattle.bind.specs.Schema.{dropped, goes_with}
 use Rattle.rowprog.proofs.TreeOrder.{tree_rises}
 use Rattle.rowprog.specs.Rows.{TableRow}
 use Rattle.sharing.specs.Layout.{Owner, ReplacesTrees, TreesStand}
-use Rattle.holdings.specs.Trees.{AreAmong, HoldsNow}
+use Rattle.holdings.specs.Trees.{AreAmong}
 use Rattle.rowstore.specs.Changing.{FreesIndex, with_indexes}
 use Rattle.stored.specs.Schema.{AreRowsOf, IndexTold, TableTold, Told, all_told, told_by}
 use Rattle.stored.specs.Stored.{Stores, all_trees, schema_tree}
@@ -40,12 +39,12 @@ use Rattle.storage.specs.Changing.{IsChangeRefusal, IsIndexIn, IsMade}
 use Rattle.storage.specs.Works.{Reaches, change_made, of_known}
 use Rattle.storage.proofs.Droppings.{dropping}
 use Rattle.storage.proofs.FoundTables.{indexes_listed, same_bytes}
-use Rattle.storage.proofs.HeldTrees.{HoldsTrees, among, changed, page_size, rows_elsewhere, rows_here, rows_with, schema_stands, stores_of, trees_held, with_schema}
+use Rattle.storage.proofs.HeldTrees.{HoldsTrees, among, changed, page_size, rows_with, schema_stands, stores_of, trees_held, with_schema}
 use Rattle.storage.proofs.IndexCreations.{rows_same}
 use Rattle.storage.proofs.Owners.{HasTable, one_of, table_of_parts}
 use Rattle.storage.proofs.Replacing.{IsSplit, IsSplitAt, folded_same, found_is, indexes_once, names_once, same_folded, split_at, split_index}
 use Rattle.storage.proofs.SchemaRows.{rising_distinct}
-use Rattle.storage.proofs.Telling.{AreToldBy, IsLess, as_rows, as_told, many_retold, map_append, more_pages, one_less, same_indexes, same_table, told_around, told_as}
+use Rattle.storage.proofs.Telling.{IsLess, as_rows, as_told, many_retold, map_append, more_pages, one_less, same_indexes, same_table, told_around, told_as}
 
 -- what follows for every listed database, and for the trees of its file
 pub record Laws : Type 0 where

@@ -1,7 +1,7 @@
 -- A query of one source of a database, answered by a search.
-use Rattle.std.proofs.Common.{◌≡◌, refl, sym, ap, subst, ◌∙◌, ℕ, zero, suc, List, [], ◌∷◌, ◌++◌, map, Option, Some, None}
+use Rattle.std.proofs.Common.{◌≡◌, sym, ap, subst, ◌∙◌, ℕ, zero, suc, List, [], ◌∷◌, ◌++◌, Some, None}
 use Rattle.std.specs.List.{AllByRecursion}
-use Rattle.std.specs.Prelude.{Result, option_map, slice_get}
+use Rattle.std.specs.Prelude.{Result, option_map, slice_get, slice_index_or}
 use Rattle.sqlval.specs.declared.fault.Fault.{Fault}
 use Rattle.pages.specs.Map.{PageMap}
 use Rattle.treepage.specs.Cells.{Pairwise}
@@ -24,17 +24,14 @@ use Rattle.rowprog.specs.Trees.{AnswersOrFails}
 use Rattle.storage.specs.Reading.{HasEntriesOf, HaveEntriesOf, IsOnly, AnswersSearched}
 use Rattle.stored.specs.Stored.{Stores, all_trees}
 use Rattle.storage.proofs.Answering.{Rows}
-use Rattle.storage.proofs.Owners.{found_among, rows_tree, table_of_parts, trees_around}
+use Rattle.storage.proofs.Owners.{found_among, table_of_parts, trees_around}
 use Rattle.storage.proofs.StreamedRows.{bound_over}
 
 -- what is so of all is so of the one at a place
-pub one_at : {A : Type 0} (P : A → Type 0) (xs : List A) (place : ℕ) (x : A) → slice_get xs place ≡ Some x → AllByRecursion P xs → P x
-one_at P [] place x at all = (let bad : None ≡ Some x = at in cc)
-one_at P (y ∷ ys) zero x at all = (let same : y ≡ x = one y x at in subst P same all.0)
-  where
-    one : {A : Type 0} (a b : A) → Some a ≡ Some b → a ≡ b
-    one a b e = cc
-one_at P (y ∷ ys) (suc n) x at all = one_at P ys n x at all.1
+pub one_at : {A : Type 0} (P : A → Type 0) (xs : List A) (place : ℕ) (x y : A) → slice_get xs place ≡ Some x → y ≡ slice_index_or xs place y → AllByRecursion P xs → P y
+one_at P [] place x y at is all = (let bad : None ≡ Some x = at in cc)
+one_at P (z ∷ zs) zero x y at is all = subst P (sym is) all.0
+one_at P (z ∷ zs) (suc n) x y at is all = one_at P zs n x y at is all.1
 
 -- ---- the trees of a table's indexes
 
@@ -62,11 +59,11 @@ have_entries pages size tables db held name t named =
     let trees : AllByRecursion (IsTree pages size) (o.split.at ++ all_trees o.split.after) =
     rest_of (IsTree pages size) (all_trees o.split.before) (o.split.at ++ all_trees o.split.after)
     (subst (AllByRecursion (IsTree pages size)) (ap all_trees o.split.parts ∙ trees_around o.split.before o.split.at o.split.after) held.shared.trees.1) in
-    by o.split.at o.split.is.are trees
+    by o.split.at (all_trees o.split.after) o.split.is.are trees
   where
-    by : (at : List Owner) {others : List Owner} → AreTreesOf t (held.rows_at t.root) at → AllByRecursion (IsTree pages size) (at ++ others) → HaveEntriesOf pages size (held.rows_at t.root) t.indexes
-    by [] are trees = absurd are
-    by (first ∷ mine) {others} are trees = entries_trees pages size (held.rows_at t.root) t.indexes mine others are.1 trees.1
+    by : (at others : List Owner) → AreTreesOf t (held.rows_at t.root) at → AllByRecursion (IsTree pages size) (at ++ others) → HaveEntriesOf pages size (held.rows_at t.root) t.indexes
+    by [] others are trees = absurd are
+    by (first ∷ mine) others are trees = entries_trees pages size (held.rows_at t.root) t.indexes mine others are.1 trees.1
 
 -- ---- the query
 

@@ -1,6 +1,6 @@
 -- What an INSERT comes to on the database that pages hold.
 use Rattle.std.proofs.Common.{◌≡◌, ◌⊎◌, ◌≤◌, ◌+◌, inl, inr, refl, sym, ap, subst, ◌∙◌, ℕ, zero, suc, Bool, true, false, List, [], ◌∷◌, ◌++◌, length, map, slice_index_or, Option, Some, None, Result, Ok, Err, arith}
-use Rattle.std.specs.Prelude.{⊤, All, Contains, IsErrAnd, IsTrue, MatchResult, option_map}
+use Rattle.std.specs.Prelude.{⊤, All, Contains, IsErrAnd, IsTrue, MatchResult}
 use Rattle.std.specs.List.{AllByRecursion, position_from, range_with_len}
 use Rattle.std.proofs.lemmas.Bool.{cases_eq}
 use Rattle.std.proofs.lemmas.List.{append-nil, get_or-append-add, get_or-map, length-append, length-map}
@@ -39,7 +39,7 @@ use Rattle.dml.specs.Constraints.{table_of}
 use Rattle.dml.specs.Inserting.{AllStorable, IsRefusedAs, given_at, last_rowid, rows_added}
 use Rattle.record.specs.Writing.{AreStorable}
 use Rattle.rowstore.specs.Changing.{InsertsInTrees, IsRefusedInsert}
-use Rattle.rowstore.specs.Turning.{AreEntriesStorable, CanBeIndexed}
+use Rattle.rowstore.specs.Turning.{AreEntriesStorable}
 use Rattle.catalog.specs.declared.tables.Index.{Index}
 use Rattle.indexes.specs.Entries.{indexed}
 use Rattle.holdings.specs.Trees.{columns_of}

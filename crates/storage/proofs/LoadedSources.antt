@@ -8,8 +8,8 @@ use Rattle.sqlval.specs.declared.fault.Fault.{Fault}
 use Rattle.pages.specs.Calls.{Limits, Stays}
 use Rattle.pages.specs.Map.{PageMap, AreWhole}
 use Rattle.syntax.specs.declared.query.Query.{Query}
-use Rattle.catalog.specs.Database.{ATable, Database, Name, View}
-use Rattle.catalog.specs.Listed.{Lists, plain_table, table_named}
+use Rattle.catalog.specs.Database.{Database, Name}
+use Rattle.catalog.specs.Listed.{Lists, table_named}
 use Rattle.catalog.specs.declared.tables.Table.{Table}
 use Rattle.terms.specs.Outcome.{AnswersBy}
 use Rattle.terms.specs.Values.{Row}

@@ -12,7 +12,7 @@ use Rattle.pages.specs.Map.{PageMap}
 use Rattle.pages.proofs.Moving.{occurs_append}
 use Rattle.treepage.specs.Cells.{Pairwise}
 use Rattle.tabletree.specs.Tree.{IsTableTree, Tree, top, pages_of}
-use Rattle.sharing.specs.Layout.{AreShared, HoldsUnder, IsTree, Owner, used_by}
+use Rattle.sharing.specs.Layout.{AreShared, IsTree, Owner, used_by}
 use Rattle.catalog.specs.Database.{Database, Name}
 use Rattle.catalog.specs.Listed.{is_table, table_named}
 use Rattle.catalog.specs.declared.tables.Table.{Table}

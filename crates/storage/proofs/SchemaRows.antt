@@ -1,5 +1,5 @@
 -- Rows of different rowids: one more, and one less.
-use Rattle.std.proofs.Common.{◌≡◌, refl, sym, ap, subst, ◌∙◌, ℕ, zero, suc, ◌-◌, ℤ, ◌<ℤ◌, Bool, true, false, cond, slice_index_or, List, [], ◌∷◌, ◌++◌, length, Option, Some, None, int_lt, if◌then◌else◌, arith}
+use Rattle.std.proofs.Common.{◌≡◌, refl, sym, ap, subst, ◌∙◌, ℕ, zero, suc, ◌-◌, ℤ, ◌<ℤ◌, Bool, true, false, slice_index_or, List, [], ◌∷◌, ◌++◌, Some, None, int_lt, if◌then◌else◌, arith}
 use Rattle.std.proofs.lemmas.Bool.{false≢true}
 use Rattle.std.specs.List.{AllByRecursion}
 use Rattle.std.specs.Ordering.{int_eq}
@@ -7,7 +7,6 @@ use Rattle.std.specs.Prelude.{⊤}
 use Rattle.page.specs.Leaf.{Entry}
 use Rattle.tabletree.specs.Rows.{payload_at, with_row, without_row}
 use Rattle.tabletree.specs.SingleLeaf.{AreRising}
-use Rattle.storage.specs.Listing.{AreThere, without_rows}
 
 -- the row has another rowid than each of these
 abbrev pub IsOther : ℤ → List Entry → Type 0

@@ -1,7 +1,7 @@
 -- Rows that are taken out of the schema table one after another.
-use Rattle.std.proofs.Common.{◌≡◌, ◌⊎◌, refl, sym, ap, subst, ◌∙◌, ℕ, ℤ, map, List, [], ◌∷◌, length, Result, Ok, Err, arith}
+use Rattle.std.proofs.Common.{◌≡◌, refl, sym, subst, ℕ, ℤ, map, List, [], ◌∷◌, length, Result, Ok, Err, arith}
 use Rattle.std.proofs.lemmas.Grind.{common_steps}
-use Rattle.std.specs.Prelude.{⊤, IsErrAnd, MatchResult}
+use Rattle.std.specs.Prelude.{⊤, IsErrAnd}
 use Rattle.sqlval.specs.declared.fault.Fault.{Fault}
 use Rattle.page.specs.Leaf.{Entry}
 use Rattle.pages.specs.Calls.{IsOutsideOrFull}
@@ -9,7 +9,7 @@ use Rattle.pages.specs.Counting.{fresh}
 use Rattle.pages.specs.Map.{PageMap}
 use Rattle.pages.proofs.Moving.{in_sequence}
 use Rattle.forest.proofs.MovedPages.{keeps_then}
-use Rattle.tabletree.specs.Calls.{BecomesRows, Stands}
+use Rattle.tabletree.specs.Calls.{BecomesRows}
 use Rattle.tabletree.specs.Rows.{without_row}
 use Rattle.catalog.specs.declared.tables.Index.{Index}
 use Rattle.storage.specs.Listing.{TakesSchemaRow, TakesSchemaRows, without_rows}

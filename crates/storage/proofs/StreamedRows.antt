@@ -1,10 +1,9 @@
 -- The rows of a query whose source's tree is read leaf by leaf.
-use Rattle.std.proofs.Common.{◌≡◌, ◌⊎◌, inl, inr, refl, sym, ap, subst, ◌∙◌, ℕ, ℤ, ◌++◌, Bool, true, List, [], ◌∷◌, map, length, slice_index_or, ◌≤◌, ◌<◌, Option, Some, None, Ok, Err, IsTrue, append_assoc, append-nil, arith}
-use Rattle.std.specs.Prelude.{Result, IsErrAnd, IfOk, ⊤}
+use Rattle.std.proofs.Common.{◌≡◌, ◌⊎◌, inl, inr, refl, sym, ap, subst, ◌∙◌, ℕ, ℤ, ◌++◌, Bool, true, List, [], ◌∷◌, map, length, slice_index_or, ◌≤◌, ◌<◌, Option, None, Ok, Err, IsTrue, append_assoc, append-nil, arith}
+use Rattle.std.specs.Prelude.{Result, IsErrAnd, ⊤}
 use Rattle.sqlval.specs.Faults.{IsOutside}
 use Rattle.sqlval.specs.Refusals.{Answer, Refusal, ◌then◌, refusal_of}
 use Rattle.sqlval.specs.declared.fault.Fault.{Fault}
-use Rattle.sqlval.specs.declared.value.Value.{Value}
 use Rattle.page.specs.Leaf.{Entry}
 use Rattle.pages.specs.Calls.{Limits, Stays}
 use Rattle.pages.specs.Map.{PageMap, AreWhole}
@@ -24,7 +23,6 @@ use Rattle.querybinder.specs.Named.{ArePlaced}
 use Rattle.queries.specs.Answers.{LoadsBeside, given_rows}
 use Rattle.queries.specs.Nesting.{beside_rows}
 use Rattle.queries.specs.Parts.{GiveNone, StayRefused, given_of, is_row_by_row}
-use Rattle.rowprog.specs.Rows.{TableRow}
 use Rattle.rowprog.specs.Sources.{GivesRows, HoldRows, as_held, as_source}
 use Rattle.rowprog.specs.Trees.{AnswersOrFails, HasRows}
 use Rattle.storage.specs.Reading.{HaveRows, Streams, rows_in}

@@ -1,16 +1,14 @@
 -- Rows that tell tables and indexes go on to tell them: with more pages, with one row more, and with one less.
-use Rattle.std.proofs.Common.{◌≡◌, ◌≤◌, refl, sym, ap, subst, ◌∙◌, ℕ, ℤ, Bool, true, false, cond, map, List, [], ◌∷◌, ◌++◌, append_assoc, length, Option, Some, None, arith}
-use Rattle.std.proofs.lemmas.List.{append-nil}
-use Rattle.std.proofs.lemmas.Bool.{false≢true}
-use Rattle.std.specs.List.{AllByRecursion, list_any}
+use Rattle.std.proofs.Common.{◌≡◌, ◌≤◌, refl, sym, ap, subst, ◌∙◌, ℕ, ℤ, true, false, cond, map, List, [], ◌∷◌, ◌++◌, append_assoc, Some, None, arith}
+use Rattle.std.specs.List.{AllByRecursion}
 use Rattle.std.specs.Ordering.{eq_by_cmp, int_cmp, int_eq}
-use Rattle.std.specs.Prelude.{⊤, flat_map}
+use Rattle.std.specs.Prelude.{⊤}
 use Rattle.sqlval.specs.Names.{folded}
 use Rattle.page.specs.Leaf.{Entry}
 use Rattle.treepage.specs.Cells.{Pairwise}
 use Rattle.tabletree.specs.Rows.{payload_at, with_row, without_row}
 use Rattle.syntax.specs.declared.create.TableDefinition.{TableDefinition}
-use Rattle.catalog.specs.Listed.{has_doubled, is_table, rowids_in, rowids_of, table_named}
+use Rattle.catalog.specs.Listed.{has_doubled, is_table, rowids_in, rowids_of}
 use Rattle.catalog.specs.UnusedRowids.{is_among}
 use Rattle.catalog.specs.declared.tables.Index.{Index}
 use Rattle.catalog.specs.declared.tables.Table.{Table}
@@ -18,12 +16,12 @@ use Rattle.bind.specs.Bound.{AreOnce, is_twice_named}
 use Rattle.bind.specs.Creating.{HasColumnsOf}
 use Rattle.bind.proofs.CreatedTables.{keeps_once}
 use Rattle.stored.specs.Reordering.{AreReordered}
-use Rattle.stored.specs.Schema.{AreRowsOf, HasRowOf, IndexTold, IsIndexRow, IsTableRow, TableTold, Tells, Told, all_told, told_by}
+use Rattle.stored.specs.Schema.{AreRowsOf, HasRowOf, IndexTold, TableTold, Tells, Told, all_told, told_by}
 use Rattle.stored.proofs.Reordering.{all_reordered, is_reordered, reordered_between, reordered_map, reordered_sym, reordered_without}
 use Rattle.storage.specs.Listing.{AreThere, without_rows}
 use Rattle.storage.proofs.FoundTables.{neither, same_bytes}
-use Rattle.storage.proofs.Owners.{Splits, found_among, joins, one_of, splits}
-use Rattle.storage.proofs.SchemaRows.{AreDistinct, GoesBetween, distinct_before, distinct_left, goes_between, there_at, without_at}
+use Rattle.storage.proofs.Owners.{found_among, joins, one_of, splits}
+use Rattle.storage.proofs.SchemaRows.{AreDistinct, distinct_before, distinct_left, goes_between, there_at, without_at}
 
 -- the rows tell these items, in whatever order
 pub record AreToldBy (pages : ℕ) (items : List Told) (rows : List Entry) : Type 0 where

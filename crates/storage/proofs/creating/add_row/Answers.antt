@@ -1,9 +1,8 @@
 use Rattle.std.proofs.lemmas.Int.{to_z-of_z}
-use Rattle.std.proofs.Common.{rules, SFits, w64, sym, subst, inl, ◌≡◌, None, Ok, Err, true, false}
+use Rattle.std.proofs.Common.{rules, SFits, w64, sym, subst, inl, Ok, true, false}
 use Rattle.record.specs.Record.{IsRecord}
 use Rattle.page.specs.Leaf.{Entry}
 use Rattle.tabletree.specs.Calls.{InsertsRow}
-use Rattle.tabletree.specs.Rows.{payload_at}
 use Rattle.storage.proofs.AddedRows.{added, by_flag, not_there, passed}
 use Rattle.storage.proofs.creating.add_row.Goals as goal
 

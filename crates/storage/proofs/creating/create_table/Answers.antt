@@ -1,5 +1,5 @@
 use Rattle.std.proofs.lemmas.Int.{to_z-of_z}
-use Rattle.std.proofs.Common.{rules, SFits, w64, ◌≡◌, ◌∙◌, refl, sym, subst, ap, inl, codes, Ok, Err, IsTrue, List, ◌∷◌}
+use Rattle.std.proofs.Common.{rules, SFits, w64, ◌≡◌, ◌∙◌, refl, sym, subst, inl, codes, Ok, Err, IsTrue, List, ◌∷◌}
 use Rattle.sqlval.specs.declared.value.Value.{Value}
 use Rattle.catalog.specs.Listed.{tables_of}
 use Rattle.catalog.specs.declared.tables.Table.{Table}

@@ -1,4 +1,4 @@
-use Rattle.std.proofs.Common.{rules, ◌∙◌, ap, sym, subst, inl, Ok, Err, IsTrue}
+use Rattle.std.proofs.Common.{◌∙◌, ap, sym, subst, inl, Ok, Err, IsTrue}
 use Rattle.catalog.specs.Listed.{tables_of, without_table}
 use Rattle.rowstore.specs.Changing.{DropsTrees}
 use Rattle.storage.proofs.Creations.{handed_on}

@@ -1,4 +1,4 @@
-use Rattle.std.proofs.Common.{◌≡◌, ◌∙◌, map, rules}
+use Rattle.std.proofs.Common.{◌∙◌, map, rules}
 use Rattle.plan.specs.Keys.{SearchesKey}
 use Rattle.rowprog.specs.Rows.{values_of}
 use Rattle.storage.proofs.KeyedRows.{keyed_rows, not_keyed}
