@@ -18,3 +18,4 @@ pub mod PlacesOfRows
 pub mod Quiet
 pub mod Runs
 pub mod StableSorts
+pub mod Waits
