@@ -8,12 +8,11 @@ use Rattle.sqlval.specs.Flow.{Flow, Finished, Next, Refused, followed_by, collec
 use Rattle.sqlval.specs.Refusals.{Answer, ◌then◌}
 use Rattle.sqlval.specs.declared.fault.Fault.{Fault}
 use Rattle.terms.specs.Outcome.{AnswersBy, IsRefusedBy}
-use Rattle.terms.specs.Rows.{picked_rows, row_at}
+use Rattle.terms.specs.Rows.{picked_rows}
 use Rattle.terms.specs.Values.{Row}
 use Rattle.bind.specs.Readings.{Sortable, nulls}
 use Rattle.bind.specs.declared.reading.Condition.{Condition}
 use Rattle.bind.specs.declared.reading.Reading.{Reading}
-use Rattle.queries.specs.Answers.{given_rows}
 use Rattle.queries.specs.Nesting.{Found, Named, all_found, all_kept, at_leaf, beside_rows, found_of, given, is_left, joins_by, nest_from, onto, shown, stepped, tried}
 use Rattle.queries.specs.Parts.{GiveNone, StayRefused, given_of, is_alone, is_row_by_row, of_row, of_rows}
 use Rattle.queries.specs.declared.results.FoundRow.{FoundRow}

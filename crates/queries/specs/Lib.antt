@@ -1,6 +1,7 @@
 pub mod Answers
 pub mod Checks
 pub mod Groups
+pub mod Lookups
 pub mod Nesting
 pub mod Numbers
 pub mod Parts

@@ -1,4 +1,3 @@
-use Rattle.std.proofs.Common.{◌≡◌, map}
 use Rattle.queries.proofs.PartRows.{alone, part_answers, part_calm, part_given}
 use Rattle.queries.proofs.parts.give_part.Goals as goal
 
