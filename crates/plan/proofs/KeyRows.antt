@@ -15,7 +15,7 @@ use Rattle.terms.specs.declared.tree.Place.TheVariants.{At}
 use Rattle.terms.specs.declared.tree.TwoSided.TheVariants.{Compare, And, Or}
 use Rattle.bind.specs.declared.reading.Condition.TheVariants.{Always}
 use Rattle.bind.specs.declared.reading.Reading.{Reading}
-use Rattle.plan.specs.Asking.{key_for, longest_key}
+use Rattle.plan.specs.Asking.{asks_nothing, key_for, most_asked, no_range}
 use Rattle.plan.specs.Keys.{AreAsked, has_key, is_table_search, rows_of_key}
 
 abbrev a : Term
@@ -55,13 +55,13 @@ pub key_of_both : key_for 0 both on_both.columns ≡ Int (pos 5) ∷ x ∷ []
 key_of_both = refl
 
 pub parts_ask : AreAsked 0 on_both.columns (Int (pos 5) ∷ x ∷ []) both
-parts_ask = (inr (refl, refl, refl, refl), (inl (refl, refl, refl, refl), tt))
+parts_ask = (inr (refl, refl, refl, refl, refl), (inl (refl, refl, refl, refl, refl), tt))
 
 -- the index with the most columns asked for, and the first of two with one each
-pub longest_of_both : longest_key both 0 (0, []) (on_a ∷ on_both ∷ []) ≡ (1, Int (pos 5) ∷ x ∷ [])
-longest_of_both = refl
+pub most_of_both : most_asked both 0 asks_nothing (on_a ∷ on_both ∷ []) ≡ record { place = 1; key = Int (pos 5) ∷ x ∷ []; range = no_range }
+most_of_both = refl
 
-pub first_of_equals : longest_key both 0 (0, []) (on_a ∷ on_a ∷ []) ≡ (0, x ∷ [])
+pub first_of_equals : most_asked both 0 asks_nothing (on_a ∷ on_a ∷ []) ≡ record { place = 0; key = x ∷ []; range = no_range }
 first_of_equals = refl
 
 -- a = 'x' alone asks nothing of (b, a), whose first column is b

@@ -37,7 +37,7 @@ literal_key a t = None
 
 -- whether it is what is looked for, under its collation
 abbrev pub is_wanted : Wanted → Term → Bool
-is_wanted w (Cell s p a c) = (s == w.source) && (same_place p w.place && is_same_collation w.collation c)
+is_wanted w (Cell s p a c) = (s == w.source) && (same_place w.place p && is_same_collation w.collation c)
 is_wanted w t = false
 
 -- the value where the left side is that and the right side a literal

@@ -68,7 +68,7 @@ fn is_wanted(term: &Term, wanted: Wanted) -> bool
     match &term.node {
         Node::Cell(source, place, _, collation) => {
             *source == wanted.source
-                && same_place(*place, wanted.place)
+                && same_place(wanted.place, *place)
                 && same_collation(wanted.collation, *collation)
         }
         _ => false,

@@ -125,7 +125,7 @@ fn many_sought(alloc: Global, condition: &Term, indexes: &[Index]) -> R<Option<S
     ensures refused { IfErr result (λ fault. fault ≡ Fault.Memory) }
 {
     match rowids_in(alloc, condition, 0)? {
-        Some((low, high)) => Ok(Some(Search::Rowids(low, high))),
+        Some(found) => Ok(Some(Search::Rowids(found.0, found.1))),
         None => index_search(alloc, condition, indexes),
     }
 }
