@@ -18,32 +18,32 @@ use Rattle.bind.specs.declared.reading.Reading.{Reading}
 use Rattle.plan.specs.Asking.{asks_nothing, key_for, most_asked, no_range}
 use Rattle.plan.specs.Keys.{AreAsked, has_key, is_table_search, rows_of_key}
 
-abbrev a : Term
+abbrev pub a : Term
 a = Cell 0 (At 0) (Some kind.Text) Binary
 
-abbrev b : Term
+abbrev pub b : Term
 b = Cell 0 (At 1) (Some kind.Blob) Binary
 
-abbrev x : Value
+abbrev pub x : Value
 x = Text (codes "x")
 
-abbrev first : Collation → IndexColumn
+abbrev pub first : Collation → IndexColumn
 first collation = record { place = 0; collation = collation }
 
-abbrev second : IndexColumn
+abbrev pub second : IndexColumn
 second = record { place = 1; collation = Binary }
 
 abbrev index_on : List IndexColumn → Index
 index_on columns = record { name = codes "i"; columns = columns; root = 3; rowid = pos 2 }
 
-abbrev on_a : Index
+abbrev pub on_a : Index
 on_a = index_on (first Binary ∷ [])
 
-abbrev on_both : Index
+abbrev pub on_both : Index
 on_both = index_on (second ∷ first Binary ∷ [])
 
 -- a = 'x' AND b = 5
-abbrev both : Term
+abbrev pub both : Term
 both = Two And (Two (Compare Equal) a (Const x)) (Two (Compare Equal) b (Digits 5))
 
 -- ---- keys

@@ -1,9 +1,10 @@
 pub mod Asked
-mod KeyRows
+pub mod KeyRows
 pub mod KeyedRows
 pub mod Most
 pub mod Others
 pub mod Parts
+mod RangeRows
 pub mod RangedRows
 pub mod RowidEnds
 pub mod Scans

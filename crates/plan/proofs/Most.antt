@@ -3,7 +3,7 @@ use Rattle.std.proofs.Common.{◌≡◌, refl, sym, ap, ◌∙◌, subst, ℕ, s
 use mathlib.Core.Bool.{true≢false}
 use Rattle.std.proofs.lemmas.Bool.{eqb-true}
 use Rattle.std.proofs.lemmas.Bool.Decides.{nat_tests}
-use Rattle.std.specs.Option.{is_some, option_or}
+use Rattle.std.specs.Option.{option_or}
 use Rattle.std.specs.Prelude.{IfSome, option_map, slice_get}
 use Rattle.sqlval.specs.declared.value.Value.{Value}
 use Rattle.catalog.specs.declared.tables.Index.{Index}
@@ -11,11 +11,10 @@ use Rattle.catalog.specs.declared.tables.IndexColumn.{IndexColumn}
 use Rattle.terms.specs.Terms.{Term}
 use Rattle.terms.specs.declared.tree.Comparison.{Comparison}
 use Rattle.bind.specs.Calm.{is_calm}
-use Rattle.plan.specs.Asking.{IsNotAsked, IsSought, asks_less, asks_nothing, candidate_of, end_at, end_in, ends_in, key_in, more_asked, most_asked, no_range, range_in}
+use Rattle.plan.specs.Asking.{IsNotAsked, IsSought, asks_less, asks_nothing, candidate_of, end_at, end_in, ends_in, key_in, more_asked, most_asked, range_in}
 use Rattle.plan.specs.Keys.{AreAsked, of_column}
 use Rattle.plan.specs.Ranges.{AreEnds, IsBoundOf, SeeksRange, has_ends, high_comparison, low_comparison}
 use Rattle.plan.specs.declared.keys.Wanted.{Wanted}
-use Rattle.plan.specs.declared.ranges.Bound.{Bound}
 use Rattle.plan.specs.declared.ranges.Range.{Range}
 use Rattle.plan.specs.declared.searching.Candidate.{Candidate}
 use Rattle.plan.specs.declared.searching.Search.TheVariants.{Key, Range as InRange}
@@ -70,13 +69,6 @@ end_asked w by t = of (key_in w (by true) t) (key_in w (by false) t) refl refl w
 
 pub ends_asked : (w : Wanted) (t : Term) → has_ends (ends_in w t) ≡ true → AreEnds w t (ends_in w t)
 ends_asked w t some = record { low = end_asked w low_comparison t; high = end_asked w high_comparison t; some = some }
-
-no_ends : (range : Range) → has_ends range ≡ false → range ≡ no_range
-no_ends range e = by range.low range.high e where
-  by : (low high : Option Bound) → is_some low || is_some high ≡ false → record { low = low; high = high } ≡ no_range
-  by None None e = refl
-  by None (Some end) e = absurd (true≢false e)
-  by (Some end) high e = absurd (true≢false e)
 
 -- ---- of several indexes
 
@@ -161,7 +153,3 @@ module _ (t : Term) (indexes : List Index) (it : Candidate) (calm : is_calm t �
   -- where there is neither, no index's first column is asked for
   pub no_key : length it.key ≡ 0 → IsNotAsked t indexes
   no_key none = (none_asked t 0 asks_nothing indexes (ap (λ (c : Candidate). c.key) (sym is) ∙ empty it.key none)).1
-
-  -- where there is no range, that is no more than the key
-  pub key_alone : has_ends it.range ≡ false → record { place = it.place; key = it.key; range = no_range } ≡ most_asked t 0 asks_nothing indexes
-  key_alone none = ap (λ (range : Range). record { place = it.place; key = it.key; range = range }) (sym (no_ends it.range none)) ∙ is

@@ -62,11 +62,8 @@ fn end_in(
     ensures found { IfOk result (λ end. end ≡ asking.end_in wanted within beyond condition.now) }
     ensures refused { IfErr result (λ fault. fault ≡ Fault.Memory) }
 {
-    match key_in(alloc, condition, wanted, within)? {
-        Some(value) => Ok(Some(Bound {
-            value,
-            within: true,
-        })),
+    match end_at(key_in(alloc, condition, wanted, within)?, true) {
+        Some(end) => Ok(Some(end)),
         None => Ok(end_at(key_in(alloc, condition, wanted, beyond)?, false)),
     }
 }

@@ -1,7 +1,6 @@
 //! The rowids that a condition asks for by a range of them.
 
 ghost use Rattle.std.specs.Prelude.{◌≡◌, IfErr, IfOk};
-ghost use Rattle.std.specs.Option.{option_and_then};
 ghost use Rattle.plan.specs.Asking as asking;
 ghost use Rattle.plan.specs.Ranges as ranges;
 
@@ -42,32 +41,22 @@ fn at_or_before(within: bool, number: i64) -> Option<i64>
     number.checked_sub(1)
 }
 
-/// The first rowid of a range with this low end. None where it is no number, or there is no end.
-fn first_rowid(end: &Option<Bound>) -> Option<i64>
-    ensures { result ≡ option_and_then asking.first_rowid end.now }
+/// The first rowid of a range with this low end, or None where the end is no number.
+fn first_rowid(end: &Bound) -> Option<i64>
+    ensures { result ≡ asking.first_rowid end.now }
 {
-    match end {
-        Some(
-            Bound {
-                value: Value::Int(number),
-                within,
-            },
-        ) => at_or_after(*within, *number),
+    match &end.value {
+        Value::Int(number) => at_or_after(end.within, *number),
         _ => None,
     }
 }
 
-/// The last rowid of a range with this high end. None where it is no number, or there is no end.
-fn last_rowid(end: &Option<Bound>) -> Option<i64>
-    ensures { result ≡ option_and_then asking.last_rowid end.now }
+/// The last rowid of a range with this high end, or None where the end is no number.
+fn last_rowid(end: &Bound) -> Option<i64>
+    ensures { result ≡ asking.last_rowid end.now }
 {
-    match end {
-        Some(
-            Bound {
-                value: Value::Int(number),
-                within,
-            },
-        ) => at_or_before(*within, *number),
+    match &end.value {
+        Value::Int(number) => at_or_before(end.within, *number),
         _ => None,
     }
 }
@@ -86,7 +75,9 @@ fn from_to(low: Option<i64>, high: Option<i64>) -> Option<(i64, i64)>
 fn rowids_of(range: &Range) -> Option<(i64, i64)>
     ensures { result ≡ asking.rowids_of range.now }
 {
-    from_to(first_rowid(&range.low), last_rowid(&range.high))
+    let first = range.low.as_ref().and_then(first_rowid);
+    let last = range.high.as_ref().and_then(last_rowid);
+    from_to(first, last)
 }
 
 /// The rowids that a condition asks for by a range, from the first to the last. (`Memory`.)
