@@ -13,7 +13,7 @@ use Rattle.terms.specs.declared.tree.Place.TheVariants.{RowId}
 use Rattle.terms.specs.declared.tree.TwoSided.TheVariants.{Compare, And, Or}
 use Rattle.plan.specs.Asking.{asks_nothing, end_at, ends_in, most_asked, no_range, rowids_in}
 use Rattle.plan.specs.Keys.{of_column}
-use Rattle.plan.specs.Ranges.{AreEnds, AsksFrom, has_range, in_range, is_within, rows_between}
+use Rattle.plan.specs.Ranges.{AreEnds, AsksFrom, has_range, in_range, is_within, rows_of_rowids}
 use Rattle.plan.specs.declared.ranges.Range.{Range}
 use Rattle.plan.proofs.KeyRows.{a, b, both, first, on_a, on_both, second, x}
 
@@ -150,5 +150,5 @@ by_equal = refl
 pub asks_from_six : AsksFrom 0 (rowid_is Greater 5) (pos 6)
 asks_from_six = inr (refl, refl, refl, refl, refl)
 
-pub rows_from_two : rows_between (pos 2) (pos 3) (row 1 five ∷ row 2 nine ∷ row 4 Null ∷ []) ≡ row 2 nine ∷ []
+pub rows_from_two : rows_of_rowids (pos 2) (pos 3) (row 1 five ∷ row 2 nine ∷ row 4 Null ∷ []) ≡ row 2 nine ∷ []
 rows_from_two = refl

@@ -170,7 +170,7 @@ module _ (condition : Term) (row : Row) (low high : ℤ) (seeks : SeeksRowids 0 
     by (inl lt) = before word lt seeks.from
     by (inr lt) = after word lt seeks.to
 
--- the same of the rowid alone
+-- whether a rowid is a number of 64 bits outside
 abbrev outside_by : ℤ → ℤ → Value → Bool
 outside_by low high rowid = elim rowid [ Int n ↦ is_word n && (int_lt n low || int_lt high n) | _ ↦ false ]
 

@@ -10,7 +10,7 @@ use Rattle.sqlval.specs.declared.value.Value.TheVariants.{Int}
 use Rattle.terms.specs.Terms.{Term}
 use Rattle.bind.specs.Calm.{is_calm}
 use Rattle.plan.specs.Asking.{at_or_after, at_or_before, ends_in, first_rowid, from_to, last_rowid, rowid_of, rowids_in}
-use Rattle.plan.specs.Ranges.{AsksFrom, AsksTo, IsBoundOf, SeeksRowids, high_comparison, low_comparison, of_rowid}
+use Rattle.plan.specs.Ranges.{AsksAbove, AsksBelow, AsksFrom, AsksTo, IsBoundOf, SeeksRowids, high_comparison, low_comparison, of_rowid}
 use Rattle.plan.specs.declared.ranges.Bound.{Bound}
 use Rattle.plan.proofs.Most.{end_asked}
 
@@ -30,31 +30,25 @@ one_more : (n high : ℤ) → (n -ℤ pos 1) ≡ high → n ≡ (high +ℤ pos 1
 one_more n high e = grind (arith, ints)
 
 module _ (n : ℕ) (t : Term) where
-  abbrev IsLow : Value → Bool → Type 0
-  IsLow v within = IsBoundOf (of_rowid n) low_comparison t (record { value = v; within = within })
+  low_asks : (number : ℤ) (within : Bool) (low : ℤ) → AsksAbove n t within number → at_or_after within number ≡ Some low → AsksFrom n t low
+  low_asks number true low asked e = inl (subst (AsksAbove n t true) (number_is number low e) asked)
+  low_asks number false low asked e = inr (subst (AsksAbove n t false) (one_less number low (word_is (number +ℤ pos 1) low e)) asked)
 
-  abbrev IsHigh : Value → Bool → Type 0
-  IsHigh v within = IsBoundOf (of_rowid n) high_comparison t (record { value = v; within = within })
-
-  low_asks : (number : ℤ) (within : Bool) (low : ℤ) → IsLow (Int number) within → at_or_after within number ≡ Some low → AsksFrom n t low
-  low_asks number true low asked e = inl (subst (λ (k : ℤ). IsLow (Int k) true) (number_is number low e) asked)
-  low_asks number false low asked e = inr (subst (λ (k : ℤ). IsLow (Int k) false) (one_less number low (word_is (number +ℤ pos 1) low e)) asked)
-
-  high_asks : (number : ℤ) (within : Bool) (high : ℤ) → IsHigh (Int number) within → at_or_before within number ≡ Some high → AsksTo n t high
-  high_asks number true high asked e = inl (subst (λ (k : ℤ). IsHigh (Int k) true) (number_is number high e) asked)
-  high_asks number false high asked e = inr (subst (λ (k : ℤ). IsHigh (Int k) false) (one_more number high (word_is (number -ℤ pos 1) high e)) asked)
+  high_asks : (number : ℤ) (within : Bool) (high : ℤ) → AsksBelow n t within number → at_or_before within number ≡ Some high → AsksTo n t high
+  high_asks number true high asked e = inl (subst (AsksBelow n t true) (number_is number high e) asked)
+  high_asks number false high asked e = inr (subst (AsksBelow n t false) (one_more number high (word_is (number -ℤ pos 1) high e)) asked)
 
   first_asks : (end : Option Bound) → IfSome end (IsBoundOf (of_rowid n) low_comparison t) → (low : ℤ) → option_and_then first_rowid end ≡ Some low → AsksFrom n t low
   first_asks None asked low e = absurd (none-some low e)
   first_asks (Some end) asked low e = by end.value end.within asked e where
-    by : (v : Value) (within : Bool) → IsLow v within → first_rowid (record { value = v; within = within }) ≡ Some low → AsksFrom n t low
+    by : (v : Value) (within : Bool) → IsBoundOf (of_rowid n) low_comparison t (record { value = v; within = within }) → first_rowid (record { value = v; within = within }) ≡ Some low → AsksFrom n t low
     by (Int number) within asked e = low_asks number within low asked e
     by _ within asked e = absurd (none-some low e)
 
   last_asks : (end : Option Bound) → IfSome end (IsBoundOf (of_rowid n) high_comparison t) → (high : ℤ) → option_and_then last_rowid end ≡ Some high → AsksTo n t high
   last_asks None asked high e = absurd (none-some high e)
   last_asks (Some end) asked high e = by end.value end.within asked e where
-    by : (v : Value) (within : Bool) → IsHigh v within → last_rowid (record { value = v; within = within }) ≡ Some high → AsksTo n t high
+    by : (v : Value) (within : Bool) → IsBoundOf (of_rowid n) high_comparison t (record { value = v; within = within }) → last_rowid (record { value = v; within = within }) ≡ Some high → AsksTo n t high
     by (Int number) within asked e = high_asks number within high asked e
     by _ within asked e = absurd (none-some high e)
 

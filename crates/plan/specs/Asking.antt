@@ -40,11 +40,11 @@ abbrev pub is_wanted : Wanted → Term → Bool
 is_wanted w (Cell s p a c) = (s == w.source) && (same_place w.place p && is_same_collation w.collation c)
 is_wanted w t = false
 
--- the value where the left side is that and the right side a literal
+-- the value where the left side is what is looked for and the right side a literal
 abbrev pub asked_key : Wanted → Term → Term → Option Value
 asked_key w left right = if is_wanted w left then literal_key (affinity left) right else None
 
--- the same of two sides that are compared so, if that is the comparison looked for
+-- the value that two compared sides ask for, if their comparison is the one looked for
 abbrev pub compared_key : Wanted → Comparison → Comparison → Term → Term → Option Value
 compared_key w o p left right = if comparison_index p == comparison_index o then asked_key w left right else None
 
@@ -134,7 +134,8 @@ candidate_of condition place columns =
 
 -- whether the second has the longer key, or one of the same length and a range, where the first has none
 abbrev pub asks_less : Candidate → Candidate → Bool
-asks_less x y = nat_lt (length x.key) (length y.key) || (length x.key == length y.key && (not (has_ends x.range) && has_ends y.range))
+asks_less x y =
+    nat_lt (length x.key) (length y.key) || (length x.key == length y.key && (not (has_ends x.range) && has_ends y.range))
 
 -- the one that asks more; the first if they ask the same
 abbrev pub more_asked : Candidate → Candidate → Candidate
@@ -143,7 +144,8 @@ more_asked x y = if asks_less x y then y else x
 -- the one that asks the most, of that found and of these indexes, whose places begin here
 abbrev pub most_asked : Term → ℕ → Candidate → List Index → Candidate
 most_asked condition place found [] = found
-most_asked condition place found (index ∷ indexes) = most_asked condition (place + 1) (more_asked found (candidate_of condition place index.columns)) indexes
+most_asked condition place found (index ∷ indexes) =
+    most_asked condition (place + 1) (more_asked found (candidate_of condition place index.columns)) indexes
 
 -- it asks nothing of an index
 abbrev pub asks_nothing : Candidate
@@ -156,7 +158,8 @@ abbrev pub IsSought : List Index → Term → Search → Type 0
 IsSought indexes condition (Rowid rowid) = SeeksRowid 0 condition rowid
 IsSought indexes condition (Rowids low high) = SeeksRowids 0 condition low high
 IsSought indexes condition (Key place key) = (index : Index) × (slice_get indexes place ≡ Some index) × SeeksKey 0 condition index.columns key
-IsSought indexes condition (InRange place key range) = (index : Index) × (slice_get indexes place ≡ Some index) × SeeksRange 0 condition index.columns key range
+IsSought indexes condition (InRange place key range) =
+    (index : Index) × (slice_get indexes place ≡ Some index) × SeeksRange 0 condition index.columns key range
 
 -- the condition asks for the first column of none of these indexes
 abbrev pub IsNotAsked : Term → List Index → Type 0
@@ -165,7 +168,8 @@ IsNotAsked condition (index ∷ indexes) = (key_for 0 condition index.columns �
 
 -- it asks neither for a rowid nor for a range of them, and of the indexes this is what it asks the most of
 abbrev pub IsMost : List Index → Term → Candidate → Type 0
-IsMost indexes condition it = (list_any (finds 0 no_index) (parts condition) ≡ false) × (rowids_in 0 condition ≡ None) × (it ≡ most_asked condition 0 asks_nothing indexes)
+IsMost indexes condition it =
+    (list_any (finds 0 no_index) (parts condition) ≡ false) × (rowids_in 0 condition ≡ None) × (it ≡ most_asked condition 0 asks_nothing indexes)
 
 -- It is a rowid; or where none is asked for, a range of them; or where there is none either, the longest key, and of those of one length the
 -- first with a range after it, or else the first.

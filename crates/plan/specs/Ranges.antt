@@ -52,7 +52,8 @@ is_within c range v = not (is_null v) && (meets_end low_comparison c range.low v
 -- whether a row's values of the first columns are tied with a key, as in has_key, and that of the next column lies in a range
 abbrev pub has_range : List IndexColumn → List Value → Range → List Value → Bool
 has_range (column ∷ columns) [] range values = is_within column.collation range (slice_index_or values column.place Null)
-has_range (column ∷ columns) (k ∷ key) range values = is_eq (order column.collation (slice_index_or values column.place Null) k) && has_range columns key range values
+has_range (column ∷ columns) (k ∷ key) range values =
+    is_eq (order column.collation (slice_index_or values column.place Null) k) && has_range columns key range values
 has_range [] key range values = true
 
 -- the rows of a key and a range
@@ -63,9 +64,9 @@ in_range columns key range rows = filter (λ row. has_range columns key range ro
 abbrev pub is_outside : ℤ → ℤ → Row → Bool
 is_outside low high row = elim row.rowid [ Int n ↦ is_word n && (int_lt n low || int_lt high n) | _ ↦ false ]
 
--- the rows without those of such a rowid
-abbrev pub rows_between : ℤ → ℤ → List Row → List Row
-rows_between low high rows = filter (λ row. not (is_outside low high row)) rows
+-- the rows without those whose rowid is outside
+abbrev pub rows_of_rowids : ℤ → ℤ → List Row → List Row
+rows_of_rowids low high rows = filter (λ row. not (is_outside low high row)) rows
 
 -- ---- what a condition asks for
 
@@ -101,18 +102,24 @@ pub record SeeksRange (source : ℕ) (condition : Term) (columns : List IndexCol
 abbrev pub of_rowid : ℕ → Wanted
 of_rowid n = record { source = n; place = RowId; collation = Binary }
 
--- the condition asks for `rowid >= low`, or for `rowid >` the number before it
+-- the condition asks for `rowid >= k` or `rowid > k`
+abbrev pub AsksAbove : ℕ → Term → Bool → ℤ → Type 0
+AsksAbove n condition within k = IsBoundOf (of_rowid n) low_comparison condition (record { value = Int k; within = within })
+
+-- the condition asks for `rowid <= k` or `rowid < k`
+abbrev pub AsksBelow : ℕ → Term → Bool → ℤ → Type 0
+AsksBelow n condition within k = IsBoundOf (of_rowid n) high_comparison condition (record { value = Int k; within = within })
+
+-- it asks for rowids from this one on, by it or by the number before it
 abbrev pub AsksFrom : ℕ → Term → ℤ → Type 0
-AsksFrom n condition low =
-    IsBoundOf (of_rowid n) low_comparison condition (record { value = Int low; within = true }) ⊎ IsBoundOf (of_rowid n) low_comparison condition (record { value = Int (low -ℤ pos 1); within = false })
+AsksFrom n condition low = AsksAbove n condition true low ⊎ AsksAbove n condition false (low -ℤ pos 1)
 
--- the condition asks for `rowid <= high`, or for `rowid <` the number after it
+-- it asks for rowids up to this one, by it or by the number after it
 abbrev pub AsksTo : ℕ → Term → ℤ → Type 0
-AsksTo n condition high =
-    IsBoundOf (of_rowid n) high_comparison condition (record { value = Int high; within = true }) ⊎ IsBoundOf (of_rowid n) high_comparison condition (record { value = Int (high +ℤ pos 1); within = false })
+AsksTo n condition high = AsksBelow n condition true high ⊎ AsksBelow n condition false (high +ℤ pos 1)
 
--- The condition can't be refused, and AND joins what asks for rowids from the one to the other, both among them, with what else it asks: it
--- asks for one of both ends at least, and the other may be the least or the greatest number of 64 bits.
+-- The condition can't be refused, and AND joins what asks for rowids from the one to the other, both among them, with what else it asks. It
+-- asks for one end at least; another that it doesn't ask for is the least or the greatest number of 64 bits.
 pub record SeeksRowids (source : ℕ) (condition : Term) (low high : ℤ) : Type 0 where
   pub calm : is_calm condition ≡ true
   pub from : (low ≡ negsuc (2 ^ 63 - 1)) ⊎ AsksFrom source condition low
@@ -145,11 +152,12 @@ pub record SearchesRowids (q : Reading) (low high : ℤ) : Type 0 where
 -- Such a query gives the same over the rows of those rowids as over all.
 abbrev pub RowidsSearchAsScans : Type 0
 RowidsSearchAsScans = (q : Reading) (low high : ℤ) → SearchesRowids q low high → (rows : List Row)
-    → rows_over q [] ((Always, rows) ∷ []) ≡ rows_over q [] ((Always, rows_between low high rows) ∷ [])
+    → rows_over q [] ((Always, rows) ∷ []) ≡ rows_over q [] ((Always, rows_of_rowids low high rows) ∷ [])
 
 -- the query seeks this rowid, these rowids, or this key or range of the index at this place
 abbrev pub IsSearchOf : List Index → Reading → Search → Type 0
 IsSearchOf indexes q (Rowid rowid) = Searches q rowid
 IsSearchOf indexes q (Rowids low high) = SearchesRowids q low high
 IsSearchOf indexes q (Key place key) = (index : Index) × (slice_get indexes place ≡ Some index) × SearchesKey q index.columns key
-IsSearchOf indexes q (InRange place key range) = (index : Index) × (slice_get indexes place ≡ Some index) × SearchesRange q index.columns key range
+IsSearchOf indexes q (InRange place key range) =
+    (index : Index) × (slice_get indexes place ≡ Some index) × SearchesRange q index.columns key range

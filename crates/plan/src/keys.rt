@@ -1,4 +1,4 @@
-//! The key that a condition asks for of an index.
+//! The values that a condition asks for by comparisons with literals, and the key that it asks for of an index.
 
 ghost use Rattle.std.specs.Prelude.{◌≡◌, ◌==◌, false, None, IfErr, IfOk};
 ghost use Rattle.std.specs.Option.{option_or};
@@ -16,7 +16,7 @@ use sqlval::{Affinity, Collation, Fault, Many, R, Value, apply};
 use std::alloc::Global;
 use terms::{Comparison, Node, Place, Term, TwoSided, affinity, conversion_is_one};
 
-/// What comparisons are looked for of: a column of a source or its rowid, under a collation.
+/// Whose comparisons are looked for: those of a source's column, or of its rowid, under a collation.
 #[derive(Clone, Copy)]
 pub(crate) struct Wanted {
     /// The number of the source.
@@ -122,7 +122,7 @@ fn asked_key(alloc: Global, left: &Term, right: &Term, wanted: Wanted) -> R<Opti
     literal_key(alloc, affinity(left), right)
 }
 
-/// The same of two sides that are compared so, if that is the comparison looked for. (`Memory`.)
+/// The value that two compared sides ask for, if their comparison is the one looked for. (`Memory`.)
 fn compared_key(
     alloc: Global,
     comparison: Comparison,
