@@ -1,5 +1,5 @@
 -- The values that a condition asks of an index's columns are those that its parts ask for, and there are some where it is a search.
-use Rattle.std.proofs.Common.{◌≡◌, refl, sym, ap, ◌∙◌, ℕ, pos, Bool, true, false, ◌&&◌, ◌||◌, ◌==◌, cond, List, [], ◌∷◌, Option, Some, None, Ok, Err, inl, inr}
+use Rattle.std.proofs.Common.{◌≡◌, refl, sym, ap, ◌∙◌, ℕ, pos, Bool, true, false, ◌&&◌, ◌||◌, ◌==◌, cond, List, [], ◌∷◌, Option, Some, None, Ok, Err, inl, inr, ◌⊎◌, zero, suc}
 use mathlib.Core.Bool.{true≢false}
 use Rattle.std.specs.Prelude.{Result, IfNone, IfOk, is_ok}
 use Rattle.std.specs.List.{list_any}
@@ -18,14 +18,18 @@ use Rattle.sqlval.specs.declared.value.Value.{Value}
 use Rattle.sqlval.specs.declared.value.Value.TheVariants.{Int}
 use Rattle.catalog.specs.declared.tables.Index.{Index}
 use Rattle.catalog.specs.declared.tables.IndexColumn.{IndexColumn}
-use Rattle.terms.specs.Terms.{Term, Const, Digits, Cell, Two}
+use Rattle.terms.specs.Terms.{Term, Const, Digits, Cell, Two, Between, comparison_index, same_place}
 use Rattle.terms.specs.Values.{conversion}
-use Rattle.terms.specs.declared.tree.Comparison.TheVariants.{Equal}
+use Rattle.terms.specs.declared.tree.Comparison.{Comparison}
+use Rattle.terms.specs.declared.tree.Comparison.TheVariants.{Equal, NotEqual, Less, LessOrEqual, Greater, GreaterOrEqual}
+use Rattle.terms.specs.declared.tree.Place.{Place}
 use Rattle.terms.specs.declared.tree.Place.TheVariants.{RowId, At}
 use Rattle.terms.specs.declared.tree.TwoSided.TheVariants.{Compare, And}
 use Rattle.bind.specs.Calm.{converts, finds, is_calm, is_search, is_side, parts}
-use Rattle.plan.specs.Asking.{IsNotAsked, asked_key, is_key_column, key_for, key_in, literal_key, led_by}
-use Rattle.plan.specs.Keys.{AreAsked, AsksPart, IsAsked, IsLiteralKey, is_led_by, is_first, is_same_collation}
+use Rattle.plan.specs.Asking.{IsNotAsked, asked_key, compared_key, is_wanted, key_for, key_in, literal_key, led_by}
+use Rattle.plan.specs.Keys.{AreAsked, AsksPart, IsCompared, IsLiteralKey, is_led_by, is_first, is_same_collation, of_column}
+use Rattle.plan.specs.Ranges.{AsksHalf}
+use Rattle.plan.specs.declared.keys.Wanted.{Wanted}
 use Rattle.plan.specs.Seeking.{no_index}
 use Rattle.plan.proofs.Others.{word_of}
 use Rattle.plan.proofs.Parts.{left, right}
@@ -55,35 +59,94 @@ one_collation NoCase RTrim e = absurd (true≢false (sym e))
 one_collation RTrim Binary e = absurd (true≢false (sym e))
 one_collation RTrim NoCase e = absurd (true≢false (sym e))
 
-module _ (n : ℕ) (column : IndexColumn) (k : Value) where
-  sides_ask : (a b : Term) → asked_key n column a b ≡ Some k → IsAsked n column k (Two (Compare Equal) a b)
-  sides_ask (Cell s (At i) a c) b e = by (is_key_column n column (Cell s (At i) a c)) refl e where
-    by : (test : Bool) → is_key_column n column (Cell s (At i) a c) ≡ test → cond test (literal_key a b) None ≡ Some k → IsAsked n column k (Two (Compare Equal) (Cell s (At i) a c) b)
+one_place : (p q : Place) → same_place p q ≡ true → p ≡ q
+one_place RowId RowId e = refl
+one_place (At i) (At j) e = ap At (eqb-true i j e)
+one_place RowId (At j) e = absurd (true≢false (sym e))
+one_place (At i) RowId e = absurd (true≢false (sym e))
+
+-- the comparison at this place among them
+abbrev comparison_at : ℕ → Comparison
+comparison_at zero = Equal
+comparison_at (suc zero) = NotEqual
+comparison_at (suc (suc zero)) = Less
+comparison_at (suc (suc (suc zero))) = LessOrEqual
+comparison_at (suc (suc (suc (suc zero)))) = Greater
+comparison_at (suc (suc (suc (suc (suc n))))) = GreaterOrEqual
+
+again : (o : Comparison) → comparison_at (comparison_index o) ≡ o
+again Equal = refl
+again NotEqual = refl
+again Less = refl
+again LessOrEqual = refl
+again Greater = refl
+again GreaterOrEqual = refl
+
+one_comparison : (o p : Comparison) → (comparison_index o == comparison_index p) ≡ true → o ≡ p
+one_comparison o p e = sym (again o) ∙ (ap comparison_at (eqb-true (comparison_index o) (comparison_index p) e) ∙ again p)
+
+-- what one of two sides asks for, or else the other
+either_asks : (P Q : Type 0) (k : Value) (x y : Option Value) → (x ≡ Some k → P) → (y ≡ Some k → Q) → option_or x y ≡ Some k → P ⊎ Q
+either_asks P Q k None y first second e = inr (second e)
+either_asks P Q k (Some v) y first second e = inl (first e)
+
+module _ (w : Wanted) (o : Comparison) (k : Value) where
+  sides_ask : (p : Comparison) (a b : Term) → p ≡ o → asked_key w a b ≡ Some k → IsCompared w o k (Two (Compare p) a b)
+  sides_ask p (Cell s q a c) b same e = by (is_wanted w (Cell s q a c)) refl e where
+    by : (test : Bool) → is_wanted w (Cell s q a c) ≡ test → cond test (literal_key a b) None ≡ Some k → IsCompared w o k (Two (Compare p) (Cell s q a c) b)
     by false is e = absurd (none-some k e)
     by true is e =
-        (let rest = right (s == n) (column.place == i && is_same_collation column.collation c) is in (
-          eqb-true s n (left (s == n) (column.place == i && is_same_collation column.collation c) is),
-          sym (eqb-true column.place i (left (column.place == i) (is_same_collation column.collation c) rest)),
-          sym (one_collation column.collation c (right (column.place == i) (is_same_collation column.collation c) rest)),
+        (let rest = right (s == w.source) (same_place w.place q && is_same_collation w.collation c) is in (
+          same,
+          eqb-true s w.source (left (s == w.source) (same_place w.place q && is_same_collation w.collation c) is),
+          sym (one_place w.place q (left (same_place w.place q) (is_same_collation w.collation c) rest)),
+          sym (one_collation w.collation c (right (same_place w.place q) (is_same_collation w.collation c) rest)),
           key_is a b k e,
         ))
-  sides_ask _ b e = absurd (none-some k e)
+  sides_ask p _ b same e = absurd (none-some k e)
 
-  part_asks : (t : Term) → key_in n column t ≡ Some k → AsksPart (IsAsked n column k) t
-  part_asks (Two And a b) e = by (key_in n column a) refl e (part_asks a) (part_asks b) where
-    by : (first : Option Value) → key_in n column a ≡ first → option_or first (key_in n column b) ≡ Some k → (key_in n column a ≡ Some k → AsksPart (IsAsked n column k) a)
-        → (key_in n column b ≡ Some k → AsksPart (IsAsked n column k) b) → AsksPart (IsAsked n column k) (Two And a b)
-    by None is e one other = inr (other e)
-    by (Some v) is e one other = inl (one (is ∙ e))
-  part_asks (Two (Compare Equal) a b) e = sides_ask a b e
-  part_asks _ e = absurd (none-some k e)
+  comparison_asks : (p : Comparison) (a b : Term) → compared_key w o p a b ≡ Some k → IsCompared w o k (Two (Compare p) a b)
+  comparison_asks p a b e = by (comparison_index p == comparison_index o) refl e where
+    by : (test : Bool) → (comparison_index p == comparison_index o) ≡ test → cond test (asked_key w a b) None ≡ Some k → IsCompared w o k (Two (Compare p) a b)
+    by false is e = absurd (none-some k e)
+    by true is e = sides_ask p a b (one_comparison p o is) e
+
+  -- the value is that of a comparison, of which BETWEEN is two
+  pub half_asks : (t : Term) → key_in w o t ≡ Some k → AsksPart (AsksHalf (IsCompared w o k)) t
+  half_asks (Two And a b) e =
+      either_asks (AsksPart (AsksHalf (IsCompared w o k)) a) (AsksPart (AsksHalf (IsCompared w o k)) b) k (key_in w o a) (key_in w o b) (half_asks a) (half_asks b) e
+  half_asks (Two (Compare p) a b) e = comparison_asks p a b e
+  half_asks (Between false a b c) e =
+      either_asks (IsCompared w o k (Two (Compare GreaterOrEqual) a b)) (IsCompared w o k (Two (Compare LessOrEqual) a c)) k
+      (compared_key w o GreaterOrEqual a b) (compared_key w o LessOrEqual a c) (comparison_asks GreaterOrEqual a b) (comparison_asks LessOrEqual a c) e
+  half_asks _ e = absurd (none-some k e)
+
+abbrev is_equal : Comparison → Bool
+is_equal Equal = true
+is_equal _ = false
+
+module _ (w : Wanted) (k : Value) where
+  -- a half of BETWEEN is no comparison by =
+  no_half : (p : Comparison) → is_equal p ≡ false → (a b : Term) → IsCompared w Equal k (Two (Compare p) a b) → ⊥
+  no_half p other (Cell s q a c) b asked = true≢false (sym (ap is_equal asked.0) ∙ other)
+  no_half p other _ b asked = asked
+
+  whole_asks : (t : Term) → AsksHalf (IsCompared w Equal k) t → IsCompared w Equal k t
+  whole_asks (Between false a b c) (inl asked) = absurd (no_half GreaterOrEqual refl a b asked)
+  whole_asks (Between false a b c) (inr asked) = absurd (no_half LessOrEqual refl a c asked)
+  whole_asks t asked = asked
+
+  part_asks : (t : Term) → AsksPart (AsksHalf (IsCompared w Equal k)) t → AsksPart (IsCompared w Equal k) t
+  part_asks (Two And a b) (inl asked) = inl (part_asks a asked)
+  part_asks (Two And a b) (inr asked) = inr (part_asks b asked)
+  part_asks t asked = whole_asks t asked
 
 pub parts_ask : (n : ℕ) (t : Term) (columns : List IndexColumn) → AreAsked n columns (key_for n t columns) t
 parts_ask n t [] = tt
-parts_ask n t (column ∷ columns) = by (key_in n column t) refl (parts_ask n t columns) where
-  by : (first : Option Value) → key_in n column t ≡ first → AreAsked n columns (key_for n t columns) t → AreAsked n (column ∷ columns) (led_by first (key_for n t columns)) t
+parts_ask n t (column ∷ columns) = by (key_in (of_column n column) Equal t) refl (parts_ask n t columns) where
+  by : (first : Option Value) → key_in (of_column n column) Equal t ≡ first → AreAsked n columns (key_for n t columns) t → AreAsked n (column ∷ columns) (led_by first (key_for n t columns)) t
   by None is more = tt
-  by (Some k) is more = (part_asks n column k t is, more)
+  by (Some k) is more = (part_asks (of_column n column) k t (half_asks (of_column n column) Equal k t is), more)
 
 -- ---- where none is, it is no search
 
@@ -131,7 +194,7 @@ module _ (s i : ℕ) (a : Option Affinity) (c : Collation) (t : Term) (here : (s
   not_first : (columns : List IndexColumn) → key_for 0 part columns ≡ [] → is_first i c columns ≡ false
   not_first [] e = refl
   not_first (column ∷ columns) e = by (column.place == i && is_same_collation column.collation c) refl where
-    asks : (column.place == i && is_same_collation column.collation c) ≡ true → key_in 0 column part ≡ Some key.0
+    asks : (column.place == i && is_same_collation column.collation c) ≡ true → key_in (of_column 0 column) Equal part ≡ Some key.0
     asks is =
         ap (λ test. cond (test && (column.place == i && is_same_collation column.collation c)) (literal_key a t) None) here
         ∙ (ap (λ test. cond test (literal_key a t) None) is ∙ key.1)
@@ -145,24 +208,24 @@ module _ (s i : ℕ) (a : Option Affinity) (c : Collation) (t : Term) (here : (s
   begins_none (index ∷ indexes) e = ap (λ test. test || is_led_by indexes i c) (not_first index.columns e.0) ∙ begins_none indexes e.1
 
 module _ (indexes : List Index) where
-  of_column : (s i : ℕ) (a : Option Affinity) (c : Collation) (t : Term) → IsThere (literal_key a t) → IsNotAsked (Two (Compare Equal) (Cell s (At i) a c) t) indexes → ((s == 0) && is_led_by indexes i c) ≡ false
-  of_column s i a c t key e = by (s == 0) refl where
+  by_column : (s i : ℕ) (a : Option Affinity) (c : Collation) (t : Term) → IsThere (literal_key a t) → IsNotAsked (Two (Compare Equal) (Cell s (At i) a c) t) indexes → ((s == 0) && is_led_by indexes i c) ≡ false
+  by_column s i a c t key e = by (s == 0) refl where
     by : (test : Bool) → (s == 0) ≡ test → (test && is_led_by indexes i c) ≡ false
     by false is = refl
     by true is = begins_none s i a c t is key indexes e
 
   of_part : (t : Term) → is_calm t ≡ true → finds 0 no_index t ≡ false → IsNotAsked t indexes → finds 0 (is_led_by indexes) t ≡ false
   of_part (Two (Compare Equal) (Cell s RowId a c) (Digits n)) calm none e = none
-  of_part (Two (Compare Equal) (Cell s (At i) a c) (Digits n)) calm none e = of_column s i a c (Digits n) (digits_there s i a c n calm) e
-  of_part (Two (Compare Equal) (Cell s (At i) a c) (Const v)) calm none e = of_column s i a c (Const v) (text_there s i a c v calm) e
+  of_part (Two (Compare Equal) (Cell s (At i) a c) (Digits n)) calm none e = by_column s i a c (Digits n) (digits_there s i a c n calm) e
+  of_part (Two (Compare Equal) (Cell s (At i) a c) (Const v)) calm none e = by_column s i a c (Const v) (text_there s i a c v calm) e
   of_part _ calm none e = refl
 
 module _ (a b : Term) where
   asked_by_neither : (columns : List IndexColumn) → key_for 0 (Two And a b) columns ≡ [] → (key_for 0 a columns ≡ []) × (key_for 0 b columns ≡ [])
   asked_by_neither [] e = (refl, refl)
-  asked_by_neither (column ∷ columns) e = by (key_in 0 column a) (key_in 0 column b) refl refl e where
-    by : (x y : Option Value) → key_in 0 column a ≡ x → key_in 0 column b ≡ y → led_by (option_or x y) (key_for 0 (Two And a b) columns) ≡ []
-        → (led_by (key_in 0 column a) (key_for 0 a columns) ≡ []) × (led_by (key_in 0 column b) (key_for 0 b columns) ≡ [])
+  asked_by_neither (column ∷ columns) e = by (key_in (of_column 0 column) Equal a) (key_in (of_column 0 column) Equal b) refl refl e where
+    by : (x y : Option Value) → key_in (of_column 0 column) Equal a ≡ x → key_in (of_column 0 column) Equal b ≡ y → led_by (option_or x y) (key_for 0 (Two And a b) columns) ≡ []
+        → (led_by (key_in (of_column 0 column) Equal a) (key_for 0 a columns) ≡ []) × (led_by (key_in (of_column 0 column) Equal b) (key_for 0 b columns) ≡ [])
     by None None first second e = (ap (λ o. led_by o (key_for 0 a columns)) first, ap (λ o. led_by o (key_for 0 b columns)) second)
     by None (Some k) first second e = absurd (some_value k (key_for 0 (Two And a b) columns) e)
     by (Some k) y first second e = absurd (some_value k (key_for 0 (Two And a b) columns) e)

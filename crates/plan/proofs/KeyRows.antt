@@ -15,35 +15,35 @@ use Rattle.terms.specs.declared.tree.Place.TheVariants.{At}
 use Rattle.terms.specs.declared.tree.TwoSided.TheVariants.{Compare, And, Or}
 use Rattle.bind.specs.declared.reading.Condition.TheVariants.{Always}
 use Rattle.bind.specs.declared.reading.Reading.{Reading}
-use Rattle.plan.specs.Asking.{key_for, longest_key}
+use Rattle.plan.specs.Asking.{asks_nothing, key_for, most_asked, no_range}
 use Rattle.plan.specs.Keys.{AreAsked, has_key, is_table_search, rows_of_key}
 
-abbrev a : Term
+abbrev pub a : Term
 a = Cell 0 (At 0) (Some kind.Text) Binary
 
-abbrev b : Term
+abbrev pub b : Term
 b = Cell 0 (At 1) (Some kind.Blob) Binary
 
-abbrev x : Value
+abbrev pub x : Value
 x = Text (codes "x")
 
-abbrev first : Collation → IndexColumn
+abbrev pub first : Collation → IndexColumn
 first collation = record { place = 0; collation = collation }
 
-abbrev second : IndexColumn
+abbrev pub second : IndexColumn
 second = record { place = 1; collation = Binary }
 
 abbrev index_on : List IndexColumn → Index
 index_on columns = record { name = codes "i"; columns = columns; root = 3; rowid = pos 2 }
 
-abbrev on_a : Index
+abbrev pub on_a : Index
 on_a = index_on (first Binary ∷ [])
 
-abbrev on_both : Index
+abbrev pub on_both : Index
 on_both = index_on (second ∷ first Binary ∷ [])
 
 -- a = 'x' AND b = 5
-abbrev both : Term
+abbrev pub both : Term
 both = Two And (Two (Compare Equal) a (Const x)) (Two (Compare Equal) b (Digits 5))
 
 -- ---- keys
@@ -55,13 +55,13 @@ pub key_of_both : key_for 0 both on_both.columns ≡ Int (pos 5) ∷ x ∷ []
 key_of_both = refl
 
 pub parts_ask : AreAsked 0 on_both.columns (Int (pos 5) ∷ x ∷ []) both
-parts_ask = (inr (refl, refl, refl, refl), (inl (refl, refl, refl, refl), tt))
+parts_ask = (inr (refl, refl, refl, refl, refl), (inl (refl, refl, refl, refl, refl), tt))
 
 -- the index with the most columns asked for, and the first of two with one each
-pub longest_of_both : longest_key both 0 (0, []) (on_a ∷ on_both ∷ []) ≡ (1, Int (pos 5) ∷ x ∷ [])
-longest_of_both = refl
+pub most_of_both : most_asked both 0 asks_nothing (on_a ∷ on_both ∷ []) ≡ record { place = 1; key = Int (pos 5) ∷ x ∷ []; range = no_range }
+most_of_both = refl
 
-pub first_of_equals : longest_key both 0 (0, []) (on_a ∷ on_a ∷ []) ≡ (0, x ∷ [])
+pub first_of_equals : most_asked both 0 asks_nothing (on_a ∷ on_a ∷ []) ≡ record { place = 0; key = x ∷ []; range = no_range }
 first_of_equals = refl
 
 -- a = 'x' alone asks nothing of (b, a), whose first column is b

@@ -1,9 +1,12 @@
 pub mod Asked
-mod KeyRows
+pub mod KeyRows
 pub mod KeyedRows
-pub mod Longest
+pub mod Most
 pub mod Others
 pub mod Parts
+mod RangeRows
+pub mod RangedRows
+pub mod RowidEnds
 pub mod Scans
 pub mod Untrue
 pub mod Words

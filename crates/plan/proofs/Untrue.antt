@@ -1,10 +1,11 @@
 -- A condition of which a part isn't true isn't true either, and isn't refused.
-use Rattle.std.proofs.Common.{◌≡◌, refl, sym, ap, ◌∙◌, subst, Bool, true, false, Option, Some, None, Ok, inl, inr}
+use Rattle.std.proofs.Common.{◌≡◌, refl, sym, ap, ◌∙◌, subst, Bool, true, false, Option, Some, None, Ok, Err, inl, inr}
 use Rattle.sqlval.specs.Refusals.{Answer, ◌then◌}
 use Rattle.sqlval.specs.declared.value.Value.{Value}
-use Rattle.terms.specs.Terms.{Term, Two}
-use Rattle.terms.specs.Values.{Environment, and_after, and_also, both_hold, of_bool, of_truth, truth, value}
-use Rattle.terms.specs.declared.tree.TwoSided.TheVariants.{And}
+use Rattle.terms.specs.Terms.{Term, Two, Between}
+use Rattle.terms.specs.Values.{Environment, and_after, and_also, between, both_hold, compared_as, of_bool, of_truth, truth, turned, value}
+use Rattle.terms.specs.declared.tree.Comparison.TheVariants.{LessOrEqual, GreaterOrEqual}
+use Rattle.terms.specs.declared.tree.TwoSided.TheVariants.{Compare, And}
 use Rattle.bind.specs.Calm.{is_calm}
 use Rattle.bind.proofs.CalmConditions.{calm_is_good}
 use Rattle.plan.specs.Keys.{AsksPart}
@@ -46,3 +47,21 @@ module _ (P : Option Bool → Type 0) (survives : SurvivesAnd P) (Q : Term → T
       let y = of_whole b (right (is_calm a) (is_calm b) calm) h in
       both P (value a env) (value b env) x.0 x.2 y.0 y.2 x.1 x.3 y.1 y.3 (survives.second x.2 y.2 y.4)
   of_whole t calm h = of_part t calm h
+
+-- ---- BETWEEN
+
+turned_not : (answer : Answer Value) → (answer then turned false) ≡ answer
+turned_not (Ok v) = refl
+turned_not (Err refusal) = refl
+
+-- BETWEEN is the AND of two comparisons
+pub between_is_and : (a b c : Term) (env : Environment) → value (Between false a b c) env ≡ value (Two And (Two (Compare GreaterOrEqual) a b) (Two (Compare LessOrEqual) a c)) env
+between_is_and a b c env = of_operand (value a env) (value b env) where
+  second : Value → Answer Value
+  second v = value c env then compared_as LessOrEqual a c v
+
+  of_operand : (x y : Answer Value) → (x then λ v. between a b c v y (value c env) then turned false)
+      ≡ ((x then λ v. y then compared_as GreaterOrEqual a b v) then λ t. and_also t (x then second))
+  of_operand (Err refusal) y = refl
+  of_operand (Ok v) (Err refusal) = refl
+  of_operand (Ok v) (Ok w) = turned_not (compared_as GreaterOrEqual a b v w then λ t. and_also t (second v))

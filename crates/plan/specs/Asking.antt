@@ -1,25 +1,33 @@
--- The key that a condition asks for of an index, part by part, and the longest of several (The SQLite Query Optimizer Overview, "WHERE Clause
--- Analysis"; Query Planning, "Multi-Column Indices").
-use Rattle.std.specs.Prelude.{◌≡◌, ⊤, ℕ, ◌+◌, pos, Bool, false, ◌&&◌, ◌==◌, List, [], ◌∷◌, length, slice_get, Option, None, Some, if◌then◌else◌, nat_lt}
+-- What a condition asks of an index, part by part: a key, and a range of the column after it; and which index of several it asks the most of
+-- (The SQLite Query Optimizer Overview, "WHERE Clause Analysis" and "The BETWEEN Optimization"; Query Planning, "Multi-Column Indices").
+use Rattle.std.specs.Prelude.{◌≡◌, ⊤, ℕ, ◌+◌, ℤ, ◌+ℤ◌, ◌-ℤ◌, ◌^◌, ◌-◌, negsuc, pos, Bool, true, false, not, ◌&&◌, ◌||◌, ◌==◌, List, [], ◌∷◌, length, slice_get, Option, None, Some, option_map, unwrap_or, if◌then◌else◌, nat_lt}
 use Rattle.std.specs.List.{list_any}
-use Rattle.std.specs.Option.{option_or}
+use Rattle.std.specs.Option.{option_and_then, option_or}
 use Rattle.std.specs.Result.{result_ok}
-use Rattle.sqlval.specs.Conversion.{converted, word}
+use Rattle.sqlval.specs.Conversion.{converted, is_word, word}
 use Rattle.sqlval.specs.Refusals.{◌then◌}
 use Rattle.sqlval.specs.declared.affinity.Affinity.{Affinity}
 use Rattle.sqlval.specs.declared.value.Value.{Value}
+use Rattle.sqlval.specs.declared.value.Value.TheVariants.{Int}
 use Rattle.catalog.specs.declared.tables.Index.{Index}
 use Rattle.catalog.specs.declared.tables.IndexColumn.{IndexColumn}
-use Rattle.terms.specs.Terms.{Term, Const, Digits, Cell, Two, affinity}
+use Rattle.terms.specs.Terms.{Term, Const, Digits, Cell, Two, Between, affinity, comparison_index, same_place}
 use Rattle.terms.specs.Values.{conversion}
-use Rattle.terms.specs.declared.tree.Comparison.TheVariants.{Equal}
-use Rattle.terms.specs.declared.tree.Place.TheVariants.{At}
+use Rattle.terms.specs.declared.tree.Comparison.{Comparison}
+use Rattle.terms.specs.declared.tree.Comparison.TheVariants.{Equal, Less, LessOrEqual, Greater, GreaterOrEqual}
 use Rattle.terms.specs.declared.tree.TwoSided.TheVariants.{Compare, And}
 use Rattle.bind.specs.Calm.{finds, parts}
-use Rattle.plan.specs.Keys.{SeeksKey, is_same_collation}
+use Rattle.plan.specs.Keys.{SeeksKey, is_same_collation, of_column}
+use Rattle.plan.specs.Ranges.{SeeksRange, SeeksRowids, has_ends, of_rowid}
 use Rattle.plan.specs.Seeking.{SeeksRowid, no_index}
+use Rattle.plan.specs.declared.keys.Wanted.{Wanted}
+use Rattle.plan.specs.declared.ranges.Bound.{Bound}
+use Rattle.plan.specs.declared.ranges.Range.{Range}
+use Rattle.plan.specs.declared.searching.Candidate.{Candidate}
 use Rattle.plan.specs.declared.searching.Search.{Search}
-use Rattle.plan.specs.declared.searching.Search.TheVariants.{Rowid, Key}
+use Rattle.plan.specs.declared.searching.Search.TheVariants.{Rowid, Rowids, Key, Range as InRange}
+
+-- ---- values
 
 -- a literal as a column of this affinity is compared with it, where its conversion isn't refused
 abbrev pub literal_key : Option Affinity → Term → Option Value
@@ -27,20 +35,27 @@ literal_key a (Const v) = result_ok (converted (conversion None a) v)
 literal_key a (Digits n) = result_ok (word (pos n) then converted (conversion None a))
 literal_key a t = None
 
--- whether it is this column of the source of this number, compared under the index's collation
-abbrev pub is_key_column : ℕ → IndexColumn → Term → Bool
-is_key_column n column (Cell s (At i) a c) = (s == n) && (column.place == i && is_same_collation column.collation c)
-is_key_column n column t = false
+-- whether it is what is looked for, under its collation
+abbrev pub is_wanted : Wanted → Term → Bool
+is_wanted w (Cell s p a c) = (s == w.source) && (same_place w.place p && is_same_collation w.collation c)
+is_wanted w t = false
 
--- the value where the left side is that column and the right side a literal
-abbrev pub asked_key : ℕ → IndexColumn → Term → Term → Option Value
-asked_key n column left right = if is_key_column n column left then literal_key (affinity left) right else None
+-- the value where the left side is what is looked for and the right side a literal
+abbrev pub asked_key : Wanted → Term → Term → Option Value
+asked_key w left right = if is_wanted w left then literal_key (affinity left) right else None
 
--- the value that the parts which AND joins ask of that column, the first of several
-abbrev pub key_in : ℕ → IndexColumn → Term → Option Value
-key_in n column (Two And a b) = option_or (key_in n column a) (key_in n column b)
-key_in n column (Two (Compare Equal) a b) = asked_key n column a b
-key_in n column t = None
+-- the value that two compared sides ask for, if their comparison is the one looked for
+abbrev pub compared_key : Wanted → Comparison → Comparison → Term → Term → Option Value
+compared_key w o p left right = if comparison_index p == comparison_index o then asked_key w left right else None
+
+-- the value that the parts which AND joins ask for by a comparison, the first of several; BETWEEN is two comparisons
+abbrev pub key_in : Wanted → Comparison → Term → Option Value
+key_in w o (Two And a b) = option_or (key_in w o a) (key_in w o b)
+key_in w o (Two (Compare p) a b) = compared_key w o p a b
+key_in w o (Between false a b c) = option_or (compared_key w o GreaterOrEqual a b) (compared_key w o LessOrEqual a c)
+key_in w o t = None
+
+-- ---- keys
 
 -- a value and those after it, where there is one, or else none
 abbrev pub led_by : Option Value → List Value → List Value
@@ -50,28 +65,116 @@ led_by (Some k) rest = k ∷ rest
 -- the values that are asked of the columns from the first on, up to one that isn't asked for
 abbrev pub key_for : ℕ → Term → List IndexColumn → List Value
 key_for n condition [] = []
-key_for n condition (column ∷ columns) = led_by (key_in n column condition) (key_for n condition columns)
+key_for n condition (column ∷ columns) = led_by (key_in (of_column n column) Equal condition) (key_for n condition columns)
 
--- the longer of two keys, each with its index's place; the first if they are of one length
-abbrev pub longer_key : ℕ × List Value → ℕ × List Value → ℕ × List Value
-longer_key x y = if nat_lt (length x.1) (length y.1) then y else x
+-- ---- ranges
 
--- the longest key of those found and of these indexes, whose places begin here
-abbrev pub longest_key : Term → ℕ → ℕ × List Value → List Index → ℕ × List Value
-longest_key condition place found [] = found
-longest_key condition place found (index ∷ indexes) = longest_key condition (place + 1) (longer_key found (place, key_for 0 condition index.columns)) indexes
+-- an end at a value
+abbrev pub end_at : Bool → Value → Bound
+end_at within v = record { value = v; within = within }
 
--- the condition seeks this rowid of the first source, or this key of the index at this place
+-- the end that is asked for by the first comparison, which has it within the range, or else by the second
+abbrev pub end_in : Wanted → Comparison → Comparison → Term → Option Bound
+end_in w o p condition = option_or (option_map (end_at true) (key_in w o condition)) (option_map (end_at false) (key_in w p condition))
+
+-- the range between the ends that are asked for
+abbrev pub ends_in : Wanted → Term → Range
+ends_in w condition = record { low = end_in w GreaterOrEqual Greater condition; high = end_in w LessOrEqual Less condition }
+
+-- a range without ends
+abbrev pub no_range : Range
+no_range = record { low = None; high = None }
+
+-- the range of a column, if there is one
+abbrev pub range_in : ℕ → Option IndexColumn → Term → Range
+range_in n None condition = no_range
+range_in n (Some column) condition = ends_in (of_column n column) condition
+
+-- ---- rowids
+
+-- a number, if it has 64 bits
+abbrev pub rowid_of : ℤ → Option ℤ
+rowid_of n = if is_word n then Some n else None
+
+-- a low end's number, or where it isn't in the range the next one
+abbrev pub at_or_after : Bool → ℤ → Option ℤ
+at_or_after within n = if within then Some n else rowid_of (n +ℤ pos 1)
+
+-- a high end's number, or where it isn't in the range the one before
+abbrev pub at_or_before : Bool → ℤ → Option ℤ
+at_or_before within n = if within then Some n else rowid_of (n -ℤ pos 1)
+
+-- the first rowid of a range with this low end
+abbrev pub first_rowid : Bound → Option ℤ
+first_rowid end = elim end.value [ Int n ↦ at_or_after end.within n | _ ↦ None ]
+
+-- the last rowid of a range with this high end
+abbrev pub last_rowid : Bound → Option ℤ
+last_rowid end = elim end.value [ Int n ↦ at_or_before end.within n | _ ↦ None ]
+
+-- from the first to the last; where there is one of both, to the greatest number or from the least
+abbrev pub from_to : Option ℤ → Option ℤ → Option (ℤ × ℤ)
+from_to None None = None
+from_to low high = Some (unwrap_or low (negsuc (2 ^ 63 - 1)), unwrap_or high (pos (2 ^ 63 - 1)))
+
+-- the rowids of a range
+abbrev pub rowids_of : Range → Option (ℤ × ℤ)
+rowids_of range = from_to (option_and_then first_rowid range.low) (option_and_then last_rowid range.high)
+
+-- the rowids that a condition asks for by a range
+abbrev pub rowids_in : ℕ → Term → Option (ℤ × ℤ)
+rowids_in n condition = rowids_of (ends_in (of_rowid n) condition)
+
+-- ---- indexes
+
+-- what a condition asks of the index of these columns at this place
+abbrev pub candidate_of : Term → ℕ → List IndexColumn → Candidate
+candidate_of condition place columns =
+    record { place = place; key = key_for 0 condition columns; range = range_in 0 (slice_get columns (length (key_for 0 condition columns))) condition }
+
+-- whether the second has the longer key, or one of the same length and a range, where the first has none
+abbrev pub asks_less : Candidate → Candidate → Bool
+asks_less x y =
+    nat_lt (length x.key) (length y.key) || (length x.key == length y.key && (not (has_ends x.range) && has_ends y.range))
+
+-- the one that asks more; the first if they ask the same
+abbrev pub more_asked : Candidate → Candidate → Candidate
+more_asked x y = if asks_less x y then y else x
+
+-- the one that asks the most, of that found and of these indexes, whose places begin here
+abbrev pub most_asked : Term → ℕ → Candidate → List Index → Candidate
+most_asked condition place found [] = found
+most_asked condition place found (index ∷ indexes) =
+    most_asked condition (place + 1) (more_asked found (candidate_of condition place index.columns)) indexes
+
+-- it asks nothing of an index
+abbrev pub asks_nothing : Candidate
+asks_nothing = record { place = 0; key = []; range = no_range }
+
+-- ---- what is sought
+
+-- the condition seeks this rowid or these rowids of the first source, or this key or range of the index at this place
 abbrev pub IsSought : List Index → Term → Search → Type 0
 IsSought indexes condition (Rowid rowid) = SeeksRowid 0 condition rowid
+IsSought indexes condition (Rowids low high) = SeeksRowids 0 condition low high
 IsSought indexes condition (Key place key) = (index : Index) × (slice_get indexes place ≡ Some index) × SeeksKey 0 condition index.columns key
+IsSought indexes condition (InRange place key range) =
+    (index : Index) × (slice_get indexes place ≡ Some index) × SeeksRange 0 condition index.columns key range
 
 -- the condition asks for the first column of none of these indexes
 abbrev pub IsNotAsked : Term → List Index → Type 0
 IsNotAsked condition [] = ⊤
 IsNotAsked condition (index ∷ indexes) = (key_for 0 condition index.columns ≡ []) × IsNotAsked condition indexes
 
--- It is a rowid, or where none is asked for the longest key, the first of those of one length.
+-- it asks neither for a rowid nor for a range of them, and of the indexes this is what it asks the most of
+abbrev pub IsMost : List Index → Term → Candidate → Type 0
+IsMost indexes condition it =
+    (list_any (finds 0 no_index) (parts condition) ≡ false) × (rowids_in 0 condition ≡ None) × (it ≡ most_asked condition 0 asks_nothing indexes)
+
+-- It is a rowid; or where none is asked for, a range of them; or where there is none either, the longest key, and of those of one length the
+-- first with a range after it, or else the first.
 abbrev pub IsChosen : List Index → Term → Search → Type 0
 IsChosen indexes condition (Rowid rowid) = ⊤
-IsChosen indexes condition (Key place key) = (list_any (finds 0 no_index) (parts condition) ≡ false) × ((place, key) ≡ longest_key condition 0 (0, []) indexes)
+IsChosen indexes condition (Rowids low high) = (list_any (finds 0 no_index) (parts condition) ≡ false) × (rowids_in 0 condition ≡ Some (low, high))
+IsChosen indexes condition (Key place key) = IsMost indexes condition (record { place = place; key = key; range = no_range })
+IsChosen indexes condition (InRange place key range) = IsMost indexes condition (record { place = place; key = key; range = range })

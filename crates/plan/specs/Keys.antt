@@ -1,6 +1,6 @@
 -- Which rows an index finds for a condition: those whose values of its first columns are the ones that the condition asks for (The SQLite
 -- Query Optimizer Overview, "WHERE Clause Analysis"; Query Planning, "Multi-Column Indices").
-use Rattle.std.specs.Prelude.{◌≡◌, ◌⊎◌, ⊤, ℕ, pos, Bool, true, false, ◌&&◌, ◌==◌, List, [], ◌∷◌, filter, slice_index_or, slice_get, Option, None, Some, Ok}
+use Rattle.std.specs.Prelude.{◌≡◌, ◌⊎◌, ⊤, ℕ, pos, Bool, true, false, ◌&&◌, ◌==◌, List, [], ◌∷◌, filter, slice_index_or, Option, None, Some, Ok}
 use Rattle.std.specs.List.{list_any}
 use Rattle.std.specs.Ordering.{is_eq}
 use Rattle.sqlval.specs.Conversion.{converted}
@@ -14,6 +14,7 @@ use Rattle.catalog.specs.declared.tables.Index.{Index}
 use Rattle.catalog.specs.declared.tables.IndexColumn.{IndexColumn}
 use Rattle.terms.specs.Terms.{Term, Const, Digits, Cell, Two, collation_index}
 use Rattle.terms.specs.Values.{Row, conversion}
+use Rattle.terms.specs.declared.tree.Comparison.{Comparison}
 use Rattle.terms.specs.declared.tree.Comparison.TheVariants.{Equal}
 use Rattle.terms.specs.declared.tree.Place.TheVariants.{At}
 use Rattle.terms.specs.declared.tree.TwoSided.TheVariants.{Compare, And}
@@ -21,9 +22,8 @@ use Rattle.bind.specs.Calm.{is_calm, is_search}
 use Rattle.bind.specs.Readings.{rows_over}
 use Rattle.bind.specs.declared.reading.Condition.TheVariants.{Always}
 use Rattle.bind.specs.declared.reading.Reading.{Reading}
-use Rattle.plan.specs.Searching.{Searches, is_plain}
-use Rattle.plan.specs.declared.searching.Search.{Search}
-use Rattle.plan.specs.declared.searching.Search.TheVariants.{Rowid, Key}
+use Rattle.plan.specs.Searching.{is_plain}
+use Rattle.plan.specs.declared.keys.Wanted.{Wanted}
 
 -- ---- rows of a key
 
@@ -44,10 +44,18 @@ IsLiteralKey a (Const v) k = converted (conversion None a) v ≡ Ok k
 IsLiteralKey a (Digits n) k = converted (conversion None a) (Int (pos n)) ≡ Ok k
 IsLiteralKey a t k = ⊥
 
--- `c = literal` of a column of the source of this number, under the index's collation
+-- a comparison by this operator of what is looked for, under its collation, with a literal that it takes as this value
+abbrev pub IsCompared : Wanted → Comparison → Value → Term → Type 0
+IsCompared w o k (Two (Compare p) (Cell s q a c) literal) = (p ≡ o) × (s ≡ w.source) × (q ≡ w.place) × (c ≡ w.collation) × IsLiteralKey a literal k
+IsCompared w o k t = ⊥
+
+-- an index's column of the source of this number
+abbrev pub of_column : ℕ → IndexColumn → Wanted
+of_column n column = record { source = n; place = At column.place; collation = column.collation }
+
+-- `c = literal` of that column, under the index's collation
 abbrev pub IsAsked : ℕ → IndexColumn → Value → Term → Type 0
-IsAsked n column k (Two (Compare Equal) (Cell s (At i) a c) literal) = (s ≡ n) × (i ≡ column.place) × (c ≡ column.collation) × IsLiteralKey a literal k
-IsAsked n column k t = ⊥
+IsAsked n column k t = IsCompared (of_column n column) Equal k t
 
 -- it is so of one of the parts that AND joins
 abbrev pub AsksPart : (Term → Type 0) → Term → Type 0
@@ -97,8 +105,3 @@ is_led_by indexes place collation = list_any (λ i. is_first place collation i.c
 -- whether the plan of a query is a search, by rowid or by one of the table's indexes
 abbrev pub is_table_search : List Index → Reading → Bool
 is_table_search indexes q = elim q.filter [ None ↦ false | Some condition ↦ is_plain q.sources && is_search 0 (is_led_by indexes) condition ]
-
--- the query seeks this rowid, or this key of the index at this place
-abbrev pub IsSearchOf : List Index → Reading → Search → Type 0
-IsSearchOf indexes q (Rowid rowid) = Searches q rowid
-IsSearchOf indexes q (Key place key) = (index : Index) × (slice_get indexes place ≡ Some index) × SearchesKey q index.columns key

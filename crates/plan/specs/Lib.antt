@@ -1,4 +1,5 @@
 pub mod Seeking
 pub mod Searching
 pub mod Keys
+pub mod Ranges
 pub mod Asking

@@ -3,14 +3,18 @@
 
 mod calm;
 mod keys;
+mod ranges;
+mod rowids;
 mod searching;
 mod seeking;
 
 ghost use Rattle.plan.specs.Keys.{KeySearchesAsScans};
+ghost use Rattle.plan.specs.Ranges.{RangeSearchesAsScans, RowidsSearchAsScans};
 ghost use Rattle.plan.specs.Seeking.{OtherRowsFail};
 ghost use Rattle.plan.specs.Searching.{SearchesAsScans};
 
 pub use calm::is_calm;
+pub use ranges::{Bound, Range};
 pub use searching::{Search, search_of};
 pub use seeking::sought_rowid;
 
@@ -27,4 +31,14 @@ pub fn searches_as_scans()
 /// A query that seeks the key of an index of its only source gives the same over the rows of that key as over all.
 pub fn key_searches_as_scans()
     ensures { KeySearchesAsScans }
+{}
+
+/// A query that seeks a key and a range of an index of its only source gives the same over the rows of both as over all.
+pub fn range_searches_as_scans()
+    ensures { RangeSearchesAsScans }
+{}
+
+/// A query that seeks a range of rowids of its only source gives the same over the rows of those rowids as over all.
+pub fn rowids_search_as_scans()
+    ensures { RowidsSearchAsScans }
 {}

@@ -1,18 +1,21 @@
 //! What a query of one source seeks of it.
 
-ghost use Rattle.std.specs.Prelude.{◌≡◌, [], false, true, IfErr, IfNone, IfOk, IfSome};
+ghost use Rattle.std.specs.Prelude.{◌≡◌, false, true, IfErr, IfNone, IfOk, IfSome};
 ghost use Rattle.std.specs.List.{list_any};
 ghost use Rattle.bind.specs.Calm as calm;
 ghost use Rattle.plan.specs.Asking as asking;
 ghost use Rattle.plan.specs.Asking.{IsChosen, IsSought};
-ghost use Rattle.plan.specs.Keys.{IsSearchOf, is_led_by, is_table_search};
+ghost use Rattle.plan.specs.Keys.{is_led_by, is_table_search};
+ghost use Rattle.plan.specs.Ranges.{IsSearchOf};
 ghost use Rattle.plan.specs.Seeking.{no_index};
 
 use crate::calm::is_calm;
 use crate::keys::key_for;
+use crate::ranges::{Range, has_ends, no_range, range_in};
+use crate::rowids::rowids_in;
 use crate::seeking::rowid_in;
 use bind::{Condition, Reading};
-use catalog::Index;
+use catalog::{Index, IndexColumn};
 use sqlval::{Fault, Many, R, Value};
 use std::alloc::Global;
 use terms::Term;
@@ -22,37 +25,98 @@ use terms::Term;
 pub enum Search {
     /// The row of a rowid.
     Rowid(i64),
+    /// The rows whose rowids are from the first to the second, both among them.
+    Rowids(i64, i64),
     /// The rows whose values of an index's first columns are this key: the index's place among its table's, and the key.
     Key(usize, Many<Value>),
+    /// The rows whose values of an index's first columns are this key, which may be empty, and whose value of the next column lies in a
+    /// range.
+    Range(usize, Many<Value>, Range),
 }
 
-/// The longer of two keys, each with its index's place; the first if they are of one length.
-fn longer_key(found: (usize, Many<Value>), other: (usize, Many<Value>)) -> (usize, Many<Value>)
-    ensures { result ≡ asking.longer_key found other }
+/// What a condition asks of an index: the index's place among its table's, a key, and a range of the next column.
+#[derive(Drop)]
+pub(crate) struct Candidate {
+    pub place: usize,
+    pub key: Many<Value>,
+    pub range: Range,
+}
+
+/// What a condition asks of an index. (`Memory`.)
+fn candidate_of(
+    alloc: Global,
+    condition: &Term,
+    place: usize,
+    columns: &[IndexColumn],
+) -> R<Candidate>
+    ensures found { IfOk result (λ it. it ≡ asking.candidate_of condition.now place columns.now) }
+    ensures refused { IfErr result (λ fault. fault ≡ Fault.Memory) }
 {
-    if found.1.len() < other.1.len() {
+    let key = key_for(alloc, condition, 0, columns)?;
+    let range = range_in(alloc, condition, 0, columns.get(key.len()).copied())?;
+    Ok(Candidate { place, key, range })
+}
+
+/// Whether the second has the longer key, or one of the same length and a range, where the first has none.
+fn asks_less(found: &Candidate, other: &Candidate) -> bool
+    ensures { result ≡ asking.asks_less found.now other.now }
+{
+    found.key.len() < other.key.len()
+        || found.key.len() == other.key.len() && !has_ends(&found.range) && has_ends(&other.range)
+}
+
+/// The one that asks more; the first if they ask the same.
+fn more_asked(found: Candidate, other: Candidate) -> Candidate
+    ensures { result ≡ asking.more_asked found other }
+{
+    if asks_less(&found, &other) {
         other
     } else {
         found
     }
 }
 
-/// The longest key that a condition asks for of an index, with the index's place; the first of those of one length. (`Memory`.)
-fn longest_key(alloc: Global, condition: &Term, indexes: &[Index]) -> R<(usize, Many<Value>)>
-    ensures found { IfOk result (λ found. found ≡ asking.longest_key condition.now 0 (0, []) indexes.now) }
+/// What a condition asks of the index that it asks the most of; the first of several. (`Memory`.)
+fn most_asked(alloc: Global, condition: &Term, indexes: &[Index]) -> R<Candidate>
+    ensures found { IfOk result (λ found. found ≡ asking.most_asked condition.now 0 asking.asks_nothing indexes.now) }
     ensures refused { IfErr result (λ fault. fault ≡ Fault.Memory) }
 {
-    let mut found = (0, Many::new(alloc));
+    let mut found = Candidate {
+        place: 0,
+        key: Many::new(alloc),
+        range: no_range(),
+    };
     'indexes: for place in 0..indexes.len() {
-        let key = key_for(alloc, condition, 0, indexes[place].columns.as_slice())?;
-        found = longer_key(found, (place, key));
+        let other = candidate_of(alloc, condition, place, indexes[place].columns.as_slice())?;
+        found = more_asked(found, other);
     }
     Ok(found)
 }
 
-/// The key that a condition seeks of an index: the longest, and of those of one length the first. None where it asks for no index's first
-/// column. (`Memory`.)
-fn key_search(alloc: Global, condition: &Term, indexes: &[Index]) -> R<Option<Search>>
+/// What a condition seeks of the index that it asks the most of: a range, or else a key. None where it asks for no index's first column.
+/// (`Memory`.)
+fn index_search(alloc: Global, condition: &Term, indexes: &[Index]) -> R<Option<Search>>
+    requires calm { calm.is_calm condition.now ≡ true }
+    requires none { list_any (calm.finds 0 no_index) (calm.parts condition.now) ≡ false }
+    requires no_rowids { asking.rowids_in 0 condition.now ≡ None }
+    ensures found { IfOk result (λ found. IfSome found (λ it. IsSought indexes.now condition.now it)) }
+    ensures chosen { IfOk result (λ found. IfSome found (λ it. IsChosen indexes.now condition.now it)) }
+    ensures only { IfOk result (λ found. IfNone found (asking.IsNotAsked condition.now indexes.now)) }
+    ensures refused { IfErr result (λ fault. fault ≡ Fault.Memory) }
+{
+    let Candidate { place, key, range } = most_asked(alloc, condition, indexes)?;
+    if has_ends(&range) {
+        return Ok(Some(Search::Range(place, key, range)));
+    }
+    if key.len() == 0 {
+        return Ok(None);
+    }
+    Ok(Some(Search::Key(place, key)))
+}
+
+/// What a condition seeks that asks for no rowid: a range of rowids, or else a range or a key of an index. None where it seeks none.
+/// (`Memory`.)
+fn many_sought(alloc: Global, condition: &Term, indexes: &[Index]) -> R<Option<Search>>
     requires calm { calm.is_calm condition.now ≡ true }
     requires none { list_any (calm.finds 0 no_index) (calm.parts condition.now) ≡ false }
     ensures found { IfOk result (λ found. IfSome found (λ it. IsSought indexes.now condition.now it)) }
@@ -60,15 +124,14 @@ fn key_search(alloc: Global, condition: &Term, indexes: &[Index]) -> R<Option<Se
     ensures only { IfOk result (λ found. IfNone found (asking.IsNotAsked condition.now indexes.now)) }
     ensures refused { IfErr result (λ fault. fault ≡ Fault.Memory) }
 {
-    let (place, key) = longest_key(alloc, condition, indexes)?;
-    if key.len() == 0 {
-        return Ok(None);
+    match rowids_in(alloc, condition, 0)? {
+        Some(found) => Ok(Some(Search::Rowids(found.0, found.1))),
+        None => index_search(alloc, condition, indexes),
     }
-    Ok(Some(Search::Key(place, key)))
 }
 
-/// What a condition seeks of the first source: a rowid, or else the key of an index. None where it seeks neither, or may be refused.
-/// (`Memory`.)
+/// What a condition seeks of the first source: a rowid, or else a range of them, or else a range or a key of an index. None where it seeks
+/// none, or may be refused. (`Memory`.)
 fn sought(alloc: Global, condition: &Term, indexes: &[Index]) -> R<Option<Search>>
     ensures found { IfOk result (λ found. IfSome found (λ it. IsSought indexes.now condition.now it)) }
     ensures chosen { IfOk result (λ found. IfSome found (λ it. IsChosen indexes.now condition.now it)) }
@@ -80,12 +143,12 @@ fn sought(alloc: Global, condition: &Term, indexes: &[Index]) -> R<Option<Search
     }
     match rowid_in(condition, 0) {
         Some(rowid) => Ok(Some(Search::Rowid(rowid))),
-        None => key_search(alloc, condition, indexes),
+        None => many_sought(alloc, condition, indexes),
     }
 }
 
-/// What a query of one source seeks by its WHERE: a rowid, or else the key of one of its table's indexes. None where it seeks neither, or
-/// may be refused. (`Memory`.)
+/// What a query of one source seeks by its WHERE: a rowid, or else a range of them, or else a range or a key of one of its table's indexes.
+/// None where it seeks none, or may be refused. (`Memory`.)
 pub fn search_of(alloc: Global, reading: &Reading, indexes: &[Index]) -> R<Option<Search>>
     ensures found { IfOk result (λ found. IfSome found (λ it. IsSearchOf indexes.now reading.now it)) }
     ensures chosen { IfOk result (λ found. IfSome found (λ it. IfSome reading.now.filter (λ condition. IsChosen indexes.now condition it))) }

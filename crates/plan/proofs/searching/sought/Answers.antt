@@ -6,4 +6,4 @@ use Rattle.plan.proofs.searching.sought.Goals as goal
 pub returns-in-None-clause-only : goal.returns-in-None-clause-only
 returns-in-None-clause-only c =
     let calm : is_calm c.args.condition.now ≡ true = search rules in
-    only_search c.args.indexes.now c.args.condition.now calm c.in-None.ensures.none c.key_search.result c.key_search.ensures.only
+    only_search c.args.indexes.now c.args.condition.now calm c.in-None.ensures.none c.many_sought.result c.many_sought.ensures.only
