@@ -1,6 +1,7 @@
 mod Batches
 mod Ends
 pub mod Gathered
+mod Gathering
 pub mod KeyRows
 pub mod Keyed
 pub mod LookedUp
