@@ -9,7 +9,6 @@ pub mod HeldTrees
 pub mod IndexCreations
 pub mod IndexDroppings
 pub mod Insertions
-mod KeyedRows
 pub mod LoadedSources
 pub mod Owners
 pub mod Replacing

@@ -1,6 +1,7 @@
 -- What a query answers (SQL As Understood By SQLite, "SELECT").
-use Rattle.std.specs.Prelude.{◌≡◌, ◌⊎◌, ℕ, false, List, [], ◌∷◌, map, Contains, MatchResult, Some, Result, Ok, Err}
+use Rattle.std.specs.Prelude.{◌≡◌, ◌⊎◌, ℕ, true, false, List, [], ◌∷◌, map, Contains, MatchResult, Some, Result, Ok, Err}
 use Rattle.std.specs.List.{AllByRecursion}
+use Rattle.sqlval.specs.Conversion.{is_word}
 use Rattle.sqlval.specs.Faults.{IsOutside}
 use Rattle.sqlval.specs.Refusals.{Answer, refusal_of}
 use Rattle.sqlval.specs.declared.fault.Fault.{Fault}
@@ -62,20 +63,27 @@ Streams view pages size reading table result = (rows : List TableRow) → AreWho
 abbrev pub HasEntriesOf : PageMap → ℕ → List TableRow → Index → Type 0
 HasEntriesOf pages size rows index = (used : List ℕ) × IsIndexTree pages size index.root (collations (columns_of index)) (entries_of_rows (columns_of index) rows) used
 
--- What a call answered, seen by `view`, is what a query comes to over the rows of its only source, where its tree has some and that of an
--- index their entries; or one of its refusals.
-abbrev pub AnswersKeyed : {X : Type 0} → (X → List (List Value)) → PageMap → ℕ → Reading → BoundSource → Index → Result X Fault → Type 0
-AnswersKeyed view pages size reading table index result = (rows : List TableRow) → AreWhole size pages → HasRows pages size table.root table.width rows
-    → HasEntriesOf pages size rows index → AnswersOrFails view (rows_over reading [] (beside_rows reading.sources (map as_source rows ∷ []))) result
+-- A table's tree has these rows, whose rowids have 64 bits, and the trees of its indexes have their entries.
+pub record HasIndexed (pages : PageMap) (size : ℕ) (table : BoundSource) (indexes : List Index) (rows : List TableRow) : Type 0 where
+  pub whole : AreWhole size pages
+  pub has : HasRows pages size table.root table.width rows
+  pub words : AllByRecursion (λ (row : TableRow). is_word row.0 ≡ true) rows
+  pub entries : AllByRecursion (HasEntriesOf pages size rows) indexes
 
--- each of the indexes' trees has them
-abbrev pub HaveEntriesOf : PageMap → ℕ → List TableRow → List Index → Type 0
-HaveEntriesOf pages size rows indexes = AllByRecursion (HasEntriesOf pages size rows) indexes
+-- the query comes to the same over the rows that are found of its only source as over all
+abbrev pub IsSameOver : Reading → List Row → List TableRow → Type 0
+IsSameOver q found rows = rows_over q [] (beside_rows q.sources (found ∷ [])) ≡ rows_over q [] (beside_rows q.sources (map as_source rows ∷ []))
 
--- the same where each of some indexes has them
+-- so it does over what a call has read, where the trees have some rows; or memory was short, or a disk's call failed
+abbrev pub FindsEnough : PageMap → ℕ → Reading → BoundSource → List Index → Result (List Row) Fault → Type 0
+FindsEnough pages size q table indexes result = (rows : List TableRow) → HasIndexed pages size table indexes rows
+    → MatchResult result (λ found. IsSameOver q found rows) IsOutside
+
+-- What a call answered, seen by `view`, is what a query comes to over the rows of its only source, where the trees have some; or one of its
+-- refusals.
 abbrev pub AnswersSearched : {X : Type 0} → (X → List (List Value)) → PageMap → ℕ → Reading → BoundSource → List Index → Result X Fault → Type 0
-AnswersSearched view pages size reading table indexes result = (rows : List TableRow) → AreWhole size pages → HasRows pages size table.root table.width rows
-    → HaveEntriesOf pages size rows indexes → AnswersOrFails view (rows_over reading [] (beside_rows reading.sources (map as_source rows ∷ []))) result
+AnswersSearched view pages size q table indexes result = (rows : List TableRow) → HasIndexed pages size table indexes rows
+    → AnswersOrFails view (rows_over q [] (beside_rows q.sources (map as_source rows ∷ []))) result
 
 -- the table is that of a query's only source
 abbrev pub IsOnly : List Table → List (Name × Condition) → Table → Type 0

@@ -1,22 +1,16 @@
-use Rattle.std.proofs.Common.{◌≡◌, SFits, of_z, rules, subst, sym, to_z, w64, ℤ}
-use Rattle.std.proofs.lemmas.Int.{to_z-of_z}
-use Rattle.plan.specs.Keys.{IsSearchOf}
-use Rattle.plan.specs.Searching.{Searches}
-use Rattle.storage.specs.Reading.{HasEntriesOf}
-use Rattle.storage.proofs.IndexTrees.{one_at}
+use Rattle.std.proofs.Common.{◌∙◌, map}
+use Rattle.rowprog.specs.Rows.{values_of}
+use Rattle.storage.proofs.SearchedRows.{not_searched, searched_rows}
 use Rattle.storage.proofs.searching.searched_rows.Goals as goal
 
-pub returns-in-Rowid-clause-answered : goal.returns-in-Rowid-clause-answered
-returns-in-Rowid-clause-answered g c = λ told rows whole has entries.
-    (let rowid = c.in-Rowid.rowid in
-    let fits : SFits w64 rowid = search rules in
-    let same : to_z w64 (of_z w64 rowid) ≡ rowid = to_z-of_z w64 rowid fits in
-    let seeks : Searches c.args.reading.now rowid = subst (IsSearchOf c.args.indexes.now c.args.reading.now) c.in-Rowid.is c.requires in
-    c.sought_rows.ensures.answered told (subst (λ (n : ℤ). Searches c.args.reading.now n) (sym same) seeks) rows whole has)
-
-pub returns-in-Key-clause-answered : goal.returns-in-Key-clause-answered
-returns-in-Key-clause-answered g c = λ told rows whole has entries.
+pub returns-in_err-rows-clause-answered : goal.returns-in_err-rows-clause-answered
+returns-in_err-rows-clause-answered g c = λ told seeks.
     (let gs = g.P.Pages in
-    let found = subst (IsSearchOf c.args.indexes.now c.args.reading.now) c.in-Key.is c.requires in
-    c.keyed_rows.ensures.answered told rows whole has
-    (one_at (HasEntriesOf (gs.map c.args.pages.now) (gs.limits (gs.below c.args.pages.now)).page rows) c.args.indexes.now c.in-Key.place found.0 c.index-indexes-place.result found.1 c.index-indexes-place.is entries))
+    not_searched (λ rows. map values_of rows.items) (gs.map c.args.pages.now) (gs.limits (gs.below c.args.pages.now)).page c.args.reading.now c.args.table c.args.indexes.now c.in_err-rows.field-0.0
+    c.from_residual.result c.from_residual.ensures.1 (c.in_err-rows.ensures.found c.args.reading.now told seeks))
+
+pub returns-clause-answered : goal.returns-clause-answered
+returns-clause-answered g c = λ told seeks.
+    (let gs = g.P.Pages in
+    searched_rows (λ rows. map values_of rows.items) (gs.map c.args.pages.now) (gs.limits (gs.below c.args.pages.now)).page c.args.reading.now c.args.table c.args.indexes.now c.args.search
+    c.in_ok-rows.rows c.as_slice.result.now c.answer.result seeks (c.as_slice.ensures ∙ c.one.ensures) (c.in_ok-rows.ensures.found c.args.reading.now told seeks) c.answer.ensures.answered)

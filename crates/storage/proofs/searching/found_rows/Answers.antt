@@ -1,0 +1,1 @@
+use Rattle.storage.proofs.searching.found_rows.Goals as goal
