@@ -1,13 +1,15 @@
--- The rows of a key, by example.
-use Rattle.std.specs.Prelude.{◌≡◌, refl, false, ℤ, pos, codes, List, [], ◌∷◌, filter, map}
+-- The rows of a key and of a range, by example.
+use Rattle.std.specs.Prelude.{◌≡◌, refl, false, true, ℤ, pos, codes, List, [], ◌∷◌, filter, map, Option, Some, None}
 use Rattle.sqlval.specs.declared.collation.Collation.TheVariants.{Binary, NoCase}
 use Rattle.sqlval.specs.declared.value.Value.{Value}
 use Rattle.sqlval.specs.declared.value.Value.TheVariants.{Null, Int, Text}
 use Rattle.catalog.specs.declared.tables.IndexColumn.{IndexColumn}
-use Rattle.indextree.specs.Entries.{entries_from}
 use Rattle.indexes.specs.Entries.{Row, collations, entries_of_rows}
 use Rattle.indexes.specs.Keeping.{columns_in}
-use Rattle.rowsearch.specs.Finding.{first_rowids}
+use Rattle.rowsearch.specs.Finding.{first_rowids, is_sought, sought_from}
+use Rattle.rowsearch.specs.Ranges.{has_range}
+use Rattle.rowsearch.specs.declared.ranges.Bound.{Bound}
+use Rattle.rowsearch.specs.declared.ranges.Range.{Range}
 use Rattle.plan.specs.Keys.{has_key}
 
 -- an index of the second column, in which letters' case is one, and of the first
@@ -22,8 +24,13 @@ rows =
 abbrev keyed : List Value → List ℤ
 keyed key = map (λ row. row.0) (filter (λ (row : Row). has_key columns key row.1) rows)
 
+abbrev found_in : List Value → Option Range → List ℤ
+found_in key range =
+    let under = collations (columns_in columns) in
+    first_rowids (is_sought under key range) (sought_from under key range (entries_of_rows (columns_in columns) rows))
+
 abbrev found : List Value → List ℤ
-found key = first_rowids (collations (columns_in columns)) key (entries_from false (collations (columns_in columns)) key (entries_of_rows (columns_in columns) rows))
+found key = found_in key None
 
 pub by_first_column : keyed (Text (codes "a") ∷ []) ≡ pos 2 ∷ pos 3 ∷ []
 by_first_column = refl
@@ -39,3 +46,35 @@ in_order_of_entries = refl
 
 pub none_between : found (Text (codes "a") ∷ Int (pos 8) ∷ []) ≡ []
 none_between = refl
+
+-- ---- ranges
+
+abbrev at : Value → Option Bound
+at value = Some (record { value = value; within = true })
+
+abbrev beyond : Value → Option Bound
+beyond value = Some (record { value = value; within = false })
+
+abbrev between : Option Bound → Option Bound → Range
+between low high = record { low = low; high = high }
+
+abbrev ranged : List Value → Range → List ℤ
+ranged key range = map (λ row. row.0) (filter (λ (row : Row). has_range columns key range row.1) rows)
+
+pub null_is_in_none : ranged [] (between None (at (Text (codes "b")))) ≡ pos 1 ∷ pos 2 ∷ pos 3 ∷ []
+null_is_in_none = refl
+
+pub an_end_that_is_not_within : ranged [] (between (beyond (Text (codes "a"))) None) ≡ pos 1 ∷ []
+an_end_that_is_not_within = refl
+
+pub of_the_column_after_a_key : ranged (Text (codes "a") ∷ []) (between (at (Int (pos 7))) None) ≡ pos 2 ∷ []
+of_the_column_after_a_key = refl
+
+pub begun_after_null : found_in [] (Some (between None (at (Text (codes "a"))))) ≡ pos 3 ∷ pos 2 ∷ []
+begun_after_null = refl
+
+pub begun_after_its_end : found_in [] (Some (between (beyond (Text (codes "a"))) None)) ≡ pos 1 ∷ []
+begun_after_its_end = refl
+
+pub begun_at_null : found_in [] (Some (between (at Null) None)) ≡ pos 3 ∷ pos 2 ∷ pos 1 ∷ []
+begun_at_null = refl

@@ -1,6 +1,7 @@
--- The rows of the entries that begin with a key, by rising rowid, are those of the key.
-use Rattle.std.proofs.Common.{◌≡◌, refl, ap, ◌∙◌, ◌≤◌, ℤ, Bool, true, false, ◌&&◌, cond, List, [], ◌∷◌, length, map, filter, slice_index_or, arith}
+-- The rows of the entries that are looked for, by rising rowid, are those of the key and the range.
+use Rattle.std.proofs.Common.{◌≡◌, refl, ap, ◌∙◌, ◌≤◌, ◌<◌, ℤ, Bool, true, false, ◌&&◌, cond, List, [], ◌∷◌, length, map, filter, slice_index_or, Option, Some, None, arith}
 use Rattle.std.proofs.lemmas.Cmp.{eq_by_cmp_equiv, int_cmp_total}
+use Rattle.std.proofs.lemmas.List.{length-map}
 use Rattle.std.proofs.lemmas.Map.Lookups.{exact_signed}
 use Rattle.std.specs.List.{AllByRecursion, flat_map}
 use Rattle.std.specs.Ordering.{int_cmp, is_eq, is_gt, ordering_then}
@@ -12,18 +13,20 @@ use Rattle.sqlval.specs.declared.collation.Collation.{Collation}
 use Rattle.sqlval.specs.declared.value.Value.{Value}
 use Rattle.sqlval.specs.declared.value.Value.TheVariants.{Null}
 use Rattle.sqlval.proofs.Ordering.{total}
-use Rattle.indextree.specs.Entries.{entries_from, entry_cmp}
+use Rattle.indextree.specs.Entries.{AreEntries, entry_cmp}
 use Rattle.indexes.specs.Entries.{Columns, collations, entries_of_rows, indexed}
 use Rattle.rowprog.specs.Rows.{TableRow}
 use Rattle.rowprog.specs.Sources.{rows_at}
 use Rattle.indexes.specs.Keeping.{columns_in}
 use Rattle.catalog.specs.declared.tables.IndexColumn.{IndexColumn}
-use Rattle.rowsearch.specs.Finding.{EndsWithRowid, begins_with, first_rowids, rowid_in}
+use Rattle.rowsearch.specs.Finding.{EndsWithRowid, begins_with, first_rowids, goes_on_in, is_sought, entry_rowid, sought_from}
+use Rattle.rowsearch.specs.Ranges.{has_range}
+use Rattle.rowsearch.specs.declared.ranges.Range.{Range}
 use Rattle.plan.specs.Keys.{has_key}
 use Rattle.rowsearch.proofs.Ends.{ends_with}
 use Rattle.rowsearch.proofs.Gathered.{of_sorted}
 use Rattle.rowsearch.proofs.LookedUp.{all_chosen, ascending, chosen_ascend, chosen_through, each_found, each_through, looked_up, sorted_already}
-use Rattle.rowsearch.proofs.Tied.{first_are_tied}
+use Rattle.rowsearch.proofs.Together.{first_are_sought}
 
 -- ---- an entry of a row
 
@@ -35,8 +38,10 @@ both_tied Less p = refl
 both_tied Equal p = refl
 both_tied Greater p = refl
 
--- it begins with a key where the row has that key
-pub begins_as : (columns : List IndexColumn) (key : List Value) (row : TableRow) → length key ≤ length columns
+-- ---- the rows that are looked for
+
+-- its entry begins with a key where a row has that key
+begins_as : (columns : List IndexColumn) (key : List Value) (row : TableRow) → length key ≤ length columns
     → begins_with (collations (columns_in columns)) key (indexed (columns_in columns) row) ≡ has_key columns key row.1
 begins_as [] [] row le = refl
 begins_as [] (k ∷ key) row le = absurd (omega (arith, le))
@@ -46,6 +51,31 @@ begins_as (column ∷ columns) (k ∷ key) row le =
     both_tied (order column.collation k value) (entry_cmp (collations (columns_in columns)) key (indexed (columns_in columns) row))
     ∙ (ap (λ b. b && begins_with (collations (columns_in columns)) key (indexed (columns_in columns) row)) ((eq_by_cmp_equiv (total column.collation)).symm k value)
     ∙ ap (λ b. is_eq (order column.collation value k) && b) (begins_as columns key row (omega (arith, le))))
+
+and_true : (b : Bool) → (b && true) ≡ b
+and_true true = refl
+and_true false = refl
+
+pub has_so : (columns : List IndexColumn) (key : List Value) (row : TableRow) → length key ≤ length columns
+    → is_sought (collations (columns_in columns)) key None (indexed (columns_in columns) row) ≡ has_key columns key row.1
+has_so columns key row le = and_true (begins_with (collations (columns_in columns)) key (indexed (columns_in columns) row)) ∙ begins_as columns key row le
+
+-- and goes on in a range where the row's next value lies in it
+pub lies_so : (columns : List IndexColumn) (key : List Value) (range : Range) (row : TableRow) → length key < length columns
+    → is_sought (collations (columns_in columns)) key (Some range) (indexed (columns_in columns) row) ≡ has_range columns key range row.1
+lies_so [] key range row lt = absurd (omega (arith, lt))
+lies_so (column ∷ columns) [] range row lt = refl
+lies_so (column ∷ columns) (k ∷ key) range row lt =
+    let value = slice_index_or row.1 column.place Null in
+    one_more (order column.collation k value) (entry_cmp (collations (columns_in columns)) key (indexed (columns_in columns) row))
+    (goes_on_in (collations (columns_in columns)) key (Some range) (indexed (columns_in columns) row))
+    ∙ (ap (λ b. b && is_sought (collations (columns_in columns)) key (Some range) (indexed (columns_in columns) row)) ((eq_by_cmp_equiv (total column.collation)).symm k value)
+    ∙ ap (λ b. is_eq (order column.collation value k) && b) (lies_so columns key range row (omega (arith, lt))))
+  where
+    one_more : (o p : Ordering) (b : Bool) → (is_eq (ordering_then o p) && b) ≡ (is_eq o && (is_eq p && b))
+    one_more Less p b = refl
+    one_more Equal p b = refl
+    one_more Greater p b = refl
 
 -- ---- all entries
 
@@ -70,27 +100,27 @@ each_ends columns (row ∷ rows) = (ends_so columns row, each_ends columns rows)
 pub all_end : (columns : Columns) (rows : List TableRow) → AllByRecursion EndsWithRowid (entries_of_rows columns rows)
 all_end columns rows = all_sorted EndsWithRowid (entry_cmp (collations columns)) (map (indexed columns) rows) (each_ends columns rows)
 
--- ---- rows of a key
+-- ---- rows by rising rowid
 
-module _ (columns : List IndexColumn) (key : List Value) (rows : List TableRow) where
+module _ (columns : List IndexColumn) (key : List Value) (range : Option Range) (rows : List TableRow) where
   abbrev under : List Collation
   under = collations (columns_in columns)
 
-  abbrev chosen : List TableRow
-  chosen = filter (λ row. has_key columns key row.1) rows
+  abbrev test : TableRow → Bool
+  test row = is_sought under key range (indexed (columns_in columns) row)
 
   abbrev looked : List ℤ → List TableRow
   looked rowids = flat_map (λ rowid. rows_at rowid rows) (sorted int_cmp rowids)
 
-  -- of entries that rise, and of rows by rising rowid
-  pub keyed_found : length key ≤ length columns → is_rising (entry_cmp under) (entries_of_rows (columns_in columns) rows) ≡ true → is_rising int_cmp (map (λ row. row.0) rows) ≡ true
-      → looked (first_rowids under key (entries_from false under key (entries_of_rows (columns_in columns) rows))) ≡ chosen
-  keyed_found le entries_rise rows_rise =
+  -- of an index's entries, and of rows by rising rowid
+  pub sought_found : length key ≤ length columns → AreEntries under (entries_of_rows (columns_in columns) rows) → is_rising int_cmp (map (λ row. row.0) rows) ≡ true
+      → looked (first_rowids (is_sought under key range) (sought_from under key range (entries_of_rows (columns_in columns) rows))) ≡ filter test rows
+  sought_found le are rows_rise =
       let ascend = ascending rows rows_rise in
-      ap looked (first_are_tied under key (entries_of_rows (columns_in columns) rows) entries_rise)
-      ∙ (ap (flat_map (λ rowid. rows_at rowid rows)) (of_sorted int_cmp int_cmp_total exact_signed (entry_cmp under) rowid_in (begins_with under key) (map (indexed (columns_in columns)) rows))
-      ∙ (ap (λ es. looked (map rowid_in es)) (chosen_through (begins_with under key) (indexed (columns_in columns)) rows)
-      ∙ (ap (λ (those : List TableRow). looked (map rowid_in (map (indexed (columns_in columns)) those))) (λ i. filter (λ row. begins_as columns key row le i) rows)
-      ∙ (ap looked (each_through rowid_in (indexed (columns_in columns)) (λ row. row.0) (λ row. ends_with (map (λ column. slice_index_or row.1 column.0 Null) (columns_in columns)) row.0) chosen)
-      ∙ (ap (flat_map (λ rowid. rows_at rowid rows)) (sorted_already chosen (chosen_ascend (λ row. has_key columns key row.1) rows ascend))
-      ∙ looked_up rows chosen (all_chosen (λ (row : TableRow). rows_at row.0 rows ≡ row ∷ []) (λ row. has_key columns key row.1) rows (each_found rows ascend)))))))
+      let many : length under ≡ length columns = length-map (columns_in columns) (λ column. column.1) ∙ length-map columns (λ (column : IndexColumn). (column.place, column.collation)) in
+      ap looked (first_are_sought under key range (entries_of_rows (columns_in columns) rows) (omega (arith, le, many)) are.whole are.rising)
+      ∙ (ap (flat_map (λ rowid. rows_at rowid rows)) (of_sorted int_cmp int_cmp_total exact_signed (entry_cmp under) entry_rowid (is_sought under key range) (map (indexed (columns_in columns)) rows))
+      ∙ (ap (λ es. looked (map entry_rowid es)) (chosen_through (is_sought under key range) (indexed (columns_in columns)) rows)
+      ∙ (ap looked (each_through entry_rowid (indexed (columns_in columns)) (λ row. row.0) (λ row. ends_with (map (λ column. slice_index_or row.1 column.0 Null) (columns_in columns)) row.0) (filter test rows))
+      ∙ (ap (flat_map (λ rowid. rows_at rowid rows)) (sorted_already (filter test rows) (chosen_ascend test rows ascend))
+      ∙ looked_up rows (filter test rows) (all_chosen (λ (row : TableRow). rows_at row.0 rows ≡ row ∷ []) test rows (each_found rows ascend))))))

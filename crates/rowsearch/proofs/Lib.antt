@@ -9,4 +9,5 @@ mod Records
 mod Searched
 mod Sorted
 mod Sought
-pub mod Tied
+mod Standing
+pub mod Together

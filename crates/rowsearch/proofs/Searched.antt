@@ -1,5 +1,5 @@
--- The rows of a table that an index finds by a key.
-use Rattle.std.proofs.Common.{◌≡◌, refl, sym, ap, subst, ◌∙◌, ℕ, ℤ, List, [], ◌∷◌, map, Ok, Err}
+-- The rows of a table that an index finds.
+use Rattle.std.proofs.Common.{◌≡◌, refl, sym, ap, subst, ◌∙◌, ℕ, ℤ, List, [], ◌∷◌, filter, map, Option, Some, None, Ok, Err, arith}
 use Rattle.std.specs.List.{flat_map}
 use Rattle.std.specs.Prelude.{Result, IsErrAnd}
 use Rattle.sqlval.specs.Faults.{IsOutside}
@@ -17,32 +17,46 @@ use Rattle.indexes.specs.Keeping.{columns_in}
 use Rattle.catalog.specs.declared.tables.IndexColumn.{IndexColumn}
 use Rattle.rowsearch.specs.Finding.{FindsRowids}
 use Rattle.rowsearch.specs.Loading.{LoadsRowsOf}
-use Rattle.rowsearch.specs.Searching.{LoadsKeyed}
-use Rattle.rowsearch.proofs.Keyed.{all_end, keyed_found}
+use Rattle.rowsearch.specs.Searching.{LoadsInRange, LoadsKeyed, LoadsSought}
+use Rattle.rowsearch.specs.declared.ranges.Range.{Range}
+use Rattle.rowsearch.proofs.Keyed.{all_end, has_so, lies_so, sought_found}
 
 collations_same : (columns : List IndexColumn) → map (λ column. column.collation) columns ≡ collations (columns_in columns)
 collations_same [] = refl
 collations_same (column ∷ columns) = ap (λ (l : List Collation). column.collation ∷ l) (collations_same columns)
 
-module _ (pages : PageMap) (size root : ℕ) (table : BoundSource) (columns : List IndexColumn) (key : List Value) (under : List Collation) (sought : List Value)
-    (under_is : under ≡ map (λ column. column.collation) columns) (sought_is : sought ≡ key) where
+module _ (pages : PageMap) (size root : ℕ) (table : BoundSource) (columns : List IndexColumn) (key : List Value) (range : Option Range) (under : List Collation) (under_is : under ≡ map (λ column. column.collation) columns) where
   -- what was found, under the collations of the columns
-  since : (result : Result (List ℤ) Fault) → FindsRowids pages size root under sought result → FindsRowids pages size root (collations (columns_in columns)) key result
-  since result finds =
-      subst (λ (k : List Value). FindsRowids pages size root (collations (columns_in columns)) k result) sought_is
-      (subst (λ (l : List Collation). FindsRowids pages size root l sought result) (under_is ∙ collations_same columns) finds)
+  since : (result : Result (List ℤ) Fault) → FindsRowids pages size root under key range result → FindsRowids pages size root (collations (columns_in columns)) key range result
+  since result finds = subst (λ (l : List Collation). FindsRowids pages size root l key range result) (under_is ∙ collations_same columns) finds
 
   -- the rowids aren't found
-  pub not_searched : (fault : Fault) (result : Result (List Row) Fault) → FindsRowids pages size root under sought (Err fault) → IsErrAnd result (λ e. e ≡ fault) → LoadsKeyed pages size table root columns key result
+  pub not_searched : (fault : Fault) (result : Result (List Row) Fault) → FindsRowids pages size root under key range (Err fault) → IsErrAnd result (λ e. e ≡ fault)
+      → LoadsSought pages size table root columns key range result
   not_searched fault (Ok rows) finds same = absurd same
   not_searched fault (Err e) finds same = λ rows used whole has tree le.
       subst IsOutside (sym same) (since (Err fault) finds (entries_of_rows (columns_in columns) rows) used whole tree (all_end (columns_in columns) rows))
 
   -- the rows are those of the rowids
-  pub searched : (rowids : List ℤ) (result : Result (List Row) Fault) → FindsRowids pages size root under sought (Ok rowids) → LoadsRowsOf pages size table rowids result → LoadsKeyed pages size table root columns key result
+  pub searched : (rowids : List ℤ) (result : Result (List Row) Fault) → FindsRowids pages size root under key range (Ok rowids) → LoadsRowsOf pages size table rowids result
+      → LoadsSought pages size table root columns key range result
   searched rowids (Err fault) finds loads = λ rows used whole has tree le. loads rows whole has
   searched rowids (Ok found) finds loads = λ rows used whole has tree le.
       (let are = since (Ok rowids) finds (entries_of_rows (columns_in columns) rows) used whole tree (all_end (columns_in columns) rows) in
       let rise = rowids_rise table.width has.entries rows (tree_rises pages size table.root has.entries has.used has.tree) has.each in
       loads rows whole has
-      ∙ ap (map as_source) (ap (flat_map (λ rowid. rows_at rowid rows)) are ∙ keyed_found columns key rows le tree.sorted.rising rise))
+      ∙ ap (map as_source) (ap (flat_map (λ rowid. rows_at rowid rows)) are ∙ sought_found columns key range rows le tree.sorted rise))
+
+-- ---- by what the rows have
+
+module _ (pages : PageMap) (size root : ℕ) (table : BoundSource) (columns : List IndexColumn) (key : List Value) where
+  -- without a range they have the key
+  pub of_key : (result : Result (List Row) Fault) → LoadsSought pages size table root columns key None result → LoadsKeyed pages size table root columns key result
+  of_key (Err fault) loads = loads
+  of_key (Ok found) loads = λ rows used whole has tree le.
+      (loads rows used whole has tree le ∙ ap (map as_source) (λ i. filter (λ row. has_so columns key row le i) rows))
+
+  pub of_range : (range : Range) (result : Result (List Row) Fault) → LoadsSought pages size table root columns key (Some range) result → LoadsInRange pages size table root columns key range result
+  of_range range (Err fault) loads = λ rows used whole has tree lt. loads rows used whole has tree (omega (arith, lt))
+  of_range range (Ok found) loads = λ rows used whole has tree lt.
+      (loads rows used whole has tree (omega (arith, lt)) ∙ ap (map as_source) (λ i. filter (λ row. lies_so columns key range row lt i) rows))

@@ -1,5 +1,5 @@
 -- Searches by a range of rowids (The SQLite Query Optimizer Overview, "WHERE Clause Analysis"; Query Planning, "Lookup by rowid").
-use Rattle.std.specs.Prelude.{◌≡◌, ℕ, ℤ, int_lt, Bool, true, false, not, ◌||◌, List, filter, map, Option, None, Some, Result, MatchResult}
+use Rattle.std.specs.Prelude.{◌≡◌, ℕ, ℤ, int_lt, Bool, false, not, ◌||◌, List, filter, map, Option, None, Some, Result, MatchResult}
 use Rattle.sqlval.specs.Faults.{IsOutside}
 use Rattle.sqlval.specs.declared.fault.Fault.{Fault}
 use Rattle.sqlval.specs.declared.value.Value.TheVariants.{Int}

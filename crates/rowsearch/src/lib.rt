@@ -1,10 +1,13 @@
-//! The rows of a table that an index finds by a key: the values of its first columns.
+//! The rows of a table that a search finds: by an index those of a key, or of a range, and those of a range of rowids.
 #![tactic(auto)]
 
 mod between;
 mod entries;
+mod ranges;
 mod rows;
 mod searching;
+mod seeking;
 
 pub use between::rows_between;
-pub use searching::rows_by_key;
+pub use ranges::{Bound, Range};
+pub use searching::{rows_by_key, rows_in_range};

@@ -1,4 +1,4 @@
-use Rattle.std.proofs.Common.{rules, ◌≡◌, ◌∙◌, ◌++◌, ℤ, List, Ok, Some, ap, filter, of_z, subst, to_z, w64, SFits}
+use Rattle.std.proofs.Common.{rules, ◌≡◌, ◌∙◌, ◌++◌, ℤ, Ok, ap, filter, of_z, subst, to_z, w64, SFits}
 use Rattle.std.proofs.lemmas.Int.{to_z-of_z}
 use Rattle.std.specs.Prelude.{⊤}
 use Rattle.pages.specs.Calls.{Stays}

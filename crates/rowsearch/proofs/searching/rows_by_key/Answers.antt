@@ -1,29 +1,14 @@
-use Rattle.std.proofs.Common.{rules, ◌≡◌, ℤ, List, map, sym, subst, IsTrue}
-use Rattle.pages.specs.Map.{PageMap}
-use Rattle.rowsearch.specs.Loading.{LoadsRowsOf}
-use Rattle.rowsearch.proofs.Searched.{not_searched, searched}
+use Rattle.std.proofs.Common.{rules, ◌≡◌, List, subst}
+use Rattle.sqlval.specs.declared.value.Value.{Value}
+use Rattle.rowsearch.specs.Searching.{LoadsKeyed}
+use Rattle.rowsearch.proofs.Searched.{of_key}
 use Rattle.rowsearch.proofs.searching.rows_by_key.Goals as goal
-
-pub returns-in_err-rowids-clause-loaded : goal.returns-in_err-rowids-clause-loaded
-returns-in_err-rowids-clause-loaded g c = λ told.
-    (let gs = g.P.Pages in
-    let under : c.as_slice-2.result.now ≡ map (λ column. column.collation) c.args.index.now.columns = search rules in
-    let key : c.as_slice-3.result.now ≡ c.args.key = search rules in
-    not_searched (gs.map c.args.pages.now) (gs.limits (gs.below c.args.pages.now)).page c.args.index.now.root c.args.table c.args.index.now.columns c.args.key c.as_slice-2.result.now c.as_slice-3.result.now under key
-    c.in_err-rowids.field-0.0 c.from_residual-in_err-rowids.result (c.in_err-rowids.ensures.found told) c.from_residual-in_err-rowids.ensures.1)
 
 pub returns-clause-loaded : goal.returns-clause-loaded
 returns-clause-loaded g c = λ told.
     (let gs = g.P.Pages in
-    let old = c.args.pages.now in
-    let mid = c.keyed_rowids.new.pages in
-    let stays = c.in_ok-rowids.ensures.stays in
-    let under : c.as_slice-2.result.now ≡ map (λ column. column.collation) c.args.index.now.columns = search rules in
-    let key : c.as_slice-3.result.now ≡ c.args.key = search rules in
-    let rowids : c.as_slice-4.result.now ≡ c.in_ok-rowids.rowids = search rules in
-    let loads = c.rows_of.ensures.loaded (subst (λ k. IsTrue (gs.tells k)) (sym stays.kept) told) in
-    let here = subst (λ (m : PageMap). LoadsRowsOf m (gs.limits (gs.below old)).page c.args.table c.as_slice-4.result.now c.rows_of.result) stays.same
-    (subst (λ k. LoadsRowsOf (gs.map mid) (gs.limits k).page c.args.table c.as_slice-4.result.now c.rows_of.result) stays.kept loads) in
-    searched (gs.map old) (gs.limits (gs.below old)).page c.args.index.now.root c.args.table c.args.index.now.columns c.args.key c.as_slice-2.result.now c.as_slice-3.result.now under key
-    c.in_ok-rowids.rowids c.rows_of.result (c.in_ok-rowids.ensures.found told)
-    (subst (λ (l : List ℤ). LoadsRowsOf (gs.map old) (gs.limits (gs.below old)).page c.args.table l c.rows_of.result) rowids here))
+    let pages = gs.map c.args.pages.now in
+    let size = (gs.limits (gs.below c.args.pages.now)).page in
+    let key : c.as_slice.result.now ≡ c.args.key = search rules in
+    subst (λ (k : List Value). LoadsKeyed pages size c.args.table c.args.index.now.root c.args.index.now.columns k c.sought_rows.result) key
+    (of_key pages size c.args.index.now.root c.args.table c.args.index.now.columns c.as_slice.result.now c.sought_rows.result (c.sought_rows.ensures.loaded told)))
