@@ -17,7 +17,7 @@ use Rattle.indextree.specs.Entries.{Entry, entry_cmp, is_passed}
 use Rattle.indextree.specs.Scanning.{GivesBatch, coming}
 use Rattle.indextree.specs.Tree.{IsIndexTree}
 use Rattle.rowsearch.specs.Finding.{AddsFirst, AddsRowids, EndsWithRowid, first_rowids, is_sought, sought_from}
-use Rattle.rowsearch.specs.declared.ranges.Range.{Range}
+use Rattle.plan.specs.declared.ranges.Range.{Range}
 use Rattle.rowsearch.proofs.LookedUp.{all_chosen}
 use Rattle.rowsearch.proofs.Records.{first_off, first_on}
 

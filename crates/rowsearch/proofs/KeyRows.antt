@@ -7,9 +7,9 @@ use Rattle.catalog.specs.declared.tables.IndexColumn.{IndexColumn}
 use Rattle.indexes.specs.Entries.{Row, collations, entries_of_rows}
 use Rattle.indexes.specs.Keeping.{columns_in}
 use Rattle.rowsearch.specs.Finding.{first_rowids, is_sought, sought_from}
-use Rattle.rowsearch.specs.Ranges.{has_range}
-use Rattle.rowsearch.specs.declared.ranges.Bound.{Bound}
-use Rattle.rowsearch.specs.declared.ranges.Range.{Range}
+use Rattle.plan.specs.Ranges.{has_range}
+use Rattle.plan.specs.declared.ranges.Bound.{Bound}
+use Rattle.plan.specs.declared.ranges.Range.{Range}
 use Rattle.plan.specs.Keys.{has_key}
 
 -- an index of the second column, in which letters' case is one, and of the first

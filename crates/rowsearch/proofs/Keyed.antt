@@ -20,8 +20,8 @@ use Rattle.rowprog.specs.Sources.{rows_at}
 use Rattle.indexes.specs.Keeping.{columns_in}
 use Rattle.catalog.specs.declared.tables.IndexColumn.{IndexColumn}
 use Rattle.rowsearch.specs.Finding.{EndsWithRowid, begins_with, first_rowids, goes_on_in, is_sought, entry_rowid, sought_from}
-use Rattle.rowsearch.specs.Ranges.{has_range}
-use Rattle.rowsearch.specs.declared.ranges.Range.{Range}
+use Rattle.plan.specs.Ranges.{has_range}
+use Rattle.plan.specs.declared.ranges.Range.{Range}
 use Rattle.plan.specs.Keys.{has_key}
 use Rattle.rowsearch.proofs.Ends.{ends_with}
 use Rattle.rowsearch.proofs.Gathered.{of_sorted}

@@ -18,7 +18,7 @@ use Rattle.catalog.specs.declared.tables.IndexColumn.{IndexColumn}
 use Rattle.rowsearch.specs.Finding.{FindsRowids}
 use Rattle.rowsearch.specs.Loading.{LoadsRowsOf}
 use Rattle.rowsearch.specs.Searching.{LoadsInRange, LoadsKeyed, LoadsSought}
-use Rattle.rowsearch.specs.declared.ranges.Range.{Range}
+use Rattle.plan.specs.declared.ranges.Range.{Range}
 use Rattle.rowsearch.proofs.Keyed.{all_end, has_so, lies_so, sought_found}
 
 collations_same : (columns : List IndexColumn) → map (λ column. column.collation) columns ≡ collations (columns_in columns)

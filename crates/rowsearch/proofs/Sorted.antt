@@ -9,7 +9,7 @@ use Rattle.sqlval.specs.declared.fault.Fault.{Fault}
 use Rattle.sqlval.specs.declared.value.Value.{Value}
 use Rattle.pages.specs.Map.{PageMap}
 use Rattle.rowsearch.specs.Finding.{AddsRowids, FindsRowids, first_rowids, is_sought, sought_from}
-use Rattle.rowsearch.specs.declared.ranges.Range.{Range}
+use Rattle.plan.specs.declared.ranges.Range.{Range}
 
 -- they aren't found
 pub not_found : (pages : PageMap) (size root : ℕ) (columns : List Collation) (key : List Value) (range : Option Range) (before after : List ℤ) (fault : Fault) (result : Result (List ℤ) Fault)

@@ -12,9 +12,9 @@ use Rattle.sqlval.proofs.Ordering.{total}
 use Rattle.terms.specs.Values.{is_met, is_null}
 use Rattle.indextree.specs.Entries.{is_passed}
 use Rattle.rowsearch.specs.Finding.{low_value, passes_low}
-use Rattle.rowsearch.specs.Ranges.{high_comparison, is_within, low_comparison, meets_end}
-use Rattle.rowsearch.specs.declared.ranges.Bound.{Bound}
-use Rattle.rowsearch.specs.declared.ranges.Range.{Range}
+use Rattle.plan.specs.Ranges.{high_comparison, is_within, low_comparison, meets_end}
+use Rattle.plan.specs.declared.ranges.Bound.{Bound}
+use Rattle.plan.specs.declared.ranges.Range.{Range}
 
 -- ---- values by a third
 

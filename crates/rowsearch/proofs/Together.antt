@@ -15,7 +15,7 @@ use Rattle.sqlval.specs.declared.value.Value.TheVariants.{Null}
 use Rattle.sqlval.proofs.Ordering.{total}
 use Rattle.indextree.specs.Entries.{Entry, entry_cmp, is_passed, keys_of, rising_key}
 use Rattle.rowsearch.specs.Finding.{first_rowids, goes_on_in, is_sought, low_value, passes_low, entry_rowid, sought_from}
-use Rattle.rowsearch.specs.declared.ranges.Range.{Range}
+use Rattle.plan.specs.declared.ranges.Range.{Range}
 use Rattle.rowsearch.proofs.Standing.{ascends, low_passed, standing, standing_up, within_is}
 
 -- ---- where an entry stands by a key and a range

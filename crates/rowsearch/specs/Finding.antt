@@ -14,9 +14,9 @@ use Rattle.pages.specs.Map.{PageMap, AreWhole}
 use Rattle.terms.specs.Values.{is_null, number_in}
 use Rattle.indextree.specs.Entries.{Entry, entries_from, entry_cmp}
 use Rattle.indextree.specs.Tree.{IsIndexTree}
-use Rattle.rowsearch.specs.Ranges.{is_within}
-use Rattle.rowsearch.specs.declared.ranges.Bound.{Bound}
-use Rattle.rowsearch.specs.declared.ranges.Range.{Range}
+use Rattle.plan.specs.Ranges.{is_within}
+use Rattle.plan.specs.declared.ranges.Bound.{Bound}
+use Rattle.plan.specs.declared.ranges.Range.{Range}
 
 -- ---- entries
 

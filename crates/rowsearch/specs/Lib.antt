@@ -1,5 +1,4 @@
 pub mod Between
 pub mod Finding
 pub mod Loading
-pub mod Ranges
 pub mod Searching

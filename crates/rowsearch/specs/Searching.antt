@@ -15,8 +15,8 @@ use Rattle.indexes.specs.Keeping.{columns_in}
 use Rattle.catalog.specs.declared.tables.IndexColumn.{IndexColumn}
 use Rattle.plan.specs.Keys.{has_key}
 use Rattle.rowsearch.specs.Finding.{is_sought}
-use Rattle.rowsearch.specs.Ranges.{has_range}
-use Rattle.rowsearch.specs.declared.ranges.Range.{Range}
+use Rattle.plan.specs.Ranges.{has_range}
+use Rattle.plan.specs.declared.ranges.Range.{Range}
 
 -- Of a tree of rows, and of an index's tree that has their entries, these are the rows of a key, which has at most as many values as the index
 -- has columns; or memory was short, or a disk's call failed.

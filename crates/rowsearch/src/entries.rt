@@ -15,10 +15,11 @@ ghost use Rattle.indextree.specs.Entries.{Entry};
 ghost use Rattle.rowsearch.specs.Finding as finding;
 ghost use Rattle.rowsearch.specs.Finding.{AddsFirst, AddsRowids, EndsWithRowid, FindsRowids, begins_with, entry_rowid, passing_rowid};
 
-use crate::ranges::{Range, is_within};
+use crate::ranges::is_within;
 use crate::seeking::seek;
 use indextree::{Key, compare_entry};
 use pages::Pages;
+use plan::Range;
 use record::Record;
 use sqlval::{Collation, Damage, Fault, Field, Many, R};
 use std::alloc::Global;

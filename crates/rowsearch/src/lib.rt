@@ -9,5 +9,4 @@ mod searching;
 mod seeking;
 
 pub use between::rows_between;
-pub use ranges::{Bound, Range};
 pub use searching::{rows_by_key, rows_in_range};

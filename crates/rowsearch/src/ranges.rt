@@ -3,24 +3,11 @@
 ghost use Rattle.std.specs.Prelude.{◌≡◌};
 ghost use Rattle.sqlval.specs.Fields.{value_of};
 ghost use Rattle.terms.specs.Values as values;
-ghost use Rattle.rowsearch.specs.Ranges as ranges;
+ghost use Rattle.plan.specs.Ranges as ranges;
 
-use sqlval::{Collation, Field, Value, compare_fields};
+use plan::{Bound, Range};
+use sqlval::{Collation, Field, compare_fields};
 use std::cmp::Ordering;
-
-/// An end of a range, and whether it is in the range.
-#[derive(Drop)]
-pub struct Bound {
-    pub value: Value,
-    pub within: bool,
-}
-
-/// What lies between two ends, or beyond one.
-#[derive(Drop)]
-pub struct Range {
-    pub low: Option<Bound>,
-    pub high: Option<Bound>,
-}
 
 /// Whether it is NULL.
 pub(crate) fn is_null(value: Field<'_>) -> bool

@@ -5,13 +5,13 @@ ghost use Rattle.pages.specs.Calls.{Stays};
 ghost use Rattle.rowsearch.specs.Searching.{LoadsInRange, LoadsKeyed, LoadsSought};
 
 use crate::entries::sought_rowids;
-use crate::ranges::Range;
 use crate::rows::rows_of;
 use bind::BoundSource;
 use catalog::Index;
 use indexes::collations_of;
 use indextree::Key;
 use pages::Pages;
+use plan::Range;
 use sqlval::{Many, R, Value};
 use std::alloc::Global;
 use terms::SourceRow;

@@ -6,8 +6,9 @@ ghost use Rattle.indextree.specs.Entries.{Entry};
 ghost use Rattle.indextree.specs.Scanning.{coming};
 ghost use Rattle.rowsearch.specs.Finding as finding;
 
-use crate::ranges::{Bound, Range, is_null};
+use crate::ranges::is_null;
 use indextree::Cursor;
+use plan::{Bound, Range};
 use sqlval::{Fault, R, Value};
 use std::alloc::Global;
 
