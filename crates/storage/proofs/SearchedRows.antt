@@ -1,5 +1,5 @@
 -- The rows of a query that searches its only source.
-use Rattle.std.proofs.Common.{◌≡◌, inl, refl, sym, ap, subst, ◌∙◌, ℕ, ℤ, Bool, true, false, not, ◌||◌, ◌&&◌, cond, zero, suc, ◌≤◌, ◌<◌, List, [], ◌∷◌, map, length, Option, Some, None, Ok, Err, arith}
+use Rattle.std.proofs.Common.{◌≡◌, inl, refl, sym, ap, subst, ◌∙◌, ℕ, ℤ, Bool, true, false, not, ◌||◌, ◌&&◌, cond, zero, suc, ◌≤◌, ◌<◌, List, [], ◌∷◌, map, length, Some, None, Ok, Err, arith}
 use Rattle.std.specs.List.{AllByRecursion}
 use Rattle.std.specs.Ordering.{int_eq}
 use Rattle.std.specs.Prelude.{IsErrAnd, MatchResult, Result, filter, int_lt, slice_get, slice_index_or}
@@ -94,6 +94,12 @@ one_at P [] place x at all = (let bad : None ≡ Some x = at in cc)
 one_at P (y ∷ ys) zero x at all = subst P (same_some y x at) all.0
 one_at P (y ∷ ys) (suc n) x at all = one_at P ys n x at all.1
 
+-- the item at a place
+item_at : {A : Type 0} (xs : List A) (place : ℕ) (x d : A) → slice_get xs place ≡ Some x → slice_index_or xs place d ≡ x
+item_at [] place x d at = (let bad : None ≡ Some x = at in cc)
+item_at (y ∷ ys) zero x d at = same_some y x at
+item_at (y ∷ ys) (suc n) x d at = item_at ys n x d at
+
 -- a place with an item is one of the places
 within : {A : Type 0} (xs : List A) (place : ℕ) (x : A) → slice_get xs place ≡ Some x → place < length xs
 within [] place x at = (let bad : None ≡ Some x = at in cc)
@@ -121,13 +127,13 @@ module _ (pages : PageMap) (size : ℕ) (q : Reading) (table : BoundSource) (ind
   enough_of_all (Err e) loads rows held = loads rows held.whole held.has
   enough_of_all (Ok found) loads rows held = ap (λ (them : List Row). rows_over q [] (beside_rows q.sources (them ∷ []))) (loads rows held.whole held.has)
 
-  module _ (place : ℕ) (index : Index) (at : slice_get indexes place ≡ Some index) where
+  module _ (place : ℕ) (index : Index) (at : (d : Index) → index ≡ slice_index_or indexes place d) where
     -- the index at the place is this one
     same_index : (other : Index) → slice_get indexes place ≡ Some other → other ≡ index
-    same_index other is = same_some other index (sym is ∙ at)
+    same_index other is = sym (at other ∙ item_at indexes place other other is)
 
-    entries_at : (rows : List TableRow) → HasIndexed pages size table indexes rows → HasEntriesOf pages size rows index
-    entries_at rows held = one_at (HasEntriesOf pages size rows) indexes place index at held.entries
+    entries_at : (other : Index) → slice_get indexes place ≡ Some other → (rows : List TableRow) → HasIndexed pages size table indexes rows → HasEntriesOf pages size rows index
+    entries_at other is rows held = subst (HasEntriesOf pages size rows) (same_index other is) (one_at (HasEntriesOf pages size rows) indexes place other is held.entries)
 
     pub enough_of_key : KeySearchesAsScans → (key : List Value) (result : Result (List Row) Fault) → IsSearchOf indexes q (Key place key) → LoadsKeyed pages size table index.root index.columns key result
         → FindsEnough pages size q table indexes result
@@ -140,10 +146,10 @@ module _ (pages : PageMap) (size : ℕ) (q : Reading) (table : BoundSource) (ind
         few = short 0 index.columns key seeks.condition seeks.seeks.asked
 
         by : (result : Result (List Row) Fault) → LoadsKeyed pages size table index.root index.columns key result → MatchResult result (λ found. IsSameOver q found rows) IsOutside
-        by (Err e) loads = loads rows (entries_at rows held).0 held.whole held.has (entries_at rows held).1 few
+        by (Err e) loads = loads rows (entries_at search.0 search.1 rows held).0 held.whole held.has (entries_at search.0 search.1 rows held).1 few
         by (Ok found) loads =
             same_by q seeks.name seeks.alone rows found (rows_of_key index.columns key (map as_source rows))
-            (loads rows (entries_at rows held).0 held.whole held.has (entries_at rows held).1 few ∙ keyed_are index.columns key rows)
+            (loads rows (entries_at search.0 search.1 rows held).0 held.whole held.has (entries_at search.0 search.1 rows held).1 few ∙ keyed_are index.columns key rows)
             (law q index.columns key seeks (map as_source rows))
 
     pub enough_of_range : RangeSearchesAsScans → (key : List Value) (range : Range) (result : Result (List Row) Fault) → IsSearchOf indexes q (InRange place key range)
@@ -157,10 +163,10 @@ module _ (pages : PageMap) (size : ℕ) (q : Reading) (table : BoundSource) (ind
         few = within index.columns (length key) seeks.seeks.column seeks.seeks.next
 
         by : (result : Result (List Row) Fault) → LoadsInRange pages size table index.root index.columns key range result → MatchResult result (λ found. IsSameOver q found rows) IsOutside
-        by (Err e) loads = loads rows (entries_at rows held).0 held.whole held.has (entries_at rows held).1 few
+        by (Err e) loads = loads rows (entries_at search.0 search.1 rows held).0 held.whole held.has (entries_at search.0 search.1 rows held).1 few
         by (Ok found) loads =
             same_by q seeks.name seeks.alone rows found (in_range index.columns key range (map as_source rows))
-            (loads rows (entries_at rows held).0 held.whole held.has (entries_at rows held).1 few ∙ ranged_are index.columns key range rows)
+            (loads rows (entries_at search.0 search.1 rows held).0 held.whole held.has (entries_at search.0 search.1 rows held).1 few ∙ ranged_are index.columns key range rows)
             (law q index.columns key range seeks (map as_source rows))
 
 -- ---- the answer
