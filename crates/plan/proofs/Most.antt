@@ -4,14 +4,14 @@ use mathlib.Core.Bool.{true≢false}
 use Rattle.std.proofs.lemmas.Bool.{eqb-true}
 use Rattle.std.proofs.lemmas.Bool.Decides.{nat_tests}
 use Rattle.std.specs.Option.{option_or}
-use Rattle.std.specs.Prelude.{IfSome, option_map, slice_get}
+use Rattle.std.specs.Prelude.{IfNone, IfSome, option_map, slice_get}
 use Rattle.sqlval.specs.declared.value.Value.{Value}
 use Rattle.catalog.specs.declared.tables.Index.{Index}
 use Rattle.catalog.specs.declared.tables.IndexColumn.{IndexColumn}
 use Rattle.terms.specs.Terms.{Term}
 use Rattle.terms.specs.declared.tree.Comparison.{Comparison}
 use Rattle.bind.specs.Calm.{is_calm}
-use Rattle.plan.specs.Asking.{IsNotAsked, IsSought, asks_less, asks_nothing, candidate_of, end_at, end_in, ends_in, key_in, more_asked, most_asked, range_in}
+use Rattle.plan.specs.Asking.{IsNotAsked, IsSought, asks_less, asks_nothing, candidate_of, end_at, end_in, ends_in, key_in, more_asked, most_asked, range_in, search_by}
 use Rattle.plan.specs.Keys.{AreAsked, of_column}
 use Rattle.plan.specs.Ranges.{AreEnds, IsBoundOf, SeeksRange, has_ends, high_comparison, low_comparison}
 use Rattle.plan.specs.declared.keys.Wanted.{Wanted}
@@ -117,7 +117,7 @@ module _ (t : Term) (indexes : List Index) (it : Candidate) (calm : is_calm t �
   key_asked index same = subst (λ (c : Candidate). AreAsked 0 index.columns c.key t) (sym same) (parts_ask 0 t index.columns)
 
   -- where there is a key, it is sought of its index
-  pub sought_key : (it.key ≡ [] → ⊥) → IsSought indexes t (Key it.place it.key)
+  sought_key : (it.key ≡ [] → ⊥) → IsSought indexes t (Key it.place it.key)
   sought_key some =
       (let of = of_place (λ e. some (ap (λ (c : Candidate). c.key) e)) in (
         of.0,
@@ -140,7 +140,7 @@ module _ (t : Term) (indexes : List Index) (it : Candidate) (calm : is_calm t �
         }
 
   -- where there is a range, it is
-  pub sought_range : has_ends it.range ≡ true → IsSought indexes t (InRange it.place it.key it.range)
+  sought_range : has_ends it.range ≡ true → IsSought indexes t (InRange it.place it.key it.range)
   sought_range some =
       (let of = of_place (λ e. true≢false (sym some ∙ ap (λ (c : Candidate). has_ends c.range) e)) in (
         of.0,
@@ -151,5 +151,32 @@ module _ (t : Term) (indexes : List Index) (it : Candidate) (calm : is_calm t �
       ))
 
   -- where there is neither, no index's first column is asked for
-  pub no_key : length it.key ≡ 0 → IsNotAsked t indexes
+  no_key : length it.key ≡ 0 → IsNotAsked t indexes
   no_key none = (none_asked t 0 asks_nothing indexes (ap (λ (c : Candidate). c.key) (sym is) ∙ empty it.key none)).1
+
+  -- ---- the search by it
+
+  some_in : length it.key == 0 ≡ false → it.key ≡ [] → ⊥
+  some_in e none = true≢false (sym (ap (λ (key : List Value). length key == 0) none) ∙ e)
+
+  -- where there is one, it is sought
+  pub found_by : IfSome (search_by it) (IsSought indexes t)
+  found_by = by (has_ends it.range) refl where
+    keyed : (none : Bool) → length it.key == 0 ≡ none → IfSome (cond none None (Some (Key it.place it.key))) (IsSought indexes t)
+    keyed true e = tt
+    keyed false e = sought_key (some_in e)
+
+    by : (ranged : Bool) → has_ends it.range ≡ ranged → IfSome (cond ranged (Some (InRange it.place it.key it.range)) (cond (length it.key == 0) None (Some (Key it.place it.key)))) (IsSought indexes t)
+    by true e = sought_range e
+    by false e = keyed (length it.key == 0) refl
+
+  -- where there is none, no index's first column is asked for
+  pub none_by : IfNone (search_by it) (IsNotAsked t indexes)
+  none_by = by (has_ends it.range) where
+    keyed : (none : Bool) → length it.key == 0 ≡ none → IfNone (cond none None (Some (Key it.place it.key))) (IsNotAsked t indexes)
+    keyed true e = no_key (eqb-true (length it.key) 0 e)
+    keyed false e = tt
+
+    by : (ranged : Bool) → IfNone (cond ranged (Some (InRange it.place it.key it.range)) (cond (length it.key == 0) None (Some (Key it.place it.key)))) (IsNotAsked t indexes)
+    by true = tt
+    by false = keyed (length it.key == 0) refl

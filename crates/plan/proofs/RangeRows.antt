@@ -1,6 +1,8 @@
 -- Worked examples of searches by a range: t(a TEXT, b) with indexes on a and on (b, a), and its rowids.
 use Rattle.std.specs.Prelude.{◌≡◌, refl, ℕ, pos, negsuc, ◌^◌, ◌-◌, true, false, codes, [], ◌∷◌, None, Some}
-use Rattle.std.proofs.Common.{inl, inr}
+use Rattle.std.proofs.Common.{List, ap, inl, inr}
+use Rattle.std.specs.Fmt.{digits}
+use mathlib.Core.Bool.{true≢false}
 use Rattle.sqlval.specs.declared.affinity.Affinity.TheVariants as kind
 use Rattle.sqlval.specs.declared.collation.Collation.TheVariants.{Binary, NoCase}
 use Rattle.sqlval.specs.declared.value.Value.{Value}
@@ -11,10 +13,11 @@ use Rattle.terms.specs.declared.tree.Comparison.{Comparison}
 use Rattle.terms.specs.declared.tree.Comparison.TheVariants.{Equal, Less, LessOrEqual, Greater, GreaterOrEqual}
 use Rattle.terms.specs.declared.tree.Place.TheVariants.{RowId}
 use Rattle.terms.specs.declared.tree.TwoSided.TheVariants.{Compare, And, Or}
-use Rattle.plan.specs.Asking.{asks_nothing, end_at, ends_in, most_asked, no_range, rowids_in}
+use Rattle.plan.specs.Asking.{IsChosen, asks_nothing, end_at, ends_in, most_asked, no_range, rowids_in}
 use Rattle.plan.specs.Keys.{of_column}
 use Rattle.plan.specs.Ranges.{AreEnds, AsksFrom, has_range, in_range, is_within, rows_of_rowids}
 use Rattle.plan.specs.declared.ranges.Range.{Range}
+use Rattle.plan.specs.declared.searching.Search.TheVariants.{Key, Rowids, Range as InRange}
 use Rattle.plan.proofs.KeyRows.{a, b, both, first, on_a, on_both, second, x}
 
 abbrev five : Value
@@ -152,3 +155,41 @@ asks_from_six = inr (refl, refl, refl, refl, refl)
 
 pub rows_from_two : rows_of_rowids (pos 2) (pos 3) (row 1 five ∷ row 2 nine ∷ row 4 Null ∷ []) ≡ row 2 nine ∷ []
 rows_from_two = refl
+
+-- ---- which search
+
+some_key : (k : Value) (key : List Value) → (k ∷ key) ≡ [] → ⊥
+some_key k key e = true≢false (ap (λ (ks : List Value). elim ks [ [] ↦ false | _ ∷ _ ↦ true ]) e)
+
+-- rowid > 0 AND a = 5
+abbrev rowids_and_a : Term
+rowids_and_a = Two And (rowid_is Greater 0) (Two (Compare Equal) a (Digits 5))
+
+-- the key of an index before a range of rowids
+pub key_before_rowids : IsChosen (on_a ∷ []) rowids_and_a (Key 0 (Text (codes "5") ∷ []))
+unfolding digits
+key_before_rowids = (refl, (λ e. absurd (some_key (Text (codes "5")) [] e)), refl)
+
+pub not_by_rowids : IsChosen (on_a ∷ []) rowids_and_a (Rowids (pos 1) (pos (2 ^ 63 - 1))) → ⊥
+unfolding digits
+not_by_rowids chosen = some_key (Text (codes "5")) [] chosen.1
+
+-- beside an index on (b, a) that asks nothing
+pub by_rowids : IsChosen (on_both ∷ []) rowids_and_a (Rowids (pos 1) (pos (2 ^ 63 - 1)))
+by_rowids = (refl, refl, refl)
+
+-- rowid > 0 AND b > 5: a range of rowids before one of an index's first column
+pub rowids_before_range : IsChosen (on_both ∷ []) (Two And (rowid_is Greater 0) (b_is Greater 5)) (Rowids (pos 1) (pos (2 ^ 63 - 1)))
+rowids_before_range = (refl, refl, refl)
+
+-- rowid > 0 AND b = 5 AND a > 'x': a range after a key before it
+pub key_and_range_first : IsChosen (on_both ∷ []) (Two And (rowid_is Greater 0) (Two And (b_is Equal 5) (Two (Compare Greater) a (Const x)))) (InRange 0 (five ∷ []) (record { low = Some (end_at false x); high = None }))
+key_and_range_first = (refl, (λ e. absurd (some_key five [] e)), refl)
+
+-- b >= 5 AND b < 9
+pub range_last : IsChosen (on_both ∷ []) between_both (InRange 0 [] from_five_to_nine)
+range_last = (refl, (λ e. refl), refl)
+
+-- rowid = 5 AND a = 5: nothing before the rowid
+pub not_beside_rowid : IsChosen (on_a ∷ []) (Two And (rowid_is Equal 5) (Two (Compare Equal) a (Digits 5))) (Key 0 (Text (codes "5") ∷ [])) → ⊥
+not_beside_rowid chosen = true≢false chosen.0

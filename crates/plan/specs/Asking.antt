@@ -151,6 +151,11 @@ most_asked condition place found (index ∷ indexes) =
 abbrev pub asks_nothing : Candidate
 asks_nothing = record { place = 0; key = []; range = no_range }
 
+-- what an index is searched by of which this is asked: the key and the range after it, or else the key alone
+abbrev pub search_by : Candidate → Option Search
+search_by it =
+    if has_ends it.range then Some (InRange it.place it.key it.range) else if length it.key == 0 then None else Some (Key it.place it.key)
+
 -- ---- what is sought
 
 -- the condition seeks this rowid or these rowids of the first source, or this key or range of the index at this place
@@ -166,15 +171,20 @@ abbrev pub IsNotAsked : Term → List Index → Type 0
 IsNotAsked condition [] = ⊤
 IsNotAsked condition (index ∷ indexes) = (key_for 0 condition index.columns ≡ []) × IsNotAsked condition indexes
 
--- it asks neither for a rowid nor for a range of them, and of the indexes this is what it asks the most of
+-- It asks for no rowid, and of the indexes this is what it asks the most of; where that has no key, it asks for no range of rowids.
 abbrev pub IsMost : List Index → Term → Candidate → Type 0
 IsMost indexes condition it =
-    (list_any (finds 0 no_index) (parts condition) ≡ false) × (rowids_in 0 condition ≡ None) × (it ≡ most_asked condition 0 asks_nothing indexes)
+    (list_any (finds 0 no_index) (parts condition) ≡ false)
+    × (it.key ≡ [] → rowids_in 0 condition ≡ None)
+    × (it ≡ most_asked condition 0 asks_nothing indexes)
 
--- It is a rowid; or where none is asked for, a range of them; or where there is none either, the longest key, and of those of one length the
--- first with a range after it, or else the first.
+-- It is a rowid; or where none is asked for, the longest key of an index, and of those of one length the first with a range after it, or else
+-- the first; or where no key has a value, a range of rowids; or where there is none either, the first range of an index's first column.
 abbrev pub IsChosen : List Index → Term → Search → Type 0
 IsChosen indexes condition (Rowid rowid) = ⊤
-IsChosen indexes condition (Rowids low high) = (list_any (finds 0 no_index) (parts condition) ≡ false) × (rowids_in 0 condition ≡ Some (low, high))
+IsChosen indexes condition (Rowids low high) =
+    (list_any (finds 0 no_index) (parts condition) ≡ false)
+    × ((most_asked condition 0 asks_nothing indexes).key ≡ [])
+    × (rowids_in 0 condition ≡ Some (low, high))
 IsChosen indexes condition (Key place key) = IsMost indexes condition (record { place = place; key = key; range = no_range })
 IsChosen indexes condition (InRange place key range) = IsMost indexes condition (record { place = place; key = key; range = range })

@@ -93,29 +93,22 @@ fn most_asked(alloc: Global, condition: &Term, indexes: &[Index]) -> R<Candidate
     Ok(found)
 }
 
-/// What a condition seeks of the index that it asks the most of: a range, or else a key. None where it asks for no index's first column.
-/// (`Memory`.)
-fn index_search(alloc: Global, condition: &Term, indexes: &[Index]) -> R<Option<Search>>
-    requires calm { calm.is_calm condition.now ≡ true }
-    requires none { list_any (calm.finds 0 no_index) (calm.parts condition.now) ≡ false }
-    requires no_rowids { asking.rowids_in 0 condition.now ≡ None }
-    ensures found { IfOk result (λ found. IfSome found (λ it. IsSought indexes.now condition.now it)) }
-    ensures chosen { IfOk result (λ found. IfSome found (λ it. IsChosen indexes.now condition.now it)) }
-    ensures only { IfOk result (λ found. IfNone found (asking.IsNotAsked condition.now indexes.now)) }
-    ensures refused { IfErr result (λ fault. fault ≡ Fault.Memory) }
+/// What an index is searched by of which this is asked: the key and the range after it, or else the key alone. None where there is neither.
+fn search_by(asked: Candidate) -> Option<Search>
+    ensures { result ≡ asking.search_by asked }
 {
-    let Candidate { place, key, range } = most_asked(alloc, condition, indexes)?;
+    let Candidate { place, key, range } = asked;
     if has_ends(&range) {
-        return Ok(Some(Search::Range(place, key, range)));
+        return Some(Search::Range(place, key, range));
     }
     if key.len() == 0 {
-        return Ok(None);
+        return None;
     }
-    Ok(Some(Search::Key(place, key)))
+    Some(Search::Key(place, key))
 }
 
-/// What a condition seeks that asks for no rowid: a range of rowids, or else a range or a key of an index. None where it seeks none.
-/// (`Memory`.)
+/// What a condition seeks that asks for no rowid: a key of an index, with a range or without, or else a range of rowids, or else a range of
+/// an index's first column. None where it seeks none. (`Memory`.)
 fn many_sought(alloc: Global, condition: &Term, indexes: &[Index]) -> R<Option<Search>>
     requires calm { calm.is_calm condition.now ≡ true }
     requires none { list_any (calm.finds 0 no_index) (calm.parts condition.now) ≡ false }
@@ -124,14 +117,18 @@ fn many_sought(alloc: Global, condition: &Term, indexes: &[Index]) -> R<Option<S
     ensures only { IfOk result (λ found. IfNone found (asking.IsNotAsked condition.now indexes.now)) }
     ensures refused { IfErr result (λ fault. fault ≡ Fault.Memory) }
 {
+    let most = most_asked(alloc, condition, indexes)?;
+    if most.key.len() > 0 {
+        return Ok(search_by(most));
+    }
     match rowids_in(alloc, condition, 0)? {
         Some(found) => Ok(Some(Search::Rowids(found.0, found.1))),
-        None => index_search(alloc, condition, indexes),
+        None => Ok(search_by(most)),
     }
 }
 
-/// What a condition seeks of the first source: a rowid, or else a range of them, or else a range or a key of an index. None where it seeks
-/// none, or may be refused. (`Memory`.)
+/// What a condition seeks of the first source: a rowid, or else a key of an index, with a range or without, or else a range of rowids, or
+/// else a range of an index's first column. None where it seeks none, or may be refused. (`Memory`.)
 fn sought(alloc: Global, condition: &Term, indexes: &[Index]) -> R<Option<Search>>
     ensures found { IfOk result (λ found. IfSome found (λ it. IsSought indexes.now condition.now it)) }
     ensures chosen { IfOk result (λ found. IfSome found (λ it. IsChosen indexes.now condition.now it)) }
@@ -147,8 +144,8 @@ fn sought(alloc: Global, condition: &Term, indexes: &[Index]) -> R<Option<Search
     }
 }
 
-/// What a query of one source seeks by its WHERE: a rowid, or else a range of them, or else a range or a key of one of its table's indexes.
-/// None where it seeks none, or may be refused. (`Memory`.)
+/// What a query of one source seeks by its WHERE: a rowid, or else a key of one of its table's indexes, with a range or without, or else a
+/// range of rowids, or else a range of an index's first column. None where it seeks none, or may be refused. (`Memory`.)
 pub fn search_of(alloc: Global, reading: &Reading, indexes: &[Index]) -> R<Option<Search>>
     ensures found { IfOk result (λ found. IfSome found (λ it. IsSearchOf indexes.now reading.now it)) }
     ensures chosen { IfOk result (λ found. IfSome found (λ it. IfSome reading.now.filter (λ condition. IsChosen indexes.now condition it))) }
