@@ -1,6 +1,7 @@
 -- The entries that come in a tree from a key on.
-use Rattle.std.proofs.Common.{◌≡◌, refl, sym, ◌∙◌, ap, subst, ℕ, zero, suc, ◌<◌, ◌≤◌, ◌+◌, ◌-◌, Bool, true, false, not, ◌&&◌, cond, IsTrue, List, [], ◌∷◌, ◌++◌, append_assoc, length, map, filter, drop, slice_index_or, if◌then◌else◌, Option, Some, None, Result, Ok, Err, arith}
-use Rattle.std.proofs.lemmas.List.{append-nil, drop_all}
+use Rattle.std.proofs.Common.{◌≡◌, refl, sym, ◌∙◌, ap, subst, inl, inr, ◌⊎◌, ℕ, zero, suc, ◌<◌, ◌≤◌, ◌+◌, ◌-◌, Bool, true, false, not, ◌&&◌, cond, IsTrue, List, [], ◌∷◌, ◌++◌, append_assoc, length, map, filter, take, drop, slice_index_or, min, nat_le, if◌then◌else◌, Option, Some, None, Result, Ok, Err, arith}
+use Rattle.std.proofs.lemmas.Bool.Decides.{leb_tells}
+use Rattle.std.proofs.lemmas.List.{append-nil, drop_all, length-drop, take_min}
 use Rattle.std.proofs.lemmas.List.Elements.{filter-append}
 use Rattle.std.specs.declared.cmp.Ordering.{Ordering}
 use Rattle.std.specs.declared.cmp.Ordering.TheVariants.{Less, Equal, Greater}
@@ -24,7 +25,7 @@ use Rattle.packing.proofs.Splices.{pairwise_append}
 use Rattle.forest.specs.Sides.{children, each_of}
 use Rattle.indextree.specs.Comparing.{HasEntries, ComeFirst, FindsChild, FindsPlace, CountsEntries, front_count, is_before, child_of, child_at}
 use Rattle.indextree.specs.Entries.{Entry, AreEntries, entries_from, entry_cmp, is_passed}
-use Rattle.indextree.specs.Scanning.{coming, IsBatch, GivesBelow, PushesEntry, CopiesEntries}
+use Rattle.indextree.specs.Scanning.{coming, AreAll, IsBatch, GivesBelow, PushesEntry, CopiesEntries}
 use Rattle.indextree.specs.Tree.{Held, IsHeldAs, Tree, top, entries_of, Lies, IsIndexTree}
 use Rattle.indextree.proofs.Comparisons.{value_at}
 use Rattle.indextree.proofs.Cutting.{values}
@@ -52,26 +53,57 @@ nothing = record { entry = []; payload = []; pages = [] }
 abbrev pub records : List Held → List (List ℕ)
 records held = map (λ h. h.payload) held
 
+-- up to so many of these, and whether they are all
+take_least : (place most : ℕ) (entries : List Held) → take (min most (length entries - place)) (drop place entries) ≡ take most (drop place entries)
+take_least place most entries = ap (λ (n : ℕ). take (min most n) (drop place entries)) (sym (length-drop place entries)) ∙ take_min most (drop place entries)
+
+pub inside : (place most len upto at : ℕ) → upto ≡ min most (len - place) → at < place + upto → place ≤ at → at < len
+inside place most len upto at is lt le = omega (arith, is, lt, le)
+
+are_all : (len count place most : ℕ) (all : Bool) → len ≡ count → all ≡ nat_le (len - place) most → AreAll count place most all
+are_all len count place most all same is =
+    let tells : ((nat_le (len - place) most ≡ true) × (len - place ≤ most)) ⊎ ((nat_le (len - place) most ≡ false) × (most < len - place)) = leb_tells (len - place) most in
+    elim tells [
+      | inl t ↦ (λ e. omega (arith, t.1, same), λ e. absurd (true_is_false (sym t.0 ∙ sym is ∙ e)))
+      | inr t ↦ (λ e. absurd (true_is_false (sym e ∙ is ∙ t.0)), λ e. omega (arith, t.1, same))
+    ]
+  where
+    true_is_false : true ≡ false → ⊥
+    true_is_false e = cc
+
+-- what a refused call left stays where its refusal is passed on
+pub stays_passed : {P K S T : Type 0} (below : P → K) (map' : P → PageMap) (count : P → ℕ) (failures : P → ℕ × ℕ) (fault : Fault) (result : Result T Fault) (a b : P)
+    → Stays below map' count failures {T = S} (Err fault) a b → IsErrAnd result (λ e. e ≡ fault) → Stays below map' count failures result a b
+stays_passed below map' count failures fault (Ok done) a b stays is = absurd is
+stays_passed below map' count failures fault (Err e) a b stays is = record {
+  kept = stays.kept;
+  same = stays.same;
+  counted = stays.counted;
+  causes = record { db = stays.causes.db; log = stays.causes.log; why = record { io = λ io. stays.causes.why.io (sym is ∙ io); full = λ full. stays.causes.why.full (sym is ∙ full) } };
+}
+
 -- ---- the entries of a page, one after the other
 
 module _ {P K : Type 0} (below : P → K) (tells : K → Bool) (limits : K → Limits) (map' : P → PageMap) (count : P → ℕ) (failures : P → ℕ × ℕ) where
-  -- The records of entries from a place up to another were put after those before.
-  pub record HasCopied (old now : P) (number place at : ℕ) (before batch : List (List ℕ)) : Type 0 where
+  -- The records of entries from a place up to another were put after those before; of so many in all.
+  pub record HasCopied (old now : P) (number place upto at : ℕ) (before batch : List (List ℕ)) : Type 0 where
+    pub from : place ≤ at
     pub stays : Stays below map' count failures {T = ⊤} (Ok tt) old now
     pub copied : IsTrue (tells (below old)) → (node : Node) (entries : List Held) → AreWhole (limits (below old)).page (map' old) → HasEntries (map' old) (limits (below old)).page number node entries
-        → before ++ records (drop place entries) ≡ batch ++ records (drop at entries)
+        → before ++ records (take upto (drop place entries)) ≡ batch ++ records (take (place + upto - at) (drop at entries))
 
-  pub starts : (old now : P) (number place len : ℕ) (before : List (List ℕ)) → Stays below map' count failures {T = ℕ} (Ok len) old now → HasCopied old now number place place before before
-  starts old now number place len before stays = record {
+  pub starts : (old now : P) (number place upto len : ℕ) (before : List (List ℕ)) → Stays below map' count failures {T = ℕ} (Ok len) old now → HasCopied old now number place upto place before before
+  starts old now number place upto len before stays = record {
+    from = omega arith;
     stays = stays_done {S = ℕ} below map' count failures (Ok len) old now stays;
-    copied = λ told node entries whole has. refl;
+    copied = λ told node entries whole has. (let same : upto ≡ place + upto - place = omega arith in ap (λ (n : ℕ). before ++ records (take n (drop place entries))) same);
   }
 
   pushes : (old mid : P) (number at : ℕ) (before batch : List (List ℕ)) (result : Result ⊤ Fault) → below mid ≡ below old → map' mid ≡ map' old
       → (IsTrue (tells (below mid)) → PushesEntry (map' mid) (limits (below mid)).page number at before batch result) → IsTrue (tells (below old)) → PushesEntry (map' old) (limits (below old)).page number at before batch result
   pushes old mid number at before batch result kept same says told = since below tells limits map' (λ (m : PageMap) (n : ℕ). PushesEntry m n number at before batch result) old mid kept same says told
 
-  module _ (old now new : P) (number place at len : ℕ) (before batch : List (List ℕ)) (has : HasCopied old now number place at before batch) (lt : at < len)
+  module _ (old now new : P) (number place upto at len : ℕ) (before batch : List (List ℕ)) (has : HasCopied old now number place upto at before batch) (more_come : at < place + upto) (lt : at < len)
       (counts : IsTrue (tells (below old)) → CountsEntries (map' old) (limits (below old)).page number (Ok len)) where
     pub unpushed : (more : List (List ℕ)) (fault : Fault) → (IsTrue (tells (below now)) → PushesEntry (map' now) (limits (below now)).page number at batch more (Err fault)) → IsTrue (tells (below old))
         → (node : Node) (entries : List Held) → AreWhole (limits (below old)).page (map' old) → HasEntries (map' old) (limits (below old)).page number node entries → IsOutside fault
@@ -79,24 +111,33 @@ module _ {P K : Type 0} (below : P → K) (tells : K → Bool) (limits : K → L
         pushes old now number at batch more (Err fault) has.stays.kept has.stays.same says told node entries nothing whole has_it (let all = counts told node entries whole has_it in omega (arith, lt, all))
 
     pub goes_on : (more : List (List ℕ)) → (IsTrue (tells (below now)) → PushesEntry (map' now) (limits (below now)).page number at batch more (Ok tt)) → Stays below map' count failures {T = ⊤} (Ok tt) now new
-        → HasCopied old new number place (at + 1) before more
+        → HasCopied old new number place upto (at + 1) before more
     goes_on more says stays = record {
+      from = (let le = has.from in omega (arith, le));
       stays = stays_after below map' count failures (Ok tt) (Ok tt) old now new has.stays stays;
       copied = λ told node entries whole has_it.
           (let all = counts told node entries whole has_it in
           let here : at < length entries = omega (arith, lt, all) in
           let pushed = pushes old now number at batch more (Ok tt) has.stays.kept has.stays.same says told node entries nothing whole has_it here in
           let next : at + 1 ≡ suc at = omega arith in
-          has.copied told node entries whole has_it ∙ ap (λ (hs : List Held). batch ++ records hs) (value_at entries at nothing here)
-          ∙ sym (append_assoc batch ((slice_index_or entries at nothing).payload ∷ []) (records (drop (suc at) entries)))
-          ∙ ap (λ (b : List (List ℕ)). b ++ records (drop (suc at) entries)) (sym pushed) ∙ ap (λ (n : ℕ). more ++ records (drop n entries)) (sym next));
+          let left = place + upto - (at + 1) in
+          let one : place + upto - at ≡ suc left = omega (arith, more_come) in
+          let rest : List (List ℕ) = records (take left (drop (suc at) entries)) in
+          has.copied told node entries whole has_it ∙ ap (λ (n : ℕ). batch ++ records (take n (drop at entries))) one
+          ∙ ap (λ (hs : List Held). batch ++ records (take (suc left) hs)) (value_at entries at nothing here)
+          ∙ sym (append_assoc batch ((slice_index_or entries at nothing).payload ∷ []) rest)
+          ∙ ap (λ (b : List (List ℕ)). b ++ rest) (sym pushed) ∙ ap (λ (n : ℕ). more ++ records (take left (drop n entries))) (sym next));
     }
 
-  pub all_copied : (old now : P) (number place at len : ℕ) (before batch : List (List ℕ)) → HasCopied old now number place at before batch → len ≤ at
-      → (IsTrue (tells (below old)) → CountsEntries (map' old) (limits (below old)).page number (Ok len)) → IsTrue (tells (below old)) → CopiesEntries (map' old) (limits (below old)).page number place before batch (Ok tt)
-  all_copied old now number place at len before batch has le counts told node entries whole has_it =
-      let all = counts told node entries whole has_it in
-      sym (append-nil batch) ∙ ap (λ (hs : List Held). batch ++ records hs) (sym (drop_all at entries (omega (arith, all, le)))) ∙ sym (has.copied told node entries whole has_it)
+  pub all_copied : (old now : P) (number place upto most at len : ℕ) (before batch : List (List ℕ)) (all : Bool) → HasCopied old now number place upto at before batch → place + upto ≤ at
+      → upto ≡ min most (len - place) → all ≡ nat_le (len - place) most
+      → (IsTrue (tells (below old)) → CountsEntries (map' old) (limits (below old)).page number (Ok len)) → IsTrue (tells (below old)) → CopiesEntries (map' old) (limits (below old)).page number place most before batch (Ok all)
+  all_copied old now number place upto most at len before batch all has le count_is all_is counts told node entries whole has_it =
+      let long = counts told node entries whole has_it in
+      let none : place + upto - at ≡ 0 = omega (arith, le) in
+      let taken = sym (append-nil batch) ∙ ap (λ (n : ℕ). batch ++ records (take n (drop at entries))) (sym none) ∙ sym (has.copied told node entries whole has_it) in
+      let to : min most (length entries - place) ≡ upto = ap (λ (n : ℕ). min most (n - place)) (sym long) ∙ sym count_is in
+      (taken ∙ ap (λ (n : ℕ). before ++ records (take n (drop place entries))) (sym to) ∙ ap (λ (hs : List Held). before ++ records hs) (take_least place most entries), are_all len (length entries) place most all long all_is)
 
 -- ---- what comes
 
@@ -188,6 +229,30 @@ record_at m size place (it ∷ said) [] all lt = absurd all
 record_at m size zero (it ∷ said) (h ∷ held) all lt = all.0.record_is
 record_at m size (suc place) (it ∷ said) (h ∷ held) all lt = record_at m size place said held all.1 (omega (arith, lt))
 
+-- the first ones of these, and the others
+records_upto : (most : ℕ) (held : List Held) → Pairwise IsRecord (records held) (values held) → Pairwise IsRecord (records (take most held)) (values (take most held))
+records_upto zero held all = tt
+records_upto (suc most) [] all = tt
+records_upto (suc most) (h ∷ held) all = (all.0, records_upto most held all.1)
+
+values_split : (most : ℕ) (held : List Held) → values held ≡ values (take most held) ++ values (drop most held)
+values_split zero held = refl
+values_split (suc most) [] = refl
+values_split (suc most) (h ∷ held) = ap (λ (es : List Entry). h.entry ∷ es) (values_split most held)
+
+none_left : (place most : ℕ) (held : List Held) → length held ≤ place + most → drop most (drop place held) ≡ []
+none_left zero most held le = drop_all most held (omega (arith, le))
+none_left (suc place) most [] le = drop_all most [] (omega arith)
+none_left (suc place) most (h ∷ held) le = none_left place most held (omega (arith, le))
+
+some_taken : (place most : ℕ) (held : List Held) → 0 < most → place + most < length held → values (take most (drop place held)) ≡ [] → ⊥
+some_taken place zero held one lt none = absurd (omega (arith, one))
+some_taken place (suc most) [] one lt none = absurd (omega (arith, lt))
+some_taken zero (suc most) (h ∷ held) one lt none = no_cons none where
+  no_cons : {x : Entry} {xs : List Entry} → x ∷ xs ≡ [] → ⊥
+  no_cons e = cc
+some_taken (suc place) (suc most) (h ∷ held) one lt none = some_taken place (suc most) held one (omega (arith, lt)) none
+
 -- ---- a tree under a page
 
 passed_first : (after : Bool) (columns : List Collation) (key : List Value) (entries : List Entry) → AreEntries columns entries → ComeFirst (λ e. is_passed after (entry_cmp columns key e)) entries
@@ -240,27 +305,26 @@ module _ (m : PageMap) (size number ways : ℕ) (after : Bool) (columns : List C
         → MatchResult result (λ done. batch ≡ before ++ (slice_index_or (entries_at depth t) place nothing).payload ∷ []) IsOutside
     pushed place before batch result lt asks = (let its = told m size number depth t is.at is.lies in asks its.node (entries_at depth t) nothing is.whole its.has lt)
 
-    pub copies : (place : ℕ) (before batch : List (List ℕ)) (result : Result ⊤ Fault) → CopiesEntries m size number place before batch result
-        → MatchResult result (λ done. batch ≡ before ++ records (drop place (entries_at depth t))) IsOutside
-    copies place before batch result asks = (let its = told m size number depth t is.at is.lies in asks its.node (entries_at depth t) is.whole its.has)
+    pub copies : (place most : ℕ) (before batch : List (List ℕ)) (result : Result Bool Fault) → CopiesEntries m size number place most before batch result
+        → MatchResult result (λ all. (batch ≡ before ++ records (take most (drop place (entries_at depth t)))) × AreAll (length (entries_at depth t)) place most all) IsOutside
+    copies place most before batch result asks = (let its = told m size number depth t is.at is.lies in asks its.node (entries_at depth t) is.whole its.has)
 
-  -- a leaf gives all that come of it
-  pub leaf_batch : (depth : ℕ) (t : Tree depth) (is : IsTreeAt depth t) (place : ℕ) (before batch : List (List ℕ)) → place ≡ front_count (is_before after columns key) (entries_at depth t)
-      → ((child : ℕ) → child_of place (told m size number depth t is.at is.lies).node ≡ Some child → ⊥) → before ≡ [] → batch ≡ before ++ records (drop place (entries_at depth t))
-      → IsBatch after columns key (entries_of depth t) batch true
-  leaf_batch zero t is place before batch place_is no_child empty copied = record {
-    given = values (drop place t.entries);
-    rest = [];
-    records = subst (λ (b : List (List ℕ)). Pairwise IsRecord b (values (drop place t.entries))) (sym (copied ∙ ap (λ (b : List (List ℕ)). b ++ records (drop place t.entries)) empty))
-        (records_from m size place is.lies.said t.entries is.lies.entries);
-    split = leaf_comes Test t.entries (passed_first after columns key (entries_of zero t) is.sorted) ∙ ap (λ (n : ℕ). values (drop n t.entries)) (sym place_is) ∙ sym (append-nil (values (drop place t.entries)));
-    all = λ e. refl;
-    some = λ e. absurd (true_false e);
-  }
-    where
-      true_false : true ≡ false → ⊥
-      true_false e = cc
-  leaf_batch (suc depth) t is place before batch place_is no_child empty copied = absurd (no_child _ refl)
+  -- a leaf gives the first that come of it, and says whether these are all
+  pub leaf_batch : (depth : ℕ) (t : Tree depth) (is : IsTreeAt depth t) (place most : ℕ) (before batch : List (List ℕ)) (all : Bool) → place ≡ front_count (is_before after columns key) (entries_at depth t)
+      → ((child : ℕ) → child_of place (told m size number depth t is.at is.lies).node ≡ Some child → ⊥) → before ≡ [] → 0 < most
+      → (batch ≡ before ++ records (take most (drop place (entries_at depth t)))) × AreAll (length (entries_at depth t)) place most all → IsBatch after columns key (entries_of depth t) batch all
+  leaf_batch zero t is place most before batch all place_is no_child empty one copied =
+      let come = drop place t.entries in
+      record {
+        given = values (take most come);
+        rest = values (drop most come);
+        records = subst (λ (b : List (List ℕ)). Pairwise IsRecord b (values (take most come))) (sym (copied.0 ∙ ap (λ (b : List (List ℕ)). b ++ records (take most come)) empty))
+            (records_upto most come (records_from m size place is.lies.said t.entries is.lies.entries));
+        split = leaf_comes Test t.entries (passed_first after columns key (entries_of zero t) is.sorted) ∙ ap (λ (n : ℕ). values (drop n t.entries)) (sym place_is) ∙ values_split most come;
+        all = λ e. ap values (none_left place most t.entries (copied.1.0 e));
+        some = λ e. some_taken place most t.entries one (copied.1.1 e);
+      }
+  leaf_batch (suc depth) t is place most before batch all place_is no_child empty one copied = absurd (no_child _ refl)
 
   pub not_leaf : (depth : ℕ) (t : Tree depth) (is : IsTreeAt depth t) (place child : ℕ) → Some child ≡ child_of place (told m size number depth t is.at is.lies).node → ways ≡ 0 → ⊥
   not_leaf zero t is place child some none = none_some child (sym some)

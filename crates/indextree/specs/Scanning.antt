@@ -1,5 +1,5 @@
 -- Reading an index's entries in order.
-use Rattle.std.specs.Prelude.{◌≡◌, ◌≤◌, ◌<◌, ℕ, Bool, true, false, List, [], ◌∷◌, ◌++◌, length, map, drop, slice_index_or, if◌then◌else◌, ⊤, Result, MatchResult}
+use Rattle.std.specs.Prelude.{◌≡◌, ◌≤◌, ◌<◌, ℕ, Bool, true, false, List, [], ◌∷◌, ◌++◌, ◌+◌, length, map, take, drop, slice_index_or, if◌then◌else◌, ⊤, Result, MatchResult}
 use Rattle.sqlval.specs.Faults.{IsOutside}
 use Rattle.sqlval.specs.declared.collation.Collation.{Collation}
 use Rattle.sqlval.specs.declared.fault.Fault.{Fault}
@@ -37,10 +37,16 @@ PushesEntry pages size number place before after result = (node : Node) (entries
     → HasEntries pages size number node entries → place < length entries
     → MatchResult result (λ done. after ≡ before ++ (slice_index_or entries place d).payload ∷ []) IsOutside
 
--- the records of the entries of a page from a place on are put after these; or memory was short, or a disk's call failed
-abbrev pub CopiesEntries : PageMap → ℕ → ℕ → ℕ → List (List ℕ) → List (List ℕ) → Result ⊤ Fault → Type 0
-CopiesEntries pages size number place before after result = (node : Node) (entries : List Held) → AreWhole size pages
-    → HasEntries pages size number node entries → MatchResult result (λ done. after ≡ before ++ map (λ held. held.payload) (drop place entries)) IsOutside
+-- up to so many of these from a place on are all
+abbrev pub AreAll : ℕ → ℕ → ℕ → Bool → Type 0
+AreAll len place most all = (all ≡ true → len ≤ place + most) × (all ≡ false → place + most < len)
+
+-- The records of the entries of a page from a place on, up to so many, are put after these, and the answer is whether these are all; or memory
+-- was short, or a disk's call failed.
+abbrev pub CopiesEntries : PageMap → ℕ → ℕ → ℕ → ℕ → List (List ℕ) → List (List ℕ) → Result Bool Fault → Type 0
+CopiesEntries pages size number place most before after result = (node : Node) (entries : List Held) → AreWhole size pages
+    → HasEntries pages size number node entries
+    → MatchResult result (λ all. (after ≡ before ++ map (λ held. held.payload) (take most (drop place entries))) × AreAll (length entries) place most all) IsOutside
 
 -- The batch has the records of the first entries that come of these: of all, or of some, and at least one.
 pub record IsBatch (after : Bool) (columns : List Collation) (key : List Value) (entries : List Entry) (batch : List (List ℕ)) (whole : Bool) : Type 0 where

@@ -55,34 +55,39 @@ fn push_entry<P: Pages>(pages: &mut P, number: u32, place: usize, batch: &mut Ve
     Ok(())
 }
 
-/// Puts the records of the entries of a page from a place on after those of the batch. (What `len_of` and `push_entry` refuse.)
+/// Puts the records of the entries of a page from a place on after those of the batch, up to `most` of them. Answers whether these are all.
+/// (What `len_of` and `push_entry` refuse.)
 fn copy_entries<P: Pages>(
     pages: &mut P,
     number: u32,
     place: usize,
+    most: usize,
     batch: &mut Vec<Vec<u8>>,
-) -> R<()>
+) -> R<bool>
     ensures copied { IsTrue (P.Pages.tells (P.Pages.below pages.old))
-        → CopiesEntries (P.Pages.map pages.old) (P.Pages.limits (P.Pages.below pages.old)).page number place
+        → CopiesEntries (P.Pages.map pages.old) (P.Pages.limits (P.Pages.below pages.old)).page number place most
         (map (λ bytes. bytes.items) batch.old.items) (map (λ bytes. bytes.items) batch.new.items) result }
     ensures stays { Stays P.Pages.below P.Pages.map P.Pages.count P.Pages.failures result pages.old pages.new }
 {
     let len = len_of(pages, number)?;
-    'entries: for at in place..len {
+    let left = len.saturating_sub(place);
+    let count = most.min(left);
+    'entries: for at in place..place + count {
         push_entry(pages, number, at, batch)?;
     }
-    Ok(())
+    Ok(left <= most)
 }
 
-/// Puts the records of the first entries that come in the subtree under a page after those of the batch: those of a leaf, and the entry after
-/// them. Answers whether these are all. (`Damaged(Depth, number)` if a way has more pages than `ways` below it; what `place_of`, `child_of` and
-/// `push_entry` refuse.)
+/// Puts the records of the first entries that come in the subtree under a page after those of the batch: up to `most` of a leaf (one, if that
+/// is 0), and if these are all of the leaf, the entry after them. Answers whether these are all. (`Damaged(Depth, number)` if a way has more
+/// pages than `ways` below it; what `place_of`, `child_of` and `push_entry` refuse.)
 fn batch_below<P: Pages>(
     pages: &mut P,
     number: u32,
     ways: u32,
     key: Key<'_>,
     after: bool,
+    most: usize,
     batch: &mut Vec<Vec<u8>>,
     scratch: &mut Vec<u8>,
 ) -> R<bool>
@@ -93,13 +98,13 @@ fn batch_below<P: Pages>(
 {
     let place = place_of(pages, number, key, after, scratch)?;
     let Some(child) = child_of(pages, number, place)? else {
-        copy_entries(pages, number, place, batch)?;
-        return Ok(true);
+        let all = copy_entries(pages, number, place, most.max(1), batch)?;
+        return Ok(all);
     };
     if ways == 0 {
         return Err(Fault::Damaged(Damage::Depth, number));
     }
-    if !batch_below(pages, child, ways - 1, key, after, batch, scratch)? {
+    if !batch_below(pages, child, ways - 1, key, after, most, batch, scratch)? {
         return Ok(false);
     }
     if place >= len_of(pages, number)? {
@@ -143,6 +148,12 @@ fn last_values(alloc: Global, batch: &[Vec<u8>]) -> R<Vec<Value>>
     values_in(alloc, last.as_slice())
 }
 
+/// How many records of a leaf the first batch of a cursor has at most.
+const FIRST: usize = 8;
+
+/// How many records of a leaf a batch has at most.
+const MOST: usize = 4096;
+
 /// A place among the entries of an index's tree: before those from a key on, or before those after it; or at the end.
 #[derive(Drop)]
 pub struct Cursor {
@@ -154,6 +165,8 @@ pub struct Cursor {
     pub after: bool,
     /// Whether all entries are passed.
     pub ended: bool,
+    /// How many records of a leaf the next batch has at most.
+    most: usize,
 }
 
 impl Cursor {
@@ -168,11 +181,12 @@ impl Cursor {
             key,
             after: false,
             ended: false,
+            most: FIRST,
         }
     }
 
-    /// Reads the records of the next entries in place of those that the batch has: at least one, unless the cursor is at the end. (`Memory`,
-    /// `Io`; for pages that aren't an index's tree, what `batch_below` and `last_values` refuse.)
+    /// Reads the records of the next entries in place of those that the batch has: at least one, unless the cursor is at the end; few at first,
+    /// and more each time. (`Memory`, `Io`; for pages that aren't an index's tree, what `batch_below` and `last_values` refuse.)
     pub fn next_batch<P: Pages>(
         &mut self,
         pages: &mut P,
@@ -196,13 +210,24 @@ impl Cursor {
             columns,
             values: self.key.as_slice(),
         };
-        let whole = batch_below(pages, self.root, WAYS, key, self.after, batch, &mut scratch)?;
+        let most = self.most;
+        let whole = batch_below(
+            pages,
+            self.root,
+            WAYS,
+            key,
+            self.after,
+            most,
+            batch,
+            &mut scratch,
+        )?;
         if whole {
             self.ended = true;
             return Ok(());
         }
         self.key = last_values(alloc, batch.as_slice())?;
         self.after = true;
+        self.most = most.saturating_mul(2).min(MOST);
         Ok(())
     }
 }

@@ -40,8 +40,8 @@ returns-in_err-child-clause-given g n c = λ told depth t whole at lies shallow 
     let finds = since gs.below gs.tells gs.limits gs.map (λ m k. FindsChild m k number place (Err c.in_err-child.field-0.0)) c.args.pages.now c.place_of.new.pages one.kept one.same c.in_err-child.ensures.found told in
     refused _ _ c.in_err-child.field-0.0 c.from_residual-in_err-child.ensures.1 (seen m size number ways after columns key depth t is place (Err c.in_err-child.field-0.0) finds))
 
-pub returns-in_err-copy_entries-clause-given : goal.returns-in_err-copy_entries-clause-given
-returns-in_err-copy_entries-clause-given g n c = λ told depth t whole at lies shallow sorted empty.
+pub returns-in_err-all-clause-given : goal.returns-in_err-all-clause-given
+returns-in_err-all-clause-given g n c = λ told depth t whole at lies shallow sorted empty.
     (let gs = g.P.Pages in
     let m = gs.map c.args.pages.now in
     let size = (gs.limits (gs.below c.args.pages.now)).page in
@@ -59,9 +59,9 @@ returns-in_err-copy_entries-clause-given g n c = λ told depth t whole at lies s
     let found = seen m size number ways after columns key depth t is place (Ok c.in_ok-child.field-0) finds in
     let two = c.in_ok-child.ensures.stays in
     let batch = map (λ bytes. bytes.items) c.copy_entries.new.batch.items in
-    let copied = since gs.below gs.tells gs.limits gs.map (λ m k. CopiesEntries m k number place before batch (Err c.in_err-copy_entries.field-0.0)) c.args.pages.now c.child_of.new.pages (two.kept ∙ one.kept) (two.same ∙ one.same) c.in_err-copy_entries.ensures.copied told in
-    refused _ _ c.in_err-copy_entries.field-0.0 c.from_residual-in_err-copy_entries.ensures.1
-    (copies m size number ways after columns key depth t is place before batch (Err c.in_err-copy_entries.field-0.0) copied))
+    let copied = since gs.below gs.tells gs.limits gs.map (λ m k. CopiesEntries m k number place c.max.result before batch (Err c.in_err-all.field-0.0)) c.args.pages.now c.child_of.new.pages (two.kept ∙ one.kept) (two.same ∙ one.same) c.in_err-all.ensures.copied told in
+    refused _ _ c.in_err-all.field-0.0 c.from_residual-in_err-all.ensures.1
+    (copies m size number ways after columns key depth t is place c.max.result before batch (Err c.in_err-all.field-0.0) copied))
 
 pub returns-in_default-clause-given : goal.returns-in_default-clause-given
 returns-in_default-clause-given g n c = λ told depth t whole at lies shallow sorted empty.
@@ -82,9 +82,10 @@ returns-in_default-clause-given g n c = λ told depth t whole at lies shallow so
     let found = seen m size number ways after columns key depth t is place (Ok c.in_ok-child.field-0) finds in
     let two = c.in_ok-child.ensures.stays in
     let batch = map (λ bytes. bytes.items) c.copy_entries.new.batch.items in
-    let copied = since gs.below gs.tells gs.limits gs.map (λ m k. CopiesEntries m k number place before batch (Ok tt)) c.args.pages.now c.child_of.new.pages (two.kept ∙ one.kept) (two.same ∙ one.same) c.in_ok-copy_entries.ensures.copied told in
-    leaf_batch m size number ways after columns key depth t is place before batch place_is (λ child e. c.in_default.not-Some child (found ∙ e)) empty
-    (copies m size number ways after columns key depth t is place before batch (Ok tt) copied))
+    let copied = since gs.below gs.tells gs.limits gs.map (λ m k. CopiesEntries m k number place c.max.result before batch (Ok c.in_ok-all.all)) c.args.pages.now c.child_of.new.pages (two.kept ∙ one.kept) (two.same ∙ one.same) c.in_ok-all.ensures.copied told in
+    let one : 0 < c.max.result = (let is_max = c.max.ensures in omega (arith, is_max)) in
+    leaf_batch m size number ways after columns key depth t is place c.max.result before batch c.in_ok-all.all place_is (λ child e. c.in_default.not-Some child (found ∙ e)) empty one
+    (copies m size number ways after columns key depth t is place c.max.result before batch (Ok c.in_ok-all.all) copied))
 
 pub returns-then-ways-eq0-clause-given : goal.returns-then-ways-eq0-clause-given
 returns-then-ways-eq0-clause-given g n c = λ told depth t whole at lies shallow sorted empty.
