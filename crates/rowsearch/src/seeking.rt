@@ -58,10 +58,5 @@ pub(crate) fn seek(alloc: Global, root: u32, key: &[Value], range: Option<&Range
         return Ok(Cursor::seek(root, values));
     };
     values.push(low_value(alloc, &range.low)?)?;
-    Ok(Cursor {
-        root,
-        key: values,
-        after: passes_low(&range.low),
-        ended: false,
-    })
+    Ok(Cursor::new(root, values, passes_low(&range.low)))
 }
