@@ -46,7 +46,8 @@ AreAll len place most all = (all ≡ true → len ≤ place + most) × (all ≡ 
 abbrev pub CopiesEntries : PageMap → ℕ → ℕ → ℕ → ℕ → List (List ℕ) → List (List ℕ) → Result Bool Fault → Type 0
 CopiesEntries pages size number place most before after result = (node : Node) (entries : List Held) → AreWhole size pages
     → HasEntries pages size number node entries
-    → MatchResult result (λ all. (after ≡ before ++ map (λ held. held.payload) (take most (drop place entries))) × AreAll (length entries) place most all) IsOutside
+    → MatchResult result (λ all. (after ≡ before ++ map (λ held. held.payload) (take most (drop place entries))) × AreAll (length entries) place most all)
+    IsOutside
 
 -- The batch has the records of the first entries that come of these: of all, or of some, and at least one.
 pub record IsBatch (after : Bool) (columns : List Collation) (key : List Value) (entries : List Entry) (batch : List (List ℕ)) (whole : Bool) : Type 0 where

@@ -176,10 +176,19 @@ impl Cursor {
         ensures from { (columns : List CollationIs) (entries : List Entry) → coming result.ended result.after columns result.key.items entries
             ≡ entries_from false columns key.items entries }
     {
+        Cursor::new(root, key, false)
+    }
+
+    /// The place before the entries from a key on; or, if `after`, before the greater ones, past those that begin with the key.
+    pub fn new(root: u32, key: Vec<Value>, after: bool) -> Cursor
+        ensures root { result.root ≡ root }
+        ensures from { (columns : List CollationIs) (entries : List Entry) → coming result.ended result.after columns result.key.items entries
+            ≡ entries_from after columns key.items entries }
+    {
         Cursor {
             root,
             key,
-            after: false,
+            after,
             ended: false,
             most: FIRST,
         }
