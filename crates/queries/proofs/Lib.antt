@@ -17,5 +17,4 @@ pub mod Places
 pub mod PlacesOfRows
 pub mod Quiet
 pub mod Runs
-pub mod StableSorts
 pub mod Waits

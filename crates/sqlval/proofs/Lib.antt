@@ -1,3 +1,4 @@
 pub mod Ordering
 pub mod PageSizeLemmas
 pub mod NumberLemmas
+pub mod StableSorts

@@ -1,5 +1,5 @@
 use Rattle.std.proofs.Common.{rules}
-use Rattle.queries.proofs.StableSorts.{sort_by_is}
+use Rattle.sqlval.proofs.StableSorts.{sort_by_is}
 use Rattle.indexing.specs.Ranking.{ranked}
 use Rattle.indexing.proofs.Ranks.{total}
 use Rattle.indexing.proofs.entries.sort_entries.Goals as goal

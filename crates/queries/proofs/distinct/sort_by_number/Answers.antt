@@ -2,7 +2,7 @@ use Rattle.std.proofs.Common.{rules}
 use Rattle.std.proofs.lemmas.Cmp.{nat_cmp_total, on_total}
 use Rattle.std.specs.Ordering.{nat_cmp}
 use Rattle.queries.specs.declared.distinct.Numbered.{Numbered}
-use Rattle.queries.proofs.StableSorts.{sort_by_is}
+use Rattle.sqlval.proofs.StableSorts.{sort_by_is}
 use Rattle.queries.proofs.distinct.sort_by_number.Goals as goal
 
 pub returns-clause-sorted : goal.returns-clause-sorted

@@ -3,7 +3,7 @@ use Rattle.std.proofs.lemmas.Cmp.{on_total}
 use Rattle.queries.specs.Sorting.{by_values}
 use Rattle.queries.specs.declared.distinct.Numbered.{Numbered}
 use Rattle.queries.proofs.KeyOrders.{by_keys}
-use Rattle.queries.proofs.StableSorts.{sort_by_is}
+use Rattle.sqlval.proofs.StableSorts.{sort_by_is}
 use Rattle.queries.proofs.distinct.sort_by_results.Goals as goal
 
 pub returns-clause-sorted : goal.returns-clause-sorted

@@ -3,7 +3,7 @@ use Rattle.std.proofs.lemmas.Cmp.{on_total}
 use Rattle.queries.specs.Sorting.{by_values}
 use Rattle.queries.specs.declared.results.FoundRow.{FoundRow}
 use Rattle.queries.proofs.KeyOrders.{by_keys}
-use Rattle.queries.proofs.StableSorts.{sort_by_is}
+use Rattle.sqlval.proofs.StableSorts.{sort_by_is}
 use Rattle.queries.proofs.sorting.sort_rows.Goals as goal
 
 pub returns-clause-sorted : goal.returns-clause-sorted

@@ -1,7 +1,7 @@
 use Rattle.std.proofs.Common.{rules}
 use Rattle.std.specs.Ordering.{int_cmp}
 use Rattle.std.proofs.lemmas.Cmp.{int_cmp_total}
-use Rattle.queries.proofs.StableSorts.{sort_by_is}
+use Rattle.sqlval.proofs.StableSorts.{sort_by_is}
 use Rattle.rowsearch.proofs.entries.sort_rowids.Goals as goal
 
 pub returns-clause-sorted : goal.returns-clause-sorted
