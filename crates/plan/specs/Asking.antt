@@ -17,9 +17,9 @@ use Rattle.terms.specs.declared.tree.Comparison.{Comparison}
 use Rattle.terms.specs.declared.tree.Comparison.TheVariants.{Equal, Less, LessOrEqual, Greater, GreaterOrEqual}
 use Rattle.terms.specs.declared.tree.TwoSided.TheVariants.{Compare, And}
 use Rattle.bind.specs.Calm.{finds, parts}
-use Rattle.plan.specs.Keys.{SeeksKey, is_same_collation, of_column}
-use Rattle.plan.specs.Ranges.{SeeksRange, SeeksRowids, has_ends, of_rowid}
-use Rattle.plan.specs.Seeking.{SeeksRowid, no_index}
+use Rattle.plan.specs.Keys.{is_same_collation, of_column}
+use Rattle.plan.specs.Ranges.{has_ends, of_rowid}
+use Rattle.plan.specs.Seeking.{no_index}
 use Rattle.plan.specs.declared.keys.Wanted.{Wanted}
 use Rattle.plan.specs.declared.ranges.Bound.{Bound}
 use Rattle.plan.specs.declared.ranges.Range.{Range}
@@ -127,10 +127,10 @@ rowids_in n condition = rowids_of (ends_in (of_rowid n) condition)
 
 -- ---- indexes
 
--- what a condition asks of the index of these columns at this place
-abbrev pub candidate_of : Term → ℕ → List IndexColumn → Candidate
-candidate_of condition place columns =
-    record { place = place; key = key_for 0 condition columns; range = range_in 0 (slice_get columns (length (key_for 0 condition columns))) condition }
+-- what a condition asks of a source's index of these columns at this place
+abbrev pub candidate_of : ℕ → Term → ℕ → List IndexColumn → Candidate
+candidate_of n condition place columns =
+    record { place = place; key = key_for n condition columns; range = range_in n (slice_get columns (length (key_for n condition columns))) condition }
 
 -- whether the second has the longer key, or one of the same length and a range, where the first has none
 abbrev pub asks_less : Candidate → Candidate → Bool
@@ -142,10 +142,10 @@ abbrev pub more_asked : Candidate → Candidate → Candidate
 more_asked x y = if asks_less x y then y else x
 
 -- the one that asks the most, of that found and of these indexes, whose places begin here
-abbrev pub most_asked : Term → ℕ → Candidate → List Index → Candidate
-most_asked condition place found [] = found
-most_asked condition place found (index ∷ indexes) =
-    most_asked condition (place + 1) (more_asked found (candidate_of condition place index.columns)) indexes
+abbrev pub most_asked : ℕ → Term → ℕ → Candidate → List Index → Candidate
+most_asked n condition place found [] = found
+most_asked n condition place found (index ∷ indexes) =
+    most_asked n condition (place + 1) (more_asked found (candidate_of n condition place index.columns)) indexes
 
 -- it asks nothing of an index
 abbrev pub asks_nothing : Candidate
@@ -158,33 +158,25 @@ search_by it =
 
 -- ---- what is sought
 
--- the condition seeks this rowid or these rowids of the first source, or this key or range of the index at this place
-abbrev pub IsSought : List Index → Term → Search → Type 0
-IsSought indexes condition (Rowid rowid) = SeeksRowid 0 condition rowid
-IsSought indexes condition (Rowids low high) = SeeksRowids 0 condition low high
-IsSought indexes condition (Key place key) = (index : Index) × (slice_get indexes place ≡ Some index) × SeeksKey 0 condition index.columns key
-IsSought indexes condition (InRange place key range) =
-    (index : Index) × (slice_get indexes place ≡ Some index) × SeeksRange 0 condition index.columns key range
-
 -- the condition asks for the first column of none of these indexes
-abbrev pub IsNotAsked : Term → List Index → Type 0
-IsNotAsked condition [] = ⊤
-IsNotAsked condition (index ∷ indexes) = (key_for 0 condition index.columns ≡ []) × IsNotAsked condition indexes
+abbrev pub IsNotAsked : ℕ → Term → List Index → Type 0
+IsNotAsked n condition [] = ⊤
+IsNotAsked n condition (index ∷ indexes) = (key_for n condition index.columns ≡ []) × IsNotAsked n condition indexes
 
 -- It asks for no rowid, and of the indexes this is what it asks the most of; where that has no key, it asks for no range of rowids.
-abbrev pub IsMost : List Index → Term → Candidate → Type 0
-IsMost indexes condition it =
-    (list_any (finds 0 no_index) (parts condition) ≡ false)
-    × (it.key ≡ [] → rowids_in 0 condition ≡ None)
-    × (it ≡ most_asked condition 0 asks_nothing indexes)
+abbrev pub IsMost : List Index → ℕ → Term → Candidate → Type 0
+IsMost indexes n condition it =
+    (list_any (finds n no_index) (parts condition) ≡ false)
+    × (it.key ≡ [] → rowids_in n condition ≡ None)
+    × (it ≡ most_asked n condition 0 asks_nothing indexes)
 
 -- It is a rowid; or where none is asked for, the longest key of an index, and of those of one length the first with a range after it, or else
 -- the first; or where no key has a value, a range of rowids; or where there is none either, the first range of an index's first column.
-abbrev pub IsChosen : List Index → Term → Search → Type 0
-IsChosen indexes condition (Rowid rowid) = ⊤
-IsChosen indexes condition (Rowids low high) =
-    (list_any (finds 0 no_index) (parts condition) ≡ false)
-    × ((most_asked condition 0 asks_nothing indexes).key ≡ [])
-    × (rowids_in 0 condition ≡ Some (low, high))
-IsChosen indexes condition (Key place key) = IsMost indexes condition (record { place = place; key = key; range = no_range })
-IsChosen indexes condition (InRange place key range) = IsMost indexes condition (record { place = place; key = key; range = range })
+abbrev pub IsChosen : List Index → ℕ → Term → Search → Type 0
+IsChosen indexes n condition (Rowid rowid) = ⊤
+IsChosen indexes n condition (Rowids low high) =
+    (list_any (finds n no_index) (parts condition) ≡ false)
+    × ((most_asked n condition 0 asks_nothing indexes).key ≡ [])
+    × (rowids_in n condition ≡ Some (low, high))
+IsChosen indexes n condition (Key place key) = IsMost indexes n condition (record { place = place; key = key; range = no_range })
+IsChosen indexes n condition (InRange place key range) = IsMost indexes n condition (record { place = place; key = key; range = range })

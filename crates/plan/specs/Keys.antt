@@ -1,6 +1,6 @@
 -- Which rows an index finds for a condition: those whose values of its first columns are the ones that the condition asks for (The SQLite
 -- Query Optimizer Overview, "WHERE Clause Analysis"; Query Planning, "Multi-Column Indices").
-use Rattle.std.specs.Prelude.{◌≡◌, ◌⊎◌, ⊤, ℕ, pos, Bool, true, false, ◌&&◌, ◌==◌, List, [], ◌∷◌, filter, slice_index_or, Option, None, Some, Ok}
+use Rattle.std.specs.Prelude.{◌≡◌, ◌⊎◌, ⊤, ℕ, pos, Bool, true, false, ◌&&◌, ◌==◌, List, [], ◌∷◌, slice_index_or, Option, Ok}
 use Rattle.std.specs.List.{list_any}
 use Rattle.std.specs.Ordering.{is_eq}
 use Rattle.sqlval.specs.Conversion.{converted}
@@ -9,20 +9,15 @@ use Rattle.sqlval.specs.declared.affinity.Affinity.{Affinity}
 use Rattle.sqlval.specs.declared.collation.Collation.{Collation}
 use Rattle.sqlval.specs.declared.value.Value.{Value}
 use Rattle.sqlval.specs.declared.value.Value.TheVariants.{Null, Int}
-use Rattle.catalog.specs.Database.{Name}
 use Rattle.catalog.specs.declared.tables.Index.{Index}
 use Rattle.catalog.specs.declared.tables.IndexColumn.{IndexColumn}
 use Rattle.terms.specs.Terms.{Term, Const, Digits, Cell, Two, collation_index}
-use Rattle.terms.specs.Values.{Row, conversion}
+use Rattle.terms.specs.Values.{conversion}
 use Rattle.terms.specs.declared.tree.Comparison.{Comparison}
 use Rattle.terms.specs.declared.tree.Comparison.TheVariants.{Equal}
 use Rattle.terms.specs.declared.tree.Place.TheVariants.{At}
 use Rattle.terms.specs.declared.tree.TwoSided.TheVariants.{Compare, And}
-use Rattle.bind.specs.Calm.{is_calm, is_search}
-use Rattle.bind.specs.Readings.{rows_over}
-use Rattle.bind.specs.declared.reading.Condition.TheVariants.{Always}
-use Rattle.bind.specs.declared.reading.Reading.{Reading}
-use Rattle.plan.specs.Searching.{is_plain}
+use Rattle.bind.specs.Calm.{is_calm}
 use Rattle.plan.specs.declared.keys.Wanted.{Wanted}
 
 -- ---- rows of a key
@@ -31,10 +26,6 @@ use Rattle.plan.specs.declared.keys.Wanted.{Wanted}
 abbrev pub has_key : List IndexColumn → List Value → List Value → Bool
 has_key (column ∷ columns) (k ∷ key) values = is_eq (order column.collation (slice_index_or values column.place Null) k) && has_key columns key values
 has_key columns key values = true
-
--- the rows of a key
-abbrev pub rows_of_key : List IndexColumn → List Value → List Row → List Row
-rows_of_key columns key rows = filter (λ row. has_key columns key row.values) rows
 
 -- ---- what a condition asks for
 
@@ -74,20 +65,7 @@ pub record SeeksKey (source : ℕ) (condition : Term) (columns : List IndexColum
   pub asked : AreAsked source columns key condition
   pub some : key ≡ [] → ⊥
 
--- ---- queries
-
--- The query has one source, whose rows join without a condition, and its WHERE seeks this key of it.
-pub record SearchesKey (q : Reading) (columns : List IndexColumn) (key : List Value) : Type 0 where
-  pub name : Name
-  pub alone : q.sources ≡ (name, Always) ∷ []
-  pub condition : Term
-  pub filter_is : q.filter ≡ Some condition
-  pub seeks : SeeksKey 0 condition columns key
-
--- Such a query gives the same over the rows of that key as over all.
-abbrev pub KeySearchesAsScans : Type 0
-KeySearchesAsScans = (q : Reading) (columns : List IndexColumn) (key : List Value) → SearchesKey q columns key → (rows : List Row)
-    → rows_over q [] ((Always, rows) ∷ []) ≡ rows_over q [] ((Always, rows_of_key columns key rows) ∷ [])
+-- ---- collations, and which columns lead
 
 -- whether two collations are one
 abbrev pub is_same_collation : Collation → Collation → Bool
@@ -101,7 +79,3 @@ is_first place collation (column ∷ columns) = column.place == place && is_same
 -- whether one of the indexes begins with the column of this place, under this collation
 abbrev pub is_led_by : List Index → ℕ → Collation → Bool
 is_led_by indexes place collation = list_any (λ i. is_first place collation i.columns) indexes
-
--- whether the plan of a query is a search, by rowid or by one of the table's indexes
-abbrev pub is_table_search : List Index → Reading → Bool
-is_table_search indexes q = elim q.filter [ None ↦ false | Some condition ↦ is_plain q.sources && is_search 0 (is_led_by indexes) condition ]

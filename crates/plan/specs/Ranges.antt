@@ -1,6 +1,6 @@
 -- Which rows an index, or the rowid, finds for a condition that asks for a range: those between two ends, or past one (The SQLite Query
 -- Optimizer Overview, "WHERE Clause Analysis" and "The BETWEEN Optimization"; Query Planning, "Multi-Column Indices").
-use Rattle.std.specs.Prelude.{◌≡◌, ◌⊎◌, ℕ, ℤ, pos, negsuc, ◌^◌, ◌-◌, ◌+ℤ◌, ◌-ℤ◌, int_lt, Bool, true, false, not, ◌&&◌, ◌||◌, List, [], ◌∷◌, filter, length, slice_index_or, slice_get, Option, None, Some, IfSome, if◌then◌else◌}
+use Rattle.std.specs.Prelude.{◌≡◌, ◌⊎◌, ℕ, ℤ, pos, negsuc, ◌^◌, ◌-◌, ◌+ℤ◌, ◌-ℤ◌, int_lt, Bool, true, false, not, ◌&&◌, ◌||◌, List, [], ◌∷◌, length, slice_index_or, slice_get, Option, None, Some, IfSome, if◌then◌else◌}
 use Rattle.std.specs.Option.{is_some}
 use Rattle.std.specs.Ordering.{is_eq}
 use Rattle.sqlval.specs.Conversion.{is_word}
@@ -9,8 +9,6 @@ use Rattle.sqlval.specs.declared.collation.Collation.{Collation}
 use Rattle.sqlval.specs.declared.collation.Collation.TheVariants.{Binary}
 use Rattle.sqlval.specs.declared.value.Value.{Value}
 use Rattle.sqlval.specs.declared.value.Value.TheVariants.{Null, Int}
-use Rattle.catalog.specs.Database.{Name}
-use Rattle.catalog.specs.declared.tables.Index.{Index}
 use Rattle.catalog.specs.declared.tables.IndexColumn.{IndexColumn}
 use Rattle.terms.specs.Terms.{Term, Two, Between}
 use Rattle.terms.specs.Values.{Row, is_met, is_null}
@@ -19,16 +17,10 @@ use Rattle.terms.specs.declared.tree.Comparison.TheVariants.{Less, LessOrEqual, 
 use Rattle.terms.specs.declared.tree.Place.TheVariants.{RowId}
 use Rattle.terms.specs.declared.tree.TwoSided.TheVariants.{Compare}
 use Rattle.bind.specs.Calm.{is_calm}
-use Rattle.bind.specs.Readings.{rows_over}
-use Rattle.bind.specs.declared.reading.Condition.TheVariants.{Always}
-use Rattle.bind.specs.declared.reading.Reading.{Reading}
-use Rattle.plan.specs.Keys.{AreAsked, AsksPart, IsCompared, SearchesKey, of_column}
-use Rattle.plan.specs.Searching.{Searches}
+use Rattle.plan.specs.Keys.{AreAsked, AsksPart, IsCompared, of_column}
 use Rattle.plan.specs.declared.keys.Wanted.{Wanted}
 use Rattle.plan.specs.declared.ranges.Bound.{Bound}
 use Rattle.plan.specs.declared.ranges.Range.{Range}
-use Rattle.plan.specs.declared.searching.Search.{Search}
-use Rattle.plan.specs.declared.searching.Search.TheVariants.{Rowid, Key, Rowids, Range as InRange}
 
 -- ---- rows of a range
 
@@ -56,17 +48,9 @@ has_range (column ∷ columns) (k ∷ key) range values =
     is_eq (order column.collation (slice_index_or values column.place Null) k) && has_range columns key range values
 has_range [] key range values = true
 
--- the rows of a key and a range
-abbrev pub in_range : List IndexColumn → List Value → Range → List Row → List Row
-in_range columns key range rows = filter (λ row. has_range columns key range row.values) rows
-
 -- whether a row's rowid is a number of 64 bits before the first of these or after the second
 abbrev pub is_outside : ℤ → ℤ → Row → Bool
 is_outside low high row = elim row.rowid [ Int n ↦ is_word n && (int_lt n low || int_lt high n) | _ ↦ false ]
-
--- the rows without those whose rowid is outside
-abbrev pub rows_of_rowids : ℤ → ℤ → List Row → List Row
-rows_of_rowids low high rows = filter (λ row. not (is_outside low high row)) rows
 
 -- ---- what a condition asks for
 
@@ -125,39 +109,3 @@ pub record SeeksRowids (source : ℕ) (condition : Term) (low high : ℤ) : Type
   pub from : (low ≡ negsuc (2 ^ 63 - 1)) ⊎ AsksFrom source condition low
   pub to : (high ≡ pos (2 ^ 63 - 1)) ⊎ AsksTo source condition high
   pub some : AsksFrom source condition low ⊎ AsksTo source condition high
-
--- ---- queries
-
--- The query has one source, whose rows join without a condition, and its WHERE seeks this key and this range of it.
-pub record SearchesRange (q : Reading) (columns : List IndexColumn) (key : List Value) (range : Range) : Type 0 where
-  pub name : Name
-  pub alone : q.sources ≡ (name, Always) ∷ []
-  pub condition : Term
-  pub filter_is : q.filter ≡ Some condition
-  pub seeks : SeeksRange 0 condition columns key range
-
--- Such a query gives the same over the rows of that key and range as over all.
-abbrev pub RangeSearchesAsScans : Type 0
-RangeSearchesAsScans = (q : Reading) (columns : List IndexColumn) (key : List Value) (range : Range) → SearchesRange q columns key range → (rows : List Row)
-    → rows_over q [] ((Always, rows) ∷ []) ≡ rows_over q [] ((Always, in_range columns key range rows) ∷ [])
-
--- The query has one source, whose rows join without a condition, and its WHERE seeks these rowids of it.
-pub record SearchesRowids (q : Reading) (low high : ℤ) : Type 0 where
-  pub name : Name
-  pub alone : q.sources ≡ (name, Always) ∷ []
-  pub condition : Term
-  pub filter_is : q.filter ≡ Some condition
-  pub seeks : SeeksRowids 0 condition low high
-
--- Such a query gives the same over the rows of those rowids as over all.
-abbrev pub RowidsSearchAsScans : Type 0
-RowidsSearchAsScans = (q : Reading) (low high : ℤ) → SearchesRowids q low high → (rows : List Row)
-    → rows_over q [] ((Always, rows) ∷ []) ≡ rows_over q [] ((Always, rows_of_rowids low high rows) ∷ [])
-
--- the query seeks this rowid, these rowids, or this key or range of the index at this place
-abbrev pub IsSearchOf : List Index → Reading → Search → Type 0
-IsSearchOf indexes q (Rowid rowid) = Searches q rowid
-IsSearchOf indexes q (Rowids low high) = SearchesRowids q low high
-IsSearchOf indexes q (Key place key) = (index : Index) × (slice_get indexes place ≡ Some index) × SearchesKey q index.columns key
-IsSearchOf indexes q (InRange place key range) =
-    (index : Index) × (slice_get indexes place ≡ Some index) × SearchesRange q index.columns key range

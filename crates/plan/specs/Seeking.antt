@@ -1,12 +1,9 @@
 -- The rowid that a condition seeks, so that the other rows of its source needn't be read (The SQLite Query Optimizer Overview, "WHERE
 -- Clause Analysis").
-use Rattle.std.specs.Prelude.{◌≡◌, ℕ, ℤ, pos, Bool, true, false, ◌&&◌, ◌==◌, Option, None, Some, Ok, if◌then◌else◌}
+use Rattle.std.specs.Prelude.{◌≡◌, ℕ, ℤ, pos, Bool, true, false, ◌&&◌, ◌==◌, Option, None, Some, if◌then◌else◌}
 use Rattle.std.specs.List.{list_any}
-use Rattle.sqlval.specs.Refusals.{◌then◌}
 use Rattle.sqlval.specs.declared.collation.Collation.{Collation}
-use Rattle.sqlval.specs.declared.value.Value.TheVariants.{Int}
 use Rattle.terms.specs.Terms.{Term, Cell, Digits, Two}
-use Rattle.terms.specs.Values.{Environment, cell, truth, value}
 use Rattle.terms.specs.declared.tree.Comparison.TheVariants.{Equal}
 use Rattle.terms.specs.declared.tree.Place.TheVariants.{RowId}
 use Rattle.terms.specs.declared.tree.TwoSided.TheVariants.{Compare}
@@ -45,8 +42,3 @@ SeeksRowid source condition rowid = (k : ℕ) × (rowid ≡ pos k) × Seeks sour
 -- no column begins an index
 abbrev pub no_index : ℕ → Collation → Bool
 no_index place collation = false
-
--- For each row of another rowid the condition is false.
-abbrev pub OtherRowsFail : Type 0
-OtherRowsFail = (source k : ℕ) (condition : Term) → Seeks source condition k
-    → (env : Environment) (rowid : ℤ) → cell env source RowId ≡ Int rowid → (rowid ≡ pos k → ⊥) → (value condition env then truth) ≡ Ok (Some false)

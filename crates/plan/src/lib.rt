@@ -8,37 +8,13 @@ mod rowids;
 mod searching;
 mod seeking;
 
-ghost use Rattle.plan.specs.Keys.{KeySearchesAsScans};
-ghost use Rattle.plan.specs.Ranges.{RangeSearchesAsScans, RowidsSearchAsScans};
-ghost use Rattle.plan.specs.Seeking.{OtherRowsFail};
-ghost use Rattle.plan.specs.Searching.{SearchesAsScans};
+ghost use Rattle.plan.specs.Searching.{OtherRowsFail};
 
 pub use calm::is_calm;
 pub use ranges::{Bound, Range};
-pub use searching::{Search, search_of};
-pub use seeking::sought_rowid;
+pub use searching::{Search, search_for};
 
-/// A condition that seeks a rowid is false for each row of another one, and is refused for none.
+/// A condition that seeks something of a source isn't true beside a row of it that the search doesn't find, and isn't refused.
 pub fn other_rows_fail()
     ensures { OtherRowsFail }
-{}
-
-/// A query that seeks a rowid of its only source gives the same over the rows of that rowid as over all.
-pub fn searches_as_scans()
-    ensures { SearchesAsScans }
-{}
-
-/// A query that seeks the key of an index of its only source gives the same over the rows of that key as over all.
-pub fn key_searches_as_scans()
-    ensures { KeySearchesAsScans }
-{}
-
-/// A query that seeks a key and a range of an index of its only source gives the same over the rows of both as over all.
-pub fn range_searches_as_scans()
-    ensures { RangeSearchesAsScans }
-{}
-
-/// A query that seeks a range of rowids of its only source gives the same over the rows of those rowids as over all.
-pub fn rowids_search_as_scans()
-    ensures { RowidsSearchAsScans }
 {}

@@ -1,12 +1,12 @@
-//! What a query of one source seeks of it.
+//! What a condition seeks of a source.
 
 ghost use Rattle.std.specs.Prelude.{◌≡◌, false, true, IfErr, IfNone, IfOk, IfSome};
 ghost use Rattle.std.specs.List.{list_any};
 ghost use Rattle.bind.specs.Calm as calm;
 ghost use Rattle.plan.specs.Asking as asking;
-ghost use Rattle.plan.specs.Asking.{IsChosen, IsSought};
-ghost use Rattle.plan.specs.Keys.{is_led_by, is_table_search};
-ghost use Rattle.plan.specs.Ranges.{IsSearchOf};
+ghost use Rattle.plan.specs.Asking.{IsChosen};
+ghost use Rattle.plan.specs.Keys.{is_led_by};
+ghost use Rattle.plan.specs.Searching.{IsSought};
 ghost use Rattle.plan.specs.Seeking.{no_index};
 
 use crate::calm::is_calm;
@@ -14,13 +14,12 @@ use crate::keys::key_for;
 use crate::ranges::{Range, has_ends, no_range, range_in};
 use crate::rowids::rowids_in;
 use crate::seeking::rowid_in;
-use bind::{Condition, Reading};
 use catalog::{Index, IndexColumn};
 use sqlval::{Fault, Many, R, Value};
 use std::alloc::Global;
 use terms::Term;
 
-/// What the rows are found by that a query needs of its source.
+/// What the rows of a source are found by that a condition needs.
 #[derive(Drop)]
 pub enum Search {
     /// The row of a rowid.
@@ -46,14 +45,15 @@ pub(crate) struct Candidate {
 fn candidate_of(
     alloc: Global,
     condition: &Term,
+    source: usize,
     place: usize,
     columns: &[IndexColumn],
 ) -> R<Candidate>
-    ensures found { IfOk result (λ it. it ≡ asking.candidate_of condition.now place columns.now) }
+    ensures found { IfOk result (λ it. it ≡ asking.candidate_of source condition.now place columns.now) }
     ensures refused { IfErr result (λ fault. fault ≡ Fault.Memory) }
 {
-    let key = key_for(alloc, condition, 0, columns)?;
-    let range = range_in(alloc, condition, 0, columns.get(key.len()).copied())?;
+    let key = key_for(alloc, condition, source, columns)?;
+    let range = range_in(alloc, condition, source, columns.get(key.len()).copied())?;
     Ok(Candidate { place, key, range })
 }
 
@@ -77,8 +77,13 @@ fn more_asked(found: Candidate, other: Candidate) -> Candidate
 }
 
 /// What a condition asks of the index that it asks the most of; the first of several. (`Memory`.)
-fn most_asked(alloc: Global, condition: &Term, indexes: &[Index]) -> R<Candidate>
-    ensures found { IfOk result (λ found. found ≡ asking.most_asked condition.now 0 asking.asks_nothing indexes.now) }
+fn most_asked(
+    alloc: Global,
+    condition: &Term,
+    source: usize,
+    indexes: &[Index],
+) -> R<Candidate>
+    ensures found { IfOk result (λ found. found ≡ asking.most_asked source condition.now 0 asking.asks_nothing indexes.now) }
     ensures refused { IfErr result (λ fault. fault ≡ Fault.Memory) }
 {
     let mut found = Candidate {
@@ -87,7 +92,8 @@ fn most_asked(alloc: Global, condition: &Term, indexes: &[Index]) -> R<Candidate
         range: no_range(),
     };
     'indexes: for place in 0..indexes.len() {
-        let other = candidate_of(alloc, condition, place, indexes[place].columns.as_slice())?;
+        let columns = indexes[place].columns.as_slice();
+        let other = candidate_of(alloc, condition, source, place, columns)?;
         found = more_asked(found, other);
     }
     Ok(found)
@@ -109,51 +115,47 @@ fn search_by(asked: Candidate) -> Option<Search>
 
 /// What a condition seeks that asks for no rowid: a key of an index, with a range or without, or else a range of rowids, or else a range of
 /// an index's first column. None where it seeks none. (`Memory`.)
-fn many_sought(alloc: Global, condition: &Term, indexes: &[Index]) -> R<Option<Search>>
+fn many_sought(
+    alloc: Global,
+    condition: &Term,
+    source: usize,
+    indexes: &[Index],
+) -> R<Option<Search>>
     requires calm { calm.is_calm condition.now ≡ true }
-    requires none { list_any (calm.finds 0 no_index) (calm.parts condition.now) ≡ false }
-    ensures found { IfOk result (λ found. IfSome found (λ it. IsSought indexes.now condition.now it)) }
-    ensures chosen { IfOk result (λ found. IfSome found (λ it. IsChosen indexes.now condition.now it)) }
-    ensures only { IfOk result (λ found. IfNone found (asking.IsNotAsked condition.now indexes.now)) }
+    requires none { list_any (calm.finds source no_index) (calm.parts condition.now) ≡ false }
+    ensures found { IfOk result (λ found. IfSome found (λ it. IsSought indexes.now source condition.now it)) }
+    ensures chosen { IfOk result (λ found. IfSome found (λ it. IsChosen indexes.now source condition.now it)) }
+    ensures only { IfOk result (λ found. IfNone found (asking.IsNotAsked source condition.now indexes.now)) }
     ensures refused { IfErr result (λ fault. fault ≡ Fault.Memory) }
 {
-    let most = most_asked(alloc, condition, indexes)?;
+    let most = most_asked(alloc, condition, source, indexes)?;
     if most.key.len() > 0 {
         return Ok(search_by(most));
     }
-    match rowids_in(alloc, condition, 0)? {
+    match rowids_in(alloc, condition, source)? {
         Some(found) => Ok(Some(Search::Rowids(found.0, found.1))),
         None => Ok(search_by(most)),
     }
 }
 
-/// What a condition seeks of the first source: a rowid, or else a key of an index, with a range or without, or else a range of rowids, or
-/// else a range of an index's first column. None where it seeks none, or may be refused. (`Memory`.)
-fn sought(alloc: Global, condition: &Term, indexes: &[Index]) -> R<Option<Search>>
-    ensures found { IfOk result (λ found. IfSome found (λ it. IsSought indexes.now condition.now it)) }
-    ensures chosen { IfOk result (λ found. IfSome found (λ it. IsChosen indexes.now condition.now it)) }
-    ensures only { IfOk result (λ found. IfNone found (calm.is_search 0 (is_led_by indexes.now) condition.now ≡ false)) }
+/// What a condition seeks of the source of a number, a table with these indexes: a rowid, or else a key of an index, with a range or without,
+/// or else a range of rowids, or else a range of an index's first column. None where it seeks none, or may be refused. (`Memory`.)
+pub fn search_for(
+    alloc: Global,
+    condition: &Term,
+    source: usize,
+    indexes: &[Index],
+) -> R<Option<Search>>
+    ensures found { IfOk result (λ found. IfSome found (λ it. IsSought indexes.now source condition.now it)) }
+    ensures chosen { IfOk result (λ found. IfSome found (λ it. IsChosen indexes.now source condition.now it)) }
+    ensures only { IfOk result (λ found. IfNone found (calm.is_search source (is_led_by indexes.now) condition.now ≡ false)) }
     ensures refused { IfErr result (λ fault. fault ≡ Fault.Memory) }
 {
     if !is_calm(alloc, condition)? {
         return Ok(None);
     }
-    match rowid_in(condition, 0) {
+    match rowid_in(condition, source) {
         Some(rowid) => Ok(Some(Search::Rowid(rowid))),
-        None => many_sought(alloc, condition, indexes),
-    }
-}
-
-/// What a query of one source seeks by its WHERE: a rowid, or else a key of one of its table's indexes, with a range or without, or else a
-/// range of rowids, or else a range of an index's first column. None where it seeks none, or may be refused. (`Memory`.)
-pub fn search_of(alloc: Global, reading: &Reading, indexes: &[Index]) -> R<Option<Search>>
-    ensures found { IfOk result (λ found. IfSome found (λ it. IsSearchOf indexes.now reading.now it)) }
-    ensures chosen { IfOk result (λ found. IfSome found (λ it. IfSome reading.now.filter (λ condition. IsChosen indexes.now condition it))) }
-    ensures only { IfOk result (λ found. IfNone found (is_table_search indexes.now reading.now ≡ false)) }
-    ensures refused { IfErr result (λ fault. fault ≡ Fault.Memory) }
-{
-    match (&reading.filter, reading.sources.as_slice()) {
-        (Some(condition), [(_, Condition::Always)]) => sought(alloc, condition, indexes),
-        _ => Ok(None),
+        None => many_sought(alloc, condition, source, indexes),
     }
 }

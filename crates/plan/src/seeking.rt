@@ -1,13 +1,10 @@
 //! The rowid that a condition seeks.
 
-ghost use Rattle.std.specs.Prelude.{◌≡◌, false, true, IfErr, IfNone, IfOk, IfSome};
+ghost use Rattle.std.specs.Prelude.{◌≡◌, false, true, IfNone, IfSome};
 ghost use Rattle.std.specs.List.{list_any};
 ghost use Rattle.bind.specs.Calm as calm;
 ghost use Rattle.plan.specs.Seeking.{Seeks, SeeksRowid, asked, digits, is_rowid, is_rowid_cell, no_index};
 
-use crate::calm::is_calm;
-use sqlval::{Fault, R};
-use std::alloc::Global;
 use terms::{Comparison, Node, Place, Term, TwoSided};
 
 /// The number where an expression is one as it is written.
@@ -65,17 +62,4 @@ pub(crate) fn rowid_in(condition: &Term, source: usize) -> Option<i64>
         Some(number) => i64::try_from(number).ok(),
         None => None,
     }
-}
-
-/// The rowid that a condition seeks in a source: for a row of another one the condition is false. None where it seeks none, or may be
-/// refused. (`Memory`.)
-pub fn sought_rowid(alloc: Global, condition: &Term, source: usize) -> R<Option<i64>>
-    ensures found { IfOk result (λ sought. IfSome sought (λ rowid. SeeksRowid source condition.now rowid)) }
-    ensures only { IfOk result (λ sought. IfNone sought (calm.is_search source no_index condition.now ≡ false)) }
-    ensures refused { IfErr result (λ fault. fault ≡ Fault.Memory) }
-{
-    if !is_calm(alloc, condition)? {
-        return Ok(None);
-    }
-    Ok(rowid_in(condition, source))
 }

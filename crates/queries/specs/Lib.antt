@@ -5,4 +5,5 @@ pub mod Lookups
 pub mod Nesting
 pub mod Numbers
 pub mod Parts
+pub mod Searches
 pub mod Sorting

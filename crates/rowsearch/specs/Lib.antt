@@ -1,4 +1,5 @@
 pub mod Between
 pub mod Finding
+pub mod Found
 pub mod Loading
 pub mod Searching

@@ -1,0 +1,54 @@
+-- The rows of a table that a search finds, and those that a condition needs (Query Planning, "Searching"; The SQLite Query Optimizer
+-- Overview, "WHERE Clause Analysis").
+use Rattle.std.specs.Prelude.{◌≡◌, ℕ, Bool, true, false, List, [], ◌∷◌, filter, map, Option, None, Some, Result, MatchResult}
+use Rattle.std.specs.List.{AllByRecursion}
+use Rattle.sqlval.specs.Conversion.{is_word}
+use Rattle.sqlval.specs.Faults.{IsOutside}
+use Rattle.sqlval.specs.declared.fault.Fault.{Fault}
+use Rattle.pages.specs.Map.{PageMap, AreWhole}
+use Rattle.terms.specs.Terms.{Term}
+use Rattle.terms.specs.Values.{Row}
+use Rattle.indextree.specs.Tree.{IsIndexTree}
+use Rattle.indexes.specs.Entries.{collations, entries_of_rows}
+use Rattle.indexes.specs.Keeping.{columns_in}
+use Rattle.catalog.specs.declared.tables.Index.{Index}
+use Rattle.bind.specs.Readings.{holds}
+use Rattle.bind.specs.declared.queries.BoundSource.{BoundSource}
+use Rattle.plan.specs.Searching.{IsUntrue, is_found}
+use Rattle.plan.specs.declared.searching.Search.{Search}
+use Rattle.rowprog.specs.Rows.{TableRow}
+use Rattle.rowprog.specs.Sources.{as_source}
+use Rattle.rowprog.specs.Trees.{HasRows}
+
+-- the index's tree has the entries of these rows
+abbrev pub HasEntriesOf : PageMap → ℕ → List TableRow → Index → Type 0
+HasEntriesOf pages size rows index = (used : List ℕ)
+    × IsIndexTree pages size index.root (collations (columns_in index.columns)) (entries_of_rows (columns_in index.columns) rows) used
+
+-- A table's tree has these rows, whose rowids have 64 bits, and the trees of its indexes have their entries.
+pub record HasIndexed (pages : PageMap) (size : ℕ) (table : BoundSource) (indexes : List Index) (rows : List TableRow) : Type 0 where
+  pub whole : AreWhole size pages
+  pub has : HasRows pages size table.root table.width rows
+  pub words : AllByRecursion (λ (row : TableRow). is_word row.0 ≡ true) rows
+  pub entries : AllByRecursion (HasEntriesOf pages size rows) indexes
+
+-- Of such trees these are the rows that a search finds; or memory was short, or a disk's call failed.
+abbrev pub FindsRows : PageMap → ℕ → BoundSource → List Index → Search → Result (List Row) Fault → Type 0
+FindsRows pages size table indexes search result = (rows : List TableRow) → HasIndexed pages size table indexes rows
+    → MatchResult result (λ found. found ≡ filter (is_found indexes search) (map as_source rows)) IsOutside
+
+-- there is a condition, which isn't true for the row, and isn't refused
+abbrev pub IsUntrueFor : Option Term → Row → Type 0
+IsUntrueFor None row = ⊥
+IsUntrueFor (Some condition) row = IsUntrue (holds condition (row ∷ []))
+
+-- These are the rows but for some for which the condition isn't true, and isn't refused.
+pub record LeaveOutUntrue (condition : Option Term) (found : List Row) (rows : List TableRow) : Type 0 where
+  pub keep : Row → Bool
+  pub are : found ≡ filter keep (map as_source rows)
+  pub others : (row : Row) → keep row ≡ false → IsUntrueFor condition row
+
+-- Of such trees these are the rows that a condition needs; or memory was short, or a disk's call failed.
+abbrev pub FindsNeeded : PageMap → ℕ → BoundSource → List Index → Option Term → Result (List Row) Fault → Type 0
+FindsNeeded pages size table indexes condition result = (rows : List TableRow) → HasIndexed pages size table indexes rows
+    → MatchResult result (λ found. LeaveOutUntrue condition found rows) IsOutside
