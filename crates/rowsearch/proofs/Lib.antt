@@ -1,5 +1,6 @@
 mod Batches
 mod Ends
+mod FoundRows
 pub mod Gathered
 mod Gathering
 pub mod KeyRows

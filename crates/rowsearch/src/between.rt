@@ -42,7 +42,7 @@ fn cut_off(rows: &mut Vec<SourceRow>, high: i64)
 
 /// The rows of a table whose rowids are from one to another, both among them, by rising rowid. Where the first is after the second nothing
 /// is read. (What `next_source_rows` refuses; `Memory`.)
-pub fn rows_between<P: Pages>(
+pub(crate) fn rows_between<P: Pages>(
     alloc: Global,
     pages: &mut P,
     table: BoundSource,

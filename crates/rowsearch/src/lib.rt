@@ -1,12 +1,12 @@
-//! The rows of a table that a search finds: by an index those of a key, or of a range, and those of a range of rowids.
+//! The rows of a table that a search finds, by its rowids or by one of its indexes, and those that a condition needs.
 #![tactic(auto)]
 
 mod between;
 mod entries;
+mod found;
 mod ranges;
 mod rows;
 mod searching;
 mod seeking;
 
-pub use between::rows_between;
-pub use searching::{rows_by_key, rows_in_range};
+pub use found::{found_rows, needed_rows};

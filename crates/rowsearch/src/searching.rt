@@ -41,7 +41,7 @@ fn sought_rows<P: Pages>(
 }
 
 /// The rows of a table whose values of an index's first columns are a key, by rising rowid. (What `sought_rows` refuses.)
-pub fn rows_by_key<P: Pages>(
+pub(crate) fn rows_by_key<P: Pages>(
     alloc: Global,
     pages: &mut P,
     table: BoundSource,
@@ -57,7 +57,7 @@ pub fn rows_by_key<P: Pages>(
 
 /// The rows of a table whose values of an index's first columns are a key, which may be empty, and whose value of the next column lies in a
 /// range, by rising rowid. (What `sought_rows` refuses.)
-pub fn rows_in_range<P: Pages>(
+pub(crate) fn rows_in_range<P: Pages>(
     alloc: Global,
     pages: &mut P,
     table: BoundSource,

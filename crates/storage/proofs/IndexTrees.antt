@@ -1,10 +1,10 @@
--- A query of one source of a database, answered by a search.
-use Rattle.std.proofs.Common.{◌≡◌, refl, sym, ap, subst, ◌∙◌, ℕ, Bool, true, false, ◌&&◌, ◌==◌, List, [], ◌∷◌, ◌++◌, map, length, Some}
+-- The sources of a query on a database: their rows, and the entries of their indexes.
+use Rattle.std.proofs.Common.{◌≡◌, refl, sym, ap, subst, ◌∙◌, ℕ, suc, Bool, true, false, ◌&&◌, ◌==◌, List, [], ◌∷◌, ◌++◌, map, length, Option, Some, None}
 use Rattle.std.proofs.lemmas.Bool.{false≢true}
+use Rattle.std.proofs.lemmas.List.{append_assoc}
 use Rattle.std.specs.List.{AllByRecursion, list_all}
 use Rattle.std.specs.Ordering.{int_cmp}
-use Rattle.std.specs.Prelude.{Result, option_map}
-use Rattle.sqlval.specs.declared.fault.Fault.{Fault}
+use Rattle.std.specs.Prelude.{option_map}
 use Rattle.sqlval.specs.Conversion.{is_word}
 use Rattle.sqlval.specs.Lists.{is_rising}
 use Rattle.pages.specs.Map.{PageMap}
@@ -18,19 +18,15 @@ use Rattle.catalog.specs.Listed.{is_table, plain_column, plain_table, table_name
 use Rattle.catalog.specs.Rows.{is_row, is_value}
 use Rattle.catalog.specs.declared.tables.Index.{Index}
 use Rattle.catalog.specs.declared.tables.Table.{Table}
-use Rattle.bind.specs.Views.{answer_of}
 use Rattle.bind.specs.declared.queries.BoundSource.{BoundSource}
-use Rattle.bind.specs.declared.reading.Condition.{Condition}
-use Rattle.bind.specs.declared.reading.Reading.{Reading}
 use Rattle.querybinder.specs.Named.{ArePlaced, place_seen}
-use Rattle.queries.specs.Answers.{LoadsBeside}
+use Rattle.queries.specs.Nesting.{Named}
 use Rattle.rowprog.specs.Rows.{TableRow}
-use Rattle.rowprog.specs.Trees.{AnswersOrFails}
-use Rattle.storage.specs.Reading.{AnswersSearched, HasEntriesOf, IsOnly}
+use Rattle.rowsearch.specs.Found.{HasEntriesOf, HasIndexed}
+use Rattle.storage.specs.Reading.{HasSource, HaveSources, IsSourceOf}
 use Rattle.stored.specs.Stored.{AreHeld, Stores, all_trees}
-use Rattle.storage.proofs.Answering.{Rows}
-use Rattle.storage.proofs.Owners.{found_among, table_of_parts, trees_around}
-use Rattle.storage.proofs.StreamedRows.{bound_over}
+use Rattle.storage.proofs.LoadedSources.{get_at, one_longer}
+use Rattle.storage.proofs.Owners.{found_among, has_rows, table_of_parts, trees_around}
 
 -- ---- the trees of a table's indexes
 
@@ -64,18 +60,7 @@ have_entries pages size tables db held name t named =
     by [] others are trees = absurd are
     by (first ∷ mine) others are trees = entries_trees pages size (held.rows_at t.root) t.indexes mine others are.1 trees.1
 
--- ---- the query
-
--- the only source stands at the place of its table
-same_root : (tables : List Table) (sources : List (Name × Condition)) (places : List BoundSource) (place : BoundSource) (t : Table) → ArePlaced tables sources places → places ≡ place ∷ []
-    → (only : IsOnly tables sources t) → t.root ≡ place.root
-same_root tables sources places place t placed one only = at (subst (λ (ps : List BoundSource). ArePlaced tables ((only.0, only.1) ∷ []) ps) one (subst (λ (ss : List (Name × Condition)). ArePlaced tables ss places) only.2 placed))
-  where
-    root_of : (a b : BoundSource) → Some a ≡ Some b → a.root ≡ b.root
-    root_of a b e = cc
-
-    at : ArePlaced tables ((only.0, only.1) ∷ []) (place ∷ []) → t.root ≡ place.root
-    at are = root_of (place_seen t) place (sym (ap (option_map place_seen) only.3) ∙ are.0)
+-- ---- rowids
 
 left : (x y : Bool) → (x && y) ≡ true → x ≡ true
 left true y h = refl
@@ -85,7 +70,7 @@ right : (x y : Bool) → (x && y) ≡ true → y ≡ true
 right true y h = h
 right false y h = absurd (false≢true h)
 
--- its rowids are numbers of 64 bits
+-- a row's rowid is a number of 64 bits
 word_of : (table : Table) (row : TableRow) (rows : List TableRow) → is_row (plain_table table rows) row ≡ true → is_word row.0 ≡ true
 word_of table row rows is =
     let long = length row.1 == length (map plain_column table.columns) in
@@ -108,18 +93,45 @@ words_at pages size tables db held name t named =
     let o = table_of_parts held.rows_at tables held.held among.front t among.back among.parts held.each in
     have_words held.rows_at t o.split.at o.split.is
 
-pub bound_searched : {X : Type 0} (view : X → Rows) (law : LoadsBeside) (pages : PageMap) (size : ℕ) (tables : List Table) (db : Database) (stored : Stores pages size tables db) (reading : Reading) (places : List BoundSource)
-    (place : BoundSource) (t : Table) (result : Result X Fault) → places ≡ place ∷ [] → ArePlaced tables reading.sources places → IsOnly tables reading.sources t
-    → AnswersSearched view pages size reading place t.indexes result → AnswersOrFails view (answer_of db [] reading) result
-bound_searched view law pages size tables db stored reading places place t result one placed only searches =
-    bound_over view law pages size tables db stored reading places place result one placed
-    (λ whole has. searches (stored.rows_at place.root) (record { whole = whole; has = has; words = words; entries = entries }))
-  where
-    at : t.root ≡ place.root
-    at = same_root tables reading.sources places place t placed one only
+-- ---- the sources of a query
 
-    words : AllByRecursion (λ (row : TableRow). is_word row.0 ≡ true) (stored.rows_at place.root)
-    words = subst (λ root. AllByRecursion (λ (row : TableRow). is_word row.0 ≡ true) (stored.rows_at root)) at (words_at pages size tables db stored only.0 t only.3)
+same_some : {A : Type 0} (a b : A) → Some a ≡ Some b → a ≡ b
+same_some a b e = cc
 
-    entries : AllByRecursion (HasEntriesOf pages size (stored.rows_at place.root)) t.indexes
-    entries = subst (λ root. AllByRecursion (HasEntriesOf pages size (stored.rows_at root)) t.indexes) at (have_entries pages size tables db stored only.0 t only.3)
+module _ (pages : PageMap) (size : ℕ) (tables : List Table) (db : Database) (stored : Stores pages size tables db) where
+  has_indexed : (name : Name) (place : BoundSource) (t : Table) → option_map place_seen (table_named name tables) ≡ Some place → table_named name tables ≡ Some t
+      → HasIndexed pages size place t.indexes (stored.rows_at place.root)
+  has_indexed name place t placed named =
+      subst (λ (x : BoundSource). HasIndexed pages size x t.indexes (stored.rows_at x.root)) (same_some (place_seen t) place (sym (ap (option_map place_seen) named) ∙ placed))
+      (record {
+        whole = stored.shared.whole;
+        has = has_rows pages size tables db stored name t named;
+        words = words_at pages size tables db stored name t named;
+        entries = have_entries pages size tables db stored name t named;
+      })
+
+  has_source : (before : List Named) (s : Named) (ss : List Named) (place : BoundSource) → option_map place_seen (table_named s.0 tables) ≡ Some place
+      → HasSource pages size tables (before ++ (s ∷ ss)) (length before) place (stored.rows_at place.root)
+  has_source before s ss place placed = by (table_named s.0 tables) refl placed
+    where
+      indexed : (t : Table) → IsSourceOf tables (before ++ (s ∷ ss)) (length before) t → HasIndexed pages size place t.indexes (stored.rows_at place.root)
+      indexed t is =
+          has_indexed s.0 place t placed
+          (subst (λ (it : Named). table_named it.0 tables ≡ Some t) (same_some is.0 s (sym is.1 ∙ get_at before s ss)) is.2)
+
+      by : (found : Option Table) → table_named s.0 tables ≡ found → option_map place_seen found ≡ Some place → HasSource pages size tables (before ++ (s ∷ ss)) (length before) place (stored.rows_at place.root)
+      by None named at = (let bad : None ≡ Some place = at in cc)
+      by (Some t) named at = (let it = has_indexed s.0 place t placed named in record { whole = it.whole; has = it.has; indexed = indexed })
+
+  pub have_sources : (sources : List Named) (places : List BoundSource) → ArePlaced tables sources places → HaveSources pages size tables sources stored.rows_at 0 places
+  have_sources sources places placed = from [] sources places placed
+    where
+      from : (before rest : List Named) (places : List BoundSource) → ArePlaced tables rest places → HaveSources pages size tables (before ++ rest) stored.rows_at (length before) places
+      from before rest [] placed = tt
+      from before [] (p ∷ ps) placed = absurd placed
+      from before (s ∷ ss) (p ∷ ps) placed =
+          (
+            has_source before s ss p placed.0,
+            subst (λ (them : List Named). HaveSources pages size tables them stored.rows_at (suc (length before)) ps) (append_assoc before (s ∷ []) ss)
+            (subst (λ (n : ℕ). HaveSources pages size tables ((before ++ s ∷ []) ++ ss) stored.rows_at n ps) (one_longer before s) (from (before ++ s ∷ []) ss ps placed.1)),
+          )

@@ -14,7 +14,6 @@ pub mod Owners
 pub mod Replacing
 pub mod Roots
 pub mod SchemaRows
-mod SearchedRows
 mod IndexTrees
 pub mod StreamedRows
 pub mod Telling

@@ -1,12 +1,12 @@
--- The rows of a query's sources, read one table after another, and what a query answers over them.
-use Rattle.std.proofs.Common.{◌≡◌, refl, sym, ap, subst, ◌∙◌, ℕ, List, [], ◌∷◌, ◌++◌, map, length, Bool, Option, Some, None, Result, Ok, Err, arith}
+-- The rows that a query needs of its sources, read one source after another, and what it answers over them.
+use Rattle.std.proofs.Common.{◌≡◌, refl, sym, ap, subst, ◌∙◌, ℕ, suc, ◌+◌, List, [], ◌∷◌, ◌++◌, map, length, Bool, Option, Some, None, Result, Ok, Err, arith}
 use Rattle.std.proofs.lemmas.List.{append-nil, append_assoc}
-use Rattle.std.specs.Prelude.{⊤, IsErrAnd, IsTrue, option_map}
+use Rattle.std.specs.Prelude.{⊤, IsErrAnd, IsTrue, option_map, slice_get, slice_set}
 use Rattle.sqlval.specs.Faults.{IsOutside}
 use Rattle.sqlval.specs.Refusals.{Answer, ◌then◌, all_answers}
 use Rattle.sqlval.specs.declared.fault.Fault.{Fault}
 use Rattle.pages.specs.Calls.{Limits, Stays}
-use Rattle.pages.specs.Map.{PageMap, AreWhole}
+use Rattle.pages.specs.Map.{PageMap}
 use Rattle.syntax.specs.declared.query.Query.{Query}
 use Rattle.catalog.specs.Database.{Database, Name}
 use Rattle.catalog.specs.Listed.{Lists, table_named}
@@ -25,70 +25,117 @@ use Rattle.querybinder.specs.Named.{ArePlaced, place_seen}
 use Rattle.queries.specs.Answers.{LoadsBeside}
 use Rattle.queries.specs.Nesting.{beside_rows}
 use Rattle.rowprog.specs.Rows.{TableRow}
-use Rattle.rowprog.specs.Sources.{LoadsRows, as_source}
-use Rattle.rowprog.specs.Trees.{AnswersOrFails, HasRows}
-use Rattle.storage.specs.Reading.{HaveRows, LoadsAll, rows_in}
-use Rattle.stored.specs.Stored.{Stores}
+use Rattle.rowprog.specs.Sources.{as_source}
+use Rattle.rowprog.specs.Trees.{AnswersOrFails}
+use Rattle.storage.specs.Reading.{AreEnough, HaveSources, LoadsEnough, LoadsNeeded, rows_in}
 use Rattle.storage.specs.Works.{read_on}
 use Rattle.storage.proofs.Answering.{answers}
-use Rattle.storage.proofs.Owners.{has_rows}
 use Rattle.storage.proofs.FoundTables.{table_found}
+
+-- ---- lists
+
+-- whether a query comes to the same over these lists of rows
+abbrev SameOver : Reading → List (List Row) → List (List Row) → Type 0
+SameOver q lists others = rows_over q [] (beside_rows q.sources lists) ≡ rows_over q [] (beside_rows q.sources others)
+
+pub get_at : {A : Type 0} (before : List A) (x : A) (rest : List A) → slice_get (before ++ (x ∷ rest)) (length before) ≡ Some x
+get_at [] x rest = refl
+get_at (y ∷ before) x rest = get_at before x rest
+
+set_at : {A : Type 0} (before : List A) (x y : A) (rest : List A) → slice_set (before ++ (x ∷ rest)) (length before) y ≡ before ++ (y ∷ rest)
+set_at [] x y rest = refl
+set_at (z ∷ before) x y rest = ap (λ more. z ∷ more) (set_at before x y rest)
+
+pub one_longer : {A : Type 0} (before : List A) (x : A) → length (before ++ x ∷ []) ≡ suc (length before)
+one_longer [] x = refl
+one_longer (y ∷ before) x = ap suc (one_longer before x)
 
 -- ---- reading
 
 module _ {P K : Type 0} (below : P → K) (tells : K → Bool) (limits : K → Limits) (pages : P → PageMap) (count : P → ℕ) (failures : P → ℕ × ℕ) where
-  -- What is so after some tables: what is left decides.
-  pub record HasLoaded (old now : P) (tables left : List BoundSource) (sources : List (List Row)) : Type 0 where
+  -- What is so after some sources: what is left decides.
+  pub record HasLoaded (old now : P) (tables : List Table) (q : Reading) (places left : List BoundSource) (sources : List (List Row)) : Type 0 where
     pub stays : Stays below pages count failures {T = ⊤} (Ok tt) old now
-    pub so_far : (rows_at : ℕ → List TableRow) → HaveRows (pages old) (limits (below old)).page rows_at tables → HaveRows (pages old) (limits (below old)).page rows_at left
-    pub loaded_are : IsTrue (tells (below old)) → (rows_at : ℕ → List TableRow) → AreWhole (limits (below old)).page (pages old) → HaveRows (pages old) (limits (below old)).page rows_at tables
-        → sources ++ rows_in rows_at left ≡ rows_in rows_at tables
+    pub many : length sources + length left ≡ length places
+    pub so_far : (rows_at : ℕ → List TableRow) → HaveSources (pages old) (limits (below old)).page tables q.sources rows_at 0 places
+        → HaveSources (pages old) (limits (below old)).page tables q.sources rows_at (length sources) left
+    pub loaded_are : IsTrue (tells (below old)) → (rows_at : ℕ → List TableRow) → HaveSources (pages old) (limits (below old)).page tables q.sources rows_at 0 places
+        → SameOver q (sources ++ rows_in rows_at left) (rows_in rows_at places)
 
-  pub none_loaded : (old : P) (tables : List BoundSource) (sources : List (List Row)) → sources ≡ [] → HasLoaded old old tables tables sources
-  none_loaded old tables sources none = record {
+  pub none_loaded : (old : P) (tables : List Table) (q : Reading) (places : List BoundSource) (sources : List (List Row)) → sources ≡ [] → HasLoaded old old tables q places places sources
+  none_loaded old tables q places sources none = record {
     stays = record { kept = refl; same = refl; counted = refl; causes = record { db = omega arith; log = omega arith; why = tt } };
-    so_far = λ rows_at have. have;
-    loaded_are = λ told rows_at whole have. ap (λ (l : List (List Row)). l ++ rows_in rows_at tables) none;
+    many = ap (λ (l : List (List Row)). length l + length places) none;
+    so_far = λ rows_at have. subst (λ (l : List (List Row)). HaveSources (pages old) (limits (below old)).page tables q.sources rows_at (length l) places) (sym none) have;
+    loaded_are = λ told rows_at have. ap (λ (l : List (List Row)). rows_over q [] (beside_rows q.sources (l ++ rows_in rows_at places))) none;
   }
 
   -- what a call says of the pages as they were
-  since : (old mid : P) (table : BoundSource) (result : Result (List Row) Fault) → Stays below pages count failures {T = ⊤} (Ok tt) old mid
-      → (IsTrue (tells (below mid)) → LoadsRows (pages mid) (limits (below mid)).page table result) → IsTrue (tells (below old)) → LoadsRows (pages old) (limits (below old)).page table result
-  since old mid table result stays loads told =
-      subst (λ (m : PageMap). LoadsRows m (limits (below old)).page table result) stays.same
-      (subst (λ (k : K). LoadsRows (pages mid) (limits k).page table result) stays.kept (loads (subst (λ (k : K). IsTrue (tells k)) (sym stays.kept) told)))
+  since : (old mid : P) (tables : List Table) (q : Reading) (n : ℕ) (place : BoundSource) (result : Result (List Row) Fault) → Stays below pages count failures {T = ⊤} (Ok tt) old mid
+      → (IsTrue (tells (below mid)) → LoadsNeeded (pages mid) (limits (below mid)).page tables q n place result) → IsTrue (tells (below old)) → LoadsNeeded (pages old) (limits (below old)).page tables q n place result
+  since old mid tables q n place result stays loads told =
+      subst (λ (m : PageMap). LoadsNeeded m (limits (below old)).page tables q n place result) stays.same
+      (subst (λ (k : K). LoadsNeeded (pages mid) (limits k).page tables q n place result) stays.kept (loads (subst (λ (k : K). IsTrue (tells k)) (sym stays.kept) told)))
 
-  module _ (old mid : P) (tables left rest : List BoundSource) (table : BoundSource) (sources : List (List Row)) (has : HasLoaded old mid tables left sources) (left_is : left ≡ table ∷ rest) where
-    pub one_loaded : (new : P) (found : List Row) (after : List (List Row)) → Stays below pages count failures {T = ⊤} (Ok tt) old new
-        → (IsTrue (tells (below mid)) → LoadsRows (pages mid) (limits (below mid)).page table (Ok found)) → after ≡ sources ++ found ∷ [] → HasLoaded old new tables rest after
-    one_loaded new found after stays loads after_is = record {
+  module _ (old mid : P) (tables : List Table) (q : Reading) (places left rest : List BoundSource) (place : BoundSource) (sources : List (List Row)) (has : HasLoaded old mid tables q places left sources) (left_is : left ≡ place ∷ rest) where
+    next_source : (rows_at : ℕ → List TableRow) → HaveSources (pages old) (limits (below old)).page tables q.sources rows_at 0 places
+        → HaveSources (pages old) (limits (below old)).page tables q.sources rows_at (length sources) (place ∷ rest)
+    next_source rows_at have = subst (HaveSources (pages old) (limits (below old)).page tables q.sources rows_at (length sources)) left_is (has.so_far rows_at have)
+
+    pub one_loaded : (new : P) (n : ℕ) (found : List Row) (after : List (List Row)) → n ≡ length sources → Stays below pages count failures {T = ⊤} (Ok tt) old new
+        → (IsTrue (tells (below mid)) → LoadsNeeded (pages mid) (limits (below mid)).page tables q n place (Ok found)) → after ≡ sources ++ found ∷ [] → HasLoaded old new tables q places rest after
+    one_loaded new n found after number stays loads after_is = record {
       stays = stays;
-      so_far = λ rows_at have. (subst (HaveRows (pages old) (limits (below old)).page rows_at) left_is (has.so_far rows_at have)).1;
-      loaded_are = λ told rows_at whole have.
-          let first = (subst (HaveRows (pages old) (limits (below old)).page rows_at) left_is (has.so_far rows_at have)).0 in
-          let found_is : found ≡ map as_source (rows_at table.root) = since old mid table (Ok found) has.stays loads told (rows_at table.root) whole first in
-          ap (λ (l : List (List Row)). l ++ rows_in rows_at rest) after_is
-          ∙ (append_assoc sources (found ∷ []) (rows_in rows_at rest)
-          ∙ (ap (λ (r : List Row). sources ++ (r ∷ rows_in rows_at rest)) found_is
-          ∙ (ap (λ (l : List BoundSource). sources ++ rows_in rows_at l) (sym left_is) ∙ has.loaded_are told rows_at whole have)));
+      many = ap (λ (l : List (List Row)). length l + length rest) after_is ∙ counted;
+      so_far = λ rows_at have.
+          subst (λ (l : List (List Row)). HaveSources (pages old) (limits (below old)).page tables q.sources rows_at (length l) rest) (sym after_is)
+          (subst (λ (k : ℕ). HaveSources (pages old) (limits (below old)).page tables q.sources rows_at k rest) (sym (one_longer sources found)) (next_source rows_at have).1);
+      loaded_are = λ told rows_at have.
+          let all = map as_source (rows_at place.root) in
+          let more = rows_in rows_at rest in
+          let over : List (List Row) → _ = λ lists. rows_over q [] (beside_rows q.sources lists) in
+          let read : LoadsNeeded (pages old) (limits (below old)).page tables q (length sources) place (Ok found) =
+          subst (λ (k : ℕ). LoadsNeeded (pages old) (limits (below old)).page tables q k place (Ok found)) number (since old mid tables q n place (Ok found) has.stays loads told) in
+          let same = read (rows_at place.root) (next_source rows_at have).0 (sources ++ (all ∷ more)) (get_at sources all more) in
+          ap (λ (l : List (List Row)). over (l ++ more)) after_is
+          ∙ (ap over (append_assoc sources (found ∷ []) more)
+          ∙ (ap over (sym (set_at sources all found more))
+          ∙ (sym same
+          ∙ (ap (λ (l : List BoundSource). over (sources ++ rows_in rows_at l)) (sym left_is) ∙ has.loaded_are told rows_at have))));
     }
+      where
+        counted : length (sources ++ found ∷ []) + length rest ≡ length places
+        counted =
+            (let longer = one_longer sources found in
+            let shorter : length left ≡ suc (length rest) = ap length left_is in
+            let many = has.many in
+            omega (arith, longer, shorter, many))
 
-    -- a table that isn't read
-    pub not_loaded : {X : Type 0} (view : X → List (List Row)) (fault : Fault) (result : Result X Fault) → IsErrAnd result (λ e. e ≡ fault)
-        → (IsTrue (tells (below mid)) → LoadsRows (pages mid) (limits (below mid)).page table (Err fault)) → IsTrue (tells (below old)) → LoadsAll view (pages old) (limits (below old)).page tables result
-    not_loaded view fault (Ok x) same loads told = absurd same
-    not_loaded view fault (Err e) same loads told = λ rows_at whole have.
-        let first = (subst (HaveRows (pages old) (limits (below old)).page rows_at) left_is (has.so_far rows_at have)).0 in
-        subst IsOutside (sym same) (since old mid table (Err fault) has.stays loads told (rows_at table.root) whole first)
+    -- a source that isn't read
+    pub not_loaded : {X : Type 0} (view : X → List (List Row)) (n : ℕ) (fault : Fault) (result : Result X Fault) → n ≡ length sources → IsErrAnd result (λ e. e ≡ fault)
+        → (IsTrue (tells (below mid)) → LoadsNeeded (pages mid) (limits (below mid)).page tables q n place (Err fault)) → IsTrue (tells (below old))
+        → LoadsEnough view (pages old) (limits (below old)).page tables q places result
+    not_loaded view n fault (Ok x) number same loads told = absurd same
+    not_loaded view n fault (Err e) number same loads told = λ rows_at have.
+        let read : LoadsNeeded (pages old) (limits (below old)).page tables q (length sources) place (Err fault) =
+        subst (λ (k : ℕ). LoadsNeeded (pages old) (limits (below old)).page tables q k place (Err fault)) number (since old mid tables q n place (Err fault) has.stays loads told) in
+        subst IsOutside (sym same) (read (rows_at place.root) (next_source rows_at have).0)
 
-  pub all_loaded : {X : Type 0} (view : X → List (List Row)) (x : X) (old mid : P) (tables left : List BoundSource) → HasLoaded old mid tables left (view x) → left ≡ [] → IsTrue (tells (below old))
-      → LoadsAll view (pages old) (limits (below old)).page tables (Ok x)
-  all_loaded view x old mid tables left has none told = λ rows_at whole have.
-      sym (append-nil (view x)) ∙ (ap (λ (l : List BoundSource). view x ++ rows_in rows_at l) (sym none) ∙ has.loaded_are told rows_at whole have)
+  pub all_loaded : {X : Type 0} (view : X → List (List Row)) (x : X) (old mid : P) (tables : List Table) (q : Reading) (places left : List BoundSource) → HasLoaded old mid tables q places left (view x) → left ≡ []
+      → IsTrue (tells (below old)) → LoadsEnough view (pages old) (limits (below old)).page tables q places (Ok x)
+  all_loaded view x old mid tables q places left has none told = λ rows_at have. record {
+    many = whole rows_at;
+    same =
+        ap (λ (l : List (List Row)). rows_over q [] (beside_rows q.sources l)) (sym (append-nil (view x)))
+        ∙ (ap (λ (l : List BoundSource). rows_over q [] (beside_rows q.sources (view x ++ rows_in rows_at l))) (sym none) ∙ has.loaded_are told rows_at have);
+  }
+    where
+      mapped : (rows_at : ℕ → List TableRow) (them : List BoundSource) → length (rows_in rows_at them) ≡ length them
+      mapped rows_at [] = refl
+      mapped rows_at (p ∷ ps) = ap suc (mapped rows_at ps)
 
--- of the same tables
-pub loads_same : {X : Type 0} (view : X → List (List Row)) (pages : PageMap) (size : ℕ) (given tables : List BoundSource) (result : Result X Fault) → given ≡ tables → LoadsAll view pages size given result → LoadsAll view pages size tables result
-loads_same view pages size given tables result same loads = subst (λ (ts : List BoundSource). LoadsAll view pages size ts result) same loads
+      whole : (rows_at : ℕ → List TableRow) → length (view x) ≡ length (rows_in rows_at places)
+      whole rows_at = (let many = has.many in let empty : length left ≡ 0 = ap length none in let them = mapped rows_at places in omega (arith, many, empty, them))
 
 -- ---- the sources of a query
 
@@ -127,23 +174,6 @@ as_many rows_at tables [] (p ∷ ps) placed = absurd placed
 as_many rows_at tables (s ∷ ss) [] placed = absurd placed
 as_many rows_at tables (s ∷ ss) (p ∷ ps) placed = (let more = as_many rows_at tables ss ps placed.1 in omega (arith, more))
 
--- each of them is in its tree
-pub have_rows : (pages : PageMap) (size : ℕ) (tables : List Table) (db : Database) (stored : Stores pages size tables db) (sources : List (Name × Condition)) (places : List BoundSource) → ArePlaced tables sources places
-    → HaveRows pages size stored.rows_at places
-have_rows pages size tables db stored [] [] placed = tt
-have_rows pages size tables db stored [] (p ∷ ps) placed = absurd placed
-have_rows pages size tables db stored (s ∷ ss) [] placed = absurd placed
-have_rows pages size tables db stored (s ∷ ss) (p ∷ ps) placed = (at (table_named s.0 tables) refl placed.0, have_rows pages size tables db stored ss ps placed.1)
-  where
-    at : (found : Option Table) → table_named s.0 tables ≡ found → option_map place_seen found ≡ Some p → HasRows pages size p.root p.width (stored.rows_at p.root)
-    at None is e = (let bad : None ≡ Some p = e in cc)
-    at (Some t) is e =
-        subst (λ (x : BoundSource). HasRows pages size x.root x.width (stored.rows_at x.root)) (one (place_seen t) p e)
-        (has_rows pages size tables db stored s.0 t is)
-      where
-        one : (a b : BoundSource) → Some a ≡ Some b → a ≡ b
-        one a b x = cc
-
 -- ---- its answer
 
 -- a query comes to what it comes to over the rows of its sources
@@ -153,13 +183,13 @@ answer_over law rows_at tables db reading places lists placed =
     ap (λ a. a then rows_over reading []) (law (all_rows db) reading.sources ∙ ap (λ (a : Answer (List (List Row))). a then λ lists. Ok (beside_rows reading.sources lists)) (sources_loaded rows_at tables db lists reading.sources places placed))
 
 pub rows_answered : {X : Type 0} (view : X → List (List _)) (law : LoadsBeside) (rows_at : ℕ → List TableRow) (tables : List Table) (db : Database) (reading : Reading) (places : List BoundSource) (sources : List (List Row)) (result : Result X Fault)
-    → Lists rows_at tables db → ArePlaced tables reading.sources places → sources ≡ rows_in rows_at places
+    → Lists rows_at tables db → ArePlaced tables reading.sources places → AreEnough reading sources (rows_in rows_at places)
     → (length sources ≡ length reading.sources → AnswersBy view (rows_over reading [] (beside_rows reading.sources sources)) result) → AnswersOrFails view (answer_of db [] reading) result
-rows_answered view law rows_at tables db reading places sources result lists placed are gives =
-    answers view (answer_of db [] reading) result (subst (λ a. AnswersBy view a result) (sym over) (gives (ap length are ∙ as_many rows_at tables reading.sources places placed)))
+rows_answered view law rows_at tables db reading places sources result lists placed enough gives =
+    answers view (answer_of db [] reading) result (subst (λ a. AnswersBy view a result) (sym over) (gives (enough.many ∙ as_many rows_at tables reading.sources places placed)))
   where
     over : answer_of db [] reading ≡ rows_over reading [] (beside_rows reading.sources sources)
-    over = answer_over law rows_at tables db reading places lists placed ∙ ap (λ (l : List (List Row)). rows_over reading [] (beside_rows reading.sources l)) (sym are)
+    over = answer_over law rows_at tables db reading places lists placed ∙ sym enough.same
 
 -- a refusal of its names is one of reading it
 pub unnamed : (db : Database) (q : Query) (f : Fault) → IsFaultOf (faults (resolve_query (look_up db) [] q)) f → IsFaultOf (faults (read_on db q)) f

@@ -25,10 +25,11 @@ use Rattle.queries.specs.Nesting.{beside_rows}
 use Rattle.queries.specs.Parts.{GiveNone, StayRefused, given_of, is_row_by_row}
 use Rattle.rowprog.specs.Sources.{GivesRows, HoldRows, as_held, as_source}
 use Rattle.rowprog.specs.Trees.{AnswersOrFails, HasRows}
-use Rattle.storage.specs.Reading.{HaveRows, Streams, rows_in}
+use Rattle.storage.specs.Reading.{HaveSources, Streams, rows_in}
 use Rattle.stored.specs.Stored.{Stores}
 use Rattle.storage.proofs.Answering.{Rows, answers}
-use Rattle.storage.proofs.LoadedSources.{answer_over, have_rows}
+use Rattle.storage.proofs.IndexTrees.{have_sources}
+use Rattle.storage.proofs.LoadedSources.{answer_over}
 
 -- a query is refused where what it gives is
 refused_over : (q : Reading) (rows : List Row) (r : Refusal) → given_of q rows ≡ Err r → rows_over q [] (beside_rows q.sources (rows ∷ [])) ≡ Err r
@@ -143,10 +144,4 @@ bound_over view law pages size tables db stored reading places table result one 
         ∙ ap (λ (them : List BoundSource). rows_over reading [] (beside_rows reading.sources (rows_in stored.rows_at them))) one
 
     held : HasRows pages size table.root table.width (stored.rows_at table.root)
-    held = (subst (HaveRows pages size stored.rows_at) one (have_rows pages size tables db stored reading.sources places placed)).0
-
--- a list of one item
-pub one_of : {A : Type 0} (xs : List A) (d : A) → 1 ≤ length xs → length xs < 2 → xs ≡ slice_index_or xs 0 d ∷ []
-one_of [] d some few = absurd (omega (arith, some))
-one_of (x ∷ []) d some few = refl
-one_of (x ∷ y ∷ xs) d some few = absurd (omega (arith, few))
+    held = (subst (HaveSources pages size tables reading.sources stored.rows_at 0) one (have_sources pages size tables db stored reading.sources places placed)).0.has

@@ -7,7 +7,6 @@ mod dropping;
 mod giving;
 mod inserting;
 mod reading;
-mod searching;
 mod updating;
 
 pub use creating::{create_index, create_table};

@@ -1,67 +1,108 @@
 //! The rows of a query.
 
-ghost use Rattle.std.specs.Prelude.{◌≡◌, ◌∷◌, [], length, map, true, IfOk, IfSome, IsTrue, List};
+ghost use Rattle.std.specs.Prelude.{◌≡◌, ◌∷◌, [], length, map, true, IfErr, IfOk, IfSome, IsTrue};
 ghost use Rattle.pages.specs.Calls.{Stays};
 ghost use Rattle.catalog.specs.Database.{Database};
 ghost use Rattle.catalog.specs.Listed.{tables_of};
-ghost use Rattle.catalog.specs.declared.tables.Table.{Table as Listed};
 ghost use Rattle.bind.specs.Views.{answer_of};
 ghost use Rattle.querybinder.specs.Named.{ArePlaced};
 ghost use Rattle.queries.specs.Answers.{HaveWidth};
 ghost use Rattle.queries.specs.Parts.{is_row_by_row as row_by_row};
 ghost use Rattle.rowprog.specs.Rows.{values_of};
 ghost use Rattle.rowprog.specs.Trees.{AnswersOrFails};
-ghost use Rattle.storage.specs.Reading.{AnswersRead, IsOnly, LoadsAll, Streams};
+ghost use Rattle.storage.specs.Reading.{AnswersRead, IsSourceOf, LoadsEnough, LoadsNeeded, Streams};
 ghost use Rattle.stored.specs.Stored.{Stores};
 ghost use Rattle.storage.specs.Works.{read_on};
 
-use crate::searching::searched_rows;
 use bind::{BoundSource, Reading};
 use catalog::{Catalog, Table};
 use pages::Pages;
-use plan::search_of;
 use queries::{
     GivenRows, answer, finish, give_rows, is_row_by_row, rows_are_given_in_parts,
-    rows_are_loaded_beside_conditions,
+    rows_are_loaded_beside_conditions, search_at, searches_as_scans,
 };
 use querybinder::{BoundReading, bind_reading};
 use rowprog::{Rows, next_source_rows, rows_are_held, source_rows};
-use sqlval::{Many, R};
+use rowsearch::found_rows;
+use sqlval::{Fault, Many, R};
 use std::alloc::Global;
 use syntax::Query;
 use tabletree::{Batch, Cursor};
 use terms::SourceRow;
 
-/// The rows of these tables, each table's by rising rowid. (What `source_rows` refuses.)
+/// The table that a query's source of a number is, if there is one of its name.
+fn table_of<'a>(catalog: &'a Catalog, reading: &Reading, source: usize) -> Option<&'a Table>
+    ensures { IfSome result (λ table. IsSourceOf (tables_of catalog.now) reading.now.sources source table.now) }
+{
+    let (name, _) = reading.sources.as_slice().get(source)?;
+    catalog.table(name.as_str())
+}
+
+/// The rows of a query's source that it needs, by rising rowid: those that what it seeks of the source finds, or all. (What `search_at`,
+/// `found_rows` and `source_rows` refuse.)
+fn needed_rows<P: Pages>(
+    alloc: Global,
+    pages: &mut P,
+    catalog: &Catalog,
+    reading: &Reading,
+    source: usize,
+    place: BoundSource,
+) -> R<Many<SourceRow>>
+    ensures loaded { IsTrue (P.Pages.tells (P.Pages.below pages.old))
+        → LoadsNeeded (P.Pages.map pages.old) (P.Pages.limits (P.Pages.below pages.old)).page (tables_of catalog.now) reading.now source place result }
+    ensures stays { Stays P.Pages.below P.Pages.map P.Pages.count P.Pages.failures result pages.old pages.new }
+{
+    let Some(table) = table_of(catalog, reading, source) else {
+        return source_rows(alloc, pages, place);
+    };
+    let indexes = table.indexes.as_slice();
+    searches_as_scans();
+    match search_at(alloc, reading, source, indexes)? {
+        Some(search) => found_rows(alloc, pages, place, indexes, search),
+        None => source_rows(alloc, pages, place),
+    }
+}
+
+/// The rows of each source of a query that it needs. (What `needed_rows` refuses.)
 fn load_sources<P: Pages>(
     alloc: Global,
     pages: &mut P,
-    tables: &[BoundSource],
+    catalog: &Catalog,
+    reading: &Reading,
+    places: &[BoundSource],
 ) -> R<Vec<Many<SourceRow>>>
     ensures loaded { IsTrue (P.Pages.tells (P.Pages.below pages.old))
-        → LoadsAll (λ sources. sources.items) (P.Pages.map pages.old) (P.Pages.limits (P.Pages.below pages.old)).page tables.now result }
+        → LoadsEnough (λ sources. sources.items) (P.Pages.map pages.old) (P.Pages.limits (P.Pages.below pages.old)).page
+        (tables_of catalog.now) reading.now places.now result }
     ensures stays { Stays P.Pages.below P.Pages.map P.Pages.count P.Pages.failures result pages.old pages.new }
 {
     let mut sources = Vec::new(alloc);
-    let mut left = tables;
-    'tables: while let Some((table, rest)) = left.split_first() {
-        sources.push(source_rows(alloc, pages, *table)?)?;
+    let mut left = places;
+    'sources: while let Some((place, rest)) = left.split_first() {
+        let source = sources.len();
+        sources.push(needed_rows(alloc, pages, catalog, reading, source, *place)?)?;
         left = rest;
     }
     Ok(sources)
 }
 
-/// The rows of a query whose sources are loaded whole. (What `source_rows` and `answer` refuse.)
-fn loaded_rows<P: Pages>(alloc: Global, pages: &mut P, bound: &BoundReading) -> R<Rows>
-    ensures answered { (tables : List Listed) (db : Database) → IsTrue (P.Pages.tells (P.Pages.below pages.old))
-        → Stores (P.Pages.map pages.old) (P.Pages.limits (P.Pages.below pages.old)).page tables db
-        → ArePlaced tables bound.now.reading.sources bound.now.tables
+/// The rows of a query over the rows of its sources that it needs. (What `load_sources` and `answer` refuse.)
+fn loaded_rows<P: Pages>(
+    alloc: Global,
+    pages: &mut P,
+    catalog: &Catalog,
+    bound: &BoundReading,
+) -> R<Rows>
+    ensures answered { (db : Database) → IsTrue (P.Pages.tells (P.Pages.below pages.old))
+        → Stores (P.Pages.map pages.old) (P.Pages.limits (P.Pages.below pages.old)).page (tables_of catalog.now) db
+        → ArePlaced (tables_of catalog.now) bound.now.reading.sources bound.now.tables
         → AnswersOrFails (λ rows. map values_of rows.items) (answer_of db [] bound.now.reading) result }
     ensures wide { IfOk result (λ rows. HaveWidth (length bound.now.reading.results) (map values_of rows.items)) }
     ensures stays { Stays P.Pages.below P.Pages.map P.Pages.count P.Pages.failures result pages.old pages.new }
 {
     rows_are_loaded_beside_conditions();
-    let sources = load_sources(alloc, pages, bound.tables.as_slice())?;
+    let places = bound.tables.as_slice();
+    let sources = load_sources(alloc, pages, catalog, &bound.reading, places)?;
     answer(alloc, &bound.reading, &sources)
 }
 
@@ -92,18 +133,36 @@ fn streamed_rows<P: Pages>(
     finish(alloc, reading, found)
 }
 
-/// The only source of a query, and the table that it is. None where there are more, or none.
-fn only_source<'a>(catalog: &'a Catalog, bound: &BoundReading) -> Option<(BoundSource, &'a Table)>
-    ensures only { IfSome result (λ it. bound.now.tables ≡ it.0 ∷ []) }
-    ensures named { IfSome result (λ it. IsOnly (tables_of catalog.now) bound.now.reading.sources it.1.now) }
+/// Whether a query seeks something of a source. (`Memory`.)
+fn seeks(alloc: Global, catalog: &Catalog, reading: &Reading, source: usize) -> R<bool>
+    ensures { IfErr result (λ fault. fault ≡ Fault.Memory) }
 {
-    match (bound.tables.as_slice(), bound.reading.sources.as_slice()) {
-        ([source], [(name, _)]) => Some((*source, catalog.table(name.as_str())?)),
-        _ => None,
+    match table_of(catalog, reading, source) {
+        Some(table) => Ok(search_at(alloc, reading, source, table.indexes.as_slice())?.is_some()),
+        None => Ok(false),
     }
 }
 
-/// The rows of a query whose names are looked up. (What `search_of`, `searched_rows`, `streamed_rows` and `loaded_rows` refuse.)
+/// The only source of a query that is row by row and seeks nothing of it. (`Memory`.)
+fn streamed_source(
+    alloc: Global,
+    catalog: &Catalog,
+    bound: &BoundReading,
+) -> R<Option<BoundSource>>
+    ensures only { IfOk result (λ found. IfSome found (λ place. bound.now.tables ≡ place ∷ [])) }
+    ensures plain { IfOk result (λ found. IfSome found (λ place. row_by_row bound.now.reading ≡ true)) }
+    ensures refused { IfErr result (λ fault. fault ≡ Fault.Memory) }
+{
+    let [place] = bound.tables.as_slice() else {
+        return Ok(None);
+    };
+    if !is_row_by_row(&bound.reading) || seeks(alloc, catalog, &bound.reading, 0)? {
+        return Ok(None);
+    }
+    Ok(Some(*place))
+}
+
+/// The rows of a query whose names are looked up. (What `streamed_source`, `streamed_rows` and `loaded_rows` refuse.)
 pub(crate) fn bound_rows<P: Pages>(
     alloc: Global,
     pages: &mut P,
@@ -118,17 +177,10 @@ pub(crate) fn bound_rows<P: Pages>(
     ensures stays { Stays P.Pages.below P.Pages.map P.Pages.count P.Pages.failures result pages.old pages.new }
 {
     rows_are_loaded_beside_conditions();
-    let Some((source, table)) = only_source(catalog, bound) else {
-        return loaded_rows(alloc, pages, bound);
-    };
-    let indexes = table.indexes.as_slice();
-    if let Some(search) = search_of(alloc, &bound.reading, indexes)? {
-        return searched_rows(alloc, pages, &bound.reading, source, indexes, search);
+    match streamed_source(alloc, catalog, bound)? {
+        Some(place) => streamed_rows(alloc, pages, &bound.reading, place),
+        None => loaded_rows(alloc, pages, catalog, bound),
     }
-    if is_row_by_row(&bound.reading) {
-        return streamed_rows(alloc, pages, &bound.reading, source);
-    }
-    loaded_rows(alloc, pages, bound)
 }
 
 /// The rows of a query. (What `bind_reading`, `source_rows` and `answer` refuse.)

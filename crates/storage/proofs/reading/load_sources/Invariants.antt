@@ -1,10 +1,12 @@
--- what is left of the tables decides
+-- what is left of the sources decides
 use Rattle.std.proofs.Common.{length}
+use Rattle.catalog.specs.Listed.{tables_of}
 use Rattle.storage.proofs.LoadedSources.{HasLoaded}
 use Rattle.storage.proofs.reading.load_sources.Given as goal
 
-abbrev pub invariant-tables : goal.invariant-tables
-invariant-tables g l = HasLoaded g.P.Pages.below g.P.Pages.tells g.P.Pages.limits g.P.Pages.map g.P.Pages.count g.P.Pages.failures l.fn.pages l.pages l.tables l.left l.sources.items
+abbrev pub invariant-sources : goal.invariant-sources
+invariant-sources g l =
+    HasLoaded g.P.Pages.below g.P.Pages.tells g.P.Pages.limits g.P.Pages.map g.P.Pages.count g.P.Pages.failures l.fn.pages l.pages (tables_of l.catalog) l.reading l.places l.left l.sources.items
 
-abbrev pub decreases-tables : goal.decreases-tables
-decreases-tables g l = length l.left
+abbrev pub decreases-sources : goal.decreases-sources
+decreases-sources g l = length l.left

@@ -1,0 +1,192 @@
+-- The rows that a search finds, as a query's source has them, and that the others aren't needed.
+use Rattle.std.proofs.Common.{◌≡◌, refl, sym, ap, subst, ◌∙◌, ℕ, ℤ, Bool, true, false, not, ◌||◌, ◌&&◌, cond, zero, suc, ◌≤◌, ◌<◌, List, [], ◌∷◌, map, length, Option, Some, None, Ok, Err, arith}
+use Rattle.std.specs.List.{AllByRecursion}
+use Rattle.std.specs.Ordering.{int_eq}
+use Rattle.std.specs.Prelude.{IsErrAnd, MatchResult, Result, filter, int_lt, slice_get, slice_index_or}
+use mathlib.Core.Bool.{true≢false}
+use Rattle.sqlval.specs.Conversion.{is_word}
+use Rattle.sqlval.specs.Faults.{IsOutside}
+use Rattle.sqlval.specs.declared.fault.Fault.{Fault}
+use Rattle.sqlval.specs.declared.value.Value.{Value}
+use Rattle.pages.specs.Map.{PageMap}
+use Rattle.catalog.specs.declared.tables.Index.{Index}
+use Rattle.catalog.specs.declared.tables.IndexColumn.{IndexColumn}
+use Rattle.terms.specs.Terms.{Term}
+use Rattle.terms.specs.Values.{Row}
+use Rattle.bind.specs.Readings.{holds}
+use Rattle.bind.specs.declared.queries.BoundSource.{BoundSource}
+use Rattle.plan.specs.Keys.{AreAsked, SeeksKey, has_key}
+use Rattle.plan.specs.Ranges.{SeeksRange, has_range, is_outside}
+use Rattle.plan.specs.Searching.{IsSought, IsUntrue, OtherRowsFail, has_other, is_found}
+use Rattle.plan.specs.declared.ranges.Range.{Range}
+use Rattle.plan.specs.declared.searching.Search.{Search}
+use Rattle.plan.specs.declared.searching.Search.TheVariants.{Rowid, Rowids, Key, Range as InRange}
+use Rattle.rowprog.specs.Rows.{TableRow}
+use Rattle.rowprog.specs.Sources.{LoadsRows, LoadsRowsAt, as_source, rows_at}
+use Rattle.rowsearch.specs.Between.{LoadsBetween, is_from_to}
+use Rattle.rowsearch.specs.Found.{FindsNeeded, FindsRows, HasEntriesOf, HasIndexed, IsUntrueFor, LeaveOutUntrue}
+use Rattle.rowsearch.specs.Searching.{LoadsInRange, LoadsKeyed}
+
+-- ---- the rows that are found, as a query's source has them
+
+one_more : (row : TableRow) (same : List TableRow) (others : List Row) (a b : Bool) → a ≡ b → map as_source same ≡ others
+    → map as_source (cond a (row ∷ same) same) ≡ cond b (as_source row ∷ others) others
+one_more row same others true b e more = subst (λ test. as_source row ∷ map as_source same ≡ cond test (as_source row ∷ others) others) e (ap (λ (them : List Row). as_source row ∷ them) more)
+one_more row same others false b e more = subst (λ test. map as_source same ≡ cond test (as_source row ∷ others) others) e more
+
+-- two tests that agree choose the same
+same_chosen : (t : TableRow → Bool) (u : Row → Bool) (rows : List TableRow) → AllByRecursion (λ (row : TableRow). t row ≡ u (as_source row)) rows
+    → map as_source (filter t rows) ≡ filter u (map as_source rows)
+same_chosen t u [] agree = refl
+same_chosen t u (row ∷ rows) agree = one_more row (filter t rows) (filter u (map as_source rows)) (t row) (u (as_source row)) agree.0 (same_chosen t u rows agree.1)
+
+everywhere : (P : TableRow → Type 0) (rows : List TableRow) → ((row : TableRow) → P row) → AllByRecursion P rows
+everywhere P [] all = tt
+everywhere P (row ∷ rows) all = (all row, everywhere P rows all)
+
+no_no : (b : Bool) → b ≡ not (not b)
+no_no true = refl
+no_no false = refl
+
+at_rowid : (rowid : ℤ) (rows : List TableRow) → map as_source (rows_at rowid rows) ≡ filter (λ row. not (has_other rowid row)) (map as_source rows)
+at_rowid rowid rows = same_chosen _ _ rows (everywhere _ rows (λ row. no_no (int_eq row.0 rowid)))
+
+between : (low high : ℤ) (rows : List TableRow) → AllByRecursion (λ (row : TableRow). is_word row.0 ≡ true) rows
+    → map as_source (filter (λ row. is_from_to low high row.0) rows) ≡ filter (λ row. not (is_outside low high row)) (map as_source rows)
+between low high rows words = same_chosen _ _ rows (agree rows words)
+  where
+    agree : (rows : List TableRow) → AllByRecursion (λ (row : TableRow). is_word row.0 ≡ true) rows
+        → AllByRecursion (λ (row : TableRow). is_from_to low high row.0 ≡ not (is_word row.0 && (int_lt row.0 low || int_lt high row.0))) rows
+    agree [] words = tt
+    agree (row ∷ rows) words = (ap (λ test. not (test && (int_lt row.0 low || int_lt high row.0))) (sym words.0), agree rows words.1)
+
+keyed : (columns : List IndexColumn) (key : List Value) (rows : List TableRow)
+    → map as_source (filter (λ row. has_key columns key row.1) rows) ≡ filter (λ row. has_key columns key row.values) (map as_source rows)
+keyed columns key rows = same_chosen _ _ rows (everywhere _ rows (λ row. refl))
+
+ranged : (columns : List IndexColumn) (key : List Value) (range : Range) (rows : List TableRow)
+    → map as_source (filter (λ row. has_range columns key range row.1) rows) ≡ filter (λ row. has_range columns key range row.values) (map as_source rows)
+ranged columns key range rows = same_chosen _ _ rows (everywhere _ rows (λ row. refl))
+
+-- ---- the index at a place
+
+same_some : {A : Type 0} (a b : A) → Some a ≡ Some b → a ≡ b
+same_some a b e = cc
+
+-- what is so of all is so of the one at a place
+one_at : {A : Type 0} (P : A → Type 0) (xs : List A) (place : ℕ) (x : A) → slice_get xs place ≡ Some x → AllByRecursion P xs → P x
+one_at P [] place x at all = (let bad : None ≡ Some x = at in cc)
+one_at P (y ∷ ys) zero x at all = subst P (same_some y x at) all.0
+one_at P (y ∷ ys) (suc n) x at all = one_at P ys n x at all.1
+
+-- the item at a place
+item_at : {A : Type 0} (xs : List A) (place : ℕ) (x d : A) → slice_get xs place ≡ Some x → slice_index_or xs place d ≡ x
+item_at [] place x d at = (let bad : None ≡ Some x = at in cc)
+item_at (y ∷ ys) zero x d at = same_some y x at
+item_at (y ∷ ys) (suc n) x d at = item_at ys n x d at
+
+-- a place with an item is one of the places
+within : {A : Type 0} (xs : List A) (place : ℕ) (x : A) → slice_get xs place ≡ Some x → place < length xs
+within [] place x at = (let bad : None ≡ Some x = at in cc)
+within (y ∷ ys) zero x at = omega arith
+within (y ∷ ys) (suc n) x at = (let more = within ys n x at in omega (arith, more))
+
+-- a key isn't longer than the columns of its index
+short : (n : ℕ) (columns : List IndexColumn) (key : List Value) (condition : Term) → AreAsked n columns key condition → length key ≤ length columns
+short n columns [] condition asked = omega arith
+short n [] (k ∷ key) condition asked = absurd asked
+short n (column ∷ columns) (k ∷ key) condition asked = (let more = short n columns key condition asked.1 in omega (arith, more))
+
+-- whether a row is found of the index at a place, where there is one
+abbrev found_of : Option Index → (Index → Bool) → Bool
+found_of at test = elim at [ None ↦ true | Some index ↦ test index ]
+
+-- ---- what each search finds
+
+module _ (pages : PageMap) (size : ℕ) (table : BoundSource) (indexes : List Index) where
+  pub rowid_found : (rowid : ℤ) (result : Result (List Row) Fault) → LoadsRowsAt pages size table rowid result → FindsRows pages size table indexes (Rowid rowid) result
+  rowid_found rowid (Err e) loads rows held = loads rows held.whole held.has
+  rowid_found rowid (Ok found) loads rows held = loads rows held.whole held.has ∙ at_rowid rowid rows
+
+  pub rowids_found : (low high : ℤ) (result : Result (List Row) Fault) → LoadsBetween pages size table low high result → FindsRows pages size table indexes (Rowids low high) result
+  rowids_found low high (Err e) loads rows held = loads rows held.whole held.has
+  rowids_found low high (Ok found) loads rows held = loads rows held.whole held.has ∙ between low high rows held.words
+
+  module _ (place : ℕ) where
+    -- there is no index at the place of a search
+    none_there : {A : Type 0} (index : Index) → slice_get indexes place ≡ Some index → slice_get indexes place ≡ None → A
+    none_there {A} index is none = (let bad : None ≡ Some index = sym none ∙ is in cc)
+
+    module _ (index : Index) (at : (d : Index) → index ≡ slice_index_or indexes place d) where
+      -- the index at the place is this one
+      same_index : (other : Index) → slice_get indexes place ≡ Some other → other ≡ index
+      same_index other is = sym (at other ∙ item_at indexes place other other is)
+
+      is_there : (other : Index) → slice_get indexes place ≡ Some other → slice_get indexes place ≡ Some index
+      is_there other is = is ∙ ap Some (same_index other is)
+
+      entries_at : (other : Index) → slice_get indexes place ≡ Some other → (rows : List TableRow) → HasIndexed pages size table indexes rows → HasEntriesOf pages size rows index
+      entries_at other is rows held = subst (HasEntriesOf pages size rows) (same_index other is) (one_at (HasEntriesOf pages size rows) indexes place other is held.entries)
+
+      pub key_found : (n : ℕ) (condition : Term) (key : List Value) (result : Result (List Row) Fault) → IsSought indexes n condition (Key place key)
+          → LoadsKeyed pages size table index.root index.columns key result → FindsRows pages size table indexes (Key place key) result
+      key_found n condition key result sought loads rows held = by result loads
+        where
+          seeks : SeeksKey n condition index.columns key
+          seeks = subst (λ (i : Index). SeeksKey n condition i.columns key) (same_index sought.0 sought.1) sought.2
+
+          few : length key ≤ length index.columns
+          few = short n index.columns key condition seeks.asked
+
+          chosen : filter (λ row. has_key index.columns key row.values) (map as_source rows) ≡ filter (is_found indexes (Key place key)) (map as_source rows)
+          chosen = ap (λ (found : Option Index). filter (λ (row : Row). found_of found (λ (i : Index). has_key i.columns key row.values)) (map as_source rows)) (sym (is_there sought.0 sought.1))
+
+          by : (result : Result (List Row) Fault) → LoadsKeyed pages size table index.root index.columns key result
+              → MatchResult result (λ found. found ≡ filter (is_found indexes (Key place key)) (map as_source rows)) IsOutside
+          by (Err e) loads = loads rows (entries_at sought.0 sought.1 rows held).0 held.whole held.has (entries_at sought.0 sought.1 rows held).1 few
+          by (Ok found) loads =
+              loads rows (entries_at sought.0 sought.1 rows held).0 held.whole held.has (entries_at sought.0 sought.1 rows held).1 few
+              ∙ (keyed index.columns key rows ∙ chosen)
+
+      pub range_found : (n : ℕ) (condition : Term) (key : List Value) (range : Range) (result : Result (List Row) Fault) → IsSought indexes n condition (InRange place key range)
+          → LoadsInRange pages size table index.root index.columns key range result → FindsRows pages size table indexes (InRange place key range) result
+      range_found n condition key range result sought loads rows held = by result loads
+        where
+          seeks : SeeksRange n condition index.columns key range
+          seeks = subst (λ (i : Index). SeeksRange n condition i.columns key range) (same_index sought.0 sought.1) sought.2
+
+          few : length key < length index.columns
+          few = within index.columns (length key) seeks.column seeks.next
+
+          chosen : filter (λ row. has_range index.columns key range row.values) (map as_source rows) ≡ filter (is_found indexes (InRange place key range)) (map as_source rows)
+          chosen = ap (λ (found : Option Index). filter (λ (row : Row). found_of found (λ (i : Index). has_range i.columns key range row.values)) (map as_source rows)) (sym (is_there sought.0 sought.1))
+
+          by : (result : Result (List Row) Fault) → LoadsInRange pages size table index.root index.columns key range result
+              → MatchResult result (λ found. found ≡ filter (is_found indexes (InRange place key range)) (map as_source rows)) IsOutside
+          by (Err e) loads = loads rows (entries_at sought.0 sought.1 rows held).0 held.whole held.has (entries_at sought.0 sought.1 rows held).1 few
+          by (Ok found) loads =
+              loads rows (entries_at sought.0 sought.1 rows held).0 held.whole held.has (entries_at sought.0 sought.1 rows held).1 few
+              ∙ (ranged index.columns key range rows ∙ chosen)
+
+  -- ---- what a condition needs
+
+  every_row : (rows : List Row) → rows ≡ filter (λ row. true) rows
+  every_row [] = refl
+  every_row (row ∷ rows) = ap (λ (them : List Row). row ∷ them) (every_row rows)
+
+  pub all_needed : (condition : Option Term) (result : Result (List Row) Fault) → LoadsRows pages size table result → FindsNeeded pages size table indexes condition result
+  all_needed condition (Err e) loads rows held = loads rows held.whole held.has
+  all_needed condition (Ok found) loads rows held = record {
+    keep = λ row. true;
+    are = loads rows held.whole held.has ∙ every_row (map as_source rows);
+    others = λ row never. absurd (true≢false never);
+  }
+
+  pub found_needed : OtherRowsFail → (condition : Term) (search : Search) (result : Result (List Row) Fault) → IsSought indexes 0 condition search → FindsRows pages size table indexes search result
+      → FindsNeeded pages size table indexes (Some condition) result
+  found_needed law condition search (Err e) sought finds rows held = finds rows held
+  found_needed law condition search (Ok found) sought finds rows held = record {
+    keep = is_found indexes search;
+    are = finds rows held;
+    others = λ row isnt. law indexes 0 condition search sought (row ∷ []) row refl isnt;
+  }

@@ -1,0 +1,15 @@
+use Rattle.std.proofs.Common.{Some, rules}
+use Rattle.plan.specs.Searching.{IsSought}
+use Rattle.rowsearch.proofs.FoundRows.{all_needed, found_needed}
+use Rattle.rowsearch.proofs.found.needed_by.Goals as goal
+
+pub returns-in-Some-clause-loaded : goal.returns-in-Some-clause-loaded
+returns-in-Some-clause-loaded g c = λ told.
+    (let sought : IsSought c.args.indexes.now 0 c.args.condition.now c.in-Some.search = search rules in
+    found_needed (g.P.Pages.map c.args.pages.now) (g.P.Pages.limits (g.P.Pages.below c.args.pages.now)).page c.args.table c.args.indexes.now
+    c.other_rows_fail.ensures c.args.condition.now c.in-Some.search c.found_rows.result sought (c.found_rows.ensures.found 0 c.args.condition.now told sought))
+
+pub returns-in-None-clause-loaded : goal.returns-in-None-clause-loaded
+returns-in-None-clause-loaded g c = λ told.
+    all_needed (g.P.Pages.map c.args.pages.now) (g.P.Pages.limits (g.P.Pages.below c.args.pages.now)).page c.args.table c.args.indexes.now
+    (Some c.args.condition.now) c.source_rows.result (c.source_rows.ensures.loaded told)

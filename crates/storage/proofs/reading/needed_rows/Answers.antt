@@ -1,0 +1,1 @@
+use Rattle.storage.proofs.reading.needed_rows.Goals as goal
