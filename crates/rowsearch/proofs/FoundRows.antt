@@ -26,19 +26,19 @@ use Rattle.rowprog.specs.Sources.{LoadsRows, LoadsRowsAt, as_source, rows_at}
 use Rattle.rowsearch.specs.Between.{LoadsBetween, is_from_to}
 use Rattle.rowsearch.specs.Found.{FindsNeeded, FindsRows, HasEntriesOf, HasIndexed, IsUntrueFor, LeaveOutUntrue}
 use Rattle.rowsearch.specs.Searching.{LoadsInRange, LoadsKeyed}
+use Rattle.rowsearch.proofs.LookedUp.{chosen_through}
 
 -- ---- the rows that are found, as a query's source has them
 
-one_more : (row : TableRow) (same : List TableRow) (others : List Row) (a b : Bool) → a ≡ b → map as_source same ≡ others
-    → map as_source (cond a (row ∷ same) same) ≡ cond b (as_source row ∷ others) others
-one_more row same others true b e more = subst (λ test. as_source row ∷ map as_source same ≡ cond test (as_source row ∷ others) others) e (ap (λ (them : List Row). as_source row ∷ them) more)
-one_more row same others false b e more = subst (λ test. map as_source same ≡ cond test (as_source row ∷ others) others) e more
+-- tests that agree choose the same
+agreeing : (t u : TableRow → Bool) (rows : List TableRow) → AllByRecursion (λ (row : TableRow). t row ≡ u row) rows → filter t rows ≡ filter u rows
+agreeing t u [] agree = refl
+agreeing t u (row ∷ rows) agree = ap (λ test. cond test (row ∷ filter t rows) (filter t rows)) agree.0 ∙ ap (λ them. cond (u row) (row ∷ them) them) (agreeing t u rows agree.1)
 
--- two tests that agree choose the same
-same_chosen : (t : TableRow → Bool) (u : Row → Bool) (rows : List TableRow) → AllByRecursion (λ (row : TableRow). t row ≡ u (as_source row)) rows
+-- of rows, and of the same as a source has them
+chosen_as : (t : TableRow → Bool) (u : Row → Bool) (rows : List TableRow) → AllByRecursion (λ (row : TableRow). t row ≡ u (as_source row)) rows
     → map as_source (filter t rows) ≡ filter u (map as_source rows)
-same_chosen t u [] agree = refl
-same_chosen t u (row ∷ rows) agree = one_more row (filter t rows) (filter u (map as_source rows)) (t row) (u (as_source row)) agree.0 (same_chosen t u rows agree.1)
+chosen_as t u rows agree = ap (map as_source) (agreeing t (λ row. u (as_source row)) rows agree) ∙ sym (chosen_through u as_source rows)
 
 everywhere : (P : TableRow → Type 0) (rows : List TableRow) → ((row : TableRow) → P row) → AllByRecursion P rows
 everywhere P [] all = tt
@@ -49,11 +49,11 @@ no_no true = refl
 no_no false = refl
 
 at_rowid : (rowid : ℤ) (rows : List TableRow) → map as_source (rows_at rowid rows) ≡ filter (λ row. not (has_other rowid row)) (map as_source rows)
-at_rowid rowid rows = same_chosen _ _ rows (everywhere _ rows (λ row. no_no (int_eq row.0 rowid)))
+at_rowid rowid rows = chosen_as _ _ rows (everywhere _ rows (λ row. no_no (int_eq row.0 rowid)))
 
 between : (low high : ℤ) (rows : List TableRow) → AllByRecursion (λ (row : TableRow). is_word row.0 ≡ true) rows
     → map as_source (filter (λ row. is_from_to low high row.0) rows) ≡ filter (λ row. not (is_outside low high row)) (map as_source rows)
-between low high rows words = same_chosen _ _ rows (agree rows words)
+between low high rows words = chosen_as _ _ rows (agree rows words)
   where
     agree : (rows : List TableRow) → AllByRecursion (λ (row : TableRow). is_word row.0 ≡ true) rows
         → AllByRecursion (λ (row : TableRow). is_from_to low high row.0 ≡ not (is_word row.0 && (int_lt row.0 low || int_lt high row.0))) rows
@@ -62,11 +62,11 @@ between low high rows words = same_chosen _ _ rows (agree rows words)
 
 keyed : (columns : List IndexColumn) (key : List Value) (rows : List TableRow)
     → map as_source (filter (λ row. has_key columns key row.1) rows) ≡ filter (λ row. has_key columns key row.values) (map as_source rows)
-keyed columns key rows = same_chosen _ _ rows (everywhere _ rows (λ row. refl))
+keyed columns key rows = sym (chosen_through (λ row. has_key columns key row.values) as_source rows)
 
 ranged : (columns : List IndexColumn) (key : List Value) (range : Range) (rows : List TableRow)
     → map as_source (filter (λ row. has_range columns key range row.1) rows) ≡ filter (λ row. has_range columns key range row.values) (map as_source rows)
-ranged columns key range rows = same_chosen _ _ rows (everywhere _ rows (λ row. refl))
+ranged columns key range rows = sym (chosen_through (λ row. has_range columns key range row.values) as_source rows)
 
 -- ---- the index at a place
 

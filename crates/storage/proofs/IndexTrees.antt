@@ -129,9 +129,8 @@ module _ (pages : PageMap) (size : ℕ) (tables : List Table) (db : Database) (s
       from : (before rest : List Named) (places : List BoundSource) → ArePlaced tables rest places → HaveSources pages size tables (before ++ rest) stored.rows_at (length before) places
       from before rest [] placed = tt
       from before [] (p ∷ ps) placed = absurd placed
-      from before (s ∷ ss) (p ∷ ps) placed =
-          (
-            has_source before s ss p placed.0,
-            subst (λ (them : List Named). HaveSources pages size tables them stored.rows_at (suc (length before)) ps) (append_assoc before (s ∷ []) ss)
+      from before (s ∷ ss) (p ∷ ps) placed = (
+        has_source before s ss p placed.0,
+        subst (λ (them : List Named). HaveSources pages size tables them stored.rows_at (suc (length before)) ps) (append_assoc before (s ∷ []) ss)
             (subst (λ (n : ℕ). HaveSources pages size tables ((before ++ s ∷ []) ++ ss) stored.rows_at n ps) (one_longer before s) (from (before ++ s ∷ []) ss ps placed.1)),
-          )
+      )

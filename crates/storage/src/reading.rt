@@ -144,11 +144,7 @@ fn seeks(alloc: Global, catalog: &Catalog, reading: &Reading, source: usize) -> 
 }
 
 /// The only source of a query that is row by row and seeks nothing of it. (`Memory`.)
-fn streamed_source(
-    alloc: Global,
-    catalog: &Catalog,
-    bound: &BoundReading,
-) -> R<Option<BoundSource>>
+fn streamed_source(alloc: Global, catalog: &Catalog, bound: &BoundReading) -> R<Option<BoundSource>>
     ensures only { IfOk result (λ found. IfSome found (λ place. bound.now.tables ≡ place ∷ [])) }
     ensures plain { IfOk result (λ found. IfSome found (λ place. row_by_row bound.now.reading ≡ true)) }
     ensures refused { IfErr result (λ fault. fault ≡ Fault.Memory) }
