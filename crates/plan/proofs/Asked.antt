@@ -187,71 +187,71 @@ neither true y e = absurd (true≢false e)
 neither false y e = (refl, e)
 
 -- a comparison of a column that begins none of the indexes
-module _ (s i : ℕ) (a : Option Affinity) (c : Collation) (t : Term) (here : (s == 0) ≡ true) (key : IsThere (literal_key a t)) where
+module _ (n s i : ℕ) (a : Option Affinity) (c : Collation) (t : Term) (here : (s == n) ≡ true) (key : IsThere (literal_key a t)) where
   abbrev part : Term
   part = Two (Compare Equal) (Cell s (At i) a c) t
 
-  not_first : (columns : List IndexColumn) → key_for 0 part columns ≡ [] → is_first i c columns ≡ false
+  not_first : (columns : List IndexColumn) → key_for n part columns ≡ [] → is_first i c columns ≡ false
   not_first [] e = refl
   not_first (column ∷ columns) e = by (column.place == i && is_same_collation column.collation c) refl where
-    asks : (column.place == i && is_same_collation column.collation c) ≡ true → key_in (of_column 0 column) Equal part ≡ Some key.0
+    asks : (column.place == i && is_same_collation column.collation c) ≡ true → key_in (of_column n column) Equal part ≡ Some key.0
     asks is =
         ap (λ test. cond (test && (column.place == i && is_same_collation column.collation c)) (literal_key a t) None) here
         ∙ (ap (λ test. cond test (literal_key a t) None) is ∙ key.1)
 
     by : (test : Bool) → (column.place == i && is_same_collation column.collation c) ≡ test → test ≡ false
     by false is = refl
-    by true is = absurd (some_value key.0 (key_for 0 part columns) (sym (ap (λ first. led_by first (key_for 0 part columns)) (asks is)) ∙ e))
+    by true is = absurd (some_value key.0 (key_for n part columns) (sym (ap (λ first. led_by first (key_for n part columns)) (asks is)) ∙ e))
 
-  begins_none : (indexes : List Index) → IsNotAsked part indexes → is_led_by indexes i c ≡ false
+  begins_none : (indexes : List Index) → IsNotAsked n part indexes → is_led_by indexes i c ≡ false
   begins_none [] e = refl
   begins_none (index ∷ indexes) e = ap (λ test. test || is_led_by indexes i c) (not_first index.columns e.0) ∙ begins_none indexes e.1
 
-module _ (indexes : List Index) where
-  by_column : (s i : ℕ) (a : Option Affinity) (c : Collation) (t : Term) → IsThere (literal_key a t) → IsNotAsked (Two (Compare Equal) (Cell s (At i) a c) t) indexes → ((s == 0) && is_led_by indexes i c) ≡ false
-  by_column s i a c t key e = by (s == 0) refl where
-    by : (test : Bool) → (s == 0) ≡ test → (test && is_led_by indexes i c) ≡ false
+module _ (n : ℕ) (indexes : List Index) where
+  by_column : (s i : ℕ) (a : Option Affinity) (c : Collation) (t : Term) → IsThere (literal_key a t) → IsNotAsked n (Two (Compare Equal) (Cell s (At i) a c) t) indexes → ((s == n) && is_led_by indexes i c) ≡ false
+  by_column s i a c t key e = by (s == n) refl where
+    by : (test : Bool) → (s == n) ≡ test → (test && is_led_by indexes i c) ≡ false
     by false is = refl
-    by true is = begins_none s i a c t is key indexes e
+    by true is = begins_none n s i a c t is key indexes e
 
-  of_part : (t : Term) → is_calm t ≡ true → finds 0 no_index t ≡ false → IsNotAsked t indexes → finds 0 (is_led_by indexes) t ≡ false
-  of_part (Two (Compare Equal) (Cell s RowId a c) (Digits n)) calm none e = none
-  of_part (Two (Compare Equal) (Cell s (At i) a c) (Digits n)) calm none e = by_column s i a c (Digits n) (digits_there s i a c n calm) e
+  of_part : (t : Term) → is_calm t ≡ true → finds n no_index t ≡ false → IsNotAsked n t indexes → finds n (is_led_by indexes) t ≡ false
+  of_part (Two (Compare Equal) (Cell s RowId a c) (Digits d)) calm none e = none
+  of_part (Two (Compare Equal) (Cell s (At i) a c) (Digits d)) calm none e = by_column s i a c (Digits d) (digits_there s i a c d calm) e
   of_part (Two (Compare Equal) (Cell s (At i) a c) (Const v)) calm none e = by_column s i a c (Const v) (text_there s i a c v calm) e
   of_part _ calm none e = refl
 
-module _ (a b : Term) where
-  asked_by_neither : (columns : List IndexColumn) → key_for 0 (Two And a b) columns ≡ [] → (key_for 0 a columns ≡ []) × (key_for 0 b columns ≡ [])
+module _ (n : ℕ) (a b : Term) where
+  asked_by_neither : (columns : List IndexColumn) → key_for n (Two And a b) columns ≡ [] → (key_for n a columns ≡ []) × (key_for n b columns ≡ [])
   asked_by_neither [] e = (refl, refl)
-  asked_by_neither (column ∷ columns) e = by (key_in (of_column 0 column) Equal a) (key_in (of_column 0 column) Equal b) refl refl e where
-    by : (x y : Option Value) → key_in (of_column 0 column) Equal a ≡ x → key_in (of_column 0 column) Equal b ≡ y → led_by (option_or x y) (key_for 0 (Two And a b) columns) ≡ []
-        → (led_by (key_in (of_column 0 column) Equal a) (key_for 0 a columns) ≡ []) × (led_by (key_in (of_column 0 column) Equal b) (key_for 0 b columns) ≡ [])
-    by None None first second e = (ap (λ o. led_by o (key_for 0 a columns)) first, ap (λ o. led_by o (key_for 0 b columns)) second)
-    by None (Some k) first second e = absurd (some_value k (key_for 0 (Two And a b) columns) e)
-    by (Some k) y first second e = absurd (some_value k (key_for 0 (Two And a b) columns) e)
+  asked_by_neither (column ∷ columns) e = by (key_in (of_column n column) Equal a) (key_in (of_column n column) Equal b) refl refl e where
+    by : (x y : Option Value) → key_in (of_column n column) Equal a ≡ x → key_in (of_column n column) Equal b ≡ y → led_by (option_or x y) (key_for n (Two And a b) columns) ≡ []
+        → (led_by (key_in (of_column n column) Equal a) (key_for n a columns) ≡ []) × (led_by (key_in (of_column n column) Equal b) (key_for n b columns) ≡ [])
+    by None None first second e = (ap (λ o. led_by o (key_for n a columns)) first, ap (λ o. led_by o (key_for n b columns)) second)
+    by None (Some k) first second e = absurd (some_value k (key_for n (Two And a b) columns) e)
+    by (Some k) y first second e = absurd (some_value k (key_for n (Two And a b) columns) e)
 
-  not_asked_by_either : (indexes : List Index) → IsNotAsked (Two And a b) indexes → IsNotAsked a indexes × IsNotAsked b indexes
+  not_asked_by_either : (indexes : List Index) → IsNotAsked n (Two And a b) indexes → IsNotAsked n a indexes × IsNotAsked n b indexes
   not_asked_by_either [] e = (tt, tt)
   not_asked_by_either (index ∷ indexes) e =
       (let x = asked_by_neither index.columns e.0 in let y = not_asked_by_either indexes e.1 in
       ((x.0, y.0), (x.1, y.1)))
 
-unfound : (indexes : List Index) (t : Term) → is_calm t ≡ true → list_any (finds 0 no_index) (parts t) ≡ false → IsNotAsked t indexes → list_any (finds 0 (is_led_by indexes)) (parts t) ≡ false
-unfound indexes (Two And a b) calm none e =
-    (let x = neither (list_any (finds 0 no_index) (parts a)) (list_any (finds 0 no_index) (parts b)) (sym (list_any-append (finds 0 no_index) (parts a) (parts b)) ∙ none) in
-    let y = not_asked_by_either a b indexes e in
-    list_any-append (finds 0 (is_led_by indexes)) (parts a) (parts b)
-    ∙ (ap (λ test. test || list_any (finds 0 (is_led_by indexes)) (parts b)) (unfound indexes a (left (is_calm a) (is_calm b) calm) x.0 y.0)
-    ∙ unfound indexes b (right (is_calm a) (is_calm b) calm) x.1 y.1))
-unfound indexes t calm none e = ap (λ test. test || false) (of_part indexes t calm (neither (finds 0 no_index t) false none).0 e)
+unfound : (n : ℕ) (indexes : List Index) (t : Term) → is_calm t ≡ true → list_any (finds n no_index) (parts t) ≡ false → IsNotAsked n t indexes → list_any (finds n (is_led_by indexes)) (parts t) ≡ false
+unfound n indexes (Two And a b) calm none e =
+    (let x = neither (list_any (finds n no_index) (parts a)) (list_any (finds n no_index) (parts b)) (sym (list_any-append (finds n no_index) (parts a) (parts b)) ∙ none) in
+    let y = not_asked_by_either n a b indexes e in
+    list_any-append (finds n (is_led_by indexes)) (parts a) (parts b)
+    ∙ (ap (λ test. test || list_any (finds n (is_led_by indexes)) (parts b)) (unfound n indexes a (left (is_calm a) (is_calm b) calm) x.0 y.0)
+    ∙ unfound n indexes b (right (is_calm a) (is_calm b) calm) x.1 y.1))
+unfound n indexes t calm none e = ap (λ test. test || false) (of_part n indexes t calm (neither (finds n no_index t) false none).0 e)
 
 -- a condition that asks for neither a rowid nor an index's first column is no search
-pub no_search : (indexes : List Index) (t : Term) → is_calm t ≡ true → list_any (finds 0 no_index) (parts t) ≡ false → IsNotAsked t indexes → is_search 0 (is_led_by indexes) t ≡ false
-no_search indexes t calm none e = ap (λ test. test && list_any (finds 0 (is_led_by indexes)) (parts t)) calm ∙ unfound indexes t calm none e
+pub no_search : (n : ℕ) (indexes : List Index) (t : Term) → is_calm t ≡ true → list_any (finds n no_index) (parts t) ≡ false → IsNotAsked n t indexes → is_search n (is_led_by indexes) t ≡ false
+no_search n indexes t calm none e = ap (λ test. test && list_any (finds n (is_led_by indexes)) (parts t)) calm ∙ unfound n indexes t calm none e
 
 -- the same of what a search for a key found
-pub only_search : {X E : Type 0} (indexes : List Index) (t : Term) → is_calm t ≡ true → list_any (finds 0 no_index) (parts t) ≡ false → (result : Result (Option X) E)
-    → IfOk result (λ found. IfNone found (IsNotAsked t indexes)) → IfOk result (λ found. IfNone found (is_search 0 (is_led_by indexes) t ≡ false))
-only_search indexes t calm none (Ok None) e = no_search indexes t calm none e
-only_search indexes t calm none (Ok (Some x)) e = tt
-only_search indexes t calm none (Err fault) e = tt
+pub only_search : {X E : Type 0} (n : ℕ) (indexes : List Index) (t : Term) → is_calm t ≡ true → list_any (finds n no_index) (parts t) ≡ false → (result : Result (Option X) E)
+    → IfOk result (λ found. IfNone found (IsNotAsked n t indexes)) → IfOk result (λ found. IfNone found (is_search n (is_led_by indexes) t ≡ false))
+only_search n indexes t calm none (Ok None) e = no_search n indexes t calm none e
+only_search n indexes t calm none (Ok (Some x)) e = tt
+only_search n indexes t calm none (Err fault) e = tt

@@ -1,5 +1,5 @@
 -- Worked examples of searches by a key: t(a TEXT, b) with indexes on a and on (b, a).
-use Rattle.std.specs.Prelude.{◌≡◌, refl, pos, true, false, codes, List, [], ◌∷◌, None, Some}
+use Rattle.std.specs.Prelude.{◌≡◌, refl, pos, true, false, codes, List, [], ◌∷◌, Some}
 use Rattle.std.proofs.Common.{inl, inr}
 use Rattle.std.specs.Fmt.{digits}
 use Rattle.sqlval.specs.declared.affinity.Affinity.TheVariants as kind
@@ -10,13 +10,15 @@ use Rattle.sqlval.specs.declared.value.Value.TheVariants.{Null, Int, Text}
 use Rattle.catalog.specs.declared.tables.Index.{Index}
 use Rattle.catalog.specs.declared.tables.IndexColumn.{IndexColumn}
 use Rattle.terms.specs.Terms.{Term, Const, Digits, Cell, Two}
+use Rattle.terms.specs.Values.{Row}
 use Rattle.terms.specs.declared.tree.Comparison.TheVariants.{Equal, Less}
 use Rattle.terms.specs.declared.tree.Place.TheVariants.{At}
 use Rattle.terms.specs.declared.tree.TwoSided.TheVariants.{Compare, And, Or}
-use Rattle.bind.specs.declared.reading.Condition.TheVariants.{Always}
-use Rattle.bind.specs.declared.reading.Reading.{Reading}
+use Rattle.bind.specs.Calm.{is_search}
 use Rattle.plan.specs.Asking.{asks_nothing, key_for, most_asked, no_range}
-use Rattle.plan.specs.Keys.{AreAsked, has_key, is_table_search, rows_of_key}
+use Rattle.plan.specs.Keys.{AreAsked, has_key, is_led_by}
+use Rattle.plan.specs.Searching.{is_found}
+use Rattle.plan.specs.declared.searching.Search.TheVariants.{Key}
 
 abbrev pub a : Term
 a = Cell 0 (At 0) (Some kind.Text) Binary
@@ -58,10 +60,10 @@ pub parts_ask : AreAsked 0 on_both.columns (Int (pos 5) ∷ x ∷ []) both
 parts_ask = (inr (refl, refl, refl, refl, refl), (inl (refl, refl, refl, refl, refl), tt))
 
 -- the index with the most columns asked for, and the first of two with one each
-pub most_of_both : most_asked both 0 asks_nothing (on_a ∷ on_both ∷ []) ≡ record { place = 1; key = Int (pos 5) ∷ x ∷ []; range = no_range }
+pub most_of_both : most_asked 0 both 0 asks_nothing (on_a ∷ on_both ∷ []) ≡ record { place = 1; key = Int (pos 5) ∷ x ∷ []; range = no_range }
 most_of_both = refl
 
-pub first_of_equals : most_asked both 0 asks_nothing (on_a ∷ on_a ∷ []) ≡ record { place = 0; key = x ∷ []; range = no_range }
+pub first_of_equals : most_asked 0 both 0 asks_nothing (on_a ∷ on_a ∷ []) ≡ record { place = 0; key = x ∷ []; range = no_range }
 first_of_equals = refl
 
 -- a = 'x' alone asks nothing of (b, a), whose first column is b
@@ -93,27 +95,53 @@ shorter_key = refl
 pub short_row : has_key on_both.columns (Null ∷ []) (x ∷ []) ≡ true
 short_row = refl
 
-pub rows_of_x : rows_of_key on_a.columns (x ∷ []) (record { rowid = Int (pos 1); values = x ∷ Null ∷ [] } ∷ record { rowid = Int (pos 2); values = Null ∷ Null ∷ [] } ∷ [])
-    ≡ record { rowid = Int (pos 1); values = x ∷ Null ∷ [] } ∷ []
-rows_of_x = refl
+-- the row with this a, and a NULL b
+abbrev row_of : Value → Row
+row_of v = record { rowid = Int (pos 1); values = v ∷ Null ∷ [] }
 
--- ---- queries
+pub row_found : is_found (on_a ∷ []) (Key 0 (x ∷ [])) (row_of x) ≡ true
+row_found = refl
 
--- SELECT a FROM t WHERE ..
-abbrev query : Term → Reading
-query condition =
-    record { sources = (codes "t", Always) ∷ []; filter = Some condition; is_grouped = false; keys = []; results = a ∷ []; columns = []; is_open = false; order = []; distinct = false; limit = None; offset = 0 }
+pub row_not_found : is_found (on_a ∷ []) (Key 0 (x ∷ [])) (row_of Null) ≡ false
+row_not_found = refl
 
-pub by_index : is_table_search (on_both ∷ on_a ∷ []) (query both) ≡ true
+-- ---- searches
+
+pub by_index : is_search 0 (is_led_by (on_both ∷ on_a ∷ [])) both ≡ true
 by_index = refl
 
-pub by_no_index : is_table_search (index_on (first NoCase ∷ []) ∷ []) (query both) ≡ false
+pub by_no_index : is_search 0 (is_led_by (index_on (first NoCase ∷ []) ∷ [])) both ≡ false
 by_no_index = refl
 
 -- OR joins what no index finds
-pub by_either : is_table_search (on_both ∷ on_a ∷ []) (query (Two Or (Two (Compare Equal) a (Const x)) (Two (Compare Equal) b (Digits 5)))) ≡ false
+pub by_either : is_search 0 (is_led_by (on_both ∷ on_a ∷ [])) (Two Or (Two (Compare Equal) a (Const x)) (Two (Compare Equal) b (Digits 5))) ≡ false
 by_either = refl
 
 -- nor does one find what is less
-pub by_less : is_table_search (on_both ∷ on_a ∷ []) (query (Two (Compare Less) b (Digits 5))) ≡ false
+pub by_less : is_search 0 (is_led_by (on_both ∷ on_a ∷ [])) (Two (Compare Less) b (Digits 5)) ≡ false
 by_less = refl
+
+-- ---- two sources
+
+-- column a of the second source
+abbrev second_a : Term
+second_a = Cell 1 (At 0) (Some kind.Text) Binary
+
+-- a = 'x' of the second source, and b = 5 of the first
+abbrev of_two : Term
+of_two = Two And (Two (Compare Equal) second_a (Const x)) (Two (Compare Equal) b (Digits 5))
+
+pub key_of_first : key_for 0 of_two on_both.columns ≡ Int (pos 5) ∷ []
+key_of_first = refl
+
+pub key_of_second : key_for 1 of_two on_a.columns ≡ x ∷ []
+key_of_second = refl
+
+pub no_key_of_second : key_for 1 of_two on_both.columns ≡ []
+no_key_of_second = refl
+
+pub second_by_index : is_search 1 (is_led_by (on_a ∷ [])) of_two ≡ true
+second_by_index = refl
+
+pub first_by_no_index : is_search 0 (is_led_by (on_a ∷ [])) of_two ≡ false
+first_by_no_index = refl

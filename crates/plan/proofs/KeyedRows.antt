@@ -1,7 +1,8 @@
--- A query that seeks the key of an index keeps no row of another one: where a column's value doesn't meet a comparison of the condition, that
--- is false, or NULL.
+-- A condition that seeks a key of a source isn't true beside a row of another one: where a column's value doesn't meet a comparison of the
+-- condition, that is false, or NULL.
 use Rattle.std.proofs.Common.{◌≡◌, refl, sym, ap, ◌∙◌, subst, ℕ, pos, Bool, true, false, ◌&&◌, List, [], ◌∷◌, slice_index_or, Option, Some, None, Ok}
 use mathlib.Core.Bool.{true≢false}
+use Rattle.std.specs.Prelude.{slice_get, unwrap_or}
 use Rattle.std.specs.Ordering.{is_eq}
 use Rattle.std.proofs.lemmas.Option.{unwrap_or-slice_get}
 use Rattle.sqlval.specs.Conversion.{converted}
@@ -14,42 +15,45 @@ use Rattle.sqlval.specs.declared.value.Value.{Value}
 use Rattle.sqlval.specs.declared.value.Value.TheVariants.{Null, Int, Text, Blob}
 use Rattle.catalog.specs.declared.tables.IndexColumn.{IndexColumn}
 use Rattle.terms.specs.Terms.{Term, Const, Digits, Cell, Two, Between}
-use Rattle.terms.specs.Values.{Environment, Row, both_hold, cell, compare, compared, conversion, is_met, of_bool, truth, value}
+use Rattle.terms.specs.Values.{Environment, Row, at_row, both_hold, cell, compare, compared, conversion, is_met, of_bool, value}
 use Rattle.terms.specs.declared.tree.Comparison.{Comparison}
 use Rattle.terms.specs.declared.tree.Comparison.TheVariants.{Equal, LessOrEqual, GreaterOrEqual}
 use Rattle.terms.specs.declared.tree.Place.{Place}
 use Rattle.terms.specs.declared.tree.Place.TheVariants.{At}
 use Rattle.terms.specs.declared.tree.TwoSided.TheVariants.{Compare, And}
 use Rattle.bind.specs.Calm.{is_calm}
-use Rattle.bind.specs.Readings.{env_of, holds}
-use Rattle.plan.specs.Keys.{AreAsked, AsksPart, IsAsked, IsCompared, IsLiteralKey, KeySearchesAsScans, has_key, of_column}
+use Rattle.bind.specs.Readings.{env_of}
+use Rattle.plan.specs.Keys.{AreAsked, AsksPart, IsAsked, IsCompared, IsLiteralKey, has_key, of_column}
 use Rattle.plan.specs.Ranges.{AsksHalf}
 use Rattle.plan.specs.declared.keys.Wanted.{Wanted}
 use Rattle.plan.proofs.Others.{value_of_digits, word_of}
-use Rattle.plan.proofs.Scans.{IsUntrue, LeavesOut, scans}
 use Rattle.plan.proofs.Untrue.{IsOf, SurvivesAnd, between_is_and, of_whole}
 
 -- ---- what isn't true
 
-untrue_first : (t u : Option Bool) → IsUntrue t → IsUntrue (both_hold t u)
+-- false or NULL
+abbrev IsNotTrue : Option Bool → Type 0
+IsNotTrue u = unwrap_or u false ≡ false
+
+untrue_first : (t u : Option Bool) → IsNotTrue t → IsNotTrue (both_hold t u)
 untrue_first (Some true) u h = absurd (true≢false h)
 untrue_first (Some false) u h = refl
 untrue_first None None h = refl
 untrue_first None (Some true) h = refl
 untrue_first None (Some false) h = refl
 
-untrue_second : (t u : Option Bool) → IsUntrue u → IsUntrue (both_hold t u)
+untrue_second : (t u : Option Bool) → IsNotTrue u → IsNotTrue (both_hold t u)
 untrue_second (Some true) u h = h
 untrue_second (Some false) u h = refl
 untrue_second None None h = refl
 untrue_second None (Some true) h = absurd (true≢false h)
 untrue_second None (Some false) h = refl
 
-untrue_survives : SurvivesAnd IsUntrue
+untrue_survives : SurvivesAnd IsNotTrue
 untrue_survives = record { first = untrue_first; second = untrue_second }
 
 abbrev pub LeftOut : Answer Value → Type 0
-LeftOut a = IsOf IsUntrue a
+LeftOut a = IsOf IsNotTrue a
 
 -- ---- a comparison with a key
 
@@ -122,44 +126,42 @@ module _ (w : Wanted) (o : Comparison) (k : Value) (env : Environment) (unmet_he
   of_half : (t : Term) → is_calm t ≡ true → AsksHalf (IsCompared w o k) t → LeftOut (value t env)
   of_half (Between false a b c) calm asked =
       subst LeftOut (sym (between_is_and a b c env))
-      (of_whole IsUntrue untrue_survives (IsCompared w o k) env of_part (Two And (Two (Compare GreaterOrEqual) a b) (Two (Compare LessOrEqual) a c)) calm asked)
+      (of_whole IsNotTrue untrue_survives (IsCompared w o k) env of_part (Two And (Two (Compare GreaterOrEqual) a b) (Two (Compare LessOrEqual) a c)) calm asked)
   of_half t calm asked = of_part t calm asked
 
   -- a condition that asks for the comparison, of which BETWEEN is two
   pub of_halves : (condition : Term) → is_calm condition ≡ true → AsksPart (AsksHalf (IsCompared w o k)) condition → LeftOut (value condition env)
-  of_halves condition calm asked = of_whole IsUntrue untrue_survives (AsksHalf (IsCompared w o k)) env of_half condition calm asked
+  of_halves condition calm asked = of_whole IsNotTrue untrue_survives (AsksHalf (IsCompared w o k)) env of_half condition calm asked
+
+-- ---- the row of a source
+
+module _ (rows : List Row) (n : ℕ) (row : Row) (here : slice_get rows n ≡ Some row) where
+  -- a source's value is its row's
+  pub cell_is : (p : Place) → cell (env_of rows) n p ≡ at_row (Some row) p
+  cell_is p = ap (λ (r : Option Row). at_row r p) here
+
+  pub column_is : (i : ℕ) → cell (env_of rows) n (At i) ≡ slice_index_or row.values i Null
+  column_is i = cell_is (At i) ∙ unwrap_or-slice_get row.values i Null
 
 -- ---- a row of another key
 
-module _ (condition : Term) (calm : is_calm condition ≡ true) (row : Row) where
-  abbrev pub env : Environment
-  env = env_of (row ∷ [])
-
-  abbrev pub at : IndexColumn → Value
+module _ (condition : Term) (calm : is_calm condition ≡ true) (rows : List Row) (n : ℕ) (row : Row) (here : slice_get rows n ≡ Some row) where
+  abbrev at : IndexColumn → Value
   at column = slice_index_or row.values column.place Null
 
   -- a value that isn't tied with the key's
-  pub apart : (column : IndexColumn) (k : Value) → AsksPart (IsAsked 0 column k) condition → is_eq (order column.collation (at column) k) ≡ false → LeftOut (value condition env)
+  pub apart : (column : IndexColumn) (k : Value) → AsksPart (IsAsked n column k) condition → is_eq (order column.collation (at column) k) ≡ false → LeftOut (value condition (env_of rows))
   apart column k asked e =
-      of_whole IsUntrue untrue_survives (IsAsked 0 column k) env
-      (of_part (of_column 0 column) Equal k env (unmet Equal column.collation (cell env 0 (At column.place)) k
-      (ap (λ (v : Value). is_eq (order column.collation v k)) (unwrap_or-slice_get row.values column.place Null) ∙ e)))
+      of_whole IsNotTrue untrue_survives (IsAsked n column k) (env_of rows)
+      (of_part (of_column n column) Equal k (env_of rows) (unmet Equal column.collation (cell (env_of rows) n (At column.place)) k
+      (ap (λ (v : Value). is_eq (order column.collation v k)) (column_is rows n row here column.place) ∙ e)))
       condition calm asked
 
-  left_out : (columns : List IndexColumn) (key : List Value) → AreAsked 0 columns key condition → has_key columns key row.values ≡ false → LeftOut (value condition env)
-  left_out [] [] asked other = absurd (true≢false other)
-  left_out [] (k ∷ key) asked other = absurd asked
-  left_out (column ∷ columns) [] asked other = absurd (true≢false other)
-  left_out (column ∷ columns) (k ∷ key) asked other = by (is_eq (order column.collation (at column) k)) refl (left_out columns key asked.1) where
-    by : (test : Bool) → is_eq (order column.collation (at column) k) ≡ test → (has_key columns key row.values ≡ false → LeftOut (value condition env)) → LeftOut (value condition env)
+  pub of_other_key : (columns : List IndexColumn) (key : List Value) → AreAsked n columns key condition → has_key columns key row.values ≡ false → LeftOut (value condition (env_of rows))
+  of_other_key [] [] asked other = absurd (true≢false other)
+  of_other_key [] (k ∷ key) asked other = absurd asked
+  of_other_key (column ∷ columns) [] asked other = absurd (true≢false other)
+  of_other_key (column ∷ columns) (k ∷ key) asked other = by (is_eq (order column.collation (at column) k)) refl (of_other_key columns key asked.1) where
+    by : (test : Bool) → is_eq (order column.collation (at column) k) ≡ test → (has_key columns key row.values ≡ false → LeftOut (value condition (env_of rows))) → LeftOut (value condition (env_of rows))
     by false e more = apart column k asked.0 e
     by true e more = more (sym (ap (λ (test : Bool). test && has_key columns key row.values) e) ∙ other)
-
--- what is left out by WHERE
-pub leaves_out : (condition : Term) (row : Row) → LeftOut (value condition (env_of (row ∷ []))) → LeavesOut (holds condition (row ∷ []))
-leaves_out condition row it = (it.2, ap (λ x. x then truth) it.1 ∙ it.3, it.4)
-
-pub key_searches_as_scans : KeySearchesAsScans
-key_searches_as_scans q columns key searches rows = scans q searches.condition searches.filter_is (λ row. has_key columns key row.values) leaves rows where
-  leaves : (row : Row) → has_key columns key row.values ≡ false → LeavesOut (holds searches.condition (row ∷ []))
-  leaves row other = leaves_out searches.condition row (left_out searches.condition searches.seeks.calm row columns key searches.seeks.asked other)

@@ -7,6 +7,6 @@ pub mod Parts
 mod RangeRows
 pub mod RangedRows
 pub mod RowidEnds
-pub mod Scans
+pub mod Unfound
 pub mod Untrue
 pub mod Words

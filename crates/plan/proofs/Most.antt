@@ -11,9 +11,10 @@ use Rattle.catalog.specs.declared.tables.IndexColumn.{IndexColumn}
 use Rattle.terms.specs.Terms.{Term}
 use Rattle.terms.specs.declared.tree.Comparison.{Comparison}
 use Rattle.bind.specs.Calm.{is_calm}
-use Rattle.plan.specs.Asking.{IsNotAsked, IsSought, asks_less, asks_nothing, candidate_of, end_at, end_in, ends_in, key_in, more_asked, most_asked, range_in, search_by}
+use Rattle.plan.specs.Asking.{IsNotAsked, asks_less, asks_nothing, candidate_of, end_at, end_in, ends_in, key_in, more_asked, most_asked, range_in, search_by}
 use Rattle.plan.specs.Keys.{AreAsked, of_column}
 use Rattle.plan.specs.Ranges.{AreEnds, IsBoundOf, SeeksRange, has_ends, high_comparison, low_comparison}
+use Rattle.plan.specs.Searching.{IsSought}
 use Rattle.plan.specs.declared.keys.Wanted.{Wanted}
 use Rattle.plan.specs.declared.ranges.Range.{Range}
 use Rattle.plan.specs.declared.searching.Candidate.{Candidate}
@@ -72,52 +73,52 @@ ends_asked w t some = record { low = end_asked w low_comparison t; high = end_as
 
 -- ---- of several indexes
 
-module _ (t : Term) where
-  none_asked : (place : ℕ) (found : Candidate) (indexes : List Index) → (most_asked t place found indexes).key ≡ [] → (found.key ≡ []) × IsNotAsked t indexes
+module _ (n : ℕ) (t : Term) where
+  none_asked : (place : ℕ) (found : Candidate) (indexes : List Index) → (most_asked n t place found indexes).key ≡ [] → (found.key ≡ []) × IsNotAsked n t indexes
   none_asked place found [] e = (e, tt)
   none_asked place found (index ∷ indexes) e =
-      (let rest = none_asked (place + 1) (more_asked found (candidate_of t place index.columns)) indexes e in
-      let two = neither found (candidate_of t place index.columns) rest.0 in
+      (let rest = none_asked (place + 1) (more_asked found (candidate_of n t place index.columns)) indexes e in
+      let two = neither found (candidate_of n t place index.columns) rest.0 in
       (two.0, (two.1, rest.1)))
 
   -- what is asked of one of these indexes, whose places begin here
   abbrev IsOfIndex : ℕ → List Index → Candidate → Type 0
-  IsOfIndex place indexes it = (j : ℕ) × (index : Index) × (slice_get indexes j ≡ Some index) × (it ≡ candidate_of t (place + j) index.columns)
+  IsOfIndex place indexes it = (j : ℕ) × (index : Index) × (slice_get indexes j ≡ Some index) × (it ≡ candidate_of n t (place + j) index.columns)
 
-  most_is : (place : ℕ) (found : Candidate) (indexes : List Index) → (most_asked t place found indexes ≡ found) ⊎ IsOfIndex place indexes (most_asked t place found indexes)
+  most_is : (place : ℕ) (found : Candidate) (indexes : List Index) → (most_asked n t place found indexes ≡ found) ⊎ IsOfIndex place indexes (most_asked n t place found indexes)
   most_is place found [] = inl refl
   most_is place found (index ∷ indexes) = by (asks_less found here) refl (most_is (place + 1) (more_asked found here) indexes) where
     here : Candidate
-    here = candidate_of t place index.columns
+    here = candidate_of n t place index.columns
 
     it : Candidate
-    it = most_asked t (place + 1) (more_asked found here) indexes
+    it = most_asked n t (place + 1) (more_asked found here) indexes
 
     by : (test : Bool) → asks_less found here ≡ test → (it ≡ more_asked found here) ⊎ IsOfIndex (place + 1) indexes it → (it ≡ found) ⊎ IsOfIndex place (index ∷ indexes) it
-    by test is (inr (j, other, at, same)) = inr (suc j, other, at, same ∙ ap (λ n. candidate_of t n other.columns) (omega arith))
-    by true is (inl same) = inr (0, index, refl, same ∙ (ap (λ test. cond test here found) is ∙ ap (λ n. candidate_of t n index.columns) (omega arith)))
+    by test is (inr (j, other, at, same)) = inr (suc j, other, at, same ∙ ap (λ k. candidate_of n t k other.columns) (omega arith))
+    by true is (inl same) = inr (0, index, refl, same ∙ (ap (λ test. cond test here found) is ∙ ap (λ k. candidate_of n t k index.columns) (omega arith)))
     by false is (inl same) = inl (same ∙ ap (λ test. cond test here found) is)
 
-module _ (t : Term) (indexes : List Index) (it : Candidate) (calm : is_calm t ≡ true) (is : it ≡ most_asked t 0 asks_nothing indexes) where
+module _ (n : ℕ) (t : Term) (indexes : List Index) (it : Candidate) (calm : is_calm t ≡ true) (is : it ≡ most_asked n t 0 asks_nothing indexes) where
   -- it is asked of the index at its place
   abbrev IsOfPlace : Index → Type 0
-  IsOfPlace index = (slice_get indexes it.place ≡ Some index) × (it ≡ candidate_of t it.place index.columns)
+  IsOfPlace index = (slice_get indexes it.place ≡ Some index) × (it ≡ candidate_of n t it.place index.columns)
 
   of_place : (it ≡ asks_nothing → ⊥) → (index : Index) × IsOfPlace index
-  of_place some = by (most_is t 0 asks_nothing indexes) where
-    by : (most_asked t 0 asks_nothing indexes ≡ asks_nothing) ⊎ IsOfIndex t 0 indexes (most_asked t 0 asks_nothing indexes) → (index : Index) × IsOfPlace index
+  of_place some = by (most_is n t 0 asks_nothing indexes) where
+    by : (most_asked n t 0 asks_nothing indexes ≡ asks_nothing) ⊎ IsOfIndex n t 0 indexes (most_asked n t 0 asks_nothing indexes) → (index : Index) × IsOfPlace index
     by (inl none) = absurd (some (is ∙ none))
     by (inr (j, index, at, same)) =
         (let place = ap (λ (c : Candidate). c.place) (is ∙ same) in (
           index,
-          (ap (slice_get indexes) (place ∙ omega arith) ∙ at, is ∙ (same ∙ ap (λ (n : ℕ). candidate_of t n index.columns) (sym place))),
+          (ap (slice_get indexes) (place ∙ omega arith) ∙ at, is ∙ (same ∙ ap (λ (k : ℕ). candidate_of n t k index.columns) (sym place))),
         ))
 
-  key_asked : (index : Index) → it ≡ candidate_of t it.place index.columns → AreAsked 0 index.columns it.key t
-  key_asked index same = subst (λ (c : Candidate). AreAsked 0 index.columns c.key t) (sym same) (parts_ask 0 t index.columns)
+  key_asked : (index : Index) → it ≡ candidate_of n t it.place index.columns → AreAsked n index.columns it.key t
+  key_asked index same = subst (λ (c : Candidate). AreAsked n index.columns c.key t) (sym same) (parts_ask n t index.columns)
 
   -- where there is a key, it is sought of its index
-  sought_key : (it.key ≡ [] → ⊥) → IsSought indexes t (Key it.place it.key)
+  sought_key : (it.key ≡ [] → ⊥) → IsSought indexes n t (Key it.place it.key)
   sought_key some =
       (let of = of_place (λ e. some (ap (λ (c : Candidate). c.key) e)) in (
         of.0,
@@ -125,10 +126,10 @@ module _ (t : Term) (indexes : List Index) (it : Candidate) (calm : is_calm t �
         record { calm = calm; asked = key_asked of.0 of.1.1; some = some },
       ))
 
-  range_sought : (index : Index) (range : Range) → it.range ≡ range → range ≡ range_in 0 (slice_get index.columns (length it.key)) t → has_ends range ≡ true → AreAsked 0 index.columns it.key t
-      → SeeksRange 0 t index.columns it.key range
+  range_sought : (index : Index) (range : Range) → it.range ≡ range → range ≡ range_in n (slice_get index.columns (length it.key)) t → has_ends range ≡ true → AreAsked n index.columns it.key t
+      → SeeksRange n t index.columns it.key range
   range_sought index range same found some asked = by (slice_get index.columns (length it.key)) refl found where
-    by : (next : Option IndexColumn) → slice_get index.columns (length it.key) ≡ next → range ≡ range_in 0 next t → SeeksRange 0 t index.columns it.key range
+    by : (next : Option IndexColumn) → slice_get index.columns (length it.key) ≡ next → range ≡ range_in n next t → SeeksRange n t index.columns it.key range
     by None at found = absurd (true≢false (sym some ∙ ap has_ends found))
     by (Some column) at found =
         record {
@@ -136,23 +137,23 @@ module _ (t : Term) (indexes : List Index) (it : Candidate) (calm : is_calm t �
           asked = asked;
           column = column;
           next = at;
-          ends = subst (AreEnds (of_column 0 column) t) (sym found) (ends_asked (of_column 0 column) t (sym (ap has_ends found) ∙ some));
+          ends = subst (AreEnds (of_column n column) t) (sym found) (ends_asked (of_column n column) t (sym (ap has_ends found) ∙ some));
         }
 
   -- where there is a range, it is
-  sought_range : has_ends it.range ≡ true → IsSought indexes t (InRange it.place it.key it.range)
+  sought_range : has_ends it.range ≡ true → IsSought indexes n t (InRange it.place it.key it.range)
   sought_range some =
       (let of = of_place (λ e. true≢false (sym some ∙ ap (λ (c : Candidate). has_ends c.range) e)) in (
         of.0,
         of.1.0,
         range_sought of.0 it.range refl
-            (ap (λ (c : Candidate). c.range) of.1.1 ∙ ap (λ (key : List Value). range_in 0 (slice_get (of.0).columns (length key)) t) (sym (ap (λ (c : Candidate). c.key) of.1.1)))
+            (ap (λ (c : Candidate). c.range) of.1.1 ∙ ap (λ (key : List Value). range_in n (slice_get (of.0).columns (length key)) t) (sym (ap (λ (c : Candidate). c.key) of.1.1)))
             some (key_asked of.0 of.1.1),
       ))
 
   -- where there is neither, no index's first column is asked for
-  no_key : length it.key ≡ 0 → IsNotAsked t indexes
-  no_key none = (none_asked t 0 asks_nothing indexes (ap (λ (c : Candidate). c.key) (sym is) ∙ empty it.key none)).1
+  no_key : length it.key ≡ 0 → IsNotAsked n t indexes
+  no_key none = (none_asked n t 0 asks_nothing indexes (ap (λ (c : Candidate). c.key) (sym is) ∙ empty it.key none)).1
 
   -- ---- the search by it
 
@@ -160,23 +161,23 @@ module _ (t : Term) (indexes : List Index) (it : Candidate) (calm : is_calm t �
   some_in e none = true≢false (sym (ap (λ (key : List Value). length key == 0) none) ∙ e)
 
   -- where there is one, it is sought
-  pub found_by : IfSome (search_by it) (IsSought indexes t)
+  pub found_by : IfSome (search_by it) (IsSought indexes n t)
   found_by = by (has_ends it.range) refl where
-    keyed : (none : Bool) → length it.key == 0 ≡ none → IfSome (cond none None (Some (Key it.place it.key))) (IsSought indexes t)
+    keyed : (none : Bool) → length it.key == 0 ≡ none → IfSome (cond none None (Some (Key it.place it.key))) (IsSought indexes n t)
     keyed true e = tt
     keyed false e = sought_key (some_in e)
 
-    by : (ranged : Bool) → has_ends it.range ≡ ranged → IfSome (cond ranged (Some (InRange it.place it.key it.range)) (cond (length it.key == 0) None (Some (Key it.place it.key)))) (IsSought indexes t)
+    by : (ranged : Bool) → has_ends it.range ≡ ranged → IfSome (cond ranged (Some (InRange it.place it.key it.range)) (cond (length it.key == 0) None (Some (Key it.place it.key)))) (IsSought indexes n t)
     by true e = sought_range e
     by false e = keyed (length it.key == 0) refl
 
   -- where there is none, no index's first column is asked for
-  pub none_by : IfNone (search_by it) (IsNotAsked t indexes)
+  pub none_by : IfNone (search_by it) (IsNotAsked n t indexes)
   none_by = by (has_ends it.range) where
-    keyed : (none : Bool) → length it.key == 0 ≡ none → IfNone (cond none None (Some (Key it.place it.key))) (IsNotAsked t indexes)
+    keyed : (none : Bool) → length it.key == 0 ≡ none → IfNone (cond none None (Some (Key it.place it.key))) (IsNotAsked n t indexes)
     keyed true e = no_key (eqb-true (length it.key) 0 e)
     keyed false e = tt
 
-    by : (ranged : Bool) → IfNone (cond ranged (Some (InRange it.place it.key it.range)) (cond (length it.key == 0) None (Some (Key it.place it.key)))) (IsNotAsked t indexes)
+    by : (ranged : Bool) → IfNone (cond ranged (Some (InRange it.place it.key it.range)) (cond (length it.key == 0) None (Some (Key it.place it.key)))) (IsNotAsked n t indexes)
     by true = tt
     by false = keyed (length it.key == 0) refl

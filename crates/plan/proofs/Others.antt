@@ -20,7 +20,7 @@ use Rattle.terms.specs.declared.tree.Place.{Place}
 use Rattle.terms.specs.declared.tree.Place.TheVariants.{RowId}
 use Rattle.terms.specs.declared.tree.TwoSided.TheVariants.{Compare}
 use Rattle.bind.specs.Calm.{converts, is_calm, is_side}
-use Rattle.plan.specs.Seeking.{OtherRowsFail, is_rowid}
+use Rattle.plan.specs.Seeking.{Seeks, is_rowid}
 use Rattle.plan.proofs.Parts.{left, right, passing}
 use Rattle.plan.proofs.Untrue.{SurvivesAnd, IsOf, of_whole}
 
@@ -93,7 +93,9 @@ module _ (source k : ℕ) (env : Environment) (rowid : ℤ) (at : cell env sourc
         (fails_compare a (collation_of_two (Cell s RowId a c) (Digits j)) rowid j (λ e. apart (e ∙ ap pos same_rowid)))
   fails _ calm h = absurd (true≢false (sym h))
 
-pub other_rows_fail : OtherRowsFail
-other_rows_fail source k condition seeks env rowid at apart =
+-- such a condition is false where the source's rowid is an integer, and not this one
+pub fails_of_other : (source k : ℕ) (condition : Term) → Seeks source condition k → (env : Environment) (rowid : ℤ) → cell env source RowId ≡ Int rowid → (rowid ≡ pos k → ⊥)
+    → (value condition env then truth) ≡ Ok (Some false)
+fails_of_other source k condition seeks env rowid at apart =
     (let f = of_whole IsFalse false_survives (λ t. is_rowid source k t ≡ true) env (fails source k env rowid at apart) condition seeks.calm (passing (is_rowid source k) condition seeks.part) in
     ap (λ x. x then truth) f.1 ∙ (f.3 ∙ ap (λ u. Ok u) f.4))

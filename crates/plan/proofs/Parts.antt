@@ -3,7 +3,7 @@ use Rattle.std.proofs.Common.{◌≡◌, refl, sym, ap, ◌∙◌, ℕ, Bool, tr
 use mathlib.Core.Bool.{true≢false}
 use Rattle.std.specs.List.{list_any}
 use Rattle.std.specs.Option.{option_or}
-use Rattle.std.specs.Prelude.{IfNone, IfSome}
+use Rattle.std.specs.Prelude.{IfSome}
 use Rattle.terms.specs.Terms.{Term, Two}
 use Rattle.terms.specs.declared.tree.TwoSided.TheVariants.{And}
 use Rattle.bind.specs.Calm.{is_calm, parts}
@@ -47,18 +47,6 @@ or_found test (Some k) y xs ys f g = first xs f where
   first (x ∷ xs) e = either (test k x) e (first xs) where
     either : (b : Bool) → b || list_any (test k) xs ≡ true → (list_any (test k) xs ≡ true → list_any (test k) (xs ++ ys) ≡ true) → b || list_any (test k) (xs ++ ys) ≡ true
     either true e more = refl
-    either false e more = more e
-
-pub or_none : (test : Term → Bool) (x y : Option ℕ) (xs ys : List Term) → IfNone x (list_any test xs ≡ false) → IfNone y (list_any test ys ≡ false)
-    → IfNone (option_or x y) (list_any test (xs ++ ys) ≡ false)
-or_none test (Some k) y xs ys f g = tt
-or_none test None (Some k) xs ys f g = tt
-or_none test None None xs ys f g = both xs f where
-  both : (xs : List Term) → list_any test xs ≡ false → list_any test (xs ++ ys) ≡ false
-  both [] e = g
-  both (x ∷ xs) e = either (test x) e (both xs) where
-    either : (b : Bool) → b || list_any test xs ≡ false → (list_any test xs ≡ false → list_any test (xs ++ ys) ≡ false) → b || list_any test (xs ++ ys) ≡ false
-    either true e more = absurd (true≢false e)
     either false e more = more e
 
 -- a condition of which a part passes a test has such a part

@@ -15,7 +15,8 @@ use Rattle.terms.specs.declared.tree.Place.TheVariants.{RowId}
 use Rattle.terms.specs.declared.tree.TwoSided.TheVariants.{Compare, And, Or}
 use Rattle.plan.specs.Asking.{IsChosen, asks_nothing, end_at, ends_in, most_asked, no_range, rowids_in}
 use Rattle.plan.specs.Keys.{of_column}
-use Rattle.plan.specs.Ranges.{AreEnds, AsksFrom, has_range, in_range, is_within, rows_of_rowids}
+use Rattle.plan.specs.Ranges.{AreEnds, AsksFrom, has_range, is_within}
+use Rattle.plan.specs.Searching.{is_found}
 use Rattle.plan.specs.declared.ranges.Range.{Range}
 use Rattle.plan.specs.declared.searching.Search.TheVariants.{Key, Rowids, Range as InRange}
 use Rattle.plan.proofs.KeyRows.{a, b, both, first, on_a, on_both, second, x}
@@ -67,20 +68,20 @@ other_collation = refl
 -- ---- which index
 
 -- a = 'x' AND b = 5: the longer key
-pub longer_key : most_asked both 0 asks_nothing (on_a ∷ on_both ∷ []) ≡ record { place = 1; key = five ∷ x ∷ []; range = no_range }
+pub longer_key : most_asked 0 both 0 asks_nothing (on_a ∷ on_both ∷ []) ≡ record { place = 1; key = five ∷ x ∷ []; range = no_range }
 longer_key = refl
 
 -- a = 'x' AND b >= 5: a key before a range
-pub key_first : most_asked (Two And (Two (Compare Equal) a (Const x)) (b_is GreaterOrEqual 5)) 0 asks_nothing (on_both ∷ on_a ∷ []) ≡ record { place = 1; key = x ∷ []; range = no_range }
+pub key_first : most_asked 0 (Two And (Two (Compare Equal) a (Const x)) (b_is GreaterOrEqual 5)) 0 asks_nothing (on_both ∷ on_a ∷ []) ≡ record { place = 1; key = x ∷ []; range = no_range }
 key_first = refl
 
 -- b = 5 AND a > 'x': the key of b and the range of a
-pub key_and_range : most_asked (Two And (b_is Equal 5) (Two (Compare Greater) a (Const x))) 0 asks_nothing (on_a ∷ on_both ∷ [])
+pub key_and_range : most_asked 0 (Two And (b_is Equal 5) (Two (Compare Greater) a (Const x))) 0 asks_nothing (on_a ∷ on_both ∷ [])
     ≡ record { place = 1; key = five ∷ []; range = record { low = Some (end_at false x); high = None } }
 key_and_range = refl
 
 -- b >= 5 AND b < 9: a range alone, of the first index that begins with b
-pub range_alone : most_asked between_both 0 asks_nothing (on_a ∷ on_both ∷ on_both ∷ []) ≡ record { place = 1; key = []; range = from_five_to_nine }
+pub range_alone : most_asked 0 between_both 0 asks_nothing (on_a ∷ on_both ∷ on_both ∷ []) ≡ record { place = 1; key = []; range = from_five_to_nine }
 range_alone = refl
 
 -- ---- rows of a range
@@ -121,8 +122,11 @@ short_row = refl
 abbrev row : ℕ → Value → Row
 row rowid v = record { rowid = Int (pos rowid); values = x ∷ v ∷ [] }
 
-pub rows_of_range : in_range on_both.columns [] from_five_to_nine (row 1 five ∷ row 2 nine ∷ row 3 Null ∷ []) ≡ row 1 five ∷ []
-rows_of_range = refl
+pub row_found : is_found (on_both ∷ []) (InRange 0 [] from_five_to_nine) (row 1 five) ≡ true
+row_found = refl
+
+pub row_not_found : is_found (on_both ∷ []) (InRange 0 [] from_five_to_nine) (row 2 nine) ≡ false
+row_not_found = refl
 
 -- ---- rowids
 
@@ -153,8 +157,18 @@ by_equal = refl
 pub asks_from_six : AsksFrom 0 (rowid_is Greater 5) (pos 6)
 asks_from_six = inr (refl, refl, refl, refl, refl)
 
-pub rows_from_two : rows_of_rowids (pos 2) (pos 3) (row 1 five ∷ row 2 nine ∷ row 4 Null ∷ []) ≡ row 2 nine ∷ []
-rows_from_two = refl
+pub found_from_two : is_found [] (Rowids (pos 2) (pos 3)) (row 2 nine) ≡ true
+found_from_two = refl
+
+pub not_found_before_two : is_found [] (Rowids (pos 2) (pos 3)) (row 1 five) ≡ false
+not_found_before_two = refl
+
+pub not_found_past_three : is_found [] (Rowids (pos 2) (pos 3)) (row 4 Null) ≡ false
+not_found_past_three = refl
+
+-- what is asked of the rowid of another source
+pub of_second_source : rowids_in 1 (rowid_is Greater 5) ≡ None
+of_second_source = refl
 
 -- ---- which search
 
@@ -166,30 +180,30 @@ abbrev rowids_and_a : Term
 rowids_and_a = Two And (rowid_is Greater 0) (Two (Compare Equal) a (Digits 5))
 
 -- the key of an index before a range of rowids
-pub key_before_rowids : IsChosen (on_a ∷ []) rowids_and_a (Key 0 (Text (codes "5") ∷ []))
+pub key_before_rowids : IsChosen (on_a ∷ []) 0 rowids_and_a (Key 0 (Text (codes "5") ∷ []))
 unfolding digits
 key_before_rowids = (refl, (λ e. absurd (some_key (Text (codes "5")) [] e)), refl)
 
-pub not_by_rowids : IsChosen (on_a ∷ []) rowids_and_a (Rowids (pos 1) (pos (2 ^ 63 - 1))) → ⊥
+pub not_by_rowids : IsChosen (on_a ∷ []) 0 rowids_and_a (Rowids (pos 1) (pos (2 ^ 63 - 1))) → ⊥
 unfolding digits
 not_by_rowids chosen = some_key (Text (codes "5")) [] chosen.1
 
 -- beside an index on (b, a) that asks nothing
-pub by_rowids : IsChosen (on_both ∷ []) rowids_and_a (Rowids (pos 1) (pos (2 ^ 63 - 1)))
+pub by_rowids : IsChosen (on_both ∷ []) 0 rowids_and_a (Rowids (pos 1) (pos (2 ^ 63 - 1)))
 by_rowids = (refl, refl, refl)
 
 -- rowid > 0 AND b > 5: a range of rowids before one of an index's first column
-pub rowids_before_range : IsChosen (on_both ∷ []) (Two And (rowid_is Greater 0) (b_is Greater 5)) (Rowids (pos 1) (pos (2 ^ 63 - 1)))
+pub rowids_before_range : IsChosen (on_both ∷ []) 0 (Two And (rowid_is Greater 0) (b_is Greater 5)) (Rowids (pos 1) (pos (2 ^ 63 - 1)))
 rowids_before_range = (refl, refl, refl)
 
 -- rowid > 0 AND b = 5 AND a > 'x': a range after a key before it
-pub key_and_range_first : IsChosen (on_both ∷ []) (Two And (rowid_is Greater 0) (Two And (b_is Equal 5) (Two (Compare Greater) a (Const x)))) (InRange 0 (five ∷ []) (record { low = Some (end_at false x); high = None }))
+pub key_and_range_first : IsChosen (on_both ∷ []) 0 (Two And (rowid_is Greater 0) (Two And (b_is Equal 5) (Two (Compare Greater) a (Const x)))) (InRange 0 (five ∷ []) (record { low = Some (end_at false x); high = None }))
 key_and_range_first = (refl, (λ e. absurd (some_key five [] e)), refl)
 
 -- b >= 5 AND b < 9
-pub range_last : IsChosen (on_both ∷ []) between_both (InRange 0 [] from_five_to_nine)
+pub range_last : IsChosen (on_both ∷ []) 0 between_both (InRange 0 [] from_five_to_nine)
 range_last = (refl, (λ e. refl), refl)
 
 -- rowid = 5 AND a = 5: nothing before the rowid
-pub not_beside_rowid : IsChosen (on_a ∷ []) (Two And (rowid_is Equal 5) (Two (Compare Equal) a (Digits 5))) (Key 0 (Text (codes "5") ∷ [])) → ⊥
+pub not_beside_rowid : IsChosen (on_a ∷ []) 0 (Two And (rowid_is Equal 5) (Two (Compare Equal) a (Digits 5))) (Key 0 (Text (codes "5") ∷ [])) → ⊥
 not_beside_rowid chosen = true≢false chosen.0

@@ -1,6 +1,6 @@
 -- Which rows an index finds for a condition: those whose values of its first columns are the ones that the condition asks for (The SQLite
 -- Query Optimizer Overview, "WHERE Clause Analysis"; Query Planning, "Multi-Column Indices").
-use Rattle.std.specs.Prelude.{◌≡◌, ◌⊎◌, ⊤, ℕ, pos, Bool, true, false, ◌&&◌, ◌==◌, List, [], ◌∷◌, slice_index_or, Option, Ok}
+use Rattle.std.specs.Prelude.{◌≡◌, ◌⊎◌, ⊤, ℕ, pos, Bool, true, false, ◌&&◌, ◌==◌, List, [], ◌∷◌, slice_index_or, Option, None, Ok}
 use Rattle.std.specs.List.{list_any}
 use Rattle.std.specs.Ordering.{is_eq}
 use Rattle.sqlval.specs.Conversion.{converted}

@@ -1,6 +1,6 @@
 -- What a condition seeks of a source, which rows a search finds, and that the others needn't be read (The SQLite Query Optimizer Overview,
 -- "WHERE Clause Analysis"; Query Planning, "Searching", "Indices" and "Multi-Column Indices").
-use Rattle.std.specs.Prelude.{◌≡◌, ℕ, ℤ, Bool, true, false, not, List, [], ◌∷◌, Option, None, Some, Ok, slice_get, unwrap_or}
+use Rattle.std.specs.Prelude.{◌≡◌, ℕ, ℤ, Bool, true, false, not, List, Option, None, Some, Ok, slice_get, unwrap_or}
 use Rattle.std.specs.Ordering.{int_eq}
 use Rattle.sqlval.specs.Refusals.{Answer}
 use Rattle.sqlval.specs.declared.value.Value.TheVariants.{Int}

@@ -1,4 +1,4 @@
-use Rattle.plan.proofs.Others.{other_rows_fail}
+use Rattle.plan.proofs.Unfound.{other_rows_fail}
 use Rattle.plan.proofs.other_rows_fail.Goals as goal
 
 pub returns : goal.returns

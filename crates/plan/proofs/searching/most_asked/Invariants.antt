@@ -4,4 +4,4 @@ use Rattle.plan.specs.Asking.{asks_nothing, most_asked}
 use Rattle.plan.proofs.searching.most_asked.Given as goal
 
 abbrev pub invariant-indexes : goal.invariant-indexes
-invariant-indexes l = most_asked l.condition l.place l.found (drop l.place l.indexes) ≡ most_asked l.condition 0 asks_nothing l.indexes
+invariant-indexes l = most_asked l.source l.condition l.place l.found (drop l.place l.indexes) ≡ most_asked l.source l.condition 0 asks_nothing l.indexes
