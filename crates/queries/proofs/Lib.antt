@@ -12,6 +12,7 @@ pub mod KeyOrders
 pub mod Levels
 pub mod Loaded
 pub mod Misses
+pub mod Needed
 pub mod PartRows
 pub mod Places
 pub mod PlacesOfRows
