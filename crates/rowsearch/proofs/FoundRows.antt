@@ -2,7 +2,7 @@
 use Rattle.std.proofs.Common.{◌≡◌, refl, sym, ap, subst, ◌∙◌, ℕ, ℤ, Bool, true, false, not, ◌||◌, ◌&&◌, cond, zero, suc, ◌≤◌, ◌<◌, List, [], ◌∷◌, map, length, Option, Some, None, Ok, Err, arith}
 use Rattle.std.specs.List.{AllByRecursion}
 use Rattle.std.specs.Ordering.{int_eq}
-use Rattle.std.specs.Prelude.{IsErrAnd, MatchResult, Result, filter, int_lt, slice_get, slice_index_or}
+use Rattle.std.specs.Prelude.{MatchResult, Result, filter, int_lt, slice_get}
 use mathlib.Core.Bool.{true≢false}
 use Rattle.sqlval.specs.Conversion.{is_word}
 use Rattle.sqlval.specs.Faults.{IsOutside}
@@ -13,18 +13,17 @@ use Rattle.catalog.specs.declared.tables.Index.{Index}
 use Rattle.catalog.specs.declared.tables.IndexColumn.{IndexColumn}
 use Rattle.terms.specs.Terms.{Term}
 use Rattle.terms.specs.Values.{Row}
-use Rattle.bind.specs.Readings.{holds}
 use Rattle.bind.specs.declared.queries.BoundSource.{BoundSource}
 use Rattle.plan.specs.Keys.{AreAsked, SeeksKey, has_key}
 use Rattle.plan.specs.Ranges.{SeeksRange, has_range, is_outside}
-use Rattle.plan.specs.Searching.{IsSought, IsUntrue, OtherRowsFail, has_other, is_found}
+use Rattle.plan.specs.Searching.{IsSought, OtherRowsFail, has_other, is_found}
 use Rattle.plan.specs.declared.ranges.Range.{Range}
 use Rattle.plan.specs.declared.searching.Search.{Search}
 use Rattle.plan.specs.declared.searching.Search.TheVariants.{Rowid, Rowids, Key, Range as InRange}
 use Rattle.rowprog.specs.Rows.{TableRow}
 use Rattle.rowprog.specs.Sources.{LoadsRows, LoadsRowsAt, as_source, rows_at}
 use Rattle.rowsearch.specs.Between.{LoadsBetween, is_from_to}
-use Rattle.rowsearch.specs.Found.{FindsNeeded, FindsRows, HasEntriesOf, HasIndexed, IsUntrueFor, LeaveOutUntrue}
+use Rattle.rowsearch.specs.Found.{FindsNeeded, FindsRows, HasEntriesOf, HasIndexed}
 use Rattle.rowsearch.specs.Searching.{LoadsInRange, LoadsKeyed}
 use Rattle.rowsearch.proofs.LookedUp.{chosen_through}
 
@@ -79,12 +78,6 @@ one_at P [] place x at all = (let bad : None ≡ Some x = at in cc)
 one_at P (y ∷ ys) zero x at all = subst P (same_some y x at) all.0
 one_at P (y ∷ ys) (suc n) x at all = one_at P ys n x at all.1
 
--- the item at a place
-item_at : {A : Type 0} (xs : List A) (place : ℕ) (x d : A) → slice_get xs place ≡ Some x → slice_index_or xs place d ≡ x
-item_at [] place x d at = (let bad : None ≡ Some x = at in cc)
-item_at (y ∷ ys) zero x d at = same_some y x at
-item_at (y ∷ ys) (suc n) x d at = item_at ys n x d at
-
 -- a place with an item is one of the places
 within : {A : Type 0} (xs : List A) (place : ℕ) (x : A) → slice_get xs place ≡ Some x → place < length xs
 within [] place x at = (let bad : None ≡ Some x = at in cc)
@@ -96,6 +89,10 @@ short : (n : ℕ) (columns : List IndexColumn) (key : List Value) (condition : T
 short n columns [] condition asked = omega arith
 short n [] (k ∷ key) condition asked = absurd asked
 short n (column ∷ columns) (k ∷ key) condition asked = (let more = short n columns key condition asked.1 in omega (arith, more))
+
+-- a place isn't empty and taken
+pub no_item : {A : Type 0} (found : Option A) (x : A) → found ≡ Some x → found ≡ None → ⊥
+no_item found x is none = (let bad : None ≡ Some x = sym none ∙ is in cc)
 
 -- whether a row is found of the index at a place, where there is one
 abbrev found_of : Option Index → (Index → Bool) → Bool
@@ -112,61 +109,53 @@ module _ (pages : PageMap) (size : ℕ) (table : BoundSource) (indexes : List In
   rowids_found low high (Err e) loads rows held = loads rows held.whole held.has
   rowids_found low high (Ok found) loads rows held = loads rows held.whole held.has ∙ between low high rows held.words
 
-  module _ (place : ℕ) where
-    -- there is no index at the place of a search
-    none_there : {A : Type 0} (index : Index) → slice_get indexes place ≡ Some index → slice_get indexes place ≡ None → A
-    none_there {A} index is none = (let bad : None ≡ Some index = sym none ∙ is in cc)
+  module _ (place : ℕ) (index : Index) (there : slice_get indexes place ≡ Some index) where
+    -- the index at the place is this one
+    same_index : (other : Index) → slice_get indexes place ≡ Some other → other ≡ index
+    same_index other is = same_some other index (sym is ∙ there)
 
-    module _ (index : Index) (at : (d : Index) → index ≡ slice_index_or indexes place d) where
-      -- the index at the place is this one
-      same_index : (other : Index) → slice_get indexes place ≡ Some other → other ≡ index
-      same_index other is = sym (at other ∙ item_at indexes place other other is)
+    entries_at : (other : Index) → slice_get indexes place ≡ Some other → (rows : List TableRow) → HasIndexed pages size table indexes rows → HasEntriesOf pages size rows index
+    entries_at other is rows held = subst (HasEntriesOf pages size rows) (same_index other is) (one_at (HasEntriesOf pages size rows) indexes place other is held.entries)
 
-      is_there : (other : Index) → slice_get indexes place ≡ Some other → slice_get indexes place ≡ Some index
-      is_there other is = is ∙ ap Some (same_index other is)
+    pub key_found : (n : ℕ) (condition : Term) (key : List Value) (result : Result (List Row) Fault) → IsSought indexes n condition (Key place key)
+        → LoadsKeyed pages size table index.root index.columns key result → FindsRows pages size table indexes (Key place key) result
+    key_found n condition key result sought loads rows held = by result loads
+      where
+        seeks : SeeksKey n condition index.columns key
+        seeks = subst (λ (i : Index). SeeksKey n condition i.columns key) (same_index sought.0 sought.1) sought.2
 
-      entries_at : (other : Index) → slice_get indexes place ≡ Some other → (rows : List TableRow) → HasIndexed pages size table indexes rows → HasEntriesOf pages size rows index
-      entries_at other is rows held = subst (HasEntriesOf pages size rows) (same_index other is) (one_at (HasEntriesOf pages size rows) indexes place other is held.entries)
+        few : length key ≤ length index.columns
+        few = short n index.columns key condition seeks.asked
 
-      pub key_found : (n : ℕ) (condition : Term) (key : List Value) (result : Result (List Row) Fault) → IsSought indexes n condition (Key place key)
-          → LoadsKeyed pages size table index.root index.columns key result → FindsRows pages size table indexes (Key place key) result
-      key_found n condition key result sought loads rows held = by result loads
-        where
-          seeks : SeeksKey n condition index.columns key
-          seeks = subst (λ (i : Index). SeeksKey n condition i.columns key) (same_index sought.0 sought.1) sought.2
+        chosen : filter (λ row. has_key index.columns key row.values) (map as_source rows) ≡ filter (is_found indexes (Key place key)) (map as_source rows)
+        chosen = ap (λ (found : Option Index). filter (λ (row : Row). found_of found (λ (i : Index). has_key i.columns key row.values)) (map as_source rows)) (sym there)
 
-          few : length key ≤ length index.columns
-          few = short n index.columns key condition seeks.asked
+        by : (result : Result (List Row) Fault) → LoadsKeyed pages size table index.root index.columns key result
+            → MatchResult result (λ found. found ≡ filter (is_found indexes (Key place key)) (map as_source rows)) IsOutside
+        by (Err e) loads = loads rows (entries_at sought.0 sought.1 rows held).0 held.whole held.has (entries_at sought.0 sought.1 rows held).1 few
+        by (Ok found) loads =
+            loads rows (entries_at sought.0 sought.1 rows held).0 held.whole held.has (entries_at sought.0 sought.1 rows held).1 few
+            ∙ (keyed index.columns key rows ∙ chosen)
 
-          chosen : filter (λ row. has_key index.columns key row.values) (map as_source rows) ≡ filter (is_found indexes (Key place key)) (map as_source rows)
-          chosen = ap (λ (found : Option Index). filter (λ (row : Row). found_of found (λ (i : Index). has_key i.columns key row.values)) (map as_source rows)) (sym (is_there sought.0 sought.1))
+    pub range_found : (n : ℕ) (condition : Term) (key : List Value) (range : Range) (result : Result (List Row) Fault) → IsSought indexes n condition (InRange place key range)
+        → LoadsInRange pages size table index.root index.columns key range result → FindsRows pages size table indexes (InRange place key range) result
+    range_found n condition key range result sought loads rows held = by result loads
+      where
+        seeks : SeeksRange n condition index.columns key range
+        seeks = subst (λ (i : Index). SeeksRange n condition i.columns key range) (same_index sought.0 sought.1) sought.2
 
-          by : (result : Result (List Row) Fault) → LoadsKeyed pages size table index.root index.columns key result
-              → MatchResult result (λ found. found ≡ filter (is_found indexes (Key place key)) (map as_source rows)) IsOutside
-          by (Err e) loads = loads rows (entries_at sought.0 sought.1 rows held).0 held.whole held.has (entries_at sought.0 sought.1 rows held).1 few
-          by (Ok found) loads =
-              loads rows (entries_at sought.0 sought.1 rows held).0 held.whole held.has (entries_at sought.0 sought.1 rows held).1 few
-              ∙ (keyed index.columns key rows ∙ chosen)
+        few : length key < length index.columns
+        few = within index.columns (length key) seeks.column seeks.next
 
-      pub range_found : (n : ℕ) (condition : Term) (key : List Value) (range : Range) (result : Result (List Row) Fault) → IsSought indexes n condition (InRange place key range)
-          → LoadsInRange pages size table index.root index.columns key range result → FindsRows pages size table indexes (InRange place key range) result
-      range_found n condition key range result sought loads rows held = by result loads
-        where
-          seeks : SeeksRange n condition index.columns key range
-          seeks = subst (λ (i : Index). SeeksRange n condition i.columns key range) (same_index sought.0 sought.1) sought.2
+        chosen : filter (λ row. has_range index.columns key range row.values) (map as_source rows) ≡ filter (is_found indexes (InRange place key range)) (map as_source rows)
+        chosen = ap (λ (found : Option Index). filter (λ (row : Row). found_of found (λ (i : Index). has_range i.columns key range row.values)) (map as_source rows)) (sym there)
 
-          few : length key < length index.columns
-          few = within index.columns (length key) seeks.column seeks.next
-
-          chosen : filter (λ row. has_range index.columns key range row.values) (map as_source rows) ≡ filter (is_found indexes (InRange place key range)) (map as_source rows)
-          chosen = ap (λ (found : Option Index). filter (λ (row : Row). found_of found (λ (i : Index). has_range i.columns key range row.values)) (map as_source rows)) (sym (is_there sought.0 sought.1))
-
-          by : (result : Result (List Row) Fault) → LoadsInRange pages size table index.root index.columns key range result
-              → MatchResult result (λ found. found ≡ filter (is_found indexes (InRange place key range)) (map as_source rows)) IsOutside
-          by (Err e) loads = loads rows (entries_at sought.0 sought.1 rows held).0 held.whole held.has (entries_at sought.0 sought.1 rows held).1 few
-          by (Ok found) loads =
-              loads rows (entries_at sought.0 sought.1 rows held).0 held.whole held.has (entries_at sought.0 sought.1 rows held).1 few
-              ∙ (ranged index.columns key range rows ∙ chosen)
+        by : (result : Result (List Row) Fault) → LoadsInRange pages size table index.root index.columns key range result
+            → MatchResult result (λ found. found ≡ filter (is_found indexes (InRange place key range)) (map as_source rows)) IsOutside
+        by (Err e) loads = loads rows (entries_at sought.0 sought.1 rows held).0 held.whole held.has (entries_at sought.0 sought.1 rows held).1 few
+        by (Ok found) loads =
+            loads rows (entries_at sought.0 sought.1 rows held).0 held.whole held.has (entries_at sought.0 sought.1 rows held).1 few
+            ∙ (ranged index.columns key range rows ∙ chosen)
 
   -- ---- what a condition needs
 

@@ -1,6 +1,3 @@
-use Rattle.std.proofs.Common.{Option, subst, sym}
-use Rattle.terms.specs.Terms.{Term}
-use Rattle.rowsearch.specs.Found.{FindsNeeded}
 use Rattle.rowsearch.proofs.FoundRows.{all_needed}
 use Rattle.rowsearch.proofs.found.needed_rows.Goals as goal
 
