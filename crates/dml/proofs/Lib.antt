@@ -17,4 +17,3 @@ mod SetRows
 pub mod Replaced
 pub mod SetTrees
 mod Meant
-mod Sought

@@ -3,27 +3,23 @@ use Rattle.std.proofs.Common.{◌≡◌, inl, inr, refl, sym, ap, subst, ◌∙�
 use Rattle.std.specs.Prelude.{IfErr, IfOk, IsErrAnd}
 use Rattle.std.specs.Global.{Vec}
 use Rattle.std.proofs.lemmas.List.{map_more, take_all}
-use Rattle.sqlval.specs.Faults.{IsOutside}
 use Rattle.sqlval.specs.Refusals.{Answer, ◌then◌}
 use Rattle.sqlval.specs.declared.fault.Fault.{Fault}
 use Rattle.sqlval.specs.declared.fault.Fault.TheVariants.{Memory}
-use Rattle.pages.specs.Map.{PageMap}
 use Rattle.catalog.specs.declared.tables.TableRow as stored
-use Rattle.bind.specs.declared.queries.BoundSource.{BoundSource}
 use Rattle.terms.specs.Outcome.{AnswersBy, IsRefusedBy}
 use Rattle.terms.specs.Rows.{row_at}
 use Rattle.terms.specs.Terms.{Term}
 use Rattle.terms.specs.Values.{Row}
 use Rattle.rowprog.specs.Rows.{TableRow}
 use Rattle.rowprog.specs.Sources.{as_source}
-use Rattle.rowprog.specs.Trees.{AnswersOrFails}
-use Rattle.dml.specs.Meaning.{AreEnough, FindsMeant, LoadsMeant, as_row, chosen_or_all}
+use Rattle.dml.specs.Meaning.{AreEnough, as_row, chosen_or_all}
 use Rattle.dml.specs.NewRows.{row_of}
 use Rattle.dml.specs.Setting.{rows_meant}
 use Rattle.dml.proofs.SetRows.{map_twice}
 use Rattle.dml.proofs.SetTrees.{as_sources, meant_as_chosen}
 
-abbrev pub as_table : List Row → Answer (List TableRow)
+abbrev as_table : List Row → Answer (List TableRow)
 as_table them = Ok (map as_row them)
 
 -- ---- the calls
@@ -57,26 +53,16 @@ back : (rows : List TableRow) → map as_row (map as_source rows) ≡ rows
 back [] = refl
 back (row ∷ rows) = ap (λ (rs : List TableRow). row ∷ rs) (back rows)
 
-pub as_meant : (c : Option Term) (rows : List TableRow) → (rows_meant c [] (map as_source rows) then as_table) ≡ chosen_or_all c rows
+as_meant : (c : Option Term) (rows : List TableRow) → (rows_meant c [] (map as_source rows) then as_table) ≡ chosen_or_all c rows
 as_meant c rows = ap (λ (a : Answer (List Row)). a then as_table) (meant_as_chosen c rows) ∙ by (chosen_or_all c rows)
   where
     by : (a : Answer (List TableRow)) → ((a then as_sources) then as_table) ≡ a
     by (Ok them) = ap (λ (rs : List TableRow). Ok rs) (back them)
     by (Err r) = refl
 
-module _ (pages : PageMap) (size : ℕ) (table : BoundSource) (c : Option Term) where
-  pub none_found : (fault : Fault) (result : Result (Vec stored.TableRow) Fault) → IsErrAnd result (λ e. e ≡ fault) → LoadsMeant pages size table c (Err fault) → FindsMeant pages size table c result
-  none_found fault (Ok x) same loads = absurd same
-  none_found fault (Err e) same loads = λ rows whole has. inl (subst IsOutside (sym same) (loads rows whole has))
-
-  pub meant_found : (found : List Row) (result : Result (Vec stored.TableRow) Fault) → LoadsMeant pages size table c (Ok found)
-      → AnswersBy (λ them. map row_of them.items) (rows_meant c [] found then λ them. Ok (map as_row them)) result → FindsMeant pages size table c result
-  meant_found found result loads answers rows whole has = by result (subst (λ (a : Answer (List TableRow)). AnswersBy (λ them. map row_of them.items) a result) (known (loads rows whole has)) answers)
-    where
-      known : AreEnough c found rows → (rows_meant c [] found then as_table) ≡ chosen_or_all c rows
-      known enough = ap (λ (them : List Row). rows_meant c [] them then as_table) enough.are ∙ (as_meant c enough.some ∙ enough.same)
-
-      by : (r : Result (Vec stored.TableRow) Fault) → AnswersBy (λ them. map row_of them.items) (chosen_or_all c rows) r → AnswersOrFails (λ them. map row_of them.items) (chosen_or_all c rows) r
-      by (Ok them) e = e
-      by (Err f) (inl memory) = inl (inl memory)
-      by (Err f) (inr e) = inr e
+-- of rows that are enough
+pub as_chosen : (c : Option Term) (found : List Row) (all : List TableRow) (result : Result (Vec stored.TableRow) Fault) → AreEnough c found all
+    → AnswersBy (λ them. map row_of them.items) (rows_meant c [] found then λ them. Ok (map as_row them)) result → AnswersBy (λ them. map row_of them.items) (chosen_or_all c all) result
+as_chosen c found all result enough answers =
+    subst (λ (a : Answer (List TableRow)). AnswersBy (λ them. map row_of them.items) a result)
+    (ap (λ (them : List Row). rows_meant c [] them then as_table) enough.are ∙ (as_meant c enough.some ∙ enough.same)) answers

@@ -1,5 +1,5 @@
 -- Rows of a tree are replaced one after another.
-use Rattle.std.proofs.Common.{◌≡◌, inl, inr, refl, sym, ap, subst, ◌∙◌, ◌<ℤ◌, ◌≤ℤ◌, ◌&&◌, ◌==◌, ℕ, zero, suc, ℤ, Bool, true, false, cond, filter, List, [], ◌∷◌, ◌++◌, length, map, Option, Some, None, if◌then◌else◌, Result, Ok, Err, IsTrue, All, zip, slice_set, arith}
+use Rattle.std.proofs.Common.{◌≡◌, inl, inr, refl, sym, ap, subst, ◌∙◌, ◌<ℤ◌, ◌≤ℤ◌, ◌&&◌, ◌==◌, ℕ, zero, suc, ℤ, Bool, true, false, cond, filter, List, [], ◌∷◌, ◌++◌, length, map, Option, Some, None, if◌then◌else◌, Result, Ok, Err, All, zip, slice_set, arith}
 use Rattle.std.specs.Prelude.{MatchResult, ⊤, int_lt}
 use Rattle.std.specs.Global.{Vec}
 use Rattle.std.specs.List.{AllByRecursion, list_all}
@@ -12,7 +12,7 @@ use Rattle.sqlval.specs.Refusals.{Answer, Refusal, ◌then◌, all_answers}
 use Rattle.sqlval.specs.declared.fault.Fault.{Fault}
 use Rattle.sqlval.specs.declared.value.Value.{Value}
 use Rattle.page.specs.Leaf.{Entry}
-use Rattle.pages.specs.Calls.{IsOutsideOrFull, Limits}
+use Rattle.pages.specs.Calls.{IsOutsideOrFull}
 use Rattle.pages.specs.Map.{PageMap}
 use Rattle.treepage.specs.Cells.{Pairwise}
 use Rattle.tabletree.specs.Calls.{BecomesRows, ChangesRows}
@@ -62,13 +62,6 @@ as_replaced old new size root changes result all makes rows used free is = by re
         → MatchResult r (λ done. BecomesRows old new size root (with_all_replaced (map entry_left changes) rows) used free) IsOutsideOrFull
     by (Ok done) becomes = subst (λ (rs : List Entry). BecomesRows old new size root rs used free) (changes_replace changes rows all) becomes
     by (Err fault) refused = refused
-
--- what a call does to pages that were only read before
-pub changes_after : {P K : Type 0} (below : P → K) (tells : K → Bool) (limits : K → Limits) (pages : P → PageMap) (old mid : P) (new : PageMap) (root : ℕ) (changes : List RowChange) (result : Result ⊤ Fault) → below mid ≡ below old
-    → pages mid ≡ pages old → (IsTrue (tells (below mid)) → ChangesRows (pages mid) new (limits (below mid)).page root changes result) → IsTrue (tells (below old)) → ChangesRows (pages old) new (limits (below old)).page root changes result
-changes_after {P} {K} below tells limits pages old mid new root changes result kept same makes told =
-    subst (λ (m : PageMap). ChangesRows m new (limits (below old)).page root changes result) same
-    (subst (λ (k : K). ChangesRows (pages mid) new (limits k).page root changes result) kept (makes (subst (λ (k : K). IsTrue (tells k)) (sym kept) told)))
 
 -- ---- the parts of an answer
 

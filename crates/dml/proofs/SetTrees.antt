@@ -10,20 +10,18 @@ use Rattle.page.specs.Leaf.{Entry}
 use Rattle.pages.specs.Calls.{IsOutsideOrFull}
 use Rattle.pages.specs.Map.{PageMap}
 use Rattle.treepage.specs.Cells.{Pairwise}
-use Rattle.tabletree.specs.Calls.{BecomesRows, Stands}
+use Rattle.tabletree.specs.Calls.{BecomesRows}
 use Rattle.catalog.specs.declared.tables.Column.{Column}
 use Rattle.catalog.specs.declared.tables.TableRow as stored
-use Rattle.bind.specs.declared.queries.BoundSource.{BoundSource}
 use Rattle.terms.specs.Outcome.{IsRefusedBy}
 use Rattle.terms.specs.Terms.{Term}
 use Rattle.terms.specs.Values.{Row}
-use Rattle.rowprog.specs.Rows.{IsRow, TableRow}
+use Rattle.rowprog.specs.Rows.{TableRow}
 use Rattle.rowprog.specs.Sources.{as_source}
-use Rattle.rowprog.specs.Trees.{HasRows}
 use Rattle.rowprog.proofs.TreeOrder.{tree_rises}
 use Rattle.dml.specs.Choosing.{is_chosen, tested}
 use Rattle.dml.specs.Inserting.{AllStorable}
-use Rattle.dml.specs.Meaning.{AreEnough, LoadsMeant, chosen_or_all}
+use Rattle.dml.specs.Meaning.{AreEnough, chosen_or_all}
 use Rattle.dml.specs.NewRows.{IsWritten, row_of}
 use Rattle.dml.specs.Setting.{rows_changed, rows_meant, rows_meant_set, rows_set, source_set}
 use Rattle.dml.specs.Updating.{AreSetIn, IsSetRefusal, ReplacesRows, SetsRows, TellsChanged, with_all_replaced}
@@ -126,80 +124,66 @@ module _ (columns : List Column) (sets : List (ℕ × Term)) (c : Option Term) w
 
   -- ---- what the calls answer
 
-  module _ (old new : PageMap) (size root : ℕ) where
+  module _ (old new : PageMap) (size root : ℕ) (found : List Row) where
     refused : {X : Type 0} (fault : Fault) (result : Result X Fault) → IsErrAnd result (λ e. e ≡ fault)
-        → ((rows : List TableRow) (entries : List Entry) (used free : List ℕ) → Stands old size root entries used free → Pairwise (IsRow (length columns)) entries rows → IsSetRefusal columns sets c rows fault)
-        → SetsRows old new size root columns sets c result
+        → ((rows : List TableRow) → AreEnough c found rows → IsSetRefusal columns sets c rows fault)
+        → SetsRows old new size root columns sets c found result
     refused fault (Ok x) same why = absurd same
-    refused fault (Err e) same why = λ rows entries used free is each. subst (λ (g : Fault). IsSetRefusal columns sets c rows g) (sym same) (why rows entries used free is each)
+    refused fault (Err e) same why = λ rows entries used free is each enough. subst (λ (g : Fault). IsSetRefusal columns sets c rows g) (sym same) (why rows enough)
 
     -- a call that passes it on
-    pub passed_on : {X : Type 0} (fault : Fault) (result : Result X Fault) → IsErrAnd result (λ e. e ≡ fault) → SetsRows {X = ⊤} old new size root columns sets c (Err fault)
-        → SetsRows old new size root columns sets c result
+    pub passed_on : {X : Type 0} (fault : Fault) (result : Result X Fault) → IsErrAnd result (λ e. e ≡ fault) → SetsRows {X = ⊤} old new size root columns sets c found (Err fault)
+        → SetsRows old new size root columns sets c found result
     passed_on fault (Ok x) same sets_so = absurd same
-    passed_on fault (Err e) same sets_so = λ rows entries used free is each. subst (λ (g : Fault). IsSetRefusal columns sets c rows g) (sym same) (sets_so rows entries used free is each)
+    passed_on fault (Err e) same sets_so = λ rows entries used free is each enough. subst (λ (g : Fault). IsSetRefusal columns sets c rows g) (sym same) (sets_so rows entries used free is each enough)
 
-    pub none_told : (fault : Fault) (result : Result (Vec stored.TableRow) Fault) → IsErrAnd result (λ e. e ≡ fault) → TellsChanged old size root columns sets c result
+    pub none_changed : {X : Type 0} (fault : Fault) (result : Result X Fault) → IsErrAnd result (λ e. e ≡ fault) → IsRefusedBy (rows_changed columns sets c found) fault → SetsRows old new size root columns sets c found result
+    none_changed fault result same why = refused fault result same (λ rows enough. by rows enough why)
+      where
+        by : (rows : List TableRow) → AreEnough c found rows → IsRefusedBy (rows_changed columns sets c found) fault → IsSetRefusal columns sets c rows fault
+        by rows enough (inl memory) = inl (inl (inl memory))
+        by rows enough (inr e) = inr (inl (changed_refused rows (refusal_of fault) (sym (enough_changed found rows enough) ∙ e)))
+
+    module _ (changed : List TableRow) (answer : rows_changed columns sets c found ≡ Ok changed) where
+      known : (rows : List TableRow) → AreEnough c found rows → (made columns sets (meant_by c) rows ≡ Ok changed) × (rows_set columns sets c rows ≡ rows_meant_set columns sets (meant_by c) rows)
+      known rows enough = changed_known rows changed (sym (enough_changed found rows enough) ∙ answer)
+
+      pub none_stored : {X : Type 0} (fault : Fault) (result : Result X Fault) → IsErrAnd result (λ e. e ≡ fault) → (fault ≡ f.Memory) ⊎ ((fault ≡ f.TooLong) × (AllStorable changed → ⊥)) → SetsRows old new size root columns sets c found result
+      none_stored fault result same why = refused fault result same (λ rows enough. by rows enough why)
+        where
+          by : (rows : List TableRow) → AreEnough c found rows → (fault ≡ f.Memory) ⊎ ((fault ≡ f.TooLong) × (AllStorable changed → ⊥)) → IsSetRefusal columns sets c rows fault
+          by rows enough (inl memory) = inl (inl (inl memory))
+          by rows enough (inr (long, cannot)) =
+              let is = known rows enough in
+              let set = are_changed columns sets (meant_by c) rows changed is.0 in
+              inr (inr (record { is = long; now = set.now; answer = is.1 ∙ set.answer; long = λ all. cannot (set.storable all) }))
+
+      pub rows_replaced : (more : List Entry) (result : Result ⊤ Fault) → Pairwise IsWritten changed more → ReplacesRows old new size root (with_all_replaced more) result → SetsRows old new size root columns sets c found result
+      rows_replaced more result written replaces rows entries used free is each enough = by result (replaces entries used free is)
+        where
+          rises : Rises rows
+          rises = rows_rise (length columns) entries rows (tree_rises old size root entries used is.tree) each
+
+          by : (r : Result ⊤ Fault) → MatchResult r (λ done. BecomesRows old new size root (with_all_replaced more entries) used free) IsOutsideOrFull
+              → MatchResult r (λ done. AreSetIn old new size root columns sets c rows used free) (IsSetRefusal columns sets c rows)
+          by (Ok done) becomes =
+              let are = known rows enough in
+              let set = are_set columns sets (meant_by c) rows changed entries more each rises are.0 written in
+              record {
+                now = set.now;
+                answer = are.1 ∙ set.answer;
+                entries = with_all_replaced more entries;
+                becomes = becomes;
+                each = set.each;
+                fit = fit_now columns sets (meant_by c) rows changed entries more set;
+              }
+          by (Err fault) cannot = inl cannot
+
+  -- the rows that are answered
+  module _ (found : List Row) where
+    pub none_told : (fault : Fault) (result : Result (Vec stored.TableRow) Fault) → IsErrAnd result (λ e. e ≡ fault) → TellsChanged columns sets c found result
     none_told fault (Ok x) same = absurd same
-    none_told fault (Err e) same = λ rows whole has. tt
+    none_told fault (Err e) same = λ rows enough. tt
 
-    module _ (width : ℕ) (wide : width ≡ length columns) where
-      abbrev source : BoundSource
-      source = record { root = root; width = width }
-
-      has_rows : (rows : List TableRow) (entries : List Entry) (used free : List ℕ) → Stands old size root entries used free → Pairwise (IsRow (length columns)) entries rows → HasRows old size root width rows
-      has_rows rows entries used free is each = subst (λ w. HasRows old size root w rows) (sym wide) (record { entries = entries; used = used; tree = is.tree; each = each })
-
-      pub none_loaded : {X : Type 0} (fault : Fault) (result : Result X Fault) → IsErrAnd result (λ e. e ≡ fault) → LoadsMeant old size source c (Err fault) → SetsRows old new size root columns sets c result
-      none_loaded fault result same loads = refused fault result same (λ rows entries used free is each. inl (inl (loads rows is.free_are.whole (has_rows rows entries used free is each))))
-
-      module _ (found : List Row) (loads : LoadsMeant old size source c (Ok found)) where
-        found_are : (rows : List TableRow) (entries : List Entry) (used free : List ℕ) → Stands old size root entries used free → Pairwise (IsRow (length columns)) entries rows → AreEnough c found rows
-        found_are rows entries used free is each = loads rows is.free_are.whole (has_rows rows entries used free is each)
-
-        pub none_changed : {X : Type 0} (fault : Fault) (result : Result X Fault) → IsErrAnd result (λ e. e ≡ fault) → IsRefusedBy (rows_changed columns sets c found) fault → SetsRows old new size root columns sets c result
-        none_changed fault result same why = refused fault result same (λ rows entries used free is each. by rows (found_are rows entries used free is each) why)
-          where
-            by : (rows : List TableRow) → AreEnough c found rows → IsRefusedBy (rows_changed columns sets c found) fault → IsSetRefusal columns sets c rows fault
-            by rows enough (inl memory) = inl (inl (inl memory))
-            by rows enough (inr e) = inr (inl (changed_refused rows (refusal_of fault) (sym (enough_changed found rows enough) ∙ e)))
-
-        -- the rows that are answered
-        pub told_changed : (them : Vec stored.TableRow) → rows_changed columns sets c found ≡ Ok (map row_of them.items) → TellsChanged old size root columns sets c (Ok them)
-        told_changed them answer rows whole has =
-            sym (enough_changed found rows (loads rows whole (subst (λ w. HasRows old size root w rows) (sym wide) has))) ∙ answer
-
-        module _ (changed : List TableRow) (answer : rows_changed columns sets c found ≡ Ok changed) where
-          known : (rows : List TableRow) → AreEnough c found rows → (made columns sets (meant_by c) rows ≡ Ok changed) × (rows_set columns sets c rows ≡ rows_meant_set columns sets (meant_by c) rows)
-          known rows enough = changed_known rows changed (sym (enough_changed found rows enough) ∙ answer)
-
-          pub none_stored : {X : Type 0} (fault : Fault) (result : Result X Fault) → IsErrAnd result (λ e. e ≡ fault) → (fault ≡ f.Memory) ⊎ ((fault ≡ f.TooLong) × (AllStorable changed → ⊥)) → SetsRows old new size root columns sets c result
-          none_stored fault result same why = refused fault result same (λ rows entries used free is each. by rows (found_are rows entries used free is each) why)
-            where
-              by : (rows : List TableRow) → AreEnough c found rows → (fault ≡ f.Memory) ⊎ ((fault ≡ f.TooLong) × (AllStorable changed → ⊥)) → IsSetRefusal columns sets c rows fault
-              by rows enough (inl memory) = inl (inl (inl memory))
-              by rows enough (inr (long, cannot)) =
-                  let is = known rows enough in
-                  let set = are_changed columns sets (meant_by c) rows changed is.0 in
-                  inr (inr (record { is = long; now = set.now; answer = is.1 ∙ set.answer; long = λ all. cannot (set.storable all) }))
-
-          pub rows_replaced : (more : List Entry) (result : Result ⊤ Fault) → Pairwise IsWritten changed more → ReplacesRows old new size root (with_all_replaced more) result → SetsRows old new size root columns sets c result
-          rows_replaced more result written replaces rows entries used free is each = by result (replaces entries used free is)
-            where
-              rises : Rises rows
-              rises = rows_rise (length columns) entries rows (tree_rises old size root entries used is.tree) each
-
-              by : (r : Result ⊤ Fault) → MatchResult r (λ done. BecomesRows old new size root (with_all_replaced more entries) used free) IsOutsideOrFull
-                  → MatchResult r (λ done. AreSetIn old new size root columns sets c rows used free) (IsSetRefusal columns sets c rows)
-              by (Ok done) becomes =
-                  let are = known rows (found_are rows entries used free is each) in
-                  let set = are_set columns sets (meant_by c) rows changed entries more each rises are.0 written in
-                  record {
-                    now = set.now;
-                    answer = are.1 ∙ set.answer;
-                    entries = with_all_replaced more entries;
-                    becomes = becomes;
-                    each = set.each;
-                    fit = fit_now columns sets (meant_by c) rows changed entries more set;
-                  }
-              by (Err fault) cannot = inl cannot
+    pub told_changed : (them : Vec stored.TableRow) → rows_changed columns sets c found ≡ Ok (map row_of them.items) → TellsChanged columns sets c found (Ok them)
+    told_changed them answer rows enough = sym (enough_changed found rows enough) ∙ answer

@@ -13,7 +13,7 @@ use Rattle.page.specs.Leaf.{Entry}
 use Rattle.pages.specs.Calls.{IsOutsideOrFull}
 use Rattle.pages.specs.Map.{PageMap}
 use Rattle.treepage.specs.Cells.{Pairwise}
-use Rattle.tabletree.specs.Calls.{BecomesRows, ChangesRows, Stands}
+use Rattle.tabletree.specs.Calls.{BecomesRows, ChangesRows}
 use Rattle.tabletree.specs.Rows.{without_row, with_change, with_changes}
 use Rattle.tabletree.proofs.Orders.{less_not, same_or_other}
 use Rattle.catalog.specs.Listed.{plain_table}
@@ -28,7 +28,7 @@ use Rattle.rowprog.specs.Sources.{as_source}
 use Rattle.rowprog.proofs.RowOrder.{both_true}
 use Rattle.rowprog.proofs.TreeOrder.{tree_rises}
 use Rattle.dml.specs.Choosing.{chosen, is_chosen, rows_left}
-use Rattle.dml.specs.Meaning.{AreEnough, LoadsMeant}
+use Rattle.dml.specs.Meaning.{AreEnough}
 use Rattle.tabletree.specs.declared.changing.RowChange.{RowChange}
 use Rattle.dml.specs.Taking.{AreTakenOut, IsTakeRefusal, MakesRows, TakesRows, without_rows}
 use Rattle.dml.proofs.Chosen.{chosen_and_left, chosen_refused}
@@ -157,59 +157,47 @@ module _ (width : ℕ) (gone : TableRow → Bool) where
 
 -- ---- what the calls answer
 
-module _ (old new : PageMap) (size : ℕ) (table : BoundSource) (condition : Term) where
+module _ (old new : PageMap) (size : ℕ) (table : BoundSource) (condition : Term) (found : List Row) where
   refused : (fault : Fault) (result : Result ⊤ Fault) → IsErrAnd result (λ e. e ≡ fault)
-      → ((rows : List TableRow) (entries : List Entry) (used free : List ℕ) → Stands old size table.root entries used free → Pairwise (IsRow table.width) entries rows → IsTakeRefusal condition rows fault)
-      → TakesRows old new size table condition result
+      → ((rows : List TableRow) → AreEnough (Some condition) found rows → IsTakeRefusal condition rows fault)
+      → TakesRows old new size table condition found result
   refused fault (Ok x) same why = absurd same
-  refused fault (Err e) same why = λ rows entries used free is each. subst (λ (g : Fault). IsTakeRefusal condition rows g) (sym same) (why rows entries used free is each)
+  refused fault (Err e) same why = λ rows entries used free is each enough. subst (λ (g : Fault). IsTakeRefusal condition rows g) (sym same) (why rows enough)
 
-  pub none_listed : (fault : Fault) (result : Result ⊤ Fault) → IsErrAnd result (λ e. e ≡ fault) → fault ≡ Memory → TakesRows old new size table condition result
-  none_listed fault result same memory = refused fault result same (λ rows entries used free is each. inl (inl (inl memory)))
-
-  pub none_loaded : (fault : Fault) (result : Result ⊤ Fault) → IsErrAnd result (λ e. e ≡ fault) → LoadsMeant old size table (Some condition) (Err fault) → TakesRows old new size table condition result
-  none_loaded fault result same loads = refused fault result same (λ rows entries used free is each. inl (inl (loads rows is.free_are.whole (record { entries = entries; used = used; tree = is.tree; each = each }))))
+  pub none_listed : (fault : Fault) (result : Result ⊤ Fault) → IsErrAnd result (λ e. e ≡ fault) → fault ≡ Memory → TakesRows old new size table condition found result
+  none_listed fault result same memory = refused fault result same (λ rows enough. inl (inl (inl memory)))
 
   -- their rowids, of rows that are chosen
   abbrev rowids_of : Answer (List TableRow) → Answer (List ℤ)
   rowids_of rows = rows then λ them. Ok (map (λ row. row.0) them)
 
-  module _ (found : List Row) (loads : LoadsMeant old size table (Some condition) (Ok found)) where
-    found_are : (rows : List TableRow) (entries : List Entry) (used free : List ℕ) → Stands old size table.root entries used free → Pairwise (IsRow table.width) entries rows → AreEnough (Some condition) found rows
-    found_are rows entries used free is each = loads rows is.free_are.whole (record { entries = entries; used = used; tree = is.tree; each = each })
+  pub none_chosen : (fault : Fault) (result : Result ⊤ Fault) → IsErrAnd result (λ e. e ≡ fault)
+      → ((some : List TableRow) → found ≡ map as_source some → IsRefusedBy (chosen condition some then λ them. Ok (map (λ row. row.0) them)) fault) → TakesRows old new size table condition found result
+  none_chosen fault result same why =
+      refused fault result same (λ rows enough. by rows (subst (λ (a : Answer (List TableRow)). IsRefusedBy (rowids_of a) fault) enough.same (why enough.some enough.are)))
+    where
+      by : (rows : List TableRow) → IsRefusedBy (rowids_of (chosen condition rows)) fault → IsTakeRefusal condition rows fault
+      by rows (inl memory) = inl (inl (inl memory))
+      by rows (inr e) = inr (chosen_refused condition rows (refusal_of fault) e)
 
-    pub none_chosen : (fault : Fault) (result : Result ⊤ Fault) → IsErrAnd result (λ e. e ≡ fault)
-        → ((some : List TableRow) → found ≡ map as_source some → IsRefusedBy (chosen condition some then λ them. Ok (map (λ row. row.0) them)) fault) → TakesRows old new size table condition result
-    none_chosen fault result same why = refused fault result same (λ rows entries used free is each. of_all rows (found_are rows entries used free is each))
-      where
-        by : (rows : List TableRow) → IsRefusedBy (rowids_of (chosen condition rows)) fault → IsTakeRefusal condition rows fault
-        by rows (inl memory) = inl (inl (inl memory))
-        by rows (inr e) = inr (chosen_refused condition rows (refusal_of fault) e)
+  pub rows_taken : (rowids : List ℤ) (result : Result ⊤ Fault) → ((some : List TableRow) → found ≡ map as_source some → (chosen condition some then λ them. Ok (map (λ row. row.0) them)) ≡ Ok rowids)
+      → MakesRows old new size table.root (without_rows rowids) result → TakesRows old new size table condition found result
+  rows_taken rowids result chosen_are makes rows entries used free is each enough = by result (makes entries used free is)
+    where
+      known : (rowids ≡ rowids_in (filter (is_chosen condition) rows)) × (rows_left condition rows ≡ Ok (filter (λ row. not (is_chosen condition row)) rows))
+      known = chosen_and_left condition rows rowids (ap rowids_of (sym enough.same) ∙ chosen_are enough.some enough.are)
 
-        of_all : (rows : List TableRow) → AreEnough (Some condition) found rows → IsTakeRefusal condition rows fault
-        of_all rows enough = by rows (subst (λ (a : Answer (List TableRow)). IsRefusedBy (rowids_of a) fault) enough.same (why enough.some enough.are))
+      rises : Rises rows
+      rises = rows_rise table.width entries rows (tree_rises old size table.root entries used is.tree) each
 
-    pub rows_taken : (rowids : List ℤ) (result : Result ⊤ Fault) → ((some : List TableRow) → found ≡ map as_source some → (chosen condition some then λ them. Ok (map (λ row. row.0) them)) ≡ Ok rowids)
-        → MakesRows old new size table.root (without_rows rowids) result → TakesRows old new size table condition result
-    rows_taken rowids result chosen_are makes rows entries used free is each = by result (makes entries used free is)
-      where
-        enough : AreEnough (Some condition) found rows
-        enough = found_are rows entries used free is each
-
-        known : (rowids ≡ rowids_in (filter (is_chosen condition) rows)) × (rows_left condition rows ≡ Ok (filter (λ row. not (is_chosen condition row)) rows))
-        known = chosen_and_left condition rows rowids (ap rowids_of (sym enough.same) ∙ chosen_are enough.some enough.are)
-
-        rises : Rises rows
-        rises = rows_rise table.width entries rows (tree_rises old size table.root entries used is.tree) each
-
-        by : (r : Result ⊤ Fault) → MatchResult r (λ done. BecomesRows old new size table.root (without_rows rowids entries) used free) IsOutsideOrFull
-            → MatchResult r (λ done. AreTakenOut old new size table condition rows used free) (IsTakeRefusal condition rows)
-        by (Ok done) becomes = record {
-          left = filter (λ row. not (is_chosen condition row)) rows;
-          answer = known.1;
-          entries = without_rows rowids entries;
-          becomes = becomes;
-          each = subst (λ (ids : List ℤ). Pairwise (IsRow table.width) (without_rows ids entries) (filter (λ row. not (is_chosen condition row)) rows)) (sym known.0)
-              (left_are table.width (is_chosen condition) entries rows each rises);
-        }
-        by (Err fault) cannot = inl cannot
+      by : (r : Result ⊤ Fault) → MatchResult r (λ done. BecomesRows old new size table.root (without_rows rowids entries) used free) IsOutsideOrFull
+          → MatchResult r (λ done. AreTakenOut old new size table condition rows used free) (IsTakeRefusal condition rows)
+      by (Ok done) becomes = record {
+        left = filter (λ row. not (is_chosen condition row)) rows;
+        answer = known.1;
+        entries = without_rows rowids entries;
+        becomes = becomes;
+        each = subst (λ (ids : List ℤ). Pairwise (IsRow table.width) (without_rows ids entries) (filter (λ row. not (is_chosen condition row)) rows)) (sym known.0)
+            (left_are table.width (is_chosen condition) entries rows each rises);
+      }
+      by (Err fault) cannot = inl cannot

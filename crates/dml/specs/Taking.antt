@@ -1,5 +1,5 @@
 -- What DELETE does to the tree of a table (SQL As Understood By SQLite, "DELETE").
-use Rattle.std.specs.Prelude.{◌≡◌, ◌⊎◌, ℕ, ℤ, List, [], ◌∷◌, Ok, Err, Result, MatchResult, ⊤}
+use Rattle.std.specs.Prelude.{◌≡◌, ◌⊎◌, ℕ, ℤ, List, [], ◌∷◌, Some, Ok, Err, Result, MatchResult, ⊤}
 use Rattle.sqlval.specs.Refusals.{refusal_of}
 use Rattle.sqlval.specs.declared.fault.Fault.{Fault}
 use Rattle.page.specs.Leaf.{Entry}
@@ -10,8 +10,10 @@ use Rattle.tabletree.specs.Calls.{Stands, BecomesRows}
 use Rattle.tabletree.specs.Rows.{without_row}
 use Rattle.bind.specs.declared.queries.BoundSource.{BoundSource}
 use Rattle.terms.specs.Terms.{Term}
+use Rattle.terms.specs.Values.{Row}
 use Rattle.rowprog.specs.Rows.{IsRow, TableRow}
 use Rattle.dml.specs.Choosing.{rows_left}
+use Rattle.dml.specs.Meaning.{AreEnough}
 
 -- the rows without those of these rowids
 abbrev pub without_rows : List ℤ → List Entry → List Entry
@@ -37,8 +39,9 @@ pub record AreTakenOut (old new : PageMap) (size : ℕ) (table : BoundSource) (c
 abbrev pub IsTakeRefusal : Term → List TableRow → Fault → Type 0
 IsTakeRefusal condition rows f = IsOutsideOrFull f ⊎ (rows_left condition rows ≡ Err (refusal_of f))
 
--- Where a tree has rows of a table, those for which the condition is true are taken out of it, or the call is refused.
-abbrev pub TakesRows : PageMap → PageMap → ℕ → BoundSource → Term → Result ⊤ Fault → Type 0
-TakesRows old new size table condition result = (rows : List TableRow) (entries : List Entry) (used free : List ℕ)
-    → Stands old size table.root entries used free → Pairwise (IsRow table.width) entries rows
+-- Where a tree has rows of a table, of which these are enough for the condition, those for which it is true are taken out of the tree, or the
+-- call is refused.
+abbrev pub TakesRows : PageMap → PageMap → ℕ → BoundSource → Term → List Row → Result ⊤ Fault → Type 0
+TakesRows old new size table condition given result = (rows : List TableRow) (entries : List Entry) (used free : List ℕ)
+    → Stands old size table.root entries used free → Pairwise (IsRow table.width) entries rows → AreEnough (Some condition) given rows
     → MatchResult result (λ done. AreTakenOut old new size table condition rows used free) (IsTakeRefusal condition rows)

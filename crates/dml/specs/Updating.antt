@@ -6,7 +6,7 @@ use Rattle.sqlval.specs.declared.fault.Fault.{Fault}
 use Rattle.sqlval.specs.declared.fault.Fault.TheVariants as fault
 use Rattle.page.specs.Leaf.{Entry}
 use Rattle.pages.specs.Calls.{IsOutsideOrFull}
-use Rattle.pages.specs.Map.{PageMap, AreWhole}
+use Rattle.pages.specs.Map.{PageMap}
 use Rattle.treepage.specs.Cells.{Pairwise}
 use Rattle.tabletree.specs.Calls.{Stands, BecomesRows}
 use Rattle.tabletree.specs.Rows.{with_replaced}
@@ -16,10 +16,11 @@ use Rattle.catalog.specs.declared.tables.Column.{Column}
 use Rattle.catalog.specs.declared.tables.Table.{Table}
 use Rattle.catalog.specs.declared.tables.TableRow as stored
 use Rattle.terms.specs.Terms.{Term}
+use Rattle.terms.specs.Values.{Row}
 use Rattle.rowprog.specs.Rows.{IsRow, TableRow}
 use Rattle.rowprog.specs.Sources.{as_source}
-use Rattle.rowprog.specs.Trees.{HasRows}
 use Rattle.dml.specs.Inserting.{AllStorable}
+use Rattle.dml.specs.Meaning.{AreEnough}
 use Rattle.dml.specs.NewRows.{row_of}
 use Rattle.dml.specs.Setting.{rows_changed, rows_set}
 
@@ -60,13 +61,14 @@ abbrev pub IsSetRefusal : List Column → List (ℕ × Term) → Option Term →
 IsSetRefusal columns sets condition rows f =
     IsOutsideOrFull f ⊎ ((rows_set columns sets condition rows ≡ Err (refusal_of f)) ⊎ SetTooLong columns sets condition rows f)
 
--- Where a tree has rows of a table, those for which the condition is true, or all, become what SET makes of them, or the call is refused.
-abbrev pub SetsRows : {X : Type 0} → PageMap → PageMap → ℕ → ℕ → List Column → List (ℕ × Term) → Option Term → Result X Fault → Type 0
-SetsRows old new size root columns sets condition result = (rows : List TableRow) (entries : List Entry) (used free : List ℕ)
-    → Stands old size root entries used free → Pairwise (IsRow (length columns)) entries rows
+-- Where a tree has rows of a table, of which these are enough for the condition, those for which it is true, or all, become what SET makes of
+-- them, or the call is refused.
+abbrev pub SetsRows : {X : Type 0} → PageMap → PageMap → ℕ → ℕ → List Column → List (ℕ × Term) → Option Term → List Row → Result X Fault → Type 0
+SetsRows old new size root columns sets condition given result = (rows : List TableRow) (entries : List Entry) (used free : List ℕ)
+    → Stands old size root entries used free → Pairwise (IsRow (length columns)) entries rows → AreEnough condition given rows
     → MatchResult result (λ done. AreSetIn old new size root columns sets condition rows used free) (IsSetRefusal columns sets condition rows)
 
--- Of a tree that has rows of a table, the rows that are answered are what those that are meant become.
-abbrev pub TellsChanged : PageMap → ℕ → ℕ → List Column → List (ℕ × Term) → Option Term → Result (Vec stored.TableRow) Fault → Type 0
-TellsChanged pages size root columns sets condition result = (rows : List TableRow) → AreWhole size pages → HasRows pages size root (length columns) rows
+-- Of rows of which these are enough for the condition, the rows that are answered are what those that are meant become.
+abbrev pub TellsChanged : List Column → List (ℕ × Term) → Option Term → List Row → Result (Vec stored.TableRow) Fault → Type 0
+TellsChanged columns sets condition given result = (rows : List TableRow) → AreEnough condition given rows
     → IfOk result (λ new. rows_changed columns sets condition (map as_source rows) ≡ Ok (map row_of new.items))

@@ -7,7 +7,6 @@ mod deleting;
 mod inserting;
 mod meaning;
 mod putting;
-mod seeking;
 mod setting;
 mod taking;
 mod updating;

@@ -7,13 +7,12 @@ ghost use Rattle.tabletree.specs.Rows.{with_changes};
 ghost use Rattle.dml.specs.Taking.{TakesRows, without_rows};
 
 use crate::choosing::chosen_rowids;
-use crate::seeking::rows_sought;
 use bind::BoundSource;
 use pages::WritePages;
-use sqlval::{Fault, R};
+use sqlval::{Fault, Many, R};
 use std::alloc::Global;
 use tabletree::{RowChange, change_rows};
-use terms::Term;
+use terms::{SourceRow, Term};
 
 /// The removal of the row of a rowid.
 fn removal(rowid: &i64) -> RowChange
@@ -38,23 +37,23 @@ fn removals(alloc: Global, rowids: &[i64]) -> R<Vec<RowChange>>
     Ok(changes)
 }
 
-/// Takes the rows for which a condition is true out of a table's tree. (What `rows_sought`, the condition and `change_rows` refuse; where the
-/// condition is refused, no row is taken out.)
+/// Takes the rows for which a condition is true out of a table's tree, of which the rows given are enough for the condition. (What the condition
+/// and `change_rows` refuse; where the condition is refused, no row is taken out.)
 pub fn take_rows<P: WritePages>(
     alloc: Global,
     pages: &mut P,
     table: BoundSource,
     condition: &Term,
+    rows: &Many<SourceRow>,
 ) -> R<()>
     ensures taken { IsTrue (P.Pages.tells (P.Pages.below pages.old))
         → TakesRows (P.Pages.map pages.old) (P.Pages.map pages.new) (P.Pages.limits (P.Pages.below pages.old)).page
-        table condition.now result }
+        table condition.now rows.now result }
     ensures kept { P.Pages.below pages.new ≡ P.Pages.below pages.old }
     ensures causes { Causes result (P.Pages.failures pages.old) (P.Pages.failures pages.new)
         (P.Pages.count pages.new ≡ (P.Pages.limits (P.Pages.below pages.new)).most) }
 {
-    let rows = rows_sought(alloc, pages, table, condition)?;
-    let rowids = chosen_rowids(alloc, &rows, condition)?;
+    let rowids = chosen_rowids(alloc, rows, condition)?;
     let changes = removals(alloc, &rowids)?;
     change_rows(alloc, pages, table.root, &changes)
 }

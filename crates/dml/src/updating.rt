@@ -6,15 +6,13 @@ ghost use Rattle.dml.specs.Agreement.{UpdatesSome};
 ghost use Rattle.dml.specs.Updating.{SetsRows, TellsChanged};
 
 use crate::inserting::changes_of;
-use crate::seeking::rows_for;
 use crate::setting::changed_rows;
-use bind::BoundSource;
 use catalog::{Table, TableRow, named_databases_are_one, other_rows_are_listed};
 use pages::WritePages;
-use sqlval::R;
+use sqlval::{Many, R};
 use std::alloc::Global;
 use tabletree::change_rows;
-use terms::Term;
+use terms::{SourceRow, Term};
 
 /// An UPDATE that sets off no trigger leaves the table with what SET makes of its rows, or is refused as they are.
 pub fn update_sets_its_rows()
@@ -25,31 +23,26 @@ pub fn update_sets_its_rows()
 }
 
 /// Sets values in the rows of a table's tree for which a condition is true, or in all where there is none, and answers what these rows have
-/// become. The rows are chosen before the first is set. (What `rows_for`, the condition, SET's expressions and `change_rows`
-/// refuse, a real, and `TooLong` for a row that no record can hold; only what `change_rows` refuses leaves rows that are set.)
+/// become. The rows given are enough of the table's for the condition. They are chosen before the first is set. (What the condition, SET's
+/// expressions and `change_rows` refuse, a real, and `TooLong` for a row that no record can hold; only what `change_rows` refuses leaves rows
+/// that are set.)
 pub fn set_new_rows<P: WritePages>(
     alloc: Global,
     pages: &mut P,
     table: &Table,
     condition: &Option<Term>,
     sets: &[(usize, Term)],
+    rows: &Many<SourceRow>,
 ) -> R<Vec<TableRow>>
     ensures set { IsTrue (P.Pages.tells (P.Pages.below pages.old))
         → SetsRows (P.Pages.map pages.old) (P.Pages.map pages.new) (P.Pages.limits (P.Pages.below pages.old)).page
-        table.now.root table.now.columns sets.now condition.now result }
-    ensures rows { IsTrue (P.Pages.tells (P.Pages.below pages.old))
-        → TellsChanged (P.Pages.map pages.old) (P.Pages.limits (P.Pages.below pages.old)).page
-        table.now.root table.now.columns sets.now condition.now result }
+        table.now.root table.now.columns sets.now condition.now rows.now result }
+    ensures rows { TellsChanged table.now.columns sets.now condition.now rows.now result }
     ensures kept { P.Pages.below pages.new ≡ P.Pages.below pages.old }
     ensures causes { Causes result (P.Pages.failures pages.old) (P.Pages.failures pages.new)
         (P.Pages.count pages.new ≡ (P.Pages.limits (P.Pages.below pages.new)).most) }
 {
-    let source = BoundSource {
-        root: table.root,
-        width: table.columns.len(),
-    };
-    let rows = rows_for(alloc, pages, source, condition)?;
-    let new = changed_rows(alloc, table.columns.as_slice(), sets, &rows, condition)?;
+    let new = changed_rows(alloc, table.columns.as_slice(), sets, rows, condition)?;
     let changes = changes_of(alloc, &new)?;
     change_rows(alloc, pages, table.root, &changes)?;
     Ok(new)

@@ -1,13 +1,17 @@
-use Rattle.dml.proofs.Meant.{meant_found, none_found}
+use Rattle.dml.proofs.Meant.{as_chosen, copied, not_copied}
+use Rattle.dml.proofs.SetRows.{not_meant}
 use Rattle.dml.proofs.meaning.meant_rows.Goals as goal
 
-pub returns-in_err-rows-clause-found : goal.returns-in_err-rows-clause-found
-returns-in_err-rows-clause-found g c = λ told.
-    (let pages = g.P.Pages in
-    none_found (pages.map c.args.pages.now) (pages.limits (pages.below c.args.pages.now)).page c.args.table c.args.condition.now c.in_err-rows.field-0.0 c.from_residual.result c.from_residual.ensures.1 (c.in_err-rows.ensures.loaded told))
+pub returns-in_err-places-clause-found : goal.returns-in_err-places-clause-found
+returns-in_err-places-clause-found c = λ all enough.
+    as_chosen c.args.condition.now c.args.rows.now all c.from_residual.result enough
+    (not_copied c.from_residual.result c.args.condition.now c.args.rows.now c.in_err-places.field-0.0 c.from_residual.ensures.1 c.in_err-places.ensures)
+
+pub returns-in_err-places-clause-not_disk : goal.returns-in_err-places-clause-not_disk
+returns-in_err-places-clause-not_disk c = not_meant c.from_residual.result c.args.condition.now c.args.rows.now c.in_err-places.field-0.0 c.from_residual.ensures.1 c.in_err-places.ensures
 
 pub returns-clause-found : goal.returns-clause-found
-returns-clause-found g c = λ told.
-    (let pages = g.P.Pages in
-    meant_found (pages.map c.args.pages.now) (pages.limits (pages.below c.args.pages.now)).page c.args.table c.args.condition.now c.in_ok-rows.rows c.copies_meant.result (c.in_ok-rows.ensures.loaded told)
-    c.copies_meant.ensures.copied)
+returns-clause-found c = λ all enough.
+    as_chosen c.args.condition.now c.args.rows.now all c.copies_at.result enough
+    (copied c.args.condition.now c.args.rows.now c.in_ok-places.places.items c.deref.result.now c.copies_at.result c.in_ok-places.ensures c.deref.ensures.value
+    c.copies_at.ensures.copied c.copies_at.ensures.refused)

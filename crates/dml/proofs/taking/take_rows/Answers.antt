@@ -3,26 +3,21 @@ use Rattle.page.specs.Leaf.{Entry}
 use Rattle.tabletree.specs.Calls.{ChangesRows}
 use Rattle.tabletree.specs.Rows.{with_changes}
 use Rattle.dml.specs.Taking.{without_rows}
-use Rattle.dml.proofs.Replaced.{changes_after}
-use Rattle.dml.proofs.Taken.{as_made, none_chosen, none_listed, none_loaded, rows_taken}
+use Rattle.dml.proofs.Taken.{as_made, none_chosen, none_listed, rows_taken}
 use Rattle.dml.proofs.taking.take_rows.Goals as goal
-
-pub returns-in_err-rows-clause-taken : goal.returns-in_err-rows-clause-taken
-returns-in_err-rows-clause-taken g c = λ told.
-    (let pages = g.P.Pages in
-    none_loaded (pages.map c.args.pages.now) (pages.map c.rows_sought.new.pages) (pages.limits (pages.below c.args.pages.now)).page c.args.table c.args.condition.now
-    c.in_err-rows.field-0.0 c.from_residual.result c.from_residual.ensures.1 (c.in_err-rows.ensures.loaded told))
 
 pub returns-in_err-rowids-clause-taken : goal.returns-in_err-rowids-clause-taken
 returns-in_err-rowids-clause-taken g c = λ told.
     (let pages = g.P.Pages in
-    none_chosen (pages.map c.args.pages.now) (pages.map c.rows_sought.new.pages) (pages.limits (pages.below c.args.pages.now)).page c.args.table c.args.condition.now
-    c.in_ok-rows.rows (c.in_ok-rows.ensures.loaded told) c.in_err-rowids.field-0.0 c.from_residual-in_err-rowids.result c.from_residual-in_err-rowids.ensures.1 c.in_err-rowids.ensures.chosen)
+    let old = pages.map c.args.pages.now in
+    none_chosen old old (pages.limits (pages.below c.args.pages.now)).page c.args.table c.args.condition.now c.args.rows.now
+    c.in_err-rowids.field-0.0 c.from_residual.result c.from_residual.ensures.1 c.in_err-rowids.ensures.chosen)
 
 pub returns-in_err-changes-clause-taken : goal.returns-in_err-changes-clause-taken
 returns-in_err-changes-clause-taken g c = λ told.
     (let pages = g.P.Pages in
-    none_listed (pages.map c.args.pages.now) (pages.map c.rows_sought.new.pages) (pages.limits (pages.below c.args.pages.now)).page c.args.table c.args.condition.now
+    let old = pages.map c.args.pages.now in
+    none_listed old old (pages.limits (pages.below c.args.pages.now)).page c.args.table c.args.condition.now c.args.rows.now
     c.in_err-changes.field-0.0 c.from_residual-in_err-changes.result c.from_residual-in_err-changes.ensures.1 c.in_err-changes.ensures.refused)
 
 pub returns-clause-taken : goal.returns-clause-taken
@@ -32,10 +27,8 @@ returns-clause-taken g c = λ told.
     let new = pages.map c.change_rows.new.pages in
     let size = (pages.limits (pages.below c.args.pages.now)).page in
     let root = c.args.table.root in
-    let stays = c.in_ok-rows.ensures.stays in
     let changes = c.in_ok-changes.changes.items in
-    let changed = subst (λ them. ChangesRows old new size root them c.change_rows.result) c.deref-2.ensures.value
-    (changes_after pages.below pages.tells pages.limits pages.map c.args.pages.now c.rows_sought.new.pages new root c.deref-2.result.now c.change_rows.result stays.kept stays.same c.change_rows.ensures.changed told) in
+    let changed = subst (λ them. ChangesRows old new size root them c.change_rows.result) c.deref-2.ensures.value (c.change_rows.ensures.changed told) in
     let made = λ (rows : List Entry). subst (λ rowids. with_changes changes rows ≡ without_rows rowids rows) c.deref.ensures.value (c.in_ok-changes.ensures.made rows) in
-    rows_taken old new size c.args.table c.args.condition.now c.in_ok-rows.rows (c.in_ok-rows.ensures.loaded told) c.in_ok-rowids.rowids.items c.change_rows.result c.in_ok-rowids.ensures.chosen
+    rows_taken old new size c.args.table c.args.condition.now c.args.rows.now c.in_ok-rowids.rowids.items c.change_rows.result c.in_ok-rowids.ensures.chosen
     (as_made old new size root changes c.in_ok-rowids.rowids.items c.change_rows.result made changed))

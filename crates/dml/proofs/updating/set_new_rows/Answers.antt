@@ -2,31 +2,25 @@ use Rattle.std.proofs.Common.{map, subst, Ok, Err}
 use Rattle.treepage.specs.Cells.{Pairwise}
 use Rattle.tabletree.specs.Calls.{ChangesRows}
 use Rattle.dml.specs.NewRows.{IsWritten, entry_left, row_of}
-use Rattle.dml.proofs.Replaced.{as_replaced, changes_after}
-use Rattle.dml.proofs.SetTrees.{none_changed, none_loaded, none_stored, none_told, passed_on, rows_replaced, told_changed}
+use Rattle.dml.proofs.Replaced.{as_replaced}
+use Rattle.dml.proofs.SetTrees.{none_changed, none_stored, none_told, passed_on, rows_replaced, told_changed}
 use Rattle.dml.proofs.updating.set_new_rows.Goals as goal
-
-pub returns-in_err-rows-clause-set : goal.returns-in_err-rows-clause-set
-returns-in_err-rows-clause-set g c = λ told.
-    (let pages = g.P.Pages in
-    let table = c.args.table.now in
-    none_loaded table.columns c.args.sets.now c.args.condition.now (pages.map c.args.pages.now) (pages.map c.rows_for.new.pages) (pages.limits (pages.below c.args.pages.now)).page table.root
-    c.len.result c.len.ensures c.in_err-rows.field-0.0 c.from_residual.result c.from_residual.ensures.1 (c.in_err-rows.ensures.loaded told))
 
 pub returns-in_err-new-clause-set : goal.returns-in_err-new-clause-set
 returns-in_err-new-clause-set g c = λ told.
     (let pages = g.P.Pages in
     let table = c.args.table.now in
-    none_changed table.columns c.args.sets.now c.args.condition.now (pages.map c.args.pages.now) (pages.map c.rows_for.new.pages) (pages.limits (pages.below c.args.pages.now)).page table.root
-    c.len.result c.len.ensures c.in_ok-rows.rows (c.in_ok-rows.ensures.loaded told) c.in_err-new.field-0.0 c.from_residual-in_err-new.result c.from_residual-in_err-new.ensures.1
-    (rw (c.as_slice.ensures) at c.in_err-new.ensures.changed))
+    let old = pages.map c.args.pages.now in
+    none_changed table.columns c.args.sets.now c.args.condition.now old old (pages.limits (pages.below c.args.pages.now)).page table.root c.args.rows.now
+    c.in_err-new.field-0.0 c.from_residual.result c.from_residual.ensures.1 (rw (c.as_slice.ensures) at c.in_err-new.ensures.changed))
 
 pub returns-in_err-changes-clause-set : goal.returns-in_err-changes-clause-set
 returns-in_err-changes-clause-set g c = λ told.
     (let pages = g.P.Pages in
     let table = c.args.table.now in
-    none_stored table.columns c.args.sets.now c.args.condition.now (pages.map c.args.pages.now) (pages.map c.rows_for.new.pages) (pages.limits (pages.below c.args.pages.now)).page table.root
-    c.len.result c.len.ensures c.in_ok-rows.rows (c.in_ok-rows.ensures.loaded told) (map row_of c.in_ok-new.new.items) (rw (c.as_slice.ensures) at c.in_ok-new.ensures.changed)
+    let old = pages.map c.args.pages.now in
+    none_stored table.columns c.args.sets.now c.args.condition.now old old (pages.limits (pages.below c.args.pages.now)).page table.root c.args.rows.now
+    (map row_of c.in_ok-new.new.items) (rw (c.as_slice.ensures) at c.in_ok-new.ensures.changed)
     c.in_err-changes.field-0.0 c.from_residual-in_err-changes.result c.from_residual-in_err-changes.ensures.1 (rw (c.deref.ensures.value) at c.in_err-changes.ensures.refused))
 
 pub returns-in_err-change_rows-clause-set : goal.returns-in_err-change_rows-clause-set
@@ -37,15 +31,13 @@ returns-in_err-change_rows-clause-set g c = λ told.
     let new = pages.map c.change_rows.new.pages in
     let size = (pages.limits (pages.below c.args.pages.now)).page in
     let changes = c.in_ok-changes.changes.items in
-    let stays = c.in_ok-rows.ensures.stays in
+    let fault = c.in_err-change_rows.field-0.0 in
     let written : Pairwise IsWritten (map row_of c.in_ok-new.new.items) (map entry_left changes) = rw (c.deref.ensures.value) at c.in_ok-changes.ensures.made in
-    let changed = subst (λ them. ChangesRows old new size table.root them (Err c.in_err-change_rows.field-0.0)) c.deref-2.ensures.value
-    (changes_after pages.below pages.tells pages.limits pages.map c.args.pages.now c.rows_for.new.pages new table.root c.deref-2.result.now (Err c.in_err-change_rows.field-0.0) stays.kept stays.same c.in_err-change_rows.ensures.changed told) in
-    passed_on table.columns c.args.sets.now c.args.condition.now old new size table.root
-    c.in_err-change_rows.field-0.0 c.from_residual-in_err-change_rows.result c.from_residual-in_err-change_rows.ensures.1
-    (rows_replaced table.columns c.args.sets.now c.args.condition.now old new size table.root
-    c.len.result c.len.ensures c.in_ok-rows.rows (c.in_ok-rows.ensures.loaded told) (map row_of c.in_ok-new.new.items) (rw (c.as_slice.ensures) at c.in_ok-new.ensures.changed)
-    (map entry_left changes) (Err c.in_err-change_rows.field-0.0) written (as_replaced old new size table.root changes (Err c.in_err-change_rows.field-0.0) c.in_ok-changes.ensures.some changed)))
+    let changed = subst (λ them. ChangesRows old new size table.root them (Err fault)) c.deref-2.ensures.value (c.in_err-change_rows.ensures.changed told) in
+    passed_on table.columns c.args.sets.now c.args.condition.now old new size table.root c.args.rows.now fault c.from_residual-in_err-change_rows.result c.from_residual-in_err-change_rows.ensures.1
+    (rows_replaced table.columns c.args.sets.now c.args.condition.now old new size table.root c.args.rows.now
+    (map row_of c.in_ok-new.new.items) (rw (c.as_slice.ensures) at c.in_ok-new.ensures.changed)
+    (map entry_left changes) (Err fault) written (as_replaced old new size table.root changes (Err fault) c.in_ok-changes.ensures.some changed)))
 
 pub returns-clause-set : goal.returns-clause-set
 returns-clause-set g c = λ told.
@@ -55,45 +47,26 @@ returns-clause-set g c = λ told.
     let new = pages.map c.change_rows.new.pages in
     let size = (pages.limits (pages.below c.args.pages.now)).page in
     let changes = c.in_ok-changes.changes.items in
-    let stays = c.in_ok-rows.ensures.stays in
     let written : Pairwise IsWritten (map row_of c.in_ok-new.new.items) (map entry_left changes) = rw (c.deref.ensures.value) at c.in_ok-changes.ensures.made in
-    let changed = subst (λ them. ChangesRows old new size table.root them (Ok tt)) c.deref-2.ensures.value
-    (changes_after pages.below pages.tells pages.limits pages.map c.args.pages.now c.rows_for.new.pages new table.root c.deref-2.result.now (Ok tt) stays.kept stays.same c.in_ok-change_rows.ensures.changed told) in
-    rows_replaced table.columns c.args.sets.now c.args.condition.now old new size table.root
-    c.len.result c.len.ensures c.in_ok-rows.rows (c.in_ok-rows.ensures.loaded told) (map row_of c.in_ok-new.new.items) (rw (c.as_slice.ensures) at c.in_ok-new.ensures.changed)
+    let changed = subst (λ them. ChangesRows old new size table.root them (Ok tt)) c.deref-2.ensures.value (c.in_ok-change_rows.ensures.changed told) in
+    rows_replaced table.columns c.args.sets.now c.args.condition.now old new size table.root c.args.rows.now
+    (map row_of c.in_ok-new.new.items) (rw (c.as_slice.ensures) at c.in_ok-new.ensures.changed)
     (map entry_left changes) (Ok tt) written (as_replaced old new size table.root changes (Ok tt) c.in_ok-changes.ensures.some changed))
 
 pub returns-clause-rows : goal.returns-clause-rows
-returns-clause-rows g c = λ told.
-    (let pages = g.P.Pages in
-    let table = c.args.table.now in
-    told_changed table.columns c.args.sets.now c.args.condition.now (pages.map c.args.pages.now) (pages.map c.args.pages.now) (pages.limits (pages.below c.args.pages.now)).page table.root
-    c.len.result c.len.ensures c.in_ok-rows.rows (c.in_ok-rows.ensures.loaded told) c.in_ok-new.new (rw (c.as_slice.ensures) at c.in_ok-new.ensures.changed))
-
-pub returns-in_err-rows-clause-rows : goal.returns-in_err-rows-clause-rows
-returns-in_err-rows-clause-rows g c = λ told.
-    (let pages = g.P.Pages in
-    let table = c.args.table.now in
-    none_told table.columns c.args.sets.now c.args.condition.now (pages.map c.args.pages.now) (pages.map c.args.pages.now) (pages.limits (pages.below c.args.pages.now)).page table.root
-    c.in_err-rows.field-0.0 c.from_residual.result c.from_residual.ensures.1)
+returns-clause-rows g c =
+    told_changed c.args.table.now.columns c.args.sets.now c.args.condition.now c.args.rows.now c.in_ok-new.new (rw (c.as_slice.ensures) at c.in_ok-new.ensures.changed)
 
 pub returns-in_err-new-clause-rows : goal.returns-in_err-new-clause-rows
-returns-in_err-new-clause-rows g c = λ told.
-    (let pages = g.P.Pages in
-    let table = c.args.table.now in
-    none_told table.columns c.args.sets.now c.args.condition.now (pages.map c.args.pages.now) (pages.map c.args.pages.now) (pages.limits (pages.below c.args.pages.now)).page table.root
-    c.in_err-new.field-0.0 c.from_residual-in_err-new.result c.from_residual-in_err-new.ensures.1)
+returns-in_err-new-clause-rows g c =
+    none_told c.args.table.now.columns c.args.sets.now c.args.condition.now c.args.rows.now c.in_err-new.field-0.0 c.from_residual.result c.from_residual.ensures.1
 
 pub returns-in_err-changes-clause-rows : goal.returns-in_err-changes-clause-rows
-returns-in_err-changes-clause-rows g c = λ told.
-    (let pages = g.P.Pages in
-    let table = c.args.table.now in
-    none_told table.columns c.args.sets.now c.args.condition.now (pages.map c.args.pages.now) (pages.map c.args.pages.now) (pages.limits (pages.below c.args.pages.now)).page table.root
-    c.in_err-changes.field-0.0 c.from_residual-in_err-changes.result c.from_residual-in_err-changes.ensures.1)
+returns-in_err-changes-clause-rows g c =
+    none_told c.args.table.now.columns c.args.sets.now c.args.condition.now c.args.rows.now
+    c.in_err-changes.field-0.0 c.from_residual-in_err-changes.result c.from_residual-in_err-changes.ensures.1
 
 pub returns-in_err-change_rows-clause-rows : goal.returns-in_err-change_rows-clause-rows
-returns-in_err-change_rows-clause-rows g c = λ told.
-    (let pages = g.P.Pages in
-    let table = c.args.table.now in
-    none_told table.columns c.args.sets.now c.args.condition.now (pages.map c.args.pages.now) (pages.map c.args.pages.now) (pages.limits (pages.below c.args.pages.now)).page table.root
-    c.in_err-change_rows.field-0.0 c.from_residual-in_err-change_rows.result c.from_residual-in_err-change_rows.ensures.1)
+returns-in_err-change_rows-clause-rows g c =
+    none_told c.args.table.now.columns c.args.sets.now c.args.condition.now c.args.rows.now
+    c.in_err-change_rows.field-0.0 c.from_residual-in_err-change_rows.result c.from_residual-in_err-change_rows.ensures.1
