@@ -1,8 +1,9 @@
 -- What deleting rows with their entries comes to.
-use Rattle.std.proofs.Common.{◌≡◌, ◌⊎◌, inl, inr, refl, sym, ap, subst, ℕ, Bool, true, not, filter, List, [], ◌∷◌, ◌++◌, length, map, Option, Some, None, Ok, Err}
+use Rattle.std.proofs.Common.{◌≡◌, inl, inr, refl, sym, ap, subst, ℕ, Bool, true, not, filter, List, [], ◌∷◌, ◌++◌, length, map, Option, Some, None, Ok, Err}
 use Rattle.std.specs.Prelude.{Result, IsErrAnd, MatchResult, ⊤}
 use Rattle.std.specs.Global.{Vec}
 use Rattle.sqlval.specs.Faults.{IsOutside}
+use Rattle.sqlval.specs.PageSizes.{IsPageSize}
 use Rattle.sqlval.specs.Refusals.{Answer, Refusal, ◌then◌, all_answers, refusal_of}
 use Rattle.sqlval.specs.declared.fault.Fault.{Fault}
 use Rattle.pages.specs.Calls.{IsOutsideOrFull}
@@ -15,18 +16,22 @@ use Rattle.catalog.specs.Rows.{are_rows}
 use Rattle.catalog.specs.declared.tables.Table.{Table}
 use Rattle.catalog.specs.declared.tables.TableRow as stored
 use Rattle.bind.specs.declared.queries.BoundSource.{BoundSource}
+use Rattle.terms.specs.Outcome.{IsRefusedBy}
 use Rattle.terms.specs.Terms.{Term}
+use Rattle.terms.specs.Values.{Row}
 use Rattle.rowprog.specs.Rows.{TableRow}
-use Rattle.dml.specs.Choosing.{chosen, is_chosen, rows_left, tested}
-use Rattle.dml.specs.Meaning.{FindsMeant, chosen_or_all}
+use Rattle.dml.specs.Choosing.{chosen, is_chosen, tested}
+use Rattle.dml.specs.Meaning.{AreEnough}
 use Rattle.dml.specs.Taking.{AreTakenOut, TakesRows}
 use Rattle.dml.proofs.Taken.{fit_still}
 use Rattle.indexes.specs.Entries.{AreApart}
 use Rattle.indexes.specs.Keeping.{row_in}
 use Rattle.rowstore.specs.Changing.{AreDeleted, DeletesInTrees, HoldsFitRows, IsRefusedDelete}
+use Rattle.rowstore.specs.Reading.{LoadsEnough}
 use Rattle.rowstore.specs.Turning.{ClearsIndexes, HaveEntries, HaveNow, TakesFromIndexes}
 use Rattle.rowstore.proofs.Among.{rows_tree}
-use Rattle.rowstore.proofs.Owned.{RowsStand, fit_apart, has_rows, indexes_stand, rows_among, same_entries, table_holds}
+use Rattle.rowstore.proofs.Needed.{MeansRows}
+use Rattle.rowstore.proofs.Owned.{RowsStand, fit_apart, indexes_stand, rows_among, same_entries, table_holds}
 use Rattle.rowstore.proofs.Shuffling.{parted, shuffled_apart, shuffled_entries}
 use Rattle.rowstore.proofs.Sides.{no_index}
 
@@ -84,88 +89,90 @@ not_filtered : (p q : TableRow → Bool) (rows : List TableRow) (r : Refusal) (a
 not_filtered p q rows r (Ok tests) e = absurd (no_rows r (filter p rows) e)
 not_filtered p q rows r (Err s) e = ap (λ (x : Refusal). Err x) (same_refusal s r e)
 
--- as a query reads it
-pub same_source : (table : Table) (read : BoundSource) → read.root ≡ table.root → read.width ≡ length table.columns → read ≡ record { root = table.root; width = length table.columns }
-same_source table read root_is width_is = λ i. record { root = root_is i; width = width_is i }
-
 module _ (old mid : PageMap) (size : ℕ) (table : Table) (c : Term) where
   abbrev reading : BoundSource
   reading = record { root = table.root; width = length table.columns }
 
-  -- the rows that go aren't read
-  pub none_read : (condition : Option Term) → condition ≡ Some c → (fault : Fault) (result : Result ⊤ Fault) → IsErrAnd result (λ e. e ≡ fault) → FindsMeant old size reading condition (Err fault) → DeletesInTrees old mid size table (Some c) result
-  none_read condition is fault (Ok done) same finds = absurd same
-  none_read condition is fault (Err e) same finds = λ schema before after rows sized is_root among fit. (
-      let s = rows_among old size schema before table rows after among sized is_root in
-      subst (λ (f : Fault). IsRefusedDelete c rows f) (sym same)
-      (by rows (subst (λ (o : Option Term). IsOutside fault ⊎ (chosen_or_all o rows ≡ Err (refusal_of fault))) is (finds rows s.stands.free_are.whole (has_rows old size schema before table rows after s)))))
-    where
-      by : (rows : List TableRow) → IsOutside fault ⊎ (chosen c rows ≡ Err (refusal_of fault)) → IsRefusedDelete c rows fault
-      by rows (inl outside) = inl (inl outside)
-      by rows (inr e) = inr (not_filtered (is_chosen c) (stays c) rows (refusal_of fault) (all_answers (map (tested c) rows)) e)
+  -- no rows are read
+  pub none_read : (condition : Option Term) (fault : Fault) (result : Result ⊤ Fault) → IsErrAnd result (λ e. e ≡ fault) → LoadsEnough old size table condition (Err fault) → DeletesInTrees old mid size table (Some c) result
+  none_read condition fault (Ok done) same loads = absurd same
+  none_read condition fault (Err e) same loads = λ schema before after rows sized is_root among fit.
+      inl (inl (subst IsOutside (sym same) (loads schema before after rows sized is_root among fit)))
 
-  -- no row is taken
-  pub none_taken : (fault : Fault) (result : Result ⊤ Fault) → IsErrAnd result (λ e. e ≡ fault) → TakesRows old mid size reading c (Err fault) → DeletesInTrees old mid size table (Some c) result
-  none_taken fault (Ok done) same takes = absurd same
-  none_taken fault (Err e) same takes = λ schema before after rows sized is_root among fit. (
-      let s = rows_among old size schema before table rows after among sized is_root in
-      subst (λ (f : Fault). IsRefusedDelete c rows f) (sym same) (takes rows s.entries s.used s.free s.stands s.each))
+  module _ (found : List Row) (loads : LoadsEnough old size table (Some c) (Ok found)) where
+    -- the rows that go aren't copied
+    pub none_copied : (fault : Fault) (result : Result ⊤ Fault) → IsErrAnd result (λ e. e ≡ fault) → MeansRows (Some c) found (Err fault) → DeletesInTrees old mid size table (Some c) result
+    none_copied fault (Ok done) same means = absurd same
+    none_copied fault (Err e) same means = λ schema before after rows sized is_root among fit.
+        subst (λ (f : Fault). IsRefusedDelete c rows f) (sym same) (by rows (means rows (loads schema before after rows sized is_root among fit)))
+      where
+        by : (rows : List TableRow) → IsRefusedBy (chosen c rows) fault → IsRefusedDelete c rows fault
+        by rows (inl memory) = inl (inl (inl memory))
+        by rows (inr e) = inr (not_filtered (is_chosen c) (stays c) rows (refusal_of fault) (all_answers (map (tested c) rows)) e)
 
-  -- rows are taken; then the indexes follow
-  module _ (takes : TakesRows old mid size reading c (Ok tt)) (schema : Owner) (before after : List Owner) (rows : List TableRow) (s : RowsStand old size schema before table rows after)
-      (fit : are_rows (plain_table table rows) ≡ true) where
-    taken : AreTakenOut old mid size reading c rows s.used s.free
-    taken = takes rows s.entries s.used s.free s.stands s.each
+    -- no row is taken
+    pub none_taken : (fault : Fault) (result : Result ⊤ Fault) → IsErrAnd result (λ e. e ≡ fault) → TakesRows old mid size reading c found (Err fault) → DeletesInTrees old mid size table (Some c) result
+    none_taken fault (Ok done) same takes = absurd same
+    none_taken fault (Err e) same takes = λ schema before after rows sized is_root among fit. (
+        let s = rows_among old size schema before table rows after among sized is_root in
+        subst (λ (f : Fault). IsRefusedDelete c rows f) (sym same) (takes rows s.entries s.used s.free s.stands s.each (loads schema before after rows sized is_root among fit)))
 
-    left_is : filter (stays c) rows ≡ taken.left
-    left_is = filtered (stays c) rows taken.left (all_answers (map (tested c) rows)) taken.answer
+    -- rows are taken; then the indexes follow
+    module _ (takes : TakesRows old mid size reading c found (Ok tt)) (schema : Owner) (before after : List Owner) (rows : List TableRow) (s : RowsStand old size schema before table rows after)
+        (enough : AreEnough (Some c) found rows) (fit : are_rows (plain_table table rows) ≡ true) where
+      taken : AreTakenOut old mid size reading c rows s.used s.free
+      taken = takes rows s.entries s.used s.free s.stands s.each enough
 
-    fits : are_rows (plain_table table taken.left) ≡ true
-    fits = subst (λ (l : List TableRow). are_rows (plain_table table l) ≡ true) left_is (fit_still (stays c) table rows fit)
+      left_is : filter (stays c) rows ≡ taken.left
+      left_is = filtered (stays c) rows taken.left (all_answers (map (tested c) rows)) taken.answer
 
-    abbrev Before : List Owner
-    Before = before ++ rows_tree table.root taken.entries taken.becomes.now_used ∷ []
+      fits : are_rows (plain_table table taken.left) ≡ true
+      fits = subst (λ (l : List TableRow). are_rows (plain_table table l) ≡ true) left_is (fit_still (stays c) table rows fit)
 
-    stand : HaveEntries mid size schema Before table.indexes rows after
-    stand = indexes_stand old mid size schema before table rows after s taken.entries taken.becomes
+      abbrev Before : List Owner
+      Before = before ++ rows_tree table.root taken.entries taken.becomes.now_used ∷ []
 
-    done_as : (new : PageMap) (r : Result ⊤ Fault) → MatchResult r (λ done. HaveNow mid new size schema Before table.indexes taken.left after) IsOutsideOrFull
-        → MatchResult r (λ done. AreDeleted old new size schema before table c rows after) (IsRefusedDelete c rows)
-    done_as new (Ok done) have = record {
-      left = taken.left;
-      answer = taken.answer;
-      hold = record { holds = table_holds old mid size schema before table rows after s taken.entries taken.becomes new taken.left taken.each have; fit = fits };
-    }
-    done_as new (Err fault) why = inl why
+      stand : HaveEntries mid size schema Before table.indexes rows after
+      stand = indexes_stand old mid size schema before table rows after s taken.entries taken.becomes
 
-  -- of a table without indexes
-  pub bare_taken : length table.indexes ≡ 0 → (result : Result ⊤ Fault) → TakesRows old mid size reading c result → DeletesInTrees old mid size table (Some c) result
-  bare_taken bare (Ok done) takes = λ schema before after rows sized is_root among fit.
-      (let s = rows_among old size schema before table rows after among sized is_root in
-      done_as takes schema before after rows s fit mid (Ok tt)
-      (no_index mid size schema _ table.indexes rows (taken takes schema before after rows s fit).left after sized is_root bare (stand takes schema before after rows s fit)))
-  bare_taken bare (Err f) takes = none_taken f (Err f) refl takes
+      done_as : (new : PageMap) (r : Result ⊤ Fault) → MatchResult r (λ done. HaveNow mid new size schema Before table.indexes taken.left after) IsOutsideOrFull
+          → MatchResult r (λ done. AreDeleted old new size schema before table c rows after) (IsRefusedDelete c rows)
+      done_as new (Ok done) have = record {
+        left = taken.left;
+        answer = taken.answer;
+        hold = record { holds = table_holds old mid size schema before table rows after s taken.entries taken.becomes new taken.left taken.each have; fit = fits };
+      }
+      done_as new (Err fault) why = inl why
 
-  -- of a table with indexes
-  pub indexed_taken : (condition : Option Term) → condition ≡ Some c → (new : PageMap) (gone : Vec stored.TableRow) (result : Result ⊤ Fault) → FindsMeant old size reading condition (Ok gone) → TakesRows old mid size reading c (Ok tt)
-      → TakesFromIndexes mid new size table.indexes (map row_in gone.items) result → DeletesInTrees old new size table (Some c) result
-  indexed_taken condition is new gone result finds takes more schema before after rows sized is_root among fit =
-      done_as takes schema before after rows s fit new result (subst (λ (l : List TableRow). MatchResult result (λ done. HaveNow mid new size schema front table.indexes l after) IsOutsideOrFull) (left_is takes schema before after rows s fit)
-      (turns (filter (stays c) rows) (shuffled_apart (parted (is_chosen c) rows) apart) schema front after sized is_root
-      (same_entries mid size schema front table.indexes rows (filter (stays c) rows ++ filter (is_chosen c) rows) after (λ columns. shuffled_entries columns (parted (is_chosen c) rows) apart) (stand takes schema before after rows s fit))))
-    where
-      s : RowsStand old size schema before table rows after
-      s = rows_among old size schema before table rows after among sized is_root
+      -- of a table without indexes
+      bare_done : IsPageSize size → schema.root ≡ 1 → length table.indexes ≡ 0 → AreDeleted old mid size schema before table c rows after
+      bare_done sized is_root bare = done_as mid (Ok tt) (no_index mid size schema Before table.indexes rows taken.left after sized is_root bare stand)
 
-      front : List Owner
-      front = before ++ rows_tree table.root (taken takes schema before after rows s fit).entries (taken takes schema before after rows s fit).becomes.now_used ∷ []
+      -- of a table with indexes
+      gone_is : (gone : Vec stored.TableRow) → MeansRows (Some c) found (Ok gone) → filter (is_chosen c) rows ≡ map row_in gone.items
+      gone_is gone means = filtered (is_chosen c) rows (map row_in gone.items) (all_answers (map (tested c) rows)) (means rows enough)
 
-      apart : AreApart rows
-      apart = fit_apart table rows fit
+      indexed_done : IsPageSize size → schema.root ≡ 1 → (new : PageMap) (gone : Vec stored.TableRow) (result : Result ⊤ Fault) → MeansRows (Some c) found (Ok gone) → TakesFromIndexes mid new size table.indexes (map row_in gone.items) result
+          → MatchResult result (λ done. AreDeleted old new size schema before table c rows after) (IsRefusedDelete c rows)
+      indexed_done sized is_root new gone result means more =
+          done_as new result (subst (λ (l : List TableRow). MatchResult result (λ done. HaveNow mid new size schema Before table.indexes l after) IsOutsideOrFull) left_is
+          (turns (filter (stays c) rows) (shuffled_apart (parted (is_chosen c) rows) apart) schema Before after sized is_root
+          (same_entries mid size schema Before table.indexes rows (filter (stays c) rows ++ filter (is_chosen c) rows) after (λ columns. shuffled_entries columns (parted (is_chosen c) rows) apart) stand)))
+        where
+          apart : AreApart rows
+          apart = fit_apart table rows fit
 
-      gone_is : filter (is_chosen c) rows ≡ map row_in gone.items
-      gone_is = filtered (is_chosen c) rows (map row_in gone.items) (all_answers (map (tested c) rows))
-          (subst (λ (o : Option Term). chosen_or_all o rows ≡ Ok (map row_in gone.items)) is (finds rows s.stands.free_are.whole (has_rows old size schema before table rows after s)))
+          turns : TakesFromIndexes mid new size table.indexes (filter (is_chosen c) rows) result
+          turns = subst (λ (rs : List TableRow). TakesFromIndexes mid new size table.indexes rs result) (sym (gone_is gone means)) more
 
-      turns : TakesFromIndexes mid new size table.indexes (filter (is_chosen c) rows) result
-      turns = subst (λ (rs : List TableRow). TakesFromIndexes mid new size table.indexes rs result) (sym gone_is) more
+    pub bare_taken : length table.indexes ≡ 0 → (result : Result ⊤ Fault) → TakesRows old mid size reading c found result → DeletesInTrees old mid size table (Some c) result
+    bare_taken bare (Ok done) takes = λ schema before after rows sized is_root among fit.
+        (let s = rows_among old size schema before table rows after among sized is_root in
+        bare_done takes schema before after rows s (loads schema before after rows sized is_root among fit) fit sized is_root bare)
+    bare_taken bare (Err f) takes = none_taken f (Err f) refl takes
+
+    pub indexed_taken : (new : PageMap) (gone : Vec stored.TableRow) (result : Result ⊤ Fault) → MeansRows (Some c) found (Ok gone) → TakesRows old mid size reading c found (Ok tt)
+        → TakesFromIndexes mid new size table.indexes (map row_in gone.items) result → DeletesInTrees old new size table (Some c) result
+    indexed_taken new gone result means takes more schema before after rows sized is_root among fit =
+        let s = rows_among old size schema before table rows after among sized is_root in
+        indexed_done takes schema before after rows s (loads schema before after rows sized is_root among fit) fit sized is_root new gone result means more

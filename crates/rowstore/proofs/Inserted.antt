@@ -13,11 +13,10 @@ use Rattle.catalog.specs.Rows.{are_rows}
 use Rattle.catalog.specs.declared.tables.Table.{Table}
 use Rattle.catalog.specs.declared.tables.TableRow as stored
 use Rattle.rowprog.specs.Rows.{TableRow}
-use Rattle.dml.specs.Inserting.{IsRefusedAs, last_rowid, rows_added}
 use Rattle.dml.specs.Trees.{ArePutIn, IsPutRefusal, PutsRows, TellsAdded}
 use Rattle.indexes.specs.Entries.{AreApart}
 use Rattle.indexes.specs.Keeping.{row_in}
-use Rattle.rowstore.specs.Changing.{AreInserted, InsertsInTrees, InsertsTooLong, IsRefusedInsert}
+use Rattle.rowstore.specs.Changing.{AreInserted, InsertsInTrees, IsRefusedInsert}
 use Rattle.rowstore.specs.Turning.{AddsToIndexes, AreEntriesStorable, HaveNow}
 use Rattle.rowstore.proofs.Among.{rows_tree}
 use Rattle.rowstore.proofs.Owned.{RowsStand, fit_apart, has_rows, indexes_stand, rows_among, table_holds}

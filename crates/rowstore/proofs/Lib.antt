@@ -4,6 +4,7 @@ mod Dropped
 mod Indexed
 mod Inserted
 pub mod Looping
+pub mod Needed
 mod Owned
 mod SetShuffles
 mod Shuffling

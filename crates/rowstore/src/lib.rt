@@ -6,6 +6,7 @@ mod dropping;
 mod entries;
 mod inserting;
 mod making;
+mod reading;
 mod updating;
 
 pub use deleting::delete_rows;

@@ -4,7 +4,7 @@ ghost use Rattle.std.specs.Prelude.{◌≡◌, IsTrue};
 ghost use Rattle.pages.specs.Calls.{Causes};
 ghost use Rattle.rowstore.specs.Changing.{AddsIndex};
 
-use crate::deleting::source_of;
+use crate::reading::source_of;
 use catalog::{IndexColumn, Table};
 use indexing::make_index;
 use pages::WritePages;

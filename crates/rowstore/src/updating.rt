@@ -4,8 +4,8 @@ ghost use Rattle.std.specs.Prelude.{◌≡◌, IsTrue, length};
 ghost use Rattle.pages.specs.Calls.{Causes};
 ghost use Rattle.rowstore.specs.Changing.{UpdatesInTrees};
 
-use crate::deleting::source_of;
 use crate::entries::{add_to_indexes, take_from_indexes};
+use crate::reading::enough_rows;
 use catalog::Table;
 use dml::{meant_rows, set_new_rows};
 use pages::WritePages;
@@ -13,7 +13,7 @@ use sqlval::R;
 use std::alloc::Global;
 use terms::Term;
 
-/// Sets values in the rows of a table without indexes. (What `set_new_rows` refuses.)
+/// Sets values in the rows of a table without indexes. (What `enough_rows` and `set_new_rows` refuse.)
 fn set_bare_rows<P: WritePages>(
     alloc: Global,
     pages: &mut P,
@@ -29,12 +29,13 @@ fn set_bare_rows<P: WritePages>(
     ensures causes { Causes result (P.Pages.failures pages.old) (P.Pages.failures pages.new)
         (P.Pages.count pages.new ≡ (P.Pages.limits (P.Pages.below pages.new)).most) }
 {
-    set_new_rows(alloc, pages, table, condition, sets)?;
+    let rows = enough_rows(alloc, pages, table, condition)?;
+    set_new_rows(alloc, pages, table, condition, sets, &rows)?;
     Ok(())
 }
 
 /// Sets values in the rows of a table, takes the entries that these had out of the trees of its indexes, and puts in those that they have
-/// then. (What `meant_rows`, `set_new_rows`, `take_entries` and `add_entries` refuse.)
+/// then. (What `enough_rows`, `meant_rows`, `set_new_rows`, `take_entries` and `add_entries` refuse.)
 fn set_indexed_rows<P: WritePages>(
     alloc: Global,
     pages: &mut P,
@@ -49,16 +50,16 @@ fn set_indexed_rows<P: WritePages>(
     ensures causes { Causes result (P.Pages.failures pages.old) (P.Pages.failures pages.new)
         (P.Pages.count pages.new ≡ (P.Pages.limits (P.Pages.below pages.new)).most) }
 {
-    let gone = meant_rows(alloc, pages, source_of(table), condition)?;
-    let new = set_new_rows(alloc, pages, table, condition, sets)?;
+    let rows = enough_rows(alloc, pages, table, condition)?;
+    let gone = meant_rows(alloc, &rows, condition)?;
+    let new = set_new_rows(alloc, pages, table, condition, sets, &rows)?;
     take_from_indexes(alloc, pages, table.indexes.as_slice(), &gone)?;
     add_to_indexes(alloc, pages, table.indexes.as_slice(), &new)
 }
 
 /// Sets values in the rows of a table for which a condition is true, or in all where there is none, and changes their entries in its indexes
-/// accordingly. The rows are only read for their old entries where there are indexes. (What the condition, SET's expressions and the columns
-/// refuse for a row, in order; `TooLong` for a row or an entry that no record can hold; `Memory`, `Io`, `Full`. Then some pages may have
-/// changed.)
+/// accordingly. Rows are read once. (What the condition, SET's expressions and the columns refuse for a row, in order; `TooLong` for a row or
+/// an entry that no record can hold; `Memory`, `Io`, `Full`. Then some pages may have changed.)
 pub fn update_rows<P: WritePages>(
     alloc: Global,
     pages: &mut P,

@@ -23,28 +23,13 @@ use Rattle.querybinder.specs.Named.{ArePlaced, place_seen}
 use Rattle.queries.specs.Nesting.{Named}
 use Rattle.rowprog.specs.Rows.{TableRow}
 use Rattle.rowsearch.specs.Found.{HasEntriesOf, HasIndexed}
+use Rattle.rowstore.proofs.Needed.{are_words, entries_trees, rest_of}
 use Rattle.storage.specs.Reading.{HasSource, HaveSources, IsSourceOf}
 use Rattle.stored.specs.Stored.{AreHeld, Stores, all_trees}
 use Rattle.storage.proofs.LoadedSources.{get_at, one_longer}
 use Rattle.storage.proofs.Owners.{found_among, has_rows, table_of_parts, trees_around}
 
 -- ---- the trees of a table's indexes
-
-entries_tree : (pages : PageMap) (size : ℕ) (rows : List TableRow) (i : Index) (o : Owner) → IsEntriesTree rows i o → IsTree pages size o → HasEntriesOf pages size rows i
-entries_tree pages size rows i o is tree =
-    (o.used, subst (λ root. IsIndexTree pages size root (collations (columns_of i)) (entries_of_rows (columns_of i) rows) o.used) is.root_is (subst (HoldsUnder pages size o.root o.used) is.content_is tree))
-
-entries_trees : (pages : PageMap) (size : ℕ) (rows : List TableRow) (indexes : List Index) (owners others : List Owner) → Pairwise (IsEntriesTree rows) indexes owners
-    → AllByRecursion (IsTree pages size) (owners ++ others) → AllByRecursion (HasEntriesOf pages size rows) indexes
-entries_trees pages size rows [] [] others each trees = tt
-entries_trees pages size rows [] (o ∷ os) others each trees = absurd each
-entries_trees pages size rows (i ∷ is) [] others each trees = absurd each
-entries_trees pages size rows (i ∷ is) (o ∷ os) others each trees = (entries_tree pages size rows i o each.0 trees.0, entries_trees pages size rows is os others each.1 trees.1)
-
--- what is so of all is so of those behind some
-rest_of : (P : Owner → Type 0) (front back : List Owner) → AllByRecursion P (front ++ back) → AllByRecursion P back
-rest_of P [] back all = all
-rest_of P (x ∷ front) back all = rest_of P front back all.1
 
 have_entries : (pages : PageMap) (size : ℕ) (tables : List Table) (db : Database) (held : Stores pages size tables db) (name : Name) (t : Table) → table_named name tables ≡ Some t
     → AllByRecursion (HasEntriesOf pages size (held.rows_at t.root)) t.indexes
@@ -60,38 +45,14 @@ have_entries pages size tables db held name t named =
     by [] others are trees = absurd are
     by (first ∷ mine) others are trees = entries_trees pages size (held.rows_at t.root) t.indexes mine others are.1 trees.1
 
--- ---- rowids
-
-left : (x y : Bool) → (x && y) ≡ true → x ≡ true
-left true y h = refl
-left false y h = h
-
-right : (x y : Bool) → (x && y) ≡ true → y ≡ true
-right true y h = h
-right false y h = absurd (false≢true h)
-
--- a row's rowid is a number of 64 bits
-word_of : (table : Table) (row : TableRow) (rows : List TableRow) → is_row (plain_table table rows) row ≡ true → is_word row.0 ≡ true
-word_of table row rows is =
-    let long = length row.1 == length (map plain_column table.columns) in
-    let stored = list_all is_value row.1 in
-    left (is_word row.0) long (left (is_word row.0 && long) stored (left (is_word row.0 && long && stored) true is))
-
-words_of : (test : TableRow → Bool) → ((row : TableRow) → test row ≡ true → is_word row.0 ≡ true) → (rows : List TableRow) → list_all test rows ≡ true → AllByRecursion (λ (row : TableRow). is_word row.0 ≡ true) rows
-words_of test word [] all = tt
-words_of test word (row ∷ rows) all = (word row (left (test row) (list_all test rows) all), words_of test word rows (right (test row) (list_all test rows) all))
-
-have_words : (rows_at : ℕ → List TableRow) (t : Table) (trees : List Owner) → AreHeld rows_at t trees → AllByRecursion (λ (row : TableRow). is_word row.0 ≡ true) (rows_at t.root)
-have_words rows_at t trees held =
-    words_of (is_row (plain_table t (rows_at t.root))) (λ row is. word_of t row (rows_at t.root) is) (rows_at t.root)
-    (right (is_rising int_cmp (map (λ r. r.0) (rows_at t.root))) (list_all (is_row (plain_table t (rows_at t.root))) (rows_at t.root)) held.fit)
+-- ---- rowids of 64 bits
 
 words_at : (pages : PageMap) (size : ℕ) (tables : List Table) (db : Database) (held : Stores pages size tables db) (name : Name) (t : Table) → table_named name tables ≡ Some t
     → AllByRecursion (λ (row : TableRow). is_word row.0 ≡ true) (held.rows_at t.root)
 words_at pages size tables db held name t named =
     let among = found_among (is_table name) tables t named in
     let o = table_of_parts held.rows_at tables held.held among.front t among.back among.parts held.each in
-    have_words held.rows_at t o.split.at o.split.is
+    are_words t (held.rows_at t.root) o.split.is.fit
 
 -- ---- the sources of a query
 

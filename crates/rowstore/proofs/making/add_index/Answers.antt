@@ -1,7 +1,7 @@
 use Rattle.std.proofs.Common.{subst}
 use Rattle.bind.specs.declared.queries.BoundSource.{BoundSource}
 use Rattle.indexing.specs.Making.{MakesIndex}
-use Rattle.rowstore.proofs.Deleted.{same_source}
+use Rattle.rowstore.proofs.Needed.{same_source}
 use Rattle.rowstore.proofs.Indexed.{index_added}
 use Rattle.rowstore.proofs.making.add_index.Goals as goal
 
