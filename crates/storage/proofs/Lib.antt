@@ -15,6 +15,7 @@ pub mod Replacing
 pub mod Roots
 pub mod SchemaRows
 mod IndexTrees
+mod NeededRows
 pub mod StreamedRows
 pub mod Telling
 pub mod Updates

@@ -65,7 +65,7 @@ module _ {P K : Type 0} (below : P → K) (tells : K → Bool) (limits : K → L
   pub none_loaded : (old : P) (tables : List Table) (q : Reading) (places : List BoundSource) (sources : List (List Row)) → sources ≡ [] → HasLoaded old old tables q places places sources
   none_loaded old tables q places sources none = record {
     stays = record { kept = refl; same = refl; counted = refl; causes = record { db = omega arith; log = omega arith; why = tt } };
-    many = ap (λ (l : List (List Row)). length l + length places) none;
+    many = ap (λ (l : List (List Row)). length l + length places) none ∙ omega arith;
     so_far = λ rows_at have. subst (λ (l : List (List Row)). HaveSources (pages old) (limits (below old)).page tables q.sources rows_at (length l) places) (sym none) have;
     loaded_are = λ told rows_at have. ap (λ (l : List (List Row)). rows_over q [] (beside_rows q.sources (l ++ rows_in rows_at places))) none;
   }

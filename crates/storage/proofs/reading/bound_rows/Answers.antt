@@ -1,4 +1,4 @@
-use Rattle.std.proofs.Common.{map}
+use Rattle.std.proofs.Common.{◌≡◌, ◌∷◌, [], map, rules}
 use Rattle.catalog.specs.Listed.{tables_of}
 use Rattle.rowprog.specs.Rows.{values_of}
 use Rattle.storage.proofs.StreamedRows.{bound_over}
@@ -7,6 +7,7 @@ use Rattle.storage.proofs.reading.bound_rows.Goals as goal
 pub returns-in-Some-clause-answered : goal.returns-in-Some-clause-answered
 returns-in-Some-clause-answered g c db told stored placed =
     let bound = c.args.bound.now in
+    let only : bound.tables ≡ c.in-Some.place ∷ [] = search rules in
     bound_over (λ rows. map values_of rows.items) c.rows_are_loaded_beside_conditions.ensures (g.P.Pages.map c.args.pages.now) (g.P.Pages.limits (g.P.Pages.below c.args.pages.now)).page
-    (tables_of c.args.catalog.now) db stored bound.reading bound.tables c.in-Some.place c.streamed_rows.result ? placed
+    (tables_of c.args.catalog.now) db stored bound.reading bound.tables c.in-Some.place c.streamed_rows.result only placed
     (c.streamed_rows.ensures.answered told (stored.rows_at c.in-Some.place.root))

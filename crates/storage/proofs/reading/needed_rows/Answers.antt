@@ -1,1 +1,24 @@
+use Rattle.std.proofs.Common.{rules}
+use Rattle.catalog.specs.Listed.{tables_of}
+use Rattle.queries.specs.Searches.{IsSearchAt}
+use Rattle.storage.specs.Reading.{IsSourceOf}
+use Rattle.storage.proofs.NeededRows.{all_read, found_read}
 use Rattle.storage.proofs.reading.needed_rows.Goals as goal
+
+pub returns-in_default-clause-loaded : goal.returns-in_default-clause-loaded
+returns-in_default-clause-loaded g c = λ told.
+    all_read (g.P.Pages.map c.args.pages.now) (g.P.Pages.limits (g.P.Pages.below c.args.pages.now)).page (tables_of c.args.catalog.now) c.args.reading.now c.args.source c.args.place
+    c.source_rows.result (c.source_rows.ensures.loaded told)
+
+pub returns-in-Some-2-clause-loaded : goal.returns-in-Some-2-clause-loaded
+returns-in-Some-2-clause-loaded g c = λ told.
+    (let seeks : IsSearchAt c.as_slice-indexes.result.now c.args.reading.now c.args.source c.in-Some-2.search = search rules in
+    let named : IsSourceOf (tables_of c.args.catalog.now) c.args.reading.now.sources c.args.source c.in-Some.table.now = search rules in
+    found_read (g.P.Pages.map c.args.pages.now) (g.P.Pages.limits (g.P.Pages.below c.args.pages.now)).page (tables_of c.args.catalog.now) c.args.reading.now c.args.source c.args.place
+    c.searches_as_scans.ensures c.in-Some.table.now c.as_slice-indexes.result.now c.as_slice-indexes.ensures named c.in-Some-2.search seeks c.found_rows.result
+    (c.found_rows.ensures.found c.args.source seeks.0 told seeks.2))
+
+pub returns-in-None-clause-loaded : goal.returns-in-None-clause-loaded
+returns-in-None-clause-loaded g c = λ told.
+    all_read (g.P.Pages.map c.args.pages.now) (g.P.Pages.limits (g.P.Pages.below c.args.pages.now)).page (tables_of c.args.catalog.now) c.args.reading.now c.args.source c.args.place
+    c.source_rows-in-None.result (c.source_rows-in-None.ensures.loaded told)
