@@ -1,22 +1,14 @@
 -- The sources of a query on a database: their rows, and the entries of their indexes.
-use Rattle.std.proofs.Common.{◌≡◌, refl, sym, ap, subst, ◌∙◌, ℕ, suc, Bool, true, false, ◌&&◌, ◌==◌, List, [], ◌∷◌, ◌++◌, map, length, Option, Some, None}
-use Rattle.std.proofs.lemmas.Bool.{false≢true}
+use Rattle.std.proofs.Common.{◌≡◌, refl, sym, ap, subst, ◌∙◌, ℕ, suc, true, List, [], ◌∷◌, ◌++◌, length, Option, Some, None}
 use Rattle.std.proofs.lemmas.List.{append_assoc}
-use Rattle.std.specs.List.{AllByRecursion, list_all}
-use Rattle.std.specs.Ordering.{int_cmp}
+use Rattle.std.specs.List.{AllByRecursion}
 use Rattle.std.specs.Prelude.{option_map}
 use Rattle.sqlval.specs.Conversion.{is_word}
-use Rattle.sqlval.specs.Lists.{is_rising}
 use Rattle.pages.specs.Map.{PageMap}
-use Rattle.treepage.specs.Cells.{Pairwise}
-use Rattle.sharing.specs.Layout.{HoldsUnder, IsTree, Owner}
-use Rattle.indextree.specs.Tree.{IsIndexTree}
-use Rattle.indexes.specs.Entries.{collations, entries_of_rows}
-use Rattle.holdings.specs.Trees.{AreTreesOf, IsEntriesTree, columns_of}
+use Rattle.sharing.specs.Layout.{IsTree, Owner}
+use Rattle.holdings.specs.Trees.{AreTreesOf}
 use Rattle.catalog.specs.Database.{Database, Name}
-use Rattle.catalog.specs.Listed.{is_table, plain_column, plain_table, table_named}
-use Rattle.catalog.specs.Rows.{is_row, is_value}
-use Rattle.catalog.specs.declared.tables.Index.{Index}
+use Rattle.catalog.specs.Listed.{is_table, table_named}
 use Rattle.catalog.specs.declared.tables.Table.{Table}
 use Rattle.bind.specs.declared.queries.BoundSource.{BoundSource}
 use Rattle.querybinder.specs.Named.{ArePlaced, place_seen}
@@ -25,7 +17,7 @@ use Rattle.rowprog.specs.Rows.{TableRow}
 use Rattle.rowsearch.specs.Found.{HasEntriesOf, HasIndexed}
 use Rattle.rowstore.proofs.Needed.{are_words, entries_trees, rest_of}
 use Rattle.storage.specs.Reading.{HasSource, HaveSources, IsSourceOf}
-use Rattle.stored.specs.Stored.{AreHeld, Stores, all_trees}
+use Rattle.stored.specs.Stored.{Stores, all_trees}
 use Rattle.storage.proofs.LoadedSources.{get_at, one_longer}
 use Rattle.storage.proofs.Owners.{found_among, has_rows, table_of_parts, trees_around}
 

@@ -1,5 +1,5 @@
 -- Over the rows that are read of a source a query comes to the same as over all.
-use Rattle.std.proofs.Common.{◌≡◌, sym, ap, subst, ◌∙◌, refl, ℕ, zero, suc, List, [], ◌∷◌, map, Some, None, Result, Ok, Err}
+use Rattle.std.proofs.Common.{◌≡◌, sym, ap, subst, ◌∙◌, ℕ, zero, suc, List, [], ◌∷◌, map, Some, None, Result, Ok, Err}
 use Rattle.std.specs.Prelude.{MatchResult, slice_get, slice_set}
 use Rattle.sqlval.specs.Faults.{IsOutside}
 use Rattle.sqlval.specs.Refusals.{Answer}

@@ -1,5 +1,5 @@
 -- The rows of a query whose source's tree is read leaf by leaf.
-use Rattle.std.proofs.Common.{◌≡◌, ◌⊎◌, inl, inr, refl, sym, ap, subst, ◌∙◌, ℕ, ℤ, ◌++◌, Bool, true, List, [], ◌∷◌, map, length, slice_index_or, ◌≤◌, ◌<◌, Option, None, Ok, Err, IsTrue, append_assoc, append-nil, arith}
+use Rattle.std.proofs.Common.{◌≡◌, ◌⊎◌, inl, inr, refl, sym, ap, subst, ◌∙◌, ℕ, ℤ, ◌++◌, Bool, true, List, [], ◌∷◌, map, Option, None, Ok, Err, IsTrue, append_assoc, append-nil, arith}
 use Rattle.std.specs.Prelude.{Result, IsErrAnd, ⊤}
 use Rattle.sqlval.specs.Faults.{IsOutside}
 use Rattle.sqlval.specs.Refusals.{Answer, Refusal, ◌then◌, refusal_of}

@@ -1,4 +1,4 @@
-use Rattle.std.proofs.Common.{[], ◌∙◌, List, map, subst, sym}
+use Rattle.std.proofs.Common.{[], List, map, subst, sym}
 use Rattle.catalog.specs.Listed.{tables_of}
 use Rattle.terms.specs.Values.{Row}
 use Rattle.bind.specs.Views.{answer_of}
