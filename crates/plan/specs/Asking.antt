@@ -163,6 +163,10 @@ abbrev pub IsNotAsked : ℕ → Term → List Index → Type 0
 IsNotAsked n condition [] = ⊤
 IsNotAsked n condition (index ∷ indexes) = (key_for n condition index.columns ≡ []) × IsNotAsked n condition indexes
 
+-- it asks for no range of rowids, and for no key or range of these indexes
+abbrev pub AsksNoRange : List Index → ℕ → Term → Type 0
+AsksNoRange indexes n condition = (rowids_in n condition ≡ None) × (search_by (most_asked n condition 0 asks_nothing indexes) ≡ None)
+
 -- It asks for no rowid, and of the indexes this is what it asks the most of; where that has no key, it asks for no range of rowids.
 abbrev pub IsMost : List Index → ℕ → Term → Candidate → Type 0
 IsMost indexes n condition it =

@@ -56,10 +56,6 @@ module _ {B : Type 0} where
   pub passed_over : (a : Answer Bool) (here : Flow B) (xs : List B) → a ≡ Ok false → onto xs (stepped a here (λ joins. Finished)) ≡ Ok xs
   passed_over a here xs e = ap (λ (b : Answer Bool). onto xs (stepped b here (λ joins. Finished))) e ∙ nothing_more xs
 
-  -- one that joins
-  pub joined_is : (a : Answer Bool) (here : Flow B) (xs : List B) → a ≡ Ok true → onto xs here ≡ onto xs (stepped a here (λ joins. Finished))
-  joined_is a here xs e = ap (onto xs) (sym (followed_nothing here)) ∙ ap (λ (b : Answer Bool). onto xs (stepped b here (λ joins. Finished))) (sym e)
-
   -- one whose condition is refused
   pub condition_refused : (a : Answer Bool) (here : Flow B) (xs : List B) (fault : Fault) → IsRefusedBy a fault → IsRefusedBy (onto xs (stepped a here (λ joins. Finished))) fault
   condition_refused a here xs fault (inl m) = inl m

@@ -48,7 +48,7 @@ fn search_by_condition(
 }
 
 /// What WHERE seeks of a source, where its rows may be left out before their conditions are asked. (`Memory`.)
-fn search_waiting(
+fn search_by_where(
     alloc: Global,
     filter: &Option<Term>,
     condition: &Condition,
@@ -85,7 +85,7 @@ fn search_of(
 {
     match search_by_condition(alloc, condition, source, indexes)? {
         Some(search) => Ok(Some(search)),
-        None => search_waiting(alloc, filter, condition, others, source, indexes),
+        None => search_by_where(alloc, filter, condition, others, source, indexes),
     }
 }
 

@@ -4,6 +4,7 @@ use Rattle.std.specs.List.{AllByRecursion}
 use Rattle.std.specs.Ordering.{int_eq}
 use Rattle.std.specs.Prelude.{MatchResult, Result, filter, int_lt, slice_get}
 use mathlib.Core.Bool.{true≢false}
+use Rattle.std.proofs.lemmas.Option.{same_Some, slice_get_within}
 use Rattle.sqlval.specs.Conversion.{is_word}
 use Rattle.sqlval.specs.Faults.{IsOutside}
 use Rattle.sqlval.specs.declared.fault.Fault.{Fault}
@@ -23,7 +24,7 @@ use Rattle.plan.specs.declared.searching.Search.TheVariants.{Rowid, Rowids, Key,
 use Rattle.rowprog.specs.Rows.{TableRow}
 use Rattle.rowprog.specs.Sources.{LoadsRows, LoadsRowsAt, as_source, rows_at}
 use Rattle.rowsearch.specs.Between.{LoadsBetween, is_from_to}
-use Rattle.rowsearch.specs.Found.{FindsNeeded, FindsRows, HasEntriesOf, HasIndexed}
+use Rattle.rowsearch.specs.Found.{FindsNeeded, FindsSought, HasEntriesOf, HasIndexed}
 use Rattle.rowsearch.specs.Searching.{LoadsInRange, LoadsKeyed}
 use Rattle.rowsearch.proofs.LookedUp.{chosen_through}
 
@@ -69,20 +70,11 @@ ranged columns key range rows = sym (chosen_through (λ row. has_range columns k
 
 -- ---- the index at a place
 
-same_some : {A : Type 0} (a b : A) → Some a ≡ Some b → a ≡ b
-same_some a b e = cc
-
 -- what is so of all is so of the one at a place
 one_at : {A : Type 0} (P : A → Type 0) (xs : List A) (place : ℕ) (x : A) → slice_get xs place ≡ Some x → AllByRecursion P xs → P x
 one_at P [] place x at all = (let bad : None ≡ Some x = at in cc)
-one_at P (y ∷ ys) zero x at all = subst P (same_some y x at) all.0
+one_at P (y ∷ ys) zero x at all = subst P (same_Some y x at) all.0
 one_at P (y ∷ ys) (suc n) x at all = one_at P ys n x at all.1
-
--- a place with an item is one of the places
-within : {A : Type 0} (xs : List A) (place : ℕ) (x : A) → slice_get xs place ≡ Some x → place < length xs
-within [] place x at = (let bad : None ≡ Some x = at in cc)
-within (y ∷ ys) zero x at = omega arith
-within (y ∷ ys) (suc n) x at = (let more = within ys n x at in omega (arith, more))
 
 -- a key isn't longer than the columns of its index
 short : (n : ℕ) (columns : List IndexColumn) (key : List Value) (condition : Term) → AreAsked n columns key condition → length key ≤ length columns
@@ -101,24 +93,24 @@ found_of at test = elim at [ None ↦ true | Some index ↦ test index ]
 -- ---- what each search finds
 
 module _ (pages : PageMap) (size : ℕ) (table : BoundSource) (indexes : List Index) where
-  pub rowid_found : (rowid : ℤ) (result : Result (List Row) Fault) → LoadsRowsAt pages size table rowid result → FindsRows pages size table indexes (Rowid rowid) result
+  pub rowid_found : (rowid : ℤ) (result : Result (List Row) Fault) → LoadsRowsAt pages size table rowid result → FindsSought pages size table indexes (Rowid rowid) result
   rowid_found rowid (Err e) loads rows held = loads rows held.whole held.has
   rowid_found rowid (Ok found) loads rows held = loads rows held.whole held.has ∙ at_rowid rowid rows
 
-  pub rowids_found : (low high : ℤ) (result : Result (List Row) Fault) → LoadsBetween pages size table low high result → FindsRows pages size table indexes (Rowids low high) result
+  pub rowids_found : (low high : ℤ) (result : Result (List Row) Fault) → LoadsBetween pages size table low high result → FindsSought pages size table indexes (Rowids low high) result
   rowids_found low high (Err e) loads rows held = loads rows held.whole held.has
   rowids_found low high (Ok found) loads rows held = loads rows held.whole held.has ∙ between low high rows held.words
 
   module _ (place : ℕ) (index : Index) (there : slice_get indexes place ≡ Some index) where
     -- the index at the place is this one
     same_index : (other : Index) → slice_get indexes place ≡ Some other → other ≡ index
-    same_index other is = same_some other index (sym is ∙ there)
+    same_index other is = same_Some other index (sym is ∙ there)
 
     entries_at : (other : Index) → slice_get indexes place ≡ Some other → (rows : List TableRow) → HasIndexed pages size table indexes rows → HasEntriesOf pages size rows index
     entries_at other is rows held = subst (HasEntriesOf pages size rows) (same_index other is) (one_at (HasEntriesOf pages size rows) indexes place other is held.entries)
 
     pub key_found : (n : ℕ) (condition : Term) (key : List Value) (result : Result (List Row) Fault) → IsSought indexes n condition (Key place key)
-        → LoadsKeyed pages size table index.root index.columns key result → FindsRows pages size table indexes (Key place key) result
+        → LoadsKeyed pages size table index.root index.columns key result → FindsSought pages size table indexes (Key place key) result
     key_found n condition key result sought loads rows held = by result loads
       where
         seeks : SeeksKey n condition index.columns key
@@ -138,14 +130,14 @@ module _ (pages : PageMap) (size : ℕ) (table : BoundSource) (indexes : List In
             ∙ (keyed index.columns key rows ∙ chosen)
 
     pub range_found : (n : ℕ) (condition : Term) (key : List Value) (range : Range) (result : Result (List Row) Fault) → IsSought indexes n condition (InRange place key range)
-        → LoadsInRange pages size table index.root index.columns key range result → FindsRows pages size table indexes (InRange place key range) result
+        → LoadsInRange pages size table index.root index.columns key range result → FindsSought pages size table indexes (InRange place key range) result
     range_found n condition key range result sought loads rows held = by result loads
       where
         seeks : SeeksRange n condition index.columns key range
         seeks = subst (λ (i : Index). SeeksRange n condition i.columns key range) (same_index sought.0 sought.1) sought.2
 
         few : length key < length index.columns
-        few = within index.columns (length key) seeks.column seeks.next
+        few = slice_get_within index.columns (length key) seeks.column seeks.next
 
         chosen : filter (λ row. has_range index.columns key range row.values) (map as_source rows) ≡ filter (is_found indexes (InRange place key range)) (map as_source rows)
         chosen = ap (λ (found : Option Index). filter (λ (row : Row). found_of found (λ (i : Index). has_range i.columns key range row.values)) (map as_source rows)) (sym there)
@@ -171,7 +163,7 @@ module _ (pages : PageMap) (size : ℕ) (table : BoundSource) (indexes : List In
     others = λ row never. absurd (true≢false never);
   }
 
-  pub found_needed : OtherRowsFail → (condition : Term) (search : Search) (result : Result (List Row) Fault) → IsSought indexes 0 condition search → FindsRows pages size table indexes search result
+  pub found_needed : OtherRowsFail → (condition : Term) (search : Search) (result : Result (List Row) Fault) → IsSought indexes 0 condition search → FindsSought pages size table indexes search result
       → FindsNeeded pages size table indexes (Some condition) result
   found_needed law condition search (Err e) sought finds rows held = finds rows held
   found_needed law condition search (Ok found) sought finds rows held = record {

@@ -33,8 +33,8 @@ pub record HasIndexed (pages : PageMap) (size : ℕ) (table : BoundSource) (inde
   pub entries : AllByRecursion (HasEntriesOf pages size rows) indexes
 
 -- Of such trees these are the rows that a search finds; or memory was short, or a disk's call failed.
-abbrev pub FindsRows : PageMap → ℕ → BoundSource → List Index → Search → Result (List Row) Fault → Type 0
-FindsRows pages size table indexes search result = (rows : List TableRow) → HasIndexed pages size table indexes rows
+abbrev pub FindsSought : PageMap → ℕ → BoundSource → List Index → Search → Result (List Row) Fault → Type 0
+FindsSought pages size table indexes search result = (rows : List TableRow) → HasIndexed pages size table indexes rows
     → MatchResult result (λ found. found ≡ filter (is_found indexes search) (map as_source rows)) IsOutside
 
 -- there is a condition, which isn't true for the row, and isn't refused

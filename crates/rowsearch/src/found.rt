@@ -3,7 +3,7 @@
 ghost use Rattle.std.specs.Prelude.{IsTrue, Some, ℕ};
 ghost use Rattle.pages.specs.Calls.{Stays};
 ghost use Rattle.plan.specs.Searching.{IsSought};
-ghost use Rattle.rowsearch.specs.Found.{FindsNeeded, FindsRows};
+ghost use Rattle.rowsearch.specs.Found.{FindsNeeded, FindsSought};
 ghost use Rattle.terms.specs.Terms.{Term as Asked};
 
 use crate::between::rows_between;
@@ -27,7 +27,7 @@ pub fn found_rows<P: Pages>(
     search: Search,
 ) -> R<Many<SourceRow>>
     ensures found { (n : ℕ) (condition : Asked) → IsTrue (P.Pages.tells (P.Pages.below pages.old)) → IsSought indexes.now n condition search
-        → FindsRows (P.Pages.map pages.old) (P.Pages.limits (P.Pages.below pages.old)).page table indexes.now search result }
+        → FindsSought (P.Pages.map pages.old) (P.Pages.limits (P.Pages.below pages.old)).page table indexes.now search result }
     ensures stays { Stays P.Pages.below P.Pages.map P.Pages.count P.Pages.failures result pages.old pages.new }
 {
     match search {

@@ -1,6 +1,6 @@
 -- Of the rows of a table that a condition needs it chooses the same as of all.
 use Rattle.std.proofs.Common.{◌≡◌, refl, sym, ap, subst, ◌∙◌, ◌&&◌, ◌==◌, ℕ, Bool, true, false, cond, filter, List, [], ◌∷◌, ◌++◌, length, map, Option, Some, None, Result, Ok, Err}
-use Rattle.std.proofs.lemmas.Bool.{false≢true, true≢false}
+use Rattle.std.proofs.lemmas.Bool.{true≢false}
 use Rattle.std.specs.Global.{Vec}
 use Rattle.std.specs.List.{AllByRecursion, list_all}
 use Rattle.std.specs.Ordering.{int_cmp}
@@ -33,6 +33,8 @@ use Rattle.dml.specs.Meaning.{AreEnough, chosen_or_all}
 use Rattle.dml.specs.NewRows.{row_of}
 use Rattle.indexes.specs.Entries.{collations, entries_of_rows}
 use Rattle.holdings.specs.Trees.{IsEntriesTree, columns_of}
+use Rattle.plan.proofs.Parts.{left as left_of, right as right_of}
+use Rattle.rowsearch.proofs.LookedUp.{chosen_through}
 use Rattle.rowstore.specs.Reading.{LoadsEnough}
 use Rattle.rowstore.proofs.Owned.{RowsStand, has_rows, rows_among}
 
@@ -48,14 +50,6 @@ MeansRows condition found result = (all : List TableRow) → AreEnough condition
 
 abbrev given : List TableRow → Answer (List TableRow)
 given rows = Ok rows
-
-filtered_sources : (keep : Row → Bool) (rows : List TableRow) → filter keep (map as_source rows) ≡ map as_source (filter (λ row. keep (as_source row)) rows)
-filtered_sources keep [] = refl
-filtered_sources keep (row ∷ rows) = by (filter (λ row. keep (as_source row)) rows) (keep (as_source row)) (filtered_sources keep rows)
-  where
-    by : (left : List TableRow) (b : Bool) → filter keep (map as_source rows) ≡ map as_source left → cond b (as_source row ∷ filter keep (map as_source rows)) (filter keep (map as_source rows)) ≡ map as_source (cond b (row ∷ left) left)
-    by left true e = ap (λ (them : List Row). as_source row ∷ them) e
-    by left false e = e
 
 none_left_out : (keep : Row → Bool) → ((row : Row) → keep row ≡ false → ⊥) → (rows : List TableRow) → filter (λ row. keep (as_source row)) rows ≡ rows
 none_left_out keep none [] = refl
@@ -110,12 +104,12 @@ module _ (c : Term) where
 are_enough : (condition : Option Term) (found : List Row) (rows : List TableRow) → LeaveOutUntrue condition found rows → AreEnough condition found rows
 are_enough None found rows left = record {
   some = filter (λ row. left.keep (as_source row)) rows;
-  are = left.are ∙ filtered_sources left.keep rows;
+  are = left.are ∙ chosen_through left.keep as_source rows;
   same = ap given (none_left_out left.keep left.others rows);
 }
 are_enough (Some c) found rows left = record {
   some = filter (λ row. left.keep (as_source row)) rows;
-  are = left.are ∙ filtered_sources left.keep rows;
+  are = left.are ∙ chosen_through left.keep as_source rows;
   same = same_chosen c left.keep left.others rows;
 }
 
@@ -138,14 +132,6 @@ rest_of P [] back all = all
 rest_of P (x ∷ front) back all = rest_of P front back all.1
 
 -- ---- rowids of 64 bits
-
-left_of : (x y : Bool) → (x && y) ≡ true → x ≡ true
-left_of true y h = refl
-left_of false y h = h
-
-right_of : (x y : Bool) → (x && y) ≡ true → y ≡ true
-right_of true y h = h
-right_of false y h = absurd (false≢true h)
 
 word_of : (table : Table) (rows : List TableRow) (row : TableRow) → is_row (plain_table table rows) row ≡ true → is_word row.0 ≡ true
 word_of table rows row is =

@@ -1,6 +1,7 @@
 -- The sources of a query on a database: their rows, and the entries of their indexes.
 use Rattle.std.proofs.Common.{◌≡◌, refl, sym, ap, subst, ◌∙◌, ℕ, suc, true, List, [], ◌∷◌, ◌++◌, length, Option, Some, None}
 use Rattle.std.proofs.lemmas.List.{append_assoc}
+use Rattle.std.proofs.lemmas.Option.{same_Some}
 use Rattle.std.specs.List.{AllByRecursion}
 use Rattle.std.specs.Prelude.{option_map}
 use Rattle.sqlval.specs.Conversion.{is_word}
@@ -48,14 +49,11 @@ words_at pages size tables db held name t named =
 
 -- ---- the sources of a query
 
-same_some : {A : Type 0} (a b : A) → Some a ≡ Some b → a ≡ b
-same_some a b e = cc
-
 module _ (pages : PageMap) (size : ℕ) (tables : List Table) (db : Database) (stored : Stores pages size tables db) where
   has_indexed : (name : Name) (place : BoundSource) (t : Table) → option_map place_seen (table_named name tables) ≡ Some place → table_named name tables ≡ Some t
       → HasIndexed pages size place t.indexes (stored.rows_at place.root)
   has_indexed name place t placed named =
-      subst (λ (x : BoundSource). HasIndexed pages size x t.indexes (stored.rows_at x.root)) (same_some (place_seen t) place (sym (ap (option_map place_seen) named) ∙ placed))
+      subst (λ (x : BoundSource). HasIndexed pages size x t.indexes (stored.rows_at x.root)) (same_Some (place_seen t) place (sym (ap (option_map place_seen) named) ∙ placed))
       (record {
         whole = stored.shared.whole;
         has = has_rows pages size tables db stored name t named;
@@ -70,7 +68,7 @@ module _ (pages : PageMap) (size : ℕ) (tables : List Table) (db : Database) (s
       indexed : (t : Table) → IsSourceOf tables (before ++ (s ∷ ss)) (length before) t → HasIndexed pages size place t.indexes (stored.rows_at place.root)
       indexed t is =
           has_indexed s.0 place t placed
-          (subst (λ (it : Named). table_named it.0 tables ≡ Some t) (same_some is.0 s (sym is.1 ∙ get_at before s ss)) is.2)
+          (subst (λ (it : Named). table_named it.0 tables ≡ Some t) (same_Some is.0 s (sym is.1 ∙ get_at before s ss)) is.2)
 
       by : (found : Option Table) → table_named s.0 tables ≡ found → option_map place_seen found ≡ Some place → HasSource pages size tables (before ++ (s ∷ ss)) (length before) place (stored.rows_at place.root)
       by None named at = (let bad : None ≡ Some place = at in cc)

@@ -27,7 +27,7 @@ use Rattle.queries.specs.Nesting.{beside_rows}
 use Rattle.rowprog.specs.Rows.{TableRow}
 use Rattle.rowprog.specs.Sources.{as_source}
 use Rattle.rowprog.specs.Trees.{AnswersOrFails}
-use Rattle.storage.specs.Reading.{AreEnough, HaveSources, LoadsEnough, LoadsNeeded, rows_in}
+use Rattle.storage.specs.Reading.{AreEnoughFor, HaveSources, LoadsSources, LoadsNeeded, rows_in}
 use Rattle.storage.specs.Works.{read_on}
 use Rattle.storage.proofs.Answering.{answers}
 use Rattle.storage.proofs.FoundTables.{table_found}
@@ -114,7 +114,7 @@ module _ {P K : Type 0} (below : P → K) (tells : K → Bool) (limits : K → L
     -- a source that isn't read
     pub not_loaded : {X : Type 0} (view : X → List (List Row)) (n : ℕ) (fault : Fault) (result : Result X Fault) → n ≡ length sources → IsErrAnd result (λ e. e ≡ fault)
         → (IsTrue (tells (below mid)) → LoadsNeeded (pages mid) (limits (below mid)).page tables q n place (Err fault)) → IsTrue (tells (below old))
-        → LoadsEnough view (pages old) (limits (below old)).page tables q places result
+        → LoadsSources view (pages old) (limits (below old)).page tables q places result
     not_loaded view n fault (Ok x) number same loads told = absurd same
     not_loaded view n fault (Err e) number same loads told = λ rows_at have.
         let read : LoadsNeeded (pages old) (limits (below old)).page tables q (length sources) place (Err fault) =
@@ -122,7 +122,7 @@ module _ {P K : Type 0} (below : P → K) (tells : K → Bool) (limits : K → L
         subst IsOutside (sym same) (read (rows_at place.root) (next_source rows_at have).0)
 
   pub all_loaded : {X : Type 0} (view : X → List (List Row)) (x : X) (old mid : P) (tables : List Table) (q : Reading) (places left : List BoundSource) → HasLoaded old mid tables q places left (view x) → left ≡ []
-      → IsTrue (tells (below old)) → LoadsEnough view (pages old) (limits (below old)).page tables q places (Ok x)
+      → IsTrue (tells (below old)) → LoadsSources view (pages old) (limits (below old)).page tables q places (Ok x)
   all_loaded view x old mid tables q places left has none told = λ rows_at have. record {
     many = whole rows_at;
     same =
@@ -183,7 +183,7 @@ answer_over law rows_at tables db reading places lists placed =
     ap (λ a. a then rows_over reading []) (law (all_rows db) reading.sources ∙ ap (λ (a : Answer (List (List Row))). a then λ lists. Ok (beside_rows reading.sources lists)) (sources_loaded rows_at tables db lists reading.sources places placed))
 
 pub rows_answered : {X : Type 0} (view : X → List (List _)) (law : LoadsBeside) (rows_at : ℕ → List TableRow) (tables : List Table) (db : Database) (reading : Reading) (places : List BoundSource) (sources : List (List Row)) (result : Result X Fault)
-    → Lists rows_at tables db → ArePlaced tables reading.sources places → AreEnough reading sources (rows_in rows_at places)
+    → Lists rows_at tables db → ArePlaced tables reading.sources places → AreEnoughFor reading sources (rows_in rows_at places)
     → (length sources ≡ length reading.sources → AnswersBy view (rows_over reading [] (beside_rows reading.sources sources)) result) → AnswersOrFails view (answer_of db [] reading) result
 rows_answered view law rows_at tables db reading places sources result lists placed enough gives =
     answers view (answer_of db [] reading) result (subst (λ a. AnswersBy view a result) (sym over) (gives (enough.many ∙ as_many rows_at tables reading.sources places placed)))

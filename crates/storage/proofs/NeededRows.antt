@@ -16,7 +16,7 @@ use Rattle.plan.specs.declared.searching.Search.{Search}
 use Rattle.queries.specs.Nesting.{beside_rows}
 use Rattle.queries.specs.Searches.{IsSearchAt, SearchesAsScans}
 use Rattle.rowprog.specs.Sources.{LoadsRows, as_source}
-use Rattle.rowsearch.specs.Found.{FindsRows, HasIndexed}
+use Rattle.rowsearch.specs.Found.{FindsSought, HasIndexed}
 use Rattle.storage.specs.Reading.{IsSameOver, IsSourceOf, LoadsNeeded}
 
 set_again : {A : Type 0} (xs : List A) (n : ℕ) (x : A) → slice_get xs n ≡ Some x → slice_set xs n x ≡ xs
@@ -37,12 +37,12 @@ module _ (pages : PageMap) (size : ℕ) (tables : List Table) (q : Reading) (n :
       ap over (sym (ap (slice_set lists n) (loads rows source.whole source.has) ∙ set_again lists n (map as_source rows) at))
 
   pub found_read : SearchesAsScans → (table : Table) (indexes : List Index) → indexes ≡ table.indexes → IsSourceOf tables q.sources n table → (search : Search) → IsSearchAt indexes q n search
-      → (result : Result (List Row) Fault) → FindsRows pages size place indexes search result → LoadsNeeded pages size tables q n place result
+      → (result : Result (List Row) Fault) → FindsSought pages size place indexes search result → LoadsNeeded pages size tables q n place result
   found_read law table indexes same named search seeks result finds rows source = by result finds
     where
       held : HasIndexed pages size place indexes rows
       held = subst (λ (them : List Index). HasIndexed pages size place them rows) (sym same) (source.indexed table named)
 
-      by : (result : Result (List Row) Fault) → FindsRows pages size place indexes search result → MatchResult result (λ found. IsSameOver q n found (map as_source rows)) IsOutside
+      by : (result : Result (List Row) Fault) → FindsSought pages size place indexes search result → MatchResult result (λ found. IsSameOver q n found (map as_source rows)) IsOutside
       by (Err e) finds = finds rows held
       by (Ok found) finds = λ lists at. law indexes q n search seeks lists (map as_source rows) at ∙ ap (λ (them : List Row). over (slice_set lists n them)) (sym (finds rows held))

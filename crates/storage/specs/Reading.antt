@@ -50,7 +50,7 @@ abbrev pub IsSameOver : Reading → ℕ → List Row → List Row → Type 0
 IsSameOver q n found all = (lists : List (List Row)) → slice_get lists n ≡ Some all
     → rows_over q [] (beside_rows q.sources lists) ≡ rows_over q [] (beside_rows q.sources (slice_set lists n found))
 
--- so it does where they are what a call has read; or memory was short, or a disk's call failed
+-- The query comes to the same where this source's rows are those that a call has read; or memory was short, or a disk's call failed.
 abbrev pub LoadsNeeded : PageMap → ℕ → List Table → Reading → ℕ → BoundSource → Result (List Row) Fault → Type 0
 LoadsNeeded pages size tables q n place result = (rows : List TableRow) → HasSource pages size tables q.sources n place rows
     → MatchResult result (λ found. IsSameOver q n found (map as_source rows)) IsOutside
@@ -66,14 +66,14 @@ abbrev pub rows_in : (ℕ → List TableRow) → List BoundSource → List (List
 rows_in rows_at places = map (λ place. map as_source (rows_at place.root)) places
 
 -- There are as many lists as sources, and the query comes to the same over them as over all rows of its sources.
-pub record AreEnough (q : Reading) (lists all : List (List Row)) : Type 0 where
+pub record AreEnoughFor (q : Reading) (lists all : List (List Row)) : Type 0 where
   pub many : length lists ≡ length all
   pub same : rows_over q [] (beside_rows q.sources lists) ≡ rows_over q [] (beside_rows q.sources all)
 
--- So are those that a call has read, seen by `view`; or memory was short, or a disk's call failed.
-abbrev pub LoadsEnough : {X : Type 0} → (X → List (List Row)) → PageMap → ℕ → List Table → Reading → List BoundSource → Result X Fault → Type 0
-LoadsEnough view pages size tables q places result = (rows_at : ℕ → List TableRow) → HaveSources pages size tables q.sources rows_at 0 places
-    → MatchResult result (λ x. AreEnough q (view x) (rows_in rows_at places)) IsOutside
+-- The lists that a call has read, seen by `view`, are enough; or memory was short, or a disk's call failed.
+abbrev pub LoadsSources : {X : Type 0} → (X → List (List Row)) → PageMap → ℕ → List Table → Reading → List BoundSource → Result X Fault → Type 0
+LoadsSources view pages size tables q places result = (rows_at : ℕ → List TableRow) → HaveSources pages size tables q.sources rows_at 0 places
+    → MatchResult result (λ x. AreEnoughFor q (view x) (rows_in rows_at places)) IsOutside
 
 -- What a call answered, seen by `view`, is what a query comes to over the rows of its only source, where its tree has some; or one of its
 -- refusals.

@@ -10,7 +10,7 @@ ghost use Rattle.queries.specs.Answers.{HaveWidth};
 ghost use Rattle.queries.specs.Parts.{is_row_by_row as row_by_row};
 ghost use Rattle.rowprog.specs.Rows.{values_of};
 ghost use Rattle.rowprog.specs.Trees.{AnswersOrFails};
-ghost use Rattle.storage.specs.Reading.{AnswersRead, IsSourceOf, LoadsEnough, LoadsNeeded, Streams};
+ghost use Rattle.storage.specs.Reading.{AnswersRead, IsSourceOf, LoadsSources, LoadsNeeded, Streams};
 ghost use Rattle.stored.specs.Stored.{Stores};
 ghost use Rattle.storage.specs.Works.{read_on};
 
@@ -72,7 +72,7 @@ fn load_sources<P: Pages>(
     places: &[BoundSource],
 ) -> R<Vec<Many<SourceRow>>>
     ensures loaded { IsTrue (P.Pages.tells (P.Pages.below pages.old))
-        → LoadsEnough (λ sources. sources.items) (P.Pages.map pages.old) (P.Pages.limits (P.Pages.below pages.old)).page
+        → LoadsSources (λ sources. sources.items) (P.Pages.map pages.old) (P.Pages.limits (P.Pages.below pages.old)).page
         (tables_of catalog.now) reading.now places.now result }
     ensures stays { Stays P.Pages.below P.Pages.map P.Pages.count P.Pages.failures result pages.old pages.new }
 {
@@ -179,7 +179,7 @@ pub(crate) fn bound_rows<P: Pages>(
     }
 }
 
-/// The rows of a query. (What `bind_reading`, `source_rows` and `answer` refuse.)
+/// The rows of a query. (What `bind_reading` and `bound_rows` refuse.)
 pub fn read<P: Pages>(alloc: Global, pages: &mut P, catalog: &Catalog, query: &Query) -> R<Rows>
     ensures answered { (db : Database) → IsTrue (P.Pages.tells (P.Pages.below pages.old))
         → Stores (P.Pages.map pages.old) (P.Pages.limits (P.Pages.below pages.old)).page (tables_of catalog.now) db

@@ -8,7 +8,7 @@ use Rattle.plan.specs.declared.searching.Search.{Search}
 use Rattle.plan.specs.declared.searching.Search.TheVariants.{Key, Range as InRange}
 use Rattle.rowprog.specs.Sources.{LoadsRowsAt}
 use Rattle.rowsearch.specs.Between.{LoadsBetween}
-use Rattle.rowsearch.specs.Found.{FindsRows}
+use Rattle.rowsearch.specs.Found.{FindsSought}
 use Rattle.rowsearch.proofs.FoundRows.{key_found, no_item, range_found, rowid_found, rowids_found}
 use Rattle.rowsearch.proofs.found.found_rows.Goals as goal
 
@@ -19,7 +19,7 @@ returns-in-Rowid-clause-found g c = λ n condition told is.
     let rowid = c.in-Rowid.rowid in
     let fits : SFits w64 rowid = search rules in
     let same : to_z w64 (of_z w64 rowid) ≡ rowid = to_z-of_z w64 rowid fits in
-    subst (λ (s : Search). FindsRows pages size c.args.table c.args.indexes.now s c.source_rows_at.result) (sym c.in-Rowid.is)
+    subst (λ (s : Search). FindsSought pages size c.args.table c.args.indexes.now s c.source_rows_at.result) (sym c.in-Rowid.is)
     (rowid_found pages size c.args.table c.args.indexes.now rowid c.source_rows_at.result
     (subst (λ (k : ℤ). LoadsRowsAt pages size c.args.table k c.source_rows_at.result) same (c.source_rows_at.ensures.loaded told))))
 
@@ -33,7 +33,7 @@ returns-in-Rowids-clause-found g c = λ n condition told is.
     let high_fits : SFits w64 high = search rules in
     let low_same : to_z w64 (of_z w64 low) ≡ low = to_z-of_z w64 low low_fits in
     let high_same : to_z w64 (of_z w64 high) ≡ high = to_z-of_z w64 high high_fits in
-    subst (λ (s : Search). FindsRows pages size c.args.table c.args.indexes.now s c.rows_between.result) (sym c.in-Rowids.is)
+    subst (λ (s : Search). FindsSought pages size c.args.table c.args.indexes.now s c.rows_between.result) (sym c.in-Rowids.is)
     (rowids_found pages size c.args.table c.args.indexes.now low high c.rows_between.result
     (subst (λ (k : ℤ). LoadsBetween pages size c.args.table k high c.rows_between.result) low_same
     (subst (λ (k : ℤ). LoadsBetween pages size c.args.table (to_z w64 (of_z w64 low)) k c.rows_between.result) high_same (c.rows_between.ensures.loaded told)))))
@@ -43,7 +43,7 @@ returns-in-Some-clause-found g c = λ n condition told is.
     (let pages = g.P.Pages.map c.args.pages.now in
     let size = (g.P.Pages.limits (g.P.Pages.below c.args.pages.now)).page in
     let there : slice_get c.args.indexes.now c.in-Key.place ≡ Some c.in-Some.index.now = grind (arith, common_steps, gets, c.in-Some.ensures.lookup) in
-    subst (λ (s : Search). FindsRows pages size c.args.table c.args.indexes.now s c.rows_by_key.result) (sym c.in-Key.is)
+    subst (λ (s : Search). FindsSought pages size c.args.table c.args.indexes.now s c.rows_by_key.result) (sym c.in-Key.is)
     (key_found pages size c.args.table c.args.indexes.now c.in-Key.place c.in-Some.index.now there n condition c.in-Key.key c.rows_by_key.result
     (subst (IsSought c.args.indexes.now n condition) c.in-Key.is is) (c.rows_by_key.ensures.loaded told)))
 
@@ -58,7 +58,7 @@ returns-in-Some-get-clause-found g c = λ n condition told is.
     (let pages = g.P.Pages.map c.args.pages.now in
     let size = (g.P.Pages.limits (g.P.Pages.below c.args.pages.now)).page in
     let there : slice_get c.args.indexes.now c.in-Range.place ≡ Some c.in-Some-get.index.now = grind (arith, common_steps, gets, c.in-Some-get.ensures.lookup) in
-    subst (λ (s : Search). FindsRows pages size c.args.table c.args.indexes.now s c.rows_in_range.result) (sym c.in-Range.is)
+    subst (λ (s : Search). FindsSought pages size c.args.table c.args.indexes.now s c.rows_in_range.result) (sym c.in-Range.is)
     (range_found pages size c.args.table c.args.indexes.now c.in-Range.place c.in-Some-get.index.now there n condition c.in-Range.key c.in-Range.range c.rows_in_range.result
     (subst (IsSought c.args.indexes.now n condition) c.in-Range.is is) (c.rows_in_range.ensures.loaded told)))
 

@@ -4,7 +4,7 @@ use Rattle.terms.specs.Values.{Row}
 use Rattle.bind.specs.Views.{answer_of}
 use Rattle.bind.specs.declared.queries.BoundSource.{BoundSource}
 use Rattle.rowprog.specs.Rows.{values_of}
-use Rattle.storage.specs.Reading.{AreEnough, HaveSources, rows_in}
+use Rattle.storage.specs.Reading.{AreEnoughFor, HaveSources, rows_in}
 use Rattle.storage.proofs.Answering.{outside_fails}
 use Rattle.storage.proofs.IndexTrees.{have_sources}
 use Rattle.storage.proofs.LoadedSources.{rows_answered}
@@ -29,9 +29,9 @@ returns-clause-answered g c db told stored placed =
     let tables = tables_of c.args.catalog.now in
     let have = subst (λ (places : List BoundSource). HaveSources pages size tables bound.reading.sources stored.rows_at 0 places) (sym c.as_slice-places.ensures)
     (have_sources pages size tables db stored bound.reading.sources bound.tables placed) in
-    let read : AreEnough bound.reading c.in_ok-sources.sources.items (rows_in stored.rows_at c.as_slice-places.result.now) = c.in_ok-sources.ensures.loaded told stored.rows_at have in
-    let enough : AreEnough bound.reading c.deref.result.now (rows_in stored.rows_at bound.tables) =
-    subst (λ (places : List BoundSource). AreEnough bound.reading c.deref.result.now (rows_in stored.rows_at places)) c.as_slice-places.ensures
-    (subst (λ (lists : List (List Row)). AreEnough bound.reading lists (rows_in stored.rows_at c.as_slice-places.result.now)) (sym c.deref.ensures.value) read) in
+    let read : AreEnoughFor bound.reading c.in_ok-sources.sources.items (rows_in stored.rows_at c.as_slice-places.result.now) = c.in_ok-sources.ensures.loaded told stored.rows_at have in
+    let enough : AreEnoughFor bound.reading c.deref.result.now (rows_in stored.rows_at bound.tables) =
+    subst (λ (places : List BoundSource). AreEnoughFor bound.reading c.deref.result.now (rows_in stored.rows_at places)) c.as_slice-places.ensures
+    (subst (λ (lists : List (List Row)). AreEnoughFor bound.reading lists (rows_in stored.rows_at c.as_slice-places.result.now)) (sym c.deref.ensures.value) read) in
     rows_answered (λ rows. map values_of rows.items) c.rows_are_loaded_beside_conditions.ensures stored.rows_at tables db bound.reading bound.tables c.deref.result.now c.answer.result stored.of_tables.lists
     placed enough c.answer.ensures.answered
