@@ -202,10 +202,10 @@ impl<D: Disk + Drop> Engine<D> {
         connections.into_disks()
     }
 
-    /// Executes a statement on a connection, 1 to 16. A refused one changes nothing, except for `Io` in a commit, after which
-    /// every statement answers `Failed`.
+    /// Executes a statement on a connection, 1 to 16. A refused one changes nothing, except that `Io` of a commit or a
+    /// checkpoint may mark the engine as failed: then every statement answers `Failed`.
     pub fn execute(&mut self, connection: u32, text: &str) -> R<Rows>
-        // After a failed commit every statement is refused, and nothing changes any more.
+        // Once a commit or a checkpoint has failed so, every statement is refused, and nothing changes any more.
         ensures failed { IsTrue (has_failed_of self.old) → (result ≡ Err Fault.Failed) × (self.new ≡ self.old) }
         ensures numbered { IsFalse (has_failed_of self.old) → IsNoConnection connection
             → (result ≡ Err (Fault.Misuse Misuse.Connection)) × (self.new ≡ self.old) }

@@ -26,7 +26,7 @@ use Rattle.terms.specs.declared.tree.Place.{Place}
 use Rattle.terms.specs.declared.tree.Place.TheVariants.{RowId, At}
 use Rattle.terms.specs.declared.tree.TwoSided.TheVariants.{Compare, And}
 use Rattle.bind.specs.Calm.{converts, finds, is_calm, is_search, is_side, parts}
-use Rattle.plan.specs.Asking.{IsNotAsked, asked_key, compared_key, is_wanted, key_for, key_in, literal_key, led_by}
+use Rattle.plan.specs.Asking.{AsksNoRange, IsNotAsked, SeeksNothing, asked_key, compared_key, is_wanted, key_for, key_in, literal_key, led_by}
 use Rattle.plan.specs.Keys.{AreAsked, AsksPart, IsCompared, IsLiteralKey, is_led_by, is_first, is_same_collation, of_column}
 use Rattle.plan.specs.Ranges.{AsksHalf}
 use Rattle.plan.specs.declared.keys.Wanted.{Wanted}
@@ -249,9 +249,9 @@ unfound n indexes t calm none e = ap (λ test. test || false) (of_part n indexes
 pub no_search : (n : ℕ) (indexes : List Index) (t : Term) → is_calm t ≡ true → list_any (finds n no_index) (parts t) ≡ false → IsNotAsked n t indexes → is_search n (is_led_by indexes) t ≡ false
 no_search n indexes t calm none e = ap (λ test. test && list_any (finds n (is_led_by indexes)) (parts t)) calm ∙ unfound n indexes t calm none e
 
--- the same of what a search for a key found
-pub only_search : {X E : Type 0} (n : ℕ) (indexes : List Index) (t : Term) → is_calm t ≡ true → list_any (finds n no_index) (parts t) ≡ false → (result : Result (Option X) E)
-    → IfOk result (λ found. IfNone found (IsNotAsked n t indexes)) → IfOk result (λ found. IfNone found (is_search n (is_led_by indexes) t ≡ false))
-only_search n indexes t calm none (Ok None) e = no_search n indexes t calm none e
-only_search n indexes t calm none (Ok (Some x)) e = tt
-only_search n indexes t calm none (Err fault) e = tt
+-- where neither a key nor a range was found, nothing is sought
+pub seeks_nothing : {X E : Type 0} (n : ℕ) (indexes : List Index) (t : Term) → is_calm t ≡ true → list_any (finds n no_index) (parts t) ≡ false → (result : Result (Option X) E)
+    → IfOk result (λ found. IfNone found (IsNotAsked n t indexes)) → IfOk result (λ found. IfNone found (AsksNoRange indexes n t)) → IfOk result (λ found. IfNone found (SeeksNothing indexes n t))
+seeks_nothing n indexes t calm none (Ok None) key range = (no_search n indexes t calm none key, λ _. range)
+seeks_nothing n indexes t calm none (Ok (Some x)) key range = tt
+seeks_nothing n indexes t calm none (Err fault) key range = tt

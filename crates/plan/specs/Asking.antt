@@ -16,8 +16,8 @@ use Rattle.terms.specs.Values.{conversion}
 use Rattle.terms.specs.declared.tree.Comparison.{Comparison}
 use Rattle.terms.specs.declared.tree.Comparison.TheVariants.{Equal, Less, LessOrEqual, Greater, GreaterOrEqual}
 use Rattle.terms.specs.declared.tree.TwoSided.TheVariants.{Compare, And}
-use Rattle.bind.specs.Calm.{finds, parts}
-use Rattle.plan.specs.Keys.{is_same_collation, of_column}
+use Rattle.bind.specs.Calm.{finds, is_calm, is_search, parts}
+use Rattle.plan.specs.Keys.{is_led_by, is_same_collation, of_column}
 use Rattle.plan.specs.Ranges.{has_ends, of_rowid}
 use Rattle.plan.specs.Seeking.{no_index}
 use Rattle.plan.specs.declared.keys.Wanted.{Wanted}
@@ -166,6 +166,10 @@ IsNotAsked n condition (index ∷ indexes) = (key_for n condition index.columns 
 -- it asks for no range of rowids, and for no key or range of these indexes
 abbrev pub AsksNoRange : List Index → ℕ → Term → Type 0
 AsksNoRange indexes n condition = (rowids_in n condition ≡ None) × (search_by (most_asked n condition 0 asks_nothing indexes) ≡ None)
+
+-- the condition makes no search of the source: by its rowid, by a key of an index, or by a range; or it may be refused
+abbrev pub SeeksNothing : List Index → ℕ → Term → Type 0
+SeeksNothing indexes n condition = (is_search n (is_led_by indexes) condition ≡ false) × (is_calm condition ≡ true → AsksNoRange indexes n condition)
 
 -- It asks for no rowid, and of the indexes this is what it asks the most of; where that has no key, it asks for no range of rowids.
 abbrev pub IsMost : List Index → ℕ → Term → Candidate → Type 0

@@ -4,8 +4,7 @@ ghost use Rattle.std.specs.Prelude.{◌≡◌, false, true, IfErr, IfNone, IfOk,
 ghost use Rattle.std.specs.List.{list_any};
 ghost use Rattle.bind.specs.Calm as calm;
 ghost use Rattle.plan.specs.Asking as asking;
-ghost use Rattle.plan.specs.Asking.{AsksNoRange, IsChosen};
-ghost use Rattle.plan.specs.Keys.{is_led_by};
+ghost use Rattle.plan.specs.Asking.{AsksNoRange, IsChosen, SeeksNothing};
 ghost use Rattle.plan.specs.Searching.{IsSought};
 ghost use Rattle.plan.specs.Seeking.{no_index};
 
@@ -144,8 +143,7 @@ pub fn search_for(
 ) -> R<Option<Search>>
     ensures found { IfOk result (λ found. IfSome found (λ it. IsSought indexes.now source condition.now it)) }
     ensures chosen { IfOk result (λ found. IfSome found (λ it. IsChosen indexes.now source condition.now it)) }
-    ensures only { IfOk result (λ found. IfNone found (calm.is_search source (is_led_by indexes.now) condition.now ≡ false)) }
-    ensures ranges { IfOk result (λ found. IfNone found (calm.is_calm condition.now ≡ true → AsksNoRange indexes.now source condition.now)) }
+    ensures only { IfOk result (λ found. IfNone found (SeeksNothing indexes.now source condition.now)) }
     ensures refused { IfErr result (λ fault. fault ≡ Fault.Memory) }
 {
     if !is_calm(alloc, condition)? {

@@ -18,4 +18,5 @@ pub mod Places
 pub mod PlacesOfRows
 pub mod Quiet
 pub mod Runs
+pub mod Sought
 pub mod Waits

@@ -1,8 +1,8 @@
 //! What literals seek of a query's sources, so that the other rows of a source needn't be read.
 
-ghost use Rattle.std.specs.Prelude.{◌≡◌, ◌⊎◌, ◌&&◌, ◌||◌, drop, false, true, IfErr, IfNone, IfOk, IfSome};
-ghost use Rattle.queries.specs.Lookups as meant;
-ghost use Rattle.queries.specs.Searches.{IsSearchAmong, IsSearchAt, IsSoughtBy, is_searched, own_term, searches_by};
+ghost use Rattle.std.specs.Prelude.{◌≡◌, drop, IfErr, IfNone, IfOk, IfSome, option_map};
+ghost use Rattle.queries.specs.Searches.{IsReadAmong, IsScannedAt, IsSearchAmong, IsSearchAt, IsSoughtBy, NothingIsSought};
+ghost use Rattle.queries.specs.Searches as meant;
 
 use crate::lookups::may_wait;
 use bind::{Condition, Reading};
@@ -12,84 +12,35 @@ use sqlval::{Fault, Name, R};
 use std::alloc::Global;
 use terms::Term;
 
-/// What WHERE seeks of a source. (`Memory`.)
-fn search_by_filter(
+/// The condition by which a source's rows join those before it.
+fn own_term(condition: &Condition) -> Option<&Term>
+    ensures { option_map (λ r. r.now) result ≡ meant.own_term condition.now }
+{
+    match condition {
+        Condition::Always => None,
+        Condition::Where(term) => Some(term),
+        Condition::OrNulls(term) => Some(term),
+    }
+}
+
+/// What a condition, if there is one, seeks of a source. (`Memory`.)
+fn search_by(
     alloc: Global,
-    filter: &Option<Term>,
+    condition: Option<&Term>,
     source: usize,
     indexes: &[Index],
 ) -> R<Option<Search>>
-    ensures found { IfOk result (λ found. IfSome found (IsSoughtBy indexes.now source filter.now)) }
-    ensures only { IfOk result (λ found. IfNone found (searches_by indexes.now source filter.now ≡ false)) }
+    ensures found { IfOk result (λ found. IfSome found (IsSoughtBy indexes.now source (option_map (λ r. r.now) condition.entry))) }
+    ensures only { IfOk result (λ found. IfNone found (NothingIsSought indexes.now source (option_map (λ r. r.now) condition.entry))) }
     ensures refused { IfErr result (λ fault. fault ≡ Fault.Memory) }
 {
-    match filter {
+    match condition {
         Some(term) => search_for(alloc, term, source, indexes),
         None => Ok(None),
     }
 }
 
-/// What a source's own condition seeks of it. (`Memory`.)
-fn search_by_condition(
-    alloc: Global,
-    condition: &Condition,
-    source: usize,
-    indexes: &[Index],
-) -> R<Option<Search>>
-    ensures found { IfOk result (λ found. IfSome found (IsSoughtBy indexes.now source (own_term condition.now))) }
-    ensures only { IfOk result (λ found. IfNone found (searches_by indexes.now source (own_term condition.now) ≡ false)) }
-    ensures refused { IfErr result (λ fault. fault ≡ Fault.Memory) }
-{
-    match condition {
-        Condition::Always => Ok(None),
-        Condition::Where(term) => search_for(alloc, term, source, indexes),
-        Condition::OrNulls(term) => search_for(alloc, term, source, indexes),
-    }
-}
-
-/// What WHERE seeks of a source, where its rows may be left out before their conditions are asked. (`Memory`.)
-fn search_by_where(
-    alloc: Global,
-    filter: &Option<Term>,
-    condition: &Condition,
-    others: &[(Name, Condition)],
-    source: usize,
-    indexes: &[Index],
-) -> R<Option<Search>>
-    ensures found { IfOk result (λ found. IfSome found (λ search.
-        (meant.may_wait condition.now others.now ≡ true) × IsSoughtBy indexes.now source filter.now search)) }
-    ensures only { IfOk result (λ found. IfNone found
-        ((meant.may_wait condition.now others.now && searches_by indexes.now source filter.now) ≡ false)) }
-    ensures refused { IfErr result (λ fault. fault ≡ Fault.Memory) }
-{
-    if !may_wait(alloc, condition, others)? {
-        return Ok(None);
-    }
-    search_by_filter(alloc, filter, source, indexes)
-}
-
-/// What is sought of a source by its own condition, or else by WHERE. (`Memory`.)
-fn search_of(
-    alloc: Global,
-    filter: &Option<Term>,
-    condition: &Condition,
-    others: &[(Name, Condition)],
-    source: usize,
-    indexes: &[Index],
-) -> R<Option<Search>>
-    ensures found { IfOk result (λ found. IfSome found (λ search. IsSoughtBy indexes.now source (own_term condition.now) search
-        ⊎ ((meant.may_wait condition.now others.now ≡ true) × IsSoughtBy indexes.now source filter.now search))) }
-    ensures only { IfOk result (λ found. IfNone found ((searches_by indexes.now source (own_term condition.now)
-        || (meant.may_wait condition.now others.now && searches_by indexes.now source filter.now)) ≡ false)) }
-    ensures refused { IfErr result (λ fault. fault ≡ Fault.Memory) }
-{
-    match search_by_condition(alloc, condition, source, indexes)? {
-        Some(search) => Ok(Some(search)),
-        None => search_by_where(alloc, filter, condition, others, source, indexes),
-    }
-}
-
-/// What is sought of the first of these sources. (`Memory`.)
+/// What is sought of the first of these sources: by its own condition, or where that seeks nothing by WHERE. (`Memory`.)
 fn search_among(
     alloc: Global,
     filter: &Option<Term>,
@@ -98,15 +49,19 @@ fn search_among(
     indexes: &[Index],
 ) -> R<Option<Search>>
     ensures found { IfOk result (λ found. IfSome found (IsSearchAmong indexes.now source filter.now sources.now)) }
-    ensures only { IfOk result (λ found. IfNone found (is_searched indexes.now source filter.now sources.now ≡ false)) }
+    ensures only { IfOk result (λ found. IfNone found (IsReadAmong indexes.now source filter.now sources.now)) }
     ensures refused { IfErr result (λ fault. fault ≡ Fault.Memory) }
 {
-    match sources {
-        [] => Ok(None),
-        [(_, condition), others @ ..] => search_of(
-            alloc, filter, condition, others, source, indexes,
-        ),
+    let [(_, condition), others @ ..] = sources else {
+        return Ok(None);
+    };
+    if let Some(search) = search_by(alloc, own_term(condition), source, indexes)? {
+        return Ok(Some(search));
     }
+    if !may_wait(alloc, condition, others)? {
+        return Ok(None);
+    }
+    search_by(alloc, filter.as_ref(), source, indexes)
 }
 
 /// What a query seeks of its source of a number, a table with these indexes: by the source's own condition, or else by WHERE, unless the
@@ -118,8 +73,7 @@ pub fn search_at(
     indexes: &[Index],
 ) -> R<Option<Search>>
     ensures found { IfOk result (λ found. IfSome found (λ search. IsSearchAt indexes.now reading.now source search)) }
-    ensures only { IfOk result (λ found. IfNone found
-        (is_searched indexes.now source reading.now.filter (drop source reading.now.sources) ≡ false)) }
+    ensures only { IfOk result (λ found. IfNone found (IsScannedAt indexes.now reading.now source)) }
     ensures refused { IfErr result (λ fault. fault ≡ Fault.Memory) }
 {
     let sources = reading.sources.as_slice();

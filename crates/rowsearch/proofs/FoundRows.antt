@@ -1,9 +1,8 @@
 -- The rows that a search finds, as a query's source has them, and that the others aren't needed.
-use Rattle.std.proofs.Common.{◌≡◌, refl, sym, ap, subst, ◌∙◌, ℕ, ℤ, Bool, true, false, not, ◌||◌, ◌&&◌, cond, zero, suc, ◌≤◌, ◌<◌, List, [], ◌∷◌, map, length, Option, Some, None, Ok, Err, arith}
+use Rattle.std.proofs.Common.{◌≡◌, inl, refl, sym, ap, subst, ◌∙◌, ℕ, ℤ, Bool, true, false, not, ◌||◌, ◌&&◌, cond, zero, suc, ◌≤◌, ◌<◌, List, [], ◌∷◌, map, length, Option, Some, None, Ok, Err, arith}
 use Rattle.std.specs.List.{AllByRecursion}
 use Rattle.std.specs.Ordering.{int_eq}
 use Rattle.std.specs.Prelude.{MatchResult, Result, filter, int_lt, slice_get}
-use mathlib.Core.Bool.{true≢false}
 use Rattle.std.proofs.lemmas.Option.{same_Some, slice_get_within}
 use Rattle.sqlval.specs.Conversion.{is_word}
 use Rattle.sqlval.specs.Faults.{IsOutside}
@@ -15,16 +14,17 @@ use Rattle.catalog.specs.declared.tables.IndexColumn.{IndexColumn}
 use Rattle.terms.specs.Terms.{Term}
 use Rattle.terms.specs.Values.{Row}
 use Rattle.bind.specs.declared.queries.BoundSource.{BoundSource}
+use Rattle.plan.specs.Asking.{IsChosen}
 use Rattle.plan.specs.Keys.{AreAsked, SeeksKey, has_key}
 use Rattle.plan.specs.Ranges.{SeeksRange, has_range, is_outside}
-use Rattle.plan.specs.Searching.{IsSought, OtherRowsFail, has_other, is_found}
+use Rattle.plan.specs.Searching.{IsSought, has_other, is_found}
 use Rattle.plan.specs.declared.ranges.Range.{Range}
 use Rattle.plan.specs.declared.searching.Search.{Search}
 use Rattle.plan.specs.declared.searching.Search.TheVariants.{Rowid, Rowids, Key, Range as InRange}
 use Rattle.rowprog.specs.Rows.{TableRow}
 use Rattle.rowprog.specs.Sources.{LoadsRows, LoadsRowsAt, as_source, rows_at}
 use Rattle.rowsearch.specs.Between.{LoadsBetween, is_from_to}
-use Rattle.rowsearch.specs.Found.{FindsNeeded, FindsSought, HasEntriesOf, HasIndexed}
+use Rattle.rowsearch.specs.Found.{AreNeeded, FindsNeeded, FindsSought, HasEntriesOf, HasIndexed}
 use Rattle.rowsearch.specs.Searching.{LoadsInRange, LoadsKeyed}
 use Rattle.rowsearch.proofs.LookedUp.{chosen_through}
 
@@ -151,23 +151,13 @@ module _ (pages : PageMap) (size : ℕ) (table : BoundSource) (indexes : List In
 
   -- ---- what a condition needs
 
-  every_row : (rows : List Row) → rows ≡ filter (λ row. true) rows
-  every_row [] = refl
-  every_row (row ∷ rows) = ap (λ (them : List Row). row ∷ them) (every_row rows)
+  pub all_needed : (condition : Option Term) → ((all : List Row) → AreNeeded indexes condition all all) → (result : Result (List Row) Fault) → LoadsRows pages size table result
+      → FindsNeeded pages size table indexes condition result
+  all_needed condition are (Err e) loads rows held = loads rows held.whole held.has
+  all_needed condition are (Ok found) loads rows held =
+      subst (λ (them : List Row). AreNeeded indexes condition them (map as_source rows)) (sym (loads rows held.whole held.has)) (are (map as_source rows))
 
-  pub all_needed : (condition : Option Term) (result : Result (List Row) Fault) → LoadsRows pages size table result → FindsNeeded pages size table indexes condition result
-  all_needed condition (Err e) loads rows held = loads rows held.whole held.has
-  all_needed condition (Ok found) loads rows held = record {
-    keep = λ row. true;
-    are = loads rows held.whole held.has ∙ every_row (map as_source rows);
-    others = λ row never. absurd (true≢false never);
-  }
-
-  pub found_needed : OtherRowsFail → (condition : Term) (search : Search) (result : Result (List Row) Fault) → IsSought indexes 0 condition search → FindsSought pages size table indexes search result
-      → FindsNeeded pages size table indexes (Some condition) result
-  found_needed law condition search (Err e) sought finds rows held = finds rows held
-  found_needed law condition search (Ok found) sought finds rows held = record {
-    keep = is_found indexes search;
-    are = finds rows held;
-    others = λ row isnt. law indexes 0 condition search sought (row ∷ []) row refl isnt;
-  }
+  pub found_needed : (condition : Term) (search : Search) (result : Result (List Row) Fault) → IsSought indexes 0 condition search → IsChosen indexes 0 condition search
+      → FindsSought pages size table indexes search result → FindsNeeded pages size table indexes (Some condition) result
+  found_needed condition search (Err e) sought chosen finds rows held = finds rows held
+  found_needed condition search (Ok found) sought chosen finds rows held = inl (search, sought, chosen, finds rows held)

@@ -1,6 +1,6 @@
 -- The rows of a table that a search finds, and those that a condition needs (Query Planning, "Searching"; The SQLite Query Optimizer
 -- Overview, "WHERE Clause Analysis").
-use Rattle.std.specs.Prelude.{◌≡◌, ℕ, Bool, true, false, List, [], ◌∷◌, filter, map, Option, None, Some, Result, MatchResult}
+use Rattle.std.specs.Prelude.{◌≡◌, ◌⊎◌, ℕ, true, List, filter, map, Option, None, Some, Result, MatchResult}
 use Rattle.std.specs.List.{AllByRecursion}
 use Rattle.sqlval.specs.Conversion.{is_word}
 use Rattle.sqlval.specs.Faults.{IsOutside}
@@ -12,9 +12,9 @@ use Rattle.indextree.specs.Tree.{IsIndexTree}
 use Rattle.indexes.specs.Entries.{collations, entries_of_rows}
 use Rattle.indexes.specs.Keeping.{columns_in}
 use Rattle.catalog.specs.declared.tables.Index.{Index}
-use Rattle.bind.specs.Readings.{holds}
 use Rattle.bind.specs.declared.queries.BoundSource.{BoundSource}
-use Rattle.plan.specs.Searching.{IsUntrue, is_found}
+use Rattle.plan.specs.Asking.{IsChosen, SeeksNothing}
+use Rattle.plan.specs.Searching.{IsSought, is_found}
 use Rattle.plan.specs.declared.searching.Search.{Search}
 use Rattle.rowprog.specs.Rows.{TableRow}
 use Rattle.rowprog.specs.Sources.{as_source}
@@ -37,18 +37,14 @@ abbrev pub FindsSought : PageMap → ℕ → BoundSource → List Index → Sear
 FindsSought pages size table indexes search result = (rows : List TableRow) → HasIndexed pages size table indexes rows
     → MatchResult result (λ found. found ≡ filter (is_found indexes search) (map as_source rows)) IsOutside
 
--- there is a condition, which isn't true for the row, and isn't refused
-abbrev pub IsUntrueFor : Option Term → Row → Type 0
-IsUntrueFor None row = ⊥
-IsUntrueFor (Some condition) row = IsUntrue (holds condition (row ∷ []))
-
--- These are the rows but for some for which the condition isn't true, and isn't refused.
-pub record LeaveOutUntrue (condition : Option Term) (found : List Row) (rows : List TableRow) : Type 0 where
-  pub keep : Row → Bool
-  pub are : found ≡ filter keep (map as_source rows)
-  pub others : (row : Row) → keep row ≡ false → IsUntrueFor condition row
+-- These rows are read for a condition: those that the search finds which it makes; or where it seeks nothing, or there is none, all.
+abbrev pub AreNeeded : List Index → Option Term → List Row → List Row → Type 0
+AreNeeded indexes None found all = found ≡ all
+AreNeeded indexes (Some condition) found all =
+    ((search : Search) × IsSought indexes 0 condition search × IsChosen indexes 0 condition search × (found ≡ filter (is_found indexes search) all))
+    ⊎ (SeeksNothing indexes 0 condition × (found ≡ all))
 
 -- Of such trees these are the rows that a condition needs; or memory was short, or a disk's call failed.
 abbrev pub FindsNeeded : PageMap → ℕ → BoundSource → List Index → Option Term → Result (List Row) Fault → Type 0
 FindsNeeded pages size table indexes condition result = (rows : List TableRow) → HasIndexed pages size table indexes rows
-    → MatchResult result (λ found. LeaveOutUntrue condition found rows) IsOutside
+    → MatchResult result (λ found. AreNeeded indexes condition found (map as_source rows)) IsOutside

@@ -11,7 +11,7 @@ use crate::searching::{rows_by_key, rows_in_range};
 use bind::BoundSource;
 use catalog::Index;
 use pages::Pages;
-use plan::{Search, other_rows_fail, search_for};
+use plan::{Search, search_for};
 use rowprog::{source_rows, source_rows_at};
 use sqlval::{Many, R};
 use std::alloc::Global;
@@ -57,15 +57,14 @@ fn needed_by<P: Pages>(
         → FindsNeeded (P.Pages.map pages.old) (P.Pages.limits (P.Pages.below pages.old)).page table indexes.now (Some condition.now) result }
     ensures stays { Stays P.Pages.below P.Pages.map P.Pages.count P.Pages.failures result pages.old pages.new }
 {
-    other_rows_fail();
     match search_for(alloc, condition, 0, indexes)? {
         Some(search) => found_rows(alloc, pages, table, indexes, search),
         None => source_rows(alloc, pages, table),
     }
 }
 
-/// The rows of a table that a condition needs, or all where there is none, by rising rowid: of the others the condition isn't true. (What
-/// `needed_by` refuses.)
+/// The rows of a table that a condition needs, by rising rowid: those that what it seeks of the table finds, or all where it seeks nothing
+/// or there is none. (What `needed_by` refuses.)
 pub fn needed_rows<P: Pages>(
     alloc: Global,
     pages: &mut P,

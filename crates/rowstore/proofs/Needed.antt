@@ -1,5 +1,5 @@
 -- Of the rows of a table that a condition needs it chooses the same as of all.
-use Rattle.std.proofs.Common.{◌≡◌, refl, sym, ap, subst, ◌∙◌, ◌&&◌, ◌==◌, ℕ, Bool, true, false, cond, filter, List, [], ◌∷◌, ◌++◌, length, map, Option, Some, None, Result, Ok, Err}
+use Rattle.std.proofs.Common.{◌≡◌, inl, inr, refl, sym, ap, subst, ◌∙◌, ◌&&◌, ◌==◌, ℕ, Bool, true, false, cond, filter, List, [], ◌∷◌, ◌++◌, length, map, Option, Some, None, Result, Ok, Err}
 use Rattle.std.proofs.lemmas.Bool.{true≢false}
 use Rattle.std.specs.Global.{Vec}
 use Rattle.std.specs.List.{AllByRecursion, list_all}
@@ -24,10 +24,10 @@ use Rattle.bind.specs.declared.queries.BoundSource.{BoundSource}
 use Rattle.terms.specs.Outcome.{AnswersBy}
 use Rattle.terms.specs.Terms.{Term}
 use Rattle.terms.specs.Values.{Row}
-use Rattle.plan.specs.Searching.{IsUntrue}
+use Rattle.plan.specs.Searching.{IsUntrue, OtherRowsFail, is_found}
 use Rattle.rowprog.specs.Rows.{TableRow}
 use Rattle.rowprog.specs.Sources.{as_source}
-use Rattle.rowsearch.specs.Found.{FindsNeeded, HasEntriesOf, HasIndexed, LeaveOutUntrue}
+use Rattle.rowsearch.specs.Found.{AreNeeded, FindsNeeded, HasEntriesOf, HasIndexed}
 use Rattle.dml.specs.Choosing.{chosen, is_chosen, tested}
 use Rattle.dml.specs.Meaning.{AreEnough, chosen_or_all}
 use Rattle.dml.specs.NewRows.{row_of}
@@ -47,6 +47,38 @@ abbrev pub MeansRows : Option Term → List Row → Result (Vec stored.TableRow)
 MeansRows condition found result = (all : List TableRow) → AreEnough condition found all → AnswersBy (λ them. map row_of them.items) (chosen_or_all condition all) result
 
 -- ---- rows that are left out
+
+-- there is a condition, which isn't true for the row, and isn't refused
+abbrev IsUntrueFor : Option Term → Row → Type 0
+IsUntrueFor None row = ⊥
+IsUntrueFor (Some condition) row = IsUntrue (holds condition (row ∷ []))
+
+-- These are the rows but for some for which the condition isn't true, and isn't refused.
+record LeaveOutUntrue (condition : Option Term) (found : List Row) (rows : List TableRow) : Type 0 where
+  pub keep : Row → Bool
+  pub are : found ≡ filter keep (map as_source rows)
+  pub others : (row : Row) → keep row ≡ false → IsUntrueFor condition row
+
+every_row : (rows : List Row) → rows ≡ filter (λ row. true) rows
+every_row [] = refl
+every_row (row ∷ rows) = ap (λ (them : List Row). row ∷ them) (every_row rows)
+
+all_kept : (condition : Option Term) (found : List Row) (rows : List TableRow) → found ≡ map as_source rows → LeaveOutUntrue condition found rows
+all_kept condition found rows e = record {
+  keep = λ row. true;
+  are = e ∙ every_row (map as_source rows);
+  others = λ row never. absurd (true≢false never);
+}
+
+-- of the rows that a condition doesn't need it isn't true
+left_out : OtherRowsFail → (indexes : List Index) (condition : Option Term) (found : List Row) (rows : List TableRow) → AreNeeded indexes condition found (map as_source rows) → LeaveOutUntrue condition found rows
+left_out law indexes None found rows e = all_kept None found rows e
+left_out law indexes (Some condition) found rows (inl (search, sought, chosen, e)) = record {
+  keep = is_found indexes search;
+  are = e;
+  others = λ row isnt. law indexes 0 condition search sought (row ∷ []) row refl isnt;
+}
+left_out law indexes (Some condition) found rows (inr (nothing, e)) = all_kept (Some condition) found rows e
 
 abbrev given : List TableRow → Answer (List TableRow)
 given rows = Ok rows
@@ -162,10 +194,12 @@ module _ (pages : PageMap) (size : ℕ) (table : Table) where
     entries = entries_trees pages size rows table.indexes s.others after s.indexes (rest_of (IsTree pages size) before _ s.shared.trees.1).1;
   }
 
-  pub loads_enough : (condition : Option Term) (result : Result (List Row) Fault) → FindsNeeded pages size source table.indexes condition result → LoadsEnough pages size table condition result
-  loads_enough condition result finds schema before after rows sized is_root among fit =
+  pub loads_enough : OtherRowsFail → (condition : Option Term) (result : Result (List Row) Fault) → FindsNeeded pages size source table.indexes condition result
+      → LoadsEnough pages size table condition result
+  loads_enough law condition result finds schema before after rows sized is_root among fit =
       by result (finds rows (has_indexed schema before rows after (rows_among pages size schema before table rows after among sized is_root) fit))
     where
-      by : (r : Result (List Row) Fault) → MatchResult r (λ found. LeaveOutUntrue condition found rows) IsOutside → MatchResult r (λ found. AreEnough condition found rows) IsOutside
-      by (Ok found) left = are_enough condition found rows left
+      by : (r : Result (List Row) Fault) → MatchResult r (λ found. AreNeeded table.indexes condition found (map as_source rows)) IsOutside
+          → MatchResult r (λ found. AreEnough condition found rows) IsOutside
+      by (Ok found) needed = are_enough condition found rows (left_out law table.indexes condition found rows needed)
       by (Err fault) outside = outside

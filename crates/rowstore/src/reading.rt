@@ -7,6 +7,7 @@ ghost use Rattle.rowstore.specs.Reading.{LoadsEnough};
 use bind::BoundSource;
 use catalog::Table;
 use pages::Pages;
+use plan::other_rows_fail;
 use rowsearch::needed_rows;
 use sqlval::{Many, R};
 use std::alloc::Global;
@@ -34,6 +35,7 @@ pub(crate) fn enough_rows<P: Pages>(
         → LoadsEnough (P.Pages.map pages.old) (P.Pages.limits (P.Pages.below pages.old)).page table.now condition.now result }
     ensures stays { Stays P.Pages.below P.Pages.map P.Pages.count P.Pages.failures result pages.old pages.new }
 {
+    other_rows_fail();
     let source = source_of(table);
     needed_rows(alloc, pages, source, table.indexes.as_slice(), condition)
 }

@@ -154,8 +154,8 @@ impl<D: Disk + Drop> Connections<D> {
         Ok(())
     }
 
-    /// Executes a statement on a connection that `check` doesn't refuse. A refused one changes nothing, except for `Io` in a
-    /// commit, after which all is refused.
+    /// Executes a statement on a connection that `check` doesn't refuse. A refused one changes nothing, except that `Io` of a
+    /// commit or a checkpoint may mark the engine as failed: then all is refused.
     pub fn execute(&mut self, connection: u32, statement: &Statement) -> R<Rows>
         // `check` is the test.
         requires free { first_refusal (has_failed_in self.old) connection ≡ Ok tt }

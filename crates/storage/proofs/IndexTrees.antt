@@ -3,7 +3,7 @@ use Rattle.std.proofs.Common.{◌≡◌, refl, sym, ap, subst, ◌∙◌, ℕ, s
 use Rattle.std.proofs.lemmas.List.{append_assoc}
 use Rattle.std.proofs.lemmas.Option.{same_Some}
 use Rattle.std.specs.List.{AllByRecursion}
-use Rattle.std.specs.Prelude.{option_map}
+use Rattle.std.specs.Prelude.{option_and_then, option_map}
 use Rattle.sqlval.specs.Conversion.{is_word}
 use Rattle.pages.specs.Map.{PageMap}
 use Rattle.sharing.specs.Layout.{IsTree, Owner}
@@ -68,7 +68,7 @@ module _ (pages : PageMap) (size : ℕ) (tables : List Table) (db : Database) (s
       indexed : (t : Table) → IsSourceOf tables (before ++ (s ∷ ss)) (length before) t → HasIndexed pages size place t.indexes (stored.rows_at place.root)
       indexed t is =
           has_indexed s.0 place t placed
-          (subst (λ (it : Named). table_named it.0 tables ≡ Some t) (same_Some is.0 s (sym is.1 ∙ get_at before s ss)) is.2)
+          (sym (ap (option_and_then (λ (it : Named). table_named it.0 tables)) (get_at before s ss)) ∙ is)
 
       by : (found : Option Table) → table_named s.0 tables ≡ found → option_map place_seen found ≡ Some place → HasSource pages size tables (before ++ (s ∷ ss)) (length before) place (stored.rows_at place.root)
       by None named at = (let bad : None ≡ Some place = at in cc)

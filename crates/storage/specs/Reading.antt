@@ -1,5 +1,5 @@
 -- What a query answers (SQL As Understood By SQLite, "SELECT").
-use Rattle.std.specs.Prelude.{◌≡◌, ◌⊎◌, ⊤, ℕ, suc, false, List, [], ◌∷◌, length, map, Contains, MatchResult, Some, Result, Ok, Err, slice_get, slice_set}
+use Rattle.std.specs.Prelude.{◌≡◌, ◌⊎◌, ⊤, ℕ, suc, true, false, List, [], ◌∷◌, filter, length, map, Contains, MatchResult, Option, Some, Result, Ok, Err, option_and_then, slice_get, slice_set}
 use Rattle.sqlval.specs.Faults.{IsOutside}
 use Rattle.sqlval.specs.Refusals.{Answer, refusal_of}
 use Rattle.sqlval.specs.declared.fault.Fault.{Fault}
@@ -13,14 +13,21 @@ use Rattle.terms.specs.Values.{Row}
 use Rattle.bind.specs.Checked.{Checked, Meant, faults}
 use Rattle.bind.specs.Queries.{resolve_query}
 use Rattle.bind.specs.Readings.{rows_over}
-use Rattle.bind.specs.Views.{look_up}
+use Rattle.bind.specs.Views.{answer_of, look_up}
 use Rattle.bind.specs.declared.queries.BoundSource.{BoundSource}
 use Rattle.bind.specs.declared.reading.Reading.{Reading}
+use Rattle.plan.specs.Searching.{is_found}
+use Rattle.plan.specs.declared.searching.Search.{Search}
+use Rattle.querybinder.specs.Named.{ArePlaced}
+use Rattle.querybinder.specs.declared.querying.BoundReading.{BoundReading}
 use Rattle.queries.specs.Nesting.{Named, beside_rows}
+use Rattle.queries.specs.Parts.{is_row_by_row}
+use Rattle.queries.specs.Searches.{IsScannedAt, IsSearchAt}
 use Rattle.rowprog.specs.Rows.{TableRow}
 use Rattle.rowprog.specs.Sources.{as_source}
 use Rattle.rowprog.specs.Trees.{AnswersOrFails, HasRows}
 use Rattle.rowsearch.specs.Found.{HasIndexed}
+use Rattle.stored.specs.Stored.{Stores}
 
 -- What a call answered of a query, seen by `view`, is what reading it comes to, or one of its refusals; or memory was short, or a disk's
 -- call failed.
@@ -34,9 +41,13 @@ Asks db query reading = (resolve_query (look_up db) [] query ≡ Meant reading [
 
 -- ---- sources
 
--- the source of this number has this table's name
+-- the table of that name that a query's source of this number has, if there is one
+abbrev pub source_table : List Table → List Named → ℕ → Option Table
+source_table tables sources n = option_and_then (λ source. table_named source.0 tables) (slice_get sources n)
+
+-- it is the source of this number
 abbrev pub IsSourceOf : List Table → List Named → ℕ → Table → Type 0
-IsSourceOf tables sources n table = (source : Named) × (slice_get sources n ≡ Some source) × (table_named source.0 tables ≡ Some table)
+IsSourceOf tables sources n table = source_table tables sources n ≡ Some table
 
 -- A source's tree has these rows, and the trees of its table's indexes have their entries.
 pub record HasSource (pages : PageMap) (size : ℕ) (tables : List Table) (sources : List Named) (n : ℕ) (place : BoundSource)
@@ -44,6 +55,33 @@ pub record HasSource (pages : PageMap) (size : ℕ) (tables : List Table) (sourc
   pub whole : AreWhole size pages
   pub has : HasRows pages size place.root place.width rows
   pub indexed : (table : Table) → IsSourceOf tables sources n table → HasIndexed pages size place table.indexes rows
+
+-- ---- which rows of a source are read
+
+-- the source of this number is this table, and this is what the query seeks of it
+abbrev pub IsSearchedBy : List Table → Reading → ℕ → Table → Search → Type 0
+IsSearchedBy tables q n table search = IsSourceOf tables q.sources n table × IsSearchAt table.indexes q n search
+
+-- the query seeks something of the source of this number, which is a table
+abbrev pub IsSearched : List Table → Reading → ℕ → Type 0
+IsSearched tables q n = (table : Table) × (search : Search) × IsSearchedBy tables q n table search
+
+-- the query seeks nothing of the source of this number, or that is no table
+abbrev pub IsScanned : List Table → Reading → ℕ → Type 0
+IsScanned tables q n = (table : Table) → IsSourceOf tables q.sources n table → IsScannedAt table.indexes q n
+
+-- of all rows of the source of this number these are read: those that what the query seeks of it finds, or all where it seeks nothing
+abbrev pub AreRead : List Table → Reading → ℕ → List Row → List Row → Type 0
+AreRead tables q n found all =
+    ((table : Table) × (search : Search) × IsSearchedBy tables q n table search × (found ≡ filter (is_found table.indexes search) all))
+    ⊎ (IsScanned tables q n × (found ≡ all))
+
+-- These rows of a source are read; or memory was short, or a disk's call failed.
+abbrev pub LoadsSought : PageMap → ℕ → List Table → Reading → ℕ → BoundSource → Result (List Row) Fault → Type 0
+LoadsSought pages size tables q n place result = (rows : List TableRow) → HasSource pages size tables q.sources n place rows
+    → MatchResult result (λ found. AreRead tables q n found (map as_source rows)) IsOutside
+
+-- ---- rows that are enough
 
 -- the query comes to the same where this source's rows are those that are found as where they are all, whatever the others' are
 abbrev pub IsSameOver : Reading → ℕ → List Row → List Row → Type 0
@@ -75,8 +113,24 @@ abbrev pub LoadsSources : {X : Type 0} → (X → List (List Row)) → PageMap �
 LoadsSources view pages size tables q places result = (rows_at : ℕ → List TableRow) → HaveSources pages size tables q.sources rows_at 0 places
     → MatchResult result (λ x. AreEnoughFor q (view x) (rows_in rows_at places)) IsOutside
 
+-- ---- how a query is answered
+
+-- the query is row by row, its only source stands here, and nothing is sought of it
+abbrev pub IsStreamed : List Table → BoundReading → BoundSource → Type 0
+IsStreamed tables bound place = (bound.tables ≡ place ∷ []) × (is_row_by_row bound.reading ≡ true) × IsScanned tables bound.reading 0
+
+-- where the query is row by row and has one source, something is sought of that
+abbrev pub IsLoaded : List Table → BoundReading → Type 0
+IsLoaded tables bound = (place : BoundSource) → bound.tables ≡ place ∷ [] → is_row_by_row bound.reading ≡ true → IsSearched tables bound.reading 0
+
 -- What a call answered, seen by `view`, is what a query comes to over the rows of its only source, where its tree has some; or one of its
 -- refusals.
 abbrev pub Streams : {X : Type 0} → (X → List (List Value)) → PageMap → ℕ → Reading → BoundSource → Result X Fault → Type 0
 Streams view pages size reading table result = (rows : List TableRow) → AreWhole size pages → HasRows pages size table.root table.width rows
     → AnswersOrFails view (rows_over reading [] (beside_rows reading.sources (map as_source rows ∷ []))) result
+
+-- What a call answered of a query whose names are looked up, seen by `view`, is what the query comes to on the database that the pages store;
+-- or one of its refusals.
+abbrev pub AnswersBound : {X : Type 0} → (X → List (List Value)) → PageMap → ℕ → List Table → BoundReading → Result X Fault → Type 0
+AnswersBound view pages size tables bound result = (db : Database) → Stores pages size tables db → ArePlaced tables bound.reading.sources bound.tables
+    → AnswersOrFails view (answer_of db [] bound.reading) result

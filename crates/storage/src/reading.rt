@@ -1,16 +1,13 @@
 //! The rows of a query.
 
-ghost use Rattle.std.specs.Prelude.{◌≡◌, ◌∷◌, [], length, map, true, IfErr, IfOk, IfSome, IsTrue};
+ghost use Rattle.std.specs.Prelude.{◌≡◌, false, length, map, option_map, true, IfErr, IfNone, IfOk, IfSome, IsTrue};
 ghost use Rattle.pages.specs.Calls.{Stays};
 ghost use Rattle.catalog.specs.Database.{Database};
 ghost use Rattle.catalog.specs.Listed.{tables_of};
-ghost use Rattle.bind.specs.Views.{answer_of};
-ghost use Rattle.querybinder.specs.Named.{ArePlaced};
 ghost use Rattle.queries.specs.Answers.{HaveWidth};
 ghost use Rattle.queries.specs.Parts.{is_row_by_row as row_by_row};
 ghost use Rattle.rowprog.specs.Rows.{values_of};
-ghost use Rattle.rowprog.specs.Trees.{AnswersOrFails};
-ghost use Rattle.storage.specs.Reading.{AnswersRead, IsSourceOf, LoadsSources, LoadsNeeded, Streams};
+ghost use Rattle.storage.specs.Reading.{AnswersBound, AnswersRead, IsLoaded, IsScanned, IsSearched, IsStreamed, LoadsNeeded, LoadsSought, LoadsSources, Streams, source_table};
 ghost use Rattle.stored.specs.Stored.{Stores};
 ghost use Rattle.storage.specs.Works.{read_on};
 
@@ -32,7 +29,7 @@ use terms::SourceRow;
 
 /// The table that a query's source of a number is, if there is one of its name.
 fn table_of<'a>(catalog: &'a Catalog, reading: &Reading, source: usize) -> Option<&'a Table>
-    ensures { IfSome result (λ table. IsSourceOf (tables_of catalog.now) reading.now.sources source table.now) }
+    ensures { option_map (λ table. table.now) result ≡ source_table (tables_of catalog.now) reading.now.sources source }
 {
     let (name, _) = reading.sources.as_slice().get(source)?;
     catalog.table(name.as_str())
@@ -50,6 +47,8 @@ fn needed_rows<P: Pages>(
 ) -> R<Many<SourceRow>>
     ensures loaded { IsTrue (P.Pages.tells (P.Pages.below pages.old))
         → LoadsNeeded (P.Pages.map pages.old) (P.Pages.limits (P.Pages.below pages.old)).page (tables_of catalog.now) reading.now source place result }
+    ensures exact { IsTrue (P.Pages.tells (P.Pages.below pages.old))
+        → LoadsSought (P.Pages.map pages.old) (P.Pages.limits (P.Pages.below pages.old)).page (tables_of catalog.now) reading.now source place result }
     ensures stays { Stays P.Pages.below P.Pages.map P.Pages.count P.Pages.failures result pages.old pages.new }
 {
     let Some(table) = table_of(catalog, reading, source) else {
@@ -93,10 +92,9 @@ fn loaded_rows<P: Pages>(
     catalog: &Catalog,
     bound: &BoundReading,
 ) -> R<Rows>
-    ensures answered { (db : Database) → IsTrue (P.Pages.tells (P.Pages.below pages.old))
-        → Stores (P.Pages.map pages.old) (P.Pages.limits (P.Pages.below pages.old)).page (tables_of catalog.now) db
-        → ArePlaced (tables_of catalog.now) bound.now.reading.sources bound.now.tables
-        → AnswersOrFails (λ rows. map values_of rows.items) (answer_of db [] bound.now.reading) result }
+    ensures answered { IsTrue (P.Pages.tells (P.Pages.below pages.old))
+        → AnswersBound (λ rows. map values_of rows.items) (P.Pages.map pages.old) (P.Pages.limits (P.Pages.below pages.old)).page
+        (tables_of catalog.now) bound.now result }
     ensures wide { IfOk result (λ rows. HaveWidth (length bound.now.reading.results) (map values_of rows.items)) }
     ensures stays { Stays P.Pages.below P.Pages.map P.Pages.count P.Pages.failures result pages.old pages.new }
 {
@@ -135,7 +133,9 @@ fn streamed_rows<P: Pages>(
 
 /// Whether a query seeks something of a source. (`Memory`.)
 fn seeks(alloc: Global, catalog: &Catalog, reading: &Reading, source: usize) -> R<bool>
-    ensures { IfErr result (λ fault. fault ≡ Fault.Memory) }
+    ensures seen { IfOk result (λ seeks. seeks ≡ true → IsSearched (tables_of catalog.now) reading.now source) }
+    ensures only { IfOk result (λ seeks. seeks ≡ false → IsScanned (tables_of catalog.now) reading.now source) }
+    ensures refused { IfErr result (λ fault. fault ≡ Fault.Memory) }
 {
     match table_of(catalog, reading, source) {
         Some(table) => Ok(search_at(alloc, reading, source, table.indexes.as_slice())?.is_some()),
@@ -145,8 +145,8 @@ fn seeks(alloc: Global, catalog: &Catalog, reading: &Reading, source: usize) -> 
 
 /// The only source of a query that is row by row and seeks nothing of it. (`Memory`.)
 fn streamed_source(alloc: Global, catalog: &Catalog, bound: &BoundReading) -> R<Option<BoundSource>>
-    ensures only { IfOk result (λ found. IfSome found (λ place. bound.now.tables ≡ place ∷ [])) }
-    ensures plain { IfOk result (λ found. IfSome found (λ place. row_by_row bound.now.reading ≡ true)) }
+    ensures is { IfOk result (λ found. IfSome found (IsStreamed (tables_of catalog.now) bound.now)) }
+    ensures only { IfOk result (λ found. IfNone found (IsLoaded (tables_of catalog.now) bound.now)) }
     ensures refused { IfErr result (λ fault. fault ≡ Fault.Memory) }
 {
     let [place] = bound.tables.as_slice() else {
@@ -165,10 +165,9 @@ pub(crate) fn bound_rows<P: Pages>(
     catalog: &Catalog,
     bound: &BoundReading,
 ) -> R<Rows>
-    ensures answered { (db : Database) → IsTrue (P.Pages.tells (P.Pages.below pages.old))
-        → Stores (P.Pages.map pages.old) (P.Pages.limits (P.Pages.below pages.old)).page (tables_of catalog.now) db
-        → ArePlaced (tables_of catalog.now) bound.now.reading.sources bound.now.tables
-        → AnswersOrFails (λ rows. map values_of rows.items) (answer_of db [] bound.now.reading) result }
+    ensures answered { IsTrue (P.Pages.tells (P.Pages.below pages.old))
+        → AnswersBound (λ rows. map values_of rows.items) (P.Pages.map pages.old) (P.Pages.limits (P.Pages.below pages.old)).page
+        (tables_of catalog.now) bound.now result }
     ensures wide { IfOk result (λ rows. HaveWidth (length bound.now.reading.results) (map values_of rows.items)) }
     ensures stays { Stays P.Pages.below P.Pages.map P.Pages.count P.Pages.failures result pages.old pages.new }
 {

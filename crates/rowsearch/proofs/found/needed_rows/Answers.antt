@@ -1,7 +1,13 @@
+use Rattle.std.proofs.Common.{◌≡◌, None, Option, refl, rules, subst}
+use Rattle.terms.specs.Terms.{Term}
+use Rattle.rowsearch.specs.Found.{FindsNeeded}
 use Rattle.rowsearch.proofs.FoundRows.{all_needed}
 use Rattle.rowsearch.proofs.found.needed_rows.Goals as goal
 
 pub returns-in-None-clause-loaded : goal.returns-in-None-clause-loaded
 returns-in-None-clause-loaded g c = λ told.
-    all_needed (g.P.Pages.map c.args.pages.now) (g.P.Pages.limits (g.P.Pages.below c.args.pages.now)).page c.args.table c.args.indexes.now
-    c.args.condition.now c.source_rows.result (c.source_rows.ensures.loaded told)
+    (let pages = g.P.Pages.map c.args.pages.now in
+    let size = (g.P.Pages.limits (g.P.Pages.below c.args.pages.now)).page in
+    let none : None ≡ c.args.condition.now = search rules in
+    subst (λ (condition : Option Term). FindsNeeded pages size c.args.table c.args.indexes.now condition c.source_rows.result) none
+    (all_needed pages size c.args.table c.args.indexes.now None (λ all. refl) c.source_rows.result (c.source_rows.ensures.loaded told)))

@@ -5,7 +5,7 @@ use Rattle.storage.proofs.StreamedRows.{bound_over}
 use Rattle.storage.proofs.reading.bound_rows.Goals as goal
 
 pub returns-in-Some-clause-answered : goal.returns-in-Some-clause-answered
-returns-in-Some-clause-answered g c db told stored placed =
+returns-in-Some-clause-answered g c told db stored placed =
     let bound = c.args.bound.now in
     let only : bound.tables ≡ c.in-Some.place ∷ [] = search rules in
     bound_over (λ rows. map values_of rows.items) c.rows_are_loaded_beside_conditions.ensures (g.P.Pages.map c.args.pages.now) (g.P.Pages.limits (g.P.Pages.below c.args.pages.now)).page

@@ -11,7 +11,7 @@ use Rattle.storage.proofs.LoadedSources.{rows_answered}
 use Rattle.storage.proofs.reading.loaded_rows.Goals as goal
 
 pub returns-in_err-sources-clause-answered : goal.returns-in_err-sources-clause-answered
-returns-in_err-sources-clause-answered g c db told stored placed =
+returns-in_err-sources-clause-answered g c told db stored placed =
     let bound = c.args.bound.now in
     let pages = g.P.Pages.map c.args.pages.now in
     let size = (g.P.Pages.limits (g.P.Pages.below c.args.pages.now)).page in
@@ -22,7 +22,7 @@ returns-in_err-sources-clause-answered g c db told stored placed =
     (c.in_err-sources.ensures.loaded told stored.rows_at have)
 
 pub returns-clause-answered : goal.returns-clause-answered
-returns-clause-answered g c db told stored placed =
+returns-clause-answered g c told db stored placed =
     let bound = c.args.bound.now in
     let pages = g.P.Pages.map c.args.pages.now in
     let size = (g.P.Pages.limits (g.P.Pages.below c.args.pages.now)).page in

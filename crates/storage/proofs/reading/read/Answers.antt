@@ -20,4 +20,4 @@ returns-clause-answered g c db told stored =
     let bound = c.in_ok-bound.bound in
     bound_read (λ rows. map values_of rows.items) (answer_of db [] bound.reading) (read_on db c.args.query.now) c.bound_rows.result
     (ap (known_map (answer_of db [])) (c.in_ok-bound.ensures.named (look_up db) (known_listed stored.rows_at tables db stored.of_tables.lists)))
-    (c.bound_rows.ensures.answered db told stored c.in_ok-bound.ensures.placed)
+    (c.bound_rows.ensures.answered told db stored c.in_ok-bound.ensures.placed)
