@@ -1,7 +1,7 @@
 #!/usr/bin/env python3
-"""Proves the libraries below a crate, side by side, those with the longest chain above them first.
+"""Proves the libraries below a crate, side by side, those with the longest chain above them first, and a program over them.
 
-usage: tools/prove.py NAME     says how far it is on standard error; each library's log is crates/LIBRARY/out/build.log
+usage: tools/prove.py NAME     says how far it is on standard error; each crate's log is crates/CRATE/out/build.log
 
 The work is that of the kit's own `rt`, whose functions this loads: what is proved is kept in out/, and what was proved
 before isn't proved again.
@@ -72,7 +72,28 @@ def prove(libraries):
     return all(given.values())
 
 
+def is_of(program, stamp):
+    """Whether a program is there that was made of the sources with this sum."""
+    return os.path.isfile(program) and rt.rtlib.text_of(f"{program}.stamp") in (stamp, stamp + rt.rtlib.sum_of(program))
+
+
+def make(program):
+    """Proves and compiles a program over its libraries, which are proved, and returns whether it could."""
+    say(f"the program: {program.name}")
+    os.makedirs(f"{program.folder}/out", exist_ok=True)
+    held = rt.rtlib.lock([program])
+    with open(f"{program.folder}/out/build.log", "w", errors="replace") as program.out:
+        failed = program.run(["--jobs", str(os.cpu_count())], ["--help"])
+    if failed:
+        say(f"{program.name}: not built: see {program.out.name}")
+    for it in held:
+        os.close(it)
+    return not failed
+
+
 if __name__ == "__main__":
     if len(sys.argv) != 2 or sys.argv[1] not in crates():
         sys.exit(__doc__)
-    sys.exit(not prove(crates()[sys.argv[1]].below()))
+    wanted = crates()[sys.argv[1]]
+    is_made = wanted.is_program and is_of(f"{wanted.folder}/out/{wanted.name}", wanted.stamp())
+    sys.exit(not (is_made or prove(wanted.below()) and (not wanted.is_program or make(wanted))))
