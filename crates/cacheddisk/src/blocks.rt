@@ -1,6 +1,6 @@
 //! Blocks that were read, each in the place that its offset has.
 
-ghost use Rattle.std.specs.Prelude.{◌≡◌, ◌+◌, ◌<◌, ◌≤◌, ℕ, List, length, take, drop, IfSome};
+ghost use Rattle.std.specs.Prelude.{◌≡◌, ◌+◌, ◌/◌, ◌%◌, ◌<◌, ◌≤◌, ℕ, List, length, max, take, drop, IfSome};
 ghost use Rattle.cacheddisk.specs.Kept.{AreKept, IsKept};
 
 use std::alloc::Global;
@@ -12,12 +12,13 @@ pub struct Block {
     pub bytes: Vec<u8>,
 }
 
-/// The place of an offset among so many.
-fn place_of(at: u64, count: usize) -> usize
+/// The place among so many of what begins at an offset and has this length: pages of one size that follow each other have places that do.
+fn place_of(at: u64, len: usize, count: usize) -> usize
     requires { 0 < count }
-    ensures { result < count }
+    ensures within { result < count }
+    ensures place { result ≡ at / max len 1 % count }
 {
-    (at / 512 % count as u64) as usize
+    (at / (len as u64).max(1) % count as u64) as usize
 }
 
 /// The bytes of a block, if it begins at this offset and is of this length.
@@ -39,7 +40,7 @@ pub fn find(blocks: &[Block], at: u64, len: usize) -> Option<&[u8]>
     if blocks.len() == 0 {
         return None;
     }
-    bytes_of(&blocks[place_of(at, blocks.len())], at, len)
+    bytes_of(&blocks[place_of(at, len, blocks.len())], at, len)
 }
 
 /// How far an offset is from another, if it isn't before it.
@@ -96,7 +97,8 @@ pub fn renew(block: &mut Block, at: u64, bytes: &[u8])
 
 /// Adds a block without bytes, and answers whether there was memory for it.
 fn add_blank(alloc: Global, blocks: &mut Vec<Block>) -> bool
-    ensures { (content : List ℕ) (end : ℕ) → AreKept content end blocks.old.items → AreKept content end blocks.new.items }
+    ensures few { length blocks.new.items ≤ length blocks.old.items + 1 }
+    ensures kept { (content : List ℕ) (end : ℕ) → AreKept content end blocks.old.items → AreKept content end blocks.new.items }
 {
     let block = Block {
         at: 0,
@@ -107,7 +109,8 @@ fn add_blank(alloc: Global, blocks: &mut Vec<Block>) -> bool
 
 /// Adds blocks without bytes, as many as there is memory for, but at most so many.
 fn fill(alloc: Global, blocks: &mut Vec<Block>, count: usize)
-    ensures { (content : List ℕ) (end : ℕ) → AreKept content end blocks.old.items → AreKept content end blocks.new.items }
+    ensures few { length blocks.new.items ≤ length blocks.old.items + count }
+    ensures kept { (content : List ℕ) (end : ℕ) → AreKept content end blocks.old.items → AreKept content end blocks.new.items }
 {
     'blocks: for _ in 0..count {
         if !add_blank(alloc, blocks) {
@@ -118,18 +121,20 @@ fn fill(alloc: Global, blocks: &mut Vec<Block>, count: usize)
 
 /// Puts a block in the place of its offset.
 fn put(blocks: &mut Vec<Block>, block: Block)
-    ensures { (content : List ℕ) (end : ℕ) → AreKept content end blocks.old.items → IsKept content end block → AreKept content end blocks.new.items }
+    ensures few { length blocks.new.items ≡ length blocks.old.items }
+    ensures kept { (content : List ℕ) (end : ℕ) → AreKept content end blocks.old.items → IsKept content end block → AreKept content end blocks.new.items }
 {
     let count = blocks.len();
     if count > 0 {
-        let place = place_of(block.at, count);
+        let place = place_of(block.at, block.bytes.len(), count);
         blocks[place] = block;
     }
 }
 
 /// Adds blocks where there are none.
 fn prepare(alloc: Global, blocks: &mut Vec<Block>, count: usize)
-    ensures { (content : List ℕ) (end : ℕ) → AreKept content end blocks.old.items → AreKept content end blocks.new.items }
+    ensures few { length blocks.new.items ≤ max (length blocks.old.items) count }
+    ensures kept { (content : List ℕ) (end : ℕ) → AreKept content end blocks.old.items → AreKept content end blocks.new.items }
 {
     if blocks.len() == 0 {
         fill(alloc, blocks, count);
@@ -138,7 +143,8 @@ fn prepare(alloc: Global, blocks: &mut Vec<Block>, count: usize)
 
 /// Keeps bytes that were read from an offset on, if there is memory for them. At most so many blocks are kept.
 pub fn keep(alloc: Global, blocks: &mut Vec<Block>, count: usize, at: u64, bytes: &[u8])
-    ensures { (content : List ℕ) (end : ℕ) → AreKept content end blocks.old.items → at + length bytes.now ≤ end
+    ensures few { length blocks.new.items ≤ max (length blocks.old.items) count }
+    ensures kept { (content : List ℕ) (end : ℕ) → AreKept content end blocks.old.items → at + length bytes.now ≤ end
         → bytes.now ≡ take (length bytes.now) (drop at content) → AreKept content end blocks.new.items }
 {
     prepare(alloc, blocks, count);

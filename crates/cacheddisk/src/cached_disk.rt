@@ -123,6 +123,7 @@ impl<D: Disk> CachedDisk<D> {
     fn keep_before(&mut self, at: u64)
         ensures same { below self.new ≡ below self.old }
         ensures before { self.new.end ≤ at }
+        ensures kept { self.old.end ≤ at → self.new ≡ self.old }
     {
         if at < self.end {
             self.forget();
