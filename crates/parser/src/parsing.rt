@@ -46,7 +46,9 @@ pub fn parse(alloc: Global, text: &str) -> R<Statement>
 
 /// Lets a statement go. It is proved here, once, that this can be done with a tree of any kind; a crate that lets one go
 /// in place proves it again.
-pub fn release(_statement: Statement) {}
+pub fn release(statement: Statement) {
+    drop(statement)
+}
 
 fn fault(refusal: Refusal, text: &str, spelled: SourceTokens<'_>) -> Fault
     requires { Stand 0 text.now spelled.now }
