@@ -1,10 +1,8 @@
 -- A checkpoint is a step of the machine.
-use Rattle.std.proofs.Common.{◌≡◌, ◌⊎◌, ◌∙◌, ◌≤◌, inl, inr, refl, sym, ap, subst, ℕ, ◌-◌, List, [], ◌∷◌, Bool, true, false, map, arith}
-use Rattle.std.specs.Prelude.{⊤, ◌||◌, not, pos, Result, Ok, Err, OnOk, IfOk, IfErr, IsFalse, Vec, slice_set, if◌then◌else◌}
+use Rattle.std.proofs.Common.{◌≡◌, ◌⊎◌, ◌∙◌, inl, inr, refl, sym, ap, subst, ℕ, ◌-◌, List, [], ◌∷◌, Bool, true, false, arith}
+use Rattle.std.specs.Prelude.{◌||◌, pos, Result, Ok, Err, slice_set, if◌then◌else◌}
 use Rattle.std.specs.List.{list_any}
-use Rattle.std.specs.declared.alloc.Global.{Global}
 use Rattle.std.proofs.lemmas.Bool.{false≢true}
-use Rattle.smallvec.specs.SmallVec.{SmallVec}
 use Rattle.disk.proofs.Moments.{throughout_both}
 use Rattle.disk.specs.declared.device.Disk.{Ghosts}
 use Rattle.sqlval.specs.Refusals as refusal
@@ -18,21 +16,18 @@ use Rattle.syntax.specs.declared.statement.CheckpointMode.TheVariants as modes
 use Rattle.syntax.specs.declared.statement.Statement.{Statement}
 use Rattle.syntax.specs.declared.statement.Statement.TheVariants as statement
 use Rattle.catalog.specs.Database.{Database}
-use Rattle.catalog.specs.declared.tables.Table.{Table}
-use Rattle.rowprog.specs.Rows.{values_of}
-use Rattle.wal.specs.LogState.{db_of, log_of, state_of}
+use Rattle.wal.specs.LogState.{db_of, log_of}
 use Rattle.wal.specs.declared.log.Log.{Log}
 use Rattle.pager.specs.Views.{View, ViewHas, newest_view, view_at}
 use Rattle.checkpoint.specs.declared.checkpoints.Counts.{Counts}
 use Rattle.checkpoint.specs.Shown.{Checkpoints, IsCheckpointRefusal, MayCopy}
-use Rattle.session.specs.Checkpoints.{CopiesAfter, CopiesBack, IsCount, KeepsSeats, is_kept, may_restart, numbers_of}
+use Rattle.session.specs.Checkpoints.{CopiesAfter, CopiesBack, IsCount, KeepsSeats, may_restart, numbers_of}
 use Rattle.session.specs.ConnectionState.{files_of, has_failed_in, is_io}
 use Rattle.session.specs.Crashes.{MayShow}
 use Rattle.session.specs.Holding.{HoldThroughout, IsLeftBy, LeaveHeld}
-use Rattle.session.specs.Machine.{Machine, Connection, Idle, InTransactionOf, Reply, Rows, Refused, another, connection, has_snapshot, newest}
+use Rattle.session.specs.Machine.{Machine, Connection, Idle, InTransactionOf, Rows, Refused, another, connection, has_snapshot, newest}
 use Rattle.session.specs.Outcomes.{Copies, RefusedBy, outcome}
-use Rattle.session.specs.Representation.{AreParked, Beside, IsTransaction, RepresentsRunning, ShowTheSame, StepsOn, StepsTo, beside_in, is_idle, newest_tables, rows_reply}
-use Rattle.session.specs.SavedTables.{IsUnchanged}
+use Rattle.session.specs.Representation.{AreParked, Beside, IsTransaction, RepresentsRunning, ShowTheSame, StepsOn, StepsTo, beside_in, is_idle, newest_tables}
 use Rattle.session.specs.Seats.{holds_snapshot, sees_snapshot}
 use Rattle.session.specs.Steps.{Allowed, fails, is_connection}
 use Rattle.session.specs.Stored.{ShowsDatabase}
@@ -164,21 +159,14 @@ module _ {D : Type 0} {g : Ghosts D} where
             sole = shown.sole;
           }
 
-      pub answered : (counts : Counts) (rows : Result (Vec (SmallVec Value) Global) Fault) → IsCount mode others counts → IfOk rows (λ r. map values_of r.items ≡ numbers_of counts ∷ []) → IfErr rows (λ f. f ≡ fault.Memory)
-          → StepsTo old m (statement.Checkpoint mode) (rows_reply rows) new
-      answered counts (Ok rows) count one refused = record {
+      pub answered : (counts : Counts) (rows : List (List Value)) → IsCount mode others counts → rows ≡ numbers_of counts ∷ [] → StepsTo old m (statement.Checkpoint mode) (Rows rows) new
+      answered counts rows count one = record {
         next = m;
-        step = by_outcome m old.connection (statement.Checkpoint mode) refl shown.running shown.numbered (Copies mode) (Rows (map values_of rows.items)) m outcome_is
-            (answer_allowed m old.connection mode others counts (map values_of rows.items) (others_so (files_of old) m.history old.parked.items ks shown.parked) count one);
+        step = by_outcome m old.connection (statement.Checkpoint mode) refl shown.running shown.numbered (Copies mode) (Rows rows) m outcome_is
+            (answer_allowed m old.connection mode others counts rows (others_so (files_of old) m.history old.parked.items ks shown.parked) count one);
         shown = inr copied_shown;
         crash = held (MayShow m m) (inl refl);
       }
-      answered counts (Err f) count one refused = subst (λ (e : Fault). StepsTo old m (statement.Checkpoint mode) (Refused (refusal_of e)) new) (sym refused) (record {
-        next = m;
-        step = instead m old.connection (statement.Checkpoint mode) refl shown.running shown.numbered (Copies mode) (Refused refusal.Memory) outcome_is (inl refl, refl);
-        shown = inr copied_shown;
-        crash = held (MayShow m m) (inl refl);
-      })
 
     -- what is left where a call of a disk has failed
     left_failed : IsLeftBy (files_of new) (fails m)
@@ -235,12 +223,11 @@ module _ {D : Type 0} {g : Ghosts D} where
 
   -- ---- the call
 
-  pub checkpoint_done : (old new : Connections D g) (mode : CheckpointMode) (counts : Counts) (rows : Result (Vec (SmallVec Value) Global) Fault) → is_idle old.transaction ≡ true → KeepsSeats (Ok counts) old new
-      → CopiesBack mode old.parked.items (files_of old) (Ok counts) (files_of new) → IfOk rows (λ r. map values_of r.items ≡ numbers_of counts ∷ []) → IfErr rows (λ f. f ≡ fault.Memory)
-      → StepsOn old (statement.Checkpoint mode) (rows_reply rows) new
-  checkpoint_done old new mode counts rows idle seats copies one refused m shown =
+  pub checkpoint_done : (old new : Connections D g) (mode : CheckpointMode) (counts : Counts) (rows : List (List Value)) → is_idle old.transaction ≡ true → KeepsSeats (Ok counts) old new
+      → CopiesBack mode old.parked.items (files_of old) (Ok counts) (files_of new) → rows ≡ numbers_of counts ∷ [] → StepsOn old (statement.Checkpoint mode) (Rows rows) new
+  checkpoint_done old new mode counts rows idle seats copies one m shown =
       answered old new m mode shown idle (Ok counts) copies seats.transaction seats.catalog seats.beside
-      (copies.done (may_now old new m mode shown idle (Ok counts) copies seats.transaction seats.catalog)) counts rows copies.answer one refused
+      (copies.done (may_now old new m mode shown idle (Ok counts) copies seats.transaction seats.catalog)) counts rows copies.answer one
 
   pub checkpoint_failed : (old new : Connections D g) (mode : CheckpointMode) (f : Fault) → is_idle old.transaction ≡ true → KeepsSeats (Err f) old new → CopiesBack mode old.parked.items (files_of old) (Err f) (files_of new)
       → StepsOn old (statement.Checkpoint mode) (Refused (refusal_of f)) new

@@ -1,7 +1,6 @@
 //! Checkpoints of the connections' log.
 
-ghost use Rattle.std.specs.Prelude.{◌≡◌, ◌∷◌, [], false, map, IfErr, IfOk};
-ghost use Rattle.sqlval.specs.declared.fault.Fault.TheVariants.{Memory};
+ghost use Rattle.std.specs.Prelude.{◌≡◌, ◌<◌, ◌∷◌, ◌++◌, [], false, length, map, vec_capacity};
 ghost use Rattle.rowprog.specs.Rows.{values_of};
 ghost use Rattle.session.specs.Checkpoints.{CopiesBack, numbers_of};
 ghost use Rattle.session.specs.ConnectionState.{HasCause};
@@ -36,23 +35,29 @@ pub fn copy_frames<D: Disk + Drop>(
 }
 
 /// The row that a checkpoint answers.
-fn row_of(alloc: Global, counts: Counts) -> R<Row>
-    ensures numbers { IfOk result (λ row. values_of row ≡ numbers_of counts) }
-    ensures refused { IfErr result (λ fault. fault ≡ Memory) }
+fn row_of(alloc: Global, counts: Counts) -> Row
+    ensures { values_of result ≡ numbers_of counts }
 {
-    let mut row = SmallVec::new(alloc);
-    row.push(Value::Int(i64::from(counts.is_blocked)))?;
-    row.push(Value::Int(i64::from(counts.frames)))?;
-    row.push(Value::Int(i64::from(counts.copied)))?;
-    Ok(row)
+    let blocked = Value::Int(i64::from(counts.is_blocked));
+    let frames = Value::Int(i64::from(counts.frames));
+    let copied = Value::Int(i64::from(counts.copied));
+    let values = [
+        blocked,
+        frames,
+        copied,
+        Value::Null,
+        Value::Null,
+        Value::Null,
+        Value::Null,
+        Value::Null,
+    ];
+    SmallVec::from_buf_and_len(alloc, values, 3)
 }
 
-/// The rows that a checkpoint answers: one. (`Memory`.)
-pub fn rows_of(alloc: Global, counts: Counts) -> R<Rows>
-    ensures one { IfOk result (λ rows. map values_of rows.items ≡ numbers_of counts ∷ []) }
-    ensures refused { IfErr result (λ fault. fault ≡ Memory) }
+/// Adds the row that a checkpoint answers to rows that have room for it.
+pub fn put_counts(alloc: Global, rows: &mut Rows, counts: Counts)
+    requires { length rows.old.items < vec_capacity rows.old }
+    ensures { map values_of rows.new.items ≡ map values_of rows.old.items ++ numbers_of counts ∷ [] }
 {
-    let mut rows = Vec::new(alloc);
-    rows.push(row_of(alloc, counts)?)?;
-    Ok(rows)
+    rows.push_reserved(row_of(alloc, counts));
 }

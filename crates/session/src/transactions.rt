@@ -22,7 +22,7 @@ ghost use Rattle.session.specs.Applying.{CommitsThen, EndsAlone, Applies, CanApp
 ghost use Rattle.session.specs.Changing.{written};
 
 use crate::changes::{Write, apply, write_of};
-use crate::checkpoints::{copy_frames, rows_of};
+use crate::checkpoints::{copy_frames, put_counts};
 use crate::forms::is_supported;
 use crate::marks::{go_back, let_go, mark_times, save_marked};
 use crate::reads::{Sight, read};
@@ -434,7 +434,8 @@ impl<D: Disk + Drop> Connections<D> {
         }
     }
 
-    /// Copies the log's frames into the database file, and begins the log anew or cuts it to nothing as the mode has it.
+    /// Copies the log's frames into the database file, and begins the log anew or cuts it to nothing as the mode has it. The answer's memory is
+    /// taken first, so that nothing changes where there is none.
     fn checkpoint(&mut self, mode: CheckpointMode) -> R<Rows>
         ensures cause { HasCauseIn false result self.old self.new }
         ensures marks { MarksFailure result self.old self.new }
@@ -444,8 +445,10 @@ impl<D: Disk + Drop> Connections<D> {
         if !self.is_idle() {
             return Err(Fault::InTransaction);
         }
+        let mut rows = Vec::with_capacity(self.alloc, 1)?;
         let counts = self.copy_back(mode)?;
-        rows_of(self.alloc, counts)
+        put_counts(self.alloc, &mut rows, counts);
+        Ok(rows)
     }
 
     /// The same of the files alone. After `Io` every statement is refused.
