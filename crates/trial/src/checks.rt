@@ -68,13 +68,7 @@ impl Script {
     }
 
     /// Runs the statements where a file has this schedule.
-    fn run(
-        &self,
-        alloc: Global,
-        which: Which,
-        schedule: Schedule,
-        later_lines: &[&str],
-    ) -> R<Run> {
+    fn run(&self, alloc: Global, which: Which, schedule: Schedule, later_lines: &[&str]) -> R<Run> {
         let schedules = Schedules::of(which, schedule);
         run(alloc, &self.start, schedules, &self.statements, later_lines)
     }
@@ -123,8 +117,9 @@ impl Script {
         let contents = left.disks.newest(alloc)?;
         let shown = shown(alloc, &contents, self.query.as_str())?;
         let holds = match self.state_of(&left, &shown) {
-            Some(_) if left.later.as_slice() == FAILED =>
-                self.survives_openings(alloc, &contents, &shown)?,
+            Some(_) if left.later.as_slice() == FAILED => self.survives_openings(
+                alloc, &contents, &shown,
+            )?,
             Some(number) => {
                 number == left.answered && (!left.is_open || left.later.starts_with(SERVED))
             }

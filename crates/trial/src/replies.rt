@@ -44,11 +44,13 @@ pub fn shown(alloc: Global, contents: &Contents, query: &str) -> R<Vec<u8>> {
             let mut database = database;
             put_answer(alloc, &mut out, &mut database, query)?;
         }
-        Err(Refused {
-            fault,
-            db: _,
-            log: _,
-        }) => {
+        Err(
+            Refused {
+                fault,
+                db: _,
+                log: _,
+            },
+        ) => {
             out.extend_from_slice(b"not opened: ")?;
             put_reply(alloc, &mut out, &Err(fault))?;
         }

@@ -95,11 +95,7 @@ pub fn run(
 }
 
 /// The files after an opening of copies with this schedule.
-pub fn disks_after_opening(
-    alloc: Global,
-    contents: &Contents,
-    schedules: Schedules,
-) -> R<Disks> {
+pub fn disks_after_opening(alloc: Global, contents: &Contents, schedules: Schedules) -> R<Disks> {
     match open(alloc, contents, schedules)? {
         Ok(database) => Ok(closed(database)),
         Err(Refused { fault: _, db, log }) => Ok(Disks { db, log }),

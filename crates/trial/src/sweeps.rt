@@ -71,8 +71,7 @@ fn put_breach(alloc: Global, out: &mut Vec<u8>, call: u64, breach: &Breach) -> R
     let db = breach.ways.db.word();
     let log = breach.ways.log.word();
     let answered = breach.answered;
-    let line = format!(
-        in alloc;
+    let line = format!(in alloc;
         "call {call}: {db} {log}: {answered} statements were answered, and the files show:\n"
     )?;
     out.extend_from_slice(line.as_bytes())?;
@@ -116,13 +115,7 @@ fn put_calls(
 
 /// Sweeps over each call of a file that statements make, on copies of files, and writes what it finds.
 pub fn put_sweep(alloc: Global, out: &mut Vec<u8>, start: Contents, sweep: Sweep) -> R<()> {
-    let healthy = run(
-        alloc,
-        &start,
-        Schedules::HEALTHY,
-        &sweep.statements,
-        &[],
-    )?;
+    let healthy = run(alloc, &start, Schedules::HEALTHY, &sweep.statements, &[])?;
     if healthy.answered < sweep.statements.len() {
         let answered = healthy.answered;
         let line = format!(in alloc; "a statement was refused after {answered} others\n")?;

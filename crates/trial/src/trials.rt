@@ -192,7 +192,9 @@ impl Trial {
     /// Closes the database, and lets both files become what a crash leaves.
     fn crash(&mut self, db: &Picks, log: &Picks) -> R<()> {
         self.close();
-        let left = self.disks.crashed(self.alloc, db.as_slice(), log.as_slice())?;
+        let left = self
+            .disks
+            .crashed(self.alloc, db.as_slice(), log.as_slice())?;
         self.replace(&left)
     }
 
