@@ -2,7 +2,7 @@
 
 use crate::files::{Contents, Schedule, Schedules, Which};
 use crate::replies::shown;
-use crate::runs::{Run, disks_after_opening, run};
+use crate::runs::{Run, disks_after_opening, run_statements};
 use crate::ways::{WAYS, Way, Ways};
 use sqlval::R;
 use std::alloc::Global;
@@ -70,7 +70,7 @@ impl Script {
     /// Runs the statements where a file has this schedule.
     fn run(&self, alloc: Global, which: Which, schedule: Schedule, later_lines: &[&str]) -> R<Run> {
         let schedules = Schedules::of(which, schedule);
-        run(alloc, &self.start, schedules, &self.statements, later_lines)
+        run_statements(alloc, &self.start, schedules, &self.statements, later_lines)
     }
 
     /// What the files show after a crash in these ways, if it is neither what the answered statements leave nor one more.

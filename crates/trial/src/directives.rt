@@ -51,22 +51,22 @@ pub enum Directive {
 }
 
 /// The directive of a line, or nothing if it is none.
-pub fn directive(alloc: Global, line: &str) -> R<Option<Directive>> {
+pub fn directive_of(alloc: Global, line: &str) -> R<Option<Directive>> {
     let (name, rest) = match line.split_once(' ') {
         Some(parts) => parts,
-        None => return Ok(plain(line)),
+        None => return Ok(plain_of(line)),
     };
     match name {
-        ".crash" => crash(alloc, rest),
-        ".sweep" => sweep(alloc, rest),
-        ".create" => Ok(create(rest)),
-        ".details" => Ok(details(rest)),
+        ".crash" => crash_of(alloc, rest),
+        ".sweep" => sweep_of(alloc, rest),
+        ".create" => Ok(create_of(rest)),
+        ".details" => Ok(details_of(rest)),
         _ => Ok(of_file(name, rest)),
     }
 }
 
 /// The directive of a word that stands alone.
-fn plain(word: &str) -> Option<Directive> {
+fn plain_of(word: &str) -> Option<Directive> {
     match word {
         ".open" => Some(Directive::Open),
         ".len" => Some(Directive::Lengths),
@@ -77,7 +77,7 @@ fn plain(word: &str) -> Option<Directive> {
 }
 
 /// `.create` with a size.
-fn create(size: &str) -> Option<Directive> {
+fn create_of(size: &str) -> Option<Directive> {
     match size.parse::<u32>() {
         Ok(size) => Some(Directive::Create(size)),
         Err(_) => None,
@@ -85,7 +85,7 @@ fn create(size: &str) -> Option<Directive> {
 }
 
 /// `.details` with a word.
-fn details(word: &str) -> Option<Directive> {
+fn details_of(word: &str) -> Option<Directive> {
     match word {
         "on" => Some(Directive::Details),
         _ => None,
@@ -108,12 +108,12 @@ fn of_file(name: &str, rest: &str) -> Option<Directive> {
 }
 
 /// `.crash` with two ways.
-fn crash(alloc: Global, rest: &str) -> R<Option<Directive>> {
+fn crash_of(alloc: Global, rest: &str) -> R<Option<Directive>> {
     let Some((first, second)) = rest.split_once(' ') else {
         return Ok(None);
     };
-    let db = picks(alloc, first)?;
-    let log = picks(alloc, second)?;
+    let db = picks_of(alloc, first)?;
+    let log = picks_of(alloc, second)?;
     match (db, log) {
         (Some(db), Some(log)) => Ok(Some(Directive::Crash(db, log))),
         _ => Ok(None),
@@ -121,7 +121,7 @@ fn crash(alloc: Global, rest: &str) -> R<Option<Directive>> {
 }
 
 /// The picks of a way, or of numbers between commas.
-fn picks(alloc: Global, text: &str) -> R<Option<Picks>> {
+fn picks_of(alloc: Global, text: &str) -> R<Option<Picks>> {
     if let Some(way) = Way::from_word(text) {
         return Ok(Some(Picks::By(way)));
     }
@@ -136,7 +136,7 @@ fn picks(alloc: Global, text: &str) -> R<Option<Picks>> {
 }
 
 /// `.sweep` with a kind, a file and a query.
-fn sweep(alloc: Global, rest: &str) -> R<Option<Directive>> {
+fn sweep_of(alloc: Global, rest: &str) -> R<Option<Directive>> {
     let Some((kind, which, query)) = sweep_parts(rest) else {
         return Ok(None);
     };

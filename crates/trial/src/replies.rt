@@ -1,7 +1,7 @@
 //! The replies to lines.
 
 use crate::files::{Contents, Database, Schedules, open};
-use engine::{Refused, put_reply};
+use engine::put_reply;
 use sqlval::{Fault, R};
 use std::alloc::Global;
 
@@ -36,24 +36,26 @@ pub fn put_answer(
     Ok(reply.err())
 }
 
+/// Writes the reply to a query, and closes the database.
+fn put_query(alloc: Global, out: &mut Vec<u8>, database: Database, query: &str) -> R<()> {
+    let mut database = database;
+    put_answer(alloc, out, &mut database, query)?;
+    Ok(())
+}
+
+/// Writes why files are refused.
+fn put_refused(alloc: Global, out: &mut Vec<u8>, fault: Fault) -> R<()> {
+    out.extend_from_slice(b"not opened: ")?;
+    put_reply(alloc, out, &Err(fault))?;
+    Ok(())
+}
+
 /// What files show: the reply to a query after they were opened, or why they are refused.
 pub fn shown(alloc: Global, contents: &Contents, query: &str) -> R<Vec<u8>> {
     let mut out = Vec::new(alloc);
     match open(alloc, contents, Schedules::HEALTHY)? {
-        Ok(database) => {
-            let mut database = database;
-            put_answer(alloc, &mut out, &mut database, query)?;
-        }
-        Err(
-            Refused {
-                fault,
-                db: _,
-                log: _,
-            },
-        ) => {
-            out.extend_from_slice(b"not opened: ")?;
-            put_reply(alloc, &mut out, &Err(fault))?;
-        }
+        Ok(database) => put_query(alloc, &mut out, database, query)?,
+        Err(refused) => put_refused(alloc, &mut out, refused.fault)?,
     }
     Ok(out)
 }

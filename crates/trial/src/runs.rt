@@ -75,7 +75,7 @@ fn run_open(
 }
 
 /// Opens copies of files, and runs statements on them until one is refused, then the later lines.
-pub fn run(
+pub fn run_statements(
     alloc: Global,
     contents: &Contents,
     schedules: Schedules,

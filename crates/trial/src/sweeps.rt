@@ -3,7 +3,7 @@
 use crate::checks::{Breach, Script};
 use crate::files::{Contents, Schedules, Which};
 use crate::replies::shown;
-use crate::runs::run;
+use crate::runs::run_statements;
 use sqlval::R;
 use std::alloc::Global;
 
@@ -46,7 +46,7 @@ fn states(alloc: Global, start: &Contents, sweep: &Sweep) -> R<Vec<Vec<u8>>> {
     found.push(shown(alloc, start, query)?)?;
     for last in 0..sweep.statements.len() {
         let front = sweep.statements.get(..=last).unwrap_or(&[]);
-        let left = run(alloc, start, Schedules::HEALTHY, front, &[])?;
+        let left = run_statements(alloc, start, Schedules::HEALTHY, front, &[])?;
         found.push(shown(alloc, &left.disks.newest(alloc)?, query)?)?;
     }
     Ok(found)
@@ -115,7 +115,7 @@ fn put_calls(
 
 /// Sweeps over each call of a file that statements make, on copies of files, and writes what it finds.
 pub fn put_sweep(alloc: Global, out: &mut Vec<u8>, start: Contents, sweep: Sweep) -> R<()> {
-    let healthy = run(alloc, &start, Schedules::HEALTHY, &sweep.statements, &[])?;
+    let healthy = run_statements(alloc, &start, Schedules::HEALTHY, &sweep.statements, &[])?;
     if healthy.answered < sweep.statements.len() {
         let answered = healthy.answered;
         let line = format!(in alloc; "a statement was refused after {answered} others\n")?;

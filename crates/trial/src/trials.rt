@@ -1,6 +1,6 @@
 //! Scripts: lines one by one.
 
-use crate::directives::{Directive, Picks, directive};
+use crate::directives::{Directive, Picks, directive_of};
 use crate::files::{Contents, Database, Disks, Schedules, Which, closed, created, open};
 use crate::replies::{put_answer, put_detail};
 use crate::sweeps::{Sweep, put_sweep};
@@ -76,7 +76,7 @@ impl Trial {
         if !line.starts_with('.') {
             return self.answer(out, line);
         }
-        match directive(self.alloc, line)? {
+        match directive_of(self.alloc, line)? {
             Some(directive) => self.follow(out, directive),
             None => put_line(out, "no directive"),
         }
