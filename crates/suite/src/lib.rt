@@ -2,14 +2,8 @@
 #![tactic(auto)]
 
 #[cfg(test)]
-mod checkpoint_crashes;
-#[cfg(test)]
-mod crashes;
+mod creating;
 #[cfg(test)]
 mod databases;
 #[cfg(test)]
 mod held_output;
-#[cfg(test)]
-mod same_files;
-#[cfg(test)]
-mod tree_crashes;
