@@ -6,23 +6,23 @@ use Rattle.std.specs.List.{list_all}
 use Rattle.std.proofs.lemmas.List.{take_all, take_at}
 use Rattle.std.proofs.Math.Nat.{pow-le-pow_right}
 use Rattle.sqlval.specs.declared.fault.Fault.{Fault}
-use Rattle.dbheader.specs.declared.fields.Header.{Header}
-use Rattle.dbheader.specs.Header.{IsHeader, empty_of, magic, part}
-use Rattle.page.specs.Leaf.{IsTableLeaf}
-use Rattle.page.specs.Writing.{leaf_of}
-use Rattle.page.proofs.BuiltLemmas.{leaf_built}
-use Rattle.tabletree.specs.SingleLeaf.{IsSingleLeaf}
+use Rattle.db_header.specs.declared.fields.Header.{Header}
+use Rattle.db_header.specs.Header.{IsHeader, empty_of, magic, part}
+use Rattle.tree_leaf.specs.Leaf.{IsTableLeaf}
+use Rattle.tree_leaf.specs.Writing.{leaf_of}
+use Rattle.tree_leaf.proofs.BuiltLemmas.{leaf_built}
+use Rattle.tree_table.specs.SingleLeaf.{IsSingleLeaf}
 use Rattle.wal.specs.Sizes.{IsSizeWithinLimits}
 use Rattle.wal.specs.View.{IsInFile}
 use Rattle.pager.specs.Views.{IsViewPage, View}
-use Rattle.dbheader.proofs.Fronts.{header_moves}
+use Rattle.db_header.proofs.Fronts.{header_moves}
 use Rattle.session.specs.Holding.{Hold}
 use Rattle.session.proofs.Standing.{held_if_stored}
 use Rattle.session.specs.Stored.{ShowsDatabase}
-use Rattle.stored.specs.Stored.{schema_tree}
-use Rattle.sharing.specs.Layout.{AreShared}
-use Rattle.tabletree.specs.Tree.{IsTableTree}
-use Rattle.tabletree.proofs.SinglePages.{own_tree}
+use Rattle.db_pages.specs.Stored.{schema_tree}
+use Rattle.db_layout.specs.Layout.{AreShared}
+use Rattle.tree_table.specs.Tree.{IsTableTree}
+use Rattle.tree_table.proofs.SinglePages.{own_tree}
 use Rattle.pages.specs.Counting.{fresh}
 use Rattle.pages.specs.Map.{Has, page_at}
 use Rattle.pager.specs.Maps.{pages_in}

@@ -3,10 +3,10 @@ use Rattle.std.proofs.Common.{◌≡◌, inl, inr, refl, sym, ap, subst, ◌∙�
 use Rattle.std.specs.Prelude.{Option}
 use Rattle.disk.specs.File.{File, IsSynced, Throughout, Version}
 use Rattle.disk.proofs.Moments.{run_weaker}
-use Rattle.dbheader.specs.Header.{IsHeader}
-use Rattle.dbheader.specs.declared.fields.Header.{Header}
-use Rattle.walframe.specs.Written.{Framed}
-use Rattle.walframe.specs.declared.log_header.LogHeader.{LogHeader}
+use Rattle.db_header.specs.Header.{IsHeader}
+use Rattle.db_header.specs.declared.fields.Header.{Header}
+use Rattle.wal_frame.specs.Written.{Framed}
+use Rattle.wal_frame.specs.declared.log_header.LogHeader.{LogHeader}
 use Rattle.wal.specs.Committed.{AreCommitted, HasCommits, frames_under}
 use Rattle.catalog.specs.Database.{Database}
 use Rattle.session.specs.Holding.{LeaveHeld, StoreFiles}

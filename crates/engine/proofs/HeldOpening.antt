@@ -6,15 +6,15 @@ use Rattle.disk.specs.declared.device.Disk.{Ghosts}
 use Rattle.disk.specs.File.{IsSynced}
 use Rattle.sqlval.specs.declared.fault.Fault.{Fault}
 use Rattle.sqlval.specs.declared.fault.Fault.TheVariants.{Memory, Io}
-use Rattle.dbheader.specs.Header.{IsHeader, counted_of}
-use Rattle.dbheader.specs.declared.fields.Header.{Header}
-use Rattle.walframe.specs.Accepted as accepted
-use Rattle.walframe.specs.Accepted.{head_at, heads_to}
-use Rattle.walframe.specs.Log.{header_in}
-use Rattle.walframe.specs.Written.{Framed}
-use Rattle.walframe.specs.declared.frame.FrameHeader.{FrameHeader}
-use Rattle.walframe.specs.declared.log_header.LogHeader.{LogHeader}
-use Rattle.walframe.specs.declared.log_header.Salts.{Salts}
+use Rattle.db_header.specs.Header.{IsHeader, counted_of}
+use Rattle.db_header.specs.declared.fields.Header.{Header}
+use Rattle.wal_frame.specs.Accepted as accepted
+use Rattle.wal_frame.specs.Accepted.{head_at, heads_to}
+use Rattle.wal_frame.specs.Log.{header_in}
+use Rattle.wal_frame.specs.Written.{Framed}
+use Rattle.wal_frame.specs.declared.frame.FrameHeader.{FrameHeader}
+use Rattle.wal_frame.specs.declared.log_header.LogHeader.{LogHeader}
+use Rattle.wal_frame.specs.declared.log_header.Salts.{Salts}
 use Rattle.wal.specs.Committed.{AreCommitted, HasCommits, framed_at, framed_to, frames_under}
 use Rattle.wal.specs.Commits.{IsCut, commits_of}
 use Rattle.wal.specs.LogState.{LogState, db_of, header_of, state_of, log_of}
@@ -36,14 +36,14 @@ use Rattle.session.specs.Representation.{RepresentsRunning, ShowTheSame, Represe
 use Rattle.session.specs.Stored.{ShowsDatabase}
 use Rattle.session.specs.declared.transactions.Connections.{Connections}
 use Rattle.session.proofs.Settled.{still_settled}
-use Rattle.stored.specs.Standing.{StoredOnce}
-use Rattle.stored.specs.Stored.{Stores}
+use Rattle.db_pages.specs.Standing.{StoredOnce}
+use Rattle.db_pages.specs.Stored.{Stores}
 use Rattle.engine.specs.Opening.{StartsWith}
 use Rattle.session.specs.Seats.{AreFresh, catalog_in}
 use Rattle.session.specs.declared.seats.Seats.{Seats}
 use Rattle.sqlval.specs.Faults.{IsOrOutside, IsOutside}
 use Rattle.engine.proofs.Refusing.{open_why}
-use Rattle.loading.specs.Loading.{FindsDatabase}
+use Rattle.db_load.specs.Loading.{FindsDatabase}
 use Rattle.pages.specs.Map.{page_at}
 use Rattle.pager.specs.Maps.{pages_in}
 use Rattle.pager.proofs.Mapping.{count_to}

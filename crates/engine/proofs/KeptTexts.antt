@@ -1,15 +1,15 @@
 -- A CREATE that was read keeps a text of itself.
 use Rattle.std.proofs.Common.{◌≡◌, ◌≤◌, ◌-◌, refl, ap, sym, ℕ, true, List, [], ◌∷◌, length, take, drop, arith, length-take, length-drop}
-use Rattle.lexer.specs.Lex.{Lexed}
-use Rattle.syntax.specs.declared.create.Create.{Create}
-use Rattle.syntax.specs.declared.statement.Statement.{Statement}
-use Rattle.syntax.specs.declared.statement.Statement.TheVariants as statement
-use Rattle.expressions.specs.Symbols.{Symbol}
-use Rattle.grammar.specs.Statements as s
-use Rattle.grammar.specs.Statements.{IsStatement, IsText, is_statement_within}
-use Rattle.grammar.specs.Texts.{IsStatementText, body_end, sql_in}
-use Rattle.parser.proofs.KeptText.{kept_text}
-use Rattle.storage.specs.Forms.{KeepsItsText}
+use Rattle.sql_lexer.specs.Lex.{Lexed}
+use Rattle.sql_syntax.specs.declared.create.Create.{Create}
+use Rattle.sql_syntax.specs.declared.statement.Statement.{Statement}
+use Rattle.sql_syntax.specs.declared.statement.Statement.TheVariants as statement
+use Rattle.sql_expr.specs.Symbols.{Symbol}
+use Rattle.sql_grammar.specs.Statements as s
+use Rattle.sql_grammar.specs.Statements.{IsStatement, IsText, is_statement_within}
+use Rattle.sql_grammar.specs.Texts.{IsStatementText, body_end, sql_in}
+use Rattle.sql_parser.proofs.KeptText.{kept_text}
+use Rattle.executor.specs.Forms.{KeepsItsText}
 
 kept_is : (sql : List ℕ) (us : List Symbol) (c : Create) (x : Statement) → IsStatement sql us x → x ≡ statement.Create c → c.sql ≡ sql
 kept_is sql _ c _ (s.create {us = us} {o = o} d) e = sym (ap (λ (c : Create). c.sql) (same_create (record { sql = sql; object = o }) c e))

@@ -3,7 +3,7 @@ use Rattle.std.proofs.Common.{◌≡◌, ◌≤◌, ◌∙◌, sym, ap, subst, �
 use Rattle.std.specs.Prelude.{⊤, IfOk, IsTrue, MatchOption, Result, Ok, Err}
 use Rattle.disk.specs.declared.device.Disk.{Ghosts}
 use Rattle.sqlval.specs.declared.fault.Fault.{Fault}
-use Rattle.dbheader.specs.Header.{IsHeader, counted_of}
+use Rattle.db_header.specs.Header.{IsHeader, counted_of}
 use Rattle.catalog.specs.Database.{Database}
 use Rattle.catalog.specs.declared.tables.Catalog.{Catalog}
 use Rattle.catalog.specs.declared.tables.Table.{Table}
@@ -16,13 +16,13 @@ use Rattle.pager.specs.Sights.{UnderReader, tells_reader, under_reader, view_und
 use Rattle.pager.specs.Views.{Tells, View, newest_view, view_at}
 use Rattle.pager.proofs.Mapping.{count_to, maps_shown}
 use Rattle.pager.proofs.Sighting.{view_told}
-use Rattle.stored.specs.Stored.{IsCounted, Stores}
+use Rattle.db_pages.specs.Stored.{IsCounted, Stores}
 use Rattle.session.specs.Holding.{IsFound}
 use Rattle.session.specs.Writers.{IsNewest}
 use Rattle.session.specs.Stored.{ShowsDatabase}
 use Rattle.session.proofs.KeptFiles.{keeps_told, known_kept, snapshot_told}
 use Rattle.session.proofs.SeenPages.{at_newest}
-use Rattle.loading.specs.Loading.{FindsDatabase}
+use Rattle.db_load.specs.Loading.{FindsDatabase}
 use Rattle.engine.specs.Opening.{KeepsFiles}
 
 module _ {D : Type 0} {g : Ghosts D} where

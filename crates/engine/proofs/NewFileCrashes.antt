@@ -11,8 +11,8 @@ use Rattle.disk.specs.File.{Version, File, Elapses, IsSynced, IsLeft, NoCutBetwe
 use Rattle.disk.specs.Calls.{Writes, FailsToWrite, CutsFile, FailsToCut, Syncs, IsTorn, write_version, cut_version, overwritten}
 use Rattle.disk.proofs.Left.{left_synced, left_cut}
 use Rattle.disk.proofs.Moments.{alone, stays, gains_good, after_sync, gains_versions, always_both, always_end, always_weaker}
-use Rattle.page.specs.Leaf.{leaf_header}
-use Rattle.page.specs.Writing.{content_bytes, node_of, leaf_of}
+use Rattle.tree_leaf.specs.Leaf.{leaf_header}
+use Rattle.tree_leaf.specs.Writing.{content_bytes, node_of, leaf_of}
 use Rattle.engine.specs.Creating.{is_zero_byte, is_blank_content, IsEmptyDatabase, IsBlankOrCreated, IsSyncedAs, LeavesBlankOr, LeavesBlankOrCreated, BecomesDatabase, BecomesPage}
 use Rattle.engine.proofs.NewFiles.{overwritten_nothing}
 

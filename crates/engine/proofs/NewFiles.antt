@@ -11,7 +11,7 @@ use Rattle.disk.specs.File.{File}
 use Rattle.disk.proofs.Moments.{syncs_synced}
 use Rattle.sqlval.specs.declared.fault.Fault.{Fault}
 use Rattle.engine.specs.Creating.{HasCreated, IsEmptyDatabase, IsSyncedAs, Stays, is_blank_content, is_zero_byte}
-use Rattle.page.specs.Writing.{Fits}
+use Rattle.tree_leaf.specs.Writing.{Fits}
 
 pub fits_empty : (size front : ℕ) → IsPageSize size → front ≡ 100 → Fits size front []
 fits_empty size front served long =

@@ -2,18 +2,18 @@
 use Rattle.std.proofs.Common.{◌≡◌, ◌∙◌, refl, sym, ap, subst, ℕ, List, length, map}
 use Rattle.std.specs.Prelude.{Option, Some, None, Result, Ok}
 use Rattle.sqlval.specs.PageSizes.{IsPageSize}
-use Rattle.dbheader.specs.Header.{IsHeader, counted_of}
-use Rattle.dbheader.specs.declared.fields.Header.{Header}
-use Rattle.walframe.specs.Written.{Framed}
-use Rattle.walframe.specs.declared.log_header.LogHeader.{LogHeader}
+use Rattle.db_header.specs.Header.{IsHeader, counted_of}
+use Rattle.db_header.specs.declared.fields.Header.{Header}
+use Rattle.wal_frame.specs.Written.{Framed}
+use Rattle.wal_frame.specs.declared.log_header.LogHeader.{LogHeader}
 use Rattle.wal.specs.Committed.{AreCommitted, frames_under}
 use Rattle.wal.specs.Sizes.{IsViewSize}
 use Rattle.wal.proofs.Openable.{committed_one, one_size, some_size}
 use Rattle.catalog.specs.Database.{Database}
 use Rattle.pager.specs.Maps.{pages_in}
 use Rattle.pager.specs.Views.{View}
-use Rattle.stored.specs.Stored.{Stores}
-use Rattle.stored.specs.Standing.{StoredOnce}
+use Rattle.db_pages.specs.Stored.{Stores}
+use Rattle.db_pages.specs.Standing.{StoredOnce}
 use Rattle.session.specs.Holding.{StoreFiles}
 use Rattle.session.proofs.StoredFiles.{stored_if_held}
 use Rattle.engine.specs.Promises.{HeldOnce}

@@ -7,7 +7,7 @@ use Rattle.disk.specs.declared.device.Disk.{Ghosts}
 use Rattle.sqlval.specs.declared.fault.Fault.{Fault}
 use Rattle.sqlval.specs.declared.fault.Fault.TheVariants.{Io}
 use Rattle.catalog.specs.Database.{Database}
-use Rattle.walframe.specs.declared.log_header.Salts.{Salts}
+use Rattle.wal_frame.specs.declared.log_header.Salts.{Salts}
 use Rattle.wal.specs.declared.log.Refused.{Refused}
 use Rattle.session.specs.Holding.{Hold, LeaveHeld}
 use Rattle.session.proofs.StoredFiles.{stored_if_held}

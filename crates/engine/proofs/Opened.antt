@@ -4,14 +4,14 @@ use Rattle.std.specs.Prelude.{IsTrue}
 use Rattle.disk.specs.File.{Version, File, IsContentLeft, IsSynced, IsLeft, Always, Throughout, OnLog, whole, versions, moment}
 use Rattle.disk.proofs.Left.{left_synced}
 use Rattle.disk.proofs.Moments.{alone, left_more, later_moment, always_weaker, always_end, run_weaker, throughout_both}
-use Rattle.walframe.specs.Written.{Framed}
+use Rattle.wal_frame.specs.Written.{Framed}
 use Rattle.wal.specs.Committed.{HasCommits}
-use Rattle.walframe.specs.Accepted.{KeepsFile}
+use Rattle.wal_frame.specs.Accepted.{KeepsFile}
 use Rattle.wal.specs.LogState.{LogState}
 use Rattle.wal.specs.Opened.{KeepsContent, LeavesAsBefore}
 use Rattle.wal.proofs.Beginning.{both_read}
 use Rattle.wal.specs.Crashes.{LeavesCommits}
-use Rattle.dbheader.specs.Header.{IsHeader}
+use Rattle.db_header.specs.Header.{IsHeader}
 use Rattle.engine.specs.Opening.{HasPageSize, IsCutTo, LeavesOpened}
 
 pub synced_is : (file : File) → IsSynced file → (c : List ℕ) → IsLeft (versions file) c → c ≡ file.content

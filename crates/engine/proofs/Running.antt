@@ -4,7 +4,7 @@ use Rattle.std.specs.Prelude.{IsTrue, IsFalse, slice_get, unwrap_or}
 use Rattle.std.proofs.lemmas.Bool.{false≢true}
 use Rattle.disk.specs.declared.device.Disk.{Ghosts}
 use Rattle.disk.proofs.Moments.{throughout_both}
-use Rattle.syntax.specs.declared.statement.Statement.{Statement}
+use Rattle.sql_syntax.specs.declared.statement.Statement.{Statement}
 use Rattle.sqlval.specs.Refusals.{Refusal}
 use Rattle.catalog.specs.Database.{Database}
 use Rattle.session.specs.Supported.{StepSoFar}

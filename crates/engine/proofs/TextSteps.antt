@@ -9,19 +9,19 @@ use Rattle.sqlval.specs.declared.fault.Fault.{Fault}
 use Rattle.sqlval.specs.declared.fault.Fault.TheVariants as fault
 use Rattle.sqlval.specs.declared.fault.Feature.TheVariants as feature
 use Rattle.sqlval.specs.declared.fault.Misuse.TheVariants as misuse
-use Rattle.lexer.specs.Lex.{Lexed, tokens}
-use Rattle.syntax.specs.declared.statement.Statement.{Statement}
-use Rattle.expressions.specs.declared.refusal.Refusal.{Refusal}
-use Rattle.expressions.specs.declared.refusal.Refusal.TheVariants as reading
-use Rattle.parser.specs.Parsing.{answered, parsed_by}
-use Rattle.parser.specs.StatementReading.{whole_from}
-use Rattle.parser.specs.Refusals.{IsTextRefusal}
-use Rattle.grammar.specs.Statements.{is_statement_within}
-use Rattle.grammar.specs.Texts.{IsStatementText, IsUnsupportedText, pieces_of, sql_in}
+use Rattle.sql_lexer.specs.Lex.{Lexed, tokens}
+use Rattle.sql_syntax.specs.declared.statement.Statement.{Statement}
+use Rattle.sql_expr.specs.declared.refusal.Refusal.{Refusal}
+use Rattle.sql_expr.specs.declared.refusal.Refusal.TheVariants as reading
+use Rattle.sql_parser.specs.Parsing.{answered, parsed_by}
+use Rattle.sql_parser.specs.StatementReading.{whole_from}
+use Rattle.sql_parser.specs.Refusals.{IsTextRefusal}
+use Rattle.sql_grammar.specs.Statements.{is_statement_within}
+use Rattle.sql_grammar.specs.Texts.{IsStatementText, IsUnsupportedText, pieces_of, sql_in}
 use Rattle.session.specs.Supported.{StepSoFar}
 use Rattle.session.specs.ConnectionState.{first_refusal}
 use Rattle.session.specs.Machine.{Machine, Reply, Refused}
-use Rattle.storage.specs.Forms.{KeepsItsText}
+use Rattle.executor.specs.Forms.{KeepsItsText}
 use Rattle.session.specs.Representation.{Steps}
 use Rattle.session.specs.Steps.{is_connection}
 use Rattle.session.specs.Texts.{IsCandidate, IsTextFault, StepByText, is_long}

@@ -4,8 +4,8 @@ use Rattle.std.specs.Prelude.{◌≡◌, ◌⊎◌, ◌≤◌, Result, IfErr, On
 use Rattle.std.specs.List.{list_all}
 use Rattle.disk.specs.Calls.{Rose}
 use Rattle.disk.specs.File.{File, Version, IsSynced, IsLeft, Always, Throughout}
-use Rattle.dbheader.specs.Header.{IsHeader, empty_of}
-use Rattle.page.specs.Writing.{leaf_of}
+use Rattle.db_header.specs.Header.{IsHeader, empty_of}
+use Rattle.tree_leaf.specs.Writing.{leaf_of}
 use Rattle.session.specs.Holding.{Hold}
 use Rattle.sqlval.specs.declared.fault.Fault.{Fault}
 use Rattle.sqlval.specs.declared.fault.Fault.TheVariants.{Memory, Io, Unsupported, Misuse}

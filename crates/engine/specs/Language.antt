@@ -1,13 +1,13 @@
 -- The grammar of SQL, as the definitions of steps by texts take it.
 use Rattle.std.specs.Prelude.{◌≡◌, ℕ, false, List, ◌++◌, Option, Some, None, Result, Ok, Err}
-use Rattle.lexer.specs.Cut.{Cuts}
-use Rattle.lexer.specs.Lex.{Lexed, tokens}
+use Rattle.sql_lexer.specs.Cut.{Cuts}
+use Rattle.sql_lexer.specs.Lex.{Lexed, tokens}
 use Rattle.sqlval.specs.Refusals.{Refusal, refusal_of}
 use Rattle.sqlval.specs.declared.fault.Fault.{Fault}
 use Rattle.sqlval.specs.declared.fault.Fault.TheVariants as fault
-use Rattle.parser.specs.Parsing.{parsed_by}
-use Rattle.grammar.specs.Statements.{is_statement_within}
-use Rattle.grammar.specs.Texts.{IsStatementText, IsUnsupportedText}
+use Rattle.sql_parser.specs.Parsing.{parsed_by}
+use Rattle.sql_grammar.specs.Statements.{is_statement_within}
+use Rattle.sql_grammar.specs.Texts.{IsStatementText, IsUnsupportedText}
 use Rattle.session.specs.Texts.{Grammar}
 
 -- ---- texts of statements

@@ -3,16 +3,16 @@ use Rattle.std.specs.Prelude.{◌≡◌, ◌⊎◌, ◌≤◌, ℕ, Bool, true, 
 use Rattle.disk.specs.Calls.{Rose}
 use Rattle.disk.specs.File.{File, Version, IsLeft, IsSynced}
 use Rattle.disk.specs.declared.device.Disk.{Ghosts}
-use Rattle.dbheader.specs.Header.{IsHeader}
-use Rattle.dbheader.specs.declared.fields.Header.{Header}
+use Rattle.db_header.specs.Header.{IsHeader}
+use Rattle.db_header.specs.declared.fields.Header.{Header}
 use Rattle.sqlval.specs.Faults.{IsOutside}
 use Rattle.sqlval.specs.declared.fault.Fault.{Fault}
 use Rattle.sqlval.specs.declared.fault.Fault.TheVariants.{Io, Blank}
 use Rattle.catalog.specs.Database.{Database}
 use Rattle.catalog.specs.Listed.{tables_of}
-use Rattle.walframe.specs.Accepted.{KeepsFile}
-use Rattle.walframe.specs.Written.{Framed}
-use Rattle.walframe.specs.declared.log_header.Salts.{Salts}
+use Rattle.wal_frame.specs.Accepted.{KeepsFile}
+use Rattle.wal_frame.specs.Written.{Framed}
+use Rattle.wal_frame.specs.declared.log_header.Salts.{Salts}
 use Rattle.wal.specs.Committed.{HasCommits}
 use Rattle.wal.specs.LogState.{LogState, db_of, state_of, log_of}
 use Rattle.wal.specs.Stands.{log_end}

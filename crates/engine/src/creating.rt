@@ -8,11 +8,11 @@ ghost use Rattle.disk.specs.Calls.{Rose};
 ghost use Rattle.disk.specs.File.{Elapses, IsSynced};
 ghost use Rattle.engine.specs.Creating.{is_blank_content, is_zero_byte, BecomesDatabase, BecomesPage, CountsIo, CreatedHold, HasCreated, IsNewFileRefusal, IsEmptyDatabase, IsSyncedAs, Stays};
 
-use dbheader::Header;
+use db_header::Header;
 use disk::Disk;
-use page::build;
 use sqlval::{Fault, Feature, Misuse, R, is_page_size};
 use std::alloc::Global;
+use tree_leaf::build;
 
 /// The most bytes of a blank file.
 const MAX_BLANK: u64 = 65_536;
@@ -69,7 +69,7 @@ fn empty_page(alloc: Global, page_size: u32) -> R<Vec<u8>>
     ensures made { IfOk result (λ page. IsEmptyDatabase page_size page.items) }
     ensures refused { IfErr result (λ fault. fault ≡ Memory) }
 {
-    let header = dbheader::write(&Header::empty(page_size));
+    let header = db_header::write(&Header::empty(page_size));
     build(alloc, &header, page_size as usize, &[])
 }
 

@@ -3,8 +3,8 @@
 ghost use Rattle.engine.specs.Promises.{CrashKeepsCommits, HeldOnce, HoldsEarlier, RepresentedFilesHold};
 
 use crate::opening::Engine;
+use db_pages::pages_store_one_database;
 use disk::Disk;
-use stored::pages_store_one_database;
 
 /// What a crash may leave only grows until the next sync: what is said of it at the end of that time is true before.
 pub fn held_earlier()

@@ -16,6 +16,6 @@ pub use laws::{
 };
 pub use opening::Engine;
 pub use output::put_reply;
-pub use rowprog::Rows;
+pub use row_scan::Rows;
 pub use wal::Refused;
-pub use walframe::Salts;
+pub use wal_frame::Salts;

@@ -1,45 +1,45 @@
 //! Opening a database file with its log.
 
 ghost use Rattle.std.specs.Prelude.{◌≡◌, ◌⊎◌, List, Ok, Err, IfOk, IfErr, OnOk, MatchResult, IsTrue, IsFalse, true, false};
-ghost use Rattle.dbheader.specs.Header.{IsHeader};
+ghost use Rattle.db_header.specs.Header.{IsHeader};
 ghost use Rattle.sqlval.specs.Faults.{IsOrOutside, IsOutside};
-ghost use Rattle.dbheader.specs.declared.fields.Header.{Header as FileHeader};
+ghost use Rattle.db_header.specs.declared.fields.Header.{Header as FileHeader};
 ghost use Rattle.catalog.specs.Database.{Database};
 ghost use Rattle.catalog.specs.declared.tables.Table.{Table};
 ghost use Rattle.pager.specs.Views.{Tells, newest_view};
 ghost use Rattle.pager.specs.Maps.{pages_in};
 ghost use Rattle.session.specs.Holding.{IsFound, IsSettled};
 ghost use Rattle.session.specs.Stored.{ShowsDatabase};
-ghost use Rattle.loading.specs.Loading.{FindsDatabase};
+ghost use Rattle.db_load.specs.Loading.{FindsDatabase};
 ghost use Rattle.disk.specs.File.{IsContentLeft, IsSynced, Throughout};
-ghost use Rattle.walframe.specs.Accepted.{KeepsFile};
+ghost use Rattle.wal_frame.specs.Accepted.{KeepsFile};
 ghost use Rattle.wal.specs.LogState.{db_of, state_of, log_of};
 ghost use Rattle.session.specs.ConnectionState.{HasCause};
 ghost use Rattle.engine.specs.Creating.{CountsIo, is_blank_content};
 ghost use Rattle.engine.specs.Opening.{HasPageSize, IsCutTo, KeepsFiles, KeepsFilesBut, LeavesOpened, ReadsHeader, StartsWith, TellsBlank};
 ghost use Rattle.sqlval.specs.declared.fault.Fault.TheVariants.{Io};
 ghost use Rattle.disk.specs.Calls.{Rose};
-ghost use Rattle.syntax.specs.declared.statement.Statement.{Statement};
-ghost use Rattle.grammar.specs.Texts.{IsStatementText};
+ghost use Rattle.sql_syntax.specs.declared.statement.Statement.{Statement};
+ghost use Rattle.sql_grammar.specs.Texts.{IsStatementText};
 ghost use Rattle.session.specs.Seats.{AreFresh, catalog_in};
-ghost use Rattle.storage.specs.Forms as forms;
+ghost use Rattle.executor.specs.Forms as forms;
 ghost use Rattle.session.specs.Limits.{may_be_full};
 
 use crate::creating::is_blank;
 use catalog::Catalog;
-use dbheader::Header;
+use db_header::Header;
+use db_load::load;
+use db_pages::pages_store_one_database;
 use disk::Disk;
-use loading::load;
 use pager::Reading;
-use parser::{parse, release};
-use rowprog::Rows;
+use row_scan::Rows;
 use session::{Connections, Seats};
+use sql_parser::{parse, release};
 use sqlval::limits::DATABASE_HEADER_LEN;
 use sqlval::{Fault, Misuse, R};
 use std::alloc::Global;
-use stored::pages_store_one_database;
 use wal::{Log, Refused, Synced, sync_both};
-use walframe::Salts;
+use wal_frame::Salts;
 
 /// An open database.
 #[derive(Drop)]
@@ -65,7 +65,7 @@ fn file_header<D: Disk>(db: &mut D) -> R<Header>
     }
     let mut front = [0u8; DATABASE_HEADER_LEN];
     db.read_at(0, &mut front)?;
-    dbheader::read(&front)
+    db_header::read(&front)
 }
 
 /// Loads the tables of the newest snapshot. (What `load` refuses.)

@@ -7,7 +7,7 @@ ghost use Rattle.engine.specs.Replies.{reply_of, values_of};
 
 use crate::literals::put_row;
 use crate::refusals::put_refusal;
-use rowprog::Rows;
+use row_scan::Rows;
 use sqlval::{R, Row};
 use std::alloc::{AllocError, Global};
 

@@ -11,7 +11,7 @@ use crate::lines::{read_line, split_line};
 use crate::opening::Engine;
 use crate::output::put_reply;
 use disk::Disk;
-use rowprog::Rows;
+use row_scan::Rows;
 use sqlval::{Fault, R};
 use std::alloc::Global;
 use std::io::{BufRead, ErrorKind, Write};

@@ -5,8 +5,8 @@ use Rattle.std.specs.List.{AllByRecursion}
 use Rattle.std.specs.Prelude.{⊤, Result, Ok, Err, MatchResult, Bool, IsTrue, IfErr, OnOk, IsErrAnd}
 use Rattle.sqlval.specs.declared.fault.Fault.{Fault}
 use Rattle.sqlval.specs.Faults.{IsOutside}
-use Rattle.dbheader.specs.Header.{IsHeader}
-use Rattle.dbheader.specs.declared.fields.Header.{Header}
+use Rattle.db_header.specs.Header.{IsHeader}
+use Rattle.db_header.specs.declared.fields.Header.{Header}
 use Rattle.pages.specs.Calls.{Limits}
 use Rattle.pages.specs.Counting.{occurs}
 use Rattle.pages.specs.Map.{PageMap, page_at, with_page, Has}

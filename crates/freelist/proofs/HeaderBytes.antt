@@ -1,8 +1,8 @@
 -- A page whose header was written anew.
 use Rattle.std.proofs.Common.{◌≡◌, ℕ, ◌≤◌, List, ◌++◌, length, drop}
-use Rattle.dbheader.specs.declared.fields.Header.{Header}
-use Rattle.dbheader.specs.Header.{IsHeader}
-use Rattle.dbheader.proofs.Fronts.{header_before, behind_header, long_header}
+use Rattle.db_header.specs.declared.fields.Header.{Header}
+use Rattle.db_header.specs.Header.{IsHeader}
+use Rattle.db_header.proofs.Fronts.{header_before, behind_header, long_header}
 use Rattle.freelist.specs.PageBytes.{Reheads}
 
 -- a page with another header at its front

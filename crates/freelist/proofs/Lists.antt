@@ -4,8 +4,8 @@ use Rattle.std.proofs.lemmas.Grind.{common_steps}
 use Rattle.std.proofs.lemmas.Bool.{cases_lt, cases_eq}
 use Rattle.std.proofs.lemmas.List.{get_or-set_other, get_or-set_same, length-set}
 use Rattle.std.specs.List.{AllByRecursion}
-use Rattle.dbheader.specs.Header.{IsHeader}
-use Rattle.dbheader.specs.declared.fields.Header.{Header}
+use Rattle.db_header.specs.Header.{IsHeader}
+use Rattle.db_header.specs.declared.fields.Header.{Header}
 use Rattle.pages.specs.Counting.{occurs, fresh, Moves, body_at, start_of}
 use Rattle.pages.specs.Map.{PageMap, page_at, with_page, AreWhole, Has}
 use Rattle.freelist.specs.Freelist.{Trunk, IsTrunk, AreTrunks, first_of, pages_of}

@@ -2,8 +2,8 @@
 use Rattle.std.specs.Prelude.{◌≡◌, ◌⊎◌, ◌<◌, ℕ, List, [], ◌∷◌, length, ⊤, Result, MatchResult}
 use Rattle.sqlval.specs.declared.fault.Fault.{Fault}
 use Rattle.sqlval.specs.Faults.{IsOutside}
-use Rattle.dbheader.specs.Header.{IsHeader}
-use Rattle.dbheader.specs.declared.fields.Header.{Header}
+use Rattle.db_header.specs.Header.{IsHeader}
+use Rattle.db_header.specs.declared.fields.Header.{Header}
 use Rattle.pages.specs.Calls.{IsOutsideOrFull}
 use Rattle.pages.specs.Counting.{occurs, IsOnce, Moves}
 use Rattle.pages.specs.Map.{PageMap, page_at, AreWhole, Has}

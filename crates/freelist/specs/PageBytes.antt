@@ -3,8 +3,8 @@ use Rattle.std.specs.Prelude.{◌≡◌, ◌≤◌, ◌<◌, ◌^◌, ◌+◌, �
 use Rattle.std.specs.List.{AllByRecursion, flat_map}
 use Rattle.std.specs.Int.{w32, to_be_bytes}
 use Rattle.pages.specs.Map.{PageMap, page_at}
-use Rattle.dbheader.specs.Header.{IsHeader}
-use Rattle.dbheader.specs.declared.fields.Header.{Header}
+use Rattle.db_header.specs.Header.{IsHeader}
+use Rattle.db_header.specs.declared.fields.Header.{Header}
 
 -- The bytes tell this header now, and what stands after it is as it was.
 pub record Reheads (old new : List ℕ) (header : Header) : Type 0 where

@@ -4,11 +4,11 @@ ghost use Rattle.std.specs.Prelude.{◌≡◌, ◌≤◌, ◌<◌, ◌^◌, ◌+
 ghost use Rattle.std.specs.Int.{w32, to_be_bytes};
 ghost use Rattle.sqlval.specs.declared.fault.Fault.TheVariants.{Memory};
 ghost use Rattle.sqlval.specs.PageSizes.{IsPageSize};
-ghost use Rattle.dbheader.specs.declared.fields.Header.{Header};
-ghost use Rattle.dbheader.specs.Header.{IsHeader};
+ghost use Rattle.db_header.specs.declared.fields.Header.{Header};
+ghost use Rattle.db_header.specs.Header.{IsHeader};
 ghost use Rattle.freelist.specs.PageBytes.{Reheads, IsTrunkPage, IsLastTaken, IsLeafPut};
 
-use dbheader::Header;
+use db_header::Header;
 use sqlval::R;
 use std::alloc::Global;
 
@@ -39,7 +39,7 @@ pub fn header_in(page: &[u8]) -> Option<Header>
     ensures found { IfSome result (λ header. IsHeader page.now header) }
     ensures only { (header : Header) → IsHeader page.now header → result ≡ Some header }
 {
-    dbheader::read(page).ok()
+    db_header::read(page).ok()
 }
 
 /// Writes a header over the one on page 1.
@@ -48,7 +48,7 @@ pub fn set_header(page: &mut [u8], header: &Header)
     ensures reheads { 100 ≤ length page.old → Reheads page.old page.new header.now }
 {
     if page.len() >= 100 {
-        page[..100].copy_from_slice(&dbheader::write(header));
+        page[..100].copy_from_slice(&db_header::write(header));
     }
 }
 

@@ -9,7 +9,7 @@ ghost use Rattle.freelist.specs.PageBytes.{IsFront, LeadsTo};
 
 use crate::bytes::{empty_trunk, has_room, header_in, listed, put_leaf, set_header};
 use crate::writing::{page_of, put_both};
-use dbheader::Header;
+use db_header::Header;
 use pages::WritePages;
 use sqlval::{Damage, Fault, R};
 use std::alloc::Global;

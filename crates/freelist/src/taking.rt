@@ -9,7 +9,7 @@ ghost use Rattle.freelist.specs.PageBytes.{IsFront, LeadsTo};
 
 use crate::bytes::{header_in, listed, set_header, take_last};
 use crate::writing::{page_of, put_both};
-use dbheader::Header;
+use db_header::Header;
 use pages::WritePages;
 use sqlval::{Damage, Fault, R};
 use std::alloc::Global;

@@ -9,8 +9,8 @@ use Rattle.disk.proofs.Moments.{always_weaker}
 use Rattle.sqlval.specs.declared.fault.Fault.{Fault}
 use Rattle.sqlval.specs.declared.fault.Fault.TheVariants.{Memory, Io, Full}
 use Rattle.disk.specs.Calls.{Rose}
-use Rattle.dbheader.specs.declared.fields.Header.{Header}
-use Rattle.walframe.specs.Written.{Framed}
+use Rattle.db_header.specs.declared.fields.Header.{Header}
+use Rattle.wal_frame.specs.Written.{Framed}
 use Rattle.wal.specs.declared.log.Log.{Log}
 use Rattle.wal.specs.declared.log.Snapshot.{Snapshot}
 use Rattle.wal.specs.declared.pages.PageImage.{PageImage}

@@ -3,10 +3,10 @@ use Rattle.std.proofs.Common.{◌≡◌, ℕ, ◌≤◌, List, ◌++◌, length,
 use Rattle.std.proofs.lemmas.List.{take-take, take-append-drop}
 use Rattle.std.specs.Prelude.{Result, Ok, Err, IfOk}
 use Rattle.sqlval.specs.declared.fault.Fault.{Fault}
-use Rattle.dbheader.specs.declared.fields.Header.{Header}
-use Rattle.dbheader.specs.Header.{IsHeader}
-use Rattle.dbheader.specs.Writing.{IsBytes}
-use Rattle.dbheader.proofs.Fronts.{header_moves, header_before, behind_header, long_header}
+use Rattle.db_header.specs.declared.fields.Header.{Header}
+use Rattle.db_header.specs.Header.{IsHeader}
+use Rattle.db_header.specs.Writing.{IsBytes}
+use Rattle.db_header.proofs.Fronts.{header_moves, header_before, behind_header, long_header}
 use Rattle.pager.specs.Writers.{IsHeaded}
 use Rattle.pager.proofs.PageReads.{filled}
 

@@ -2,8 +2,8 @@
 use Rattle.std.proofs.Common.{◌≡◌, sym, subst, ℕ, List, Bool, true, false}
 use Rattle.std.specs.Prelude.{Result, Ok, Err, Option, Some, None, IfErr, if◌then◌else◌}
 use Rattle.sqlval.specs.Faults.{IsNotDiskFault}
-use Rattle.dbheader.specs.declared.fields.Header.{Header}
-use Rattle.dbheader.specs.Reading.{header_at, has_text, feature_of, is_fixed, fields_of, unless}
+use Rattle.db_header.specs.declared.fields.Header.{Header}
+use Rattle.db_header.specs.Reading.{header_at, has_text, feature_of, is_fixed, fields_of, unless}
 use Rattle.sqlval.specs.declared.fault.Fault.{Fault}
 use Rattle.sqlval.specs.declared.fault.Fault.TheVariants.{NotADatabase, Unsupported, Damaged, Io, Full, Blank}
 use Rattle.sqlval.specs.declared.fault.Feature.{Feature}

@@ -5,7 +5,7 @@ use Rattle.std.proofs.lemmas.Bool.Decides.{nat_tests}
 use Rattle.std.proofs.lemmas.Grind.{get_or-set_at}
 use Rattle.std.proofs.lemmas.List.{ext_get_or, get_or_append_left, get_or_push, get_or-set_other, length-set}
 use Rattle.std.specs.Prelude.{◌↔◌, max, Option, Some, None, nat_le, if◌then◌else◌}
-use Rattle.walframe.specs.Written.{Framed}
+use Rattle.wal_frame.specs.Written.{Framed}
 use Rattle.wal.specs.declared.pages.PageImage.{PageImage}
 use Rattle.wal.specs.Laws.{IsAmong, IsNotAmong}
 use Rattle.wal.specs.View.{IsNewestIn, blank_frame}

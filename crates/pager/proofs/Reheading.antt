@@ -4,8 +4,8 @@ use Rattle.std.specs.Prelude.{IsTrue, IsFalse}
 use Rattle.sqlval.specs.declared.fault.Fault.{Fault}
 use Rattle.sqlval.specs.declared.fault.Fault.TheVariants.{Memory, Io, NotADatabase, Unsupported, Damaged, Full, Syntax, NoSuch, Exists, Ambiguous, Misuse, Busy, StaleSnapshot, NoTransaction, InTransaction, NoSavepoint, NotNull, Unique, Check, Raised, RealRefused, TypeRefused, RowidFull, RowidMismatch, TooLong, RowChangedBefore, ViewReadOnly, Failed, Blank}
 use Rattle.sqlval.specs.declared.fault.Damage.TheVariants as damage
-use Rattle.dbheader.specs.declared.fields.Header.{Header}
-use Rattle.dbheader.specs.Header.{IsHeader}
+use Rattle.db_header.specs.declared.fields.Header.{Header}
+use Rattle.db_header.specs.Header.{IsHeader}
 use Rattle.wal.specs.declared.pages.PageImage.{PageImage}
 use Rattle.wal.specs.Commits.{after_refusal}
 use Rattle.wal.specs.LogState.{LogState}

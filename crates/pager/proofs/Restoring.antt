@@ -2,7 +2,7 @@
 use Rattle.std.proofs.Common.{◌≡◌, ◌<◌, ◌≤◌, ◌^◌, ℕ, List, [], ◌∷◌, Vec, length, refl, sym, ◌∙◌, ap, subst, arith}
 use Rattle.std.specs.Coded.{×_prop, le_prop, Coded-set, coded_ℕ}
 use Rattle.std.specs.declared.alloc.Global.{Global}
-use Rattle.dbheader.specs.declared.fields.Header.{Header}
+use Rattle.db_header.specs.declared.fields.Header.{Header}
 use Rattle.wal.specs.declared.pages.PageImage.{PageImage}
 use Rattle.pager.specs.declared.saved.Saved.{Saved}
 use Rattle.pager.specs.declared.saved.Mark.{Mark}

@@ -6,7 +6,7 @@ use Rattle.disk.specs.File.{File}
 use Rattle.disk.specs.declared.device.Disk.{Ghosts}
 use Rattle.sqlval.specs.declared.fault.Fault.{Fault}
 use Rattle.sqlval.specs.PageSizes.{is_size}
-use Rattle.walframe.specs.Accepted.{KeepsFile}
+use Rattle.wal_frame.specs.Accepted.{KeepsFile}
 use Rattle.wal.specs.declared.log.Log.{Log}
 use Rattle.wal.specs.declared.log.Snapshot.{Snapshot}
 use Rattle.wal.specs.Committed.{frames_under}

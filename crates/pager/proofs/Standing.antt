@@ -3,8 +3,8 @@ use Rattle.std.proofs.Common.{◌≡◌, ◌⊎◌, inl, inr, ◌<◌, ◌≤◌
 use Rattle.std.specs.Prelude.{◌↔◌, ◌&&◌, Option, Some, None, if◌then◌else◌}
 use Rattle.std.proofs.lemmas.Bool.{cases_lt}
 use Rattle.disk.specs.declared.device.Disk.{Ghosts}
-use Rattle.dbheader.specs.declared.fields.Header.{Header}
-use Rattle.walframe.specs.Written.{Framed}
+use Rattle.db_header.specs.declared.fields.Header.{Header}
+use Rattle.wal_frame.specs.Written.{Framed}
 use Rattle.wal.specs.declared.log.Log.{Log}
 use Rattle.wal.specs.Alone.{StandsAlone}
 use Rattle.wal.specs.Anew.{base_of, begins_anew}

@@ -2,14 +2,14 @@
 use Rattle.std.specs.Prelude.{◌≡◌, ◌⊎◌, ◌↔◌, ◌<◌, ◌≤◌, ℕ, Bool, IsFalse, List, [], Option, length, map}
 use Rattle.disk.specs.declared.device.Disk.{Ghosts}
 use Rattle.disk.specs.File.{Always, IsContentLeft, IsSynced}
-use Rattle.dbheader.specs.declared.fields.Header.{Header}
-use Rattle.dbheader.specs.Header.{IsHeader}
-use Rattle.dbheader.specs.Writing.{IsBytes}
+use Rattle.db_header.specs.declared.fields.Header.{Header}
+use Rattle.db_header.specs.Header.{IsHeader}
+use Rattle.db_header.specs.Writing.{IsBytes}
 use Rattle.sqlval.specs.declared.fault.Fault.{Fault}
 use Rattle.sqlval.specs.declared.fault.Fault.TheVariants.{Memory, Io, Full}
 use Rattle.wal.specs.declared.log.Log.{Log}
 use Rattle.wal.specs.declared.log.Snapshot.{Snapshot}
-use Rattle.walframe.specs.Written.{Framed}
+use Rattle.wal_frame.specs.Written.{Framed}
 use Rattle.wal.specs.Committed.{HasCommits}
 use Rattle.wal.specs.LogState.{db_of, log_of, state_of, seen_by}
 use Rattle.wal.specs.Laws.{IsNotAmong}

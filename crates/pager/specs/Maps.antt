@@ -1,6 +1,6 @@
 -- The pages of a view, as a map (Database File Format, "Reader Algorithm").
 use Rattle.std.specs.Prelude.{◌≡◌, ◌↔◌, ◌≤◌, ◌+◌, ◌-◌, ◌*◌, ◌==◌, ℕ, zero, suc, List, [], ◌∷◌, ◌++◌, length, take, drop, nat_le, Option, Some, None, if◌then◌else◌}
-use Rattle.walframe.specs.Written.{Framed}
+use Rattle.wal_frame.specs.Written.{Framed}
 use Rattle.wal.specs.declared.pages.PageImage.{PageImage}
 use Rattle.pages.specs.Map.{PageMap, page_at, with_page, IsThere}
 use Rattle.pager.specs.declared.writer.Writer.{Writer}

@@ -1,7 +1,7 @@
 -- What readers and writers see of the two files: pages by their numbers (Database File Format, "Reader Algorithm").
 use Rattle.std.specs.Prelude.{◌≤◌, ℕ, List, ◌++◌, IsTrue, IsFalse}
 use Rattle.disk.specs.declared.device.Disk.{Ghosts}
-use Rattle.walframe.specs.Written.{Framed}
+use Rattle.wal_frame.specs.Written.{Framed}
 use Rattle.wal.specs.declared.log.Log.{Log}
 use Rattle.wal.specs.declared.log.Snapshot.{Snapshot}
 use Rattle.wal.specs.declared.pages.PageImage.{PageImage}

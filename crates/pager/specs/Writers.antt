@@ -1,9 +1,9 @@
 -- What a transaction makes of the pages that it sees, and what its commit leaves (Database File Format, "Reader Algorithm").
 use Rattle.std.specs.Prelude.{◌≡◌, ⊤, ◌⊎◌, ◌↔◌, ◌<◌, ◌≤◌, ◌+◌, ◌%◌, ◌^◌, ℕ, max, Bool, IsFalse, List, [], ◌∷◌, length, set, slice_index_or, take, drop, Some, if◌then◌else◌}
 use Rattle.std.specs.List.{AllByRecursion, HoldsAt}
-use Rattle.dbheader.specs.declared.fields.Header.{Header}
-use Rattle.dbheader.specs.Header.{IsHeader, counted_of}
-use Rattle.dbheader.specs.Writing.{IsBytes}
+use Rattle.db_header.specs.declared.fields.Header.{Header}
+use Rattle.db_header.specs.Header.{IsHeader, counted_of}
+use Rattle.db_header.specs.Writing.{IsBytes}
 use Rattle.wal.specs.declared.log.Snapshot.{Snapshot}
 use Rattle.wal.specs.declared.pages.PageImage.{PageImage}
 use Rattle.wal.specs.Laws.{IsAmong, IsNotAmong}

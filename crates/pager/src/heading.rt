@@ -2,10 +2,10 @@
 
 ghost use Rattle.std.specs.Prelude.{◌≡◌, ◌≤◌, ◌++◌, drop, length};
 ghost use Rattle.sqlval.specs.PageSizes.{IsPageSize};
-ghost use Rattle.dbheader.specs.Writing.{IsBytes};
+ghost use Rattle.db_header.specs.Writing.{IsBytes};
 ghost use Rattle.pager.specs.Writers.{FirstIsBytes, HasHeader, IsHeaded, IsInPlace, Reheads, SetsFirst};
 
-use dbheader::Header;
+use db_header::Header;
 use wal::PageImage;
 
 /// Writes bytes at the front of a page, as far as it has room.
@@ -25,7 +25,7 @@ fn give_header(page: &mut PageImage, header: &Header)
     ensures place { IsInPlace page.old page.new }
     ensures bytes { IsBytes page.old.bytes.items }
 {
-    put_front(page.bytes.as_mut_slice(), &dbheader::write(header));
+    put_front(page.bytes.as_mut_slice(), &db_header::write(header));
 }
 
 /// Writes a header at the front of the first of some pages.

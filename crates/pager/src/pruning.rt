@@ -2,7 +2,7 @@
 
 ghost use Rattle.std.specs.Prelude.{◌≡◌, ◌≤◌, ◌↔◌, true, false, IfErr, IfOk};
 ghost use Rattle.sqlval.specs.Faults.{IsOutside};
-ghost use Rattle.walframe.specs.Accepted.{KeepsFile};
+ghost use Rattle.wal_frame.specs.Accepted.{KeepsFile};
 ghost use Rattle.wal.specs.ErrorCauses.{HasCause};
 ghost use Rattle.wal.specs.LogState.{db_of, log_of, seen_by, state_of};
 ghost use Rattle.pager.specs.Pruning.{AreAllThere, AreNew, AreNumbered, AreSome, IsShown, Prunes};

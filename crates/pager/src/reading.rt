@@ -3,13 +3,13 @@
 ghost use Rattle.sqlval.specs.PageSizes.{IsPageSize};
 ghost use Rattle.std.specs.Prelude.{◌≡◌, ◌⊎◌, ◌≤◌, ℕ, List, length, false, IfOk, IfErr, OnOk, Ok};
 ghost use Rattle.sqlval.specs.Faults.{IsNotDiskFault, IsOutside};
-ghost use Rattle.dbheader.specs.Header.{IsHeader};
+ghost use Rattle.db_header.specs.Header.{IsHeader};
 ghost use Rattle.wal.specs.LogState.{db_of, state_of, log_of, seen_by, size_of};
 ghost use Rattle.pager.specs.Views.{ViewHas, IsViewPage, Tells, view_at};
-ghost use Rattle.walframe.specs.Accepted.{KeepsFile};
+ghost use Rattle.wal_frame.specs.Accepted.{KeepsFile};
 ghost use Rattle.wal.specs.ErrorCauses.{HasCause};
 
-use dbheader::Header;
+use db_header::Header;
 use disk::Disk;
 use sqlval::limits::DATABASE_HEADER_LEN;
 use sqlval::{Fault, R};
@@ -73,7 +73,7 @@ pub fn header_of(page: &[u8]) -> R<Header>
     ensures not_blank { IfErr result (λ fault. fault ≡ Fault.Blank → ⊥) }
 {
     match page.get(..DATABASE_HEADER_LEN) {
-        Some(front) => dbheader::read(front),
+        Some(front) => db_header::read(front),
         None => Err(Fault::NotADatabase),
     }
 }

@@ -3,7 +3,7 @@
 ghost use Rattle.std.specs.Prelude.{◌≡◌, ◌≤◌, ℕ, List, false, IfErr, IfOk, IsTrue, OnOk};
 ghost use Rattle.pages.specs.Map.{IsThere, page_at};
 ghost use Rattle.sqlval.specs.Faults.{IsOutside};
-ghost use Rattle.walframe.specs.Accepted.{KeepsFile};
+ghost use Rattle.wal_frame.specs.Accepted.{KeepsFile};
 ghost use Rattle.wal.specs.ErrorCauses.{HasCause};
 ghost use Rattle.wal.specs.LogState.{db_of, state_of, log_of, seen_by, size_of};
 ghost use Rattle.pager.specs.Limits.{page_size_of, pages_of};

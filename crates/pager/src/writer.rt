@@ -8,7 +8,7 @@ use crate::reading::{header_of, read_page};
 use crate::restarting::begins_anew;
 use crate::saved::{Mark, Saved, ends_within, place_of, refill};
 use crate::sizes::is_too_large;
-use dbheader::Header;
+use db_header::Header;
 use disk::Disk;
 use sqlval::limits::{MAX_DATABASE_BYTES, MAX_PAGES};
 use sqlval::{Damage, Fault, R};
@@ -44,7 +44,7 @@ impl Writer {
     ghost use Rattle.wal.specs.LogState.{db_of, state_of, log_of, seen_by, size_of};
     ghost use Rattle.wal.specs.Laws.{IsAmong, IsNotAmong};
     ghost use Rattle.wal.specs.ErrorCauses.{HasCause};
-    ghost use Rattle.walframe.specs.Accepted.{KeepsFile};
+    ghost use Rattle.wal_frame.specs.Accepted.{KeepsFile};
     ghost use Rattle.pager.specs.Commits.{CommitsPages, IsRefusedCommit, LeavesCommit, MayCommit};
     ghost use Rattle.pager.specs.Limits as limits;
     ghost use Rattle.pager.specs.Limits.{one_more, pages_of, page_size_of};

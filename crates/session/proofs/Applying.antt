@@ -5,13 +5,13 @@ use Rattle.sqlval.specs.Refusals as refusal
 use Rattle.sqlval.specs.Refusals.{Refusal, Busy, refusal_of}
 use Rattle.sqlval.specs.declared.fault.Fault.{Fault}
 use Rattle.sqlval.specs.declared.fault.Fault.TheVariants as fault
-use Rattle.syntax.specs.declared.statement.Statement.{Statement}
+use Rattle.sql_syntax.specs.declared.statement.Statement.{Statement}
 use Rattle.catalog.specs.Database.{Database}
 use Rattle.session.specs.Supported.{CannotStore, StepSoFar, database_of}
-use Rattle.storage.specs.Forms.{is_supported}
+use Rattle.executor.specs.Forms.{is_supported}
 use Rattle.session.specs.Machine.{Machine, Connection, Idle, InTransactionOf, Phase, SavepointState, Writes, Rows, Refused, connection, another, is_writing, last_place, newest, with_connection}
 use Rattle.session.specs.Outcomes.{Outcome, RefusedBy, outcome, unless_busy, worked, worked_alone, write_outcome}
-use Rattle.storage.specs.Works.{Work, Makes, IsRefused, Undoes, Binds, Reaches, RefusesWith, change_made}
+use Rattle.executor.specs.Works.{Work, Makes, IsRefused, Undoes, Binds, Reaches, RefusesWith, change_made}
 use Rattle.session.specs.Steps.{Allowed, Instead, is_connection}
 use Rattle.session.specs.Changing.{written}
 use Rattle.session.specs.declared.changes.Write.{Write}

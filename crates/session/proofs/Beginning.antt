@@ -8,8 +8,8 @@ use Rattle.sqlval.specs.Refusals as refusal
 use Rattle.sqlval.specs.Refusals.{refusal_of}
 use Rattle.sqlval.specs.declared.fault.Fault.{Fault}
 use Rattle.sqlval.specs.declared.fault.Fault.TheVariants as fault
-use Rattle.syntax.specs.declared.statement.BeginMode.TheVariants as begins
-use Rattle.syntax.specs.declared.statement.Statement.TheVariants as statement
+use Rattle.sql_syntax.specs.declared.statement.BeginMode.TheVariants as begins
+use Rattle.sql_syntax.specs.declared.statement.Statement.TheVariants as statement
 use Rattle.wal.specs.LogState.{LogState, size_of}
 use Rattle.wal.specs.Sizes.{IsSizeWithinLimits}
 use Rattle.wal.specs.declared.log.Snapshot.{Snapshot}
@@ -25,7 +25,7 @@ use Rattle.session.specs.Supported.{StepSoFar}
 use Rattle.session.specs.ConnectionState.{files_of}
 use Rattle.session.specs.Machine.{Machine, Connection, Idle, Rows, Refused, Writes, another, is_writing, last_place, newest, with_connection}
 use Rattle.session.specs.Outcomes.{Gives, RefusedBy, begun, outcome}
-use Rattle.stored.specs.Stored.{Stores}
+use Rattle.db_pages.specs.Stored.{Stores}
 use Rattle.session.specs.Stored.{ShowsDatabase}
 use Rattle.pages.specs.Map.{PageMap}
 use Rattle.pager.specs.Maps.{pages_in}

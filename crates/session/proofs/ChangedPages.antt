@@ -5,7 +5,7 @@ use Rattle.std.proofs.Math.Nat.{div-mul-le_self, mul-le-mul_left, mul-le-mul_rig
 use Rattle.sqlval.specs.declared.fault.Fault.{Fault}
 use Rattle.sqlval.specs.declared.fault.Fault.TheVariants as fault
 use Rattle.disk.specs.declared.device.Disk.{Ghosts}
-use Rattle.syntax.specs.declared.statement.Statement.{Statement}
+use Rattle.sql_syntax.specs.declared.statement.Statement.{Statement}
 use Rattle.catalog.specs.Database.{Database}
 use Rattle.catalog.specs.Listed.{tables_of}
 use Rattle.session.specs.SavedTables.{committed_in, current_in, savepoints_in}
@@ -26,8 +26,8 @@ use Rattle.pager.specs.declared.writer.Writer.{Writer}
 use Rattle.pager.specs.Marks.{Changes, IsOverTheSame, now_of}
 use Rattle.pager.proofs.Sounding.{sound_alike, sound_from, sound_to}
 use Rattle.pager.proofs.WriterSights.{map_told}
-use Rattle.storage.specs.Changing as pages
-use Rattle.stored.specs.Stored.{Stores}
+use Rattle.executor.specs.Changing as pages
+use Rattle.db_pages.specs.Stored.{Stores}
 use Rattle.session.specs.Changing.{CanChange, ChangesPages, Listing, MakesCatalog, listing}
 use Rattle.session.specs.Representation.{ShowTheSame}
 use Rattle.session.specs.Writers.{IsNewest, IsWriter}

@@ -11,16 +11,16 @@ use Rattle.sqlval.specs.declared.fault.Fault.{Fault}
 use Rattle.sqlval.specs.declared.fault.Fault.TheVariants as fault
 use Rattle.sqlval.specs.declared.value.Value.{Value}
 use Rattle.sqlval.specs.declared.value.Value.TheVariants.{Int}
-use Rattle.syntax.specs.declared.statement.CheckpointMode.{CheckpointMode}
-use Rattle.syntax.specs.declared.statement.CheckpointMode.TheVariants as modes
-use Rattle.syntax.specs.declared.statement.Statement.{Statement}
-use Rattle.syntax.specs.declared.statement.Statement.TheVariants as statement
+use Rattle.sql_syntax.specs.declared.statement.CheckpointMode.{CheckpointMode}
+use Rattle.sql_syntax.specs.declared.statement.CheckpointMode.TheVariants as modes
+use Rattle.sql_syntax.specs.declared.statement.Statement.{Statement}
+use Rattle.sql_syntax.specs.declared.statement.Statement.TheVariants as statement
 use Rattle.catalog.specs.Database.{Database}
 use Rattle.wal.specs.LogState.{db_of, log_of}
 use Rattle.wal.specs.declared.log.Log.{Log}
 use Rattle.pager.specs.Views.{View, ViewHas, newest_view, view_at}
-use Rattle.checkpoint.specs.declared.checkpoints.Counts.{Counts}
-use Rattle.checkpoint.specs.Shown.{Checkpoints, IsCheckpointRefusal, MayCopy}
+use Rattle.wal_checkpoint.specs.declared.checkpoints.Counts.{Counts}
+use Rattle.wal_checkpoint.specs.Shown.{Checkpoints, IsCheckpointRefusal, MayCopy}
 use Rattle.session.specs.Checkpoints.{CopiesAfter, CopiesBack, IsCount, KeepsSeats, may_restart, numbers_of}
 use Rattle.session.specs.ConnectionState.{files_of, has_failed_in, is_io}
 use Rattle.session.specs.Crashes.{MayShow}

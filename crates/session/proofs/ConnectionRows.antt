@@ -4,21 +4,21 @@ use Rattle.std.proofs.Common.{inl, inr, arith, sym, subst, ◌⊎◌}
 use mathlib.Core.Bool.{true≢false}
 use Rattle.sqlval.specs.Refusals.{Busy, Exists, StaleSnapshot, NoTransaction, NoSavepoint, InTransaction, Misuse, NoSuch, Raised, RaisedRollback, TooLong, Unsupported}
 use Rattle.sqlval.specs.declared.value.Value.{Value}
-use Rattle.syntax.specs.Tree.{Binary, Raise}
-use Rattle.syntax.specs.declared.create.NewObject.TheVariants as new
-use Rattle.syntax.specs.declared.create.TriggerEvent.TheVariants.{Insert, Delete}
-use Rattle.syntax.specs.declared.create.TriggerStatement.TheVariants as program
-use Rattle.syntax.specs.declared.create.TriggerTime.TheVariants.{After}
-use Rattle.syntax.specs.declared.expr.Operator.TheVariants as op
-use Rattle.syntax.specs.declared.expr.RaiseAction.TheVariants.{Rollback}
-use Rattle.syntax.specs.declared.statement.BeginMode.TheVariants as begins
-use Rattle.syntax.specs.declared.statement.CheckpointMode.TheVariants as checkpoint
-use Rattle.syntax.specs.declared.statement.ObjectKind.TheVariants as kind
-use Rattle.syntax.specs.declared.statement.Statement.{Statement}
-use Rattle.syntax.specs.declared.statement.Statement.TheVariants as statement
+use Rattle.sql_syntax.specs.Tree.{Binary, Raise}
+use Rattle.sql_syntax.specs.declared.create.NewObject.TheVariants as new
+use Rattle.sql_syntax.specs.declared.create.TriggerEvent.TheVariants.{Insert, Delete}
+use Rattle.sql_syntax.specs.declared.create.TriggerStatement.TheVariants as program
+use Rattle.sql_syntax.specs.declared.create.TriggerTime.TheVariants.{After}
+use Rattle.sql_syntax.specs.declared.expr.Operator.TheVariants as op
+use Rattle.sql_syntax.specs.declared.expr.RaiseAction.TheVariants.{Rollback}
+use Rattle.sql_syntax.specs.declared.statement.BeginMode.TheVariants as begins
+use Rattle.sql_syntax.specs.declared.statement.CheckpointMode.TheVariants as checkpoint
+use Rattle.sql_syntax.specs.declared.statement.ObjectKind.TheVariants as kind
+use Rattle.sql_syntax.specs.declared.statement.Statement.{Statement}
+use Rattle.sql_syntax.specs.declared.statement.Statement.TheVariants as statement
 use Rattle.catalog.specs.Database.{Name, Database, ATrigger, with_object}
-use Rattle.bind.specs.Checked.{Meant}
-use Rattle.bind.proofs.Written.{number, named, named_of, select, result, delete, column_with, col, table, int, insert}
+use Rattle.query_names.specs.Checked.{Meant}
+use Rattle.query_names.proofs.Written.{number, named, named_of, select, result, delete, column_with, col, table, int, insert}
 use Rattle.trigger.specs.Binding.{IsFault}
 use Rattle.trigger.proofs.BindingRows.{no_faults_behind}
 use Rattle.session.specs.Supported.{StepSoFar}

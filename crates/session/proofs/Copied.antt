@@ -7,11 +7,11 @@ use Rattle.disk.specs.declared.device.Disk.{Ghosts}
 use Rattle.disk.specs.File.{Version, versions}
 use Rattle.disk.proofs.Moments.{run_weaker}
 use Rattle.sqlval.specs.PageSizes.{IsPageSize}
-use Rattle.dbheader.specs.Header.{IsHeader, counted_of}
-use Rattle.dbheader.specs.declared.fields.Header.{Header}
-use Rattle.dbheader.proofs.Fronts.{header_moves}
-use Rattle.walframe.specs.declared.frame.FrameHeader.{FrameHeader}
-use Rattle.walframe.specs.Written.{Framed}
+use Rattle.db_header.specs.Header.{IsHeader, counted_of}
+use Rattle.db_header.specs.declared.fields.Header.{Header}
+use Rattle.db_header.proofs.Fronts.{header_moves}
+use Rattle.wal_frame.specs.declared.frame.FrameHeader.{FrameHeader}
+use Rattle.wal_frame.specs.Written.{Framed}
 use Rattle.catalog.specs.Database.{Database}
 use Rattle.catalog.specs.declared.tables.Table.{Table}
 use Rattle.wal.specs.Committed.{HasCommits}
@@ -25,8 +25,8 @@ use Rattle.pager.specs.Views.{Tells, View, ViewHas, after, changes_of, newest_vi
 use Rattle.pager.specs.Writers.{snapshot_of}
 use Rattle.pager.specs.declared.writer.Writer.{Writer}
 use Rattle.pager.proofs.Mapping.{maps_shown}
-use Rattle.checkpoint.specs.Shown.{Checkpoints, LeaveShown, MayCopy, Meanwhile, ShowsNewest, ShowsSame, view_over}
-use Rattle.stored.specs.Stored.{Stores}
+use Rattle.wal_checkpoint.specs.Shown.{Checkpoints, LeaveShown, MayCopy, Meanwhile, ShowsNewest, ShowsSame, view_over}
+use Rattle.db_pages.specs.Stored.{Stores}
 use Rattle.session.specs.Holding.{Hold, HoldThroughout, IsFound, IsSettled, LeaveHeld}
 use Rattle.session.specs.Machine.{Connection}
 use Rattle.session.specs.Representation.{AreParked, IsSnapshotOf, IsTransaction, IsWritingIn, committed_at, newest_in}

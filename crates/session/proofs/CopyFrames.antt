@@ -3,18 +3,18 @@ use Rattle.std.proofs.Common.{◌≡◌, ◌∙◌, ◌≤◌, refl, ap, sym, su
 use Rattle.std.specs.Prelude.{not, Result, Ok, Err, IfOk, if◌then◌else◌}
 use Rattle.disk.specs.declared.device.Disk.{Ghosts}
 use Rattle.sqlval.specs.declared.fault.Fault.{Fault}
-use Rattle.syntax.specs.declared.statement.CheckpointMode.{CheckpointMode}
-use Rattle.syntax.specs.declared.statement.CheckpointMode.TheVariants as modes
+use Rattle.sql_syntax.specs.declared.statement.CheckpointMode.{CheckpointMode}
+use Rattle.sql_syntax.specs.declared.statement.CheckpointMode.TheVariants as modes
 use Rattle.wal.specs.ErrorCauses.{HasCause as CausesOf}
 use Rattle.wal.specs.LogState.{LogState}
 use Rattle.wal.specs.declared.log.Log.{Log}
 use Rattle.wal.specs.declared.log.Snapshot.{Snapshot}
-use Rattle.checkpoint.specs.Answers.{counts_of, no_counts}
-use Rattle.checkpoint.specs.declared.checkpoints.Counts.{Counts}
+use Rattle.wal_checkpoint.specs.Answers.{counts_of, no_counts}
+use Rattle.wal_checkpoint.specs.declared.checkpoints.Counts.{Counts}
 use Rattle.session.specs.Checkpoints.{IsCount, is_kept}
 use Rattle.session.specs.ConnectionState.{HasCause}
 
--- so it is answered by the functions of `checkpoint`
+-- so it is answered by the functions of `wal_checkpoint`
 abbrev Answers : Bool → LogState → Snapshot → Counts → Type 0
 Answers blocked known target counts = (counts ≡ counts_of blocked known target) × (counts.copied ≤ counts.frames)
 

@@ -8,13 +8,13 @@ use Rattle.sqlval.specs.Refusals.{Refusal, refusal_of}
 use Rattle.sqlval.specs.declared.fault.Fault.{Fault}
 use Rattle.sqlval.specs.declared.fault.Fault.TheVariants as fault
 use Rattle.sqlval.specs.declared.fault.Misuse.TheVariants as misuse
-use Rattle.syntax.specs.declared.query.Query.{Query}
-use Rattle.syntax.specs.declared.statement.CheckpointMode.{CheckpointMode}
-use Rattle.syntax.specs.declared.statement.Statement.{Statement}
-use Rattle.syntax.specs.declared.statement.Statement.TheVariants as statement
+use Rattle.sql_syntax.specs.declared.query.Query.{Query}
+use Rattle.sql_syntax.specs.declared.statement.CheckpointMode.{CheckpointMode}
+use Rattle.sql_syntax.specs.declared.statement.Statement.{Statement}
+use Rattle.sql_syntax.specs.declared.statement.Statement.TheVariants as statement
 use Rattle.catalog.specs.Database.{Database}
 use Rattle.session.specs.Supported.{StepSoFar}
-use Rattle.storage.specs.Forms.{answers_rows, is_supported}
+use Rattle.executor.specs.Forms.{answers_rows, is_supported}
 use Rattle.wal.specs.declared.log.Log.{Log}
 use Rattle.session.specs.ConnectionState.{files_of, first_refusal, has_failed_in}
 use Rattle.session.specs.Machine.{Machine, Reply, Refused}

@@ -5,9 +5,9 @@ use Rattle.std.proofs.Math.Nat.{zero-mul}
 use Rattle.std.proofs.lemmas.List.{take-take}
 use Rattle.sqlval.specs.PageSizes.{IsPageSize}
 use Rattle.sqlval.proofs.PageSizeLemmas.{by_size}
-use Rattle.dbheader.specs.Header.{IsHeader, counted_of}
-use Rattle.dbheader.specs.declared.fields.Header.{Header}
-use Rattle.dbheader.proofs.Fronts.{header_moves}
+use Rattle.db_header.specs.Header.{IsHeader, counted_of}
+use Rattle.db_header.specs.declared.fields.Header.{Header}
+use Rattle.db_header.proofs.Fronts.{header_moves}
 use Rattle.catalog.specs.Database.{Database}
 use Rattle.catalog.specs.declared.tables.Table.{Table}
 use Rattle.pages.specs.Map.{PageMap}
@@ -18,7 +18,7 @@ use Rattle.pager.specs.Maps.{pages_in}
 use Rattle.pager.specs.Views.{View}
 use Rattle.pager.proofs.Mapping.{maps_shown, maps_within}
 use Rattle.pager.proofs.Standing.{alone_back, alone_forth}
-use Rattle.stored.specs.Stored.{Stores}
+use Rattle.db_pages.specs.Stored.{Stores}
 use Rattle.session.specs.Holding.{IsFound}
 use Rattle.session.specs.Stored.{ShowsDatabase}
 use Rattle.session.proofs.StandingViews.{one_header}

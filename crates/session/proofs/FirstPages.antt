@@ -2,9 +2,9 @@
 use Rattle.std.proofs.Common.{◌≡◌, ◌∙◌, ◌≤◌, sym, ap, subst, arith, ℕ, List, length, drop}
 use Rattle.std.specs.Prelude.{◌↔◌}
 use Rattle.sqlval.specs.PageSizes.{IsPageSize}
-use Rattle.dbheader.specs.Header.{IsHeader}
-use Rattle.dbheader.specs.declared.fields.Header.{Header}
-use Rattle.tabletree.proofs.LeafTrees.{root_there}
+use Rattle.db_header.specs.Header.{IsHeader}
+use Rattle.db_header.specs.declared.fields.Header.{Header}
+use Rattle.tree_table.proofs.LeafTrees.{root_there}
 use Rattle.wal.specs.Sizes.{IsSizeWithinLimits}
 use Rattle.wal.proofs.Openable.{some_size}
 use Rattle.catalog.specs.Database.{Database}
@@ -15,8 +15,8 @@ use Rattle.pager.specs.Maps.{pages_in}
 use Rattle.pager.specs.Views.{IsViewPage, View, ViewHas}
 use Rattle.pager.specs.Writers.{IsHeaded}
 use Rattle.pager.proofs.Mapping.{count_to, maps_shown, page_in, same_found, shows_mapped}
-use Rattle.stored.proofs.Headings.{IsReheaded, stores_new}
-use Rattle.stored.specs.Stored.{Stores}
+use Rattle.db_pages.proofs.Headings.{IsReheaded, stores_new}
+use Rattle.db_pages.specs.Stored.{Stores}
 use Rattle.session.specs.Stored.{ShowsDatabase}
 
 -- page 1, as a view's map has it

@@ -8,10 +8,10 @@ use Rattle.sqlval.specs.Refusals as refusal
 use Rattle.sqlval.specs.Refusals.{Refusal, refusal_of}
 use Rattle.sqlval.specs.declared.fault.Fault.{Fault}
 use Rattle.sqlval.specs.declared.fault.Fault.TheVariants as fault
-use Rattle.syntax.specs.declared.statement.Statement.{Statement}
+use Rattle.sql_syntax.specs.declared.statement.Statement.{Statement}
 use Rattle.wal.specs.declared.log.Log.{Log}
-use Rattle.storage.specs.Forms.{is_supported}
-use Rattle.storage.specs.Works.{change_made}
+use Rattle.executor.specs.Forms.{is_supported}
+use Rattle.executor.specs.Works.{change_made}
 use Rattle.session.specs.Changing.{written}
 use Rattle.session.specs.ConnectionState.{files_of}
 use Rattle.session.specs.Machine.{Connection, Idle, Machine, NoSnapshot, Reads, Refused, another, is_writing, last_place, newest}

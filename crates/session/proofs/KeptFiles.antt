@@ -3,7 +3,7 @@ use Rattle.std.proofs.Common.{◌≡◌, ◌≤◌, refl, sym, ap, subst, arith,
 use Rattle.std.specs.Prelude.{Some, None, Bool, true, false, IsTrue, if◌then◌else◌}
 use Rattle.disk.specs.File.{File}
 use Rattle.disk.specs.declared.device.Disk.{Ghosts}
-use Rattle.walframe.specs.Accepted.{KeepsFile}
+use Rattle.wal_frame.specs.Accepted.{KeepsFile}
 use Rattle.wal.specs.LogState.{db_of, log_of, seen_by, state_of}
 use Rattle.wal.specs.declared.log.Log.{Log}
 use Rattle.wal.specs.declared.log.Snapshot.{Snapshot}
@@ -18,7 +18,7 @@ use Rattle.pager.specs.Writers.{snapshot_of}
 use Rattle.pager.specs.declared.writer.Writer.{Writer}
 use Rattle.pager.proofs.Sighting.{tells_read, view_told}
 use Rattle.pager.proofs.WriterSights.{map_told, tells_write}
-use Rattle.stored.specs.Stored.{Stores}
+use Rattle.db_pages.specs.Stored.{Stores}
 use Rattle.session.specs.Representation.{ShowTheSame}
 use Rattle.session.specs.Writers.{IsWriter}
 use Rattle.session.specs.Stored.{ShowsDatabase}

@@ -17,7 +17,7 @@ use Rattle.wal.specs.declared.log.Snapshot.{Snapshot}
 use Rattle.catalog.specs.Database.{Database}
 use Rattle.session.specs.SavedTables.{committed_in, current_in, savepoints_in}
 use Rattle.catalog.specs.declared.tables.Table.{Table}
-use Rattle.dbheader.specs.declared.fields.Header.{Header}
+use Rattle.db_header.specs.declared.fields.Header.{Header}
 use Rattle.pager.specs.Commits.{CommitsPages, IsRefusedCommit, LeavesCommit, MayCommit}
 use Rattle.pager.specs.Limits.{pages_of}
 use Rattle.pager.specs.Maps.{pages_in}
@@ -27,7 +27,7 @@ use Rattle.pager.specs.Writers.{BeginAtPageOne, seen, snapshot_of}
 use Rattle.pager.specs.declared.writer.Writer.{Writer}
 use Rattle.pager.proofs.Mapping.{count_to, maps_alike, shows_mapped}
 use Rattle.pager.proofs.NewPages.{new_twice}
-use Rattle.stored.specs.Stored.{Stores}
+use Rattle.db_pages.specs.Stored.{Stores}
 use Rattle.session.specs.ConnectionState.{files_of, has_failed_in, is_io}
 use Rattle.session.specs.Applying.{CanApply, CommitsChanges, CommitsDatabase, HoldsEither, IsAfterCommit, IsAfterRefusal, IsCommitCause, IsInDoubt, IsPast, IsUncommitted, WritesChanges}
 use Rattle.session.specs.Representation.{Beside, ShowTheSame, beside_in, is_alone}

@@ -1,15 +1,15 @@
 -- A supported statement that answers no rows and has nothing to do with transactions is a write.
 use Rattle.std.proofs.Common.{◌≡◌, true, false, refl}
 use Rattle.sqlval.specs.declared.name.Name.{Name}
-use Rattle.storage.specs.Forms.{answers_rows, is_supported, is_write}
-use Rattle.syntax.specs.declared.change.Change.{Change}
-use Rattle.syntax.specs.declared.change.Change.TheVariants as change
-use Rattle.syntax.specs.declared.create.Create.{Create}
-use Rattle.syntax.specs.declared.create.NewObject.{NewObject}
-use Rattle.syntax.specs.declared.create.NewObject.TheVariants as new
-use Rattle.syntax.specs.declared.statement.BeginMode.{BeginMode}
-use Rattle.syntax.specs.declared.statement.Statement.{Statement}
-use Rattle.syntax.specs.declared.statement.Statement.TheVariants as statement
+use Rattle.executor.specs.Forms.{answers_rows, is_supported, is_write}
+use Rattle.sql_syntax.specs.declared.change.Change.{Change}
+use Rattle.sql_syntax.specs.declared.change.Change.TheVariants as change
+use Rattle.sql_syntax.specs.declared.create.Create.{Create}
+use Rattle.sql_syntax.specs.declared.create.NewObject.{NewObject}
+use Rattle.sql_syntax.specs.declared.create.NewObject.TheVariants as new
+use Rattle.sql_syntax.specs.declared.statement.BeginMode.{BeginMode}
+use Rattle.sql_syntax.specs.declared.statement.Statement.{Statement}
+use Rattle.sql_syntax.specs.declared.statement.Statement.TheVariants as statement
 
 -- a test that is true and false
 never : true ≡ false → ⊥

@@ -13,7 +13,7 @@ use Rattle.wal.specs.declared.log.Snapshot.{Snapshot}
 use Rattle.catalog.specs.Database.{Name, Database}
 use Rattle.catalog.specs.declared.tables.Table.{Table}
 use Rattle.pager.specs.Views.{View, newest_view, view_at}
-use Rattle.storage.specs.Works.{Work}
+use Rattle.executor.specs.Works.{Work}
 use Rattle.session.specs.Machine.{Machine, Connection, Idle, InTransactionOf, NoSnapshot, Phase, Reads, SavepointState, committed, is_writing, last_place, newest, with_connection}
 use Rattle.session.specs.Outcomes.{Gives, RefusedBy, back_to, commit_outcome, saved, unless_busy, worked, write_outcome}
 use Rattle.session.specs.Representation.{IsReadingIn, IsSnapshotOf, IsTransaction, has_no_snapshot, is_reading, seen_in}

@@ -2,17 +2,17 @@
 use Rattle.std.proofs.Common.{◌≡◌, refl, sym, ap, ◌∙◌, ℕ, List, Bool, true, false, inl, inr, subst, [], ◌∷◌, length, ◌==◌, Some, Ok, Err, nat_lt, ◌⊎◌, cond}
 use Rattle.sqlval.specs.Refusals.{Answer, Refusal, Busy, StaleSnapshot, TooLong}
 use Rattle.sqlval.specs.declared.value.Value.{Value}
-use Rattle.syntax.specs.declared.query.Query.{Query}
-use Rattle.syntax.specs.declared.statement.BeginMode.{BeginMode}
-use Rattle.syntax.specs.declared.statement.BeginMode.TheVariants as begins
-use Rattle.syntax.specs.declared.statement.Statement.{Statement}
-use Rattle.syntax.specs.declared.statement.Statement.TheVariants as statement
+use Rattle.sql_syntax.specs.declared.query.Query.{Query}
+use Rattle.sql_syntax.specs.declared.statement.BeginMode.{BeginMode}
+use Rattle.sql_syntax.specs.declared.statement.BeginMode.TheVariants as begins
+use Rattle.sql_syntax.specs.declared.statement.Statement.{Statement}
+use Rattle.sql_syntax.specs.declared.statement.Statement.TheVariants as statement
 use Rattle.catalog.specs.Database.{Database}
-use Rattle.bind.specs.Checked.{Checked, Meant}
+use Rattle.query_names.specs.Checked.{Checked, Meant}
 use Rattle.session.specs.Laws.{RefusalsAddNothing, TextRefusalsAddNothing}
 use Rattle.session.specs.Machine.{is_writing, another, newest, committed, last_place, Machine, Connection, Idle, InTransactionOf, Phase, NoSnapshot, Reads, Writes, SavepointState, Reply, Rows, Refused, connection}
 use Rattle.session.specs.Outcomes.{Outcome, Gives, RefusedBy, Ends, Commits, Copies, Bound, outcome, sorted_outcome, begun, control, write_outcome, read_outcome, given, worked, worked_alone, unless_busy, commit_outcome, released, restored, saved, from_name}
-use Rattle.storage.specs.Works.{Work, Makes, IsRefused, Undoes, Binds, Sort, Querying, Writing, Controlling, sort}
+use Rattle.executor.specs.Works.{Work, Makes, IsRefused, Undoes, Binds, Sort, Querying, Writing, Controlling, sort}
 use Rattle.session.specs.Steps.{Allowed, Instead}
 
 -- where it ends with a refusal, the committed databases stay

@@ -1,14 +1,14 @@
 -- The replies to a list of statements where nothing fails, for worked examples.
 use Rattle.std.specs.Prelude.{ℕ, List, [], ◌∷◌}
-use Rattle.syntax.specs.Tree.{Tree}
-use Rattle.syntax.specs.declared.create.ColumnDefinition.{ColumnDefinition}
-use Rattle.syntax.specs.declared.create.NewObject.{NewObject}
-use Rattle.syntax.specs.declared.create.NewObject.TheVariants as new
-use Rattle.syntax.specs.declared.statement.BeginMode.TheVariants as begins
-use Rattle.syntax.specs.declared.statement.Statement.{Statement}
-use Rattle.syntax.specs.declared.statement.Statement.TheVariants as statement
+use Rattle.sql_syntax.specs.Tree.{Tree}
+use Rattle.sql_syntax.specs.declared.create.ColumnDefinition.{ColumnDefinition}
+use Rattle.sql_syntax.specs.declared.create.NewObject.{NewObject}
+use Rattle.sql_syntax.specs.declared.create.NewObject.TheVariants as new
+use Rattle.sql_syntax.specs.declared.statement.BeginMode.TheVariants as begins
+use Rattle.sql_syntax.specs.declared.statement.Statement.{Statement}
+use Rattle.sql_syntax.specs.declared.statement.Statement.TheVariants as statement
 use Rattle.catalog.specs.Database.{Name}
-use Rattle.bind.proofs.Written.{from, select, results, insert, table_with}
+use Rattle.query_names.proofs.Written.{from, select, results, insert, table_with}
 use Rattle.session.specs.Machine.{Machine, Reply, Rows, Refused}
 use Rattle.session.specs.Outcomes.{Outcome, Gives, RefusedBy, Ends, Commits, Bound, outcome}
 use Rattle.session.specs.Steps.{after_commit}

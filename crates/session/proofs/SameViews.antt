@@ -16,8 +16,8 @@ use Rattle.pager.specs.Views.{View, ViewHas, changes_of}
 use Rattle.pager.specs.Writers.{seen, snapshot_of}
 use Rattle.pager.proofs.Mapping.{maps_within}
 use Rattle.pager.proofs.Seeing.{seen_from, seen_to}
-use Rattle.checkpoint.specs.Shown.{ShowsSame}
-use Rattle.stored.specs.Stored.{Stores}
+use Rattle.wal_checkpoint.specs.Shown.{ShowsSame}
+use Rattle.db_pages.specs.Stored.{Stores}
 use Rattle.session.specs.Stored.{ShowsDatabase}
 use Rattle.session.proofs.FirstPages.{all_there}
 

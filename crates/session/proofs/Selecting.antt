@@ -7,24 +7,24 @@ use Rattle.sqlval.specs.Refusals.{Answer, Refusal, refusal_of}
 use Rattle.sqlval.specs.declared.fault.Fault.{Fault}
 use Rattle.sqlval.specs.declared.fault.Fault.TheVariants as fault
 use Rattle.sqlval.specs.declared.value.Value.{Value}
-use Rattle.syntax.specs.declared.query.Query.{Query}
-use Rattle.syntax.specs.declared.statement.Statement.TheVariants as statement
+use Rattle.sql_syntax.specs.declared.query.Query.{Query}
+use Rattle.sql_syntax.specs.declared.statement.Statement.TheVariants as statement
 use Rattle.catalog.specs.Database.{Database}
 use Rattle.session.specs.SavedTables.{IsUnchanged, committed_in, current_in}
 use Rattle.session.specs.declared.savepoints.SavedCatalogs.{SavedCatalogs}
 use Rattle.catalog.specs.declared.tables.Table.{Table}
-use Rattle.bind.specs.Checked.{Checked, Meant, faults}
-use Rattle.rowprog.specs.Rows.{values_of}
+use Rattle.query_names.specs.Checked.{Checked, Meant, faults}
+use Rattle.row_scan.specs.Rows.{values_of}
 use Rattle.smallvec.specs.SmallVec.{SmallVec}
 use Rattle.std.specs.declared.alloc.Global.{Global}
-use Rattle.storage.specs.Reading.{AnswersRead}
+use Rattle.executor.specs.Reading.{AnswersRead}
 use Rattle.pager.specs.Views.{View, newest_view, view_at}
 use Rattle.session.specs.Supported.{StepSoFar}
 use Rattle.session.specs.Holding.{HoldThroughout}
 use Rattle.session.specs.ConnectionState.{files_of}
 use Rattle.session.specs.Machine.{Machine, Idle, NoSnapshot, Reads, Writes, Rows, Refused, committed, last_place, newest, with_connection}
 use Rattle.session.specs.Outcomes.{answered, given, outcome}
-use Rattle.storage.specs.Works.{read_on}
+use Rattle.executor.specs.Works.{read_on}
 use Rattle.session.specs.Steps.{Allowed, Instead}
 use Rattle.session.specs.Crashes.{MayShow}
 use Rattle.session.specs.Stored.{ShowsDatabase}

@@ -6,12 +6,12 @@ use Rattle.disk.specs.File.{File, IsContentLeft, IsLeft, IsRun, IsSynced, OnDb, 
 use Rattle.disk.proofs.Left.{left_synced}
 use Rattle.disk.proofs.Moments.{alone, always_end, always_weaker, run_weaker}
 use Rattle.disk.specs.declared.device.Disk.{Ghosts}
-use Rattle.dbheader.specs.Header.{IsHeader, counted_of}
-use Rattle.dbheader.specs.declared.fields.Header.{Header}
+use Rattle.db_header.specs.Header.{IsHeader, counted_of}
+use Rattle.db_header.specs.declared.fields.Header.{Header}
 use Rattle.wal.specs.Committed.{HasCommits}
 use Rattle.wal.specs.LogState.{db_of, state_of, log_of}
 use Rattle.wal.specs.Sizes.{IsViewSize}
-use Rattle.walframe.specs.Written.{Framed}
+use Rattle.wal_frame.specs.Written.{Framed}
 use Rattle.wal.specs.Alone.{StandsAlone}
 use Rattle.wal.specs.Anew.{LeavesAmong}
 use Rattle.wal.specs.declared.log.Log.{Log}

@@ -6,9 +6,9 @@ use Rattle.std.proofs.lemmas.Bool.{false≢true}
 use Rattle.std.proofs.lemmas.Bool.Decides.{nat_tests}
 use Rattle.disk.specs.declared.device.Disk.{Ghosts}
 use Rattle.sqlval.specs.Refusals.{InTransaction, NoTransaction}
-use Rattle.syntax.specs.declared.statement.BeginMode.{BeginMode}
-use Rattle.syntax.specs.declared.statement.BeginMode.TheVariants as begins
-use Rattle.syntax.specs.declared.statement.Statement.TheVariants as statement
+use Rattle.sql_syntax.specs.declared.statement.BeginMode.{BeginMode}
+use Rattle.sql_syntax.specs.declared.statement.BeginMode.TheVariants as begins
+use Rattle.sql_syntax.specs.declared.statement.Statement.TheVariants as statement
 use Rattle.wal.specs.declared.log.Log.{Log}
 use Rattle.session.specs.SavedTables.{HasNoSavepoints, IsUnchanged, Savepoints, committed_in, current_in, savepoints_in}
 use Rattle.session.specs.Saving.{AreSaved, IsMarked, SavedAs, in_transaction, states_of}
@@ -16,7 +16,7 @@ use Rattle.session.specs.declared.savepoints.SavedCatalogs.{SavedCatalogs}
 use Rattle.catalog.specs.Database.{Database}
 use Rattle.catalog.specs.declared.tables.Table.{Table}
 use Rattle.disk.specs.File.{File}
-use Rattle.walframe.specs.Accepted.{KeepsFile}
+use Rattle.wal_frame.specs.Accepted.{KeepsFile}
 use Rattle.wal.specs.Committed.{frames_under}
 use Rattle.wal.specs.LogState.{LogState, db_of, log_of, state_of, header_of, seen_by, size_of}
 use Rattle.wal.specs.declared.log.Snapshot.{Snapshot}

@@ -1,7 +1,7 @@
 -- What a view stores is what the two files stand for.
 use Rattle.std.proofs.Common.{◌≡◌, ◌≤◌, sym, subst, ℕ, List, length, arith}
 use Rattle.sqlval.specs.PageSizes.{IsPageSize}
-use Rattle.dbheader.specs.Header.{IsHeader, counted_of}
+use Rattle.db_header.specs.Header.{IsHeader, counted_of}
 use Rattle.std.specs.Prelude.{⊤, MatchOption}
 use Rattle.wal.specs.Committed.{HasCommits}
 use Rattle.wal.specs.Sizes.{IsSizeWithinLimits}
@@ -12,12 +12,12 @@ use Rattle.pages.specs.Map.{Has, page_at}
 use Rattle.pager.specs.Maps.{pages_in}
 use Rattle.pager.specs.Views.{View}
 use Rattle.pager.proofs.Mapping.{count_to, maps_shown, shows_mapped}
-use Rattle.filecheck.specs.Stands.{StandsFor}
-use Rattle.stored.specs.Language.{supported_language}
-use Rattle.stored.specs.Stored.{IsCounted}
+use Rattle.db_files.specs.Stands.{StandsFor}
+use Rattle.db_pages.specs.Language.{supported_language}
+use Rattle.db_pages.specs.Stored.{IsCounted}
 use Rattle.session.specs.Holding.{Hold, IsFound, StoreFiles}
 use Rattle.session.specs.Stored.{ShowsDatabase}
-use Rattle.stored.proofs.Standing.{stand_if_stored}
+use Rattle.db_pages.proofs.Standing.{stand_if_stored}
 use Rattle.session.proofs.StandingViews.{ShowsEach, few_frames, files_make}
 
 module _ (log : List ℕ) (view : View) (commits : HasCommits view.page_size log view.frames) (found : IsFound view) (tables : List Table) (database : Database) (shown : ShowsDatabase view tables database) where

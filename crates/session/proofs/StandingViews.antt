@@ -4,15 +4,15 @@ use Rattle.std.specs.Prelude.{Option, Some, None, Result, Ok}
 use Rattle.std.proofs.lemmas.List.{ext_get_or, map-append}
 use Rattle.sqlval.specs.PageSizes.{IsPageSize}
 use Rattle.sqlval.specs.declared.fault.Fault.{Fault}
-use Rattle.dbheader.proofs.HeaderLemmas.{header_again}
-use Rattle.dbheader.specs.Header.{IsHeader, counted_of}
-use Rattle.dbheader.specs.Reading.{header_at}
-use Rattle.dbheader.specs.declared.fields.Header.{Header}
+use Rattle.db_header.proofs.HeaderLemmas.{header_again}
+use Rattle.db_header.specs.Header.{IsHeader, counted_of}
+use Rattle.db_header.specs.Reading.{header_at}
+use Rattle.db_header.specs.declared.fields.Header.{Header}
 use Rattle.pages.specs.Map.{PageMap, page_at}
-use Rattle.walframe.specs.Accepted.{heads_to, head_at}
-use Rattle.walframe.specs.Written.{Framed}
-use Rattle.walframe.specs.declared.frame.FrameHeader.{FrameHeader}
-use Rattle.walframe.specs.declared.log_header.LogHeader.{LogHeader}
+use Rattle.wal_frame.specs.Accepted.{heads_to, head_at}
+use Rattle.wal_frame.specs.Written.{Framed}
+use Rattle.wal_frame.specs.declared.frame.FrameHeader.{FrameHeader}
+use Rattle.wal_frame.specs.declared.log_header.LogHeader.{LogHeader}
 use Rattle.wal.specs.Committed.{AreCommitted, HasCommits, framed_at, framed_to, frames_under}
 use Rattle.wal.specs.Sizes.{IsViewSize}
 use Rattle.wal.specs.View.{IsFilesView, IsPage, IsPageIn, heads}

@@ -1,27 +1,27 @@
 -- What files stand for, a view stores.
 use Rattle.std.proofs.Common.{◌≡◌, ◌∙◌, ◌≤◌, refl, sym, ap, subst, ℕ, zero, suc, List, [], ◌∷◌, ◌++◌, length, map, Option, Some, None, Ok}
-use Rattle.dbheader.specs.Header.{counted_of}
-use Rattle.walframe.specs.Accepted.{head_at, heads_to}
-use Rattle.walframe.specs.Log.{header_in}
-use Rattle.walframe.specs.Written.{Framed}
-use Rattle.walframe.specs.declared.frame.FrameHeader.{FrameHeader}
-use Rattle.walframe.specs.declared.log_header.LogHeader.{LogHeader}
+use Rattle.db_header.specs.Header.{counted_of}
+use Rattle.wal_frame.specs.Accepted.{head_at, heads_to}
+use Rattle.wal_frame.specs.Log.{header_in}
+use Rattle.wal_frame.specs.Written.{Framed}
+use Rattle.wal_frame.specs.declared.frame.FrameHeader.{FrameHeader}
+use Rattle.wal_frame.specs.declared.log_header.LogHeader.{LogHeader}
 use Rattle.wal.specs.Committed.{AreCommitted, HasCommits, framed_at, framed_to, frames_under}
 use Rattle.wal.specs.Sizes.{IsViewSize}
 use Rattle.wal.specs.View.{heads}
 use Rattle.wal.proofs.FrameLists.{framed_len}
 use Rattle.wal.proofs.Views.{page_in}
 use Rattle.pages.specs.Map.{PageMap, page_at, Has}
-use Rattle.tabletree.proofs.LeafTrees.{root_there}
+use Rattle.tree_table.proofs.LeafTrees.{root_there}
 use Rattle.catalog.specs.Database.{Database}
 use Rattle.catalog.specs.declared.tables.Table.{Table}
-use Rattle.filecheck.specs.Files.{FilesStandFor}
+use Rattle.db_files.specs.Files.{FilesStandFor}
 use Rattle.pager.specs.Views.{View, ViewHas}
-use Rattle.stored.specs.Language.{supported_language}
-use Rattle.stored.specs.Stored.{Stores}
+use Rattle.db_pages.specs.Language.{supported_language}
+use Rattle.db_pages.specs.Stored.{Stores}
 use Rattle.session.specs.Holding.{IsFound, StoreFiles}
 use Rattle.session.specs.Meaning.{HeldFilesAreStored}
-use Rattle.stored.proofs.StoredPages.{stored_if_standing}
+use Rattle.db_pages.proofs.StoredPages.{stored_if_standing}
 use Rattle.session.proofs.StandingViews.{ShowsEach, only_these}
 
 -- ---- the log's committed frames

@@ -9,7 +9,7 @@ use Rattle.sqlval.specs.Refusals.{refusal_of}
 use Rattle.sqlval.specs.declared.fault.Fault.{Fault}
 use Rattle.sqlval.specs.declared.fault.Fault.TheVariants as fault
 use Rattle.sqlval.specs.declared.fault.Misuse.TheVariants as misuse
-use Rattle.syntax.specs.declared.statement.Statement.{Statement}
+use Rattle.sql_syntax.specs.declared.statement.Statement.{Statement}
 use Rattle.wal.specs.declared.log.Log.{Log}
 use Rattle.session.specs.Calls.{IsCallOf, IsRefusedOnly}
 use Rattle.session.specs.ConnectionState.{HasCause, HasCauseIn, files_of, first_refusal, has_failed_in}

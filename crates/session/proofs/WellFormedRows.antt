@@ -3,17 +3,17 @@ use Rattle.std.specs.Prelude.{◌≡◌, refl, ℕ, zero, suc, true, false, code
 use Rattle.std.specs.Fmt.{digits}
 use Rattle.std.proofs.Common.{inl, arith}
 use Rattle.sqlval.specs.declared.collation.Collation.TheVariants.{Binary}
-use Rattle.syntax.specs.Tree.{Tree, Paren}
-use Rattle.syntax.specs.declared.create.ColumnDefinition.{ColumnDefinition}
-use Rattle.syntax.specs.declared.create.ColumnRule.TheVariants as column
-use Rattle.syntax.specs.declared.create.NewObject.TheVariants as new
-use Rattle.syntax.specs.declared.create.TableRule.TheVariants as rule
-use Rattle.grammar.specs.NewObjects.{is_object_within}
-use Rattle.grammar.specs.Within.{is_selection_within}
+use Rattle.sql_syntax.specs.Tree.{Tree, Paren}
+use Rattle.sql_syntax.specs.declared.create.ColumnDefinition.{ColumnDefinition}
+use Rattle.sql_syntax.specs.declared.create.ColumnRule.TheVariants as column
+use Rattle.sql_syntax.specs.declared.create.NewObject.TheVariants as new
+use Rattle.sql_syntax.specs.declared.create.TableRule.TheVariants as rule
+use Rattle.sql_grammar.specs.NewObjects.{is_object_within}
+use Rattle.sql_grammar.specs.Within.{is_selection_within}
 use Rattle.catalog.specs.Database.{Name, Database}
-use Rattle.bind.specs.Checked.{meant}
-use Rattle.bind.specs.Schema.{create_table}
-use Rattle.bind.proofs.Written.{number, select, result, column_with, table_with}
+use Rattle.query_names.specs.Checked.{meant}
+use Rattle.query_names.specs.Schema.{create_table}
+use Rattle.query_names.proofs.Written.{number, select, result, column_with, table_with}
 use Rattle.session.specs.WellFormed.{WellFormed}
 
 abbrev a : Name

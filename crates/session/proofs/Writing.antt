@@ -8,7 +8,7 @@ use Rattle.sqlval.specs.Refusals as refusal
 use Rattle.sqlval.specs.Refusals.{refusal_of}
 use Rattle.sqlval.specs.declared.fault.Fault.{Fault}
 use Rattle.sqlval.specs.declared.fault.Fault.TheVariants as fault
-use Rattle.syntax.specs.declared.statement.Statement.{Statement}
+use Rattle.sql_syntax.specs.declared.statement.Statement.{Statement}
 use Rattle.wal.specs.declared.log.Log.{Log}
 use Rattle.wal.specs.declared.log.Snapshot.{Snapshot}
 use Rattle.catalog.specs.Database.{Database}
@@ -24,16 +24,16 @@ use Rattle.pager.specs.Views.{View, newest_view, view_at, view_of}
 use Rattle.pager.specs.Writers.{seen}
 use Rattle.pager.specs.declared.writer.Writer.{Writer}
 use Rattle.session.specs.Supported.{CannotStore, StepSoFar, database_of}
-use Rattle.storage.specs.Forms.{is_supported}
+use Rattle.executor.specs.Forms.{is_supported}
 use Rattle.session.specs.ConnectionState.{files_of, has_failed_in}
 use Rattle.session.specs.Machine.{Machine, Connection, Idle, InTransactionOf, NoSnapshot, Reads, SavepointState, Writes, Reply, Rows, Refused, connection, is_writing, last_place, newest}
 use Rattle.session.specs.Outcomes.{Outcome, outcome}
-use Rattle.storage.specs.Works.{Work, Makes, IsRefused, Undoes, Binds, Reaches, change_made}
+use Rattle.executor.specs.Works.{Work, Makes, IsRefused, Undoes, Binds, Reaches, change_made}
 use Rattle.session.specs.Steps.{Allowed, after_commit, fails}
 use Rattle.session.specs.Stored.{ShowsDatabase}
 use Rattle.session.specs.Representation.{Beside, IsSnapshotOf, IsWritingIn, MayWrite, RepresentsRunning, IsTransaction, OnlyReads, ShowTheSame, StepsOn, StepsTo, beside_in, done_reply, has_no_snapshot, is_idle, is_reading, seen_in, with_transaction}
 use Rattle.session.specs.Applying.{CommitsChanges, EndsAlone, IsApplied, IsCommitCause, IsDropped, IsNotApplied, KeepsCommitted, Applies, CanApply, listing_of}
-use Rattle.storage.specs.Changing.{IsChangeRefusal, IsTooMuch}
+use Rattle.executor.specs.Changing.{IsChangeRefusal, IsTooMuch}
 use Rattle.session.specs.Changing.{ChangesPages, KeepsListed, written}
 use Rattle.session.specs.Writers.{IsWriter}
 use Rattle.session.specs.declared.transactions.Connections.{Connections}

@@ -5,7 +5,7 @@ use Rattle.sqlval.specs.declared.fault.Fault.{Fault}
 use Rattle.sqlval.specs.declared.fault.Fault.TheVariants as fault
 use Rattle.disk.specs.File.{IsContentLeft}
 use Rattle.disk.specs.declared.device.Disk.{Ghosts}
-use Rattle.syntax.specs.declared.statement.Statement.{Statement}
+use Rattle.sql_syntax.specs.declared.statement.Statement.{Statement}
 use Rattle.catalog.specs.Database.{Database}
 use Rattle.session.specs.SavedTables.{HasNoSavepoints, IsUnchanged, committed_in, current_in, savepoints_in}
 use Rattle.wal.specs.LogState.{db_of, log_of, seen_by, state_of}
@@ -19,9 +19,9 @@ use Rattle.pager.specs.Pruning.{AreNew}
 use Rattle.pager.specs.Views.{Tells, changes_of, newest_view, view_at}
 use Rattle.pager.specs.Writers.{snapshot_of}
 use Rattle.pager.specs.declared.writer.Writer.{Writer}
-use Rattle.storage.specs.Changing.{IsChangeRefusal}
+use Rattle.executor.specs.Changing.{IsChangeRefusal}
 use Rattle.session.specs.Changing.{Listing, CanChange, listing}
-use Rattle.storage.specs.Works.{Reaches, change_made}
+use Rattle.executor.specs.Works.{Reaches, change_made}
 use Rattle.session.specs.Holding.{HoldThroughout, IsSettled}
 use Rattle.session.specs.Checkpoints.{CopiesAfter}
 use Rattle.session.specs.ConnectionState.{files_of, has_failed_in, is_io}

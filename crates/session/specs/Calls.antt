@@ -2,7 +2,7 @@
 use Rattle.std.specs.Prelude.{◌≡◌, ◌⊎◌, ⊤, ℕ, IfErr, Result, Err}
 use Rattle.disk.specs.declared.device.Disk.{Ghosts}
 use Rattle.sqlval.specs.declared.fault.Fault.{Fault}
-use Rattle.syntax.specs.declared.statement.Statement.{Statement}
+use Rattle.sql_syntax.specs.declared.statement.Statement.{Statement}
 use Rattle.session.specs.ConnectionState.{HasCauseIn, first_refusal, has_failed_in}
 use Rattle.session.specs.Failing.{IsRefusedFor, MarksFailure}
 use Rattle.session.specs.Limits.{may_be_full}

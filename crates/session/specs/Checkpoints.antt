@@ -5,12 +5,12 @@ use Rattle.disk.specs.declared.device.Disk.{Ghosts}
 use Rattle.sqlval.specs.declared.fault.Fault.{Fault}
 use Rattle.sqlval.specs.declared.value.Value.{Value}
 use Rattle.sqlval.specs.declared.value.Value.TheVariants.{Int}
-use Rattle.syntax.specs.declared.statement.CheckpointMode.{CheckpointMode}
-use Rattle.syntax.specs.declared.statement.CheckpointMode.TheVariants as modes
+use Rattle.sql_syntax.specs.declared.statement.CheckpointMode.{CheckpointMode}
+use Rattle.sql_syntax.specs.declared.statement.CheckpointMode.TheVariants as modes
 use Rattle.wal.specs.declared.log.Log.{Log}
 use Rattle.wal.specs.declared.log.Snapshot.{Snapshot}
-use Rattle.checkpoint.specs.declared.checkpoints.Counts.{Counts}
-use Rattle.checkpoint.specs.Shown.{Checkpoints, IsCheckpointRefusal, MayCopy, Meanwhile}
+use Rattle.wal_checkpoint.specs.declared.checkpoints.Counts.{Counts}
+use Rattle.wal_checkpoint.specs.Shown.{Checkpoints, IsCheckpointRefusal, MayCopy, Meanwhile}
 use Rattle.session.specs.ConnectionState.{files_of, has_failed_in, is_io}
 use Rattle.session.specs.Representation.{Beside, beside_in}
 use Rattle.session.specs.Seats.{IsLeast, holds_snapshot}

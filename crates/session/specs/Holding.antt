@@ -2,8 +2,8 @@
 use Rattle.std.specs.Prelude.{◌≡◌, ◌≤◌, ⊤, ℕ, List, length, map, MatchOption}
 use Rattle.disk.specs.File.{Version, IsLeft, IsSynced, IsContentLeft, Throughout, versions}
 use Rattle.disk.specs.declared.device.Disk.{Ghosts}
-use Rattle.dbheader.specs.Header.{IsHeader, counted_of}
-use Rattle.dbheader.specs.declared.fields.Header.{Header}
+use Rattle.db_header.specs.Header.{IsHeader, counted_of}
+use Rattle.db_header.specs.declared.fields.Header.{Header}
 use Rattle.wal.specs.Committed.{HasCommits}
 use Rattle.wal.specs.LogState.{db_of, state_of, log_of}
 use Rattle.wal.specs.Sizes.{IsViewSize}
@@ -12,8 +12,8 @@ use Rattle.wal.specs.declared.log.Log.{Log}
 use Rattle.catalog.specs.Database.{Database}
 use Rattle.catalog.specs.declared.tables.Table.{Table}
 use Rattle.pager.specs.Views.{View, IsViewPage, newest_view}
-use Rattle.filecheck.specs.Files.{FilesStandFor}
-use Rattle.stored.specs.Language.{supported_language}
+use Rattle.db_files.specs.Files.{FilesStandFor}
+use Rattle.db_pages.specs.Language.{supported_language}
 use Rattle.session.specs.Machine.{Machine}
 use Rattle.session.specs.Crashes.{MayShow}
 use Rattle.session.specs.Stored.{ShowsDatabase}

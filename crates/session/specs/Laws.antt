@@ -1,7 +1,7 @@
 -- What follows for every statement.
 use Rattle.std.specs.Prelude.{◌≡◌, ◌<◌, ◌≤◌, ℕ, List, length}
 use Rattle.sqlval.specs.Refusals.{Refusal}
-use Rattle.syntax.specs.declared.statement.Statement.{Statement}
+use Rattle.sql_syntax.specs.declared.statement.Statement.{Statement}
 use Rattle.session.specs.Machine.{Machine, Reply, Refused, connection, committed}
 use Rattle.session.specs.Steps.{Step}
 use Rattle.session.specs.Texts.{Grammar, TextStep}

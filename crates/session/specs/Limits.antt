@@ -1,8 +1,8 @@
 -- Which statements may find the database full.
 use Rattle.std.specs.Prelude.{Bool, true, false}
-use Rattle.syntax.specs.declared.change.Change.TheVariants as change
-use Rattle.syntax.specs.declared.statement.Statement.{Statement}
-use Rattle.syntax.specs.declared.statement.Statement.TheVariants as statement
+use Rattle.sql_syntax.specs.declared.change.Change.TheVariants as change
+use Rattle.sql_syntax.specs.declared.statement.Statement.{Statement}
+use Rattle.sql_syntax.specs.declared.statement.Statement.TheVariants as statement
 
 -- whether a statement may be refused as `Full`: those that change the database, COMMIT, and RELEASE, which may commit
 abbrev pub may_be_full : Statement → Bool

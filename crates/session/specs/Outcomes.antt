@@ -3,16 +3,16 @@ use Rattle.std.specs.Prelude.{ℕ, Bool, true, false, List, [], ◌∷◌, lengt
 use Rattle.sqlval.specs.Names.{folded, is_same_name}
 use Rattle.sqlval.specs.Refusals.{Answer, Refusal, Busy, StaleSnapshot, NoTransaction, InTransaction, NoSavepoint, Raised, RaisedRollback, TooLong}
 use Rattle.sqlval.specs.declared.value.Value.{Value}
-use Rattle.syntax.specs.declared.change.Change.{Change}
-use Rattle.syntax.specs.declared.query.Query.{Query}
-use Rattle.syntax.specs.declared.statement.BeginMode.{BeginMode}
-use Rattle.syntax.specs.declared.statement.BeginMode.TheVariants as begins
-use Rattle.syntax.specs.declared.statement.CheckpointMode.{CheckpointMode}
-use Rattle.syntax.specs.declared.statement.Statement.{Statement}
-use Rattle.syntax.specs.declared.statement.Statement.TheVariants as statement
+use Rattle.sql_syntax.specs.declared.change.Change.{Change}
+use Rattle.sql_syntax.specs.declared.query.Query.{Query}
+use Rattle.sql_syntax.specs.declared.statement.BeginMode.{BeginMode}
+use Rattle.sql_syntax.specs.declared.statement.BeginMode.TheVariants as begins
+use Rattle.sql_syntax.specs.declared.statement.CheckpointMode.{CheckpointMode}
+use Rattle.sql_syntax.specs.declared.statement.Statement.{Statement}
+use Rattle.sql_syntax.specs.declared.statement.Statement.TheVariants as statement
 use Rattle.catalog.specs.Database.{Name, Database}
-use Rattle.bind.specs.Checked.{Checked, Meant}
-use Rattle.storage.specs.Works.{Work, Makes, IsRefused, Undoes, Binds, Sort, Querying, Writing, Controlling, sort, read_on}
+use Rattle.query_names.specs.Checked.{Checked, Meant}
+use Rattle.executor.specs.Works.{Work, Makes, IsRefused, Undoes, Binds, Sort, Querying, Writing, Controlling, sort, read_on}
 use Rattle.session.specs.Machine.{Machine, Connection, Idle, InTransactionOf, Phase, NoSnapshot, Reads, Writes, SavepointState, last_place, committed, newest, connection, with_connection, is_writing, another}
 
 -- what a statement comes to where memory, disk and room suffice

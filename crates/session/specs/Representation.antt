@@ -8,8 +8,8 @@ use Rattle.sqlval.specs.declared.fault.Fault.TheVariants.{Busy, StaleSnapshot}
 use Rattle.sqlval.specs.declared.value.Value.{Value}
 use Rattle.std.specs.List.{AllByRecursion, list_any}
 use Rattle.disk.specs.declared.device.Disk.{Ghosts}
-use Rattle.syntax.specs.declared.statement.Statement.{Statement}
-use Rattle.syntax.specs.declared.statement.Statement.TheVariants as statement
+use Rattle.sql_syntax.specs.declared.statement.Statement.{Statement}
+use Rattle.sql_syntax.specs.declared.statement.Statement.TheVariants as statement
 use Rattle.wal.specs.declared.log.Log.{Log}
 use Rattle.wal.specs.declared.log.Snapshot.{Snapshot}
 use Rattle.wal.specs.LogState.{db_of, state_of, log_of, seen_by}
@@ -21,11 +21,11 @@ use Rattle.session.specs.declared.seats.Seat.{Seat}
 use Rattle.session.specs.Saving.{AreSaved, IsMarked, IsUnwritten, SavedAs, in_transaction}
 use Rattle.session.specs.declared.savepoints.SavedCatalogs.{SavedCatalogs}
 use Rattle.catalog.specs.Database.{Database}
-use Rattle.rowprog.specs.Rows.{values_of}
+use Rattle.row_scan.specs.Rows.{values_of}
 use Rattle.pager.specs.Marks.{Changes, marks_of}
 use Rattle.pager.specs.Views.{View, Tells, newest_view, view_at, view_of}
 use Rattle.pager.specs.declared.writer.Writer.{Writer}
-use Rattle.storage.specs.Forms.{is_supported}
+use Rattle.executor.specs.Forms.{is_supported}
 use Rattle.session.specs.Supported.{StepSoFar}
 use Rattle.session.specs.Holding.{HoldThroughout, IsLeftBy, IsSettled}
 use Rattle.session.specs.ConnectionState.{files_of, has_failed_in}

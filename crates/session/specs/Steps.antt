@@ -3,9 +3,9 @@ use Rattle.std.specs.Prelude.{◌≡◌, ℕ, ◌≤◌, Bool, true, false, ◌&
 use Rattle.sqlval.specs.Refusals.{Refusal, Memory, Io, Full, Misuse, Failed}
 use Rattle.sqlval.specs.declared.value.Value.{Value}
 use Rattle.sqlval.specs.declared.value.Value.TheVariants.{Int}
-use Rattle.syntax.specs.declared.statement.CheckpointMode.{CheckpointMode}
-use Rattle.syntax.specs.declared.statement.CheckpointMode.TheVariants as checkpoint
-use Rattle.syntax.specs.declared.statement.Statement.{Statement}
+use Rattle.sql_syntax.specs.declared.statement.CheckpointMode.{CheckpointMode}
+use Rattle.sql_syntax.specs.declared.statement.CheckpointMode.TheVariants as checkpoint
+use Rattle.sql_syntax.specs.declared.statement.Statement.{Statement}
 use Rattle.catalog.specs.Database.{Database}
 use Rattle.trigger.specs.Binding.{IsFault}
 use Rattle.session.specs.Machine.{Machine, Idle, Reply, Rows, Refused, with_connection, has_snapshot, another}

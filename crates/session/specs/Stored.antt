@@ -5,7 +5,7 @@ use Rattle.catalog.specs.Database.{Database}
 use Rattle.catalog.specs.declared.tables.Table.{Table}
 use Rattle.pager.specs.Maps.{pages_in}
 use Rattle.pager.specs.Views.{View}
-use Rattle.stored.specs.Stored.{Stores}
+use Rattle.db_pages.specs.Stored.{Stores}
 
 -- The view's pages hold the database of these tables, and are no more than there may be.
 pub record ShowsDatabase (view : View) (tables : List Table) (db : Database) : Type 0 where

@@ -2,10 +2,10 @@
 use Rattle.std.specs.Prelude.{◌≡◌, Bool, true, false, ◌⊎◌, ℕ}
 use Rattle.sqlval.specs.Refusals.{Refusal, Memory, Misuse, Unsupported, Failed, refusal_of}
 use Rattle.sqlval.specs.declared.fault.Fault.{Fault}
-use Rattle.syntax.specs.declared.statement.Statement.{Statement}
+use Rattle.sql_syntax.specs.declared.statement.Statement.{Statement}
 use Rattle.catalog.specs.Database.{Database}
-use Rattle.storage.specs.Changing.{IsTooMuch}
-use Rattle.storage.specs.Forms.{is_supported}
+use Rattle.executor.specs.Changing.{IsTooMuch}
+use Rattle.executor.specs.Forms.{is_supported}
 use Rattle.session.specs.Machine.{Machine, Connection, InTransactionOf, Reads, Writes, Reply, Refused, committed, connection, newest}
 use Rattle.session.specs.Steps.{Step, is_connection}
 

@@ -1,7 +1,7 @@
 -- A statement as a text.
 use Rattle.std.specs.Prelude.{◌≡◌, ℕ, Bool, true, false, ◌⊎◌, List, [], ◌∷◌, length, Option, Some, None, nat_lt}
 use Rattle.sqlval.specs.Refusals.{Refusal, Memory, Unsupported, Syntax, Misuse, TooLong, Failed}
-use Rattle.syntax.specs.declared.statement.Statement.{Statement}
+use Rattle.sql_syntax.specs.declared.statement.Statement.{Statement}
 use Rattle.session.specs.Machine.{Machine, Reply, Refused}
 use Rattle.session.specs.Steps.{Step, is_connection}
 

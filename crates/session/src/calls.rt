@@ -2,14 +2,14 @@
 
 ghost use Rattle.std.specs.Prelude.{◌≡◌, Err, IfErr, Ok, OnOk};
 ghost use Rattle.sqlval.specs.declared.fault.Fault.TheVariants as fault;
-ghost use Rattle.syntax.specs.declared.statement.BeginMode.TheVariants.{Deferred, Immediate};
-ghost use Rattle.syntax.specs.declared.statement.Statement.TheVariants as statement;
+ghost use Rattle.sql_syntax.specs.declared.statement.BeginMode.TheVariants.{Deferred, Immediate};
+ghost use Rattle.sql_syntax.specs.declared.statement.Statement.TheVariants as statement;
 ghost use Rattle.session.specs.ConnectionState.{first_refusal, has_failed_in};
 
 use crate::transactions::Connections;
 use disk::Disk;
+use sql_syntax::BeginMode;
 use sqlval::{Name, R};
-use syntax::BeginMode;
 
 impl<D: Disk + Drop> Connections<D> {
     ghost use Rattle.session.specs.Calls.{IsCallOf, IsRefusedOnly};

@@ -1,9 +1,9 @@
 //! The changes that statements make of the pages that a writer has.
 
 ghost use Rattle.std.specs.Prelude.{◌≡◌, IfSome, IfNone, OnOk, true, false, IsTrue};
-ghost use Rattle.syntax.specs.declared.change.Change.TheVariants as change;
-ghost use Rattle.syntax.specs.declared.create.NewObject.TheVariants as object;
-ghost use Rattle.syntax.specs.declared.statement.Statement.TheVariants as statement;
+ghost use Rattle.sql_syntax.specs.declared.change.Change.TheVariants as change;
+ghost use Rattle.sql_syntax.specs.declared.create.NewObject.TheVariants as object;
+ghost use Rattle.sql_syntax.specs.declared.statement.Statement.TheVariants as statement;
 ghost use Rattle.catalog.specs.Database.{Database};
 ghost use Rattle.pager.specs.Marks.{IsOverTheSame, marks_of};
 ghost use Rattle.pager.specs.Views.{Tells};
@@ -12,21 +12,21 @@ ghost use Rattle.session.specs.Changing.{CanChange, ChangesPages, MakesCatalog, 
 ghost use Rattle.session.specs.ConnectionState.{HasCause};
 ghost use Rattle.session.specs.Limits.{may_be_full};
 ghost use Rattle.session.specs.Representation.{ShowTheSame};
-ghost use Rattle.storage.specs.Forms as forms;
-ghost use Rattle.storage.specs.Forms.{WhereSupported};
-ghost use Rattle.stored.specs.Forms.{is_object_supported};
-ghost use Rattle.stored.specs.Schema.{IsCreateOf};
+ghost use Rattle.executor.specs.Forms as forms;
+ghost use Rattle.executor.specs.Forms.{WhereSupported};
+ghost use Rattle.db_pages.specs.Forms.{is_object_supported};
+ghost use Rattle.db_pages.specs.Schema.{IsCreateOf};
 
 use crate::savepoints::SavedCatalogs;
 use catalog::Catalog;
 use disk::Disk;
 use pager::{Writer, Writing};
-use sqlval::{Name, R, Text};
-use std::alloc::Global;
-use syntax::{
+use sql_syntax::{
     Change, Create, Delete, IndexDefinition, Insert, NewObject, ObjectKind, Statement,
     TableDefinition, Update,
 };
+use sqlval::{Name, R, Text};
+use std::alloc::Global;
 use wal::Log;
 
 /// A statement that changes the database.
@@ -91,7 +91,7 @@ fn insert<D: Disk + Drop>(
         buffer,
         place: None,
     };
-    storage::insert(alloc, &mut pages, catalog.current(), insert)
+    executor::insert(alloc, &mut pages, catalog.current(), insert)
 }
 
 /// Removes rows of a table.
@@ -118,7 +118,7 @@ fn delete<D: Disk + Drop>(
         buffer,
         place: None,
     };
-    storage::delete_rows(alloc, &mut pages, catalog.current(), delete)
+    executor::delete_rows(alloc, &mut pages, catalog.current(), delete)
 }
 
 /// Sets values in rows of a table.
@@ -145,7 +145,7 @@ fn update<D: Disk + Drop>(
         buffer,
         place: None,
     };
-    storage::update_rows(alloc, &mut pages, catalog.current(), update)
+    executor::update_rows(alloc, &mut pages, catalog.current(), update)
 }
 
 /// Makes a table's row in the schema table, and its tree. Answers the catalog with it.
@@ -174,7 +174,7 @@ fn table_pages<D: Disk + Drop>(
         buffer,
         place: None,
     };
-    storage::create_table(alloc, &mut pages, catalog.current(), sql, table)
+    executor::create_table(alloc, &mut pages, catalog.current(), sql, table)
 }
 
 /// Makes a table.
@@ -230,7 +230,7 @@ fn index_pages<D: Disk + Drop>(
         buffer,
         place: None,
     };
-    storage::create_index(alloc, &mut pages, catalog.current(), sql, index)
+    executor::create_index(alloc, &mut pages, catalog.current(), sql, index)
 }
 
 /// Makes an index.
@@ -284,7 +284,7 @@ fn drop_pages<D: Disk + Drop>(
         buffer,
         place: None,
     };
-    storage::drop_object(alloc, &mut pages, catalog.current(), kind, name)
+    executor::drop_object(alloc, &mut pages, catalog.current(), kind, name)
 }
 
 /// Drops an object.

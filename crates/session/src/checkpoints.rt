@@ -1,19 +1,19 @@
 //! Checkpoints of the connections' log.
 
 ghost use Rattle.std.specs.Prelude.{◌≡◌, ◌<◌, ◌∷◌, ◌++◌, [], false, length, map, vec_capacity};
-ghost use Rattle.rowprog.specs.Rows.{values_of};
+ghost use Rattle.row_scan.specs.Rows.{values_of};
 ghost use Rattle.session.specs.Checkpoints.{CopiesBack, numbers_of};
 ghost use Rattle.session.specs.ConnectionState.{HasCause};
 
 use crate::seats::{Seat, any_holds_snapshot, least_snapshot};
-use checkpoint::{Counts, passive, restart, truncate};
 use disk::Disk;
-use rowprog::Rows;
+use row_scan::Rows;
 use smallvec::SmallVec;
+use sql_syntax::CheckpointMode;
 use sqlval::{R, Row, Value};
 use std::alloc::Global;
-use syntax::CheckpointMode;
 use wal::Log;
+use wal_checkpoint::{Counts, passive, restart, truncate};
 
 /// Copies the log's frames into the database file, up to the fewest that one of these seats sees. (What `passive` refuses.)
 pub fn copy_frames<D: Disk + Drop>(

@@ -2,11 +2,11 @@
 
 ghost use Rattle.std.specs.Prelude.{◌≡◌, ◌==◌, length};
 ghost use Rattle.std.specs.List.{list_all};
-ghost use Rattle.stored.specs.Forms as object_forms;
-ghost use Rattle.storage.specs.Forms as supported_forms;
+ghost use Rattle.db_pages.specs.Forms as object_forms;
+ghost use Rattle.executor.specs.Forms as supported_forms;
 
+use sql_syntax::{ColumnDefinition, NewObject, Statement, TableDefinition};
 use sqlval::Many;
-use syntax::{ColumnDefinition, NewObject, Statement, TableDefinition};
 
 /// Whether a table has columns of names and types alone.
 pub fn is_table_supported(table: &TableDefinition) -> bool

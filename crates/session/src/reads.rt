@@ -4,10 +4,10 @@ ghost use Rattle.std.specs.Prelude.{◌≡◌, ◌≤◌, map, false};
 ghost use Rattle.catalog.specs.Database.{Database};
 ghost use Rattle.catalog.specs.Listed.{tables_of};
 ghost use Rattle.pager.specs.Views.{Tells, view_at, view_of};
-ghost use Rattle.rowprog.specs.Rows.{values_of};
+ghost use Rattle.row_scan.specs.Rows.{values_of};
 ghost use Rattle.wal.specs.LogState.{state_of, seen_by};
-ghost use Rattle.storage.specs.Reading.{AnswersRead};
-ghost use Rattle.storage.specs.Works.{read_on};
+ghost use Rattle.executor.specs.Reading.{AnswersRead};
+ghost use Rattle.executor.specs.Works.{read_on};
 ghost use Rattle.session.specs.ConnectionState.{HasCause};
 ghost use Rattle.session.specs.Reading.{IsSightOf, view_by};
 ghost use Rattle.session.specs.Representation.{ShowTheSame};
@@ -17,10 +17,10 @@ ghost use Rattle.session.specs.Stored.{ShowsDatabase};
 use catalog::Catalog;
 use disk::Disk;
 use pager::{Reading, Viewing, Writer};
-use rowprog::Rows;
+use row_scan::Rows;
+use sql_syntax::Query;
 use sqlval::R;
 use std::alloc::Global;
-use syntax::Query;
 use wal::{Log, Snapshot};
 
 /// What a query reads.
@@ -51,7 +51,7 @@ fn read_snapshot<D: Disk + Drop>(
         snapshot,
         buffer,
     };
-    storage::read(alloc, &mut pages, catalog, query)
+    executor::read(alloc, &mut pages, catalog, query)
 }
 
 /// The rows of a query as a writer sees them.
@@ -75,7 +75,7 @@ fn read_changes<D: Disk + Drop>(
         buffer,
         place: None,
     };
-    storage::read(alloc, &mut pages, catalog, query)
+    executor::read(alloc, &mut pages, catalog, query)
 }
 
 /// The rows of a query.

@@ -5,15 +5,15 @@ ghost use Rattle.std.specs.Prelude.{◌≡◌, map, OnOk, Ok, Err, IfErr, true, 
 ghost use Rattle.sqlval.specs.declared.fault.Fault.TheVariants.{Memory};
 ghost use Rattle.pager.specs.Marks.{IsOverTheSame, marks_of, now_of};
 ghost use Rattle.pager.specs.Views.{Tells, newest_view};
-ghost use Rattle.storage.specs.Reading.{AnswersRead};
-ghost use Rattle.rowprog.specs.Rows.{values_of};
-ghost use Rattle.storage.specs.Forms.{KeepsItsText, WhereSupported};
+ghost use Rattle.executor.specs.Reading.{AnswersRead};
+ghost use Rattle.row_scan.specs.Rows.{values_of};
+ghost use Rattle.executor.specs.Forms.{KeepsItsText, WhereSupported};
 ghost use Rattle.session.specs.Stored.{ShowsDatabase};
-ghost use Rattle.storage.specs.Works.{read_on};
+ghost use Rattle.executor.specs.Works.{read_on};
 ghost use Rattle.catalog.specs.Database.{Database};
 ghost use Rattle.catalog.specs.Listed.{tables_of};
 ghost use Rattle.session.specs.SavedTables.{HasRoom, committed_in, current_in};
-ghost use Rattle.storage.specs.Forms as forms;
+ghost use Rattle.executor.specs.Forms as forms;
 ghost use Rattle.wal.specs.LogState.{db_of, log_of};
 ghost use Rattle.session.specs.ConnectionState.{is_io};
 ghost use Rattle.session.specs.Limits.{may_be_full};
@@ -31,16 +31,16 @@ use crate::seats::{
     Seat, Seats, Transaction, any_holds_snapshot, any_holds_writer, give_up_seats, trade,
 };
 use catalog::Catalog;
-use checkpoint::Counts;
 use disk::Disk;
 use pager::Writer;
-use rowprog::Rows;
+use row_scan::Rows;
+use sql_syntax::{BeginMode, CheckpointMode, Query, Statement};
 use sqlval::{Fault, Feature, Misuse, Name, R};
 use std::alloc::Global;
 use std::mem;
 use std::rc::Rc;
-use syntax::{BeginMode, CheckpointMode, Query, Statement};
 use wal::{Log, Snapshot};
+use wal_checkpoint::Counts;
 
 /// How many frames the log has at least for a commit to be followed by a checkpoint.
 const LONG_LOG: u32 = 1000;
@@ -85,8 +85,8 @@ impl<D: Disk + Drop> Connections<D> {
     ghost use Rattle.session.specs.declared.seats.Transaction.TheVariants as transaction;
     ghost use Rattle.session.specs.Holding.{IsSettled};
     ghost use Rattle.session.specs.Machine.{Machine, fresh};
-    ghost use Rattle.syntax.specs.declared.statement.BeginMode.TheVariants.{Deferred, Immediate};
-    ghost use Rattle.syntax.specs.declared.statement.Statement.TheVariants as statement;
+    ghost use Rattle.sql_syntax.specs.declared.statement.BeginMode.TheVariants.{Deferred, Immediate};
+    ghost use Rattle.sql_syntax.specs.declared.statement.Statement.TheVariants as statement;
     ghost use Rattle.session.specs.ConnectionState.{AnswersUnsupported, HasCauseIn, files_of, first_refusal, has_failed_in};
 
     /// The connections of a database whose schema is read, all of them idle.

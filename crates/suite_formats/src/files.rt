@@ -4,7 +4,7 @@ use disk::MemDisk;
 use sqlval::R;
 use std::alloc::Global;
 use std::test::*;
-use walframe::Salts;
+use wal_frame::Salts;
 
 /// The salts of each new log.
 pub const SALTS: Salts = Salts {

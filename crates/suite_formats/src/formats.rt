@@ -1,10 +1,10 @@
 //! The bytes of records, of the database file's header and of a table's page.
 
-use dbheader::Header;
-use page::{Cell, build};
+use db_header::Header;
 use record::{Record, encode, get_varint, is_storable, put_varint, varint_len};
 use sqlval::{Damage, Fault, Feature, Field, Text, Value, is_page_size};
 use std::test::*;
+use tree_leaf::{Cell, build};
 
 #[test]
 fn varints_are_as_short_as_can_be(rt: HostRuntime) -> Result<(), Fail> {
@@ -91,41 +91,41 @@ fn the_header_of_the_empty_database(rt: HostRuntime) -> Result<(), Fail> {
     assert!(rt; is_page_size(512));
     assert!(rt; !is_page_size(513));
     let header = Header::empty(512);
-    let bytes = dbheader::write(&header);
+    let bytes = db_header::write(&header);
     assert_eq!(rt;
         &bytes[16..32],
         b"\x02\x00\x02\x02\x00\x40\x20\x20\x00\x00\x00\x01\x00\x00\x00\x01".as_slice()
     );
-    assert_eq!(rt; dbheader::read(&bytes)?, header);
+    assert_eq!(rt; db_header::read(&bytes)?, header);
     assert_eq!(rt; header.counted_size(), Some(1));
     Ok(())
 }
 
 #[test]
 fn headers_are_refused_for_the_first_fault(rt: HostRuntime) {
-    let mut bytes = dbheader::write(&Header::empty(512));
+    let mut bytes = db_header::write(&Header::empty(512));
     assert!(rt;
         matches!(
-            dbheader::read(b"SQLite format 3\0".as_slice()),
+            db_header::read(b"SQLite format 3\0".as_slice()),
             Err(Fault::NotADatabase)
         )
     );
     bytes[72] = 1;
     assert!(rt;
         matches!(
-            dbheader::read(&bytes),
+            db_header::read(&bytes),
             Err(Fault::Damaged(Damage::Header, 1))
         )
     );
     bytes[18] = 1;
     assert!(rt;
         matches!(
-            dbheader::read(&bytes),
+            db_header::read(&bytes),
             Err(Fault::Unsupported(Feature::FileVersion))
         )
     );
     bytes[0] = 0;
-    assert!(rt; matches!(dbheader::read(&bytes), Err(Fault::NotADatabase)));
+    assert!(rt; matches!(db_header::read(&bytes), Err(Fault::NotADatabase)));
 }
 
 /// Whether these bytes stand at an offset.

@@ -1,7 +1,7 @@
 //! The index of a log's frames, and the marks of connections.
 
 use std::test::*;
-use walindex::{Index, Marks};
+use wal_index::{Index, Marks};
 
 #[test]
 fn the_newest_frame_up_to_a_mark_is_found(rt: HostRuntime) -> Result<(), Fail> {

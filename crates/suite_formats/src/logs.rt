@@ -5,7 +5,7 @@ use disk::{Disk, MemDisk};
 use std::alloc::Global;
 use std::test::*;
 use wal::{Log, PageImage, Refused, sync_both};
-use walframe::{FrameHeader, LogHeader, Sum, WordOrder, scan};
+use wal_frame::{FrameHeader, LogHeader, Sum, WordOrder, scan};
 
 const FIRST_HEADER: [u8; 32] = [
     0x37, 0x7F, 0x06, 0x83, 0x00, 0x2D, 0xE2, 0x18, 0x00, 0x00, 0x02, 0x00, 0x00, 0x00, 0x00, 0x00,

@@ -1,11 +1,11 @@
 //! Texts: their tokens, and the statements that they are. The replies to others stand in tests/trial.
 
-use lexer::{Keyword, Kind, tokens};
-use parser::parse;
+use sql_lexer::{Keyword, Kind, tokens};
+use sql_parser::parse;
+use sql_syntax::{ColumnDefinition, ColumnRule, NewObject, Statement};
 use sqlval::{Fault, R, Value};
 use std::alloc::Global;
 use std::test::*;
-use syntax::{ColumnDefinition, ColumnRule, NewObject, Statement};
 
 #[test]
 fn a_text_is_cut_into_words_marks_and_literals(rt: HostRuntime) -> Result<(), Fail> {

@@ -5,7 +5,7 @@ use pages::{MemPages, Pages};
 use sqlval::R;
 use std::alloc::Global;
 use std::test::*;
-use tabletree::{Batch, Cursor, clear, free_tree, insert, last, new_tree};
+use tree_table::{Batch, Cursor, clear, free_tree, insert, last, new_tree};
 
 /// Puts rows of so many bytes into a tree, by the rowids from 1 on, each with its rowid as its bytes.
 fn grow_tree(alloc: Global, pages: &mut MemPages, root: u32, count: u8, size: usize) -> R<()> {
@@ -61,7 +61,7 @@ fn count_of(alloc: Global, pages: &mut MemPages, root: u32, size: usize) -> R<Op
 /// How many free pages the header tells.
 fn free_count(pages: &mut MemPages) -> R<u32> {
     pages.load(1)?;
-    Ok(dbheader::read(pages.loaded())?.freelist_count)
+    Ok(db_header::read(pages.loaded())?.freelist_count)
 }
 
 #[test]

@@ -1,12 +1,12 @@
 //! Trees of indexes whose ways from the root to a leaf have as many pages as the format's readers follow.
 
 use crate::databases::new_pages;
-use indextree::{insert, new_tree, remove};
-use pagecheck::{are_all_marked, check_freelist, check_index_tree, check_tree};
 use pages::{MemPages, Pages, WritePages};
 use sqlval::{Collation, R, Text, Value};
 use std::alloc::Global;
 use std::test::*;
+use tree_check::{are_all_marked, check_freelist, check_index_tree, check_tree};
+use tree_index::{insert, new_tree, remove};
 
 /// How many interior pages stand above each leaf.
 const DEPTH: u32 = 19;
@@ -153,7 +153,7 @@ fn is_sound(alloc: Global, pages: &mut MemPages, root: u32) -> R<bool> {
     check_tree(alloc, pages, 1, &mut marks)?;
     check_index_tree(alloc, pages, root, &[Collation::Binary], &mut marks)?;
     pages.load(1)?;
-    let header = dbheader::read(pages.loaded())?;
+    let header = db_header::read(pages.loaded())?;
     check_freelist(
         pages,
         header.freelist_trunk,

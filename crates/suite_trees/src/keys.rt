@@ -1,12 +1,12 @@
 //! The trees of indexes, and their check.
 
 use crate::databases::new_pages;
-use indextree::{insert, new_tree, remove};
-use pagecheck::{are_all_marked, check_freelist, check_index_tree, check_tree};
 use pages::{MemPages, Pages, WritePages};
 use sqlval::{Bytes, Collation, Damage, Fault, R, Text, Value};
 use std::alloc::Global;
 use std::test::*;
+use tree_check::{are_all_marked, check_freelist, check_index_tree, check_tree};
+use tree_index::{insert, new_tree, remove};
 
 /// How many rows the table has: one less than a prime, so that the multiples of a rowid go through all.
 const ROWS: i64 = 198;
@@ -82,7 +82,7 @@ fn is_whole(alloc: Global, pages: &mut MemPages, root: u32, collation: Collation
     check_tree(alloc, pages, 1, &mut marks)?;
     check_index_tree(alloc, pages, root, &[collation], &mut marks)?;
     pages.load(1)?;
-    let header = dbheader::read(pages.loaded())?;
+    let header = db_header::read(pages.loaded())?;
     check_freelist(
         pages,
         header.freelist_trunk,

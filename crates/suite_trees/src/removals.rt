@@ -1,12 +1,12 @@
 //! Rows that are taken out of the trees of tables.
 
 use crate::databases::new_pages;
-use pagecheck::{are_all_marked, check_freelist, check_tree};
 use pages::{MemPages, Pages};
 use sqlval::R;
 use std::alloc::Global;
 use std::test::*;
-use tabletree::{RowChange, change_rows, get, insert, new_tree, remove};
+use tree_check::{are_all_marked, check_freelist, check_tree};
+use tree_table::{RowChange, change_rows, get, insert, new_tree, remove};
 
 /// How many rows the trees have: one less than a prime, so that the multiples of a rowid go through all.
 const ROWS: i64 = 198;
@@ -54,7 +54,7 @@ fn is_whole(alloc: Global, pages: &mut MemPages, root: u32) -> R<bool> {
         return Ok(false);
     }
     pages.load(1)?;
-    let header = dbheader::read(pages.loaded())?;
+    let header = db_header::read(pages.loaded())?;
     check_freelist(
         pages,
         header.freelist_trunk,
@@ -85,7 +85,7 @@ fn empties(alloc: Global, pages: &mut MemPages, root: u32, factor: i64) -> R<boo
 /// How many free pages the header tells.
 fn free_count(pages: &mut MemPages) -> R<u32> {
     pages.load(1)?;
-    Ok(dbheader::read(pages.loaded())?.freelist_count)
+    Ok(db_header::read(pages.loaded())?.freelist_count)
 }
 
 /// Whether a tree that has all rows is its root alone when they are taken out by the multiples of a number.

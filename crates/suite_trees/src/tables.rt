@@ -5,7 +5,7 @@ use pages::{MemPages, Pages};
 use sqlval::R;
 use std::alloc::Global;
 use std::test::*;
-use tabletree::{insert, new_tree};
+use tree_table::{insert, new_tree};
 
 /// A file of two pages of 512 bytes: page 1 with an empty leaf after the database's header, and an empty leaf.
 fn two_leaves(alloc: Global) -> R<MemPages> {

@@ -1,12 +1,12 @@
 //! Trees whose ways from the root to a leaf have as many pages as the format's readers follow.
 
 use crate::databases::new_pages;
-use pagecheck::{are_all_marked, check_freelist, check_tree};
 use pages::{MemPages, Pages, WritePages};
 use sqlval::R;
 use std::alloc::Global;
 use std::test::*;
-use tabletree::{get, insert, last, new_tree};
+use tree_check::{are_all_marked, check_freelist, check_tree};
+use tree_table::{get, insert, last, new_tree};
 
 /// The key of all cells, as a rowid.
 const KEY: i64 = 1 << 62;
@@ -98,7 +98,7 @@ fn is_sound(alloc: Global, pages: &mut MemPages, root: u32) -> R<bool> {
     check_tree(alloc, pages, 1, &mut marks)?;
     check_tree(alloc, pages, root, &mut marks)?;
     pages.load(1)?;
-    let header = dbheader::read(pages.loaded())?;
+    let header = db_header::read(pages.loaded())?;
     check_freelist(
         pages,
         header.freelist_trunk,

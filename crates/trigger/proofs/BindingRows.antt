@@ -2,21 +2,21 @@
 use Rattle.std.specs.Prelude.{◌≡◌, refl, ℕ, zero, suc, ◌+◌, ◌<◌, flat_map, true, pos, Err, codes, None, Some, List, [], ◌∷◌, ◌++◌, Option, length, is_ok}
 use Rattle.std.proofs.Common.{arith, subst}
 use Rattle.sqlval.specs.Refusals.{Refusal, NoSuch, Misuse, TooLong}
-use Rattle.syntax.specs.Tree as tree
-use Rattle.syntax.specs.Tree.{Tree, Raise}
-use Rattle.syntax.specs.declared.change.Change.{Change}
-use Rattle.syntax.specs.declared.create.TriggerEvent.{TriggerEvent}
-use Rattle.syntax.specs.declared.create.TriggerEvent.TheVariants.{Insert, Delete}
-use Rattle.syntax.specs.declared.create.TriggerStatement.{TriggerStatement}
-use Rattle.syntax.specs.declared.create.TriggerStatement.TheVariants as program
-use Rattle.syntax.specs.declared.create.TriggerTime.TheVariants.{After, InsteadOf}
-use Rattle.syntax.specs.declared.expr.Operator.TheVariants as op
-use Rattle.syntax.specs.declared.expr.RaiseAction.TheVariants.{Abort}
-use Rattle.syntax.specs.declared.query.ResultItem.TheVariants.{All}
+use Rattle.sql_syntax.specs.Tree as tree
+use Rattle.sql_syntax.specs.Tree.{Tree, Raise}
+use Rattle.sql_syntax.specs.declared.change.Change.{Change}
+use Rattle.sql_syntax.specs.declared.create.TriggerEvent.{TriggerEvent}
+use Rattle.sql_syntax.specs.declared.create.TriggerEvent.TheVariants.{Insert, Delete}
+use Rattle.sql_syntax.specs.declared.create.TriggerStatement.{TriggerStatement}
+use Rattle.sql_syntax.specs.declared.create.TriggerStatement.TheVariants as program
+use Rattle.sql_syntax.specs.declared.create.TriggerTime.TheVariants.{After, InsteadOf}
+use Rattle.sql_syntax.specs.declared.expr.Operator.TheVariants as op
+use Rattle.sql_syntax.specs.declared.expr.RaiseAction.TheVariants.{Abort}
+use Rattle.sql_syntax.specs.declared.query.ResultItem.TheVariants.{All}
 use Rattle.catalog.specs.Database.{Name, Database, AView, ATrigger, with_object}
-use Rattle.bind.specs.Checked.{faults}
-use Rattle.bind.proofs.Written.{number, named_of, from, select, result, results, insert, update, set, delete, col, table, int}
-use Rattle.dml.specs.Changes.{resolve_change, no_outer}
+use Rattle.query_names.specs.Checked.{faults}
+use Rattle.query_names.proofs.Written.{number, named_of, from, select, result, results, insert, update, set, delete, col, table, int}
+use Rattle.row_change.specs.Changes.{resolve_change, no_outer}
 use Rattle.trigger.specs.Binding.{faults_after, IsFault, triggers_for, aim_of, program_scope, program_faults}
 use Rattle.trigger.specs.Effects.{change}
 

@@ -3,26 +3,26 @@ use Rattle.std.specs.Prelude.{◌≡◌, refl, ℕ, ℤ, pos, negsuc, Ok, Err, c
 use Rattle.sqlval.specs.Refusals.{Answer, ◌then◌, Ambiguous, NoSuch, NotNull, TypeRefused, ViewReadOnly}
 use Rattle.sqlval.specs.declared.value.Value.{Value}
 use Rattle.sqlval.specs.declared.value.Value.TheVariants.{Null, Int}
-use Rattle.syntax.specs.Tree as tree
-use Rattle.syntax.specs.Tree.{Tree}
-use Rattle.syntax.specs.declared.change.Change.{Change}
-use Rattle.syntax.specs.declared.change.Change.TheVariants as change
-use Rattle.syntax.specs.declared.change.InsertSource.TheVariants as source
-use Rattle.syntax.specs.declared.create.ColumnRule.TheVariants as column
-use Rattle.syntax.specs.declared.create.TableDefinition.{TableDefinition}
-use Rattle.syntax.specs.declared.create.TriggerEvent.{TriggerEvent}
-use Rattle.syntax.specs.declared.create.TriggerEvent.TheVariants.{Insert, Delete, Update}
-use Rattle.syntax.specs.declared.create.TriggerStatement.{TriggerStatement}
-use Rattle.syntax.specs.declared.create.TriggerStatement.TheVariants as program
-use Rattle.syntax.specs.declared.create.TriggerTime.{TriggerTime}
-use Rattle.syntax.specs.declared.create.TriggerTime.TheVariants.{Before, After, InsteadOf}
-use Rattle.syntax.specs.declared.expr.Operator.TheVariants as op
-use Rattle.syntax.specs.declared.query.ResultItem.TheVariants.{All, Of}
+use Rattle.sql_syntax.specs.Tree as tree
+use Rattle.sql_syntax.specs.Tree.{Tree}
+use Rattle.sql_syntax.specs.declared.change.Change.{Change}
+use Rattle.sql_syntax.specs.declared.change.Change.TheVariants as change
+use Rattle.sql_syntax.specs.declared.change.InsertSource.TheVariants as source
+use Rattle.sql_syntax.specs.declared.create.ColumnRule.TheVariants as column
+use Rattle.sql_syntax.specs.declared.create.TableDefinition.{TableDefinition}
+use Rattle.sql_syntax.specs.declared.create.TriggerEvent.{TriggerEvent}
+use Rattle.sql_syntax.specs.declared.create.TriggerEvent.TheVariants.{Insert, Delete, Update}
+use Rattle.sql_syntax.specs.declared.create.TriggerStatement.{TriggerStatement}
+use Rattle.sql_syntax.specs.declared.create.TriggerStatement.TheVariants as program
+use Rattle.sql_syntax.specs.declared.create.TriggerTime.{TriggerTime}
+use Rattle.sql_syntax.specs.declared.create.TriggerTime.TheVariants.{Before, After, InsteadOf}
+use Rattle.sql_syntax.specs.declared.expr.Operator.TheVariants as op
+use Rattle.sql_syntax.specs.declared.query.ResultItem.TheVariants.{All, Of}
 use Rattle.catalog.specs.Database.{Name, Database, AView, ATrigger, with_object}
-use Rattle.bind.specs.Checked.{meant}
-use Rattle.bind.specs.Schema.{create_table}
-use Rattle.bind.specs.Views.{answer}
-use Rattle.bind.proofs.Written.{null, number, named, named_of, from, select, insert, update, set, delete, column_with, table_with, col, table, numbered, int}
+use Rattle.query_names.specs.Checked.{meant}
+use Rattle.query_names.specs.Schema.{create_table}
+use Rattle.query_names.specs.Views.{answer}
+use Rattle.query_names.proofs.Written.{null, number, named, named_of, from, select, insert, update, set, delete, column_with, table_with, col, table, numbered, int}
 use Rattle.trigger.specs.Effects.{change}
 
 abbrev a : Name

@@ -5,22 +5,22 @@ use Rattle.sqlval.specs.declared.affinity.Affinity.TheVariants as kind
 use Rattle.sqlval.specs.declared.collation.Collation.TheVariants.{Binary}
 use Rattle.sqlval.specs.declared.value.Value.{Value}
 use Rattle.sqlval.specs.declared.value.Value.TheVariants.{Null, Text}
-use Rattle.syntax.specs.Tree as tree
-use Rattle.syntax.specs.Tree.{Tree, CallAll, Negated, Raise}
-use Rattle.syntax.specs.declared.change.Change.{Change}
-use Rattle.syntax.specs.declared.create.TriggerEvent.{TriggerEvent}
-use Rattle.syntax.specs.declared.create.TriggerEvent.TheVariants.{Insert, Delete, Update}
-use Rattle.syntax.specs.declared.create.TriggerStatement.{TriggerStatement}
-use Rattle.syntax.specs.declared.create.TriggerStatement.TheVariants as program
-use Rattle.syntax.specs.declared.create.TriggerTime.{TriggerTime}
-use Rattle.syntax.specs.declared.create.TriggerTime.TheVariants.{Before, After, InsteadOf}
-use Rattle.syntax.specs.declared.expr.Operator.TheVariants as op
-use Rattle.syntax.specs.declared.expr.RaiseAction.TheVariants.{Abort}
-use Rattle.syntax.specs.declared.query.JoinKind.TheVariants.{Inner}
-use Rattle.syntax.specs.declared.query.ResultItem.TheVariants.{All}
+use Rattle.sql_syntax.specs.Tree as tree
+use Rattle.sql_syntax.specs.Tree.{Tree, CallAll, Negated, Raise}
+use Rattle.sql_syntax.specs.declared.change.Change.{Change}
+use Rattle.sql_syntax.specs.declared.create.TriggerEvent.{TriggerEvent}
+use Rattle.sql_syntax.specs.declared.create.TriggerEvent.TheVariants.{Insert, Delete, Update}
+use Rattle.sql_syntax.specs.declared.create.TriggerStatement.{TriggerStatement}
+use Rattle.sql_syntax.specs.declared.create.TriggerStatement.TheVariants as program
+use Rattle.sql_syntax.specs.declared.create.TriggerTime.{TriggerTime}
+use Rattle.sql_syntax.specs.declared.create.TriggerTime.TheVariants.{Before, After, InsteadOf}
+use Rattle.sql_syntax.specs.declared.expr.Operator.TheVariants as op
+use Rattle.sql_syntax.specs.declared.expr.RaiseAction.TheVariants.{Abort}
+use Rattle.sql_syntax.specs.declared.query.JoinKind.TheVariants.{Inner}
+use Rattle.sql_syntax.specs.declared.query.ResultItem.TheVariants.{All}
 use Rattle.catalog.specs.Database.{Name, Database, TableColumn, AnIndex, AView, ATrigger, with_object}
-use Rattle.bind.specs.Views.{answer}
-use Rattle.bind.proofs.Written.{null, number, named, named_of, from, from_as, joined, select, result, rising, insert, insert_rows, insert_answer, update, set, delete, col, table, int}
+use Rattle.query_names.specs.Views.{answer}
+use Rattle.query_names.proofs.Written.{null, number, named, named_of, from, from_as, joined, select, result, rising, insert, insert_rows, insert_answer, update, set, delete, col, table, int}
 use Rattle.trigger.specs.Effects.{change}
 
 abbrev a : Name

@@ -6,25 +6,25 @@ use Rattle.sqlval.specs.Names.{folded}
 use Rattle.sqlval.specs.Refusals.{Answer, Refusal, ◌then◌, NoSuch, all_answers, fold_answer}
 use Rattle.sqlval.specs.declared.value.Value.{Value}
 use Rattle.sqlval.specs.declared.value.Value.TheVariants.{Int}
-use Rattle.syntax.specs.declared.change.Delete.{Delete}
-use Rattle.syntax.specs.declared.change.Insert.{Insert}
-use Rattle.syntax.specs.declared.change.Change.TheVariants as statement
+use Rattle.sql_syntax.specs.declared.change.Delete.{Delete}
+use Rattle.sql_syntax.specs.declared.change.Insert.{Insert}
+use Rattle.sql_syntax.specs.declared.change.Change.TheVariants as statement
 use Rattle.catalog.specs.Database as database
 use Rattle.catalog.specs.Database.{Name, Database, Object, ATable, AnIndex, AView, ATrigger, object, triggers_of, with_object}
 use Rattle.catalog.specs.Listed.{has_only_plain, plain_table}
 use Rattle.catalog.specs.declared.tables.Table.{Table}
-use Rattle.bind.specs.Checked.{Checked, Meant, faults, known_then}
-use Rattle.bind.specs.Readings.{env_of, holds, values}
-use Rattle.terms.specs.Terms.{Term}
-use Rattle.terms.specs.Values.{Row}
-use Rattle.bind.specs.Views.{table_rows}
-use Rattle.rowprog.specs.Rows.{TableRow}
-use Rattle.rowprog.specs.Sources.{as_source}
-use Rattle.dml.specs.Agreement.{DeletesRows, DeletesSome, InsertsRows}
-use Rattle.dml.specs.Choosing.{is_chosen, tested}
-use Rattle.dml.specs.Changes.{Resolved, Deletes, Given, Inserts, no_outer, resolve_change}
-use Rattle.dml.specs.Constraints.{table_of}
-use Rattle.dml.specs.RowChanges.{delete_row, insert_row}
+use Rattle.query_names.specs.Checked.{Checked, Meant, faults, known_then}
+use Rattle.query_names.specs.Readings.{env_of, holds, values}
+use Rattle.query_terms.specs.Terms.{Term}
+use Rattle.query_terms.specs.Values.{Row}
+use Rattle.query_names.specs.Views.{table_rows}
+use Rattle.row_scan.specs.Rows.{TableRow}
+use Rattle.row_scan.specs.Sources.{as_source}
+use Rattle.row_change.specs.Agreement.{DeletesRows, DeletesSome, InsertsRows}
+use Rattle.row_change.specs.Choosing.{is_chosen, tested}
+use Rattle.row_change.specs.Changes.{Resolved, Deletes, Given, Inserts, no_outer, resolve_change}
+use Rattle.row_change.specs.Constraints.{table_of}
+use Rattle.row_change.specs.RowChanges.{delete_row, insert_row}
 use Rattle.trigger.specs.Binding.{Aim, aim_of, faults_after, program_faults, program_scope, triggers_for}
 use Rattle.trigger.specs.Effects.{change_with, given_rows, programs, run_resolved}
 use Rattle.trigger.specs.Laws.{BindsAlone, DeleteTakesChosen, DeleteTakesRows, InsertAddsRows, InsertIsRefused, InsertOfNoneStays, SetsNothingOff}

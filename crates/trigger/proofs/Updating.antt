@@ -3,23 +3,23 @@ use Rattle.std.proofs.Common.{◌≡◌, refl, sym, ap, ◌∙◌, ℕ, Bool, tr
 use Rattle.std.specs.Prelude.{filter}
 use Rattle.sqlval.specs.Names.{folded}
 use Rattle.sqlval.specs.Refusals.{Answer, ◌then◌, all_answers, fold_answer}
-use Rattle.syntax.specs.declared.change.Update.{Update}
-use Rattle.syntax.specs.declared.change.Change.TheVariants as statement
+use Rattle.sql_syntax.specs.declared.change.Update.{Update}
+use Rattle.sql_syntax.specs.declared.change.Change.TheVariants as statement
 use Rattle.catalog.specs.Database.{Name, Database, ATable, object, with_object}
 use Rattle.catalog.specs.Listed.{plain_table}
 use Rattle.catalog.specs.declared.tables.Table.{Table}
-use Rattle.bind.specs.Checked.{Checked, Meant, known_then}
-use Rattle.bind.specs.Views.{table_rows}
-use Rattle.terms.specs.Terms.{Term}
-use Rattle.terms.specs.Values.{Row}
-use Rattle.rowprog.specs.Rows.{TableRow}
-use Rattle.rowprog.specs.Sources.{as_source}
-use Rattle.dml.specs.Agreement.{UpdatesSome}
-use Rattle.dml.specs.Changes.{Resolved, Updates, no_outer, resolve_change}
-use Rattle.dml.specs.Choosing.{is_chosen, tested}
-use Rattle.dml.specs.Constraints.{table_of}
-use Rattle.dml.specs.RowChanges.{update_row}
-use Rattle.dml.specs.Setting.{rows_meant_set}
+use Rattle.query_names.specs.Checked.{Checked, Meant, known_then}
+use Rattle.query_names.specs.Views.{table_rows}
+use Rattle.query_terms.specs.Terms.{Term}
+use Rattle.query_terms.specs.Values.{Row}
+use Rattle.row_scan.specs.Rows.{TableRow}
+use Rattle.row_scan.specs.Sources.{as_source}
+use Rattle.row_change.specs.Agreement.{UpdatesSome}
+use Rattle.row_change.specs.Changes.{Resolved, Updates, no_outer, resolve_change}
+use Rattle.row_change.specs.Choosing.{is_chosen, tested}
+use Rattle.row_change.specs.Constraints.{table_of}
+use Rattle.row_change.specs.RowChanges.{update_row}
+use Rattle.row_change.specs.Setting.{rows_meant_set}
 use Rattle.trigger.specs.Effects.{change_with, programs, run_resolved}
 use Rattle.trigger.specs.Laws.{UpdateSetsRows}
 use Rattle.trigger.specs.Triggers.{Runner, fired}

@@ -3,21 +3,21 @@ use Rattle.std.specs.Prelude.{ℕ, zero, suc, false, List, [], ◌∷◌, ◌++�
 use Rattle.sqlval.specs.Names.{folded}
 use Rattle.sqlval.specs.Refusals.{Refusal}
 use Rattle.sqlval.specs.declared.value.Value.TheVariants.{Null}
-use Rattle.syntax.specs.Tree.{Tree}
-use Rattle.syntax.specs.declared.change.Change.{Change}
-use Rattle.syntax.specs.declared.change.Change.TheVariants.{Insert, Update, Delete}
-use Rattle.syntax.specs.declared.create.TriggerDefinition.{TriggerDefinition}
-use Rattle.syntax.specs.declared.create.TriggerStatement.{TriggerStatement}
-use Rattle.syntax.specs.declared.create.TriggerStatement.TheVariants as program
-use Rattle.syntax.specs.declared.create.TriggerTime.TheVariants.{Before, After, InsteadOf}
+use Rattle.sql_syntax.specs.Tree.{Tree}
+use Rattle.sql_syntax.specs.declared.change.Change.{Change}
+use Rattle.sql_syntax.specs.declared.change.Change.TheVariants.{Insert, Update, Delete}
+use Rattle.sql_syntax.specs.declared.create.TriggerDefinition.{TriggerDefinition}
+use Rattle.sql_syntax.specs.declared.create.TriggerStatement.{TriggerStatement}
+use Rattle.sql_syntax.specs.declared.create.TriggerStatement.TheVariants as program
+use Rattle.sql_syntax.specs.declared.create.TriggerTime.TheVariants.{Before, After, InsteadOf}
 use Rattle.catalog.specs.Database.{Name, Database}
-use Rattle.bind.specs.Expressions.{resolve}
-use Rattle.bind.specs.Checked.{meant, faults, is_good}
-use Rattle.bind.specs.Queries.{resolve_query}
-use Rattle.terms.specs.Values.{Row}
-use Rattle.bind.specs.Views.{look_up}
-use Rattle.dml.specs.Changes.{Outer, no_outer, resolve_change}
-use Rattle.dml.specs.RowChanges.{Event, Inserting, Deleting, Updating}
+use Rattle.query_names.specs.Expressions.{resolve}
+use Rattle.query_names.specs.Checked.{meant, faults, is_good}
+use Rattle.query_names.specs.Queries.{resolve_query}
+use Rattle.query_terms.specs.Values.{Row}
+use Rattle.query_names.specs.Views.{look_up}
+use Rattle.row_change.specs.Changes.{Outer, no_outer, resolve_change}
+use Rattle.row_change.specs.RowChanges.{Event, Inserting, Deleting, Updating}
 use Rattle.trigger.specs.Triggers.{outer_if, triggers_at}
 
 -- whose rows change, and by which event

@@ -3,21 +3,21 @@ use Rattle.std.specs.Prelude.{ℕ, zero, suc, Bool, true, false, List, [], ◌�
 use Rattle.sqlval.specs.Refusals.{Answer, ◌then◌, TooLong, ViewReadOnly, all_answers, fold_answer}
 use Rattle.sqlval.specs.declared.value.Value.{Value}
 use Rattle.sqlval.specs.declared.value.Value.TheVariants.{Null, Int}
-use Rattle.syntax.specs.declared.change.Change.{Change}
-use Rattle.syntax.specs.declared.create.TriggerStatement.{TriggerStatement}
-use Rattle.syntax.specs.declared.create.TriggerStatement.TheVariants as program
-use Rattle.syntax.specs.declared.create.TriggerTime.TheVariants.{InsteadOf}
+use Rattle.sql_syntax.specs.declared.change.Change.{Change}
+use Rattle.sql_syntax.specs.declared.create.TriggerStatement.{TriggerStatement}
+use Rattle.sql_syntax.specs.declared.create.TriggerStatement.TheVariants as program
+use Rattle.sql_syntax.specs.declared.create.TriggerTime.TheVariants.{InsteadOf}
 use Rattle.catalog.specs.Database.{Name, Database, object, Object, ATable}
-use Rattle.bind.specs.Checked.{meant, known_then}
-use Rattle.bind.specs.Queries.{resolve_query}
-use Rattle.bind.specs.Readings.{env_of, values, holds}
-use Rattle.bind.specs.declared.scope.ScopeColumn.{ScopeColumn}
-use Rattle.terms.specs.Terms.{Term}
-use Rattle.terms.specs.Values.{Row}
-use Rattle.bind.specs.Views.{look_up, all_rows, answer_of}
-use Rattle.dml.specs.Changes.{Outer, no_outer, Given, GivenRows, GivenQuery, Resolved, Inserts, Updates, Deletes, resolve_change}
-use Rattle.dml.specs.Constraints.{set_values, demand}
-use Rattle.dml.specs.RowChanges.{Event, Inserting, Deleting, Updating, insert_row, update_row, delete_row}
+use Rattle.query_names.specs.Checked.{meant, known_then}
+use Rattle.query_names.specs.Queries.{resolve_query}
+use Rattle.query_names.specs.Readings.{env_of, values, holds}
+use Rattle.query_names.specs.declared.scope.ScopeColumn.{ScopeColumn}
+use Rattle.query_terms.specs.Terms.{Term}
+use Rattle.query_terms.specs.Values.{Row}
+use Rattle.query_names.specs.Views.{look_up, all_rows, answer_of}
+use Rattle.row_change.specs.Changes.{Outer, no_outer, Given, GivenRows, GivenQuery, Resolved, Inserts, Updates, Deletes, resolve_change}
+use Rattle.row_change.specs.Constraints.{set_values, demand}
+use Rattle.row_change.specs.RowChanges.{Event, Inserting, Deleting, Updating, insert_row, update_row, delete_row}
 use Rattle.trigger.specs.Triggers.{Runner, fired, triggers_at}
 
 -- ---- the rows that are changed

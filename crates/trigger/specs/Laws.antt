@@ -3,25 +3,25 @@ use Rattle.std.specs.Prelude.{◌≡◌, ◌↔◌, ◌≤◌, ℕ, true, List, 
 use Rattle.sqlval.specs.Names.{folded}
 use Rattle.sqlval.specs.Refusals.{Refusal, ◌then◌}
 use Rattle.sqlval.specs.declared.value.Value.{Value}
-use Rattle.syntax.specs.declared.change.Delete.{Delete}
-use Rattle.syntax.specs.declared.change.Insert.{Insert}
-use Rattle.syntax.specs.declared.change.Update.{Update}
-use Rattle.syntax.specs.declared.change.Change.{Change}
-use Rattle.syntax.specs.declared.change.Change.TheVariants as statement
+use Rattle.sql_syntax.specs.declared.change.Delete.{Delete}
+use Rattle.sql_syntax.specs.declared.change.Insert.{Insert}
+use Rattle.sql_syntax.specs.declared.change.Update.{Update}
+use Rattle.sql_syntax.specs.declared.change.Change.{Change}
+use Rattle.sql_syntax.specs.declared.change.Change.TheVariants as statement
 use Rattle.catalog.specs.Database.{Name, Database, ATable, with_object}
 use Rattle.catalog.specs.Listed.{has_only_plain, plain_table}
 use Rattle.catalog.specs.Named.{IsNamed}
 use Rattle.catalog.specs.declared.tables.Table.{Table}
-use Rattle.bind.specs.Checked.{Meant, faults}
-use Rattle.terms.specs.Terms.{Term}
+use Rattle.query_names.specs.Checked.{Meant, faults}
+use Rattle.query_terms.specs.Terms.{Term}
 use Rattle.catalog.specs.Rows.{are_rows}
-use Rattle.rowprog.specs.Rows.{TableRow}
-use Rattle.dml.specs.Agreement.{IsSetFor, IsStill}
-use Rattle.dml.specs.Changes.{Deletes, Given, Inserts, Updates, no_outer, resolve_change}
-use Rattle.dml.specs.Choosing.{rows_left}
-use Rattle.dml.specs.Constraints.{table_of}
-use Rattle.dml.specs.Inserting.{last_rowid, rows_added}
-use Rattle.dml.specs.Setting.{rows_set}
+use Rattle.row_scan.specs.Rows.{TableRow}
+use Rattle.row_change.specs.Agreement.{IsSetFor, IsStill}
+use Rattle.row_change.specs.Changes.{Deletes, Given, Inserts, Updates, no_outer, resolve_change}
+use Rattle.row_change.specs.Choosing.{rows_left}
+use Rattle.row_change.specs.Constraints.{table_of}
+use Rattle.row_change.specs.Inserting.{last_rowid, rows_added}
+use Rattle.row_change.specs.Setting.{rows_set}
 use Rattle.trigger.specs.Binding.{IsFault}
 use Rattle.trigger.specs.Effects.{change, given_rows}
 use Rattle.trigger.specs.Triggers.{Runner, fired}

@@ -3,21 +3,21 @@ use Rattle.std.specs.Prelude.{Bool, true, false, ◌&&◌, List, [], ◌∷◌, 
 use Rattle.std.specs.List.{list_any}
 use Rattle.sqlval.specs.Names.{is_same_name}
 use Rattle.sqlval.specs.Refusals.{Answer, ◌then◌, fold_answer}
-use Rattle.syntax.specs.Tree.{Tree}
-use Rattle.syntax.specs.declared.create.TriggerDefinition.{TriggerDefinition}
-use Rattle.syntax.specs.declared.create.TriggerEvent.{TriggerEvent}
-use Rattle.syntax.specs.declared.create.TriggerEvent.TheVariants.{Insert, Delete, Update}
-use Rattle.syntax.specs.declared.create.TriggerStatement.{TriggerStatement}
-use Rattle.syntax.specs.declared.create.TriggerTime.{TriggerTime}
-use Rattle.syntax.specs.declared.create.TriggerTime.TheVariants.{Before, After, InsteadOf}
+use Rattle.sql_syntax.specs.Tree.{Tree}
+use Rattle.sql_syntax.specs.declared.create.TriggerDefinition.{TriggerDefinition}
+use Rattle.sql_syntax.specs.declared.create.TriggerEvent.{TriggerEvent}
+use Rattle.sql_syntax.specs.declared.create.TriggerEvent.TheVariants.{Insert, Delete, Update}
+use Rattle.sql_syntax.specs.declared.create.TriggerStatement.{TriggerStatement}
+use Rattle.sql_syntax.specs.declared.create.TriggerTime.{TriggerTime}
+use Rattle.sql_syntax.specs.declared.create.TriggerTime.TheVariants.{Before, After, InsteadOf}
 use Rattle.catalog.specs.Database.{Name, Database, triggers_of}
-use Rattle.bind.specs.Expressions.{resolve}
-use Rattle.bind.specs.Checked.{known_then}
-use Rattle.bind.specs.Readings.{holds}
-use Rattle.bind.specs.declared.scope.ScopeSource.{ScopeSource}
-use Rattle.terms.specs.Values.{Row}
-use Rattle.dml.specs.Changes.{Outer}
-use Rattle.dml.specs.RowChanges.{Event, Inserting, Deleting, Updating, Firing}
+use Rattle.query_names.specs.Expressions.{resolve}
+use Rattle.query_names.specs.Checked.{known_then}
+use Rattle.query_names.specs.Readings.{holds}
+use Rattle.query_names.specs.declared.scope.ScopeSource.{ScopeSource}
+use Rattle.query_terms.specs.Values.{Row}
+use Rattle.row_change.specs.Changes.{Outer}
+use Rattle.row_change.specs.RowChanges.{Event, Inserting, Deleting, Updating, Firing}
 
 -- ---- what a program sees
 

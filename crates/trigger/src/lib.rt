@@ -3,7 +3,7 @@
 
 ghost use Rattle.trigger.specs.Laws.{BindsAlone, DeleteTakesChosen, DeleteTakesRows, InsertAddsRows, InsertIsRefused, InsertOfNoneStays, SetsNothingOff, UpdateSetsRows};
 
-use dml::{delete_takes_its_rows, insert_adds_its_rows, update_sets_its_rows};
+use row_change::{delete_takes_its_rows, insert_adds_its_rows, update_sets_its_rows};
 
 /// In a database of tables alone no trigger fires: an INSERT adds its rows, or is refused as they are,
 /// and a DELETE takes all rows out, or those for which its condition is true.

@@ -8,14 +8,14 @@ use Rattle.disk.specs.Calls.{overwritten}
 use Rattle.disk.specs.File.{File, Version, IsSynced, IsContentLeft, Always}
 use Rattle.disk.proofs.Current.{synced_left}
 use Rattle.disk.proofs.Moments.{always_both, always_weaker}
-use Rattle.walframe.specs.declared.log_header.LogHeader.{LogHeader}
-use Rattle.walframe.specs.declared.sums.Sum.{Sum}
-use Rattle.walframe.specs.Log.{header_bytes, header_sum}
-use Rattle.walframe.specs.Accepted.{frame_start, sum_to}
-use Rattle.walframe.specs.Written.{Framed, written, sum_after, SaltsFit, HeaderFits, AllFit}
-use Rattle.walframe.proofs.Laws.{header_back}
-use Rattle.walindex.specs.declared.index.Index.{Index}
-use Rattle.walindex.specs.Index.{frames_of}
+use Rattle.wal_frame.specs.declared.log_header.LogHeader.{LogHeader}
+use Rattle.wal_frame.specs.declared.sums.Sum.{Sum}
+use Rattle.wal_frame.specs.Log.{header_bytes, header_sum}
+use Rattle.wal_frame.specs.Accepted.{frame_start, sum_to}
+use Rattle.wal_frame.specs.Written.{Framed, written, sum_after, SaltsFit, HeaderFits, AllFit}
+use Rattle.wal_frame.proofs.Laws.{header_back}
+use Rattle.wal_index.specs.declared.index.Index.{Index}
+use Rattle.wal_index.specs.Index.{frames_of}
 use Rattle.wal.specs.declared.pages.PageImage.{PageImage}
 use Rattle.wal.specs.declared.state.State.{State}
 use Rattle.wal.specs.Anew.{CommitsAnew, IsRewritten, LeavesAmong, LeavesRewriting, WritesAnew, WritesOver, begins_anew}

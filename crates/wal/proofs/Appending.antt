@@ -4,21 +4,21 @@ use Rattle.std.proofs.Common.{◌≡◌, ◌⊎◌, inl, inr, ◌<◌, ◌≤◌
 use Rattle.std.specs.Prelude.{Some, Ok}
 use Rattle.std.proofs.lemmas.List.{append_assoc, take-append-drop, take_at, drop_at, get_or-append-add, get_or_append_left, get_or-map}
 use Rattle.std.proofs.lemmas.Bool.{cases_lt}
-use Rattle.walframe.specs.declared.frame.FrameHeader.{FrameHeader}
-use Rattle.walframe.specs.declared.log_header.LogHeader.{LogHeader}
-use Rattle.walframe.specs.declared.sums.Sum.{Sum}
-use Rattle.walframe.specs.Log.{header_in, header_bytes, frame_of, salts_at, sum_at}
-use Rattle.walframe.specs.Accepted.{IsFrame, frame_start, frame_at, head_at, heads_to, sum_to, summed_to}
-use Rattle.walframe.specs.Appended.{AreWritten}
-use Rattle.walframe.specs.Written.{Framed, written, sum_after, SaltsFit, HeaderFits, AllFit}
-use Rattle.walframe.specs.Sums.{words, zero_sum}
-use Rattle.walframe.proofs.Fronts.{header_in_front, start_more, start_rises, frame_front_same, sum_to_front}
-use Rattle.walframe.proofs.Laws.{all_written, carried_fits, header_back}
-use Rattle.walframe.proofs.Reading.{heads_len}
-use Rattle.walindex.specs.declared.index.Index.{Index}
+use Rattle.wal_frame.specs.declared.frame.FrameHeader.{FrameHeader}
+use Rattle.wal_frame.specs.declared.log_header.LogHeader.{LogHeader}
+use Rattle.wal_frame.specs.declared.sums.Sum.{Sum}
+use Rattle.wal_frame.specs.Log.{header_in, header_bytes, frame_of, salts_at, sum_at}
+use Rattle.wal_frame.specs.Accepted.{IsFrame, frame_start, frame_at, head_at, heads_to, sum_to, summed_to}
+use Rattle.wal_frame.specs.Appended.{AreWritten}
+use Rattle.wal_frame.specs.Written.{Framed, written, sum_after, SaltsFit, HeaderFits, AllFit}
+use Rattle.wal_frame.specs.Sums.{words, zero_sum}
+use Rattle.wal_frame.proofs.Fronts.{header_in_front, start_more, start_rises, frame_front_same, sum_to_front}
+use Rattle.wal_frame.proofs.Laws.{all_written, carried_fits, header_back}
+use Rattle.wal_frame.proofs.Reading.{heads_len}
+use Rattle.wal_index.specs.declared.index.Index.{Index}
 use Rattle.wal.specs.declared.pages.PageImage.{PageImage}
 use Rattle.wal.specs.Committed.{HasCommitted, framed_to, frames_under}
-use Rattle.walindex.specs.Index.{frames_of, IsPageNumber, HasFrame}
+use Rattle.wal_index.specs.Index.{frames_of, IsPageNumber, HasFrame}
 use Rattle.wal.specs.Indexed.{EachFrame, IsIndexTo, IsOldOrNew, HasEach, KeepsFrames}
 use Rattle.wal.specs.Pages.{ArePages, framed, numbers_of}
 use Rattle.disk.specs.File.{File, IsSynced}

@@ -6,8 +6,8 @@ use Rattle.std.proofs.lemmas.Option.{slice_get_within, get_or_from_slice_get}
 use Rattle.std.proofs.lemmas.Bool.{cases_lt}
 use Rattle.disk.specs.File.{Version, IsLeft, version_at, blank_version}
 use Rattle.disk.proofs.Moments.{left_more}
-use Rattle.walframe.specs.declared.log_header.LogHeader.{LogHeader}
-use Rattle.walframe.specs.Written.{Framed}
+use Rattle.wal_frame.specs.declared.log_header.LogHeader.{LogHeader}
+use Rattle.wal_frame.specs.Written.{Framed}
 use Rattle.wal.specs.Chains.{Chained, IsChained, NoChanceMatchIn}
 use Rattle.wal.specs.Committed.{IsAcceptedAt, HasCommits, framed_at, framed_to}
 use Rattle.wal.specs.Crashes.{AcceptTheirChains, HasNoChance, IsVersionsFrame, LeavesEither, LeavesCommits, KeepsSynced}

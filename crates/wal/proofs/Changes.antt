@@ -2,7 +2,7 @@
 use Rattle.std.proofs.Common.{◌≡◌, ◌⊎◌, inl, inr, ◌<◌, ◌≤◌, ◌+◌, ℕ, List, [], ◌∷◌, ◌++◌, length, get_or, refl, sym, ◌∙◌, ap, subst, arith, length-append}
 use Rattle.std.proofs.lemmas.Bool.{cases_lt}
 use Rattle.std.proofs.lemmas.List.{get_or_append_left, get_or_push, append-nil, append_assoc}
-use Rattle.walframe.specs.Written.{Framed}
+use Rattle.wal_frame.specs.Written.{Framed}
 use Rattle.wal.specs.declared.pages.PageImage.{PageImage}
 use Rattle.wal.specs.Pages.{ArePages, framed, size_before}
 use Rattle.wal.specs.View.{IsPageIn, IsNewestIn, blank_frame}

@@ -3,10 +3,10 @@ use Rattle.std.proofs.Common.{◌≡◌, ◌++◌, ℕ, Bool, true, List, refl, 
 use Rattle.disk.specs.File.{File, IsSynced, IsContentLeft, Always}
 use Rattle.disk.proofs.Current.{synced_left}
 use Rattle.disk.proofs.Moments.{always_weaker}
-use Rattle.walframe.specs.declared.sums.Sum.{Sum}
-use Rattle.walframe.specs.Accepted.{frame_start, sum_to}
-use Rattle.walframe.specs.Written.{Framed, written}
-use Rattle.walindex.specs.declared.index.Index.{Index}
+use Rattle.wal_frame.specs.declared.sums.Sum.{Sum}
+use Rattle.wal_frame.specs.Accepted.{frame_start, sum_to}
+use Rattle.wal_frame.specs.Written.{Framed, written}
+use Rattle.wal_index.specs.declared.index.Index.{Index}
 use Rattle.wal.specs.Commits.{commits_of}
 use Rattle.wal.specs.Crashes.{LeavesEither, LeavesWriting, WritesCommit}
 use Rattle.wal.specs.LogState.{LogState}

@@ -2,11 +2,11 @@
 use Rattle.sqlval.specs.PageSizes.{is_size}
 use Rattle.std.proofs.Common.{◌≡◌, ◌<◌, ◌≤◌, ◌+◌, ◌-◌, ◌^◌, ℕ, zero, suc, List, [], ◌∷◌, ◌++◌, length, map, take, drop, get_or, refl, sym, ◌∙◌, ap, subst, arith}
 use Rattle.std.proofs.lemmas.List.{append_assoc, drop_more, take_rest}
-use Rattle.walframe.specs.declared.frame.FrameHeader.{FrameHeader}
-use Rattle.walframe.specs.declared.log_header.LogHeader.{LogHeader}
-use Rattle.walframe.specs.declared.sums.Sum.{Sum}
-use Rattle.walframe.specs.Log.{frame_sum, frame_bytes}
-use Rattle.walframe.specs.Written.{Framed, sum_of_framed, written, sum_after, AllFit}
+use Rattle.wal_frame.specs.declared.frame.FrameHeader.{FrameHeader}
+use Rattle.wal_frame.specs.declared.log_header.LogHeader.{LogHeader}
+use Rattle.wal_frame.specs.declared.sums.Sum.{Sum}
+use Rattle.wal_frame.specs.Log.{frame_sum, frame_bytes}
+use Rattle.wal_frame.specs.Written.{Framed, sum_of_framed, written, sum_after, AllFit}
 use Rattle.wal.specs.declared.pages.PageImage.{PageImage}
 use Rattle.wal.specs.Pages.{ArePages, size_before, framed}
 

@@ -6,15 +6,15 @@ use Rattle.std.proofs.lemmas.Bool.{cases_lt, cases_Bool}
 use Rattle.disk.specs.File.{Version, File, IsSynced, IsLeft, Always, whole, version_at}
 use Rattle.disk.proofs.Left.{IsFrontOf, left_begins, left_synced}
 use Rattle.disk.proofs.Moments.{alone, stays}
-use Rattle.walframe.specs.declared.frame.FrameHeader.{FrameHeader}
-use Rattle.walframe.specs.declared.log_header.LogHeader.{LogHeader}
-use Rattle.walframe.specs.declared.sums.Sum.{Sum}
-use Rattle.walframe.specs.Log.{header_in, header_bytes, frame_of, same_sum, same_salts, salts_at, sum_at}
-use Rattle.walframe.specs.Accepted.{IsFrame, frame_start, frame_at, head_at, sum_to}
-use Rattle.walframe.specs.Written.{Framed}
-use Rattle.walframe.proofs.Fronts.{is_frame_front, frame_front_same, start_rises}
-use Rattle.walframe.proofs.Reading.{sum_from, salts_from, sum_same, salts_same}
-use Rattle.walindex.specs.declared.index.Index.{Index}
+use Rattle.wal_frame.specs.declared.frame.FrameHeader.{FrameHeader}
+use Rattle.wal_frame.specs.declared.log_header.LogHeader.{LogHeader}
+use Rattle.wal_frame.specs.declared.sums.Sum.{Sum}
+use Rattle.wal_frame.specs.Log.{header_in, header_bytes, frame_of, same_sum, same_salts, salts_at, sum_at}
+use Rattle.wal_frame.specs.Accepted.{IsFrame, frame_start, frame_at, head_at, sum_to}
+use Rattle.wal_frame.specs.Written.{Framed}
+use Rattle.wal_frame.proofs.Fronts.{is_frame_front, frame_front_same, start_rises}
+use Rattle.wal_frame.proofs.Reading.{sum_from, salts_from, sum_same, salts_same}
+use Rattle.wal_index.specs.declared.index.Index.{Index}
 use Rattle.wal.specs.Chains.{BeginsWith}
 use Rattle.wal.specs.Committed.{IsAcceptedAt, HasCommitted, HasCommits, framed_at, framed_to, frames_under}
 use Rattle.disk.specs.Calls.{overwritten}

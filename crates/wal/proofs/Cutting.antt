@@ -3,15 +3,15 @@ use Rattle.std.proofs.Common.{◌≡◌, inl, inr, ◌+◌, ◌-◌, ℕ, List, 
 use Rattle.std.proofs.lemmas.List.{append-nil}
 use Rattle.disk.specs.File.{File, IsSynced, Always}
 use Rattle.disk.proofs.Moments.{always_weaker}
-use Rattle.walframe.specs.declared.log_header.LogHeader.{LogHeader}
-use Rattle.walframe.specs.declared.frame.FrameHeader.{FrameHeader}
-use Rattle.walframe.specs.declared.sums.Sum.{Sum}
-use Rattle.walframe.specs.Log.{header_in}
-use Rattle.walframe.specs.Accepted.{frame_start, head_at, sum_to}
-use Rattle.walindex.specs.declared.index.Index.{Index}
+use Rattle.wal_frame.specs.declared.log_header.LogHeader.{LogHeader}
+use Rattle.wal_frame.specs.declared.frame.FrameHeader.{FrameHeader}
+use Rattle.wal_frame.specs.declared.sums.Sum.{Sum}
+use Rattle.wal_frame.specs.Log.{header_in}
+use Rattle.wal_frame.specs.Accepted.{frame_start, head_at, sum_to}
+use Rattle.wal_index.specs.declared.index.Index.{Index}
 use Rattle.wal.specs.Committed.{HasCommits, AreCommitted, framed_to, frames_under}
 use Rattle.wal.specs.Commits.{IsCut}
-use Rattle.walindex.specs.Index.{frames_of, IsPageNumber, HasFrame}
+use Rattle.wal_index.specs.Index.{frames_of, IsPageNumber, HasFrame}
 use Rattle.wal.specs.Indexed.{IsIndexTo}
 use Rattle.wal.specs.LogState.{state_in}
 use Rattle.wal.specs.declared.state.State.{State}

@@ -4,12 +4,12 @@ use Rattle.std.proofs.Common.{◌≡◌, inl, inr, ◌<◌, ◌≤◌, ◌+◌, 
 use Rattle.std.specs.Prelude.{Option, Some, None, IfSome, IsNone, is_some}
 use Rattle.std.proofs.Math.Nat.{mul-le-mul, mul-le-mul_right, pow-le-pow_right}
 use Rattle.sqlval.proofs.PageSizeLemmas.{size_is}
-use Rattle.walframe.specs.declared.log_header.LogHeader.{LogHeader}
-use Rattle.walframe.specs.Accepted.{frame_start, head_at}
-use Rattle.walframe.specs.Written.{Framed}
-use Rattle.walframe.proofs.Fronts.{start_more, start_rises}
-use Rattle.walindex.specs.declared.index.Index.{Index}
-use Rattle.walindex.specs.Index.{frames_of, FindsFrame, FindsNone}
+use Rattle.wal_frame.specs.declared.log_header.LogHeader.{LogHeader}
+use Rattle.wal_frame.specs.Accepted.{frame_start, head_at}
+use Rattle.wal_frame.specs.Written.{Framed}
+use Rattle.wal_frame.proofs.Fronts.{start_more, start_rises}
+use Rattle.wal_index.specs.declared.index.Index.{Index}
+use Rattle.wal_index.specs.Index.{frames_of, FindsFrame, FindsNone}
 use Rattle.wal.specs.declared.state.State.{State}
 use Rattle.wal.specs.Committed.{frames_under}
 use Rattle.wal.specs.Copying.{HasNoneOf, IsOfNewest, LogStandsFor, frames_to}

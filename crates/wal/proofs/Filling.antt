@@ -7,7 +7,7 @@ use Rattle.disk.specs.File.{Version, File, IsCurrent, IsContentLeft, versions}
 use Rattle.disk.proofs.Current.{current_left, writes_current, write_left}
 use Rattle.disk.proofs.Left.{versions_push}
 use Rattle.disk.proofs.Moments.{elapses_both, elapses_gains, elapses_refl, gains_versions}
-use Rattle.walframe.specs.Written.{Framed}
+use Rattle.wal_frame.specs.Written.{Framed}
 use Rattle.wal.specs.Copying.{IsOfNewest, page_place, SkipsPage, WritesPage, CopiesPage, FailsPage, CopiesTo, KeepsPages, AllKeep, Overwrites}
 use Rattle.wal.specs.View.{IsInFile, IsPageIn}
 use Rattle.wal.proofs.Changes.{page_one}

@@ -1,14 +1,14 @@
 -- The frames of a log as a list.
 use Rattle.std.proofs.Common.{◌≡◌, ◌≤◌, ◌+◌, ℕ, zero, suc, List, [], ◌∷◌, ◌++◌, length, drop, refl, sym, ◌∙◌, ap, arith, length-append}
 use Rattle.std.proofs.lemmas.List.{append_assoc, append-nil, drop_at}
-use Rattle.walframe.specs.declared.frame.FrameHeader.{FrameHeader}
-use Rattle.walframe.specs.declared.log_header.LogHeader.{LogHeader}
-use Rattle.walframe.specs.declared.sums.Sum.{Sum}
-use Rattle.walframe.specs.Log.{frame_of, frame_head, frame_bytes}
-use Rattle.walframe.specs.Accepted.{frame_start, frame_at}
-use Rattle.walframe.specs.Written.{Framed, FramedFits, AllFit, sum_of_framed, written}
-use Rattle.walframe.proofs.Fronts.{start_more, frame_front_same}
-use Rattle.walframe.proofs.Laws.{frame_back, frame_is}
+use Rattle.wal_frame.specs.declared.frame.FrameHeader.{FrameHeader}
+use Rattle.wal_frame.specs.declared.log_header.LogHeader.{LogHeader}
+use Rattle.wal_frame.specs.declared.sums.Sum.{Sum}
+use Rattle.wal_frame.specs.Log.{frame_of, frame_head, frame_bytes}
+use Rattle.wal_frame.specs.Accepted.{frame_start, frame_at}
+use Rattle.wal_frame.specs.Written.{Framed, FramedFits, AllFit, sum_of_framed, written}
+use Rattle.wal_frame.proofs.Fronts.{start_more, frame_front_same}
+use Rattle.wal_frame.proofs.Laws.{frame_back, frame_is}
 use Rattle.wal.specs.Committed.{framed_at, framed_to}
 
 -- the frames of the front of a log

@@ -7,8 +7,8 @@ use Rattle.disk.specs.File.{Version, File, IsSynced, IsContentLeft, IsLeft, Alwa
 use Rattle.disk.specs.Calls.{overwritten, write_version, cut_version, Writes, FailsToWrite, CutsFile, FailsToCut, Syncs}
 use Rattle.disk.proofs.Left.{left_synced, left_cut, versions_push}
 use Rattle.disk.proofs.Moments.{alone, always_both, always_weaker, stays, gains_good, after_sync}
-use Rattle.walframe.specs.declared.log_header.LogHeader.{LogHeader}
-use Rattle.walframe.specs.Log.{header_bytes}
+use Rattle.wal_frame.specs.declared.log_header.LogHeader.{LogHeader}
+use Rattle.wal_frame.specs.Log.{header_bytes}
 use Rattle.wal.specs.Crashes.{LeavesOneOf, LeavesHeader, AreEither, LeavesWriting, zeros}
 use Rattle.wal.specs.Stands.{front_at, kept_at, base_at, place_at}
 

@@ -2,10 +2,10 @@
 use Rattle.std.proofs.Common.{◌≡◌, inl, inr, ◌≤◌, ◌+◌, ℕ, List, [], ◌∷◌, length, get_or, refl, sym, ◌∙◌, ap, subst, arith, length-append}
 use Rattle.std.proofs.lemmas.List.{get_or_append_left, get_or_push}
 use Rattle.std.proofs.lemmas.Bool.{cases_lt}
-use Rattle.walindex.specs.declared.index.Index.{Index}
+use Rattle.wal_index.specs.declared.index.Index.{Index}
 use Rattle.wal.specs.declared.pages.PageImage.{PageImage}
-use Rattle.walindex.specs.Rows.{AreUpTo}
-use Rattle.walindex.specs.Index.{frames_of, SameFrames, AddsFrame}
+use Rattle.wal_index.specs.Rows.{AreUpTo}
+use Rattle.wal_index.specs.Index.{frames_of, SameFrames, AddsFrame}
 use Rattle.wal.specs.Indexed.{EachFrame, IsFrameTo, IsIndexTo, IsOldOrNew}
 
 -- what holds of each frame, where one more joins

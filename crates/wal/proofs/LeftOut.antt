@@ -4,8 +4,8 @@ use Rattle.std.specs.Prelude.{IsTrue, nat_le, ◌&&◌}
 use Rattle.std.proofs.Math.Nat.{mul-le-mul_right}
 use Rattle.std.proofs.lemmas.Bool.{leb-true}
 use Rattle.disk.specs.File.{File}
-use Rattle.walframe.specs.Accepted.{frame_start}
-use Rattle.walindex.specs.Index.{FindsFrame}
+use Rattle.wal_frame.specs.Accepted.{frame_start}
+use Rattle.wal_index.specs.Index.{FindsFrame}
 use Rattle.wal.specs.declared.state.State.{State}
 use Rattle.wal.specs.Alone.{HasCopiedPage}
 use Rattle.wal.specs.Copying.{CutsTo, IsLeftOut, IsOfNewest, IsReached, LogStandsFor, frames_to, was_copied}

@@ -9,11 +9,11 @@ use Rattle.sqlval.specs.declared.fault.Fault.{Fault}
 use Rattle.sqlval.specs.declared.fault.Fault.TheVariants.{Memory, Io, Damaged, Unsupported, NotADatabase, Full, Syntax, NoSuch, Exists, Ambiguous, Misuse, Busy, StaleSnapshot, NoTransaction, InTransaction, NoSavepoint, NotNull, Unique, Check, Raised, RealRefused, TypeRefused, RowidFull, RowidMismatch, TooLong, RowChangedBefore, ViewReadOnly, Blank, Failed}
 use Rattle.sqlval.specs.declared.fault.Damage.TheVariants.{Header, Size, Page, Cell, FreeSpace, Record, Order, Depth, UsedTwice, Unused, Freelist, Schema, Index}
 use Rattle.sqlval.specs.declared.fault.Feature.TheVariants.{Float, RealColumn, PageSize, FileVersion, ReservedBytes, SchemaFormat, Encoding, AutoVacuum, LogFormat, PageKind, ColumnCount, SchemaObject, Limit, Statement, StatementForm, Connection}
-use Rattle.walframe.specs.declared.frame.FrameHeader.{FrameHeader}
-use Rattle.walframe.specs.declared.log_header.LogHeader.{LogHeader}
-use Rattle.walframe.specs.declared.progress.Scan.{Scan}
-use Rattle.walframe.specs.Log.{header_in}
-use Rattle.walframe.specs.Accepted.{IsScan, IsTooLong, IsScanOf, ReadsNone, heads_to}
+use Rattle.wal_frame.specs.declared.frame.FrameHeader.{FrameHeader}
+use Rattle.wal_frame.specs.declared.log_header.LogHeader.{LogHeader}
+use Rattle.wal_frame.specs.declared.progress.Scan.{Scan}
+use Rattle.wal_frame.specs.Log.{header_in}
+use Rattle.wal_frame.specs.Accepted.{IsScan, IsTooLong, IsScanOf, ReadsNone, heads_to}
 use Rattle.wal.specs.Committed.{HasCommitted, AreCommitted}
 use Rattle.wal.specs.Sizes.{IsViewSize, IsOfSize}
 use Rattle.wal.specs.Opened.{CanOpen}

@@ -5,15 +5,15 @@ use Rattle.std.specs.Prelude.{Option, Some, None, Result, Ok, MatchOption, is_so
 use Rattle.std.proofs.lemmas.List.{get_or_append_left, get_or_push, get_or-map, drop-drop, drop-take}
 use Rattle.std.proofs.lemmas.Bool.{cases_lt, lt-ltb}
 use Rattle.sqlval.specs.declared.fault.Fault.{Fault}
-use Rattle.walframe.specs.declared.frame.FrameHeader.{FrameHeader}
-use Rattle.walframe.specs.declared.log_header.LogHeader.{LogHeader}
-use Rattle.walframe.specs.declared.progress.Scan.{Scan}
-use Rattle.walframe.specs.declared.sums.Sum.{Sum}
-use Rattle.walframe.specs.Log.{header_in, header_sum, header_by, order_told, number_at}
-use Rattle.walframe.specs.Accepted.{IsFrame, HasAccepted, IsCommitted, IsScanOf, ReadsNone, frame_start, frame_at, head_at, heads_to, sum_to}
-use Rattle.walframe.proofs.Reading.{heads_len}
-use Rattle.walindex.specs.declared.index.Index.{Index}
-use Rattle.walindex.specs.Index.{frames_of, IsPageNumber, HasFrame}
+use Rattle.wal_frame.specs.declared.frame.FrameHeader.{FrameHeader}
+use Rattle.wal_frame.specs.declared.log_header.LogHeader.{LogHeader}
+use Rattle.wal_frame.specs.declared.progress.Scan.{Scan}
+use Rattle.wal_frame.specs.declared.sums.Sum.{Sum}
+use Rattle.wal_frame.specs.Log.{header_in, header_sum, header_by, order_told, number_at}
+use Rattle.wal_frame.specs.Accepted.{IsFrame, HasAccepted, IsCommitted, IsScanOf, ReadsNone, frame_start, frame_at, head_at, heads_to, sum_to}
+use Rattle.wal_frame.proofs.Reading.{heads_len}
+use Rattle.wal_index.specs.declared.index.Index.{Index}
+use Rattle.wal_index.specs.Index.{frames_of, IsPageNumber, HasFrame}
 use Rattle.wal.specs.Indexed.{EachFrame, IsIndexTo, IsOfHead, HasEach, pages_said}
 use Rattle.wal.specs.Committed.{HasCommitted, AreCommitted}
 use Rattle.wal.specs.Sizes.{IsViewSize}

@@ -1,11 +1,11 @@
 -- What was read of a page is the page of the view.
 use Rattle.std.proofs.Common.{◌≡◌, inl, inr, ◌<◌, ◌≤◌, ◌+◌, ◌-◌, ◌*◌, ℕ, List, Bool, true, false, length, get_or, take, drop, refl, sym, ◌∙◌, ap, arith}
 use Rattle.std.specs.Prelude.{Some, None, if◌then◌else◌}
-use Rattle.walframe.specs.declared.log_header.LogHeader.{LogHeader}
-use Rattle.walframe.specs.declared.sums.Sum.{Sum}
-use Rattle.walframe.specs.Accepted.{frame_start, head_at}
-use Rattle.walindex.specs.declared.index.Index.{Index}
-use Rattle.walindex.specs.Index.{frames_of, FindsFrame, FindsNone}
+use Rattle.wal_frame.specs.declared.log_header.LogHeader.{LogHeader}
+use Rattle.wal_frame.specs.declared.sums.Sum.{Sum}
+use Rattle.wal_frame.specs.Accepted.{frame_start, head_at}
+use Rattle.wal_index.specs.declared.index.Index.{Index}
+use Rattle.wal_index.specs.Index.{frames_of, FindsFrame, FindsNone}
 use Rattle.wal.specs.Indexed.{IsIndexTo}
 use Rattle.wal.specs.Stands.{LogStands}
 use Rattle.wal.specs.View.{IsPage, IsInFile, HasNoFrame}

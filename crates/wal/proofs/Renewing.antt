@@ -7,16 +7,16 @@ use Rattle.disk.specs.File.{File, Version, IsSynced, IsLeft, Always, whole, vers
 use Rattle.disk.specs.Calls.{write_version, Writes, FailsToWrite, Syncs}
 use Rattle.disk.proofs.Left.{left_synced}
 use Rattle.disk.proofs.Moments.{alone, stays, gains_good, after_sync, always_both, always_weaker}
-use Rattle.walframe.specs.declared.log_header.LogHeader.{LogHeader}
-use Rattle.walframe.specs.declared.log_header.Salts.{Salts}
-use Rattle.walframe.specs.declared.sums.Sum.{Sum}
-use Rattle.walframe.specs.Log.{header_in, header_bytes, header_sum, salts_at}
-use Rattle.walframe.specs.Accepted.{IsFrame, frame_start, frame_at}
-use Rattle.walframe.specs.Written.{HeaderFits}
-use Rattle.walframe.proofs.Laws.{header_back}
-use Rattle.walframe.proofs.Fronts.{is_frame_front}
-use Rattle.walindex.specs.declared.index.Index.{Index}
-use Rattle.walindex.specs.Index.{frames_of}
+use Rattle.wal_frame.specs.declared.log_header.LogHeader.{LogHeader}
+use Rattle.wal_frame.specs.declared.log_header.Salts.{Salts}
+use Rattle.wal_frame.specs.declared.sums.Sum.{Sum}
+use Rattle.wal_frame.specs.Log.{header_in, header_bytes, header_sum, salts_at}
+use Rattle.wal_frame.specs.Accepted.{IsFrame, frame_start, frame_at}
+use Rattle.wal_frame.specs.Written.{HeaderFits}
+use Rattle.wal_frame.proofs.Laws.{header_back}
+use Rattle.wal_frame.proofs.Fronts.{is_frame_front}
+use Rattle.wal_index.specs.declared.index.Index.{Index}
+use Rattle.wal_index.specs.Index.{frames_of}
 use Rattle.wal.specs.Committed.{HasCommitted, HasCommits, frames_under}
 use Rattle.wal.specs.Crashes.{LeavesOneOf, LeavesHeader, zeros}
 use Rattle.wal.specs.Restarts.{BeginsAnew, LeavesOrNone, LeavesRenewed, is_copied, next_header, renewed, restarted}

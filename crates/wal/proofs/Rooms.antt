@@ -2,9 +2,9 @@
 use Rattle.std.proofs.Common.{◌≡◌, inl, inr, ◌<◌, ◌+◌, ℕ, zero, suc, List, [], ◌∷◌, length, get_or, sym, ◌∙◌, ap, subst, arith, length-append}
 use Rattle.std.proofs.lemmas.List.{get_or_append_left}
 use Rattle.std.proofs.lemmas.Bool.{cases_lt}
-use Rattle.walindex.specs.declared.index.Index.{Index}
+use Rattle.wal_index.specs.declared.index.Index.{Index}
 use Rattle.wal.specs.declared.pages.PageImage.{PageImage}
-use Rattle.walindex.specs.Index.{frames_of, SameFrames, AddsFrame, IsPageNumber, HasFrame, room_for, KeepsRoom, KeepsRoomBut}
+use Rattle.wal_index.specs.Index.{frames_of, SameFrames, AddsFrame, IsPageNumber, HasFrame, room_for, KeepsRoom, KeepsRoomBut}
 use Rattle.wal.specs.Indexed.{KeepsFrames, HasEach, HasRooms, IsStrict}
 use Rattle.wal.specs.Pages.{ArePages, numbers_of}
 

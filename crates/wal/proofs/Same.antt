@@ -1,10 +1,10 @@
 -- A log that stands for the same, said of equal parts.
 use Rattle.std.proofs.Common.{◌≡◌, ◌+◌, ℕ, List, Bool, sym, subst}
-use Rattle.walframe.specs.declared.log_header.LogHeader.{LogHeader}
-use Rattle.walframe.specs.declared.sums.Sum.{Sum}
-use Rattle.walframe.specs.Accepted.{head_at}
-use Rattle.walindex.specs.declared.index.Index.{Index}
-use Rattle.walindex.specs.Index.{SameFrames}
+use Rattle.wal_frame.specs.declared.log_header.LogHeader.{LogHeader}
+use Rattle.wal_frame.specs.declared.sums.Sum.{Sum}
+use Rattle.wal_frame.specs.Accepted.{head_at}
+use Rattle.wal_index.specs.declared.index.Index.{Index}
+use Rattle.wal_index.specs.Index.{SameFrames}
 use Rattle.wal.specs.declared.state.State.{State}
 use Rattle.wal.specs.LogState.{state_in}
 use Rattle.wal.specs.State.{SameState}

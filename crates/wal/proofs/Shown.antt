@@ -11,8 +11,8 @@ use Rattle.disk.proofs.Moments.{alone, always_unsynced, always_synced, always_we
 use Rattle.sqlval.specs.declared.fault.Fault.{Fault}
 use Rattle.sqlval.specs.declared.fault.Fault.TheVariants.{Damaged}
 use Rattle.sqlval.specs.declared.fault.Damage.TheVariants.{Size}
-use Rattle.walframe.specs.Written.{Framed}
-use Rattle.walindex.specs.Index.{FindsNone}
+use Rattle.wal_frame.specs.Written.{Framed}
+use Rattle.wal_index.specs.Index.{FindsNone}
 use Rattle.wal.specs.declared.log.Snapshot.{Snapshot}
 use Rattle.wal.specs.declared.state.State.{State}
 use Rattle.wal.specs.Alone.{StandsAlone}

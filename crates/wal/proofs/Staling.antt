@@ -4,11 +4,11 @@ use Rattle.std.proofs.lemmas.Bool.{cases_lt}
 use Rattle.std.proofs.lemmas.List.{append_assoc, append-nil, take-append-drop, take_at, drop_all}
 use Rattle.std.proofs.lemmas.Slice.{drop-append-drop}
 use Rattle.disk.specs.Calls.{overwritten}
-use Rattle.walframe.specs.declared.log_header.LogHeader.{LogHeader}
-use Rattle.walframe.specs.declared.log_header.Salts.{Salts}
-use Rattle.walframe.specs.Log.{header_bytes, salts_at}
-use Rattle.walframe.specs.Accepted.{IsFrame, frame_start, frame_at}
-use Rattle.walframe.proofs.Fronts.{start_more, start_rises}
+use Rattle.wal_frame.specs.declared.log_header.LogHeader.{LogHeader}
+use Rattle.wal_frame.specs.declared.log_header.Salts.{Salts}
+use Rattle.wal_frame.specs.Log.{header_bytes, salts_at}
+use Rattle.wal_frame.specs.Accepted.{IsFrame, frame_start, frame_at}
+use Rattle.wal_frame.proofs.Fronts.{start_more, start_rises}
 use Rattle.wal.specs.Stale.{IsStaleFrom, HasCleanTail}
 use Rattle.wal.specs.Stands.{base_at, place_at, log_front, log_end}
 

@@ -2,8 +2,8 @@
 use Rattle.std.proofs.Common.{◌≡◌, ◌∙◌, ◌<◌, ◌≤◌, ◌+◌, ◌++◌, ℕ, Bool, true, false, List, length, take, refl, sym, subst, ap, arith}
 use Rattle.std.specs.Prelude.{Option, Some, None, nat_lt, ◌==◌, ◌&&◌}
 use Rattle.std.proofs.lemmas.Bool.{ltb-true, eqb-true}
-use Rattle.walframe.specs.declared.log_header.LogHeader.{LogHeader}
-use Rattle.walframe.specs.Written.{Framed}
+use Rattle.wal_frame.specs.declared.log_header.LogHeader.{LogHeader}
+use Rattle.wal_frame.specs.Written.{Framed}
 use Rattle.wal.specs.declared.state.State.{State}
 use Rattle.wal.specs.Alone.{HasCopiedPages, HasNewest, StandsAlone, StandsWhereCopied}
 use Rattle.wal.specs.Committed.{framed_to, frames_under}

@@ -4,8 +4,8 @@ use Rattle.std.specs.Prelude.{Option, Some, None, slice_index_or, if◌then◌el
 use Rattle.std.proofs.lemmas.List.{take-append-le, take_all}
 use Rattle.std.proofs.lemmas.Bool.{cases_lt, cases_Bool}
 use Rattle.disk.specs.File.{File}
-use Rattle.walframe.specs.declared.log_header.LogHeader.{LogHeader}
-use Rattle.walframe.specs.Written.{Framed}
+use Rattle.wal_frame.specs.declared.log_header.LogHeader.{LogHeader}
+use Rattle.wal_frame.specs.Written.{Framed}
 use Rattle.wal.specs.Anew.{CommitsOver, base_of, begins_anew, kept_frames}
 use Rattle.wal.specs.Committed.{framed_at, framed_to, frames_under}
 use Rattle.wal.specs.Commits.{Commits, commits_of, grown}

@@ -1,7 +1,7 @@
 -- A database file that stands for itself, and the pages of it that were copied (Write-Ahead Logging, "Checkpointing").
 use Rattle.std.specs.Prelude.{◌≡◌, ◌<◌, ◌≤◌, ◌*◌, ℕ, Bool, List, length, slice_index_or}
-use Rattle.walframe.specs.declared.log_header.LogHeader.{LogHeader}
-use Rattle.walframe.specs.Written.{Framed}
+use Rattle.wal_frame.specs.declared.log_header.LogHeader.{LogHeader}
+use Rattle.wal_frame.specs.Written.{Framed}
 use Rattle.wal.specs.declared.state.State.{State}
 use Rattle.wal.specs.Committed.{frames_under}
 use Rattle.wal.specs.Stands.{header_where}

@@ -3,8 +3,8 @@ use Rattle.std.specs.Prelude.{◌≡◌, ◌⊎◌, ◌&&◌, ℕ, Bool, IsTrue,
 use Rattle.disk.specs.Calls.{overwritten}
 use Rattle.disk.specs.File.{File, Version, IsLeft, IsSynced, IsContentLeft, Always}
 use Rattle.sqlval.specs.declared.fault.Fault.{Fault}
-use Rattle.walframe.specs.declared.log_header.LogHeader.{LogHeader}
-use Rattle.walframe.specs.Written.{Framed}
+use Rattle.wal_frame.specs.declared.log_header.LogHeader.{LogHeader}
+use Rattle.wal_frame.specs.Written.{Framed}
 use Rattle.wal.specs.Committed.{HasCommits}
 use Rattle.wal.specs.Commits.{Commits, after_refusal, commits_of, grown}
 use Rattle.wal.specs.Crashes.{AreEither, HasNoChance, WritesCommit}

@@ -2,9 +2,9 @@
 -- Format" and "Checkpoint Algorithm").
 use Rattle.std.specs.Prelude.{◌≡◌, ◌<◌, ℕ, List, length, slice_get, Some, Ok}
 use Rattle.disk.specs.File.{File, Version, IsLeft, versions, version_at}
-use Rattle.walframe.specs.declared.log_header.LogHeader.{LogHeader}
-use Rattle.walframe.specs.Log.{header_in}
-use Rattle.walframe.specs.Written.{Framed}
+use Rattle.wal_frame.specs.declared.log_header.LogHeader.{LogHeader}
+use Rattle.wal_frame.specs.Log.{header_in}
+use Rattle.wal_frame.specs.Written.{Framed}
 use Rattle.wal.specs.Committed.{IsAcceptedAt, framed_at, framed_to}
 
 -- a header, and how many frames there are under it

@@ -3,9 +3,9 @@ use Rattle.std.specs.Prelude.{◌≡◌, ◌⊎◌, ◌≤◌, ◌+◌, ℕ, Boo
 use Rattle.disk.specs.File.{File, IsSynced}
 use Rattle.sqlval.specs.declared.fault.Fault.{Fault}
 use Rattle.sqlval.specs.declared.fault.Fault.TheVariants.{Io}
-use Rattle.walframe.specs.Log.{header_in}
-use Rattle.walframe.specs.Accepted.{frame_start, sum_to}
-use Rattle.walframe.specs.Written.{Framed, written}
+use Rattle.wal_frame.specs.Log.{header_in}
+use Rattle.wal_frame.specs.Accepted.{frame_start, sum_to}
+use Rattle.wal_frame.specs.Written.{Framed, written}
 use Rattle.wal.specs.Committed.{HasCommitted, AreCommitted, framed_to, frames_under}
 use Rattle.wal.specs.LogState.{LogState, header_of}
 use Rattle.wal.specs.Stands.{log_front, log_end}

@@ -1,9 +1,9 @@
 -- Which frames of a log are committed (Database File Format, "WAL File Format" and "Checkpoint Algorithm").
 use Rattle.std.specs.Prelude.{◌≡◌, ◌<◌, ◌≤◌, ℕ, zero, suc, List, [], ◌∷◌, ◌++◌, length, drop, Option, Some, None, Ok}
-use Rattle.walframe.specs.declared.log_header.LogHeader.{LogHeader}
-use Rattle.walframe.specs.Log.{header_in}
-use Rattle.walframe.specs.Accepted.{IsFrame, frame_at, head_at}
-use Rattle.walframe.specs.Written.{Framed}
+use Rattle.wal_frame.specs.declared.log_header.LogHeader.{LogHeader}
+use Rattle.wal_frame.specs.Log.{header_in}
+use Rattle.wal_frame.specs.Accepted.{IsFrame, frame_at, head_at}
+use Rattle.wal_frame.specs.Written.{Framed}
 
 -- frame k is accepted: it and all frames before it are right
 abbrev pub IsAcceptedAt : LogHeader → List ℕ → ℕ → Type 0

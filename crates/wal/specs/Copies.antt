@@ -4,7 +4,7 @@ use Rattle.disk.specs.File.{File, Version, IsLeft, IsSynced, IsContentLeft, Alwa
 use Rattle.sqlval.specs.declared.fault.Fault.{Fault}
 use Rattle.sqlval.specs.declared.fault.Fault.TheVariants.{Memory, Io, Failed, Damaged}
 use Rattle.sqlval.specs.declared.fault.Damage.TheVariants.{Size}
-use Rattle.walframe.specs.Written.{Framed}
+use Rattle.wal_frame.specs.Written.{Framed}
 use Rattle.wal.specs.declared.log.Snapshot.{Snapshot}
 use Rattle.wal.specs.Committed.{frames_under}
 use Rattle.wal.specs.Commits.{after_refusal, commits_of}

@@ -5,8 +5,8 @@ use Rattle.disk.specs.File.{File, Version, Elapses, versions, version_at}
 use Rattle.sqlval.specs.declared.fault.Fault.{Fault}
 use Rattle.sqlval.specs.declared.fault.Fault.TheVariants.{Damaged}
 use Rattle.sqlval.specs.declared.fault.Damage.TheVariants.{Size}
-use Rattle.walframe.specs.Written.{Framed}
-use Rattle.walindex.specs.Index.{FindsFrame, FindsNone}
+use Rattle.wal_frame.specs.Written.{Framed}
+use Rattle.wal_index.specs.Index.{FindsFrame, FindsNone}
 use Rattle.wal.specs.declared.log.Snapshot.{Snapshot}
 use Rattle.wal.specs.declared.state.State.{State}
 use Rattle.wal.specs.Committed.{frames_under}

@@ -2,10 +2,10 @@
 use Rattle.std.specs.Prelude.{◌≡◌, ◌⊎◌, ◌<◌, ◌≤◌, ◌++◌, ℕ, Bool, false, IsTrue, List, [], length, take, replicate, slice_get, Some, None, Ok}
 use Rattle.disk.specs.File.{File, Version, IsLeft, IsSynced, IsContentLeft, Always, version_at}
 use Rattle.disk.specs.Calls.{overwritten}
-use Rattle.walframe.specs.declared.log_header.LogHeader.{LogHeader}
-use Rattle.walframe.specs.Log.{header_in, header_bytes}
-use Rattle.walframe.specs.Accepted.{IsFrame, sum_to}
-use Rattle.walframe.specs.Written.{Framed, written}
+use Rattle.wal_frame.specs.declared.log_header.LogHeader.{LogHeader}
+use Rattle.wal_frame.specs.Log.{header_in, header_bytes}
+use Rattle.wal_frame.specs.Accepted.{IsFrame, sum_to}
+use Rattle.wal_frame.specs.Written.{Framed, written}
 use Rattle.wal.specs.Chains.{BeginsWith, Chained, IsNewestOf}
 use Rattle.wal.specs.Committed.{IsAcceptedAt, HasCommits, framed_at}
 use Rattle.wal.specs.Commits.{commits_of}

@@ -1,8 +1,8 @@
 -- What the index of a log's frames has.
 use Rattle.std.specs.Prelude.{◌≡◌, ◌⊎◌, ◌<◌, ◌≤◌, ◌-◌, ◌+◌, ℕ, List, length, map, slice_index, slice_index_or}
-use Rattle.walframe.specs.declared.frame.FrameHeader.{FrameHeader}
-use Rattle.walindex.specs.declared.index.Index.{Index}
-use Rattle.walindex.specs.Index.{frames_of, HasFrame, IsPageNumber, room_for}
+use Rattle.wal_frame.specs.declared.frame.FrameHeader.{FrameHeader}
+use Rattle.wal_index.specs.declared.index.Index.{Index}
+use Rattle.wal_index.specs.Index.{frames_of, HasFrame, IsPageNumber, room_for}
 use Rattle.wal.specs.declared.pages.PageImage.{PageImage}
 
 -- this holds of each frame of each page

@@ -2,8 +2,8 @@
 use Rattle.std.specs.Prelude.{◌≡◌, ◌⊎◌, ◌≤◌, ℕ, Bool, List, [], ◌∷◌, ◌++◌, length, Option}
 use Rattle.std.specs.List.{AllByRecursion}
 use Rattle.disk.specs.File.{File}
-use Rattle.walframe.specs.declared.log_header.LogHeader.{LogHeader}
-use Rattle.walframe.specs.Written.{Framed}
+use Rattle.wal_frame.specs.declared.log_header.LogHeader.{LogHeader}
+use Rattle.wal_frame.specs.Written.{Framed}
 use Rattle.wal.specs.declared.pages.PageImage.{PageImage}
 use Rattle.wal.specs.Anew.{CommitsOver, base_of, kept_frames}
 use Rattle.wal.specs.Committed.{frames_under}

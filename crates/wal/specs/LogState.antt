@@ -1,7 +1,7 @@
 -- What a log says of its two files.
 use Rattle.std.specs.Prelude.{ℕ, Bool, Option}
 use Rattle.disk.specs.declared.device.Disk.{Ghosts}
-use Rattle.walframe.specs.declared.log_header.LogHeader.{LogHeader}
+use Rattle.wal_frame.specs.declared.log_header.LogHeader.{LogHeader}
 use Rattle.wal.specs.declared.log.Log.{Log}
 use Rattle.wal.specs.declared.log.Snapshot.{Snapshot}
 use Rattle.wal.specs.declared.state.State.{State}

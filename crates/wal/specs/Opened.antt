@@ -3,10 +3,10 @@ use Rattle.sqlval.specs.PageSizes.{IsPageSize}
 use Rattle.std.specs.Prelude.{◌≡◌, ◌≤◌, ◌⊎◌, ℕ, Bool, List, length, Option, Ok, Err, Result, IsTrue, IsFalse}
 use Rattle.disk.specs.declared.device.Disk.{Ghosts}
 use Rattle.disk.specs.File.{File, Version, IsLeft, IsContentLeft, versions}
-use Rattle.walframe.specs.declared.log_header.LogHeader.{LogHeader}
-use Rattle.walframe.specs.declared.log_header.Salts.{Salts}
-use Rattle.walframe.specs.declared.sums.WordOrder.TheVariants.{Big}
-use Rattle.walframe.specs.Log.{header_in}
+use Rattle.wal_frame.specs.declared.log_header.LogHeader.{LogHeader}
+use Rattle.wal_frame.specs.declared.log_header.Salts.{Salts}
+use Rattle.wal_frame.specs.declared.sums.WordOrder.TheVariants.{Big}
+use Rattle.wal_frame.specs.Log.{header_in}
 use Rattle.wal.specs.declared.log.Log.{Log}
 use Rattle.wal.specs.declared.log.Refused.{Refused}
 use Rattle.wal.specs.declared.log.Synced.{Synced}

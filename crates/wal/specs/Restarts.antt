@@ -2,11 +2,11 @@
 use Rattle.std.specs.Prelude.{◌≡◌, ◌⊎◌, ◌+◌, ◌%◌, ◌^◌, ◌==◌, ◌&&◌, ℕ, Bool, false, List, [], ◌++◌, drop, nat_lt, Ok, Some, Result, MatchResult, IsTrue, IsFalse, if◌then◌else◌}
 use Rattle.disk.specs.File.{File, Version, IsLeft, IsSynced}
 use Rattle.sqlval.specs.declared.fault.Fault.{Fault}
-use Rattle.walframe.specs.declared.log_header.LogHeader.{LogHeader}
-use Rattle.walframe.specs.declared.sums.WordOrder.TheVariants.{Big}
-use Rattle.walframe.specs.Log.{header_in, header_bytes}
-use Rattle.walframe.specs.Accepted.{IsFrame}
-use Rattle.walframe.specs.Written.{Framed}
+use Rattle.wal_frame.specs.declared.log_header.LogHeader.{LogHeader}
+use Rattle.wal_frame.specs.declared.sums.WordOrder.TheVariants.{Big}
+use Rattle.wal_frame.specs.Log.{header_in, header_bytes}
+use Rattle.wal_frame.specs.Accepted.{IsFrame}
+use Rattle.wal_frame.specs.Written.{Framed}
 use Rattle.wal.specs.Committed.{HasCommits}
 use Rattle.wal.specs.Commits.{after_refusal}
 use Rattle.wal.specs.Crashes.{zeros}

@@ -1,10 +1,10 @@
 -- What opening makes of what was read of a log.
 use Rattle.std.specs.Prelude.{◌≡◌, ◌≤◌, ◌+◌, ◌*◌, ℕ, List, [], ◌∷◌, length, slice_index_or, Option, Some, None, MatchOption}
-use Rattle.walframe.specs.declared.frame.FrameHeader.{FrameHeader}
-use Rattle.walframe.specs.declared.log_header.LogHeader.{LogHeader}
-use Rattle.walframe.specs.declared.progress.Scan.{Scan}
-use Rattle.walframe.specs.declared.sums.Sum.{Sum}
-use Rattle.walframe.specs.Log.{header_sum}
+use Rattle.wal_frame.specs.declared.frame.FrameHeader.{FrameHeader}
+use Rattle.wal_frame.specs.declared.log_header.LogHeader.{LogHeader}
+use Rattle.wal_frame.specs.declared.progress.Scan.{Scan}
+use Rattle.wal_frame.specs.declared.sums.Sum.{Sum}
+use Rattle.wal_frame.specs.Log.{header_sum}
 
 -- there is no header, or one of this page size
 abbrev pub IsOfSize : Option LogHeader → ℕ → Type 0

@@ -1,8 +1,8 @@
 -- Older frames that stand after those that count (Database File Format, "WAL Reset": each header has a greater first salt than the one before it).
 use Rattle.std.specs.Prelude.{◌≡◌, ◌<◌, ◌≤◌, ℕ, suc, Bool, true, false, List, length}
-use Rattle.walframe.specs.declared.log_header.LogHeader.{LogHeader}
-use Rattle.walframe.specs.Log.{salts_at}
-use Rattle.walframe.specs.Accepted.{frame_start, frame_at}
+use Rattle.wal_frame.specs.declared.log_header.LogHeader.{LogHeader}
+use Rattle.wal_frame.specs.Log.{salts_at}
+use Rattle.wal_frame.specs.Accepted.{frame_start, frame_at}
 
 -- Each whole place of a frame, from the nth on, has a smaller first salt than the header: what stands there was written under an older one.
 pub record IsStaleFrom (h : LogHeader) (n : ℕ) (log : List ℕ) : Type 0 where

@@ -1,12 +1,12 @@
 -- What a log on a disk stands for.
 use Rattle.std.specs.Prelude.{◌≡◌, ◌<◌, ◌≤◌, ◌+◌, ◌-◌, ℕ, Bool, true, false, List, length, take, Option, Some, None, Ok, if◌then◌else◌}
-use Rattle.walframe.specs.declared.log_header.LogHeader.{LogHeader}
-use Rattle.walframe.specs.declared.sums.Sum.{Sum}
-use Rattle.walframe.specs.Log.{header_in, header_bytes}
-use Rattle.walframe.specs.Accepted.{frame_start, head_at, sum_to}
+use Rattle.wal_frame.specs.declared.log_header.LogHeader.{LogHeader}
+use Rattle.wal_frame.specs.declared.sums.Sum.{Sum}
+use Rattle.wal_frame.specs.Log.{header_in, header_bytes}
+use Rattle.wal_frame.specs.Accepted.{frame_start, head_at, sum_to}
 use Rattle.wal.specs.Committed.{HasCommitted}
-use Rattle.walindex.specs.declared.index.Index.{Index}
-use Rattle.walindex.specs.Index.{IsPageNumber}
+use Rattle.wal_index.specs.declared.index.Index.{Index}
+use Rattle.wal_index.specs.Index.{IsPageNumber}
 use Rattle.wal.specs.Indexed.{EachFrame, Misses}
 
 -- a frame is one of the log's, of that page

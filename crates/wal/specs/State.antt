@@ -1,11 +1,11 @@
 -- How what is known of the two files changes.
 use Rattle.std.specs.Prelude.{◌≡◌, ◌<◌, ◌≤◌, ◌+◌, ℕ, Bool, true, List, [], length, slice_index}
-use Rattle.walframe.specs.declared.log_header.LogHeader.{LogHeader}
-use Rattle.walframe.specs.declared.sums.Sum.{Sum}
-use Rattle.walframe.specs.Log.{header_sum}
+use Rattle.wal_frame.specs.declared.log_header.LogHeader.{LogHeader}
+use Rattle.wal_frame.specs.declared.sums.Sum.{Sum}
+use Rattle.wal_frame.specs.Log.{header_sum}
 use Rattle.wal.specs.declared.pages.PageImage.{PageImage}
 use Rattle.wal.specs.declared.state.State.{State}
-use Rattle.walindex.specs.Index.{frames_of, SameFrames, KeepsRoom}
+use Rattle.wal_index.specs.Index.{frames_of, SameFrames, KeepsRoom}
 use Rattle.wal.specs.Indexed.{IsOldOrNew, HasEach, KeepsFrames}
 use Rattle.wal.specs.Pages.{numbers_of}
 

@@ -3,11 +3,11 @@ use Rattle.std.specs.Prelude.{◌≡◌, ◌⊎◌, ◌<◌, ◌≤◌, ◌-◌,
 use Rattle.sqlval.specs.declared.fault.Fault.{Fault}
 use Rattle.sqlval.specs.declared.fault.Fault.TheVariants.{Io, Failed, Damaged}
 use Rattle.sqlval.specs.declared.fault.Damage.TheVariants.{Size}
-use Rattle.walframe.specs.declared.frame.FrameHeader.{FrameHeader}
-use Rattle.walframe.specs.declared.log_header.LogHeader.{LogHeader}
-use Rattle.walframe.specs.Log.{header_in}
-use Rattle.walframe.specs.Accepted.{frame_at, head_at, heads_to}
-use Rattle.walframe.specs.Written.{Framed}
+use Rattle.wal_frame.specs.declared.frame.FrameHeader.{FrameHeader}
+use Rattle.wal_frame.specs.declared.log_header.LogHeader.{LogHeader}
+use Rattle.wal_frame.specs.Log.{header_in}
+use Rattle.wal_frame.specs.Accepted.{frame_at, head_at, heads_to}
+use Rattle.wal_frame.specs.Written.{Framed}
 use Rattle.wal.specs.Committed.{AreCommitted}
 use Rattle.wal.specs.Sizes.{IsViewSize, IsSizeWithinLimits}
 

@@ -3,8 +3,8 @@
 ghost use Rattle.std.specs.Prelude.{◌≡◌, ◌<◌, ◌≤◌, ◌++◌, length, take, true, false, IsTrue, IsFalse, OnOk, OnErr, IfErr, MatchResult};
 ghost use Rattle.disk.specs.Calls.{Syncs, overwritten};
 ghost use Rattle.disk.specs.File.{IsSynced, IsContentLeft, Always};
-ghost use Rattle.walframe.specs.Log.{header_bytes};
-ghost use Rattle.walframe.specs.Written.{HeaderFits};
+ghost use Rattle.wal_frame.specs.Log.{header_bytes};
+ghost use Rattle.wal_frame.specs.Written.{HeaderFits};
 ghost use Rattle.wal.specs.Anew.{CommitsAnew, CommitsOver, IsStateCommitted, WritesAnew, WritesOver, base_of};
 ghost use Rattle.wal.specs.Commits.{Commits, IsStateCut, IsCut, KeepsDisks, commits_of};
 ghost use Rattle.wal.specs.Pages.{ArePages, framed};
@@ -20,7 +20,7 @@ use crate::restarting::{next_header, write_anew};
 use disk::Disk;
 use sqlval::{Fault, R};
 use std::alloc::Global;
-use walframe::LogHeader;
+use wal_frame::LogHeader;
 
 /// Syncs a log.
 pub fn sync_log<D: Disk>(log: &mut D) -> R<()>

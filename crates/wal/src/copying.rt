@@ -3,8 +3,8 @@
 ghost use Rattle.std.specs.Prelude.{◌≡◌, ◌⊎◌, ◌<◌, ◌≤◌, ◌+◌, ◌*◌, length, false, IsTrue, IsFalse, OnOk, OnErr, IfErr, IfSome, IsNone, MatchResult};
 ghost use Rattle.disk.specs.Calls.{FailsToCut, Syncs};
 ghost use Rattle.disk.specs.File.{IsSynced, IsCurrent, IsContentLeft};
-ghost use Rattle.walframe.specs.Accepted.{KeepsFile};
-ghost use Rattle.walindex.specs.Index.{FindsFrame, FindsNone};
+ghost use Rattle.wal_frame.specs.Accepted.{KeepsFile};
+ghost use Rattle.wal_index.specs.Index.{FindsFrame, FindsNone};
 ghost use Rattle.wal.specs.Alone.{HasCopiedPage, HasCopiedPages, StandsAlone};
 ghost use Rattle.wal.specs.Commits.{commits_of};
 ghost use Rattle.wal.specs.Copies.{Copies, CopiesMeanwhile, HasCopied, IsCopyRefusal, IsMissing, IsStateCopied, copied_size, sees_uncopied};
@@ -18,7 +18,7 @@ use crate::state::State;
 use disk::Disk;
 use sqlval::{Damage, Fault, R};
 use std::alloc::Global;
-use walframe::FrameHeader;
+use wal_frame::FrameHeader;
 
 /// Cuts the database file to a length, where it is longer and all frames are copied.
 fn cut_file<D: Disk>(db: &mut D, is_all: bool, len: u64, end: u64) -> R<()>

@@ -1,14 +1,14 @@
 //! The index of the frames of a log.
 
 ghost use Rattle.std.specs.Prelude.{◌≡◌, ◌≤◌, ◌+◌, length, IfOk, OnOk};
-ghost use Rattle.walindex.specs.Index.{SameFrames};
+ghost use Rattle.wal_index.specs.Index.{SameFrames};
 ghost use Rattle.wal.specs.Indexed.{IsIndexTo, EachFrame, IsOldOrNew, IsOfHead, KeepsFrames, HasEach, HasRooms, IsStrict, pages_said};
 ghost use Rattle.wal.specs.Pages.{numbers_of};
 
 use crate::pages::PageImage;
 use std::alloc::{AllocError, Global};
-use walframe::FrameHeader;
-use walindex::Index;
+use wal_frame::FrameHeader;
+use wal_index::Index;
 
 /// Reserves room for one more frame of each of these pages.
 pub fn reserve_all(alloc: Global, index: &mut Index, pages: &[PageImage]) -> Result<(), AllocError>

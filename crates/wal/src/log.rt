@@ -2,7 +2,7 @@
 
 ghost use Rattle.std.specs.Prelude.{◌≡◌, ◌≤◌, length, false, IsTrue, IsFalse, OnOk, IfErr};
 ghost use Rattle.disk.specs.File.{IsSynced};
-ghost use Rattle.walframe.specs.Accepted.{KeepsFile};
+ghost use Rattle.wal_frame.specs.Accepted.{KeepsFile};
 ghost use Rattle.wal.specs.Alone.{HasCopiedPages, StandsWhereCopied};
 ghost use Rattle.wal.specs.Stale.{HasCleanTail};
 ghost use Rattle.wal.specs.Stands.{LogStands};
@@ -11,7 +11,7 @@ ghost use Rattle.wal.specs.View.{IsPage, IsPageRefusal, IsThere};
 use crate::state::State;
 use disk::Disk;
 use sqlval::{Damage, Fault, R};
-use walframe::FrameHeader;
+use wal_frame::FrameHeader;
 
 /// A snapshot: the frames up to a mark.
 #[derive(Clone, Copy, Debug, PartialEq, Eq)]

@@ -3,7 +3,7 @@
 ghost use Rattle.std.specs.Prelude.{◌≡◌, ◌⊎◌, ◌<◌, ◌≤◌, ◌-◌, ℕ, length, IsTrue, IfOk, IfErr, IsFalse, IsNone, OnOk, MatchResult};
 ghost use Rattle.disk.specs.Calls.{Rose};
 ghost use Rattle.disk.specs.File.{IsSynced, Always, Throughout};
-ghost use Rattle.walframe.specs.Accepted.{KeepsFile};
+ghost use Rattle.wal_frame.specs.Accepted.{KeepsFile};
 ghost use Rattle.wal.specs.Sizes.{IsHeaderOf, IsSumOf, IsViewSize, IsSizeWithinLimits, IsOfSize};
 ghost use Rattle.wal.specs.Opened.{fresh_header, IsOpened, IsStateOf, CanOpen, KeepsContent, LeavesOld, LeavesAsBefore, db_synced, log_synced};
 ghost use Rattle.wal.specs.ErrorCauses.{TouchesDisk};
@@ -17,7 +17,7 @@ use crate::state::{State, is_within_limits};
 use disk::Disk;
 use sqlval::{Damage, Fault, Feature, R, is_page_size};
 use std::alloc::Global;
-use walframe::{FrameHeader, LogHeader, Salts, Scan, Sum, WordOrder, scan};
+use wal_frame::{FrameHeader, LogHeader, Salts, Scan, Sum, WordOrder, scan};
 
 /// The size of the newest view, in pages.
 fn view_size(

@@ -1,13 +1,13 @@
 //! The pages of a commit, and their frames.
 
 ghost use Rattle.std.specs.Prelude.{◌≡◌, ◌<◌, ◌++◌, OnOk, IfOk, IfErr, ℕ, length};
-ghost use Rattle.walframe.specs.Written.{SaltsFit, written, sum_after};
+ghost use Rattle.wal_frame.specs.Written.{SaltsFit, written, sum_after};
 ghost use Rattle.wal.specs.Pages.{ArePages, framed, size_before};
 ghost use Rattle.wal.specs.Refusals.{IsPagesRefusal};
 
 use sqlval::{Damage, Fault, R};
 use std::alloc::AllocError;
-use walframe::{FrameHeader, LogHeader, Sum};
+use wal_frame::{FrameHeader, LogHeader, Sum};
 
 /// The new content of a page.
 #[derive(Drop)]

@@ -2,8 +2,8 @@
 
 ghost use Rattle.std.specs.Prelude.{◌≡◌, ◌⊎◌, ◌≤◌, ◌+◌, ◌++◌, length, take, drop, IsTrue, IsFalse, OnOk, MatchResult};
 ghost use Rattle.disk.specs.File.{IsSynced, IsContentLeft, Always};
-ghost use Rattle.walframe.specs.Log.{header_bytes};
-ghost use Rattle.walframe.specs.Written.{HeaderFits};
+ghost use Rattle.wal_frame.specs.Log.{header_bytes};
+ghost use Rattle.wal_frame.specs.Written.{HeaderFits};
 ghost use Rattle.wal.specs.Anew.{IsRewritten, LeavesRewriting};
 ghost use Rattle.wal.specs.Commits.{KeepsDisks, commits_of};
 ghost use Rattle.wal.specs.Refusals.{IsCutRefusal};
@@ -16,7 +16,7 @@ use crate::committing::{give_header, sync_log, truncate_tail, write_frames};
 use crate::log::Log;
 use disk::Disk;
 use sqlval::{Fault, R};
-use walframe::{LogHeader, Salts, WordOrder};
+use wal_frame::{LogHeader, Salts, WordOrder};
 
 /// What is added to the second salt of a header for that of the next.
 const SALT_STEP: u32 = 0x9e37_79b9;

@@ -2,8 +2,8 @@
 
 ghost use Rattle.sqlval.specs.PageSizes.{is_size};
 ghost use Rattle.std.specs.Prelude.{◌≡◌, ◌<◌, ◌≤◌, ◌+◌, ◌-◌, ◌*◌, ◌↔◌, ℕ, length, IsTrue, IfOk, IfErr, OnOk};
-ghost use Rattle.walframe.specs.Accepted.{frame_start};
-ghost use Rattle.walframe.specs.Written.{SaltsFit, written, sum_after};
+ghost use Rattle.wal_frame.specs.Accepted.{frame_start};
+ghost use Rattle.wal_frame.specs.Written.{SaltsFit, written, sum_after};
 ghost use Rattle.wal.specs.Indexed.{IsIndexTo, HasRooms, IsStrict};
 ghost use Rattle.wal.specs.Sizes.{IsSizeWithinLimits, IsWithinLimits};
 ghost use Rattle.wal.specs.Stands.{log_end};
@@ -15,8 +15,8 @@ use crate::restarting::next_header;
 use sqlval::limits::{MAX_DATABASE_BYTES, MAX_FRAMES, MAX_PAGES};
 use sqlval::{Fault, R};
 use std::alloc::{AllocError, Global};
-use walframe::{FrameHeader, LogHeader, Sum};
-use walindex::Index;
+use wal_frame::{FrameHeader, LogHeader, Sum};
+use wal_index::Index;
 
 /// Whether a database of `size` pages is within the limits.
 pub fn is_within_limits(size: u32, page_size: u32) -> bool

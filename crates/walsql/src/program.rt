@@ -1,14 +1,14 @@
 //! The program over given arguments, input and output.
 
-use cacheddisk::CachedDisk;
+use disk_cache::CachedDisk;
+use disk_file::FileDisk;
 use engine::{Engine, Refused, create, put_reply};
-use filedisk::FileDisk;
-use settings::{ArgsError, StartOptions, settings};
 use sqlval::{Fault, R};
 use std::alloc::Global;
 use std::fs::File;
 use std::io::{BufRead, Write};
 use std::rt::Files;
+use walsql_args::{ArgsError, StartOptions, settings};
 
 /// Exit status at the end of input.
 const SUCCESS: u8 = 0;

@@ -1,7 +1,7 @@
 use Rattle.std.proofs.Common.{rules, inl, inr, ◌≡◌, length, subst}
 use Rattle.std.proofs.lemmas.Result.{IfErr-weaker, IfOk-weaker}
-use Rattle.dbheader.specs.Header.{IsHeader}
-use Rattle.dbheader.specs.declared.fields.Header.{Header}
+use Rattle.db_header.specs.Header.{IsHeader}
+use Rattle.db_header.specs.declared.fields.Header.{Header}
 use Rattle.engine.proofs.NewFiles.{fits_empty}
 use Rattle.engine.proofs.creating.empty_page.Goals as goal
 

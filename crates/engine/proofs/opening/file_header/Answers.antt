@@ -1,6 +1,6 @@
 use Rattle.std.proofs.Common.{rules, refl, sym, ap, subst, ◌∙◌, length, take, drop, arith}
 use Rattle.disk.specs.File.{File}
-use Rattle.dbheader.proofs.Fronts.{header_moves}
+use Rattle.db_header.proofs.Fronts.{header_moves}
 use Rattle.pager.proofs.HeaderFronts.{front_of, header_found}
 use Rattle.engine.specs.Opening.{ReadsHeader}
 use Rattle.engine.proofs.EmptyOpening as empty

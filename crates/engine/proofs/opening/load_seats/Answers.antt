@@ -1,6 +1,6 @@
 use Rattle.std.proofs.Common.{◌≡◌}
 use Rattle.catalog.specs.declared.tables.Catalog.{Catalog}
-use Rattle.loading.specs.Loading.{FindsDatabase}
+use Rattle.db_load.specs.Loading.{FindsDatabase}
 use Rattle.pager.specs.Maps.{pages_in}
 use Rattle.pager.specs.Views.{newest_view}
 use Rattle.sqlval.specs.Faults.{IsOutside}

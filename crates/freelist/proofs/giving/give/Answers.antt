@@ -1,5 +1,5 @@
 use Rattle.std.proofs.Common.{◌∙◌, ℕ, List, sym, subst}
-use Rattle.dbheader.specs.Header.{IsHeader}
+use Rattle.db_header.specs.Header.{IsHeader}
 use Rattle.freelist.proofs.Causing.{causes_still}
 use Rattle.freelist.proofs.giving.give.Goals as goal
 

@@ -1,5 +1,5 @@
 use Rattle.std.proofs.Common.{◌≡◌, ◌∙◌, ℕ, refl, sym, ap, subst, List}
-use Rattle.dbheader.specs.Header.{IsHeader}
+use Rattle.db_header.specs.Header.{IsHeader}
 use Rattle.pages.specs.Map.{PageMap, page_at}
 use Rattle.freelist.specs.Calls.{IsTaken}
 use Rattle.freelist.proofs.Causing.{causes_after, causes_still}

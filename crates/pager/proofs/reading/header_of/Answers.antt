@@ -1,5 +1,5 @@
 use Rattle.std.proofs.Common.{◌≡◌, take, sym, rules}
-use Rattle.dbheader.proofs.Fronts.{header_moves}
+use Rattle.db_header.proofs.Fronts.{header_moves}
 use Rattle.pager.proofs.HeaderFronts.{front_of, header_found}
 use Rattle.pager.proofs.Headers.{header_fault, header_not_blank}
 use Rattle.pager.proofs.reading.header_of.Goals as goal

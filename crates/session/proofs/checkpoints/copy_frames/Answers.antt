@@ -1,9 +1,9 @@
 use Rattle.std.proofs.Common.{◌≡◌, refl, sym, subst, Bool}
 use Rattle.std.specs.Prelude.{not, OnOk}
 use Rattle.std.specs.List.{list_any}
-use Rattle.syntax.specs.declared.statement.CheckpointMode.{CheckpointMode}
+use Rattle.sql_syntax.specs.declared.statement.CheckpointMode.{CheckpointMode}
 use Rattle.wal.specs.LogState.{state_of}
-use Rattle.checkpoint.specs.Shown.{Checkpoints}
+use Rattle.wal_checkpoint.specs.Shown.{Checkpoints}
 use Rattle.session.specs.Checkpoints.{CopiesBack}
 use Rattle.session.specs.Seats.{holds_snapshot}
 use Rattle.session.proofs.CopyFrames.{causes_so, count_is, restart_count, truncate_count}

@@ -1,7 +1,7 @@
 use Rattle.std.proofs.Common.{◌≡◌, ◌<◌, ◌+◌, ℕ, inr, ap, subst, sym, refl, arith, get_or}
 use Rattle.std.proofs.lemmas.List.{get_or_default, get_or-map, length-map}
 use Rattle.wal.specs.declared.pages.PageImage.{PageImage}
-use Rattle.walindex.specs.Index.{HasFrame, KeepsRoomBut, room_for}
+use Rattle.wal_index.specs.Index.{HasFrame, KeepsRoomBut, room_for}
 use Rattle.wal.specs.Indexed.{IsIndexTo, EachFrame, IsOldOrNew}
 use Rattle.wal.specs.Pages.{numbers_of}
 use Rattle.wal.proofs.Rooms.{has_more, kept_by_added, kept_both, rooms_less}

@@ -1,7 +1,7 @@
 use Rattle.std.proofs.Common.{◌≡◌, ◌+◌, ◌-◌, ◌∙◌, ℕ, ap, subst, sym, arith, get_or}
 use Rattle.std.proofs.lemmas.List.{get_or_default, get_or-map}
-use Rattle.walframe.specs.declared.frame.FrameHeader.{FrameHeader}
-use Rattle.walindex.specs.Index.{HasFrame, IsPageNumber}
+use Rattle.wal_frame.specs.declared.frame.FrameHeader.{FrameHeader}
+use Rattle.wal_index.specs.Index.{HasFrame, IsPageNumber}
 use Rattle.wal.specs.Indexed.{IsOfHead, pages_said}
 use Rattle.wal.proofs.Rooms.{has_more, kept_by_added, kept_both, kept_by_same}
 use Rattle.wal.proofs.Indexing.{index_added, up_to, index_same, each_added, each_same}

@@ -1,7 +1,7 @@
 use Rattle.std.proofs.Common.{◌≡◌, ◌<◌, ◌∙◌, ℕ, ap, sym, subst, get_or}
 use Rattle.std.proofs.lemmas.List.{get_or-map}
 use Rattle.wal.specs.declared.pages.PageImage.{PageImage}
-use Rattle.walindex.specs.Index.{IsPageNumber, room_for}
+use Rattle.wal_index.specs.Index.{IsPageNumber, room_for}
 use Rattle.wal.specs.Pages.{numbers_of}
 use Rattle.wal.proofs.Rooms.{rooms_more}
 use Rattle.wal.proofs.indexed.reserve_all.Goals as goal

@@ -1,4 +1,4 @@
-use Rattle.walindex.specs.Index.{SameFrames}
+use Rattle.wal_index.specs.Index.{SameFrames}
 use Rattle.wal.specs.Indexed.{HasRooms}
 use Rattle.wal.specs.Pages.{numbers_of}
 use Rattle.wal.proofs.indexed.reserve_all.Given as goal

@@ -1,8 +1,8 @@
 use Rattle.sqlval.specs.PageSizes.{is_size}
 use Rattle.std.proofs.Common.{◌≡◌, ◌∙◌, List, ℕ, true, false, length, sym, ap, subst, arith, rules}
 use Rattle.disk.specs.File.{File}
-use Rattle.walframe.specs.declared.frame.FrameHeader.{FrameHeader}
-use Rattle.walframe.specs.Accepted.{IsScan}
+use Rattle.wal_frame.specs.declared.frame.FrameHeader.{FrameHeader}
+use Rattle.wal_frame.specs.Accepted.{IsScan}
 use Rattle.wal.specs.Indexed.{IsIndexTo, EachFrame, IsOfHead, HasEach, pages_said}
 use Rattle.wal.specs.Sizes.{IsViewSize, IsSizeWithinLimits}
 use Rattle.wal.specs.Stands.{LogStands}

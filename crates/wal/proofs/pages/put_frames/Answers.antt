@@ -1,6 +1,6 @@
 use Rattle.std.proofs.Common.{◌∙◌, ap, refl, ◌++◌, length, drop, ◌-◌, arith, length-take}
-use Rattle.walframe.specs.Log.{frame_sum, frame_bytes}
-use Rattle.walframe.specs.declared.frame.FrameHeader.{FrameHeader}
+use Rattle.wal_frame.specs.Log.{frame_sum, frame_bytes}
+use Rattle.wal_frame.specs.declared.frame.FrameHeader.{FrameHeader}
 use Rattle.wal.proofs.CommitLemmas.{put_step}
 use Rattle.wal.proofs.pages.put_frames.Goals as goal
 

@@ -1,5 +1,5 @@
 use Rattle.std.proofs.Common.{◌≡◌, ◌++◌, ◌<◌, ◌≤◌, length}
-use Rattle.walframe.specs.Written.{written, sum_after, SaltsFit}
+use Rattle.wal_frame.specs.Written.{written, sum_after, SaltsFit}
 use Rattle.wal.specs.Pages.{framed}
 use Rattle.wal.proofs.pages.put_frames.Given as goal
 

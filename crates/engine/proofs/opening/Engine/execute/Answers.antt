@@ -1,13 +1,13 @@
 use Rattle.std.proofs.Common.{ap, subst, sym, IsFalse}
-use Rattle.syntax.specs.declared.statement.Statement.{Statement}
-use Rattle.storage.specs.Forms as forms
+use Rattle.sql_syntax.specs.declared.statement.Statement.{Statement}
+use Rattle.executor.specs.Forms as forms
 use Rattle.session.specs.Machine.{Reply}
 use Rattle.session.specs.Representation.{rows_reply}
 use Rattle.session.proofs.Executing.{refused_as}
-use Rattle.parser.proofs.Grammar.{exact_statement}
-use Rattle.parser.proofs.ParseLaws.{one_text}
+use Rattle.sql_parser.proofs.Grammar.{exact_statement}
+use Rattle.sql_parser.proofs.ParseLaws.{one_text}
 use Rattle.sqlval.specs.declared.fault.Fault.{Fault}
-use Rattle.parser.specs.Refusals.{IsTextRefusal}
+use Rattle.sql_parser.specs.Refusals.{IsTextRefusal}
 use Rattle.engine.proofs.Marked.{check_not_io, for_any, nothing_called}
 use Rattle.engine.proofs.Refusing.{full_of, never_answered}
 use Rattle.engine.specs.Representation.{StepsByText}

@@ -3,9 +3,9 @@ use Rattle.std.specs.Prelude.{ℕ, List, IfErr, IsFalse, IsTrue}
 use Rattle.std.proofs.lemmas.Result.{err_from_is_err_and}
 use Rattle.disk.specs.File.{File, IsContentLeft, IsSynced, Throughout}
 use Rattle.sqlval.specs.declared.fault.Fault.TheVariants.{Io}
-use Rattle.walframe.specs.declared.log_header.LogHeader.{LogHeader}
+use Rattle.wal_frame.specs.declared.log_header.LogHeader.{LogHeader}
 use Rattle.wal.specs.LogState.{LogState, db_of, state_of, log_of}
-use Rattle.dbheader.specs.Header.{IsHeader}
+use Rattle.db_header.specs.Header.{IsHeader}
 use Rattle.wal.specs.Opened.{CanOpen}
 use Rattle.wal.specs.Sizes.{IsSizeWithinLimits}
 use Rattle.catalog.specs.Listed.{tables_of}

@@ -1,5 +1,5 @@
 use Rattle.std.proofs.Common.{◌≡◌, ◌∙◌, inr, sym, subst}
-use Rattle.dbheader.specs.declared.fields.Header.{Header}
+use Rattle.db_header.specs.declared.fields.Header.{Header}
 use Rattle.wal.specs.Anew.{base_of}
 use Rattle.wal.specs.LogState.{state_of}
 use Rattle.pager.specs.Limits.{pages_of}

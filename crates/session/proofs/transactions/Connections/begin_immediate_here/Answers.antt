@@ -1,8 +1,8 @@
 use Rattle.std.proofs.Common.{refl, sym, ap, subst, ◌∙◌}
 use Rattle.session.specs.Machine.{Reply}
 use Rattle.session.specs.Representation.{StepsTo, done_reply, is_idle}
-use Rattle.syntax.specs.declared.statement.BeginMode.TheVariants as begins
-use Rattle.syntax.specs.declared.statement.Statement.TheVariants as statement
+use Rattle.sql_syntax.specs.declared.statement.BeginMode.TheVariants as begins
+use Rattle.sql_syntax.specs.declared.statement.Statement.TheVariants as statement
 use Rattle.session.proofs.Beginning.{begin_busy, done_refused}
 use Rattle.session.proofs.FirstRefusals.{may_when_idle, short_of}
 use Rattle.session.proofs.Switching.{after_taking}

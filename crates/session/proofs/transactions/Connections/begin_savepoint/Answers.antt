@@ -2,7 +2,7 @@ use Rattle.std.proofs.Common.{[], refl, subst, sym}
 use Rattle.std.specs.Prelude.{⊤, Result}
 use Rattle.sqlval.specs.Refusals.{refusal_of}
 use Rattle.sqlval.specs.declared.fault.Fault.{Fault}
-use Rattle.syntax.specs.declared.statement.Statement.TheVariants as statement
+use Rattle.sql_syntax.specs.declared.statement.Statement.TheVariants as statement
 use Rattle.session.specs.Machine.{Refused, Reply, Rows}
 use Rattle.session.specs.Representation.{StepsTo, done_reply, with_transaction}
 use Rattle.session.specs.declared.transactions.Connections.{Connections}

@@ -3,8 +3,8 @@ use Rattle.session.specs.ConnectionState.{files_of}
 use Rattle.session.specs.Machine.{Reply}
 use Rattle.session.specs.Representation.{StepsTo}
 use Rattle.session.specs.Writers.{IsNewest}
-use Rattle.syntax.specs.declared.statement.BeginMode.TheVariants as begins
-use Rattle.syntax.specs.declared.statement.Statement.TheVariants as statement
+use Rattle.sql_syntax.specs.declared.statement.BeginMode.TheVariants as begins
+use Rattle.sql_syntax.specs.declared.statement.Statement.TheVariants as statement
 use Rattle.session.proofs.Beginning.{begin_fails, begun_immediate, done_refused, first_there}
 use Rattle.session.proofs.Showing.{read_files}
 use Rattle.session.proofs.transactions.Connections.begin_writing.Goals as goal

@@ -1,8 +1,8 @@
 use Rattle.std.proofs.Common.{◌≡◌, subst, sym, true}
-use Rattle.syntax.specs.declared.statement.Statement.{Statement}
+use Rattle.sql_syntax.specs.declared.statement.Statement.{Statement}
 use Rattle.session.specs.Representation.{StepsOn, done_reply}
-use Rattle.storage.specs.Forms.{is_supported}
-use Rattle.storage.specs.Forms.{KeepsItsText}
+use Rattle.executor.specs.Forms.{is_supported}
+use Rattle.executor.specs.Forms.{KeepsItsText}
 use Rattle.session.proofs.ErrorCauses.{causes_for}
 use Rattle.session.proofs.OtherForms.{no_other_form}
 use Rattle.session.proofs.StatementCauses.{changes_refused}

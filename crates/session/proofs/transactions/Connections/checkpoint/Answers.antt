@@ -1,7 +1,7 @@
 use Rattle.std.proofs.Common.{◌≡◌, ◌∷◌, ◌++◌, ◌∙◌, [], ap, map, refl, subst, sym}
 use Rattle.sqlval.specs.declared.fault.Fault.TheVariants as fault
-use Rattle.syntax.specs.declared.statement.Statement.TheVariants as statement
-use Rattle.rowprog.specs.Rows.{values_of}
+use Rattle.sql_syntax.specs.declared.statement.Statement.TheVariants as statement
+use Rattle.row_scan.specs.Rows.{values_of}
 use Rattle.session.specs.Checkpoints.{numbers_of}
 use Rattle.session.specs.Machine.{Reply}
 use Rattle.session.specs.Representation.{StepsOn, StepsTo}

@@ -1,7 +1,7 @@
 use Rattle.std.proofs.Common.{◌≡◌, ◌∙◌, refl, subst, sym, false}
 use Rattle.std.specs.List.{list_any}
 use Rattle.sqlval.specs.Names.{is_same_name}
-use Rattle.syntax.specs.declared.statement.Statement.TheVariants as statement
+use Rattle.sql_syntax.specs.declared.statement.Statement.TheVariants as statement
 use Rattle.catalog.specs.Database.{Name}
 use Rattle.session.specs.SavedTables.{IsNewestNamed, names_in, savepoints_in}
 use Rattle.session.proofs.SavingSteps.{both_so, none_to_release, release_commits, released_step}

@@ -1,7 +1,7 @@
 use Rattle.std.proofs.Common.{refl}
 use Rattle.sqlval.specs.declared.fault.Fault.TheVariants as fault
-use Rattle.syntax.specs.declared.statement.BeginMode.TheVariants as begins
-use Rattle.syntax.specs.declared.statement.Statement.TheVariants as statement
+use Rattle.sql_syntax.specs.declared.statement.BeginMode.TheVariants as begins
+use Rattle.sql_syntax.specs.declared.statement.Statement.TheVariants as statement
 use Rattle.session.proofs.Turning.{call_made, first_only, memory_alone, not_memory, only_so, reads_mark, refused_call}
 use Rattle.session.proofs.transactions.Connections.rollback_to.Goals as goal
 

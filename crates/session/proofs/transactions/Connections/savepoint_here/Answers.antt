@@ -1,5 +1,5 @@
 use Rattle.std.proofs.Common.{refl, sym, ap, subst, ◌∙◌}
-use Rattle.syntax.specs.declared.statement.Statement.TheVariants as statement
+use Rattle.sql_syntax.specs.declared.statement.Statement.TheVariants as statement
 use Rattle.catalog.specs.Database.{Name}
 use Rattle.sqlval.specs.declared.fault.Fault.TheVariants as fault
 use Rattle.session.specs.Machine.{Reply}

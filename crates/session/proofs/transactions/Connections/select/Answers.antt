@@ -1,7 +1,7 @@
 use Rattle.std.proofs.Common.{refl, sym, subst}
 use Rattle.session.specs.Machine.{Reply}
 use Rattle.session.specs.Representation.{StepsTo, rows_reply}
-use Rattle.syntax.specs.declared.statement.Statement.TheVariants as statement
+use Rattle.sql_syntax.specs.declared.statement.Statement.TheVariants as statement
 use Rattle.session.proofs.FirstRefusals.{short_of}
 use Rattle.session.proofs.Selecting.{refused_reply}
 use Rattle.session.proofs.Switching.{after_taking, taken_newest}

@@ -1,8 +1,8 @@
 use Rattle.std.proofs.Common.{subst, sym, List, map}
-use Rattle.syntax.specs.declared.statement.Statement.{Statement}
+use Rattle.sql_syntax.specs.declared.statement.Statement.{Statement}
 use Rattle.smallvec.specs.SmallVec.{SmallVec}
 use Rattle.sqlval.specs.declared.value.Value.{Value}
-use Rattle.rowprog.specs.Rows.{values_of}
+use Rattle.row_scan.specs.Rows.{values_of}
 use Rattle.session.specs.Machine.{Reply, Rows}
 use Rattle.session.specs.Representation.{StepsOn, rows_reply}
 use Rattle.session.proofs.Executing.{no_query, refused_as}

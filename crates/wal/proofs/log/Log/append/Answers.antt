@@ -1,7 +1,7 @@
 use Rattle.sqlval.specs.PageSizes.{is_size}
 use Rattle.std.proofs.Common.{◌≡◌, ◌∙◌, ◌+◌, ◌++◌, ℕ, List, [], length, ap, sym, subst, arith, true, refl}
 use Rattle.std.specs.Prelude.{IsTrue}
-use Rattle.walframe.specs.Written.{Framed, written}
+use Rattle.wal_frame.specs.Written.{Framed, written}
 use Rattle.wal.specs.LogState.{LogState, state_in}
 use Rattle.wal.specs.Pages.{ArePages, framed}
 use Rattle.disk.specs.Calls.{overwritten}

@@ -1,7 +1,7 @@
 use Rattle.std.proofs.Common.{◌∙◌, ap, sym, subst, arith, length, rules}
 use Rattle.std.specs.Prelude.{IsTrue}
-use Rattle.walframe.specs.declared.sums.Sum.{Sum}
-use Rattle.walframe.specs.Written.{written, sum_after}
+use Rattle.wal_frame.specs.declared.sums.Sum.{Sum}
+use Rattle.wal_frame.specs.Written.{written, sum_after}
 use Rattle.wal.specs.Anew.{CommitsAnew, WritesAnew}
 use Rattle.wal.specs.LogState.{LogState, state_in}
 use Rattle.wal.specs.Pages.{framed}

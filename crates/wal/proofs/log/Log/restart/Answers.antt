@@ -2,8 +2,8 @@ use Rattle.std.proofs.Common.{◌≡◌, inl, ◌∙◌, true, false, ap, refl, 
 use Rattle.std.specs.Prelude.{IsTrue, nat_lt, ◌==◌}
 use Rattle.disk.proofs.Current.{synced_left}
 use Rattle.disk.proofs.Moments.{always_weaker}
-use Rattle.walframe.specs.declared.log_header.LogHeader.{LogHeader}
-use Rattle.walframe.specs.Log.{header_sum}
+use Rattle.wal_frame.specs.declared.log_header.LogHeader.{LogHeader}
+use Rattle.wal_frame.specs.Log.{header_sum}
 use Rattle.wal.specs.Commits.{commits_of}
 use Rattle.wal.specs.LogState.{state_in}
 use Rattle.wal.specs.Restarts.{LeavesOrNone}

@@ -2,7 +2,7 @@ use Rattle.std.proofs.Common.{◌≡◌, inl, ◌∙◌, [], false, refl, sym, s
 use Rattle.std.specs.Prelude.{IsTrue}
 use Rattle.disk.proofs.Current.{synced_left}
 use Rattle.disk.proofs.Moments.{always_weaker}
-use Rattle.walframe.specs.Log.{header_sum}
+use Rattle.wal_frame.specs.Log.{header_sum}
 use Rattle.wal.specs.Commits.{commits_of}
 use Rattle.wal.specs.LogState.{state_in}
 use Rattle.wal.specs.Restarts.{LeavesOrNone}

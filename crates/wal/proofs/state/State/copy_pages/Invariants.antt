@@ -1,7 +1,7 @@
 use Rattle.std.proofs.Common.{◌≡◌, ◌+◌, length}
 use Rattle.std.specs.Prelude.{IsTrue}
 use Rattle.disk.specs.File.{IsCurrent}
-use Rattle.walframe.specs.Accepted.{KeepsFile}
+use Rattle.wal_frame.specs.Accepted.{KeepsFile}
 use Rattle.wal.specs.Copying.{CopiesTo, Overwrites, frames_to}
 use Rattle.wal.proofs.Filling.{KeepsOn}
 use Rattle.wal.proofs.state.State.copy_pages.Given as goal

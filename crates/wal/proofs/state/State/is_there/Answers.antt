@@ -1,6 +1,6 @@
 use Rattle.std.proofs.Common.{◌*◌, ◌∙◌, sym}
 use Rattle.std.proofs.lemmas.Bool.{leb-false}
-use Rattle.walindex.specs.Index.{FindsNone}
+use Rattle.wal_index.specs.Index.{FindsNone}
 use Rattle.wal.proofs.Fetched.{found_some, found_none}
 use Rattle.wal.proofs.state.State.is_there.Goals as goal
 

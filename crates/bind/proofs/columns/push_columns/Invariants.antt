@@ -1,7 +1,0 @@
--- what is left of the columns is looked through still
-use Rattle.std.proofs.Common.{◌≡◌, ◌++◌, drop}
-use Rattle.bind.specs.Scopes.{named_from}
-use Rattle.bind.proofs.columns.push_columns.Given as goal
-
-abbrev pub invariant-columns : goal.invariant-columns
-invariant-columns l = l.found.items ++ named_from l.number l.place l.name (drop l.place l.columns) ≡ l.fn.found.items ++ named_from l.number 0 l.name l.columns

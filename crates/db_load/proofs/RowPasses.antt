@@ -1,0 +1,484 @@
+-- The pass over the rows of tables, and that over the rows of indexes: what is listed where so many rows were read, of rows that tell tables.
+use Rattle.std.proofs.Common.{◌≡◌, ◌∙◌, ◌⊎◌, inl, inr, refl, sym, ap, subst, ℕ, Bool, true, false, not, ◌||◌, cond, List, [], ◌∷◌, ◌++◌, map, filter, Some}
+use Rattle.std.specs.Prelude.{⊤}
+use Rattle.std.specs.List.{AllByRecursion, list_any}
+use Rattle.std.proofs.lemmas.Bool.{false≢true}
+use Rattle.std.proofs.lemmas.List.{append-nil, append_assoc}
+use Rattle.tree_leaf.specs.Leaf.{Entry}
+use Rattle.tree_page.specs.Cells.{Pairwise}
+use Rattle.sqlval.specs.Lists.{any_twice}
+use Rattle.sqlval.specs.Names.{folded, is_same_name}
+use Rattle.catalog.specs.Database.{Name}
+use Rattle.catalog.specs.Listed.{is_name_of, is_table, table_named}
+use Rattle.catalog.specs.declared.tables.Index.{Index}
+use Rattle.catalog.specs.declared.tables.Table.{Table}
+use Rattle.db_pages.specs.Reordering.{AreReordered}
+use Rattle.query_names.specs.Bound.{is_twice_named}
+use Rattle.db_pages.specs.Schema.{AreRowsOf, IndexTold, TableTold, Tells, Told, all_told}
+use Rattle.db_load.specs.Loading.{bare}
+use Rattle.db_load.specs.Reading.{AddsOf, AddsTold, AreAlike, AreSound, CanAdd, IsLoading, bare_told, is_of_pass, listed_by, name_told, parts_of}
+use Rattle.db_pages.proofs.Reordering.{all_reordered, is_reordered, reordered_all, reordered_both, reordered_front, reordered_is, reordered_map, reordered_parts, reordered_refl, reordered_sym, reordered_trans}
+use Rattle.db_load.proofs.ToldAdded.{index_parts, parts_more}
+use Rattle.db_load.proofs.ToldParts.{AreApart, HasOwnColumns, apart_bare, apart_named, apart_reordered, bare_apart, bare_names, columns_bare, is_named, map_append, named_apart, names_told, neither, not_taken}
+
+-- ---- lists
+
+filter_append : {A : Type 0} (p : A → Bool) (xs ys : List A) → filter p (xs ++ ys) ≡ filter p xs ++ filter p ys
+filter_append p [] ys = refl
+filter_append {A} p (x ∷ xs) ys = by_test (p x) (filter_append p xs ys)
+  where
+    by_test : (b : Bool) → filter p (xs ++ ys) ≡ filter p xs ++ filter p ys → cond b (x ∷ filter p (xs ++ ys)) (filter p (xs ++ ys)) ≡ cond b (x ∷ filter p xs) (filter p xs) ++ filter p ys
+    by_test true e = ap (λ ls. x ∷ ls) e
+    by_test false e = e
+
+pub filter_one : {A : Type 0} (p : A → Bool) (xs : List A) (x : A) → p x ≡ true → filter p (xs ++ x ∷ []) ≡ filter p xs ++ x ∷ []
+filter_one p xs x h = filter_append p xs (x ∷ []) ∙ ap (λ (b : Bool). filter p xs ++ cond b (x ∷ []) []) h
+
+pub filter_none : {A : Type 0} (p : A → Bool) (xs : List A) (x : A) → p x ≡ false → filter p (xs ++ x ∷ []) ≡ filter p xs
+filter_none p xs x h = filter_append p xs (x ∷ []) ∙ (ap (λ (b : Bool). filter p xs ++ cond b (x ∷ []) []) h ∙ append-nil (filter p xs))
+
+filter_middle : {A : Type 0} (p : A → Bool) (c d : List A) (x : A) → filter p (c ++ x ∷ d) ≡ filter p c ++ cond (p x) (x ∷ filter p d) (filter p d)
+filter_middle p c d x = filter_append p c (x ∷ d)
+
+pub reordered_filter : {A : Type 0} (p : A → Bool) (xs ys : List A) → AreReordered xs ys → AreReordered (filter p xs) (filter p ys)
+reordered_filter p [] ys h = ap (filter p) h
+reordered_filter {A} p (x ∷ xs) ys (c, d, is, rest) =
+    reordered_is (filter p (x ∷ xs)) (filter p (c ++ x ∷ d)) (filter p ys) (ap (filter p) (sym is))
+    (by_test (p x) refl (reordered_is (filter p xs) (filter p (c ++ d)) (filter p c ++ filter p d) (filter_append p c d) (reordered_filter p xs (c ++ d) rest)))
+  where
+    by_test : (b : Bool) → p x ≡ b → AreReordered (filter p xs) (filter p c ++ filter p d) → AreReordered (cond b (x ∷ filter p xs) (filter p xs)) (filter p (c ++ x ∷ d))
+    by_test true e h =
+        reordered_is (x ∷ filter p xs) (filter p c ++ x ∷ filter p d) (filter p (c ++ x ∷ d)) (sym (filter_middle p c d x ∙ ap (λ b. filter p c ++ cond b (x ∷ filter p d) (filter p d)) e))
+        (filter p c, filter p d, refl, h)
+    by_test false e h =
+        reordered_is (filter p xs) (filter p c ++ filter p d) (filter p (c ++ x ∷ d)) (sym (filter_middle p c d x ∙ ap (λ b. filter p c ++ cond b (x ∷ filter p d) (filter p d)) e)) h
+
+all_both : {A : Type 0} (P : A → Type 0) (xs ys : List A) → AllByRecursion P xs → AllByRecursion P ys → AllByRecursion P (xs ++ ys)
+all_both P [] ys all others = others
+all_both P (x ∷ xs) ys all others = (all.0, all_both P xs ys all.1 others)
+
+all_front : {A : Type 0} (P : A → Type 0) (xs ys : List A) → AllByRecursion P (xs ++ ys) → AllByRecursion P xs
+all_front P [] ys all = tt
+all_front P (x ∷ xs) ys all = (all.0, all_front P xs ys all.1)
+
+-- ---- an item among others
+
+abbrev pub IsAmong : {A : Type 0} → A → List A → Type 0
+IsAmong x [] = ⊥
+IsAmong x (y ∷ ys) = (y ≡ x) ⊎ IsAmong x ys
+
+among_first : {A : Type 0} (x : A) (xs ys : List A) → IsAmong x xs → IsAmong x (xs ++ ys)
+among_first x [] ys is = absurd is
+among_first x (y ∷ xs) ys (inl same) = inl same
+among_first x (y ∷ xs) ys (inr later) = inr (among_first x xs ys later)
+
+among_second : {A : Type 0} (x : A) (xs ys : List A) → IsAmong x ys → IsAmong x (xs ++ ys)
+among_second x [] ys is = is
+among_second x (y ∷ xs) ys is = inr (among_second x xs ys is)
+
+among_apart : {A B : Type 0} (x : A) (xs ys : List A) → (IsAmong x xs → B) → (IsAmong x ys → B) → IsAmong x (xs ++ ys) → B
+among_apart x [] ys first then is = then is
+among_apart x (y ∷ xs) ys first then (inl same) = first (inl same)
+among_apart x (y ∷ xs) ys first then (inr later) = among_apart x xs ys (λ is. first (inr is)) then later
+
+among_map : {A B : Type 0} (f : A → B) (x : A) (xs : List A) → IsAmong x xs → IsAmong (f x) (map f xs)
+among_map f x [] is = absurd is
+among_map f x (y ∷ xs) (inl same) = inl (ap f same)
+among_map f x (y ∷ xs) (inr later) = inr (among_map f x xs later)
+
+among_middle : {A : Type 0} (x : A) (c d : List A) → IsAmong x (c ++ x ∷ d)
+among_middle x c d = among_second x c (x ∷ d) (inl refl)
+
+pub among_reordered : {A : Type 0} (x : A) (xs ys : List A) → AreReordered xs ys → IsAmong x xs → IsAmong x ys
+among_reordered x [] ys h is = absurd is
+among_reordered x (y ∷ xs) ys (c, d, at, rest) (inl same) = subst (IsAmong x) (sym at) (among_second x c (y ∷ d) (inl same))
+among_reordered x (y ∷ xs) ys (c, d, at, rest) (inr later) =
+    subst (IsAmong x) (sym at)
+    (among_apart x c d (λ is. among_first x c (y ∷ d) is) (λ is. among_second x c (y ∷ d) (inr is)) (among_reordered x xs (c ++ d) rest later))
+
+among_filter : {A : Type 0} (p : A → Bool) (x : A) (xs : List A) → p x ≡ true → IsAmong x xs → IsAmong x (filter p xs)
+among_filter p x [] h is = absurd is
+among_filter {A} p x (y ∷ xs) h is = by_test (p y) refl (among_filter p x xs h) is
+  where
+    by_test : (b : Bool) → p y ≡ b → (IsAmong x xs → IsAmong x (filter p xs)) → IsAmong x (y ∷ xs) → IsAmong x (cond b (y ∷ filter p xs) (filter p xs))
+    by_test true e later (inl same) = inl same
+    by_test true e later (inr is) = inr (later is)
+    by_test false e later (inl same) = absurd (false≢true (sym e ∙ (ap p same ∙ h)))
+    by_test false e later (inr is) = later is
+
+-- ---- the table of an index is told too
+
+abbrev HasTable : List Told → Told → Type 0
+HasTable all (TableTold t) = ⊤
+HasTable all (IndexTold t i) = IsAmong (TableTold t) all
+
+indexes_have : (all : List Told) (t : Table) (is : List Index) → IsAmong (TableTold t) all → AllByRecursion (HasTable all) (map (λ (i : Index). IndexTold t i) is)
+indexes_have all t [] is_there = tt
+indexes_have all t (i ∷ is) is_there = (is_there, indexes_have all t is is_there)
+
+told_have : (all : List Told) (ts : List Table) → ((t : Table) → IsAmong (TableTold t) (all_told ts) → IsAmong (TableTold t) all) → AllByRecursion (HasTable all) (all_told ts)
+told_have all [] there = tt
+told_have all (t ∷ ts) there = (
+  tt,
+  all_both (HasTable all) (map (λ (i : Index). IndexTold t i) t.indexes) (all_told ts) (indexes_have all t t.indexes (there t (inl refl)))
+      (told_have all ts (λ u is. there u (inr (among_second (TableTold u) (map (λ (i : Index). IndexTold t i) t.indexes) (all_told ts) is)))),
+)
+
+all_among : (P : Told → Type 0) (x : Told) (xs : List Told) → AllByRecursion P xs → IsAmong x xs → P x
+all_among P x [] all is = absurd is
+all_among P x (y ∷ xs) all (inl same) = subst P same all.0
+all_among P x (y ∷ xs) all (inr later) = all_among P x xs all.1 later
+
+pub table_among : (tables : List Table) (told : List Told) (t : Table) (i : Index) → AreReordered told (all_told tables) → IsAmong (IndexTold t i) told → IsAmong (TableTold t) told
+table_among tables told t i h is =
+    all_among (HasTable told) (IndexTold t i) told
+    (reordered_all (HasTable told) told (all_told tables) h (told_have told tables (λ u there. among_reordered (TableTold u) (all_told tables) told (reordered_sym told (all_told tables) h) there))) is
+
+-- ---- a listed table
+
+no_index : {B : Type 0} (b t : Table) (i : Index) → IndexTold t i ≡ TableTold b → B
+no_index b t i h = absurd cc
+
+not_among_indexes : {B : Type 0} (b t : Table) (is : List Index) → IsAmong (TableTold b) (map (λ (i : Index). IndexTold t i) is) → B
+not_among_indexes b t [] is_there = absurd is_there
+not_among_indexes b t (i ∷ is) (inl same) = no_index b t i same
+not_among_indexes b t (i ∷ is) (inr later) = not_among_indexes b t is later
+
+the_table : (t u : Table) → TableTold t ≡ TableTold u → t ≡ u
+the_table t u h = cc
+
+-- an item has one of the names
+name_among : (x : Told) (xs : List Told) (n : Name) → is_same_name n (name_told x) ≡ true → IsAmong x xs → list_any (is_same_name n) (names_told xs) ≡ true
+name_among x [] n same is = absurd is
+name_among x (y ∷ xs) n same (inl e) = ap (λ b. b || list_any (is_same_name n) (names_told xs)) (ap (λ (z : Told). is_same_name n (name_told z)) e ∙ same)
+name_among x (y ∷ xs) n same (inr later) = ap (λ b. is_same_name n (name_told y) || b) (name_among x xs n same later) ∙ or_true (is_same_name n (name_told y))
+  where
+    or_true : (b : Bool) → (b || true) ≡ true
+    or_true true = refl
+    or_true false = refl
+
+pub record IsListed (tables : List Table) (b : Table) : Type 0 where
+  pub other : Table
+  pub listed : table_named b.name tables ≡ Some other
+  pub alike : bare other ≡ b
+
+apart_more : (xs ys : List Told) → AreApart (xs ++ ys) → AreApart ys
+apart_more [] ys apart = apart
+apart_more (x ∷ xs) ys apart = apart_more xs ys (neither (list_any (is_same_name (name_told x)) (names_told (xs ++ ys))) (any_twice is_same_name (names_told (xs ++ ys))) apart).1
+
+-- a table that is told beside items of other names is found under its name
+pub listed_table : (ts : List Table) (b : Table) → AreApart (parts_of ts) → IsAmong (TableTold b) (parts_of ts) → IsListed ts b
+listed_table [] b apart is = absurd is
+listed_table (u ∷ us) b apart is =
+    by_test (is_table b.name u) refl (listed_table us b (apart_more (index_parts u) (parts_of us) both.1))
+    (subst (IsAmong (TableTold b)) (parts_more u us) is)
+  where
+    rest : List Told
+    rest = index_parts u ++ parts_of us
+
+    both : (list_any (is_same_name u.name) (names_told (index_parts u ++ parts_of us)) ≡ false) × (any_twice is_same_name (names_told (index_parts u ++ parts_of us)) ≡ false)
+    both = neither (list_any (is_same_name u.name) (names_told rest)) (any_twice is_same_name (names_told rest)) (subst AreApart (parts_more u us) apart)
+
+    by_test : (c : Bool) → is_table b.name u ≡ c → (IsAmong (TableTold b) (parts_of us) → IsListed us b) → (TableTold (bare u) ≡ TableTold b) ⊎ IsAmong (TableTold b) (index_parts u ++ parts_of us)
+        → IsListed (u ∷ us) b
+    by_test true e later (inl same) = record {
+      other = u;
+      listed = ap (λ (c : Bool). cond c (Some u) (table_named b.name us)) e;
+      alike = the_table (bare u) b same;
+    }
+    by_test true e later (inr is) = absurd (false≢true (sym both.0 ∙ name_among (TableTold b) rest u.name e is))
+    by_test false e later (inl same) =
+        let at : u.name ≡ b.name = ap (λ (t : Table). t.name) (the_table (bare u) b same) in
+        absurd (false≢true (sym e ∙ is_named u.name b.name (ap folded (sym at))))
+    by_test false e later (inr is) =
+        let found = later (among_apart (TableTold b) (index_parts u) (parts_of us) (λ there. not_among_indexes b (bare u) u.indexes there) (λ there. there) is) in record {
+          other = found.other;
+          listed = ap (λ (c : Bool). cond c (Some u) (table_named b.name us)) e ∙ found.listed;
+          alike = found.alike;
+        }
+
+-- ---- what is listed, and what isn't yet
+
+-- the items of the other pass
+pub other_pass : (x : Told) → is_of_pass false x ≡ not (is_of_pass true x)
+other_pass (TableTold t) = refl
+other_pass (IndexTold t i) = refl
+
+others_same : (xs : List Told) → filter (λ x. not (is_of_pass true x)) xs ≡ filter (is_of_pass false) xs
+others_same [] = refl
+others_same (x ∷ xs) =
+    ap (λ (b : Bool). cond b (x ∷ filter (λ x. not (is_of_pass true x)) xs) (filter (λ x. not (is_of_pass true x)) xs)) (sym (other_pass x))
+    ∙ ap (λ (ls : List Told). cond (is_of_pass false x) (x ∷ ls) ls) (others_same xs)
+
+-- the tables, and then the indexes
+pub passes_apart : (xs : List Told) → AreReordered xs (filter (is_of_pass true) xs ++ filter (is_of_pass false) xs)
+passes_apart xs =
+    reordered_is xs (filter (is_of_pass true) xs ++ filter (λ x. not (is_of_pass true x)) xs) (filter (is_of_pass true) xs ++ filter (is_of_pass false) xs)
+    (ap (λ ls. filter (is_of_pass true) xs ++ ls) (others_same xs)) (reordered_parts (is_of_pass true) xs)
+
+-- an item that is to be listed next, what is listed, and the others
+pub record IsParted (all listed : List Told) (x : Told) : Type 0 where
+  pub others : List Told
+  pub is : AreReordered all (x ∷ (listed ++ others))
+
+-- what is moved to the front
+to_front : {A : Type 0} (c d : List A) (x : A) → AreReordered (c ++ x ∷ d) (x ∷ (c ++ d))
+to_front c d x = reordered_sym (x ∷ (c ++ d)) (c ++ x ∷ d) (c, d, refl, reordered_refl (c ++ d))
+
+table_parted : (before rest : List Told) (t : Table) → IsParted (before ++ TableTold t ∷ rest) (listed_by true before (TableTold t ∷ rest)) (TableTold t)
+table_parted before rest t = record {
+  others = late ++ rest;
+  is =
+      reordered_trans (before ++ x ∷ rest) (x ∷ (before ++ rest)) (x ∷ (early ++ (late ++ rest))) (to_front before rest x)
+      (reordered_front x (before ++ rest) (early ++ (late ++ rest))
+      (reordered_is (before ++ rest) ((early ++ late) ++ rest) (early ++ (late ++ rest)) (append_assoc early late rest)
+      (reordered_both before (early ++ late) rest rest (passes_apart before) (reordered_refl rest))));
+}
+  where
+    x : Told
+    x = TableTold t
+
+    early : List Told
+    early = filter (is_of_pass true) before
+
+    late : List Told
+    late = filter (is_of_pass false) before
+
+index_parted : (before rest : List Told) (t : Table) (i : Index) → IsParted (before ++ IndexTold t i ∷ rest) (listed_by false before (IndexTold t i ∷ rest)) (IndexTold t i)
+index_parted before rest t i = record {
+  others = filter (is_of_pass false) rest;
+  is =
+      reordered_trans all (early ++ filter (is_of_pass false) all) (x ∷ ((early ++ late) ++ filter (is_of_pass false) rest)) (passes_apart all)
+      (is_reordered ((early ++ late) ++ x ∷ filter (is_of_pass false) rest) (early ++ filter (is_of_pass false) all) (x ∷ ((early ++ late) ++ filter (is_of_pass false) rest))
+      (append_assoc early late (x ∷ filter (is_of_pass false) rest) ∙ ap (λ ls. early ++ ls) (sym (filter_middle (is_of_pass false) before rest x)))
+      (to_front (early ++ late) (filter (is_of_pass false) rest) x));
+}
+  where
+    x : Told
+    x = IndexTold t i
+
+    all : List Told
+    all = before ++ IndexTold t i ∷ rest
+
+    early : List Told
+    early = filter (is_of_pass true) (before ++ IndexTold t i ∷ rest)
+
+    late : List Told
+    late = filter (is_of_pass false) before
+
+-- tables whose columns have different names, as items
+pub own_columns : (ts : List Table) → AllByRecursion (λ (t : Table). is_twice_named t.columns ≡ false) ts → AllByRecursion HasOwnColumns (all_told ts)
+own_columns [] all = tt
+own_columns (t ∷ ts) all = (all.0, all_both HasOwnColumns (map (λ (i : Index). IndexTold t i) t.indexes) (all_told ts) (for_indexes t.indexes) (own_columns ts all.1))
+  where
+    for_indexes : (is : List Index) → AllByRecursion HasOwnColumns (map (λ (i : Index). IndexTold t i) is)
+    for_indexes [] = tt
+    for_indexes (i ∷ is) = (tt, for_indexes is)
+
+-- and the other way about
+pub columns_own : (ts : List Table) → AllByRecursion HasOwnColumns (parts_of ts) → AllByRecursion (λ (t : Table). is_twice_named t.columns ≡ false) ts
+columns_own [] all = tt
+columns_own (t ∷ ts) all = (all.0, columns_own ts (second (index_parts t) (parts_of ts) (subst (AllByRecursion HasOwnColumns) (parts_more t ts) all).1))
+  where
+    second : (xs ys : List Told) → AllByRecursion HasOwnColumns (xs ++ ys) → AllByRecursion HasOwnColumns ys
+    second [] ys all = all
+    second (x ∷ xs) ys all = second xs ys all.1
+
+module _ (tables now : List Table) (sound : AreSound tables) (all listed : List Told) (x : Told) (is : AreReordered all (all_told tables)) (parted : IsParted all listed x)
+    (here : AreReordered (map bare_told listed) (parts_of now)) where
+  apart_next : AreApart (x ∷ (listed ++ parted.others))
+  apart_next =
+      apart_reordered all (x ∷ (listed ++ parted.others)) parted.is (apart_reordered (all_told tables) all (reordered_sym all (all_told tables) is) (named_apart tables sound.named))
+
+  columns_next : AllByRecursion HasOwnColumns (x ∷ (listed ++ parted.others))
+  columns_next =
+      all_reordered HasOwnColumns all (x ∷ (listed ++ parted.others)) parted.is
+      (reordered_all HasOwnColumns all (all_told tables) is (own_columns tables sound.columns))
+
+  name_next : list_any (is_same_name (name_told x)) (names_told (listed ++ parted.others)) ≡ false
+  name_next = (neither (list_any (is_same_name (name_told x)) (names_told (listed ++ parted.others))) (any_twice is_same_name (names_told (listed ++ parted.others))) apart_next).0
+
+  any_front : (p : Name → Bool) (xs ys : List Told) → list_any p (names_told (xs ++ ys)) ≡ false → list_any p (names_told xs) ≡ false
+  any_front p [] ys h = refl
+  any_front p (y ∷ xs) ys h =
+      let both = neither (p (name_told y)) (list_any p (names_told (xs ++ ys))) h in ap (λ b. b || list_any p (names_told xs)) both.0 ∙ any_front p xs ys both.1
+
+  apart_front : (xs ys : List Told) → AreApart (xs ++ ys) → AreApart xs
+  apart_front [] ys h = refl
+  apart_front (y ∷ xs) ys h =
+      let both = neither (list_any (is_same_name (name_told y)) (names_told (xs ++ ys))) (any_twice is_same_name (names_told (xs ++ ys))) h in
+      ap (λ b. b || any_twice is_same_name (names_told xs)) (any_front (is_same_name (name_told y)) xs ys both.0) ∙ apart_front xs ys both.1
+
+  pub parts_apart : AreApart (parts_of now)
+  parts_apart =
+      apart_reordered (map bare_told listed) (parts_of now) here
+      (bare_apart listed (apart_front listed parted.others (neither (list_any (is_same_name (name_told x)) (names_told (listed ++ parted.others))) (any_twice is_same_name (names_told (listed ++ parted.others))) apart_next).1))
+
+  -- what is listed is sound
+  pub now_sound : AreSound now
+  now_sound = record {
+    columns = columns_own now (all_reordered HasOwnColumns (map bare_told listed) (parts_of now) here (columns_bare listed (all_front HasOwnColumns listed parted.others columns_next.1)));
+    named = apart_named now (apart_bare (all_told now) parts_apart);
+  }
+
+  -- the name of the next isn't taken
+  pub next_fresh : is_name_of now (name_told x) ≡ false
+  next_fresh =
+      not_taken (map bare_told listed) now (name_told x) here
+      (ap (list_any (is_same_name (name_told x))) (bare_names listed) ∙ any_front (is_same_name (name_told x)) listed parted.others name_next)
+
+-- ---- one row more
+
+-- what the next row tells can be added, and then what is told so far is listed
+pub record IsNextTold (first : Bool) (pages : ℕ) (tables : List Table) (row : Entry) (left : List Entry) (now : List Table) : Type 0 where
+  pub item : Told
+  pub tells : Tells pages item row
+  pub can : CanAdd first item now
+  pub goes_on : (new : List Table) → AddsOf first item now new → IsLoading first pages tables left new
+
+module _ (first : Bool) (pages : ℕ) (tables : List Table) (before rest : List Told) (x : Told) (left : List Entry) (now : List Table) (all : AreReordered (before ++ x ∷ rest) (all_told tables))
+    (each : Pairwise (Tells pages) rest left) where
+  grouped : (before ++ x ∷ []) ++ rest ≡ before ++ x ∷ rest
+  grouped = append_assoc before (x ∷ []) rest
+
+  on_with : (new : List Table) → AreReordered (map bare_told (listed_by first (before ++ x ∷ []) rest)) (parts_of new) → IsLoading first pages tables left new
+  on_with new listed = record {
+    before = before ++ x ∷ [];
+    rest = rest;
+    all = is_reordered (before ++ x ∷ rest) ((before ++ x ∷ []) ++ rest) (all_told tables) (sym grouped) all;
+    each = each;
+    listed = listed;
+  }
+
+  -- nothing is added
+  on_same : (new : List Table) → listed_by first (before ++ x ∷ []) rest ≡ listed_by first before (x ∷ rest) → AreReordered (map bare_told (listed_by first before (x ∷ rest))) (parts_of now) → new ≡ now
+      → IsLoading first pages tables left new
+  on_same new same listed is =
+      on_with new
+      (subst (λ (us : List Table). AreReordered (map bare_told (listed_by first (before ++ x ∷ []) rest)) (parts_of us)) (sym is)
+      (is_reordered (map bare_told (listed_by first before (x ∷ rest))) (map bare_told (listed_by first (before ++ x ∷ []) rest)) (parts_of now) (ap (map bare_told) (sym same)) listed))
+
+  -- the item is
+  on_added : (new : List Table) → listed_by first (before ++ x ∷ []) rest ≡ listed_by first before (x ∷ rest) ++ x ∷ [] → AreReordered (map bare_told (listed_by first before (x ∷ rest))) (parts_of now)
+      → AddsTold x now new → IsLoading first pages tables left new
+  on_added new more listed adds =
+      on_with new
+      (is_reordered (map bare_told old ++ bare_told x ∷ []) (map bare_told (listed_by first (before ++ x ∷ []) rest)) (parts_of new)
+      (sym (ap (map bare_told) more ∙ map_append bare_told old (x ∷ [])))
+      (reordered_trans (map bare_told old ++ bare_told x ∷ []) (bare_told x ∷ parts_of now) (parts_of new)
+      (reordered_trans (map bare_told old ++ bare_told x ∷ []) (bare_told x ∷ (map bare_told old ++ [])) (bare_told x ∷ parts_of now) (to_front (map bare_told old) [] (bare_told x))
+      (reordered_front (bare_told x) (map bare_told old ++ []) (parts_of now) (is_reordered (map bare_told old) (map bare_told old ++ []) (parts_of now) (sym (append-nil (map bare_told old))) listed)))
+      adds.more))
+    where
+      old : List Told
+      old = listed_by first before (x ∷ rest)
+
+next_told : (first : Bool) (pages : ℕ) (tables : List Table) (row : Entry) (left : List Entry) (now : List Table) (before rest : List Told) (x : Told) → AreSound tables
+    → AreReordered (before ++ x ∷ rest) (all_told tables) → Tells pages x row → Pairwise (Tells pages) rest left → AreReordered (map bare_told (listed_by first before (x ∷ rest))) (parts_of now)
+    → IsNextTold first pages tables row left now
+next_told true pages tables row left now before rest (TableTold t) sound all tells each listed =
+    let parted = table_parted before rest t in record {
+      item = TableTold t;
+      tells = tells;
+      can = (
+        now_sound tables now sound (before ++ TableTold t ∷ rest) (listed_by true before (TableTold t ∷ rest)) (TableTold t) all parted listed,
+        next_fresh tables now sound (before ++ TableTold t ∷ rest) (listed_by true before (TableTold t ∷ rest)) (TableTold t) all parted listed,
+      );
+      goes_on = λ new adds. on_added true pages tables before rest (TableTold t) left now all each new (filter_one (is_of_pass true) before (TableTold t) refl) listed adds;
+    }
+next_told true pages tables row left now before rest (IndexTold t i) sound all tells each listed = record {
+  item = IndexTold t i;
+  tells = tells;
+  can = tt;
+  goes_on = λ new same. on_same true pages tables before rest (IndexTold t i) left now all each new (filter_none (is_of_pass true) before (IndexTold t i) refl) listed same;
+}
+next_told false pages tables row left now before rest (TableTold t) sound all tells each listed = record {
+  item = TableTold t;
+  tells = tells;
+  can = tt;
+  goes_on = λ new same. on_same false pages tables before rest (TableTold t) left now all each new
+      (ap (λ ls. filter (is_of_pass true) ls ++ filter (is_of_pass false) (before ++ TableTold t ∷ [])) (append_assoc before (TableTold t ∷ []) rest)
+      ∙ ap (λ ls. filter (is_of_pass true) (before ++ TableTold t ∷ rest) ++ ls) (filter_none (is_of_pass false) before (TableTold t) refl)) listed same;
+}
+next_told false pages tables row left now before rest (IndexTold t i) sound all tells each listed =
+    let x : Told = IndexTold t i in
+    let told : List Told = before ++ x ∷ rest in
+    let old : List Told = listed_by false before (x ∷ rest) in
+    let parted = index_parted before rest t i in
+    let owner = table_among tables told t i all (among_middle x before rest) in
+    let there = among_reordered (TableTold (bare t)) (map bare_told old) (parts_of now) listed
+    (among_map bare_told (TableTold t) old (among_first (TableTold t) (filter (is_of_pass true) told) (filter (is_of_pass false) before) (among_filter (is_of_pass true) (TableTold t) told refl owner))) in
+    let found = listed_table now (bare t) (parts_apart tables now sound told old x all parted listed) there in
+    record {
+      item = x;
+      tells = tells;
+      can = record {
+        sound = now_sound tables now sound told old x all parted listed;
+        fresh = next_fresh tables now sound told old x all parted listed;
+        other = found.other;
+        listed = found.listed;
+        alike = found.alike;
+      };
+      goes_on = λ new adds. on_added false pages tables before rest x left now all each new
+          (ap (λ ls. filter (is_of_pass true) ls ++ filter (is_of_pass false) (before ++ x ∷ [])) (append_assoc before (x ∷ []) rest)
+          ∙ (ap (λ ls. filter (is_of_pass true) told ++ ls) (filter_one (is_of_pass false) before x refl) ∙ sym (append_assoc (filter (is_of_pass true) told) (filter (is_of_pass false) before) (x ∷ [])))) listed adds;
+    }
+
+pub row_comes : (first : Bool) (pages : ℕ) (tables : List Table) (row : Entry) (whole left : List Entry) (now : List Table) → AreSound tables → whole ≡ row ∷ left → IsLoading first pages tables whole now
+    → IsNextTold first pages tables row left now
+row_comes first pages tables row whole left now sound is l =
+    by_rest l.rest l.all (subst (Pairwise (Tells pages) l.rest) is l.each) l.listed
+  where
+    by_rest : (rest : List Told) → AreReordered (l.before ++ rest) (all_told tables) → Pairwise (Tells pages) rest (row ∷ left) → AreReordered (map bare_told (listed_by first l.before rest)) (parts_of now)
+        → IsNextTold first pages tables row left now
+    by_rest [] all each listed = absurd each
+    by_rest (x ∷ rest) all each listed = next_told first pages tables row left now l.before rest x sound all each.0 each.1 listed
+
+-- ---- whole passes
+
+-- before the first pass
+pub first_begins : (pages : ℕ) (tables : List Table) (rows : List Entry) (now : List Table) → now ≡ [] → AreRowsOf pages tables rows → IsLoading true pages tables rows now
+first_begins pages tables rows now none tell = record {
+  before = [];
+  rest = tell.told;
+  all = tell.all;
+  each = tell.each;
+  listed = ap parts_of none;
+}
+
+no_rest : (pages : ℕ) (rest : List Told) → Pairwise (Tells pages) rest [] → rest ≡ []
+no_rest pages [] each = refl
+no_rest pages (x ∷ rest) each = absurd each
+
+-- between the passes
+pub second_begins : (pages : ℕ) (tables : List Table) (rows : List Entry) (now : List Table) → AreRowsOf pages tables rows → IsLoading true pages tables [] now → IsLoading false pages tables rows now
+second_begins pages tables rows now tell l = record {
+  before = [];
+  rest = tell.told;
+  all = tell.all;
+  each = tell.each;
+  listed =
+      reordered_trans (map bare_told (filter (is_of_pass true) tell.told ++ [])) (map bare_told (filter (is_of_pass true) l.before)) (parts_of now)
+      (reordered_map bare_told (filter (is_of_pass true) tell.told ++ []) (filter (is_of_pass true) l.before)
+      (is_reordered (filter (is_of_pass true) tell.told) (filter (is_of_pass true) tell.told ++ []) (filter (is_of_pass true) l.before) (sym (append-nil (filter (is_of_pass true) tell.told)))
+      (reordered_filter (is_of_pass true) tell.told l.before (reordered_trans tell.told (all_told tables) l.before tell.all (reordered_sym l.before (all_told tables) all)))))
+      l.listed;
+}
+  where
+    all : AreReordered l.before (all_told tables)
+    all = is_reordered (l.before ++ l.rest) l.before (all_told tables) (ap (λ ls. l.before ++ ls) (no_rest pages l.rest l.each) ∙ append-nil l.before) l.all
+
+-- after the second
+pub all_listed : (pages : ℕ) (tables now : List Table) → IsLoading false pages tables [] now → AreAlike tables now
+all_listed pages tables now l =
+    reordered_trans (parts_of tables) (map bare_told l.before) (parts_of now) (reordered_map bare_told (all_told tables) l.before (reordered_sym l.before (all_told tables) all))
+    (reordered_trans (map bare_told l.before) (map bare_told (filter (is_of_pass true) l.before ++ filter (is_of_pass false) l.before)) (parts_of now)
+    (reordered_map bare_told l.before (filter (is_of_pass true) l.before ++ filter (is_of_pass false) l.before) (passes_apart l.before))
+    (is_reordered (map bare_told (listed_by false l.before l.rest)) (map bare_told (filter (is_of_pass true) l.before ++ filter (is_of_pass false) l.before)) (parts_of now)
+    (ap (λ ls. map bare_told (filter (is_of_pass true) ls ++ filter (is_of_pass false) l.before)) without) l.listed))
+  where
+    without : l.before ++ l.rest ≡ l.before
+    without = ap (λ ls. l.before ++ ls) (no_rest pages l.rest l.each) ∙ append-nil l.before
+
+    all : AreReordered l.before (all_told tables)
+    all = is_reordered (l.before ++ l.rest) l.before (all_told tables) without l.all

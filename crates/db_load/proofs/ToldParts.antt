@@ -1,0 +1,233 @@
+-- What is listed, as parts in any order: the tables, each without its indexes, and the indexes.
+use Rattle.std.proofs.Common.{◌≡◌, ◌∙◌, refl, sym, ap, subst, ℕ, Bool, true, false, not, ◌||◌, cond, List, [], ◌∷◌, ◌++◌, map, Some}
+use Rattle.std.specs.Prelude.{⊤, flat_map}
+use Rattle.std.specs.List.{AllByRecursion, find, list_any}
+use Rattle.std.proofs.lemmas.Bool.{false≢true}
+use Rattle.std.proofs.lemmas.List.{append_assoc}
+use Rattle.std.proofs.lemmas.Slice.Eq.{bytes_eq-Decides}
+use Rattle.sqlval.specs.Lists.{any_twice}
+use Rattle.sqlval.specs.Names.{folded, is_same_name}
+use Rattle.catalog.specs.Database.{Name}
+use Rattle.catalog.specs.Listed.{are_named_once, has_index, is_name_of, is_table, names_of}
+use Rattle.catalog.specs.declared.tables.Index.{Index}
+use Rattle.catalog.specs.declared.tables.Table.{Table}
+use Rattle.db_pages.specs.Reordering.{AreReordered}
+use Rattle.query_names.specs.Bound.{AreOnce, is_twice_named}
+use Rattle.db_pages.specs.Schema.{IndexTold, TableTold, Told, all_told}
+use Rattle.db_load.specs.Reading.{AddsTold, bare_told, name_told, parts_of}
+use Rattle.db_pages.proofs.Reordering.{is_reordered, reordered_any, reordered_both, reordered_front, reordered_is, reordered_map, reordered_refl, reordered_swapped, reordered_trans}
+
+-- ---- lists
+
+pub map_append : {A B : Type 0} (f : A → B) (xs ys : List A) → map f (xs ++ ys) ≡ map f xs ++ map f ys
+map_append f [] ys = refl
+map_append f (x ∷ xs) ys = ap (λ ls. f x ∷ ls) (map_append f xs ys)
+
+pub flat_append : {A B : Type 0} (f : A → List B) (xs ys : List A) → flat_map f (xs ++ ys) ≡ flat_map f xs ++ flat_map f ys
+flat_append f [] ys = refl
+flat_append f (x ∷ xs) ys = ap (λ ls. f x ++ ls) (flat_append f xs ys) ∙ sym (append_assoc (f x) (flat_map f xs) (flat_map f ys))
+
+any_append : {A : Type 0} (p : A → Bool) (xs ys : List A) → list_any p (xs ++ ys) ≡ (list_any p xs || list_any p ys)
+any_append p [] ys = refl
+any_append p (x ∷ xs) ys = ap (λ b. p x || b) (any_append p xs ys) ∙ or_assoc (p x) (list_any p xs) (list_any p ys)
+  where
+    or_assoc : (a b c : Bool) → (a || (b || c)) ≡ ((a || b) || c)
+    or_assoc true b c = refl
+    or_assoc false b c = refl
+
+pub neither : (a b : Bool) → (a || b) ≡ false → (a ≡ false) × (b ≡ false)
+neither true b h = absurd (false≢true (sym h))
+neither false b h = (refl, h)
+
+-- ---- names
+
+pub is_named : (a b : List ℕ) → folded b ≡ folded a → is_same_name a b ≡ true
+is_named a b h = (bytes_eq-Decides (folded a) (folded b)).1 (sym h)
+
+pub is_folded : (a b : List ℕ) → is_same_name a b ≡ true → folded b ≡ folded a
+is_folded a b h = sym ((bytes_eq-Decides (folded a) (folded b)).0 h)
+
+pub same_turned : (a b : Name) → is_same_name a b ≡ is_same_name b a
+same_turned a b = by_test (is_same_name a b) refl (is_same_name b a) refl
+  where
+    by_test : (t : Bool) → is_same_name a b ≡ t → (u : Bool) → is_same_name b a ≡ u → t ≡ u
+    by_test true e true f = refl
+    by_test false e false f = refl
+    by_test true e false f = absurd (false≢true (sym f ∙ is_named b a (sym (is_folded a b e))))
+    by_test false e true f = absurd (false≢true (sym e ∙ is_named a b (sym (is_folded b a f))))
+
+abbrev pub names_told : List Told → List Name
+names_told items = map name_told items
+
+pub bare_name : (item : Told) → name_told (bare_told item) ≡ name_told item
+bare_name (TableTold t) = refl
+bare_name (IndexTold t i) = refl
+
+pub bare_names : (items : List Told) → names_told (map bare_told items) ≡ names_told items
+bare_names [] = refl
+bare_names (x ∷ xs) = ap (λ n. n ∷ names_told (map bare_told xs)) (bare_name x) ∙ ap (λ ns. name_told x ∷ ns) (bare_names xs)
+
+abbrev names_in : Table → List Name
+names_in t = map (λ (i : Index). i.name) t.indexes
+
+index_names : (t : Table) (is : List Index) → names_told (map (λ (i : Index). IndexTold t i) is) ≡ map (λ (i : Index). i.name) is
+index_names t [] = refl
+index_names t (i ∷ is) = ap (λ ns. i.name ∷ ns) (index_names t is)
+
+-- the names of all that is told are those of the tables and then those of the indexes, reordered
+pub told_names : (ts : List Table) → AreReordered (names_told (all_told ts)) (names_of ts)
+told_names [] = refl
+told_names (t ∷ ts) =
+    reordered_front t.name (names_told (map (λ (i : Index). IndexTold t i) t.indexes ++ all_told ts)) (tables ++ (mine ++ others))
+    (is_reordered (mine ++ names_told (all_told ts)) (names_told (map (λ (i : Index). IndexTold t i) t.indexes ++ all_told ts)) (tables ++ (mine ++ others)) front
+    (reordered_trans (mine ++ names_told (all_told ts)) (mine ++ (tables ++ others)) (tables ++ (mine ++ others))
+    (reordered_both mine mine (names_told (all_told ts)) (tables ++ others) (reordered_refl mine) (told_names ts)) turn))
+  where
+    mine : List Name
+    mine = names_in t
+
+    tables : List Name
+    tables = map (λ (u : Table). u.name) ts
+
+    others : List Name
+    others = flat_map names_in ts
+
+    front : mine ++ names_told (all_told ts) ≡ names_told (map (λ (i : Index). IndexTold t i) t.indexes ++ all_told ts)
+    front = sym (map_append name_told (map (λ (i : Index). IndexTold t i) t.indexes) (all_told ts) ∙ ap (λ ns. ns ++ names_told (all_told ts)) (index_names t t.indexes))
+
+    turn : AreReordered (mine ++ (tables ++ others)) (tables ++ (mine ++ others))
+    turn =
+        is_reordered ((mine ++ tables) ++ others) (mine ++ (tables ++ others)) (tables ++ (mine ++ others)) (append_assoc mine tables others)
+        (reordered_is ((mine ++ tables) ++ others) ((tables ++ mine) ++ others) (tables ++ (mine ++ others)) (append_assoc tables mine others)
+        (reordered_both (mine ++ tables) (tables ++ mine) others others (reordered_swapped mine tables) (reordered_refl others)))
+
+-- names that stand once do in any order
+twice_out : (c d : List Name) (x : Name) → any_twice is_same_name (c ++ x ∷ d) ≡ (list_any (is_same_name x) (c ++ d) || any_twice is_same_name (c ++ d))
+twice_out [] d x = refl
+twice_out (u ∷ c) d x =
+    ap (λ b. b || any_twice is_same_name (c ++ x ∷ d)) (any_middle c)
+    ∙ (ap (λ b. (is_same_name u x || list_any (is_same_name u) (c ++ d)) || b) (twice_out c d x)
+    ∙ (ap (λ b. (b || list_any (is_same_name u) (c ++ d)) || (list_any (is_same_name x) (c ++ d) || any_twice is_same_name (c ++ d))) (same_turned u x)
+    ∙ crossed (is_same_name x u) (list_any (is_same_name u) (c ++ d)) (list_any (is_same_name x) (c ++ d)) (any_twice is_same_name (c ++ d))))
+  where
+    or_swapped : (a b c : Bool) → (a || (b || c)) ≡ (b || (a || c))
+    or_swapped true true c = refl
+    or_swapped true false c = refl
+    or_swapped false true c = refl
+    or_swapped false false c = refl
+
+    any_middle : (c : List Name) → list_any (is_same_name u) (c ++ x ∷ d) ≡ (is_same_name u x || list_any (is_same_name u) (c ++ d))
+    any_middle [] = refl
+    any_middle (v ∷ c) = ap (λ b. is_same_name u v || b) (any_middle c) ∙ or_swapped (is_same_name u v) (is_same_name u x) (list_any (is_same_name u) (c ++ d))
+
+    crossed : (a b e f : Bool) → ((a || b) || (e || f)) ≡ ((a || e) || (b || f))
+    crossed true b e f = refl
+    crossed false true true f = refl
+    crossed false true false f = refl
+    crossed false false e f = refl
+
+pub reordered_twice : (xs ys : List Name) → AreReordered xs ys → any_twice is_same_name xs ≡ any_twice is_same_name ys
+reordered_twice [] ys h = ap (any_twice is_same_name) (sym h)
+reordered_twice (x ∷ xs) ys (c, d, is, rest) =
+    ap (λ b. b || any_twice is_same_name xs) (reordered_any (is_same_name x) xs (c ++ d) rest)
+    ∙ (ap (λ b. list_any (is_same_name x) (c ++ d) || b) (reordered_twice xs (c ++ d) rest)
+    ∙ (sym (twice_out c d x) ∙ ap (any_twice is_same_name) (sym is)))
+
+-- no two items have one name
+abbrev pub AreApart : List Told → Type 0
+AreApart items = any_twice is_same_name (names_told items) ≡ false
+
+pub apart_reordered : (xs ys : List Told) → AreReordered xs ys → AreApart xs → AreApart ys
+apart_reordered xs ys h apart = sym (reordered_twice (names_told xs) (names_told ys) (reordered_map name_told xs ys h)) ∙ apart
+
+pub bare_apart : (items : List Told) → AreApart items → AreApart (map bare_told items)
+bare_apart items apart = ap (any_twice is_same_name) (bare_names items) ∙ apart
+
+pub apart_bare : (items : List Told) → AreApart (map bare_told items) → AreApart items
+apart_bare items apart = sym (ap (any_twice is_same_name) (bare_names items)) ∙ apart
+
+is_not : (b : Bool) → not b ≡ true → b ≡ false
+is_not true h = absurd (false≢true h)
+is_not false h = refl
+
+pub named_apart : (ts : List Table) → are_named_once ts ≡ true → AreApart (all_told ts)
+named_apart ts once = reordered_twice (names_told (all_told ts)) (names_of ts) (told_names ts) ∙ is_not (any_twice is_same_name (names_of ts)) once
+
+pub apart_named : (ts : List Table) → AreApart (all_told ts) → are_named_once ts ≡ true
+apart_named ts apart = ap not (sym (reordered_twice (names_told (all_told ts)) (names_of ts) (told_names ts)) ∙ apart)
+
+-- ---- a name that is taken
+
+any_named : (n : Name) (t : Table) (is : List Index) → list_any (λ (i : Index). is_same_name i.name n) is ≡ list_any (is_same_name n) (names_told (map (λ (i : Index). IndexTold t i) is))
+any_named n t [] = refl
+any_named n t (i ∷ is) = ap (λ b. b || list_any (λ (j : Index). is_same_name j.name n) is) (same_turned i.name n) ∙ ap (λ b. is_same_name n i.name || b) (any_named n t is)
+
+pub name_taken : (ts : List Table) (n : Name) → is_name_of ts n ≡ list_any (is_same_name n) (names_told (all_told ts))
+name_taken [] n = refl
+name_taken (t ∷ ts) n =
+    ap (λ b. (b || has_index n t) || is_name_of ts n) (same_turned t.name n)
+    ∙ (ap (λ b. (is_same_name n t.name || b) || is_name_of ts n) (any_named n t t.indexes)
+    ∙ (ap (λ b. (is_same_name n t.name || list_any (is_same_name n) mine) || b) (name_taken ts n)
+    ∙ (grouped (is_same_name n t.name) (list_any (is_same_name n) mine) (list_any (is_same_name n) (names_told (all_told ts)))
+    ∙ (ap (λ b. is_same_name n t.name || b) (sym (any_append (is_same_name n) mine (names_told (all_told ts))))
+    ∙ ap (λ ns. is_same_name n t.name || list_any (is_same_name n) ns) (sym (map_append name_told (map (λ (i : Index). IndexTold t i) t.indexes) (all_told ts)))))))
+  where
+    mine : List Name
+    mine = names_told (map (λ (i : Index). IndexTold t i) t.indexes)
+
+    grouped : (a b c : Bool) → ((a || b) || c) ≡ (a || (b || c))
+    grouped true b c = refl
+    grouped false b c = refl
+
+-- the same of the parts
+pub name_parts : (ts : List Table) (n : Name) → is_name_of ts n ≡ list_any (is_same_name n) (names_told (parts_of ts))
+name_parts ts n = name_taken ts n ∙ ap (list_any (is_same_name n)) (sym (bare_names (all_told ts)))
+
+-- a name that none of these items has isn't taken where they are listed
+pub not_taken : (items : List Told) (ts : List Table) (n : Name) → AreReordered items (parts_of ts) → list_any (is_same_name n) (names_told items) ≡ false → is_name_of ts n ≡ false
+not_taken items ts n h none = name_parts ts n ∙ (sym (reordered_any (is_same_name n) (names_told items) (names_told (parts_of ts)) (reordered_map name_told items (parts_of ts) h)) ∙ none)
+
+-- ---- one more
+
+-- with an item of a new name, names still stand once
+pub added_named : (item : Told) (old new : List Table) → AddsTold item old new → are_named_once old ≡ true → are_named_once new ≡ true
+added_named item old new adds once =
+    apart_named new (apart_bare (all_told new) (apart_reordered (bare_told item ∷ parts_of old) (parts_of new) adds.more first))
+  where
+    none : list_any (is_same_name (name_told (bare_told item))) (names_told (parts_of old)) ≡ false
+    none = ap (λ (n : Name). list_any (is_same_name n) (names_told (parts_of old))) (bare_name item) ∙ (sym (name_parts old (name_told item)) ∙ adds.fresh)
+
+    first : AreApart (bare_told item ∷ parts_of old)
+    first = ap (λ b. b || any_twice is_same_name (names_told (parts_of old))) none ∙ bare_apart (all_told old) (named_apart old once)
+
+-- ---- columns
+
+-- a table's columns have different names
+abbrev pub HasOwnColumns : Told → Type 0
+HasOwnColumns (TableTold t) = is_twice_named t.columns ≡ false
+HasOwnColumns (IndexTold t i) = ⊤
+
+pub bare_columns : (item : Told) → HasOwnColumns item → HasOwnColumns (bare_told item)
+bare_columns (TableTold t) h = h
+bare_columns (IndexTold t i) h = tt
+
+pub columns_bare : (items : List Told) → AllByRecursion HasOwnColumns items → AllByRecursion HasOwnColumns (map bare_told items)
+columns_bare [] all = tt
+columns_bare (x ∷ xs) all = (bare_columns x all.0, columns_bare xs all.1)
+
+all_second : (P : Told → Type 0) (xs ys : List Told) → AllByRecursion P (xs ++ ys) → AllByRecursion P ys
+all_second P [] ys all = all
+all_second P (x ∷ xs) ys all = all_second P xs ys all.1
+
+pub columns_once : (ts : List Table) → AllByRecursion HasOwnColumns (parts_of ts) → AreOnce ts
+columns_once [] all name t found = absurd cc
+columns_once (u ∷ us) all name t found = by_test (columns_once us rest name t) (is_table name u) found
+  where
+    rest : AllByRecursion HasOwnColumns (parts_of us)
+    rest =
+        all_second HasOwnColumns (map bare_told (map (λ (i : Index). IndexTold u i) u.indexes)) (parts_of us)
+        (subst (AllByRecursion HasOwnColumns) (map_append bare_told (map (λ (i : Index). IndexTold u i) u.indexes) (all_told us)) all.1)
+
+    by_test : (find (is_table name) us ≡ Some t → is_twice_named t.columns ≡ false) → (b : Bool) → cond b (Some u) (find (is_table name) us) ≡ Some t → is_twice_named t.columns ≡ false
+    by_test later true is = let same : u ≡ t = cc in subst (λ (x : Table). is_twice_named x.columns ≡ false) same all.0
+    by_test later false is = later is

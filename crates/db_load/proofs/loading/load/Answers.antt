@@ -1,0 +1,7 @@
+use Rattle.std.proofs.Common.{sym, subst}
+use Rattle.sqlval.specs.Faults.{IsOutside}
+use Rattle.db_load.proofs.loading.load.Goals as goal
+
+pub returns-in-Err-clause-listed : goal.returns-in-Err-clause-listed
+returns-in-Err-clause-listed g c = λ tables database told sized stored counted.
+    (let why = c.in-Err.ensures.listed tables database told sized stored counted in subst IsOutside (sym (c.not_blank.ensures.outside why)) why)

@@ -1,0 +1,89 @@
+-- What `load` answers, and what one row of the schema table says (Database File Format, "Storage Of The SQL Database Schema").
+use Rattle.std.specs.Prelude.{◌≡◌, ◌<◌, ◌≤◌, true, false, ℕ, ℤ, Bool, codes, List, []}
+use Rattle.sqlval.specs.declared.fault.Fault.{Fault}
+use Rattle.sqlval.specs.declared.fault.Fault.TheVariants.{Blank}
+use Rattle.sqlval.specs.declared.value.Value.{Value}
+use Rattle.sqlval.specs.Faults.{IsNotDiskFault}
+use Rattle.sqlval.specs.Names.{is_same_name}
+use Rattle.pages.specs.Map.{PageMap}
+use Rattle.sql_syntax.specs.declared.create.IndexDefinition.{IndexDefinition}
+use Rattle.sql_syntax.specs.declared.create.NewObject.TheVariants as new
+use Rattle.sql_syntax.specs.declared.create.TableDefinition.{TableDefinition}
+use Rattle.catalog.specs.Database.{Database}
+use Rattle.catalog.specs.Listed.{is_reserved, tables_of}
+use Rattle.catalog.specs.declared.tables.Catalog.{Catalog}
+use Rattle.catalog.specs.declared.tables.Index.{Index}
+use Rattle.catalog.specs.declared.tables.Table.{Table}
+use Rattle.db_pages.specs.Forms.{is_table_supported}
+use Rattle.db_pages.specs.Schema.{CreatesSupported, IsIndexOf, IsTableOf, schema_row}
+use Rattle.db_pages.specs.Stored.{IsCounted, Stores}
+use Rattle.db_load.specs.declared.schema.SchemaRow.{SchemaRow}
+
+-- neither a disk's failure, nor that of a full database or a blank file
+abbrev pub IsSchemaFault : Fault → Type 0
+IsSchemaFault fault = IsNotDiskFault fault × (fault ≡ Blank → ⊥)
+
+-- The pages hold a database of the catalog's tables, and page 1 counts them.
+pub record FindsDatabase (map : PageMap) (size : ℕ) (catalog : Catalog) : Type 0 where
+  pub database : Database
+  pub stored : Stores map size (tables_of catalog) database
+  pub counted : IsCounted map
+
+-- ---- the parts of a row
+
+-- the kind of a row: that of a table, or that of an index
+abbrev pub kind_text : Bool → List ℕ
+kind_text true = codes "table"
+kind_text false = codes "index"
+
+-- the parts of a row
+pub record HasParts (id : ℤ) (kind : Bool) (called table_called : List ℕ) (page : ℕ) (text : List ℕ) (row : SchemaRow) : Type 0 where
+  pub rowid_is : row.rowid ≡ id
+  pub kind_is : row.is_table ≡ kind
+  pub name_is : row.name.now ≡ called
+  pub table_name_is : row.table_name.now ≡ table_called
+  pub root_is : row.root ≡ page
+  pub sql_is : row.sql.now ≡ text
+
+-- The values are those of a row with these parts. The page where its tree begins is one of so many.
+pub record AreRowValues (pages : ℕ) (row : SchemaRow) (values : List Value) : Type 0 where
+  pub values_are : values ≡ schema_row (kind_text row.is_table) row.name.now row.table_name.now row.root row.sql.now
+  pub above : 1 < row.root
+  pub within : row.root ≤ pages
+
+-- ---- what they tell
+
+-- the table without its indexes
+abbrev pub bare : Table → Table
+bare table = record table { indexes = [] }
+
+-- The definition is supported, and its name isn't reserved. The row has that name twice.
+pub record IsOfRow (row : SchemaRow) (definition : TableDefinition) : Type 0 where
+  pub supported_forms : is_table_supported definition ≡ true
+  pub name_is : is_same_name definition.name row.name.now ≡ true
+  pub table_name_is : is_same_name definition.name row.table_name.now ≡ true
+  pub free : is_reserved definition.name ≡ false
+
+-- The parts of a row tell this table.
+pub record TellsTable (table : Table) (row : SchemaRow) : Type 0 where
+  pub definition : TableDefinition
+  pub creates : CreatesSupported row.sql.now (new.Table definition)
+  pub names : IsOfRow row definition
+  pub makes : IsTableOf definition table
+  pub root_is : table.root ≡ row.root
+  pub rowid_is : table.rowid ≡ row.rowid
+
+-- The definition isn't UNIQUE. The row has its name and its table's.
+pub record IsOfIndexRow (row : SchemaRow) (definition : IndexDefinition) : Type 0 where
+  pub plain : definition.is_unique ≡ false
+  pub name_is : is_same_name definition.name row.name.now ≡ true
+  pub table_name_is : is_same_name definition.table row.table_name.now ≡ true
+
+-- The parts of a row tell this index of the table.
+pub record TellsIndex (table : Table) (index : Index) (row : SchemaRow) : Type 0 where
+  pub definition : IndexDefinition
+  pub creates : CreatesSupported row.sql.now (new.Index definition)
+  pub names : IsOfIndexRow row definition
+  pub makes : IsIndexOf definition table index
+  pub root_is : index.root ≡ row.root
+  pub rowid_is : index.rowid ≡ row.rowid

@@ -1,0 +1,178 @@
+-- What the rows of the schema table add to a catalog, those of tables first and then those of indexes (Database File Format, "Storage Of The
+-- SQL Database Schema").
+use Rattle.std.specs.Prelude.{◌≡◌, ◌⊎◌, ⊤, ◌++◌, ◌∷◌, true, false, not, ℕ, Bool, List, [], Some, map, filter, Result, IfOk, OnOk, MatchResult}
+use Rattle.std.specs.List.{AllByRecursion}
+use Rattle.sqlval.specs.declared.fault.Fault.{Fault}
+use Rattle.sqlval.specs.declared.fault.Fault.TheVariants.{Memory}
+use Rattle.sqlval.specs.declared.value.Value.{Value}
+use Rattle.sqlval.specs.declared.value.Value.TheVariants.{Text}
+use Rattle.sqlval.specs.Faults.{IsOrOutside, IsOutside}
+use Rattle.record.specs.Record.{IsRecord}
+use Rattle.tree_leaf.specs.Leaf.{Entry}
+use Rattle.pages.specs.Map.{PageMap, AreWhole}
+use Rattle.tree_page.specs.Cells.{Pairwise}
+use Rattle.tree_table.specs.Tree.{IsTableTree}
+use Rattle.catalog.specs.Database.{Name}
+use Rattle.catalog.specs.Listed.{are_named_once, is_name_of, table_named, tables_of}
+use Rattle.catalog.specs.NewIndexes.{with_index}
+use Rattle.catalog.specs.declared.tables.Catalog.{Catalog}
+use Rattle.catalog.specs.declared.tables.Index.{Index}
+use Rattle.catalog.specs.declared.tables.Table.{Table}
+use Rattle.query_names.specs.Bound.{is_twice_named}
+use Rattle.db_pages.specs.Reordering.{AreReordered}
+use Rattle.db_pages.specs.Schema.{AreRowsOf, IndexTold, TableTold, Tells, Told, all_told}
+use Rattle.db_load.specs.Loading.{TellsIndex, TellsTable, bare, kind_text}
+use Rattle.db_load.specs.declared.schema.SchemaRow.{SchemaRow}
+
+-- ---- what is listed
+
+-- what is told, without the other indexes of its table
+abbrev pub bare_told : Told → Told
+bare_told (TableTold table) = TableTold (bare table)
+bare_told (IndexTold table index) = IndexTold (bare table) index
+
+-- the tables, each without its indexes, and the indexes
+abbrev pub parts_of : List Table → List Told
+parts_of tables = map bare_told (all_told tables)
+
+abbrev pub name_told : Told → Name
+name_told (TableTold table) = table.name
+name_told (IndexTold table index) = index.name
+
+-- the same tables, in whatever order, each with the same indexes, in whatever order
+abbrev pub AreAlike : List Table → List Table → Type 0
+AreAlike tables others = AreReordered (parts_of tables) (parts_of others)
+
+-- no two columns of a table have one name, and no two tables or indexes
+pub record AreSound (tables : List Table) : Type 0 where
+  pub columns : AllByRecursion (λ table. is_twice_named table.columns ≡ false) tables
+  pub named : are_named_once tables ≡ true
+
+-- what is told is listed beside the others, under a name that none of them has
+pub record AddsTold (item : Told) (old new : List Table) : Type 0 where
+  pub fresh : is_name_of old (name_told item) ≡ false
+  pub more : AreReordered (bare_told item ∷ parts_of old) (parts_of new)
+
+-- The index can be listed with its table: that is listed, and its name is new.
+pub record CanGrow (tables : List Table) (table : Table) (index : Index) : Type 0 where
+  pub sound : AreSound tables
+  pub fresh : is_name_of tables index.name ≡ false
+  pub other : Table
+  pub listed : table_named table.name tables ≡ Some other
+  pub alike : bare other ≡ bare table
+
+-- a listed table of this name, which is the table but for its indexes, has the index after its others
+pub record IsGrown (tables : List Table) (name : Name) (table : Table) (index : Index) (grown : Table) : Type 0 where
+  pub other : Table
+  pub listed : table_named name tables ≡ Some other
+  pub alike : bare other ≡ bare table
+  pub grown_is : grown ≡ with_index index other
+
+-- the row tells an index of a new name of a listed table, and that table has it after its others
+pub record GrowsBy (tables : List Table) (row : SchemaRow) (grown : Table) : Type 0 where
+  pub table : Table
+  pub index : Index
+  pub tells : TellsIndex table index row
+  pub listed : table_named tells.definition.table tables ≡ Some table
+  pub fresh : is_name_of tables index.name ≡ false
+  pub grown_is : grown ≡ with_index index table
+
+-- ---- one row, in the pass over tables or in that over indexes
+
+-- whether a pass lists what is told: the first lists tables, the other indexes
+abbrev pub is_of_pass : Bool → Told → Bool
+is_of_pass true (TableTold table) = true
+is_of_pass true (IndexTold table index) = false
+is_of_pass false (TableTold table) = false
+is_of_pass false (IndexTold table index) = true
+
+-- nothing stands in the way of the pass
+abbrev pub CanAdd : Bool → Told → List Table → Type 0
+CanAdd true (TableTold table) tables = AreSound tables × (is_name_of tables table.name ≡ false)
+CanAdd true (IndexTold table index) tables = ⊤
+CanAdd false (TableTold table) tables = ⊤
+CanAdd false (IndexTold table index) tables = CanGrow tables table index
+
+-- what the pass lists is listed, and nothing else
+abbrev pub AddsOf : Bool → Told → List Table → List Table → Type 0
+AddsOf true (TableTold table) old new = AddsTold (TableTold table) old new
+AddsOf true (IndexTold table index) old new = new ≡ old
+AddsOf false (TableTold table) old new = new ≡ old
+AddsOf false (IndexTold table index) old new = AddsTold (IndexTold table index) old new
+
+-- what the pass lists is listed; or memory was short
+abbrev pub ReadsTold : Bool → Told → List Table → List Table → Result ⊤ Fault → Type 0
+ReadsTold first item old new result = CanAdd first item old → MatchResult result (λ done. AddsOf first item old new) (λ fault. fault ≡ Memory)
+
+-- the parts of a row tell it
+abbrev pub TellsParts : Told → SchemaRow → Type 0
+TellsParts (TableTold table) row = (row.is_table ≡ true) × TellsTable table row
+TellsParts (IndexTold table index) row = (row.is_table ≡ false) × TellsIndex table index row
+
+-- the row of these parts tells what was listed
+pub record FindsParts (first : Bool) (row : SchemaRow) (old new : List Table) : Type 0 where
+  pub item : Told
+  pub pass : is_of_pass first item ≡ true
+  pub tells : TellsParts item row
+  pub adds : AddsTold item old new
+
+-- the row is of this kind
+abbrev pub IsKind : Bool → Entry → Type 0
+IsKind kind row = (rest : List Value) × IsRecord row.payload (Text (kind_text kind) ∷ rest)
+
+-- the row tells what was listed
+pub record FindsTold (first : Bool) (pages : ℕ) (row : Entry) (old new : List Table) : Type 0 where
+  pub item : Told
+  pub pass : is_of_pass first item ≡ true
+  pub tells : Tells pages item row
+  pub adds : AddsTold item old new
+
+-- the row tells what was listed, or it is left to the other pass
+abbrev pub FindsRow : Bool → ℕ → Entry → List Table → List Table → Type 0
+FindsRow first pages row old new = AreSound old → FindsTold first pages row old new ⊎ IsKind (not first) row × (new ≡ old)
+
+-- ---- the rows of a tree
+
+-- one row after another
+abbrev pub Finds : Bool → ℕ → List Entry → List Table → List Table → Type 0
+Finds first pages [] old new = new ≡ old
+Finds first pages (row ∷ rows) old new = (mid : List Table) × FindsRow first pages row old mid × Finds first pages rows mid new
+
+-- what is listed where so much was told and the rest is left: the tables told so far, or all tables and the indexes told so far
+abbrev pub listed_by : Bool → List Told → List Told → List Told
+listed_by true before rest = filter (is_of_pass true) before
+listed_by false before rest = filter (is_of_pass true) (before ++ rest) ++ filter (is_of_pass false) before
+
+-- What the rows up to here tell is listed, as far as the pass lists it, and the rows that are left tell the rest.
+pub record IsLoading (first : Bool) (pages : ℕ) (tables : List Table) (left : List Entry) (now : List Table) : Type 0 where
+  pub before : List Told
+  pub rest : List Told
+  pub all : AreReordered (before ++ rest) (all_told tables)
+  pub each : Pairwise (Tells pages) rest left
+  pub listed : AreReordered (map bare_told (listed_by first before rest)) (parts_of now)
+
+-- where these rows come next, what they tell was listed, and the other rows are left; or memory was short
+abbrev pub LoadsNext : Bool → ℕ → List Entry → List Table → List Table → Result ⊤ Fault → Type 0
+LoadsNext first pages rows old new result = (tables : List Table) (after : List Entry) → AreSound tables
+    → IsLoading first pages tables (rows ++ after) old → MatchResult result (λ done. IsLoading first pages tables after new) (λ fault. fault ≡ Memory)
+
+-- where the rows of a tree under page 1 tell tables, what they tell was listed; or memory was short, or a disk's call failed
+abbrev pub LoadsRows : Bool → PageMap → ℕ → ℕ → List Table → List Table → Result ⊤ Fault → Type 0
+LoadsRows first map size pages old new result = (tables : List Table) (rows : List Entry) (used : List ℕ) → AreWhole size map
+    → IsTableTree map size 1 rows used → AreSound tables → IsLoading first pages tables rows old
+    → MatchResult result (λ done. IsLoading first pages tables [] new) IsOutside
+
+-- the rows of a tree under page 1 tell what was listed
+abbrev pub FindsRows : Bool → PageMap → ℕ → ℕ → List Table → List Table → Result ⊤ Fault → Type 0
+FindsRows first map size pages old new result = (rows : List Entry) (used : List ℕ) → AreWhole size map → IsTableTree map size 1 rows used
+    → OnOk result (Finds first pages rows old new)
+
+-- Where a tree under page 1 has rows that tell these tables, the catalog lists them; or memory was short, or a disk's call failed.
+abbrev pub LoadsTree : PageMap → ℕ → ℕ → Result Catalog Fault → Type 0
+LoadsTree map size pages result = (tables : List Table) (rows : List Entry) (used : List ℕ) → AreWhole size map → IsTableTree map size 1 rows used
+    → AreRowsOf pages tables rows → are_named_once tables ≡ true → IsOrOutside (λ catalog. AreAlike tables (tables_of catalog)) result
+
+-- where a tree has these rows, they tell the tables that the catalog lists
+abbrev pub TellsTree : PageMap → ℕ → ℕ → Result Catalog Fault → Type 0
+TellsTree map size pages result = (rows : List Entry) (used : List ℕ) → AreWhole size map → IsTableTree map size 1 rows used
+    → IfOk result (λ catalog. AreRowsOf pages (tables_of catalog) rows × (are_named_once (tables_of catalog) ≡ true))

@@ -1,0 +1,277 @@
+//! The rows of the schema table, and the tables that they tell.
+
+ghost use Rattle.std.specs.Prelude.{◌≡◌, ◌<◌, ◌≤◌, ◌++◌, ◌∷◌, ℕ, Bool, List, [], Ok, IfOk, IfErr, IsOkAnd, OnOk, true, false, pos, length, map};
+ghost use Rattle.sqlval.specs.Fields.{value_of};
+ghost use Rattle.sqlval.specs.declared.value.Value.TheVariants as value;
+ghost use Rattle.sql_syntax.specs.declared.create.NewObject.TheVariants as new;
+ghost use Rattle.sql_syntax.specs.declared.statement.Statement.{Statement as Parsed};
+ghost use Rattle.sql_syntax.specs.declared.statement.Statement.TheVariants as parsed;
+ghost use Rattle.sql_grammar.specs.Statements.{is_statement_within};
+ghost use Rattle.sql_grammar.specs.Texts.{IsStatementText};
+ghost use Rattle.sql_syntax.specs.declared.create.Create.{Create as Made};
+ghost use Rattle.sqlval.specs.Faults.{IsOrMemory};
+ghost use Rattle.catalog.specs.Listed.{defined, described, has_doubled, is_name_of, tables_of};
+ghost use Rattle.db_pages.specs.Schema.{schema_row};
+ghost use Rattle.db_pages.specs.Schema as told;
+ghost use Rattle.db_load.specs.Loading.{AreRowValues, HasParts, IsOfRow, IsSchemaFault, TellsTable, bare, kind_text};
+ghost use Rattle.db_load.specs.Reading.{AreSound, FindsParts, ReadsTold};
+
+use crate::forms::is_table_supported;
+use catalog::{Catalog, Column, Table, columns_of, is_reserved};
+use record::Record;
+use sql_parser::{parse, release};
+use sql_syntax::{Create, NewObject, Statement, TableDefinition};
+use sqlval::{Damage, Fault, Feature, Field, Many, R};
+use std::alloc::Global;
+
+/// A row of the schema table.
+#[derive(Clone, Copy)]
+pub(crate) struct SchemaRow<'a> {
+    pub rowid: i64,
+    /// Whether it is that of a table. Else it is that of an index.
+    pub is_table: bool,
+    pub name: &'a str,
+    pub table_name: &'a str,
+    pub root: u32,
+    pub sql: &'a str,
+}
+
+/// The refusal of a schema row that breaks the format.
+pub(crate) fn damaged() -> Fault
+    ensures { IsSchemaFault result }
+{
+    Fault::Damaged(Damage::Schema, 1)
+}
+
+/// The refusal of a schema text: unsupported, or `Memory`.
+pub(crate) fn outside(fault: Fault) -> Fault
+    ensures memory { fault ≡ Fault.Memory → result ≡ Fault.Memory }
+    ensures not_disk { IsSchemaFault result }
+{
+    match fault {
+        Fault::Memory => Fault::Memory,
+        _ => Fault::Unsupported(Feature::SchemaObject),
+    }
+}
+
+/// Whether the row is that of a table. Else it is that of an index.
+fn is_of_table(kind: Field<'_>) -> R<bool>
+    ensures tells { (is : Bool) → value_of kind.entry ≡ value.Text (kind_text is) → result ≡ Ok is }
+    ensures found { IfOk result (λ is. value_of kind.entry ≡ value.Text (kind_text is)) }
+    ensures not_disk { IfErr result (λ fault. IsSchemaFault fault) }
+{
+    match kind {
+        Field::Text("table") => Ok(true),
+        Field::Text("index") => Ok(false),
+        Field::Text("view") | Field::Text("trigger") => {
+            Err(Fault::Unsupported(Feature::StatementForm))
+        }
+        _ => Err(damaged()),
+    }
+}
+
+/// The text of a row's field.
+fn text_of<'a>(field: Field<'a>) -> R<&'a str>
+    ensures tells { (text : List ℕ) → value_of field.entry ≡ value.Text text → IsOkAnd result (λ found. found.now ≡ text) }
+    ensures found { IfOk result (λ text. value_of field.entry ≡ value.Text text.now) }
+    ensures not_disk { IfErr result (λ fault. IsSchemaFault fault) }
+{
+    match field {
+        Field::Text(text) => Ok(text),
+        _ => Err(damaged()),
+    }
+}
+
+/// The text of a CREATE, in a row's field.
+fn sql_of<'a>(field: Field<'a>) -> R<&'a str>
+    ensures tells { (text : List ℕ) → value_of field.entry ≡ value.Text text → IsOkAnd result (λ found. found.now ≡ text) }
+    ensures found { IfOk result (λ text. value_of field.entry ≡ value.Text text.now) }
+    ensures not_disk { IfErr result (λ fault. IsSchemaFault fault) }
+{
+    match field {
+        Field::Text(text) => Ok(text),
+        Field::Null => Err(Fault::Unsupported(Feature::SchemaObject)),
+        _ => Err(damaged()),
+    }
+}
+
+/// The number of the page where a tree begins: from 2 to `size`.
+fn root_of(field: Field<'_>, size: u32) -> R<u32>
+    ensures tells { (root : ℕ) → value_of field.entry ≡ value.Int (pos root) → 1 < root → root ≤ size → result ≡ Ok root }
+    ensures found { IfOk result (λ root. (value_of field.entry ≡ value.Int (pos root)) × (1 < root) × (root ≤ size)) }
+    ensures not_disk { IfErr result (λ fault. IsSchemaFault fault) }
+{
+    let Field::Int(root) = field else {
+        return Err(damaged());
+    };
+    match u32::try_from(root) {
+        Ok(root) if root > 1 && root <= size => Ok(root),
+        _ => Err(damaged()),
+    }
+}
+
+/// The parts of a row of this rowid, in a database of `size` pages.
+pub(crate) fn row_of<'a>(rowid: i64, row: &Record<'a>, size: u32) -> R<SchemaRow<'a>>
+    ensures tells { (is : Bool) (name table_name : List ℕ) (root : ℕ) (sql : List ℕ)
+        → row.now ≡ schema_row (kind_text is) name table_name root sql → 1 < root → root ≤ size
+        → IsOkAnd result (HasParts rowid is name table_name root sql) }
+    ensures found { IfOk result (λ parts. AreRowValues size parts row.now × (parts.rowid ≡ rowid)) }
+    ensures not_disk { IfErr result (λ fault. IsSchemaFault fault) }
+{
+    if row.len() != 5 {
+        return Err(Fault::Unsupported(Feature::ColumnCount));
+    }
+    Ok(SchemaRow {
+        rowid,
+        is_table: is_of_table(row.column(0))?,
+        name: text_of(row.column(1))?,
+        table_name: text_of(row.column(2))?,
+        root: root_of(row.column(3), size)?,
+        sql: sql_of(row.column(4))?,
+    })
+}
+
+/// The statement that the text of a row is.
+pub(crate) fn statement_of(alloc: Global, sql: &str) -> R<Statement>
+    ensures tells { (statement : Parsed) → IsStatementText sql.now statement → is_statement_within statement ≡ true
+        → length sql.now ≤ 65536 → IsOrMemory (λ found. found ≡ statement) result }
+    ensures found { IfOk result (λ statement. IsStatementText sql.now statement × (is_statement_within statement ≡ true)
+        × (length sql.now ≤ 65536)) }
+    ensures not_disk { IfErr result (λ fault. IsSchemaFault fault) }
+{
+    match parse(alloc, sql) {
+        Ok(statement) => Ok(statement),
+        Err(fault) => Err(outside(fault)),
+    }
+}
+
+/// What a CREATE makes.
+pub(crate) fn created_by(statement: &Statement) -> R<&NewObject>
+    ensures tells { (made : Made) → statement.now ≡ parsed.Create made → IsOkAnd result (λ object. object.now ≡ made.object) }
+    ensures found { IfOk result (λ object. (made : Made) × (statement.now ≡ parsed.Create made) × (made.object ≡ object.now)) }
+    ensures not_disk { IfErr result (λ fault. IsSchemaFault fault) }
+{
+    match statement {
+        Statement::Create(create) => Ok(&create.object),
+        _ => Err(Fault::Unsupported(Feature::SchemaObject)),
+    }
+}
+
+/// The definition of a table, which the object must be.
+fn table_in(object: &NewObject) -> R<&TableDefinition>
+    ensures tells { (definition : TableDefinition) → object.now ≡ new.Table definition → IsOkAnd result (λ found. found.now ≡ definition) }
+    ensures found { IfOk result (λ definition. object.now ≡ new.Table definition.now) }
+    ensures not_disk { IfErr result (λ fault. IsSchemaFault fault) }
+{
+    match object {
+        NewObject::Table(definition) => Ok(definition),
+        _ => Err(Fault::Unsupported(Feature::StatementForm)),
+    }
+}
+
+/// The definition in a CREATE TABLE.
+fn definition_in(statement: &Statement) -> R<&TableDefinition>
+    ensures tells { (made : Made) (definition : TableDefinition) → statement.now ≡ parsed.Create made
+        → made.object ≡ new.Table definition → IsOkAnd result (λ found. found.now ≡ definition) }
+    ensures found { IfOk result (λ definition. (made : Made) × (statement.now ≡ parsed.Create made)
+        × (made.object ≡ new.Table definition.now)) }
+    ensures not_disk { IfErr result (λ fault. IsSchemaFault fault) }
+{
+    table_in(created_by(statement)?)
+}
+
+/// The columns that a definition gives its table.
+fn columns_in(alloc: Global, definition: &TableDefinition) -> R<Many<Column>>
+    ensures tells { (columns : List Column) → has_doubled definition.now.columns ≡ false
+        → map described columns ≡ map defined definition.now.columns → IsOrMemory (λ found. found ≡ columns) result }
+    ensures found { IfOk result (λ columns. (has_doubled definition.now.columns ≡ false)
+        × (map described columns ≡ map defined definition.now.columns)) }
+    ensures not_disk { IfErr result (λ fault. IsSchemaFault fault) }
+{
+    match columns_of(alloc, definition) {
+        Ok(columns) => Ok(columns),
+        Err(fault) => Err(outside(fault)),
+    }
+}
+
+/// Checks that the definition is supported and has the row's names, and that they may be given.
+fn is_of_row(definition: &TableDefinition, row: &SchemaRow<'_>) -> R<()>
+    ensures tells { IsOfRow row.now definition.now → result ≡ Ok tt }
+    ensures found { OnOk result (IsOfRow row.now definition.now) }
+    ensures not_disk { IfErr result (λ fault. IsSchemaFault fault) }
+{
+    if !is_table_supported(definition) {
+        return Err(Fault::Unsupported(Feature::StatementForm));
+    }
+    if !definition.name.is_same(row.name) {
+        return Err(damaged());
+    }
+    if !definition.name.is_same(row.table_name) {
+        return Err(damaged());
+    }
+    if is_reserved(definition.name.as_str()) {
+        return Err(Fault::Unsupported(Feature::SchemaObject));
+    }
+    Ok(())
+}
+
+/// The table of this row and of the statement that its text is, under the name in the statement.
+fn table_made(alloc: Global, row: &SchemaRow<'_>, statement: &Statement) -> R<Table>
+    ensures tells { (table : Table) (tells : TellsTable table row.now) (made : Made)
+        → statement.now ≡ parsed.Create made → made.object ≡ new.Table tells.definition
+        → IsOrMemory (λ found. found ≡ bare table) result }
+    ensures found { IsStatementText row.now.sql.now statement.now × (is_statement_within statement.now ≡ true)
+        × (length row.now.sql.now ≤ 65536)
+        → IfOk result (λ table. TellsTable table row.now × (table.indexes ≡ [])) }
+    ensures not_disk { IfErr result (λ fault. IsSchemaFault fault) }
+{
+    let definition = definition_in(statement)?;
+    is_of_row(definition, row)?;
+    let columns = columns_in(alloc, definition)?;
+    let name = definition.name.copy(alloc)?;
+    Ok(Table {
+        name,
+        columns,
+        indexes: Many::new(alloc),
+        root: row.root,
+        rowid: row.rowid,
+    })
+}
+
+/// The table that a row tells, under the name in its definition.
+fn table_of(alloc: Global, row: &SchemaRow<'_>) -> R<Table>
+    ensures tells { (table : Table) → TellsTable table row.now → IsOrMemory (λ found. found ≡ bare table) result }
+    ensures found { IfOk result (λ table. TellsTable table row.now × (table.indexes ≡ [])) }
+    ensures not_disk { IfErr result (λ fault. IsSchemaFault fault) }
+{
+    let statement = statement_of(alloc, row.sql)?;
+    let table = table_made(alloc, row, &statement);
+    release(statement);
+    table
+}
+
+/// Checks that neither a table of the catalog nor an index has this table's name.
+fn is_new(catalog: &Catalog, table: &Table) -> R<()>
+    ensures tells { is_name_of (tables_of catalog.now) table.now.name ≡ false → result ≡ Ok tt }
+    ensures found { OnOk result (is_name_of (tables_of catalog.now) table.now.name ≡ false) }
+    ensures not_disk { IfErr result (λ fault. IsSchemaFault fault) }
+{
+    if catalog.has_name(table.name.as_str()) {
+        return Err(Fault::Unsupported(Feature::SchemaObject));
+    }
+    Ok(())
+}
+
+/// Adds the table that a row tells, after the others.
+pub(crate) fn add_table(alloc: Global, catalog: &mut Catalog, row: &SchemaRow<'_>) -> R<()>
+    // Where a row tells a table of a new name, that is listed, unless memory runs out.
+    ensures tells { (table : Table) → TellsTable table row.now
+        → ReadsTold true (told.TableTold table) (tables_of catalog.old) (tables_of catalog.new) result }
+    // What is listed is the table that the row tells.
+    ensures found { row.now.is_table ≡ true → OnOk result (FindsParts true row.now (tables_of catalog.old) (tables_of catalog.new)) }
+    ensures not_disk { IfErr result (λ fault. IsSchemaFault fault) }
+{
+    let table = table_of(alloc, row)?;
+    is_new(catalog, &table)?;
+    catalog.add(alloc, table)
+}

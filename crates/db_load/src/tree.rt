@@ -1,0 +1,72 @@
+//! The tables and indexes of the schema, as the rows of its tree tell them.
+
+ghost use Rattle.std.specs.Prelude.{IsTrue, IfErr, OnOk};
+ghost use Rattle.pages.specs.Calls.{Stays};
+ghost use Rattle.catalog.specs.Listed.{tables_of};
+ghost use Rattle.db_load.specs.Loading.{IsSchemaFault};
+ghost use Rattle.db_load.specs.Reading.{Finds, FindsRows, LoadsNext, LoadsRows, LoadsTree, TellsTree};
+
+use crate::adding::add_row;
+use catalog::Catalog;
+use pages::Pages;
+use record::bytes_determine_values;
+use sqlval::R;
+use std::alloc::Global;
+use tree_table::{Batch, Cursor};
+
+/// The page where the tree of the schema table begins.
+const SCHEMA: u32 = 1;
+
+/// Adds the tables or the indexes that the rows of a batch tell, in a database of `size` pages. (As `add_row`.)
+fn add_batch(alloc: Global, catalog: &mut Catalog, batch: &Batch, size: u32, tables: bool) -> R<()>
+    ensures loaded { LoadsNext tables size batch.now (tables_of catalog.old) (tables_of catalog.new) result }
+    ensures told { OnOk result (Finds tables size batch.now (tables_of catalog.old) (tables_of catalog.new)) }
+    ensures not_disk { IfErr result (λ fault. IsSchemaFault fault) }
+{
+    'rows: for index in 0..batch.len() {
+        let row = batch.row(index);
+        add_row(alloc, catalog, row.rowid, row.payload, size, tables)?;
+    }
+    Ok(())
+}
+
+/// Adds the tables or the indexes that the rows of the schema table tell, in a database of `size` pages, whatever pages the rows lie on.
+/// (As `add_row`, except for pages that are no tree of a table: those are refused as a `Cursor` does.)
+fn add_rows<P: Pages>(
+    alloc: Global,
+    pages: &mut P,
+    catalog: &mut Catalog,
+    size: u32,
+    tables: bool,
+) -> R<()>
+    ensures loaded { IsTrue (P.Pages.tells (P.Pages.below pages.old))
+        → LoadsRows tables (P.Pages.map pages.old) (P.Pages.limits (P.Pages.below pages.old)).page size
+        (tables_of catalog.old) (tables_of catalog.new) result }
+    ensures told { IsTrue (P.Pages.tells (P.Pages.below pages.old))
+        → FindsRows tables (P.Pages.map pages.old) (P.Pages.limits (P.Pages.below pages.old)).page size
+        (tables_of catalog.old) (tables_of catalog.new) result }
+    ensures stays { Stays P.Pages.below P.Pages.map P.Pages.count P.Pages.failures result pages.old pages.new }
+{
+    let mut batch = Batch::new(alloc);
+    let mut cursor = Cursor::new(SCHEMA);
+    'batches: while cursor.next.is_some() {
+        cursor.next_batch(pages, &mut batch)?;
+        add_batch(alloc, catalog, &batch, size, tables)?;
+    }
+    Ok(())
+}
+
+/// The tables that the rows of the schema table tell, with their indexes, in a database of `size` pages. (As `add_rows`.)
+pub fn load_schema<P: Pages>(alloc: Global, pages: &mut P, size: u32) -> R<Catalog>
+    ensures loaded { IsTrue (P.Pages.tells (P.Pages.below pages.old))
+        → LoadsTree (P.Pages.map pages.old) (P.Pages.limits (P.Pages.below pages.old)).page size result }
+    ensures told { IsTrue (P.Pages.tells (P.Pages.below pages.old))
+        → TellsTree (P.Pages.map pages.old) (P.Pages.limits (P.Pages.below pages.old)).page size result }
+    ensures stays { Stays P.Pages.below P.Pages.map P.Pages.count P.Pages.failures result pages.old pages.new }
+{
+    bytes_determine_values();
+    let mut catalog = Catalog::empty(alloc);
+    add_rows(alloc, pages, &mut catalog, size, true)?;
+    add_rows(alloc, pages, &mut catalog, size, false)?;
+    Ok(catalog)
+}

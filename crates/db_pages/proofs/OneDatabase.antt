@@ -1,0 +1,248 @@
+-- Pages store one database at most: each row of the schema table is one statement, and says one root.
+use Rattle.std.proofs.Common.{◌≡◌, ◌∙◌, refl, sym, ap, subst, ℕ, Bool, true, false, List, [], ◌∷◌, length, map, Option, Some, None}
+use Rattle.std.specs.Prelude.{codes, not}
+use Rattle.std.specs.FinMap.Entries.{find}
+use Rattle.std.specs.List.{AllByRecursion}
+use Rattle.std.proofs.lemmas.Bool.{false≢true}
+use Rattle.sqlval.specs.Names.{folded}
+use Rattle.sqlval.specs.declared.affinity.Affinity.{Affinity}
+use Rattle.record.specs.Record.{DetermineValues}
+use Rattle.tree_leaf.specs.Leaf.{Entry}
+use Rattle.pages.specs.Map.{PageMap}
+use Rattle.tree_page.specs.Cells.{Pairwise}
+use Rattle.tree_table.specs.Laws.{OneTree}
+use Rattle.tree_table.specs.Tree.{IsTableTree}
+use Rattle.sql_syntax.specs.declared.create.Create.{Create}
+use Rattle.sql_syntax.specs.declared.create.IndexDefinition.{IndexDefinition}
+use Rattle.sql_syntax.specs.declared.create.NewObject.{NewObject}
+use Rattle.sql_syntax.specs.declared.create.NewObject.TheVariants as new
+use Rattle.sql_syntax.specs.declared.create.TableDefinition.{TableDefinition}
+use Rattle.sql_syntax.specs.declared.statement.Statement.{Statement}
+use Rattle.sql_syntax.specs.declared.statement.Statement.TheVariants as statement
+use Rattle.sql_grammar.specs.Texts.{IsStatementText}
+use Rattle.catalog.specs.Database as database
+use Rattle.catalog.specs.Database.{ATable, Database, Name, name_order, object}
+use Rattle.catalog.specs.Listed.{defined, described, plain_column, plain_table}
+use Rattle.catalog.specs.declared.tables.Column.{Column}
+use Rattle.catalog.specs.declared.tables.Index.{Index}
+use Rattle.catalog.specs.declared.tables.Table.{Table}
+use Rattle.catalog.proofs.NamedDatabases.{one_database}
+use Rattle.query_names.specs.Checked.{meant}
+use Rattle.query_names.specs.Schema.{index_made}
+use Rattle.row_scan.specs.Rows.{IsRow, TableRow}
+use Rattle.row_scan.proofs.HeldRows.{same_rows}
+use Rattle.db_layout.specs.Layout.{HoldsUnder, IsTree, Owner}
+use Rattle.db_layout.specs.Trees.{IsRowsTree}
+use Rattle.db_pages.specs.Schema.{IndexTold, IsCreateOf, IsIndexRow, IsTableRow, TableTold, Tells, Told, schema_row}
+use Rattle.db_pages.specs.Standing.{StoredOnce}
+use Rattle.db_pages.specs.Stored.{Stores}
+use Rattle.db_pages.proofs.AlikeTold.{AreAlike, HaveAlikeTables, beside, by_rows, same_found, table_found}
+use Rattle.db_pages.proofs.StandingTexts.{index_is}
+use Rattle.db_pages.proofs.StandingTrees.{IsTreeTold, in_order_told}
+use Rattle.db_pages.proofs.ToldObjects.{IsKept, told_finds, told_kept}
+
+-- a text is one statement at most
+abbrev pub OneText : Type 0
+OneText = (text : List ℕ) (a b : Statement) → IsStatementText text a → IsStatementText text b → a ≡ b
+
+-- ---- the parts of a row
+
+root_is : (k l : List ℕ) (n m tn tm : Name) (r s : ℕ) (sql text : List ℕ) → schema_row k n tn r sql ≡ schema_row l m tm s text → r ≡ s
+root_is k l n m tn tm r s sql text h = cc
+
+text_is : (k l : List ℕ) (n m tn tm : Name) (r s : ℕ) (sql text : List ℕ) → schema_row k n tn r sql ≡ schema_row l m tm s text → sql ≡ text
+text_is k l n m tn tm r s sql text h = cc
+
+made_is : (c d : Create) → statement.Create c ≡ statement.Create d → c ≡ d
+made_is c d h = cc
+
+table_is : (c d : TableDefinition) → new.Table c ≡ new.Table d → c ≡ d
+table_is c d h = cc
+
+index_definition_is : (c d : IndexDefinition) → new.Index c ≡ new.Index d → c ≡ d
+index_definition_is c d h = cc
+
+no_table_is_index : {A : Type 0} (c : TableDefinition) (d : IndexDefinition) → new.Table c ≡ new.Index d → A
+no_table_is_index c d h = absurd cc
+
+-- ---- columns
+
+first_of : {A : Type 0} (a b : A) (us bs : List A) → a ∷ us ≡ b ∷ bs → a ≡ b
+first_of a b us bs h = cc
+
+rest_of : {A : Type 0} (a b : A) (us bs : List A) → a ∷ us ≡ b ∷ bs → us ≡ bs
+rest_of a b us bs h = cc
+
+no_item : {A B : Type 0} (b : B) (bs : List B) → [] ≡ b ∷ bs → A
+no_item b bs h = absurd cc
+
+some_affinity : (a b : Affinity) → Some a ≡ Some b → a ≡ b
+some_affinity a b h = cc
+
+column_is : (a b : Column) → described a ≡ described b → a ≡ b
+column_is a b h =
+    let affinity = some_affinity a.affinity b.affinity (ap (λ (d : Name × Option Affinity). d.1) h) in
+    let name = ap (λ (d : Name × Option Affinity). d.0) h in
+    λ i. record { name = name i; affinity = affinity i }
+
+columns_are : (us ts : List Column) → map described us ≡ map described ts → us ≡ ts
+columns_are [] [] h = refl
+columns_are [] (t ∷ ts) h = no_item (described t) (map described ts) h
+columns_are (u ∷ us) [] h = no_item (described u) (map described us) (sym h)
+columns_are (u ∷ us) (t ∷ ts) h =
+    let first = column_is u t (first_of (described u) (described t) (map described us) (map described ts) h) in
+    let rest = columns_are us ts (rest_of (described u) (described t) (map described us) (map described ts) h) in
+    λ i. first i ∷ rest i
+
+abbrev plain_with : List Column → List TableRow → database.Table
+plain_with cs rows = record { columns = map plain_column cs; rowid_column = None; checks = []; rows = rows }
+
+is_not : (b : Bool) → not b ≡ true → b ≡ false
+is_not true h = absurd (false≢true h)
+is_not false h = refl
+
+module _ (trees : OneTree) (texts : OneText) (values : DetermineValues) where
+  -- one text makes one object
+  one_made : (sql text : List ℕ) (c d : NewObject) → sql ≡ text → IsCreateOf sql c → IsCreateOf text d → c ≡ d
+  one_made sql text c d same one other =
+      ap (λ (made : Create). made.object) (made_is (record { sql = one.sql; object = c }) (record { sql = other.sql; object = d })
+      (texts text (statement.Create (record { sql = one.sql; object = c })) (statement.Create (record { sql = other.sql; object = d }))
+      (subst (λ (z : List ℕ). IsStatementText z (statement.Create (record { sql = one.sql; object = c }))) same one.is) other.is))
+
+  module _ (pages : PageMap) (size : ℕ) (ts us : List Table) (a b : Database) (one : Stores pages size ts a) (other : Stores pages size us b) where
+    abbrev count : ℕ
+    count = length pages
+
+    -- what is told with its tree
+    abbrev HasItsTree : (ℕ → List TableRow) → Told → Type 0
+    HasItsTree rows_at told = (owner : Owner) × (IsTreeTold rows_at told owner × IsTree pages size owner)
+
+    -- ---- two tables of one row
+
+    module _ (t u : Table) (row : Entry) (first : IsTableRow count t row) (second : IsTableRow count u row) where
+      row_is : schema_row (codes "table") first.row_is.name first.row_is.table_name t.root first.sql ≡ schema_row (codes "table") second.row_is.name second.row_is.table_name u.root second.sql
+      row_is = values row.payload _ _ first.row_is.row_is second.row_is.row_is
+
+      one_definition : first.definition ≡ second.definition
+      one_definition = table_is first.definition second.definition (one_made first.sql second.sql (new.Table first.definition) (new.Table second.definition)
+          (text_is (codes "table") (codes "table") first.row_is.name second.row_is.name first.row_is.table_name second.row_is.table_name t.root u.root first.sql second.sql row_is)
+          first.creates.0 second.creates.0)
+
+      one_root : t.root ≡ u.root
+      one_root = root_is (codes "table") (codes "table") first.row_is.name second.row_is.name first.row_is.table_name second.row_is.table_name t.root u.root first.sql second.sql row_is
+
+      one_name : t.name ≡ u.name
+      one_name = first.makes.name_is ∙ ap (λ (d : TableDefinition). d.name) one_definition ∙ sym second.makes.name_is
+
+      one_columns : t.columns ≡ u.columns
+      one_columns = columns_are t.columns u.columns (first.makes.columns ∙ ap (λ (d : TableDefinition). map defined d.columns) one_definition ∙ sym second.makes.columns)
+
+      rows_tree : (v : Table) (rows : List TableRow) (o : Owner) (is : IsRowsTree v rows o) → IsTree pages size o → IsTableTree pages size v.root is.entries o.used
+      rows_tree v rows o is tree = subst (λ (root : ℕ). IsTableTree pages size root is.entries o.used) is.root_is (subst (HoldsUnder pages size o.root o.used) is.content_is tree)
+
+      one_rows : HasItsTree one.rows_at (TableTold t) → HasItsTree other.rows_at (TableTold u) → one.rows_at t.root ≡ other.rows_at u.root
+      one_rows mine its =
+          same_rows (length t.columns) mine.1.0.entries its.1.0.entries (one.rows_at t.root) (other.rows_at u.root)
+          (trees pages size u.root mine.1.0.entries its.1.0.entries mine.0.used its.0.used
+          (subst (λ (root : ℕ). IsTableTree pages size root mine.1.0.entries mine.0.used) one_root (rows_tree t (one.rows_at t.root) mine.0 mine.1.0 mine.1.1))
+          (rows_tree u (other.rows_at u.root) its.0 its.1.0 its.1.1)).0
+          mine.1.0.each
+          (subst (λ (cs : List Column). Pairwise (IsRow (length cs)) its.1.0.entries (other.rows_at u.root)) (sym one_columns) its.1.0.each)
+
+      tables_alike : HasItsTree one.rows_at (TableTold t) → HasItsTree other.rows_at (TableTold u) → AreAlike one.rows_at other.rows_at (TableTold t) (TableTold u)
+      tables_alike mine its = (ap folded one_name, λ i. ATable (plain_with (one_columns i) (one_rows mine its i)))
+
+    -- ---- two indexes of one row
+
+    module _ (t u : Table) (i j : Index) (row : Entry) (first : IsIndexRow count t i row) (second : IsIndexRow count u j row) where
+      index_row_is : schema_row (codes "index") first.row_is.name first.row_is.table_name i.root first.sql ≡ schema_row (codes "index") second.row_is.name second.row_is.table_name j.root second.sql
+      index_row_is = values row.payload _ _ first.row_is.row_is second.row_is.row_is
+
+      one_index : first.definition ≡ second.definition
+      one_index = index_definition_is first.definition second.definition (one_made first.sql second.sql (new.Index first.definition) (new.Index second.definition)
+          (text_is (codes "index") (codes "index") first.row_is.name second.row_is.name first.row_is.table_name second.row_is.table_name i.root j.root first.sql second.sql index_row_is)
+          first.creates.0 second.creates.0)
+
+      index_names : folded i.name ≡ folded j.name
+      index_names = ap folded (first.makes.name_is ∙ ap (λ (d : IndexDefinition). d.name) one_index ∙ sym second.makes.name_is)
+
+      -- on one table they are one
+      indexes_alike : ((d : IndexDefinition) → (table : database.Table) → object a d.table ≡ Some (ATable table) → object b d.table ≡ Some (ATable table))
+          → IsKept one.rows_at a (IndexTold t i) → IsKept other.rows_at b (IndexTold u j) → AreAlike one.rows_at other.rows_at (IndexTold t i) (IndexTold u j)
+      indexes_alike tables mine its =
+          let on_a : object a first.definition.table ≡ Some (ATable (plain_table t (one.rows_at t.root))) = ap (λ n. find name_order n a) first.makes.on ∙ mine.1 in
+          let on_b : object b first.definition.table ≡ Some (ATable (plain_table t (one.rows_at t.root))) = tables first.definition (plain_table t (one.rows_at t.root)) on_a in
+          let made_a = index_is a first.definition t i (one.rows_at t.root) (is_not first.definition.is_unique first.creates.1) first.makes mine.1 in
+          let made_b = index_is b second.definition u j (other.rows_at u.root) (is_not second.definition.is_unique second.creates.1) second.makes its.1 in (
+            index_names,
+            ap meant (sym made_a ∙ ap (λ o. index_made o first.definition) (on_a ∙ sym on_b) ∙ ap (λ (d : IndexDefinition). index_made (object b d.table) d) one_index ∙ made_b),
+          )
+
+    -- ---- a table and an index aren't told by one row
+
+    apart : {A : Type 0} (t u : Table) (j : Index) (row : Entry) → IsTableRow count t row → IsIndexRow count u j row → A
+    apart t u j row first second =
+        no_table_is_index first.definition second.definition (one_made first.sql second.sql (new.Table first.definition) (new.Index second.definition)
+        (text_is (codes "table") (codes "index") first.row_is.name second.row_is.name first.row_is.table_name second.row_is.table_name t.root j.root first.sql second.sql
+        (values row.payload (schema_row (codes "table") first.row_is.name first.row_is.table_name t.root first.sql)
+        (schema_row (codes "index") second.row_is.name second.row_is.table_name j.root second.sql) first.row_is.row_is second.row_is.row_is))
+        first.creates.0 second.creates.0)
+
+    -- ---- what one row tells in both
+
+    alike_first : (x y : Told) (row : Entry) → Tells count x row → Tells count y row → HasItsTree one.rows_at x → HasItsTree other.rows_at y → HaveAlikeTables one.rows_at other.rows_at x y
+    alike_first (TableTold t) (TableTold u) row first second mine its = tables_alike t u row first second mine its
+    alike_first (TableTold t) (IndexTold u j) row first second mine its = apart t u j row first second
+    alike_first (IndexTold t i) (TableTold u) row first second mine its = apart u t i row second first
+    alike_first (IndexTold t i) (IndexTold u j) row first second mine its = index_names t u i j row first second
+
+    alike_then : ((d : IndexDefinition) → (table : database.Table) → object a d.table ≡ Some (ATable table) → object b d.table ≡ Some (ATable table)) → (x y : Told) (row : Entry) → Tells count x row → Tells count y row
+        → HasItsTree one.rows_at x × IsKept one.rows_at a x → HasItsTree other.rows_at y × IsKept other.rows_at b y → AreAlike one.rows_at other.rows_at x y
+    alike_then tables (TableTold t) (TableTold u) row first second mine its = tables_alike t u row first second mine.0 its.0
+    alike_then tables (TableTold t) (IndexTold u j) row first second mine its = apart t u j row first second
+    alike_then tables (IndexTold t i) (TableTold u) row first second mine its = apart u t i row second first
+    alike_then tables (IndexTold t i) (IndexTold u j) row first second mine its = indexes_alike t u i j row first second tables mine.1 its.1
+
+    -- the schema table has one list of rows
+    one_schema : one.schema ≡ other.schema
+    one_schema = (trees pages size 1 one.schema other.schema one.schema_used other.schema_used one.shared.trees.0 other.shared.trees.0).0
+
+    tell_here : Pairwise (Tells count) one.tell.told other.schema
+    tell_here = subst (Pairwise (Tells count) one.tell.told) one_schema one.tell.each
+
+    my_trees : AllByRecursion (HasItsTree one.rows_at) one.tell.told
+    my_trees = (let owners = in_order_told pages size ts a one in
+        beside (λ x o. IsTreeTold one.rows_at x o × IsTree pages size o) one.tell.told owners.0 owners.1)
+
+    its_trees : AllByRecursion (HasItsTree other.rows_at) other.tell.told
+    its_trees = (let owners = in_order_told pages size us b other in
+        beside (λ x o. IsTreeTold other.rows_at x o × IsTree pages size o) other.tell.told owners.0 owners.1)
+
+    firsts : Pairwise (HaveAlikeTables one.rows_at other.rows_at) one.tell.told other.tell.told
+    firsts = by_rows (Tells count) (Tells count) (HasItsTree one.rows_at) (HasItsTree other.rows_at) (HaveAlikeTables one.rows_at other.rows_at) alike_first
+        one.tell.told other.tell.told other.schema tell_here other.tell.each my_trees its_trees
+
+    -- a table of the one is a table of the other
+    same_table : (d : IndexDefinition) → (table : database.Table) → object a d.table ≡ Some (ATable table) → object b d.table ≡ Some (ATable table)
+    same_table d table found =
+        told_finds other.rows_at us b other.of_tables other.tell.told other.tell.all d.table
+        ∙ table_found one.rows_at other.rows_at d.table table one.tell.told other.tell.told firsts (sym (told_finds one.rows_at ts a one.of_tables one.tell.told one.tell.all d.table) ∙ found)
+
+    all_and : {A : Type 0} (P Q : A → Type 0) (xs : List A) → AllByRecursion P xs → AllByRecursion Q xs → AllByRecursion (λ x. P x × Q x) xs
+    all_and P Q [] left right = tt
+    all_and P Q (x ∷ xs) left right = ((left.0, right.0), all_and P Q xs left.1 right.1)
+
+    all_alike : Pairwise (AreAlike one.rows_at other.rows_at) one.tell.told other.tell.told
+    all_alike = by_rows (Tells count) (Tells count) (λ x. HasItsTree one.rows_at x × IsKept one.rows_at a x) (λ y. HasItsTree other.rows_at y × IsKept other.rows_at b y)
+        (AreAlike one.rows_at other.rows_at) (alike_then same_table) one.tell.told other.tell.told other.schema tell_here other.tell.each
+        (all_and (HasItsTree one.rows_at) (IsKept one.rows_at a) one.tell.told my_trees (told_kept one.rows_at ts a one.of_tables one.tell.told one.tell.all))
+        (all_and (HasItsTree other.rows_at) (IsKept other.rows_at b) other.tell.told its_trees (told_kept other.rows_at us b other.of_tables other.tell.told other.tell.all))
+
+    pub same_database : a ≡ b
+    same_database = one_database a b one.of_tables.named other.of_tables.named (λ name.
+        told_finds one.rows_at ts a one.of_tables one.tell.told one.tell.all name
+        ∙ same_found one.rows_at other.rows_at name one.tell.told other.tell.told all_alike
+        ∙ sym (told_finds other.rows_at us b other.of_tables other.tell.told other.tell.all name))
+
+pub stored_once : OneTree → OneText → DetermineValues → StoredOnce
+stored_once trees texts values pages size ts us a b one other = same_database trees texts values pages size ts us a b one other

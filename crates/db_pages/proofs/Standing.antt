@@ -1,0 +1,51 @@
+-- Pages that store a database stand for it.
+use Rattle.std.proofs.Common.{ap, ◌∙◌, ℕ, List, length}
+use Rattle.std.specs.List.{AllByRecursion}
+use Rattle.sqlval.specs.Lists.{sorted}
+use Rattle.pages.specs.Map.{PageMap}
+use Rattle.catalog.specs.Database.{Database, name_order}
+use Rattle.catalog.specs.declared.tables.Table.{Table}
+use Rattle.catalog.proofs.NamedDatabases.{listed_in_order}
+use Rattle.db_files.specs.Stands.{HasSchema, StandsFor}
+use Rattle.db_pages.specs.Language.{supported_language}
+use Rattle.db_pages.specs.Standing.{StoredStand}
+use Rattle.db_pages.specs.Stored.{IsCounted, Stores}
+use Rattle.db_pages.proofs.StandingRows.{rows_named, rows_read, rows_say, rows_told}
+use Rattle.db_pages.proofs.StandingTrees.{found_fit, in_order_told, is_freelist, is_headed, is_shared, told_trees, useds_of}
+use Rattle.db_pages.proofs.ToldObjects.{IsKept, told_kept, told_names}
+
+module _ (pages : PageMap) (size : ℕ) (tables : List Table) (db : Database) (stored : Stores pages size tables db) where
+  are_kept : AllByRecursion (IsKept stored.rows_at db) stored.tell.told
+  are_kept = told_kept stored.rows_at tables db stored.of_tables stored.tell.told stored.tell.all
+
+  has_schema : HasSchema supported_language size pages (rows_told (length pages) stored.tell.told stored.schema stored.tell.each) db stored.schema_used
+  has_schema = record {
+    entries = stored.schema;
+    tree = stored.shared.trees.0;
+    read = rows_read (length pages) stored.tell.told stored.schema stored.tell.each;
+    objects = record {
+      names = ap (sorted name_order) (rows_named (length pages) stored.tell.told stored.schema stored.tell.each)
+          ∙ told_names stored.rows_at tables db stored.of_tables stored.tell.told stored.tell.all;
+      each = rows_say stored.rows_at db stored.of_tables.only (length pages) stored.tell.told stored.schema stored.tell.each are_kept;
+    };
+    in_order = listed_in_order stored.rows_at tables db stored.of_tables.named stored.of_tables.lists (λ name t found. found_fit stored.rows_at name t tables stored.held stored.each found);
+  }
+
+  pub stands : IsCounted pages → StandsFor supported_language size pages db
+  stands counted =
+      let trees = in_order_told pages size tables db stored in
+      record {
+        header = stored.header;
+        rows = rows_told (length pages) stored.tell.told stored.schema stored.tell.each;
+        schema_used = stored.schema_used;
+        trees_used = useds_of trees.0;
+        trunks = stored.shared.has.trunks;
+        headed = is_headed pages size tables db stored counted;
+        schema = has_schema;
+        trees = told_trees pages size tables db stored stored.tell.told stored.schema trees.0 stored.tell.each are_kept trees.1;
+        freelist = is_freelist pages size tables db stored;
+        shared = is_shared pages size tables db stored trees.0 trees.2;
+      }
+
+pub stand_if_stored : StoredStand
+stand_if_stored pages size tables db stored counted = stands pages size tables db stored counted

@@ -1,0 +1,118 @@
+-- The rows of page 1 are the rows of the schema table of the database that the told tables and indexes make.
+use Rattle.std.proofs.Common.{◌≡◌, ◌∙◌, inl, refl, sym, ap, ℕ, ℤ, Bool, true, false, List, [], ◌∷◌, map, codes, Some}
+use Rattle.std.specs.Prelude.{not}
+use Rattle.std.proofs.lemmas.Bool.{false≢true}
+use Rattle.std.specs.FinMap.Entries.{find}
+use Rattle.std.specs.List.{AllByRecursion}
+use Rattle.tree_leaf.specs.Leaf.{Entry}
+use Rattle.sqlval.specs.Names.{folded}
+use Rattle.sqlval.specs.declared.value.Value.{Value}
+use Rattle.tree_page.specs.Cells.{Pairwise}
+use Rattle.catalog.specs.Database.{ATable, AnIndex, Database, Name, name_order, object}
+use Rattle.catalog.specs.Listed.{has_only_plain, plain_index, plain_table}
+use Rattle.catalog.specs.declared.tables.Index.{Index}
+use Rattle.catalog.specs.declared.tables.Table.{Table}
+use Rattle.db_files.specs.Schema as listed
+use Rattle.db_files.specs.Schema.{IsSchemaEntry, IsSchemaRowOf, SchemaRow}
+use Rattle.db_pages.specs.Language.{supported_language}
+use Rattle.db_pages.specs.Schema.{IndexTold, IsIndexRow, IsTableRow, TableTold, Tells, Told}
+use Rattle.db_pages.proofs.StandingTexts.{index_is, index_not_refused, no_automatic, not_refused, plain_made, two_names}
+use Rattle.db_pages.proofs.ToldObjects.{IsKept, told_name, told_object}
+
+-- what a row tells, as a row of the schema table
+abbrev pub row_told : (pages : ℕ) (told : Told) (row : Entry) → Tells pages told row → SchemaRow
+row_told pages (TableTold t) row tells = record { kind = codes "table"; name = tells.row_is.name; table = tells.row_is.table_name; root = t.root; sql = Some tells.sql }
+row_told pages (IndexTold t i) row tells = record { kind = codes "index"; name = tells.row_is.name; table = tells.row_is.table_name; root = i.root; sql = Some tells.sql }
+
+abbrev pub rows_told : (pages : ℕ) (told : List Told) (rows : List Entry) → Pairwise (Tells pages) told rows → List SchemaRow
+rows_told pages [] rows tell = []
+rows_told pages (one ∷ told) [] tell = []
+rows_told pages (one ∷ told) (row ∷ rows) tell = row_told pages one row tell.0 ∷ rows_told pages told rows tell.1
+
+-- each entry of the page is the record of its row
+row_read : (pages : ℕ) (one : Told) (row : Entry) (tells : Tells pages one row) → IsSchemaEntry row (row_told pages one row tells)
+row_read pages (TableTold t) row tells = tells.row_is.row_is
+row_read pages (IndexTold t i) row tells = tells.row_is.row_is
+
+pub rows_read : (pages : ℕ) (told : List Told) (rows : List Entry) (tell : Pairwise (Tells pages) told rows) → Pairwise IsSchemaEntry rows (rows_told pages told rows tell)
+rows_read pages [] [] tell = tt
+rows_read pages [] (row ∷ rows) tell = absurd tell
+rows_read pages (one ∷ told) [] tell = absurd tell
+rows_read pages (one ∷ told) (row ∷ rows) tell = (row_read pages one row tell.0, rows_read pages told rows tell.1)
+
+-- a row has the name that it tells
+pub name_told : (pages : ℕ) (one : Told) (row : Entry) (tells : Tells pages one row) → folded (row_told pages one row tells).name ≡ folded (told_name one)
+name_told pages (TableTold t) row tells = tells.row_is.name_is ∙ sym (ap folded tells.makes.name_is)
+name_told pages (IndexTold t i) row tells = tells.row_is.name_is ∙ sym (ap folded tells.makes.name_is)
+
+pub rows_named : (pages : ℕ) (told : List Told) (rows : List Entry) (tell : Pairwise (Tells pages) told rows)
+    → map (λ row. folded row.name) (rows_told pages told rows tell) ≡ map (λ one. folded (told_name one)) told
+rows_named pages [] rows tell = refl
+rows_named pages (one ∷ told) [] tell = absurd tell
+rows_named pages (one ∷ told) (row ∷ rows) tell =
+    ap (λ (n : Name). n ∷ map (λ row. folded row.name) (rows_told pages told rows tell.1)) (name_told pages one row tell.0)
+    ∙ ap (λ (ns : List Name). folded (told_name one) ∷ ns) (rows_named pages told rows tell.1)
+
+-- ---- what they say
+
+is_not : (b : Bool) → not b ≡ true → b ≡ false
+is_not true h = absurd (false≢true h)
+is_not false h = refl
+
+module _ (rows_at : ℕ → List (ℤ × List Value)) (db : Database) (only : has_only_plain db ≡ true) (pages : ℕ) where
+  -- the object of the row's name is what the row tells
+  pub object_found : (one : Told) (row : Entry) (tells : Tells pages one row) → IsKept rows_at db one → object db (row_told pages one row tells).name ≡ Some (told_object rows_at one)
+  object_found (TableTold t) row tells kept = ap (λ (n : Name). find name_order n db) (name_told pages (TableTold t) row tells) ∙ kept
+  object_found (IndexTold t i) row tells kept = ap (λ (n : Name). find name_order n db) (name_told pages (IndexTold t i) row tells) ∙ kept.0
+
+  -- the row's text makes the table
+  table_said : (t : Table) (row : Entry) (tells : IsTableRow pages t row) → listed.IsTableRow supported_language db (row_told pages (TableTold t) row tells) (plain_table t (rows_at t.root))
+  table_said t row tells =
+      let made = plain_made tells.definition tells.creates.1 t tells.makes.once tells.makes.columns in
+      record {
+        definition = tells.definition;
+        kind = refl;
+        text = record {
+          text = tells.sql;
+          sql_is = refl;
+          creates = tells.creates;
+          accepts = not_refused db tells.definition (plain_table t []) made tells.makes.free;
+        };
+        name = tells.row_is.name_is;
+        table = tells.row_is.table_name_is;
+        keys = [];
+        made = made;
+        automatic_are = sym (no_automatic db tells.definition.name only);
+      }
+
+  -- and the index
+  index_said : (t : Table) (i : Index) (row : Entry) (tells : IsIndexRow pages t i row) → IsKept rows_at db (IndexTold t i)
+      → listed.IsIndexRow supported_language db (row_told pages (IndexTold t i) row tells) (plain_index t i)
+  index_said t i row tells kept =
+      let made = index_is db tells.definition t i (rows_at t.root) (is_not tells.definition.is_unique tells.creates.1) tells.makes kept.1 in
+      let here = ap (λ n. object db n) (sym tells.makes.name_is) ∙ kept.0 in
+      let on = ap (λ n. find name_order n db) tells.makes.on ∙ kept.1 in
+      record {
+        definition = tells.definition;
+        kind = refl;
+        text = record {
+          text = tells.sql;
+          sql_is = refl;
+          creates = tells.creates;
+          accepts = index_not_refused db tells.definition (AnIndex (plain_index t i)) tells.makes.once tells.makes.free
+              (two_names db tells.definition.name tells.definition.table (plain_index t i) (plain_table t (rows_at t.root)) here on) made;
+        };
+        name = tells.row_is.name_is;
+        table = tells.row_is.table_name_is;
+        made = made;
+      }
+
+  row_says : (one : Told) (row : Entry) (tells : Tells pages one row) → IsKept rows_at db one → IsSchemaRowOf supported_language db (row_told pages one row tells)
+  row_says (TableTold t) row tells kept = record { is = ATable (plain_table t (rows_at t.root)); found = object_found (TableTold t) row tells kept; says = table_said t row tells }
+  row_says (IndexTold t i) row tells kept = record { is = AnIndex (plain_index t i); found = object_found (IndexTold t i) row tells kept; says = inl (index_said t i row tells kept) }
+
+  pub rows_say : (told : List Told) (rows : List Entry) (tell : Pairwise (Tells pages) told rows) → AllByRecursion (IsKept rows_at db) told
+      → AllByRecursion (IsSchemaRowOf supported_language db) (rows_told pages told rows tell)
+  rows_say [] rows tell kept = tt
+  rows_say (one ∷ told) [] tell kept = tt
+  rows_say (one ∷ told) (row ∷ rows) tell kept = (row_says one row tell.0 kept.0, rows_say told rows tell.1 kept.1)

@@ -1,0 +1,215 @@
+-- What the CREATE of a listed table or index makes, and that nothing refuses it beside the other objects.
+use Rattle.std.proofs.Common.{◌≡◌, ◌∙◌, refl, sym, ap, ℕ, suc, ℤ, Bool, true, false, ◌&&◌, ◌||◌, ◌==◌, cond, List, [], ◌∷◌, ◌++◌, length, map, flat_map, Option, Some, None, arith}
+use Rattle.std.specs.Prelude.{is_some, not}
+use Rattle.std.specs.FinMap.Entries.{find}
+use Rattle.std.specs.List.{list_all}
+use Rattle.std.specs.Ordering.{eq_by_cmp}
+use Rattle.std.proofs.lemmas.Bool.{false≢true}
+use Rattle.std.proofs.lemmas.Bool.Decides.{nat_tests}
+use Rattle.std.proofs.lemmas.Map.Lookups.{exact_bytes}
+use Rattle.std.proofs.lemmas.Map.Views.{tells_apart}
+use Rattle.sqlval.specs.Lists.{any_twice}
+use Rattle.sqlval.specs.Names.{folded, is_same_name}
+use Rattle.sqlval.specs.Refusals.{Refusal, Exists, Misuse}
+use Rattle.sqlval.specs.declared.collation.Collation.{Collation}
+use Rattle.sqlval.specs.declared.value.Value.{Value}
+use Rattle.sql_syntax.specs.declared.create.ColumnDefinition.{ColumnDefinition}
+use Rattle.sql_syntax.specs.declared.create.ColumnRule.{ColumnRule}
+use Rattle.sql_syntax.specs.declared.create.IndexDefinition.{IndexDefinition}
+use Rattle.sql_syntax.specs.declared.create.TableDefinition.{TableDefinition}
+use Rattle.catalog.specs.Database as database
+use Rattle.catalog.specs.Database.{ATable, AnIndex, AView, ATrigger, Database, Name, Object, name_order, object, with_object}
+use Rattle.catalog.specs.Listed.{has_doubled, has_only_plain, is_reserved, plain_column, plain_index, plain_table}
+use Rattle.catalog.specs.declared.tables.Index.{Index}
+use Rattle.catalog.specs.declared.tables.Table.{Table}
+use Rattle.query_names.specs.Checked.{Checked, Meant, also, faults, good, known_all, known_map, ◌and_then◌, unless}
+use Rattle.query_names.specs.Creating.{HasColumnsOf, has_no_rules}
+use Rattle.query_names.specs.Schema.{create_index, create_table, index_made}
+use Rattle.query_names.specs.Scopes.{is_doubled}
+use Rattle.query_names.specs.Tables.{checks_of, column_of, keys_of, table_made, without_rows}
+use Rattle.query_names.proofs.ColumnNames.{folded_twice}
+use Rattle.query_names.proofs.CreatedTables.{known_columns}
+use Rattle.db_files.specs.Schema.{automatic_indexes}
+use Rattle.query_bind.specs.Indexed.{key_of, names_in}
+use Rattle.db_pages.specs.Language.{others}
+use Rattle.db_pages.specs.Schema.{IsIndexOf}
+use Rattle.db_pages.proofs.NamedObjects.{named_same, same_named}
+
+-- ---- a definition without rules
+
+both_true : (a b : Bool) → (a && b) ≡ true → (a ≡ true) × (b ≡ true)
+both_true true b h = (refl, h)
+both_true false b h = absurd (false≢true h)
+
+no_items : {A : Type 0} (xs : List A) → (length xs == 0) ≡ true → xs ≡ []
+no_items [] h = refl
+no_items (x ∷ xs) h = absurd (false≢true (sym (some (length xs)) ∙ h))
+  where
+    some : (n : ℕ) → (suc n == 0) ≡ false
+    some n = grind (arith, nat_tests)
+
+no_join : {A : Type 0} (xs ys : List A) → xs ≡ [] → ys ≡ [] → xs ++ ys ≡ []
+no_join xs ys h k = ap (λ zs. zs ++ ys) h ∙ k
+
+no_parts : {A B : Type 0} (f : A → List B) (xs : List A) → xs ≡ [] → flat_map f xs ≡ []
+no_parts f xs h = ap (flat_map f) h
+
+no_rules_among : {A : Type 0} (f : ColumnDefinition → ColumnRule → List A) (cs : List ColumnDefinition) → list_all (λ c. length c.rules == 0) cs ≡ true → flat_map (λ c. flat_map (f c) c.rules) cs ≡ []
+no_rules_among f [] plain = refl
+no_rules_among f (c ∷ cs) plain =
+    let rules = both_true (length c.rules == 0) (list_all (λ c. length c.rules == 0) cs) plain in
+    no_join (flat_map (f c) c.rules) (flat_map (λ c. flat_map (f c) c.rules) cs) (no_parts (f c) c.rules (no_items c.rules rules.0)) (no_rules_among f cs rules.1)
+
+-- ---- texts that aren't refused
+
+then_good : {A B : Type 0} (k : Checked A) (x : A) (f : A → Checked B) → k ≡ good x → (k and_then f) ≡ f x
+then_good k x f e = ap (λ k. k and_then f) e ∙ plain (f x)
+  where
+    plain : {B : Type 0} (l : Checked B) → also [] l ≡ l
+    plain (Meant y ss) = refl
+
+unless_false : {A : Type 0} (b : Bool) (r : Refusal) (k : Checked A) → b ≡ false → unless b r k ≡ k
+unless_false true r k h = absurd (false≢true (sym h))
+unless_false false r (Meant x ss) h = refl
+
+none_known : {A B : Type 0} (f : A → Checked B) (xs : List A) → xs ≡ [] → known_all (map f xs) ≡ good []
+none_known f xs h = ap (λ xs. known_all (map f xs)) h
+
+none_twice : {A : Type 0} (same : A → A → Bool) (xs : List A) → xs ≡ [] → any_twice same xs ≡ false
+none_twice same xs h = ap (any_twice same) h
+
+module _ (d : TableDefinition) (plain : has_no_rules d ≡ true) where
+  no_table_rules : d.rules ≡ []
+  no_table_rules = no_items d.rules (both_true (length d.rules == 0) (list_all (λ c. length c.rules == 0) d.columns) plain).0
+
+  no_column_rules : list_all (λ c. length c.rules == 0) d.columns ≡ true
+  no_column_rules = (both_true (length d.rules == 0) (list_all (λ c. length c.rules == 0) d.columns) plain).1
+
+  no_keys : keys_of d ≡ []
+  no_keys = no_join _ _ (no_rules_among _ d.columns no_column_rules) (no_parts _ d.rules no_table_rules)
+
+  no_checks : checks_of d ≡ []
+  no_checks = no_join _ _ (no_rules_among _ d.columns no_column_rules) (no_parts _ d.rules no_table_rules)
+
+  -- its CREATE makes the table with its columns, and no indexes
+  pub plain_made : (t : Table) → has_doubled d.columns ≡ false → HasColumnsOf d t → table_made d ≡ good (plain_table t [], [])
+  plain_made t once same =
+      unless_false (has_doubled d.columns) Misuse _ once
+      ∙ unless_false _ Misuse _ (none_twice _ (keys_of d) no_keys)
+      ∙ unless_false _ Misuse _ (none_twice _ (keys_of d) no_keys)
+      ∙ then_good (known_all (map column_of d.columns)) (map plain_column t.columns) _ (known_columns d.columns t.columns no_column_rules same)
+      ∙ then_good _ [] _ (none_known _ (checks_of d) no_checks)
+      ∙ then_good _ [] _ (none_known _ (keys_of d) no_keys)
+      ∙ ap (λ es. good (without_rows (map plain_column t.columns) None es, [])) no_checks
+
+-- ---- beside the others
+
+-- an object whose name is free and new
+is_added : (db : Database) (n : Name) (o : Object) (reserved : Bool) (taken : Option Object) → reserved ≡ false → taken ≡ None
+    → known_map (λ (after : Database). after) (unless reserved Misuse (unless (is_some taken) Exists (known_map (with_object db n) (good o)))) ≡ good (with_object db n o)
+is_added db n o reserved taken free fresh =
+    ap (λ b. known_map (λ (after : Database). after) (unless b Misuse (unless (is_some taken) Exists (known_map (with_object db n) (good o))))) free
+    ∙ ap (λ t. known_map (λ (after : Database). after) (unless false Misuse (unless (is_some t) Exists (known_map (with_object db n) (good o))))) fresh
+
+-- the others have no object of the name
+none_other : (db : Database) (name : Name) → object (others db name) name ≡ None
+none_other [] name = refl
+none_other (e ∷ es) name = by_test (none_other es name) (is_same_name name e.0) refl
+  where
+    own : eq_by_cmp name_order (folded name) e.0 ≡ true → is_same_name name e.0 ≡ true
+    own is = same_named name e.0 (sym (folded_twice name) ∙ ap folded (tells_apart exact_bytes (folded name) e.0 is))
+
+    by_name : find name_order (folded name) (others es name) ≡ None → is_same_name name e.0 ≡ false → (c : Bool) → eq_by_cmp name_order (folded name) e.0 ≡ c
+        → cond c (Some e.1) (find name_order (folded name) (others es name)) ≡ None
+    by_name rest differ true is = absurd (false≢true (sym differ ∙ own is))
+    by_name rest differ false is = rest
+
+    by_test : find name_order (folded name) (others es name) ≡ None → (b : Bool) → is_same_name name e.0 ≡ b → find name_order (folded name) (cond (not b) (e ∷ others es name) (others es name)) ≡ None
+    by_test rest true is = rest
+    by_test rest false is = by_name rest is (eq_by_cmp name_order (folded name) e.0) refl
+
+-- a definition whose name isn't reserved is refused by nothing there
+pub not_refused : (db : Database) (d : TableDefinition) (t : database.Table) → table_made d ≡ good (t, []) → is_reserved d.name ≡ false → faults (create_table (others db d.name) d) ≡ []
+not_refused db d t made free = ap faults (
+    then_good (table_made d) (t, []) _ made
+    ∙ is_added (others db d.name) d.name (ATable t) (is_reserved d.name) (object (others db d.name) d.name) free (none_other db d.name))
+
+-- the others have what another name finds
+other_kept : (db : Database) (name q : Name) → is_same_name name q ≡ false → object (others db name) q ≡ object db q
+other_kept [] name q apart = refl
+other_kept (e ∷ es) name q apart = by_test (other_kept es name q apart) (is_same_name name e.0) refl
+  where
+    own : is_same_name name e.0 ≡ true → eq_by_cmp name_order (folded q) e.0 ≡ true → ⊥
+    own is there = false≢true (sym apart ∙ same_named name q (named_same name e.0 is ∙ sym (ap folded (tells_apart exact_bytes (folded q) e.0 there)) ∙ folded_twice q))
+
+    by_name : find name_order (folded q) (others es name) ≡ object es q → is_same_name name e.0 ≡ true → (c : Bool) → eq_by_cmp name_order (folded q) e.0 ≡ c
+        → find name_order (folded q) (others es name) ≡ cond c (Some e.1) (object es q)
+    by_name rest is true there = absurd (own is there)
+    by_name rest is false there = rest
+
+    by_test : find name_order (folded q) (others es name) ≡ object es q → (b : Bool) → is_same_name name e.0 ≡ b
+        → find name_order (folded q) (cond (not b) (e ∷ others es name) (others es name)) ≡ object (e ∷ es) q
+    by_test rest true is = by_name rest is (eq_by_cmp name_order (folded q) e.0) refl
+    by_test rest false is = ap (cond (eq_by_cmp name_order (folded q) e.0) (Some e.1)) rest
+
+-- ---- an index
+
+abbrev index_over : IndexDefinition → List (ℕ × Collation) → Object
+index_over d ks = AnIndex (record { table = folded d.table; is_unique = d.is_unique; is_automatic = false; columns = ks })
+
+abbrev plain_over : Name → Bool → List (ℕ × Collation) → Object
+plain_over table unique ks = AnIndex (record { table = table; is_unique = unique; is_automatic = false; columns = ks })
+
+-- its CREATE makes the index, whatever rows the table has
+pub index_is : (db : Database) (d : IndexDefinition) (t : Table) (i : Index) (rows : List (ℤ × List Value)) → d.is_unique ≡ false → IsIndexOf d t i
+    → object db t.name ≡ Some (ATable (plain_table t rows)) → index_made (object db d.table) d ≡ good (AnIndex (plain_index t i))
+index_is db d t i rows plain is on =
+    ap (λ n. index_made (find name_order n db) d) is.on
+    ∙ ap (λ o. index_made o d) on
+    ∙ ap (known_map (index_over d)) is.columns
+    ∙ ap (λ n. good (plain_over n d.is_unique (map key_of i.columns))) is.on
+    ∙ ap (λ b. good (plain_over (folded t.name) b (map key_of i.columns))) plain
+
+-- a definition whose name isn't reserved is refused by nothing there
+pub index_not_refused : (db : Database) (d : IndexDefinition) (made : Object) → is_doubled (names_in d.columns) ≡ false → is_reserved d.name ≡ false
+    → is_same_name d.name d.table ≡ false → index_made (object db d.table) d ≡ good made → faults (create_index (others db d.name) d) ≡ []
+index_not_refused db d made once free apart is = ap faults (
+    unless_false (is_doubled (names_in d.columns)) Misuse _ once
+    ∙ ap (λ k. unless (is_reserved d.name) Misuse (unless (is_some (object (others db d.name) d.name)) Exists (known_map (with_object (others db d.name) d.name) k)))
+    (ap (λ o. index_made o d) (other_kept db d.name d.table apart) ∙ is)
+    ∙ unless_false (is_reserved d.name) Misuse _ free
+    ∙ ap (λ o. unless (is_some o) Exists (known_map (with_object (others db d.name) d.name) (good made))) (none_other db d.name))
+
+-- a table and an index have two names
+pub two_names : (db : Database) (a b : Name) (i : database.Index) (t : database.Table) → object db a ≡ Some (AnIndex i) → object db b ≡ Some (ATable t) → is_same_name a b ≡ false
+two_names db a b i t index table = by_test (is_same_name a b) refl
+  where
+    other_object : Some (AnIndex i) ≡ Some (ATable t) → ⊥
+    other_object h = absurd cc
+
+    by_test : (same : Bool) → is_same_name a b ≡ same → same ≡ false
+    by_test true is = absurd (other_object (sym index ∙ ap (λ n. find name_order n db) (named_same a b is) ∙ table))
+    by_test false is = refl
+
+-- ---- indexes that no CREATE INDEX made
+
+-- a database of tables and indexes that a CREATE INDEX made has none that a table made
+pub no_automatic : (db : Database) (table : Name) → has_only_plain db ≡ true → automatic_indexes db table ≡ []
+no_automatic [] table only = refl
+no_automatic ((name, ATable t) ∷ es) table only = no_automatic es table only
+no_automatic ((name, AnIndex i) ∷ es) table only =
+    by_test (plain i.is_unique i.is_automatic (has_only_plain es) only) (no_automatic es table (rest (i.is_unique || i.is_automatic) (has_only_plain es) only))
+  where
+    plain : (a b c : Bool) → (not (a || b) && c) ≡ true → b ≡ false
+    plain true b c h = absurd (false≢true h)
+    plain false true c h = absurd (false≢true h)
+    plain false false c h = refl
+
+    rest : (b c : Bool) → (not b && c) ≡ true → c ≡ true
+    rest true c h = absurd (false≢true h)
+    rest false c h = h
+
+    by_test : i.is_automatic ≡ false → automatic_indexes es table ≡ [] → automatic_indexes ((name, AnIndex i) ∷ es) table ≡ []
+    by_test e more = ap (λ b. cond (b && is_same_name i.table table) ((name, AnIndex i) ∷ automatic_indexes es table) (automatic_indexes es table)) e ∙ more
+no_automatic ((name, AView v) ∷ es) table only = absurd (false≢true only)
+no_automatic ((name, ATrigger t) ∷ es) table only = absurd (false≢true only)

@@ -1,0 +1,207 @@
+-- The pages that store a database are whole, and each of them is used once: by the tree of a table or of an index, by that of the schema
+-- table, or by the freelist.
+use Rattle.std.proofs.Common.{◌≡◌, ◌∙◌, refl, sym, ap, subst, ◌<◌, ◌≤◌, ℕ, suc, List, [], ◌∷◌, ◌++◌, length, map, get_or, true, Ok, Result, Some, arith}
+use Rattle.std.specs.Prelude.{Bool, MatchOption, false, ⊤, cond, flat_map}
+use Rattle.std.proofs.lemmas.Grind.{common_steps}
+use Rattle.std.specs.FinMap.Entries.{find}
+use Rattle.std.specs.List.{AllByRecursion}
+use Rattle.db_header.proofs.HeaderLemmas.{header_again}
+use Rattle.db_header.specs.Header.{IsHeader, counted_of}
+use Rattle.db_header.specs.declared.fields.Header.{Header}
+use Rattle.freelist.specs.Freelist.{IsFreelist, pages_of}
+use Rattle.tree_leaf.specs.Leaf.{Entry}
+use Rattle.pages.proofs.Moving.{occurs_append}
+use Rattle.pages.specs.Counting.{fresh, occurs}
+use Rattle.pages.specs.Map.{AreWhole, PageMap, page_at}
+use Rattle.sqlval.specs.declared.fault.Fault.{Fault}
+use Rattle.tree_page.specs.Cells.{Pairwise}
+use Rattle.tree_table.specs.Tree.{IsTableTree}
+use Rattle.tree_index.specs.Tree.{IsIndexTree}
+use Rattle.catalog.specs.Database.{ATable, AnIndex, Database, Name, name_order, object}
+use Rattle.catalog.specs.Listed.{is_table, plain_index, plain_table, table_named}
+use Rattle.catalog.specs.Rows.{are_rows}
+use Rattle.catalog.specs.declared.tables.Index.{Index}
+use Rattle.catalog.specs.declared.tables.Table.{Table}
+use Rattle.catalog.proofs.NamedDatabases.{folded_twice}
+use Rattle.index_entries.specs.Entries.{collations, entries_of_rows}
+use Rattle.row_scan.specs.Rows.{IsRow, TableRow}
+use Rattle.db_files.specs.Contents.{HasTree, IsStoredRow, ListsEntries, ListsRows}
+use Rattle.db_files.specs.Stands.{IsHeaded, IsShared}
+use Rattle.db_layout.specs.Layout.{IsTree, HoldsUnder, Owner, used_by}
+use Rattle.db_layout.specs.Trees.{IsEntriesTree, IsRowsTree, columns_of}
+use Rattle.db_pages.specs.Reordering.{AreReordered}
+use Rattle.db_pages.specs.Schema.{IndexTold, TableTold, Tells, Told, all_told}
+use Rattle.db_pages.specs.Stored.{AreHeld, IsCounted, Stores, all_trees}
+use Rattle.db_pages.proofs.Reordering.{reordered_sym}
+use Rattle.db_pages.proofs.ReorderedPairs.{pairs_both, reordered_count, reordered_pairs}
+use Rattle.db_pages.proofs.StandingRows.{object_found, row_told, rows_told}
+use Rattle.db_pages.proofs.ToldObjects.{IsKept}
+
+-- ---- a page's header
+
+abbrev read_as : Header → Result Header Fault
+read_as h = Ok h
+
+header_is_one : (a b : Header) → read_as a ≡ read_as b → a ≡ b
+header_is_one a b e = cc
+
+-- a page begins with one header
+pub one_header : (page : List ℕ) (a b : Header) → IsHeader page a → IsHeader page b → a ≡ b
+one_header page a b is_a is_b = header_is_one a b (sym (header_again page a is_a) ∙ header_again page b is_b)
+
+-- ---- lists
+
+-- what holds of the page at each place holds of all
+all_of : (P : List ℕ → Type 0) (pages : PageMap) → ((i : ℕ) → i < length pages → P (get_or pages i [])) → AllByRecursion P pages
+all_of P [] each = tt
+all_of P (page ∷ pages) each = (each 0 (omega arith), all_of P pages (λ i lt. each (suc i) (omega (arith, lt))))
+
+-- each page of whole pages is as long as they are
+pub all_whole : (pages : PageMap) (size : ℕ) → AreWhole size pages → AllByRecursion (λ page. length page ≡ size) pages
+all_whole pages size whole = all_of (λ page. length page ≡ size) pages (λ i lt. at_place i (whole (suc i) (record { first = omega arith; last = omega (arith, lt) })))
+  where
+    at_place : (i : ℕ) → length (page_at pages (suc i)) ≡ size → length (get_or pages i []) ≡ size
+    at_place i is = ap (λ (k : ℕ). length (get_or pages k [])) (omega arith) ∙ is
+
+-- rows of a table without a column for its rowid are stored as they are
+stored_rows : (t : Table) (more rows : List TableRow) (width : ℕ) (entries : List Entry) → Pairwise (IsRow width) entries rows → Pairwise (IsStoredRow (plain_table t more)) entries rows
+stored_rows t more [] width [] each = tt
+stored_rows t more (row ∷ rows) width [] each = absurd each
+stored_rows t more [] width (entry ∷ entries) each = absurd each
+stored_rows t more (row ∷ rows) width (entry ∷ entries) each = (record { rowid = each.0.rowid; values = each.0.values }, stored_rows t more rows width entries each.1)
+
+-- the pages of each tree
+abbrev pub useds_of : List Owner → List (List ℕ)
+useds_of owners = map (λ o. o.used) owners
+
+used_flat : (owners : List Owner) → flat_map (λ used. used) (useds_of owners) ≡ used_by owners
+used_flat [] = refl
+used_flat (o ∷ owners) = ap (λ (ns : List ℕ). o.used ++ ns) (used_flat owners)
+
+fresh_there : (count n : ℕ) → 1 ≤ n → n ≤ count → fresh 0 count n ≡ 1
+fresh_there count n first last = grind (arith, common_steps)
+
+-- ---- the tree of what is told
+
+-- the tree of a table's rows, or of an index's entries
+abbrev pub IsTreeTold : (ℕ → List TableRow) → Told → Owner → Type 0
+IsTreeTold rows_at (TableTold t) owner = IsRowsTree t (rows_at t.root) owner
+IsTreeTold rows_at (IndexTold t i) owner = IsEntriesTree (rows_at t.root) i owner
+
+index_trees : (rows_at : ℕ → List TableRow) (t : Table) (is : List Index) (owners : List Owner) → Pairwise (IsEntriesTree (rows_at t.root)) is owners
+    → Pairwise (IsTreeTold rows_at) (map (λ (i : Index). IndexTold t i) is) owners
+index_trees rows_at t [] [] each = tt
+index_trees rows_at t [] (o ∷ owners) each = absurd each
+index_trees rows_at t (i ∷ is) [] each = absurd each
+index_trees rows_at t (i ∷ is) (o ∷ owners) each = (each.0, index_trees rows_at t is owners each.1)
+
+-- of all tables and indexes, in their order
+pub trees_told : (rows_at : ℕ → List TableRow) (tables : List Table) (held : List (List Owner)) → Pairwise (AreHeld rows_at) tables held
+    → Pairwise (IsTreeTold rows_at) (all_told tables) (all_trees held)
+trees_told rows_at [] [] each = tt
+trees_told rows_at [] (trees ∷ held) each = absurd each
+trees_told rows_at (t ∷ tables) [] each = absurd each
+trees_told rows_at (t ∷ tables) ([] ∷ held) each = absurd each.0.are
+trees_told rows_at (t ∷ tables) ((o ∷ owners) ∷ held) each =
+    let mine : Pairwise (IsTreeTold rows_at) (map (λ (i : Index). IndexTold t i) t.indexes) owners = index_trees rows_at t t.indexes owners each.0.are.1 in (
+      each.0.are.0,
+      pairs_both (IsTreeTold rows_at) (map (λ (i : Index). IndexTold t i) t.indexes) (all_told tables) owners (all_trees held) mine (trees_told rows_at tables held each.1),
+    )
+
+-- what holds of each pair and of each of the second list
+pub pairs_and : {A B : Type 0} (P : A → B → Type 0) (Q : B → Type 0) (xs : List A) (ys : List B) → Pairwise P xs ys → AllByRecursion Q ys → Pairwise (λ x y. P x y × Q y) xs ys
+pairs_and P Q [] [] each all = tt
+pairs_and P Q [] (y ∷ ys) each all = absurd each
+pairs_and P Q (x ∷ xs) [] each all = absurd each
+pairs_and P Q (x ∷ xs) (y ∷ ys) each all = ((each.0, all.0), pairs_and P Q xs ys each.1 all.1)
+
+-- the rows of a listed table are such as it may hold
+pub found_fit : (rows_at : ℕ → List TableRow) (name : Name) (t : Table) (tables : List Table) (held : List (List Owner)) → Pairwise (AreHeld rows_at) tables held
+    → table_named name tables ≡ Some t → are_rows (plain_table t (rows_at t.root)) ≡ true
+found_fit rows_at name t [] held each found = absurd cc
+found_fit rows_at name t (u ∷ tables) [] each found = absurd each
+found_fit rows_at name t (u ∷ tables) (trees ∷ held) each found = by_test (found_fit rows_at name t tables held each.1) (is_table name u) found
+  where
+    the_same : Some u ≡ Some t → u ≡ t
+    the_same h = cc
+
+    by_test : (table_named name tables ≡ Some t → are_rows (plain_table t (rows_at t.root)) ≡ true) → (b : Bool) → cond b (Some u) (table_named name tables) ≡ Some t
+        → are_rows (plain_table t (rows_at t.root)) ≡ true
+    by_test rest true h = subst (λ (v : Table). are_rows (plain_table v (rows_at v.root)) ≡ true) (the_same h) each.0.fit
+    by_test rest false h = rest h
+
+-- ---- the parts of the file
+
+module _ (pages : PageMap) (size : ℕ) (tables : List Table) (db : Database) (stored : Stores pages size tables db) where
+  pub is_headed : IsCounted pages → IsHeaded size pages stored.header
+  is_headed counted = record {
+    header_is = stored.header_is;
+    size_is = stored.sized;
+    whole = all_whole pages size stored.shared.whole;
+    counted = subst (λ (h : Header). MatchOption (counted_of h) (⊤) (λ count. count ≡ length pages))
+        (one_header (page_at pages 1) counted.header stored.header counted.header_is stored.header_is) counted.counted;
+  }
+
+  -- the tree of a table lists its rows
+  table_rows : (t : Table) (o : Owner) → IsRowsTree t (stored.rows_at t.root) o → IsTree pages size o → ListsRows pages size t.root (plain_table t (stored.rows_at t.root)) o.used
+  table_rows t o is tree = record {
+    entries = is.entries;
+    tree = subst (λ (root : ℕ). IsTableTree pages size root is.entries o.used) is.root_is (subst (HoldsUnder pages size o.root o.used) is.content_is tree);
+    rows = stored_rows t (stored.rows_at t.root) (stored.rows_at t.root) (length t.columns) is.entries is.each;
+  }
+
+  -- the tree of an index lists the entries of its table's rows
+  index_entries : (t : Table) (i : Index) (o : Owner) → IsEntriesTree (stored.rows_at t.root) i o → IsTree pages size o → object db t.name ≡ Some (ATable (plain_table t (stored.rows_at t.root)))
+      → ListsEntries pages size i.root db (plain_index t i) o.used
+  index_entries t i o is tree on = record {
+    t = plain_table t (stored.rows_at t.root);
+    on = ap (λ (n : Name). find name_order n db) (folded_twice t.name) ∙ on;
+    tree = subst (λ (root : ℕ). IsIndexTree pages size root (collations (columns_of i)) (entries_of_rows (columns_of i) (stored.rows_at t.root)) o.used) is.root_is
+        (subst (HoldsUnder pages size o.root o.used) is.content_is tree);
+  }
+
+  told_tree : (one : Told) (row : Entry) (o : Owner) (tells : Tells (length pages) one row) → IsKept stored.rows_at db one → IsTreeTold stored.rows_at one o × IsTree pages size o
+      → HasTree pages size db (row_told (length pages) one row tells) o.used
+  told_tree (TableTold t) row o tells kept tree = record {
+    is = ATable (plain_table t (stored.rows_at t.root));
+    found = object_found stored.rows_at db stored.of_tables.only (length pages) (TableTold t) row tells kept;
+    lists = table_rows t o tree.0 tree.1;
+  }
+  told_tree (IndexTold t i) row o tells kept tree = record {
+    is = AnIndex (plain_index t i);
+    found = object_found stored.rows_at db stored.of_tables.only (length pages) (IndexTold t i) row tells kept;
+    lists = index_entries t i o tree.0 tree.1 kept.1;
+  }
+
+  pub told_trees : (told : List Told) (rows : List Entry) (owners : List Owner) (tell : Pairwise (Tells (length pages)) told rows) → AllByRecursion (IsKept stored.rows_at db) told
+      → Pairwise (λ one o. IsTreeTold stored.rows_at one o × IsTree pages size o) told owners → Pairwise (HasTree pages size db) (rows_told (length pages) told rows tell) (useds_of owners)
+  told_trees [] rows [] tell kept trees = tt
+  told_trees [] rows (o ∷ owners) tell kept trees = absurd trees
+  told_trees (one ∷ told) [] owners tell kept trees = absurd tell
+  told_trees (one ∷ told) (row ∷ rows) [] tell kept trees = absurd trees
+  told_trees (one ∷ told) (row ∷ rows) (o ∷ owners) tell kept trees = (told_tree one row o tell.0 kept.0 trees.0, told_trees told rows owners tell.1 kept.1 trees.1)
+
+  -- the trees in the order of the rows that tell them
+  pub in_order_told : (owners : List Owner) × Pairwise (λ one o. IsTreeTold stored.rows_at one o × IsTree pages size o) stored.tell.told owners × AreReordered (all_trees stored.held) owners
+  in_order_told =
+      reordered_pairs (λ one o. IsTreeTold stored.rows_at one o × IsTree pages size o) (all_told tables) (all_trees stored.held) stored.tell.told
+      (pairs_and (IsTreeTold stored.rows_at) (IsTree pages size) (all_told tables) (all_trees stored.held) (trees_told stored.rows_at tables stored.held stored.each) stored.shared.trees.1)
+      (reordered_sym stored.tell.told (all_told tables) stored.tell.all)
+
+  pub is_freelist : IsFreelist pages size stored.header.freelist_trunk stored.header.freelist_count stored.shared.has.trunks
+  is_freelist = subst (λ (h : Header). IsFreelist pages size h.freelist_trunk h.freelist_count stored.shared.has.trunks)
+      (one_header (page_at pages 1) stored.shared.has.header stored.header stored.shared.has.header_is stored.header_is) stored.shared.has.listed
+
+  -- each page is used once
+  pub is_shared : (owners : List Owner) → AreReordered (all_trees stored.held) owners → IsShared pages (stored.schema_used ++ (flat_map (λ used. used) (useds_of owners) ++ pages_of stored.shared.has.trunks))
+  is_shared owners same = record {
+    once = λ n has. (let all = occurs_append n stored.schema_used (flat_map (λ used. used) (useds_of owners) ++ pages_of stored.shared.has.trunks) in
+        let rest = occurs_append n (flat_map (λ used. used) (useds_of owners)) (pages_of stored.shared.has.trunks) in
+        let trees = ap (occurs n) (used_flat owners) in
+        let moved = reordered_count n (λ (o : Owner). o.used) (all_trees stored.held) owners same in
+        let both = occurs_append n stored.schema_used (used_by (all_trees stored.held)) in
+        let free = stored.shared.has.free_is n in
+        let once = stored.shared.once n in
+        let one = fresh_there (length pages) n has.first has.last in
+        omega (arith, all, rest, trees, moved, both, free, once, one));
+  }

@@ -1,0 +1,268 @@
+-- What the rows of the schema table tell: tables with their rows and trees, and indexes with theirs.
+use Rattle.std.proofs.Common.{◌≡◌, ◌==◌, refl, sym, ap, subst, ◌∙◌, ℕ, ℤ, true, List, [], ◌∷◌, ◌++◌, length, map, Option, Some, None, inl, inr}
+use Rattle.std.proofs.lemmas.Bool.{eqb-true, false≢true}
+use Rattle.std.proofs.lemmas.List.{length-map}
+use Rattle.std.specs.FinMap.Entries.{find}
+use Rattle.std.specs.List.{AllByRecursion, flat_map, list_all}
+use Rattle.sqlval.specs.Names.{folded}
+use Rattle.record.specs.Record.{IsRecord}
+use Rattle.tree_leaf.specs.Leaf.{Entry}
+use Rattle.pages.specs.Map.{PageMap}
+use Rattle.tree_page.specs.Cells.{Pairwise}
+use Rattle.tree_table.specs.Tree.{IsTableTree}
+use Rattle.tree_index.specs.Entries.{Entry as IndexEntry}
+use Rattle.tree_index.specs.Tree.{IsIndexTree}
+use Rattle.index_entries.specs.Entries.{Columns, collations, entries_of_rows}
+use Rattle.catalog.specs.Database as database
+use Rattle.catalog.specs.Database.{Name, Database, Object, ATable, AnIndex, AView, ATrigger, name_order, object}
+use Rattle.catalog.specs.Listed.{plain_column, plain_table}
+use Rattle.catalog.specs.Rows.{are_rows, holds_rows, is_in_order, is_row}
+use Rattle.catalog.specs.declared.tables.Index.{Index}
+use Rattle.catalog.specs.declared.tables.Table.{Table}
+use Rattle.query_names.proofs.ColumnNames.{folded_twice}
+use Rattle.db_files.specs.Contents.{HasPages, HasTree, IsStoredRow, ListsEntries, ListsRows, stored}
+use Rattle.db_files.specs.Schema.{IsSchemaEntry, SchemaRow, IsRowOfObject, IsSchemaRowOf}
+use Rattle.db_layout.specs.Layout.{OfEntries, OfRows, Owner, used_by}
+use Rattle.db_layout.specs.Trees.{columns_of}
+use Rattle.row_scan.specs.Rows.{IsRow, TableRow}
+use Rattle.db_pages.specs.Language.{supported_language}
+use Rattle.db_pages.proofs.StoredNames.{first_of, found_among, same_some, second_of}
+use Rattle.db_pages.proofs.StoredDefinitions.{IsTold, table_of, told}
+use Rattle.db_pages.proofs.StoredIndexes.{IsIndexTold, index_of, index_told, same_keys}
+
+-- ---- listings
+
+-- a table, its rows, its tree, and the schema's row that tells it
+pub record Listing : Type 0 where
+  pub table : Table
+  pub content : List TableRow
+  pub entries : List Entry
+  pub used : List ℕ
+  pub row : SchemaRow
+
+-- an index, the name of its table, its tree, and the schema's row that tells it
+pub record IndexListing : Type 0 where
+  pub index : Index
+  pub on : Name
+  pub entries : List IndexEntry
+  pub used : List ℕ
+  pub row : SchemaRow
+
+-- one or the other
+pub data Item : Type 0 where
+  TableItem : Listing → Item
+  IndexItem : IndexListing → Item
+
+-- of a table, or of an index
+abbrev pub either : {X : Type 0} → (Listing → X) → (IndexListing → X) → Item → X
+either f g (TableItem l) = f l
+either f g (IndexItem l) = g l
+
+-- The database has the table with these rows, which are such as it may hold and stand in its tree.
+pub record IsListing (pages : PageMap) (size : ℕ) (db : Database) (l : Listing) : Type 0 where
+  pub t : database.Table
+  pub says : IsTold l.row t
+  pub table_is : l.table ≡ table_of says.definition l.row.root l.table.rowid
+  pub found : object db l.row.name ≡ Some (ATable (plain_table l.table l.content))
+  pub fit : are_rows (plain_table l.table l.content) ≡ true
+  pub tree : IsTableTree pages size l.table.root l.entries l.used
+  pub each : Pairwise (IsRow (length l.table.columns)) l.entries l.content
+
+-- The database has the index, and its tree has the entries of its table's rows.
+pub record IsIndexListing (pages : PageMap) (size : ℕ) (db : Database) (l : IndexListing) : Type 0 where
+  pub i : database.Index
+  pub says : IsIndexTold db l.row i
+  pub index_is : l.index ≡ index_of says.definition i.columns l.row.root l.index.rowid
+  pub on_is : l.on ≡ says.definition.table
+  pub found : object db l.row.name ≡ Some (AnIndex i)
+  pub tree : IsIndexTree pages size l.index.root (collations (columns_of l.index)) l.entries l.used
+  pub entries_are : l.entries ≡ entries_of_rows (columns_of l.index) says.t.rows
+
+abbrev pub IsItem : PageMap → ℕ → Database → Item → Type 0
+IsItem pages size db (TableItem l) = IsListing pages size db l
+IsItem pages size db (IndexItem l) = IsIndexListing pages size db l
+
+abbrev pub row_of : Item → SchemaRow
+row_of (TableItem l) = l.row
+row_of (IndexItem l) = l.row
+
+abbrev pub rowid_of : Item → ℤ
+rowid_of (TableItem l) = l.table.rowid
+rowid_of (IndexItem l) = l.index.rowid
+
+-- its tree
+abbrev pub listed_tree : Listing → Owner
+listed_tree l = record { root = l.table.root; content = OfRows l.entries; used = l.used }
+
+abbrev pub index_tree : IndexListing → Owner
+index_tree l = record { root = l.index.root; content = OfEntries (collations (columns_of l.index)) l.entries; used = l.used }
+
+abbrev pub owner_of : Item → Owner
+owner_of item = either listed_tree index_tree item
+
+-- the rows, and the trees of all
+abbrev pub rows_in : List Item → List SchemaRow
+rows_in items = map row_of items
+
+abbrev pub owners_in : List Item → List Owner
+owners_in items = map owner_of items
+
+-- ---- rows
+
+-- what the entries of a leaf are is what they are as rows of so many values
+rows_so : (t : database.Table) (width : ℕ) (entries : List Entry) (rows : List TableRow) → t.rowid_column ≡ None → length t.columns ≡ width → list_all (is_row t) rows ≡ true
+    → Pairwise (IsStoredRow t) entries rows → Pairwise (IsRow width) entries rows
+rows_so t width [] [] plain wide fit are = tt
+rows_so t width [] (row ∷ rows) plain wide fit are = absurd are
+rows_so t width (entry ∷ entries) [] plain wide fit are = absurd are
+rows_so t width (entry ∷ entries) (row ∷ rows) plain wide fit are =
+    let first : is_row t row ≡ true = first_of (is_row t row) (list_all (is_row t) rows) fit in
+    let full : (length row.1 == length t.columns) ≡ true = second_of _ (length row.1 == length t.columns) (first_of _ _ (first_of _ _ first)) in (
+      record {
+        rowid = are.0.rowid;
+        values = subst (λ (place : Option ℕ). IsRecord entry.payload (stored place row.1)) plain are.0.values;
+        full = eqb-true _ _ full ∙ wide;
+      },
+      rows_so t width entries rows plain wide (second_of (is_row t row) (list_all (is_row t) rows) fit) are.1,
+    )
+
+all_hold : (es : Database) → list_all (λ o. holds_rows o.1) es ≡ true → AllByRecursion (λ e. holds_rows e.1 ≡ true) es
+all_hold [] h = tt
+all_hold (e ∷ es) h = (first_of (holds_rows e.1) _ h, all_hold es (second_of (holds_rows e.1) _ h))
+
+-- ---- the row of a table
+
+-- a table of the database, as its row in the schema table and its tree tell it
+module _ (pages : PageMap) (size : ℕ) (db : Database) (in_order : is_in_order db ≡ true) (row : SchemaRow) (t : database.Table)
+    (found : object db row.name ≡ Some (ATable t)) (says : IsTold row t) (used : List ℕ) (lists : ListsRows pages size row.root t used) (rowid : ℤ) where
+  abbrev pub its_listing : Listing
+  its_listing = record { table = table_of says.definition row.root rowid; content = t.rows; entries = lists.entries; used = used; row = row }
+
+  made : t ≡ plain_table its_listing.table t.rows
+  made = says.made row.root rowid
+
+  fit_rows : are_rows t ≡ true
+  fit_rows = found_among (λ o. holds_rows o ≡ true) db (folded row.name) (ATable t) (all_hold db (second_of _ (list_all (λ o. holds_rows o.1) db) in_order)) found
+
+  wide : length t.columns ≡ length its_listing.table.columns
+  wide = ap (λ (x : database.Table). length x.columns) made ∙ length-map its_listing.table.columns plain_column
+
+  pub is_listing : IsListing pages size db its_listing
+  is_listing = record {
+    t = t;
+    says = says;
+    table_is = refl;
+    found = found ∙ ap (λ (x : database.Table). Some (ATable x)) made;
+    fit = subst (λ (x : database.Table). are_rows x ≡ true) made fit_rows;
+    tree = lists.tree;
+    each = rows_so t _ lists.entries t.rows (ap (λ (x : database.Table). x.rowid_column) made) wide (second_of _ (list_all (is_row t) t.rows) fit_rows) lists.rows;
+  }
+
+-- ---- the row of an index
+
+same_table : (s t : database.Table) → Some (ATable s) ≡ Some (ATable t) → s ≡ t
+same_table s t e = cc
+
+-- an index of the database, as its row in the schema table and its tree tell it
+module _ (pages : PageMap) (size : ℕ) (db : Database) (row : SchemaRow) (i : database.Index)
+    (found : object db row.name ≡ Some (AnIndex i)) (says : IsIndexTold db row i) (used : List ℕ) (lists : ListsEntries pages size row.root db i used) (rowid : ℤ) where
+  abbrev pub its_index : IndexListing
+  its_index = record {
+    index = index_of says.definition i.columns row.root rowid;
+    on = says.definition.table;
+    entries = entries_of_rows i.columns lists.t.rows;
+    used = used;
+    row = row;
+  }
+
+  columns_are : columns_of its_index.index ≡ i.columns
+  columns_are = same_keys i.columns
+
+  -- its table is the one that stands in its text
+  same_on : lists.t ≡ says.t
+  same_on =
+      same_table lists.t says.t
+      (sym lists.on ∙ (ap (λ (j : database.Index). object db j.table) says.index_is ∙ (ap (λ (n : Name). find name_order n db) (folded_twice says.definition.table) ∙ says.on)))
+
+  pub is_index : IsIndexListing pages size db its_index
+  is_index = record {
+    i = i;
+    says = says;
+    index_is = refl;
+    on_is = refl;
+    found = found;
+    tree = subst (λ (columns : Columns). IsIndexTree pages size row.root (collations columns) its_index.entries used) (sym columns_are) lists.tree;
+    entries_are =
+        ap (λ (t : database.Table). entries_of_rows i.columns t.rows) same_on
+        ∙ ap (λ (columns : Columns). entries_of_rows columns says.t.rows) (sym columns_are);
+  }
+
+-- ---- all rows of the schema table
+
+-- its row has the rowid of this entry
+abbrev pub IsEntryOf : Entry → Item → Type 0
+IsEntryOf entry item = entry.rowid ≡ rowid_of item
+
+-- what the rows tell, on these pages
+pub record AreListings (pages : PageMap) (size : ℕ) (db : Database) (entries : List Entry) (rows : List SchemaRow) (useds : List (List ℕ)) : Type 0 where
+  pub items : List Item
+  pub rows_are : rows_in items ≡ rows
+  pub each : AllByRecursion (IsItem pages size db) items
+  pub used : flat_map (λ used. used) useds ≡ used_by (owners_in items)
+  pub at_rowids : Pairwise IsEntryOf entries items
+
+-- no table has an automatic index
+abbrev pub NoneAutomatic : Database → Type 0
+NoneAutomatic db = (q : Name) (i : database.Index) (t : database.Table) → find name_order q db ≡ Some (AnIndex i) → i.is_automatic ≡ true → object db i.table ≡ Some (ATable t) → ⊥
+
+-- what a row tells
+record Tells (pages : PageMap) (size : ℕ) (db : Database) (rowid : ℤ) (row : SchemaRow) (used : List ℕ) : Type 0 where
+  item : Item
+  is : IsItem pages size db item
+  row_is : row_of item ≡ row
+  used_is : used ≡ (owner_of item).used
+  rowid_is : rowid ≡ rowid_of item
+
+tells : (pages : PageMap) (size : ℕ) (db : Database) → is_in_order db ≡ true → NoneAutomatic db → (rowid : ℤ) (row : SchemaRow) (used : List ℕ) (o : Object) → object db row.name ≡ Some o
+    → IsRowOfObject supported_language db row o → HasPages pages size row.root db o used → Tells pages size db rowid row used
+tells pages size db in_order none rowid row used (ATable t) found says lists =
+    let is = told db row t says in
+    record {
+      item = TableItem (its_listing pages size db in_order row t found is used lists rowid);
+      is = is_listing pages size db in_order row t found is used lists rowid;
+      row_is = refl;
+      used_is = refl;
+      rowid_is = refl;
+    }
+tells pages size db in_order none rowid row used (AnIndex i) found (inl says) lists =
+    let is = index_told db row i says in
+    record {
+      item = IndexItem (its_index pages size db row i found is used lists rowid);
+      is = is_index pages size db row i found is used lists rowid;
+      row_is = refl;
+      used_is = refl;
+      rowid_is = refl;
+    }
+tells pages size db in_order none rowid row used (AnIndex i) found (inr says) lists = absurd (none (folded row.name) i says.t found says.is_automatic says.on)
+tells pages size db in_order none rowid row used (AView v) found says lists = absurd (false≢true says.text.creates.1)
+tells pages size db in_order none rowid row used (ATrigger t) found says lists = absurd (false≢true says.text.creates.1)
+
+pub listings : (pages : PageMap) (size : ℕ) (db : Database) → is_in_order db ≡ true → NoneAutomatic db → (entries : List Entry) (rows : List SchemaRow) (useds : List (List ℕ))
+    → Pairwise IsSchemaEntry entries rows → AllByRecursion (IsSchemaRowOf supported_language db) rows → Pairwise (HasTree pages size db) rows useds → AreListings pages size db entries rows useds
+listings pages size db in_order none (entry ∷ entries) [] useds read each trees = absurd read
+listings pages size db in_order none [] (row ∷ rows) useds read each trees = absurd read
+listings pages size db in_order none [] [] [] read each trees = record { items = []; rows_are = refl; each = tt; used = refl; at_rowids = tt }
+listings pages size db in_order none [] [] (used ∷ useds) read each trees = absurd trees
+listings pages size db in_order none (entry ∷ entries) (row ∷ rows) [] read each trees = absurd trees
+listings pages size db in_order none (entry ∷ entries) (row ∷ rows) (used ∷ useds) read each trees =
+    let more : AreListings pages size db entries rows useds = listings pages size db in_order none entries rows useds read.1 each.1 trees.1 in
+    let same : trees.0.is ≡ each.0.is = same_some trees.0.is each.0.is (sym trees.0.found ∙ each.0.found) in
+    let first : Tells pages size db entry.rowid row used =
+    tells pages size db in_order none entry.rowid row used each.0.is each.0.found each.0.says (subst (λ (o : Object). HasPages pages size row.root db o used) same trees.0.lists) in
+    record {
+      items = first.item ∷ more.items;
+      rows_are = ap (λ (r : SchemaRow). r ∷ rows_in more.items) first.row_is ∙ ap (λ (rs : List SchemaRow). row ∷ rs) more.rows_are;
+      each = (first.is, more.each);
+      used = ap (λ (ns : List ℕ). ns ++ flat_map (λ ms. ms) useds) first.used_is ∙ ap (λ (ns : List ℕ). (owner_of first.item).used ++ ns) more.used;
+      at_rowids = (first.rowid_is, more.at_rowids);
+    }

@@ -1,0 +1,268 @@
+-- The database of the tables and indexes that the schema's rows tell: its objects, by their names.
+use Rattle.std.proofs.Common.{◌≡◌, refl, sym, ap, ap₂, subst, ◌∙◌, ℕ, Bool, true, false, not, ◌&&◌, ◌||◌, cond, List, [], ◌∷◌, ◌++◌, map, flat_map, Option, Some, None}
+use Rattle.std.proofs.lemmas.Bool.{false≢true}
+use Rattle.std.specs.FinMap.Entries.{find}
+use Rattle.std.specs.List as list
+use Rattle.std.specs.List.{AllByRecursion, list_all, list_any}
+use Rattle.std.specs.Prelude.{option_map}
+use Rattle.sqlval.specs.Lists.{any_twice, is_rising, sorted}
+use Rattle.sqlval.specs.Names.{folded, is_same_name}
+use Rattle.pages.specs.Map.{PageMap}
+use Rattle.catalog.specs.Database as database
+use Rattle.catalog.specs.Database.{Name, Database, Object, ATable, AnIndex, name_order, object}
+use Rattle.catalog.specs.Listed.{Lists, are_named_once, has_only_plain, index_objects, is_plain_object, named_among, names_of, plain_index, plain_table, table_named}
+use Rattle.catalog.specs.Named.{IsNamed, IsOfTables}
+use Rattle.catalog.specs.Rows.{holds_rows, is_in_order}
+use Rattle.catalog.specs.declared.tables.Index.{Index}
+use Rattle.catalog.specs.declared.tables.Table.{Table}
+use Rattle.catalog.proofs.Found.{as_object, index_found, listed_as}
+use Rattle.query_names.proofs.ColumnNames.{folded_twice}
+use Rattle.db_files.specs.Schema.{SchemaRow, IsRowOfObject, IsSchemaRowOf, IsTableRow}
+use Rattle.db_layout.specs.Trees.{columns_of}
+use Rattle.row_scan.specs.Rows.{TableRow}
+use Rattle.db_pages.specs.Language.{supported_language}
+use Rattle.db_pages.proofs.Reordering.{reordered_all, reordered_map}
+use Rattle.db_pages.proofs.StoredShares.{AllApart, GoesWithOne, apart_reordered, theirs}
+use Rattle.db_pages.proofs.StoredNames.{Misses, all_sorted, each_found, first_of, missed, names_in, rising_different, named_same, same_named, same_some, some_is_none}
+use Rattle.db_pages.proofs.StoredDefinitions.{no_automatic}
+use Rattle.db_pages.proofs.StoredIndexes.{same_keys}
+use Rattle.db_pages.proofs.StoredListings.{IndexItem, IndexListing, IsIndexListing, IsItem, IsListing, Item, Listing, NoneAutomatic, TableItem, either, row_of, rows_in}
+use Rattle.db_pages.proofs.StoredApart.{NamesApart, RootsApart, Stands, all_both, all_joined, all_parts, all_so, all_stand, content_at, from_map, index_row_named, indexes_among, of_indexes, of_items, of_tables, onto_map, onto_names, other_name, row_named, row_names, tables_among}
+use Rattle.db_pages.proofs.StoredHomes.{HasHome, IsFoundWith, IsHome, all_theirs, found_with, home, is_on, none_named, on_one, tables_in, with_indexes}
+use Rattle.db_pages.proofs.StoredOrders.{index_name, names_reordered, table_name}
+
+-- ---- names of rows and of objects
+
+-- the names of the objects are those of the rows
+abbrev pub IsNamedBy : List SchemaRow → Database → Type 0
+IsNamedBy rows db = sorted name_order (row_names rows) ≡ names_in db
+
+pub all_names : (P : Name → Type 0) (rows : List SchemaRow) (db : Database) → IsNamedBy rows db → AllByRecursion P (row_names rows) → AllByRecursion P (names_in db)
+all_names P rows db names h = subst (AllByRecursion P) names (all_sorted P (row_names rows) h)
+
+-- a name that no row has finds nothing
+pub missed_by : (db : Database) (rows : List SchemaRow) → IsNamedBy rows db → (q : Name) → Misses q (row_names rows) → find name_order q db ≡ None
+missed_by db rows names q none = missed db q (all_names (λ n. q ≡ n → ⊥) rows db names none)
+
+onto_objects : (P : Name → Type 0) (es : Database) → AllByRecursion P (names_in es) → AllByRecursion (λ e. P e.0) es
+onto_objects P [] h = tt
+onto_objects P (e ∷ es) h = (h.0, onto_objects P es h.1)
+
+-- ---- no automatic indexes
+
+-- a table's row by the object that it has
+row_of_table : (db : Database) (row : SchemaRow) (t : database.Table) → object db row.name ≡ Some (ATable t) → IsSchemaRowOf supported_language db row → IsTableRow supported_language db row t
+row_of_table db row t found is = subst (IsRowOfObject supported_language db row) (same_some is.is (ATable t) (sym is.found ∙ found)) is.says
+
+off_rows : (db : Database) (rows : List SchemaRow) (q : Name) (i : database.Index) (t : database.Table) → find name_order q db ≡ Some (AnIndex i) → i.is_automatic ≡ true → object db i.table ≡ Some (ATable t)
+    → AllByRecursion (IsSchemaRowOf supported_language db) rows → Misses (folded i.table) (row_names rows)
+off_rows db [] q i t found automatic_is on each = tt
+off_rows db (row ∷ rows) q i t found automatic_is on each = (
+  (λ same. no_automatic db row t (row_of_table db row t (subst (λ (n : Name). find name_order n db ≡ Some (ATable t)) same on) each.0) q i found automatic_is same),
+  off_rows db rows q i t found automatic_is on each.1,
+)
+
+pub none_automatic : (db : Database) (rows : List SchemaRow) → IsNamedBy rows db → AllByRecursion (IsSchemaRowOf supported_language db) rows → NoneAutomatic db
+none_automatic db rows names each q i t found automatic_is on =
+    some_is_none (ATable t) (sym on ∙ missed_by db rows names (folded i.table) (off_rows db rows q i t found automatic_is on each))
+
+-- ---- the database
+
+-- These are the tables and indexes of the database, and each table has a tree of its own.
+pub record AreObjects (pages : PageMap) (size : ℕ) (db : Database) (items : List Item) : Type 0 where
+  pub each : AllByRecursion (IsItem pages size db) items
+  pub apart : AllApart (row_names (rows_in items))
+  pub tables_apart : NamesApart (tables_among items)
+  pub roots : RootsApart (tables_among items)
+  pub names : IsNamedBy (rows_in items) db
+  pub in_order : is_in_order db ≡ true
+
+abbrev IsPlain : Object → Type 0
+IsPlain o = is_plain_object o ≡ true
+
+all_plain : (es : Database) → AllByRecursion (λ e. IsPlain e.1) es → has_only_plain es ≡ true
+all_plain [] h = refl
+all_plain (e ∷ es) h = subst (λ b. (b && list_all (λ (o : Name × Object). is_plain_object o.1) es) ≡ true) (sym h.0) (all_plain es h.1)
+
+-- an index under its name
+abbrev object_of : List IndexListing → Listing → IndexListing → Name × Object
+object_of indexes l i = (i.index.name, AnIndex (plain_index (with_indexes indexes l) i.index))
+
+-- the database has the object under its name
+abbrev IsObject : Database → Name × Object → Type 0
+IsObject db o = object db o.0 ≡ Some o.1
+
+-- what is found among objects of the database is found there
+found_object : (db : Database) (name : Name) (objects : List (Name × Object)) (o : Object) → AllByRecursion (IsObject db) objects → named_among name objects ≡ Some o → object db name ≡ Some o
+found_object db name [] o all found = some_is_none o (sym found)
+found_object db name (x ∷ objects) o all found = by_test (found_object db name objects o all.1) (is_same_name x.0 name) refl found
+  where
+    by_test : (named_among name objects ≡ Some o → object db name ≡ Some o) → (b : Bool) → is_same_name x.0 name ≡ b
+        → option_map (λ (y : Name × Object). y.1) (cond b (Some x) (list.find (λ (y : Name × Object). is_same_name y.0 name) objects)) ≡ Some o → object db name ≡ Some o
+    by_test rest true is found = ap (λ n. find name_order n db) (sym (named_same x.0 name is)) ∙ (all.0 ∙ found)
+    by_test rest false is found = rest found
+
+-- where none is found under a name, no index has it
+abbrev Others : Name → Name → Type 0
+Others name other = folded other ≡ folded name → ⊥
+
+none_of_table : (name : Name) (t : Table) (is : List Index) (os : List (Name × Object)) → named_among name (map (λ (i : Index). (i.name, AnIndex (plain_index t i))) is ++ os) ≡ None
+    → AllByRecursion (Others name) (map (λ (i : Index). i.name) is) × (named_among name os ≡ None)
+none_of_table name t [] os none = (tt, none)
+none_of_table name t (i ∷ is) os none = by_test (none_of_table name t is os) (is_same_name i.name name) refl none
+  where
+    by_test : (named_among name (map (λ (i : Index). (i.name, AnIndex (plain_index t i))) is ++ os) ≡ None → AllByRecursion (Others name) (map (λ (i : Index). i.name) is) × (named_among name os ≡ None))
+        → (b : Bool) → is_same_name i.name name ≡ b
+        → option_map (λ (y : Name × Object). y.1) (cond b (Some (i.name, AnIndex (plain_index t i)))
+        (list.find (λ (y : Name × Object). is_same_name y.0 name) (map (λ (i : Index). (i.name, AnIndex (plain_index t i))) is ++ os))) ≡ None
+        → AllByRecursion (Others name) (map (λ (i : Index). i.name) (i ∷ is)) × (named_among name os ≡ None)
+    by_test rest true is none = some_is_none (AnIndex (plain_index t i)) none
+    by_test rest false is none = (let both = rest none in (((λ same. false≢true (sym is ∙ same_named i.name name same)), both.0), both.1))
+
+none_of_tables : (name : Name) (tables : List Table) → index_found name tables ≡ None → AllByRecursion (Others name) (flat_map (λ t. map (λ i. i.name) t.indexes) tables)
+none_of_tables name [] none = tt
+none_of_tables name (t ∷ tables) none =
+    let both = none_of_table name t t.indexes (flat_map index_objects tables) none in
+    all_joined (Others name) (map (λ i. i.name) t.indexes) (flat_map (λ t. map (λ i. i.name) t.indexes) tables) both.0 (none_of_tables name tables both.1)
+
+-- names whose folded ones differ
+any_named : (name : Name) (names : List Name) → AllByRecursion (λ n. folded name ≡ n → ⊥) (map folded names) → list_any (is_same_name name) names ≡ false
+any_named name [] misses = refl
+any_named name (n ∷ names) misses =
+    ap (λ b. b || list_any (is_same_name name) names) (other_name name n misses.0) ∙ any_named name names misses.1
+
+named_once : (names : List Name) → AllApart (map folded names) → any_twice is_same_name names ≡ false
+named_once [] apart = refl
+named_once (n ∷ names) apart =
+    ap (λ b. b || any_twice is_same_name names) (any_named n names apart.0) ∙ named_once names apart.1
+
+module _ (pages : PageMap) (size : ℕ) (db : Database) (items : List Item) (are : AreObjects pages size db items) where
+  abbrev tables : List Listing
+  tables = tables_among items
+
+  abbrev indexes : List IndexListing
+  indexes = indexes_among items
+
+  each_table : AllByRecursion (IsListing pages size db) tables
+  each_table = of_tables (IsItem pages size db) items are.each
+
+  pub each_index : AllByRecursion (IsIndexListing pages size db) indexes
+  each_index = of_indexes (IsItem pages size db) items are.each
+
+  pub stand : AllByRecursion (Stands pages size db tables) tables
+  stand = all_stand pages size db tables each_table are.roots
+
+  homes_are : AllByRecursion (IsHome items) indexes
+  homes_are =
+      all_so (IsIndexListing pages size db) (IsHome items) (home pages size db items are.each (missed_by db (rows_in items) are.names)) indexes each_index
+
+  pub homes_all : AllByRecursion (HasHome items) items
+  homes_all = of_items (HasHome items) items (all_so (IsListing pages size db) (λ l. HasHome items (TableItem l)) (λ l is. tt) tables each_table) homes_are
+
+  -- each index is on one table
+  pub on_ones : AllByRecursion (λ i. GoesWithOne is_on i tables) indexes
+  on_ones = all_so (IsHome items) (λ i. GoesWithOne is_on i tables) (λ i is. on_one indexes i tables is.t are.tables_apart is.found) indexes homes_are
+
+  pub named : IsNamed db
+  named = record {
+    rising = first_of (is_rising name_order (names_in db)) (list_all (λ o. holds_rows o.1) db) are.in_order;
+    each_folded =
+        onto_objects (λ n. folded n ≡ n) db (all_names (λ n. folded n ≡ n) (rows_in items) db are.names
+        (onto_names (λ n. folded n ≡ n) items (all_so (IsItem pages size db) (λ item. folded (folded (row_of item).name) ≡ folded (row_of item).name) (λ item is. folded_twice (row_of item).name) items are.each)));
+  }
+
+  -- ---- plain objects
+
+  plain_item : (item : Item) → IsItem pages size db item → (o : Object) → find name_order (folded (row_of item).name) db ≡ Some o → IsPlain o
+  plain_item (TableItem l) is o found = subst IsPlain (same_some (ATable (plain_table l.table l.content)) o (sym is.found ∙ found)) refl
+  plain_item (IndexItem l) is o found =
+      subst IsPlain (same_some (AnIndex is.i) o (sym is.found ∙ found)) (subst (λ (i : database.Index). IsPlain (AnIndex i)) (sym is.says.index_is) refl)
+
+  pub only : has_only_plain db ≡ true
+  only =
+      all_plain db (all_both (λ e. find name_order e.0 db ≡ Some e.1) (λ e. (o : Object) → find name_order e.0 db ≡ Some o → IsPlain o) (λ e. IsPlain e.1) (λ e found is. is e.1 found) db
+      (each_found (λ q o. find name_order q db ≡ Some o) db (rising_different (names_in db) named.rising) (λ q o found. found))
+      (onto_objects (λ n. (o : Object) → find name_order n db ≡ Some o → IsPlain o) db (all_names (λ n. (o : Object) → find name_order n db ≡ Some o → IsPlain o) (rows_in items) db are.names
+      (onto_names (λ n. (o : Object) → find name_order n db ≡ Some o → IsPlain o) items
+      (all_so (IsItem pages size db) (λ item. (o : Object) → find name_order (folded (row_of item).name) db ≡ Some o → IsPlain o) plain_item items are.each)))))
+
+  -- ---- tables and indexes by their names
+
+  -- the table of an index is the one that it is on
+  pub same_on : (l : Listing) (i : IndexListing) → IsListing pages size db l → (is : IsIndexListing pages size db i) → is_on l i ≡ true → folded l.table.name ≡ folded is.says.definition.table
+  same_on l i table is on = named_same l.table.name i.on on ∙ ap folded is.on_is
+
+  index_is : (l : Listing) (i : IndexListing) → IsListing pages size db l → IsIndexListing pages size db i → is_on l i ≡ true → IsObject db (object_of indexes l i)
+  index_is l i table is on =
+      ap (λ n. find name_order n db) (sym (index_row_named pages size db i is))
+      ∙ (is.found ∙ (ap (λ (j : database.Index). Some (AnIndex j)) is.says.index_is
+      ∙ (ap (λ n. Some (AnIndex (record { table = n; is_unique = false; is_automatic = false; columns = is.i.columns }))) (sym (same_on l i table is on))
+      ∙ ap (λ columns. Some (AnIndex (record { table = folded l.table.name; is_unique = false; is_automatic = false; columns = columns })))
+      (sym (ap (λ (j : Index). columns_of j) is.index_is ∙ same_keys is.i.columns)))))
+
+  -- all indexes are objects of the database
+  indexes_are : AllByRecursion (IsObject db) (flat_map index_objects (tables_in items))
+  indexes_are =
+      all_parts (IsObject db) index_objects (tables_in items)
+      (onto_map (λ t. AllByRecursion (IsObject db) (index_objects t)) (with_indexes indexes) tables
+      (all_so (IsListing pages size db) (λ l. AllByRecursion (IsObject db) (index_objects (with_indexes indexes l)))
+      (λ l table. onto_map (IsObject db) (λ (i : Index). (i.name, AnIndex (plain_index (with_indexes indexes l) i))) (map (λ i. i.index) (theirs is_on indexes l))
+      (onto_map (λ (i : Index). IsObject db (i.name, AnIndex (plain_index (with_indexes indexes l) i))) (λ i. i.index) (theirs is_on indexes l)
+      (all_theirs (λ i. IsObject db (object_of indexes l i)) l indexes
+      (all_so (IsIndexListing pages size db) (λ i. is_on l i ≡ true → IsObject db (object_of indexes l i)) (λ i is on. index_is l i table is on) indexes each_index))))
+      tables each_table))
+
+  -- a listed table is found in the database
+  found_listed : (name : Name) (t : Table) → IsFoundWith indexes (Stands pages size db tables) name t → object db name ≡ Some (ATable (plain_table t (content_at tables t.root)))
+  found_listed name t f =
+      ap (λ n. find name_order n db) (sym (row_named pages size db f.l f.holds.is ∙ f.same))
+      ∙ (f.holds.is.found ∙ (ap (λ (rows : List TableRow). Some (ATable (plain_table f.l.table rows))) (sym f.holds.content_is)
+      ∙ ap (λ (u : Table). Some (ATable (plain_table u (content_at tables u.root)))) f.table_is))
+
+  -- what neither a table nor an index has as its name is no name of the database
+  abbrev own_name : Item → Name
+  own_name item = either table_name index_name item
+
+  own_named : (item : Item) → IsItem pages size db item → folded (row_of item).name ≡ folded (own_name item)
+  own_named (TableItem l) is = row_named pages size db l is
+  own_named (IndexItem l) is = index_row_named pages size db l is
+
+  not_listed : (name : Name) → table_named name (tables_in items) ≡ None → index_found name (tables_in items) ≡ None → object db name ≡ None
+  not_listed name no_table no_index =
+      missed_by db (rows_in items) are.names (folded name) (onto_names (λ n. folded name ≡ n → ⊥) items
+      (all_both (IsItem pages size db) (λ item. Others name (own_name item)) (λ item. folded name ≡ folded (row_of item).name → ⊥)
+      (λ item is other same. other (sym (same ∙ own_named item is))) items are.each
+      (from_map (Others name) own_name items (reordered_all (Others name) (map own_name items) (names_of (tables_in items)) (names_reordered items on_ones)
+      (all_joined (Others name) (map (λ t. t.name) (tables_in items)) (flat_map (λ t. map (λ i. i.name) t.indexes) (tables_in items))
+      (onto_map (Others name) (λ (t : Table). t.name) (tables_in items) (onto_map (λ (t : Table). Others name t.name) (with_indexes indexes) tables (none_named indexes tables name no_table)))
+      (none_of_tables name (tables_in items) no_index))))))
+
+  pub lists : Lists (content_at tables) (tables_in items) db
+  lists name = by_found (table_named name (tables_in items)) refl ∙ sym (listed_as (content_at tables) name (tables_in items))
+    where
+      by_index : (found : Option Object) → table_named name (tables_in items) ≡ None → index_found name (tables_in items) ≡ found → object db name ≡ found
+      by_index (Some o) none found = found_object db name (flat_map index_objects (tables_in items)) o indexes_are found
+      by_index None none found = not_listed name none found
+
+      by_found : (found : Option Table) → table_named name (tables_in items) ≡ found → object db name ≡ as_object (content_at tables) (index_found name (tables_in items)) (table_named name (tables_in items))
+      by_found (Some t) found =
+          found_listed name t (found_with indexes (Stands pages size db tables) tables name t stand found)
+          ∙ ap (as_object (content_at tables) (index_found name (tables_in items))) (sym found)
+      by_found None found =
+          by_index (index_found name (tables_in items)) found refl
+          ∙ ap (as_object (content_at tables) (index_found name (tables_in items))) (sym found)
+
+  -- ---- names, each once
+
+  same_names : (some : List Item) → AllByRecursion (IsItem pages size db) some → row_names (rows_in some) ≡ map folded (map own_name some)
+  same_names [] each = refl
+  same_names (item ∷ some) each = ap₂ (λ n ns. n ∷ ns) (own_named item each.0) (same_names some each.1)
+
+  pub once_named : are_named_once (tables_in items) ≡ true
+  once_named =
+      ap not (named_once (names_of (tables_in items)) (apart_reordered (map folded (map own_name items)) (map folded (names_of (tables_in items)))
+      (reordered_map folded (map own_name items) (names_of (tables_in items)) (names_reordered items on_ones))
+      (subst (λ (ns : List Name). AllApart ns) (same_names items are.each) are.apart)))
+
+  pub of_these : IsOfTables (content_at tables) (tables_in items) db
+  of_these = record { lists = lists; only = only; named = named; once = once_named }

@@ -1,0 +1,163 @@
+-- The rows of the schema table tell the tables and indexes that they list.
+use Rattle.std.proofs.Common.{◌≡◌, ◌<◌, refl, sym, ap, subst, ◌∙◌, ℕ, pos, Bool, true, false, cond, List, [], ◌∷◌, codes, length, map, Option, Some, None, arith}
+use Rattle.std.proofs.lemmas.Bool.{ltb-true, ltb-false}
+use Rattle.std.specs.List.{AllByRecursion}
+use Rattle.std.specs.Prelude.{nat_lt, unwrap_or}
+use Rattle.sqlval.specs.Names.{folded}
+use Rattle.sqlval.specs.declared.value.Value.{Value}
+use Rattle.sqlval.specs.declared.value.Value.TheVariants.{Int, Text}
+use Rattle.record.specs.Record.{IsRecord}
+use Rattle.tree_leaf.specs.Leaf.{Entry}
+use Rattle.pages.specs.Map.{PageMap, Has}
+use Rattle.tree_page.specs.Cells.{Pairwise}
+use Rattle.catalog.specs.Database as database
+use Rattle.catalog.specs.Database.{Name, Database, ATable, name_order, object}
+use Rattle.catalog.specs.Listed.{plain_table}
+use Rattle.catalog.specs.declared.tables.Index.{Index}
+use Rattle.catalog.specs.declared.tables.Table.{Table}
+use Rattle.query_names.specs.Bound.{AreOnce, is_twice_named}
+use Rattle.query_names.specs.Checked.{good, known_all}
+use Rattle.query_names.specs.Creating.{HasColumnsOf}
+use Rattle.query_names.specs.Schema.{resolve_index_column}
+use Rattle.query_names.proofs.CreatedTables.{keeps_once}
+use Rattle.query_bind.specs.Indexed.{key_of, keys_known}
+use Rattle.db_files.specs.Schema.{SchemaRow, IsSchemaEntry, sql_value}
+use Rattle.std.specs.FinMap.Entries.{find}
+use Rattle.db_pages.specs.Schema.{HasRowOf, IsIndexRow, IsTableRow, Tells, schema_row}
+use Rattle.db_pages.proofs.StoredNames.{same_named, some_is_none}
+use Rattle.db_pages.proofs.StoredIndexes.{Keys, same_keys}
+use Rattle.db_pages.proofs.StoredListings.{IndexItem, IndexListing, IsEntryOf, IsIndexListing, IsItem, IsListing, Item, Listing, TableItem, owner_of, row_of, rows_in}
+use Rattle.db_pages.proofs.StoredApart.{Stands, indexes_among, root_of, row_named, tables_among}
+use Rattle.db_pages.proofs.StoredHomes.{HasHome, IsFoundWith, found_with, tables_in, with_indexes}
+use Rattle.db_pages.proofs.StoredObjects.{AreObjects, stand}
+use Rattle.db_pages.proofs.StoredOrders.{no_table, table_for, told_of}
+use Rattle.db_pages.proofs.StoredTreePages.{owner_root_there}
+use Rattle.db_pages.proofs.StoredTrees.{tree_is}
+
+-- ---- the schema's rows
+
+abbrev values_with : SchemaRow → List ℕ → ℕ → Option (List ℕ) → List Value
+values_with row kind root sql = Text kind ∷ Text row.name ∷ Text row.table ∷ Int (pos root) ∷ sql_value sql ∷ []
+
+values_so : (row : SchemaRow) (entry : Entry) (kind sql : List ℕ) (root : ℕ) → row.kind ≡ kind → row.root ≡ root → row.sql ≡ Some sql → IsSchemaEntry entry row
+    → IsRecord entry.payload (schema_row kind row.name row.table root sql)
+values_so row entry kind sql root kind_is root_is sql_is read =
+    subst (λ (kind : List ℕ). IsRecord entry.payload (values_with row kind root (Some sql))) kind_is
+    (subst (λ (root : ℕ). IsRecord entry.payload (values_with row row.kind root (Some sql))) root_is
+    (subst (λ (sql : Option (List ℕ)). IsRecord entry.payload (values_with row row.kind row.root sql)) sql_is read))
+
+-- its tree doesn't begin at page 1
+abbrev pub IsAfterFirst : Item → Type 0
+IsAfterFirst item = 1 ≡ root_of item → ⊥
+
+root_above : (pages : PageMap) (root : ℕ) → Has pages root → (1 ≡ root → ⊥) → 1 < root
+root_above pages root has ne = by_test (nat_lt 1 root) refl
+  where
+    by_test : (b : Bool) → nat_lt 1 root ≡ b → 1 < root
+    by_test true lt = ltb-true _ _ lt
+    by_test false le = absurd (ne (omega (arith, has.first, ltb-false _ _ le)))
+
+same_table : (s t : database.Table) → Some (ATable s) ≡ Some (ATable t) → s ≡ t
+same_table s t e = cc
+
+columns_so : (pages : PageMap) (size : ℕ) (db : Database) (l : Listing) → (is : IsListing pages size db l) → HasColumnsOf is.says.definition l.table
+columns_so pages size db l is = subst (HasColumnsOf is.says.definition) (sym is.table_is) is.says.described_is
+
+module _ (pages : PageMap) (size : ℕ) (db : Database) (items : List Item) (are : AreObjects pages size db items) where
+  has_root : (item : Item) → IsItem pages size db item → Has pages (root_of item)
+  has_root item is = owner_root_there pages size (owner_of item) (tree_is pages size db item is)
+
+  -- a row has the names of what it tells
+  has_row : (item : Item) (entry : Entry) (kind sql : List ℕ) (own_name on_table : Name) → IsItem pages size db item → IsAfterFirst item → IsSchemaEntry entry (row_of item)
+      → folded (row_of item).name ≡ folded own_name → folded (row_of item).table ≡ folded on_table → (row_of item).kind ≡ kind → (row_of item).root ≡ root_of item → (row_of item).sql ≡ Some sql
+      → HasRowOf (length pages) kind own_name on_table (root_of item) sql entry
+  has_row item entry kind sql own_name on_table is after read name_is table_is kind_is root_is sql_is =
+      let there = has_root item is in
+      record {
+        above = root_above pages (root_of item) there after;
+        within = there.last;
+        name = (row_of item).name;
+        name_is = name_is;
+        table_name = (row_of item).table;
+        table_name_is = table_is;
+        row_is = values_so (row_of item) entry kind sql (root_of item) kind_is root_is sql_is read;
+      }
+
+  table_row : (l : Listing) (entry : Entry) → IsListing pages size db l → IsAfterFirst (TableItem l) → IsSchemaEntry entry l.row → IsEntryOf entry (TableItem l)
+      → IsTableRow (length pages) (with_indexes (indexes_among items) l) entry
+  table_row l entry is after read at = record {
+    sql = is.says.sql;
+    definition = is.says.definition;
+    creates = is.says.creates;
+    makes = record {
+      free = is.says.accepts.free;
+      once = is.says.accepts.once;
+      name_is = ap (λ (t : Table). t.name) is.table_is;
+      columns = columns_so pages size db l is;
+    };
+    rowid_is = at;
+    row_is = has_row (TableItem l) entry (codes "table") is.says.sql is.says.definition.name is.says.definition.name is after read is.says.name_is is.says.table_is is.says.kind_is
+        (sym (ap (λ (t : Table). t.root) is.table_is)) is.says.sql_is;
+  }
+
+  -- the table of an index is the one of its text
+  same_keys_known : (l : Listing) (i : IndexListing) → IsListing pages size db l → (is : IsIndexListing pages size db i) → folded l.table.name ≡ folded i.on
+      → keys_known (with_indexes (indexes_among items) l) is.says.definition ≡ good (map key_of i.index.columns)
+  same_keys_known l i table is on =
+      let found : is.says.t ≡ plain_table l.table l.content =
+      same_table is.says.t (plain_table l.table l.content)
+      (sym is.says.on ∙ (ap (λ n. find name_order n db) (sym (row_named pages size db l table ∙ (on ∙ ap folded is.on_is))) ∙ table.found)) in
+      ap (λ (t : database.Table). known_all (map (resolve_index_column is.says.definition.table t) is.says.definition.columns)) (sym found)
+      ∙ (is.says.known ∙ ap (λ (keys : Keys). good keys) (sym (ap (λ (j : Index). map key_of j.columns) is.index_is ∙ same_keys is.i.columns)))
+
+  index_row : (i : IndexListing) (entry : Entry) (l : Listing) → IsListing pages size db l → folded l.table.name ≡ folded i.on → IsIndexListing pages size db i → IsAfterFirst (IndexItem i) → IsSchemaEntry entry i.row
+      → IsEntryOf entry (IndexItem i) → IsIndexRow (length pages) (with_indexes (indexes_among items) l) i.index entry
+  index_row i entry l table on is after read at = record {
+    sql = is.says.sql;
+    definition = is.says.definition;
+    creates = is.says.creates;
+    makes = record {
+      free = is.says.free;
+      once = is.says.once;
+      name_is = ap (λ (j : Index). j.name) is.index_is;
+      on = ap folded (sym is.on_is) ∙ sym on;
+      columns = same_keys_known l i table is on;
+    };
+    rowid_is = at;
+    row_is = has_row (IndexItem i) entry (codes "index") is.says.sql is.says.definition.name is.says.definition.table is after read is.says.name_is is.says.table_is is.says.kind_is
+        (sym (ap (λ (j : Index). j.root) is.index_is)) is.says.sql_is;
+  }
+
+  told_row : (item : Item) (entry : Entry) → IsItem pages size db item → HasHome items item → IsAfterFirst item → IsSchemaEntry entry (row_of item) → IsEntryOf entry item
+      → Tells (length pages) (told_of items item) entry
+  told_row (TableItem l) entry is home after read at = table_row l entry is after read at
+  told_row (IndexItem i) entry is home after read at =
+      let f : IsFoundWith (indexes_among items) (Stands pages size db (tables_among items)) i.on home.t =
+      found_with (indexes_among items) (Stands pages size db (tables_among items)) (tables_among items) i.on home.t (stand pages size db items are) home.found in
+      let found : with_indexes (indexes_among items) f.l ≡ table_for items i.on =
+      f.table_is ∙ ap (λ (o : Option Table). unwrap_or o no_table) (sym home.found) in
+      subst (λ (t : Table). IsIndexRow (length pages) t i.index entry) found (index_row i entry f.l f.holds.is f.same is after read at)
+
+  pub rows_told : (some : List Item) (entries : List Entry) → AllByRecursion (IsItem pages size db) some → AllByRecursion (HasHome items) some → AllByRecursion IsAfterFirst some
+      → Pairwise IsSchemaEntry entries (rows_in some) → Pairwise IsEntryOf entries some → Pairwise (Tells (length pages)) (map (told_of items) some) entries
+  rows_told [] [] each homes after read at = tt
+  rows_told [] (entry ∷ entries) each homes after read at = absurd read
+  rows_told (item ∷ some) [] each homes after read at = absurd read
+  rows_told (item ∷ some) (entry ∷ entries) each homes after read at = (
+    told_row item entry each.0 homes.0 after.0 read.0 at.0,
+    rows_told some entries each.1 homes.1 after.1 read.1 at.1,
+  )
+
+  -- ---- their columns
+
+  -- no column of a table has the name of another
+  once_so : (l : Listing) → IsListing pages size db l → is_twice_named l.table.columns ≡ false
+  once_so l is =
+      keeps_once [] is.says.definition l.table (λ name t found. some_is_none t (sym found)) is.says.accepts.once (columns_so pages size db l is) l.table.name l.table
+      (ap (λ b. cond b (Some l.table) None) (same_named l.table.name l.table.name refl))
+
+  pub once : AreOnce (tables_in items)
+  once name t found =
+      let f : IsFoundWith (indexes_among items) (Stands pages size db (tables_among items)) name t =
+      found_with (indexes_among items) (Stands pages size db (tables_among items)) (tables_among items) name t (stand pages size db items are) found in
+      subst (λ (u : Table). is_twice_named u.columns ≡ false) f.table_is (once_so f.l f.holds.is)

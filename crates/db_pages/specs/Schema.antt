@@ -1,0 +1,114 @@
+-- The rows of the schema table: each has the text of a CREATE TABLE or of a CREATE INDEX (Database File Format, "Storage Of The SQL
+-- Database Schema").
+use Rattle.std.specs.Prelude.{◌≡◌, ◌<◌, ◌≤◌, true, false, ℕ, ℤ, pos, codes, List, [], ◌∷◌, flat_map, length, map}
+use Rattle.sqlval.specs.Names.{folded}
+use Rattle.sqlval.specs.declared.value.Value.{Value}
+use Rattle.sqlval.specs.declared.value.Value.TheVariants.{Int, Text}
+use Rattle.record.specs.Record.{IsRecord}
+use Rattle.tree_leaf.specs.Leaf.{Entry}
+use Rattle.tree_page.specs.Cells.{Pairwise}
+use Rattle.sql_syntax.specs.declared.create.IndexDefinition.{IndexDefinition}
+use Rattle.sql_syntax.specs.declared.create.NewObject.{NewObject}
+use Rattle.sql_syntax.specs.declared.create.NewObject.TheVariants as new
+use Rattle.sql_syntax.specs.declared.create.TableDefinition.{TableDefinition}
+use Rattle.sql_syntax.specs.declared.statement.Statement.TheVariants as statement
+use Rattle.sql_grammar.specs.NewObjects.{is_object_within}
+use Rattle.sql_grammar.specs.Texts.{IsStatementText}
+use Rattle.catalog.specs.Database.{Name}
+use Rattle.catalog.specs.Listed.{has_doubled, is_reserved}
+use Rattle.catalog.specs.declared.tables.Index.{Index}
+use Rattle.catalog.specs.declared.tables.Table.{Table}
+use Rattle.query_names.specs.Checked.{good}
+use Rattle.query_names.specs.Creating.{HasColumnsOf}
+use Rattle.query_names.specs.Scopes.{is_doubled}
+use Rattle.query_bind.specs.Indexed.{key_of, keys_known, names_in}
+use Rattle.db_pages.specs.Forms.{is_object_supported}
+use Rattle.db_pages.specs.Reordering.{AreReordered}
+
+-- ---- texts
+
+-- The text, with what may stand around its tokens, is a CREATE of this object within the limits.
+pub record IsCreateOf (text : List ℕ) (made : NewObject) : Type 0 where
+  pub sql : List ℕ
+  pub is : IsStatementText text (statement.Create (record { sql = sql; object = made }))
+  pub within : is_object_within made ≡ true
+  pub short : length text ≤ 65536
+
+-- the text is a CREATE of this object, of a form that is supported so far
+abbrev pub CreatesSupported : List ℕ → NewObject → Type 0
+CreatesSupported text made = IsCreateOf text made × (is_object_supported made ≡ true)
+
+-- ---- what they make
+
+-- The table of a definition: its name may be given, and no two columns have one name.
+pub record IsTableOf (d : TableDefinition) (table : Table) : Type 0 where
+  pub free : is_reserved d.name ≡ false
+  pub once : has_doubled d.columns ≡ false
+  pub name_is : table.name ≡ d.name
+  pub columns : HasColumnsOf d table
+
+-- The index of a definition on this table: its name may be given, it names no column twice, and each is one of the table's.
+pub record IsIndexOf (d : IndexDefinition) (table : Table) (index : Index) : Type 0 where
+  pub free : is_reserved d.name ≡ false
+  pub once : is_doubled (names_in d.columns) ≡ false
+  pub name_is : index.name ≡ d.name
+  pub on : folded d.table ≡ folded table.name
+  pub columns : keys_known table d ≡ good (map key_of index.columns)
+
+-- ---- rows
+
+-- the values of a row: its kind, its name and its table's, the page where its tree begins, and its text
+abbrev pub schema_row : List ℕ → Name → Name → ℕ → List ℕ → List Value
+schema_row kind name table_name root sql = Text kind ∷ Text name ∷ Text table_name ∷ Int (pos root) ∷ Text sql ∷ []
+
+-- The row has this kind and text, a page of so many where a tree begins, and these two names in letters of either case.
+pub record HasRowOf (pages : ℕ) (kind : List ℕ) (own_name on_table : Name) (root : ℕ) (sql : List ℕ) (row : Entry) : Type 0 where
+  pub above : 1 < root
+  pub within : root ≤ pages
+  pub name : Name
+  pub name_is : folded name ≡ folded own_name
+  pub table_name : Name
+  pub table_name_is : folded table_name ≡ folded on_table
+  pub row_is : IsRecord row.payload (schema_row kind name table_name root sql)
+
+-- The row, at the rowid that the table has for it, tells the table: it has the text of a CREATE TABLE that is supported, and its name twice.
+pub record IsTableRow (pages : ℕ) (table : Table) (row : Entry) : Type 0 where
+  pub sql : List ℕ
+  pub definition : TableDefinition
+  pub creates : CreatesSupported sql (new.Table definition)
+  pub makes : IsTableOf definition table
+  pub rowid_is : row.rowid ≡ table.rowid
+  pub row_is : HasRowOf pages (codes "table") definition.name definition.name table.root sql row
+
+-- The row, at the rowid that the index has for it, tells the index of the table: it has the text of a CREATE INDEX that is supported, the
+-- name of the index, and that of the table.
+pub record IsIndexRow (pages : ℕ) (table : Table) (index : Index) (row : Entry) : Type 0 where
+  pub sql : List ℕ
+  pub definition : IndexDefinition
+  pub creates : CreatesSupported sql (new.Index definition)
+  pub makes : IsIndexOf definition table index
+  pub rowid_is : row.rowid ≡ index.rowid
+  pub row_is : HasRowOf pages (codes "index") definition.name definition.table index.root sql row
+
+-- what a row tells: a table, or an index of one
+pub data Told : Type 0 where
+  TableTold : Table → Told
+  IndexTold : Table → Index → Told
+
+abbrev pub told_by : Table → List Told
+told_by table = TableTold table ∷ map (λ index. IndexTold table index) table.indexes
+
+-- all tables and their indexes
+abbrev pub all_told : List Table → List Told
+all_told tables = flat_map told_by tables
+
+-- the row tells it, in a database of so many pages
+abbrev pub Tells : ℕ → Told → Entry → Type 0
+Tells pages (TableTold table) row = IsTableRow pages table row
+Tells pages (IndexTold table index) row = IsIndexRow pages table index row
+
+-- Each row tells one of the tables and indexes, and each of these is told by one row, in whatever order.
+pub record AreRowsOf (pages : ℕ) (tables : List Table) (rows : List Entry) : Type 0 where
+  pub told : List Told
+  pub all : AreReordered told (all_told tables)
+  pub each : Pairwise (Tells pages) told rows

@@ -1,0 +1,74 @@
+-- What inserting rows with their entries comes to.
+use Rattle.std.proofs.Common.{◌≡◌, ◌⊎◌, inl, inr, refl, sym, subst, ◌∙◌, ℕ, List, [], ◌∷◌, ◌++◌, map, true, Option, Ok, Err}
+use Rattle.std.specs.Prelude.{Result, IsErrAnd, MatchResult, ⊤}
+use Rattle.std.specs.Global.{Vec}
+use Rattle.sqlval.specs.Refusals.{Answer}
+use Rattle.sqlval.specs.declared.fault.Fault.{Fault}
+use Rattle.sqlval.specs.declared.fault.Fault.TheVariants.{TooLong}
+use Rattle.sqlval.specs.declared.value.Value.{Value}
+use Rattle.pages.specs.Calls.{IsOutsideOrFull}
+use Rattle.pages.specs.Map.{PageMap}
+use Rattle.catalog.specs.Listed.{plain_table}
+use Rattle.catalog.specs.Rows.{are_rows}
+use Rattle.catalog.specs.declared.tables.Table.{Table}
+use Rattle.catalog.specs.declared.tables.TableRow as stored
+use Rattle.row_scan.specs.Rows.{TableRow}
+use Rattle.row_change.specs.Trees.{ArePutIn, IsPutRefusal, PutsRows, TellsAdded}
+use Rattle.index_entries.specs.Entries.{AreApart}
+use Rattle.index_entries.specs.Keeping.{row_in}
+use Rattle.db_write.specs.Changing.{AreInserted, InsertsInTrees, IsRefusedInsert}
+use Rattle.db_write.specs.Turning.{AddsToIndexes, AreEntriesStorable, HaveNow}
+use Rattle.db_write.proofs.Among.{rows_tree}
+use Rattle.db_write.proofs.Owned.{RowsStand, fit_apart, has_rows, indexes_stand, rows_among, table_holds}
+
+abbrev answer_of : List TableRow → Answer (List TableRow)
+answer_of rows = Ok rows
+
+same_rows : (a b : List TableRow) → answer_of a ≡ answer_of b → a ≡ b
+same_rows a b e = cc
+
+module _ (old mid : PageMap) (size : ℕ) (table : Table) (places : List (Option ℕ)) (given : List (List Value)) where
+  -- no row was put
+  pub none_put : (fault : Fault) (result : Result ⊤ Fault) → IsErrAnd result (λ e. e ≡ fault) → PutsRows {X = ⊤} old mid size table.root table.columns places given (Err fault) → InsertsInTrees old mid size table places given result
+  none_put fault (Ok done) same puts = absurd same
+  none_put fault (Err e) same puts = λ schema before after rows sized is_root among fit. (
+      let s = rows_among old size schema before table rows after among sized is_root in
+      subst (λ (f : Fault). IsRefusedInsert table places given rows f) (sym same) (by rows (puts rows s.entries s.used s.free s.stands s.each)))
+    where
+      by : (rows : List TableRow) → IsPutRefusal table.columns places given rows fault → IsRefusedInsert table places given rows fault
+      by rows (inl outside) = inl outside
+      by rows (inr (inl as_rows)) = inr (inl as_rows)
+      by rows (inr (inr long)) = inr (inr (record { is = long.is; added = long.added; answer = long.answer; long = λ both. long.long both.0 }))
+
+  -- rows were put, and their entries are next
+  pub rows_inserted : (new : PageMap) (them : Vec stored.TableRow) (result : Result ⊤ Fault) → PutsRows {X = ⊤} old mid size table.root table.columns places given (Ok tt)
+      → TellsAdded old size table.root table.columns places given (Ok them) → AddsToIndexes mid new size table.indexes (map row_in them.items) result → InsertsInTrees old new size table places given result
+  rows_inserted new them result puts tells adds schema before after rows sized is_root among fit =
+      by result (subst (λ (more : List TableRow). AddsToIndexes mid new size table.indexes more result) (sym same) adds rows apart schema (before ++ rows_tree table.root put.entries put.becomes.now_used ∷ []) after sized is_root
+      (indexes_stand old mid size schema before table rows after s put.entries put.becomes))
+    where
+      s : RowsStand old size schema before table rows after
+      s = rows_among old size schema before table rows after among sized is_root
+
+      put : ArePutIn old mid size table.root table.columns places given rows s.used s.free
+      put = puts rows s.entries s.used s.free s.stands s.each
+
+      same : put.added ≡ map row_in them.items
+      same = same_rows put.added (map row_in them.items) (sym put.answer ∙ tells rows s.stands.free_are.whole (has_rows old size schema before table rows after s))
+
+      fits : are_rows (plain_table table (rows ++ put.added)) ≡ true
+      fits = put.fit table refl fit
+
+      apart : AreApart (rows ++ put.added)
+      apart = fit_apart table (rows ++ put.added) fits
+
+      by : (r : Result ⊤ Fault) → MatchResult r (λ done. HaveNow mid new size schema (before ++ rows_tree table.root put.entries put.becomes.now_used ∷ []) table.indexes (rows ++ put.added) after)
+          (λ fault. IsOutsideOrFull fault ⊎ ((fault ≡ TooLong) × (AreEntriesStorable table.indexes put.added → ⊥)))
+          → MatchResult r (λ done. AreInserted old new size schema before table places given rows after) (IsRefusedInsert table places given rows)
+      by (Ok done) have = record {
+        added = put.added;
+        answer = put.answer;
+        hold = record { holds = table_holds old mid size schema before table rows after s put.entries put.becomes new (rows ++ put.added) put.each have; fit = fits };
+      }
+      by (Err fault) (inl outside) = inl outside
+      by (Err fault) (inr long) = inr (inr (record { is = long.0; added = put.added; answer = put.answer; long = λ both. long.1 both.1 }))

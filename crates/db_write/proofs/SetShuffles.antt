@@ -1,0 +1,98 @@
+-- What SET leaves of a table's rows: those that aren't meant stay, and what the others become comes.
+use Rattle.std.proofs.Common.{◌≡◌, refl, sym, ap, subst, ◌∙◌, ℕ, Bool, true, false, cond, not, filter, List, [], ◌∷◌, map, Option, Some, None, if◌then◌else◌, Ok, Err}
+use Rattle.sqlval.specs.Refusals.{Answer, Refusal, ◌then◌, all_answers}
+use Rattle.catalog.specs.declared.tables.Column.{Column}
+use Rattle.query_terms.specs.Terms.{Term}
+use Rattle.row_scan.specs.Rows.{TableRow}
+use Rattle.row_scan.specs.Sources.{as_source}
+use Rattle.row_change.specs.Choosing.{is_chosen, tested}
+use Rattle.row_change.specs.Meaning.{chosen_or_all}
+use Rattle.row_change.specs.Setting.{row_set, rows_changed, rows_meant_set, rows_set}
+use Rattle.row_change.proofs.Replaced.{made}
+use Rattle.row_change.proofs.SetTrees.{changed_known, meant_by}
+use Rattle.db_write.proofs.Shuffling.{Shuffles, no_rows, one_comes, one_stays}
+
+abbrev given_rows : List TableRow → Answer (List TableRow)
+given_rows rows = Ok rows
+
+abbrev given_row : TableRow → Answer TableRow
+given_row row = Ok row
+
+same_rows : (a b : List TableRow) → given_rows a ≡ given_rows b → a ≡ b
+same_rows a b e = cc
+
+same_row : (a b : TableRow) → given_row a ≡ given_row b → a ≡ b
+same_row a b e = cc
+
+no_rows_refused : (a : List TableRow) (r : Refusal) → given_rows a ≡ Err r → ⊥
+no_rows_refused a r e = absurd cc
+
+not_given : (r : Refusal) (a : List TableRow) → (let l : Answer (List TableRow) = Err r in l) ≡ Ok a → ⊥
+not_given r a e = absurd cc
+
+same_refusal : (r s : Refusal) → (let l : Answer (List TableRow) = Err r in l) ≡ Err s → r ≡ s
+same_refusal r s e = cc
+
+-- the first row and those after it
+record Parts (a : Answer TableRow) (b : Answer (List TableRow)) (all : List TableRow) : Type 0 where
+  row : TableRow
+  more : List TableRow
+  first_is : a ≡ Ok row
+  more_is : b ≡ Ok more
+  are : row ∷ more ≡ all
+
+parts_of : (a : Answer TableRow) (b : Answer (List TableRow)) (all : List TableRow) → (a then λ x. b then λ xs. Ok (x ∷ xs)) ≡ Ok all → Parts a b all
+parts_of (Ok x) (Ok xs) all e = record { row = x; more = xs; first_is = refl; more_is = refl; are = same_rows (x ∷ xs) all e }
+parts_of (Ok x) (Err r) all e = absurd cc
+parts_of (Err r) b all e = absurd cc
+
+module _ (columns : List Column) (sets : List (ℕ × Term)) (is_meant : TableRow → Bool) where
+  abbrev stay : List TableRow → List TableRow
+  stay rows = filter (λ row. not (is_meant row)) rows
+
+  set_shuffles : (rows come now : List TableRow) → made columns sets is_meant rows ≡ Ok come → rows_meant_set columns sets is_meant rows ≡ Ok now → Shuffles (filter (λ row. not (is_meant row)) rows) come now
+  set_shuffles [] come now e h = subst (λ (xs : List TableRow). Shuffles [] xs now) (same_rows [] come e) (subst (λ (xs : List TableRow). Shuffles [] [] xs) (same_rows [] now h) no_rows)
+  set_shuffles (r ∷ rows) come now e h = by (is_meant r) e h (set_shuffles rows)
+    where
+      by : (b : Bool) → all_answers (map (row_set columns sets) (cond b (r ∷ filter is_meant rows) (filter is_meant rows))) ≡ Ok come
+          → ((if b then row_set columns sets r else Ok r) then λ x. rows_meant_set columns sets is_meant rows then λ xs. Ok (x ∷ xs)) ≡ Ok now
+          → ((more after : List TableRow) → made columns sets is_meant rows ≡ Ok more → rows_meant_set columns sets is_meant rows ≡ Ok after → Shuffles (stay rows) more after)
+          → Shuffles (cond (not b) (r ∷ stay rows) (stay rows)) come now
+      by true e h on =
+          let a = parts_of (row_set columns sets r) (made columns sets is_meant rows) come e in
+          let b = parts_of (row_set columns sets r) (rows_meant_set columns sets is_meant rows) now h in
+          subst (λ (xs : List TableRow). Shuffles (stay rows) xs now) a.are
+          (subst (λ (xs : List TableRow). Shuffles (stay rows) (a.row ∷ a.more) xs) (ap (λ (x : TableRow). x ∷ b.more) (same_row a.row b.row (sym a.first_is ∙ b.first_is)) ∙ b.are)
+          (one_comes a.row (on a.more b.more a.more_is b.more_is)))
+      by false e h on =
+          let b = parts_of (Ok r) (rows_meant_set columns sets is_meant rows) now h in
+          subst (λ (xs : List TableRow). Shuffles (r ∷ stay rows) come xs) (ap (λ (x : TableRow). x ∷ b.more) (same_row r b.row b.first_is) ∙ b.are) (one_stays r (on come b.more e b.more_is))
+
+module _ (columns : List Column) (sets : List (ℕ × Term)) (c : Option Term) where
+  -- what is answered, among the rows that SET leaves
+  pub changed_shuffle : (rows come now : List TableRow) → rows_changed columns sets c (map as_source rows) ≡ Ok come → rows_set columns sets c rows ≡ Ok now → Shuffles (filter (λ row. not (meant_by c row)) rows) come now
+  changed_shuffle rows come now e h =
+      let known = changed_known columns sets c rows come e in
+      set_shuffles columns sets (meant_by c) rows come now known.0 (sym known.1 ∙ h)
+
+-- ---- the rows that are meant
+
+all_rows : (rows : List TableRow) → filter (λ row. meant_by None row) rows ≡ rows
+all_rows [] = refl
+all_rows (row ∷ rows) = ap (λ (rs : List TableRow). row ∷ rs) (all_rows rows)
+
+pub meant_are : (c : Option Term) (rows gone : List TableRow) → chosen_or_all c rows ≡ Ok gone → filter (meant_by c) rows ≡ gone
+meant_are None rows gone e = all_rows rows ∙ same_rows rows gone e
+meant_are (Some c) rows gone e = by (all_answers (map (tested c) rows)) e
+  where
+    by : (a : Answer (List (Option Bool))) → (a then λ tests. given_rows (filter (is_chosen c) rows)) ≡ Ok gone → filter (is_chosen c) rows ≡ gone
+    by (Ok tests) h = same_rows (filter (is_chosen c) rows) gone h
+    by (Err r) h = absurd (not_given r gone h)
+
+pub meant_refused : (columns : List Column) (sets : List (ℕ × Term)) (c : Option Term) (rows : List TableRow) (r : Refusal) → chosen_or_all c rows ≡ Err r → rows_set columns sets c rows ≡ Err r
+meant_refused columns sets None rows r e = absurd (no_rows_refused rows r e)
+meant_refused columns sets (Some c) rows r e = by (all_answers (map (tested c) rows)) e
+  where
+    by : (a : Answer (List (Option Bool))) → (a then λ tests. given_rows (filter (is_chosen c) rows)) ≡ Err r → (a then λ tests. rows_meant_set columns sets (is_chosen c) rows) ≡ Err r
+    by (Ok tests) h = absurd (no_rows_refused (filter (is_chosen c) rows) r h)
+    by (Err s) h = ap (λ (x : Refusal). Err x) (same_refusal s r h)

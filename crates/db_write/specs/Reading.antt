@@ -1,0 +1,22 @@
+-- Which rows of a table are read for a condition (The SQLite Query Optimizer Overview, "WHERE Clause Analysis").
+use Rattle.std.specs.Prelude.{◌≡◌, ℕ, true, List, Option, Result, MatchResult}
+use Rattle.sqlval.specs.Faults.{IsOutside}
+use Rattle.sqlval.specs.PageSizes.{IsPageSize}
+use Rattle.sqlval.specs.declared.fault.Fault.{Fault}
+use Rattle.pages.specs.Map.{PageMap}
+use Rattle.db_layout.specs.Layout.{Owner}
+use Rattle.catalog.specs.Listed.{plain_table}
+use Rattle.catalog.specs.Rows.{are_rows}
+use Rattle.catalog.specs.declared.tables.Table.{Table}
+use Rattle.query_terms.specs.Terms.{Term}
+use Rattle.query_terms.specs.Values.{Row}
+use Rattle.row_scan.specs.Rows.{TableRow}
+use Rattle.row_change.specs.Meaning.{AreEnough}
+use Rattle.db_layout.specs.Trees.{AreAmong}
+
+-- Of a table whose trees stand among all of a file, with rows that it may hold, these rows are enough for the condition; or memory was short,
+-- or a disk's call failed.
+abbrev pub LoadsEnough : PageMap → ℕ → Table → Option Term → Result (List Row) Fault → Type 0
+LoadsEnough pages size table condition result = (schema : Owner) (before after : List Owner) (rows : List TableRow) → IsPageSize size → schema.root ≡ 1
+    → AreAmong pages size schema before table rows after → are_rows (plain_table table rows) ≡ true
+    → MatchResult result (λ found. AreEnough condition found rows) IsOutside

@@ -1,0 +1,72 @@
+-- Trees of several indexes side by side, whose entries become those of other rows (Database File Format, "Representation Of SQL Indices").
+use Rattle.std.specs.Prelude.{◌≡◌, ◌⊎◌, ◌≤◌, ⊤, ℕ, List, [], ◌∷◌, ◌++◌, length, Result, MatchResult}
+use Rattle.std.specs.List.{AllByRecursion}
+use Rattle.sqlval.specs.Faults.{IsOutside}
+use Rattle.sqlval.specs.PageSizes.{IsPageSize}
+use Rattle.sqlval.specs.declared.fault.Fault.{Fault}
+use Rattle.sqlval.specs.declared.fault.Fault.TheVariants.{TooLong}
+use Rattle.record.specs.Writing.{AreStorable}
+use Rattle.pages.specs.Calls.{IsOutsideOrFull}
+use Rattle.pages.specs.Map.{PageMap}
+use Rattle.freelist.specs.Calls.{KeepsHeader}
+use Rattle.tree_page.specs.Cells.{Pairwise}
+use Rattle.db_layout.specs.Layout.{AreShared, Owner}
+use Rattle.catalog.specs.declared.tables.Index.{Index}
+use Rattle.row_scan.specs.Rows.{TableRow}
+use Rattle.index_entries.specs.Entries.{AreApart, Columns, indexed}
+use Rattle.db_layout.specs.Trees.{IsEntriesTree, columns_of}
+
+-- a record can hold the entry of each row in an index of these columns
+abbrev pub CanBeIndexed : Columns → List TableRow → Type 0
+CanBeIndexed columns rows = AllByRecursion (λ row. AreStorable (indexed columns row)) rows
+
+-- and so in each of these indexes
+abbrev pub AreEntriesStorable : List Index → List TableRow → Type 0
+AreEntriesStorable indexes rows = AllByRecursion (λ index. CanBeIndexed (columns_of index) rows) indexes
+
+-- after the schema table's tree and some others stand those of the indexes, each with the entries of the rows, and then others
+pub record HaveEntries (map : PageMap) (size : ℕ) (schema : Owner) (before : List Owner) (indexes : List Index) (rows : List TableRow)
+    (after : List Owner) : Type 0 where
+  pub mine : List Owner
+  pub each : Pairwise (IsEntriesTree rows) indexes mine
+  pub free : List ℕ
+  pub shared : AreShared map size (schema ∷ before ++ (mine ++ after)) free
+
+-- so they stand now
+pub record HaveNow (old new : PageMap) (size : ℕ) (schema : Owner) (before : List Owner) (indexes : List Index) (rows : List TableRow)
+    (after : List Owner) : Type 0 where
+  pub have : HaveEntries new size schema before indexes rows after
+  pub header : KeepsHeader old new
+  pub longer : length old ≤ length new
+
+-- Where the indexes' trees have the entries of some rows, they have those of others then, or the call is refused.
+abbrev pub TurnIndexes : PageMap → PageMap → ℕ → List Index → List TableRow → List TableRow → (Fault → Type 0) → Result ⊤ Fault → Type 0
+TurnIndexes old new size indexes from to Why result = (schema : Owner) (before after : List Owner) → IsPageSize size → schema.root ≡ 1
+    → HaveEntries old size schema before indexes from after → MatchResult result (λ done. HaveNow old new size schema before indexes to after) Why
+
+-- Rows of other rowids come to the table, and their entries to each index.
+abbrev pub AddsToIndexes : PageMap → PageMap → ℕ → List Index → List TableRow → Result ⊤ Fault → Type 0
+AddsToIndexes old new size indexes added result = (rows : List TableRow) → AreApart (rows ++ added) → TurnIndexes old new size indexes rows (rows ++ added)
+    (λ fault. IsOutsideOrFull fault ⊎ ((fault ≡ TooLong) × (AreEntriesStorable indexes added → ⊥))) result
+
+-- Rows go from the table, and their entries from each index.
+abbrev pub TakesFromIndexes : PageMap → PageMap → ℕ → List Index → List TableRow → Result ⊤ Fault → Type 0
+TakesFromIndexes old new size indexes gone result = (rows : List TableRow) → AreApart (rows ++ gone) → TurnIndexes old new size indexes (rows ++ gone) rows IsOutsideOrFull result
+
+-- All rows go from the table, and all entries from each index.
+abbrev pub ClearsIndexes : PageMap → PageMap → ℕ → List Index → Result ⊤ Fault → Type 0
+ClearsIndexes old new size indexes result = (rows : List TableRow) → TurnIndexes old new size indexes rows [] IsOutsideOrFull result
+
+-- ---- trees that are given back
+
+-- These trees share the pages with the freelist, and of the others all pages are free.
+pub record AreLeft (old new : PageMap) (size : ℕ) (owners : List Owner) : Type 0 where
+  pub free : List ℕ
+  pub shared : AreShared new size owners free
+  pub header : KeepsHeader old new
+  pub same : length new ≡ length old
+
+-- Where the indexes' trees have the entries of some rows, they are given back; or memory was short, or a disk's call failed.
+abbrev pub FreesIndexes : PageMap → PageMap → ℕ → List Index → Result ⊤ Fault → Type 0
+FreesIndexes old new size indexes result = (schema : Owner) (before after : List Owner) (rows : List TableRow) → IsPageSize size → schema.root ≡ 1
+    → HaveEntries old size schema before indexes rows after → MatchResult result (λ done. AreLeft old new size (schema ∷ before ++ after)) IsOutside

@@ -1,0 +1,128 @@
+//! Entries of rows that come to a table and of rows that go, in the tree of each of its indexes.
+
+ghost use Rattle.std.specs.Prelude.{◌≡◌, IsTrue, map};
+ghost use Rattle.pages.specs.Calls.{Causes};
+ghost use Rattle.index_entries.specs.Keeping.{AddsEntries, TakesEntries, row_in};
+ghost use Rattle.db_layout.specs.Trees.{columns_of};
+ghost use Rattle.db_write.specs.Turning.{AddsToIndexes, ClearsIndexes, FreesIndexes, TakesFromIndexes};
+
+use catalog::{Index, TableRow};
+use index_entries::{add_entries, take_entries};
+use pages::WritePages;
+use sqlval::R;
+use std::alloc::Global;
+use tree_index::{clear, free_tree};
+
+/// Puts the entries of rows into an index's tree. (What `add_entries` refuses.)
+fn add_to_index<P: WritePages>(
+    alloc: Global,
+    pages: &mut P,
+    index: &Index,
+    rows: &[TableRow],
+) -> R<()>
+    ensures added { IsTrue (P.Pages.tells (P.Pages.below pages.old))
+        → AddsEntries (P.Pages.map pages.old) (P.Pages.map pages.new) (P.Pages.limits (P.Pages.below pages.old)).page
+        index.now.root (columns_of index.now) (map row_in rows.now) result }
+    ensures kept { P.Pages.below pages.new ≡ P.Pages.below pages.old }
+    ensures causes { Causes result (P.Pages.failures pages.old) (P.Pages.failures pages.new)
+        (P.Pages.count pages.new ≡ (P.Pages.limits (P.Pages.below pages.new)).most) }
+{
+    add_entries(alloc, pages, index.root, index.columns.as_slice(), rows)
+}
+
+/// Puts the entries of rows that come to a table into the tree of each of these indexes. (What `add_entries` refuses. Then some entries
+/// may be in.)
+pub(crate) fn add_to_indexes<P: WritePages>(
+    alloc: Global,
+    pages: &mut P,
+    indexes: &[Index],
+    rows: &[TableRow],
+) -> R<()>
+    ensures added { IsTrue (P.Pages.tells (P.Pages.below pages.old))
+        → AddsToIndexes (P.Pages.map pages.old) (P.Pages.map pages.new) (P.Pages.limits (P.Pages.below pages.old)).page
+        indexes.now (map row_in rows.now) result }
+    ensures kept { P.Pages.below pages.new ≡ P.Pages.below pages.old }
+    ensures causes { Causes result (P.Pages.failures pages.old) (P.Pages.failures pages.new)
+        (P.Pages.count pages.new ≡ (P.Pages.limits (P.Pages.below pages.new)).most) }
+{
+    let mut left = indexes;
+    'indexes: while let [index, rest @ ..] = left {
+        add_to_index(alloc, pages, index, rows)?;
+        left = rest;
+    }
+    Ok(())
+}
+
+/// Takes the entries of rows out of an index's tree. (What `take_entries` refuses.)
+fn take_from_index<P: WritePages>(
+    alloc: Global,
+    pages: &mut P,
+    index: &Index,
+    rows: &[TableRow],
+) -> R<()>
+    ensures taken { IsTrue (P.Pages.tells (P.Pages.below pages.old))
+        → TakesEntries (P.Pages.map pages.old) (P.Pages.map pages.new) (P.Pages.limits (P.Pages.below pages.old)).page
+        index.now.root (columns_of index.now) (map row_in rows.now) result }
+    ensures kept { P.Pages.below pages.new ≡ P.Pages.below pages.old }
+    ensures causes { Causes result (P.Pages.failures pages.old) (P.Pages.failures pages.new)
+        (P.Pages.count pages.new ≡ (P.Pages.limits (P.Pages.below pages.new)).most) }
+{
+    take_entries(alloc, pages, index.root, index.columns.as_slice(), rows)
+}
+
+/// Takes the entries of rows that go from a table out of the tree of each of these indexes. (What `take_entries` refuses. Then some
+/// entries may be out.)
+pub(crate) fn take_from_indexes<P: WritePages>(
+    alloc: Global,
+    pages: &mut P,
+    indexes: &[Index],
+    rows: &[TableRow],
+) -> R<()>
+    ensures taken { IsTrue (P.Pages.tells (P.Pages.below pages.old))
+        → TakesFromIndexes (P.Pages.map pages.old) (P.Pages.map pages.new) (P.Pages.limits (P.Pages.below pages.old)).page
+        indexes.now (map row_in rows.now) result }
+    ensures kept { P.Pages.below pages.new ≡ P.Pages.below pages.old }
+    ensures causes { Causes result (P.Pages.failures pages.old) (P.Pages.failures pages.new)
+        (P.Pages.count pages.new ≡ (P.Pages.limits (P.Pages.below pages.new)).most) }
+{
+    let mut left = indexes;
+    'indexes: while let [index, rest @ ..] = left {
+        take_from_index(alloc, pages, index, rows)?;
+        left = rest;
+    }
+    Ok(())
+}
+
+/// Takes all entries out of the tree of each of these indexes. (What `clear` refuses. Then some trees may be without entries.)
+pub(crate) fn clear_indexes<P: WritePages>(alloc: Global, pages: &mut P, indexes: &[Index]) -> R<()>
+    ensures cleared { IsTrue (P.Pages.tells (P.Pages.below pages.old))
+        → ClearsIndexes (P.Pages.map pages.old) (P.Pages.map pages.new) (P.Pages.limits (P.Pages.below pages.old)).page
+        indexes.now result }
+    ensures kept { P.Pages.below pages.new ≡ P.Pages.below pages.old }
+    ensures causes { Causes result (P.Pages.failures pages.old) (P.Pages.failures pages.new)
+        (P.Pages.count pages.new ≡ (P.Pages.limits (P.Pages.below pages.new)).most) }
+{
+    let mut left = indexes;
+    'indexes: while let [index, rest @ ..] = left {
+        clear(alloc, pages, index.root)?;
+        left = rest;
+    }
+    Ok(())
+}
+
+/// Gives the tree of each of these indexes back. (What `free_tree` refuses. Then some pages may be free.)
+pub(crate) fn free_indexes<P: WritePages>(alloc: Global, pages: &mut P, indexes: &[Index]) -> R<()>
+    ensures freed { IsTrue (P.Pages.tells (P.Pages.below pages.old))
+        → FreesIndexes (P.Pages.map pages.old) (P.Pages.map pages.new) (P.Pages.limits (P.Pages.below pages.old)).page
+        indexes.now result }
+    ensures kept { P.Pages.below pages.new ≡ P.Pages.below pages.old }
+    ensures causes { Causes result (P.Pages.failures pages.old) (P.Pages.failures pages.new)
+        (P.Pages.count pages.new ≡ (P.Pages.limits (P.Pages.below pages.new)).most) }
+{
+    let mut left = indexes;
+    'indexes: while let [index, rest @ ..] = left {
+        free_tree(alloc, pages, index.root)?;
+        left = rest;
+    }
+    Ok(())
+}

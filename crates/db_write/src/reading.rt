@@ -1,0 +1,41 @@
+//! The rows of a table that are read for a condition.
+
+ghost use Rattle.std.specs.Prelude.{◌≡◌, IsTrue, length};
+ghost use Rattle.pages.specs.Calls.{Stays};
+ghost use Rattle.db_write.specs.Reading.{LoadsEnough};
+
+use catalog::Table;
+use pages::Pages;
+use query_names::BoundSource;
+use query_plan::other_rows_fail;
+use query_terms::{SourceRow, Term};
+use row_search::needed_rows;
+use sqlval::{Many, R};
+use std::alloc::Global;
+
+/// A table as a query's source.
+pub(crate) fn source_of(table: &Table) -> BoundSource
+    ensures root { result.root ≡ table.now.root }
+    ensures width { result.width ≡ length table.now.columns }
+{
+    BoundSource {
+        root: table.root,
+        width: table.columns.len(),
+    }
+}
+
+/// Rows of a table that are enough for a condition, or all where there is none. (What `needed_rows` refuses.)
+pub(crate) fn enough_rows<P: Pages>(
+    alloc: Global,
+    pages: &mut P,
+    table: &Table,
+    condition: &Option<Term>,
+) -> R<Many<SourceRow>>
+    ensures loaded { IsTrue (P.Pages.tells (P.Pages.below pages.old))
+        → LoadsEnough (P.Pages.map pages.old) (P.Pages.limits (P.Pages.below pages.old)).page table.now condition.now result }
+    ensures stays { Stays P.Pages.below P.Pages.map P.Pages.count P.Pages.failures result pages.old pages.new }
+{
+    other_rows_fail();
+    let source = source_of(table);
+    needed_rows(alloc, pages, source, table.indexes.as_slice(), condition)
+}

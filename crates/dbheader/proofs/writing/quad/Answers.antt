@@ -1,5 +1,0 @@
-use Rattle.dbheader.proofs.SpellingLemmas.{four_bytes}
-use Rattle.dbheader.proofs.writing.quad.Goals as goal
-
-pub returns-clause-only : goal.returns-clause-only
-returns-clause-only c = rw c.to_be_bytes.ensures (four_bytes c.args.n)

@@ -1,6 +1,0 @@
-use Rattle.dml.proofs.Chosen.{answers_chosen}
-use Rattle.dml.proofs.choosing.chosen_rowids.Goals as goal
-
-pub returns-clause-chosen : goal.returns-clause-chosen
-returns-clause-chosen c table is =
-    answers_chosen (λ rowids. rowids.items) c.args.condition.now c.args.rows.now table c.rowids_where.result is c.rowids_where.ensures.answered

@@ -1,5 +1,0 @@
-use Rattle.dml.proofs.Folding.{inserts_rows}
-use Rattle.dml.proofs.inserting.insert_adds_its_rows.Goals as goal
-
-pub returns : goal.returns
-returns c = inserts_rows c.other_rows_are_listed.ensures.plain

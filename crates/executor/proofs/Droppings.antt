@@ -1,0 +1,211 @@
+-- What a DROP TABLE comes to on the database that pages hold, and what is refused where there is no such object.
+use Rattle.std.proofs.Common.{◌≡◌, ◌⊎◌, ◌≤◌, ℤ, inl, inr, refl, sym, ap, subst, ◌∙◌, ℕ, Bool, true, false, cond, not, filter, ◌&&◌, ◌||◌, List, [], ◌∷◌, ◌++◌, length, Option, Some, None, Ok, Err, arith}
+use Rattle.std.specs.Prelude.{Contains, MatchOption, is_some}
+use Rattle.std.proofs.lemmas.Bool.{false≢true}
+use Rattle.sqlval.specs.Names.{is_same_name}
+use Rattle.sqlval.specs.Refusals.{NoSuch, Refusal, refusal_of}
+use Rattle.sqlval.specs.declared.fault.Fault.{Fault}
+use Rattle.sqlval.specs.declared.fault.Fault.TheVariants as fault
+use Rattle.sql_syntax.specs.declared.statement.ObjectKind.{ObjectKind}
+use Rattle.sql_syntax.specs.declared.statement.ObjectKind.TheVariants as kind
+use Rattle.sql_syntax.specs.declared.statement.Statement.{Statement}
+use Rattle.sql_syntax.specs.declared.statement.Statement.TheVariants as statement
+use Rattle.tree_leaf.specs.Leaf.{Entry}
+use Rattle.pages.specs.Map.{PageMap}
+use Rattle.tree_table.specs.Calls.{BecomesRows, Stands}
+use Rattle.db_layout.specs.Layout.{ReplacesTrees, TreesStand}
+use Rattle.catalog.specs.Database as database
+use Rattle.catalog.specs.Database.{Database, Index, Name, Object, ATable, AnIndex, AView, ATrigger, object}
+use Rattle.catalog.specs.Laws.{FindsListed, IsNoTable, NamesListed}
+use Rattle.catalog.specs.Listed.{has_index, has_only_plain, is_name_of, is_table, plain_table, rowids_in, table_named, table_with_index, without_table}
+use Rattle.catalog.specs.Named.{ListsOthers, without_table_object}
+use Rattle.catalog.specs.declared.tables.Table.{Table}
+use Rattle.query_names.specs.Checked.{Checked, Meant, faults}
+use Rattle.query_names.specs.Schema.{dropped, goes_with}
+use Rattle.row_scan.proofs.TreeOrder.{tree_rises}
+use Rattle.db_write.specs.Changing.{DropsTrees}
+use Rattle.db_pages.specs.Schema.{AreRowsOf, Told, all_told, told_by}
+use Rattle.db_pages.specs.Stored.{Stores, all_trees, schema_tree}
+use Rattle.executor.specs.Changing.{IsChangeRefusal, IsMade}
+use Rattle.executor.specs.Listing.{AreThere, without_rows}
+use Rattle.executor.specs.Works.{Reaches, RefusesWith, change_made, of_known}
+use Rattle.executor.proofs.FoundTables.{table_found}
+use Rattle.executor.proofs.HeldTrees.{HoldsTrees, among, page_size, schema_stands, stores_of, trees_held, with_schema}
+use Rattle.executor.proofs.HeldTrees as held_trees
+use Rattle.executor.proofs.Owners.{HasTable, table_of_parts}
+use Rattle.executor.proofs.Replacing.{IsSplit, found_is, names_once, split_at}
+use Rattle.executor.proofs.SchemaRows.{rising_distinct}
+use Rattle.executor.proofs.Telling.{AreLess, as_rows, as_told, many_less, more_pages, rowids_told, told_append, told_around, told_as}
+
+-- what follows for every listed database, and for the trees of its file
+pub record Laws : Type 0 where
+  pub others : ListsOthers
+  pub finds : FindsListed
+  pub stand : TreesStand
+  pub give_way : ReplacesTrees
+
+abbrev pub dropping : ObjectKind → Name → Statement
+dropping k n = statement.Drop k n
+
+refused_work : (k : Checked Database) (r : Refusal) → Contains (faults k) r → RefusesWith (of_known k) r
+refused_work (Meant db []) r has = absurd (omega (arith, has.1))
+refused_work (Meant db (s ∷ rs)) r has = has
+
+-- ---- what goes with a table
+
+both_hold : (a b : Bool) → (a && b) ≡ true → (a ≡ true) × (b ≡ true)
+both_hold true b h = (refl, h)
+both_hold false b h = absurd (false≢true h)
+
+-- of a database of tables and plain indexes a DROP takes the table of its name and its indexes
+pub goes_alone : (n : Name) (db : Database) → has_only_plain db ≡ true → filter (λ x. not (goes_with n x)) db ≡ without_table_object n db
+goes_alone n [] only = refl
+goes_alone n ((name, ATable t) ∷ es) only = by_test (is_same_name n name) (goes_alone n es (both_hold true (has_only_plain es) only).1)
+  where
+    by_test : (b : Bool) → filter (λ x. not (goes_with n x)) es ≡ without_table_object n es
+        → cond (not b) ((name, ATable t) ∷ filter (λ x. not (goes_with n x)) es) (filter (λ x. not (goes_with n x)) es) ≡ cond (not b) ((name, ATable t) ∷ without_table_object n es) (without_table_object n es)
+    by_test true rest = rest
+    by_test false rest = ap (λ (xs : Database). (name, ATable t) ∷ xs) rest
+goes_alone n ((name, AnIndex i) ∷ es) only = by_test (is_same_name n name || is_same_name n i.table) (goes_alone n es (both_hold (not (i.is_unique || i.is_automatic)) (has_only_plain es) only).1)
+  where
+    by_test : (b : Bool) → filter (λ x. not (goes_with n x)) es ≡ without_table_object n es
+        → cond (not b) ((name, AnIndex i) ∷ filter (λ x. not (goes_with n x)) es) (filter (λ x. not (goes_with n x)) es) ≡ cond (not b) ((name, AnIndex i) ∷ without_table_object n es) (without_table_object n es)
+    by_test true rest = rest
+    by_test false rest = ap (λ (xs : Database). (name, AnIndex i) ∷ xs) rest
+goes_alone n ((name, AView v) ∷ es) only = absurd (false≢true only)
+goes_alone n ((name, ATrigger t) ∷ es) only = absurd (false≢true only)
+
+-- ---- where there is none
+
+-- an object of another kind isn't dropped
+abbrev refuses_kind : Database → ObjectKind → Name → Option Object → Type 0
+refuses_kind db k n o = RefusesWith (of_known (dropped db k n o)) NoSuch
+
+module _ (finds : FindsListed) (old : PageMap) (size : ℕ) (tables : List Table) (db : Database) (held : Stores old size tables db) (n : Name) where
+  found_so : MatchOption (table_named n tables) (IsNoTable (object db n)) (λ t. object db n ≡ Some (ATable (plain_table t (held.rows_at t.root))))
+  found_so = finds held.rows_at tables db n held.of_tables.lists
+
+  pub no_table : (f : Fault) → (f ≡ fault.Memory) ⊎ (refusal_of f ≡ NoSuch) × (table_named n tables ≡ None) → IsChangeRefusal (dropping kind.Table n) db f
+  no_table f (inl memory) = inl (inl (inl memory))
+  no_table f (inr (is, none)) = inr (inl (subst (RefusesWith (change_made (dropping kind.Table n) db)) (sym is) (by (subst (λ (t : Option Table). MatchOption t (IsNoTable (object db n)) (λ t. object db n ≡ Some (ATable (plain_table t (held.rows_at t.root))))) none found_so))))
+    where
+      by : IsNoTable (object db n) → refuses_kind db kind.Table n (object db n)
+      by (inl nothing) = subst (refuses_kind db kind.Table n) (sym nothing) (0, omega arith, refl)
+      by (inr (i, is, unique)) = subst (refuses_kind db kind.Table n) (sym is) (0, omega arith, refl)
+
+  -- there are no objects but tables and indexes
+  pub no_other : (k : ObjectKind) → (k ≡ kind.Table → ⊥) → (k ≡ kind.Index → ⊥) → (f : Fault) → (f ≡ fault.Memory) ⊎ (refusal_of f ≡ NoSuch) → IsChangeRefusal (dropping k n) db f
+  no_other k other and f (inl memory) = inl (inl (inl memory))
+  no_other k other and f (inr is) = inr (inl (subst (RefusesWith (change_made (dropping k n) db)) (sym is) (by (table_named n tables) found_so)))
+    where
+      on_table : (k : ObjectKind) → (k ≡ kind.Table → ⊥) → (o : Object) → (t : database.Table) → o ≡ ATable t → refuses_kind db k n (Some o)
+      on_table kind.Table other o t e = absurd (other refl)
+      on_table kind.Index other o t e = subst (λ (x : Object). refuses_kind db kind.Index n (Some x)) (sym e) (0, omega arith, refl)
+      on_table kind.View other o t e = subst (λ (x : Object). refuses_kind db kind.View n (Some x)) (sym e) (0, omega arith, refl)
+      on_table kind.Trigger other o t e = subst (λ (x : Object). refuses_kind db kind.Trigger n (Some x)) (sym e) (0, omega arith, refl)
+
+      on_index : (k : ObjectKind) → (k ≡ kind.Index → ⊥) → (i : Index) → refuses_kind db k n (Some (AnIndex i))
+      on_index kind.Table and i = (0, omega arith, refl)
+      on_index kind.Index and i = absurd (and refl)
+      on_index kind.View and i = (0, omega arith, refl)
+      on_index kind.Trigger and i = (0, omega arith, refl)
+
+      nothing : (k : ObjectKind) → refuses_kind db k n None
+      nothing k = (0, omega arith, refl)
+
+      by : (t : Option Table) → MatchOption t (IsNoTable (object db n)) (λ t. object db n ≡ Some (ATable (plain_table t (held.rows_at t.root)))) → refuses_kind db k n (object db n)
+      by (Some t) e = subst (refuses_kind db k n) (sym e) (on_table k other (ATable (plain_table t (held.rows_at t.root))) (plain_table t (held.rows_at t.root)) refl)
+      by None (inl none) = subst (refuses_kind db k n) (sym none) (nothing k)
+      by None (inr (i, is, unique)) = subst (refuses_kind db k n) (sym is) (on_index k and i)
+
+  no_name : (ts : List Table) → table_named n ts ≡ None → table_with_index n ts ≡ None → is_name_of ts n ≡ false
+  no_name [] none and = refl
+  no_name (t ∷ ts) none and = by (is_table n t) (has_index n t) none and (no_name ts)
+    where
+      by : (a b : Bool) → cond a (Some t) (table_named n ts) ≡ None → cond b (Some t) (table_with_index n ts) ≡ None → (table_named n ts ≡ None → table_with_index n ts ≡ None → is_name_of ts n ≡ false)
+          → ((a || b) || is_name_of ts n) ≡ false
+      by true b none and rest = absurd cc
+      by false true none and rest = absurd cc
+      by false false none and rest = rest none and
+
+  -- no index has the name
+  pub no_index : NamesListed → (f : Fault) → (f ≡ fault.Memory) ⊎ (refusal_of f ≡ NoSuch) × (table_with_index n tables ≡ None) → IsChangeRefusal (dropping kind.Index n) db f
+  no_index names f (inl memory) = inl (inl (inl memory))
+  no_index names f (inr (is, none)) = inr (inl (subst (RefusesWith (change_made (dropping kind.Index n) db)) (sym is) (by (table_named n tables) refl found_so)))
+    where
+      not_there : table_named n tables ≡ None → (i : Index) → object db n ≡ Some (AnIndex i) → ⊥
+      not_there named i e = some_named (sym (ap is_some e) ∙ (names held.rows_at tables db n held.of_tables.lists ∙ no_name tables named none))
+        where
+          some_named : true ≡ false → ⊥
+          some_named h = false≢true (sym h)
+
+      by : (t : Option Table) → table_named n tables ≡ t → MatchOption t (IsNoTable (object db n)) (λ t. object db n ≡ Some (ATable (plain_table t (held.rows_at t.root)))) → refuses_kind db kind.Index n (object db n)
+      by (Some t) named e = subst (refuses_kind db kind.Index n) (sym e) (0, omega arith, refl)
+      by None named (inl nothing) = subst (refuses_kind db kind.Index n) (sym nothing) (0, omega arith, refl)
+      by None named (inr (i, e, unique)) = absurd (not_there named i e)
+
+-- ---- a table that goes
+
+module _ (laws : Laws) (old : PageMap) (size : ℕ) (tables : List Table) (db : Database) (held : Stores old size tables db) (n : Name) (t : Table) (named : table_named n tables ≡ Some t) where
+  abbrev trees : HoldsTrees old size held.rows_at tables held.schema
+  trees = trees_held old size tables db held
+
+  pub schema_stand : Stands old size 1 held.schema held.schema_used held.free
+  schema_stand = schema_stands old size held.rows_at tables held.schema trees laws.stand
+
+  pub split : IsSplit t tables
+  split = split_at (is_table n) tables t (names_once tables held.of_tables.once) named
+
+  abbrev o : HasTable held.rows_at tables held.held t
+  o = table_of_parts held.rows_at tables held.held split.before t split.after split.parts held.each
+
+  abbrev front : List Told
+  front = all_told split.before
+
+  abbrev back : List Told
+  back = all_told split.after
+
+  -- the rows that are left tell the tables that are left
+  less : AreLess (length old) (front ++ back) (rowids_in t) held.schema
+  less = subst (λ (rs : List ℤ). AreLess (length old) (front ++ back) rs held.schema) (rowids_told t)
+      (many_less (length old) front (told_by t) back held.schema
+      (told_as (length old) (all_told tables) (front ++ (told_by t ++ back)) held.schema (ap all_told split.parts ∙ told_around split.before t split.after) (as_told (length old) tables held.schema held.tell))
+      (rising_distinct held.schema (tree_rises old size 1 held.schema held.schema_used held.shared.trees.0)))
+
+  pub rows_there : AreThere (rowids_in t) held.schema
+  rows_there = less.there
+
+  module _ (mid : PageMap) (becomes : BecomesRows old mid size 1 (without_rows (rowids_in t) held.schema) held.schema_used held.free) where
+    abbrev schema_left : List Entry
+    schema_left = without_rows (rowids_in t) held.schema
+
+    abbrev then_trees : HoldsTrees mid size held.rows_at tables schema_left
+    then_trees = with_schema old size held.rows_at tables held.schema trees laws.give_way mid schema_left becomes
+
+    reached : Reaches (change_made (dropping kind.Table n) db) (without_table_object n db)
+    reached = subst (λ (o : Option Object). Reaches (of_known (dropped db kind.Table n o)) (without_table_object n db))
+        (sym (table_found held.rows_at tables db n t held.of_tables.lists named)) (goes_alone n db held.of_tables.only)
+
+    -- what the call that gives its trees back comes to
+    pub drops : (new : PageMap) → DropsTrees mid new size t (Ok tt) → (listed : List Table) → listed ≡ without_table n tables → IsMade (dropping kind.Table n) db new size listed
+    drops new gives listed same =
+        let left = gives (schema_tree schema_left becomes.now_used) (all_trees o.split.before) (all_trees o.split.after) (held.rows_at t.root)
+        (page_size mid size held.rows_at tables schema_left then_trees) refl (among mid size held.rows_at tables schema_left then_trees t o) o.split.is.fit in
+        let longer : length old ≤ length new = (let a = becomes.moves.longer in let b = left.same in omega (arith, a, b)) in
+        let others : split.before ++ split.after ≡ without_table n tables = sym (split.without n (found_is (is_table n) tables t named)) in
+        let tell : AreRowsOf (length new) (split.before ++ split.after) schema_left =
+        as_rows (length new) (split.before ++ split.after) (front ++ back) schema_left (told_append split.before split.after) (more_pages (length old) (length new) longer (front ++ back) schema_left less.tell) in
+        record {
+          made = without_table_object n db;
+          reaches = reached;
+          stored = subst (λ (ts : List Table). Stores new size ts (without_table_object n db)) (sym same)
+              (stores_of new size held.rows_at (without_table n tables) schema_left (without_table_object n db)
+              (subst (λ (ts : List Table). HoldsTrees new size held.rows_at ts schema_left) others (held_trees.dropped mid size held.rows_at tables schema_left then_trees t o new left))
+              (laws.others held.rows_at tables db n t held.of_tables named)
+              (subst (λ (ts : List Table). AreRowsOf (length new) ts schema_left) others tell));
+        }
+
+    pub not_given : (new : PageMap) (f : Fault) → DropsTrees mid new size t (Err f) → IsChangeRefusal (dropping kind.Table n) db f
+    not_given new f gives =
+        inl (inl (gives (schema_tree schema_left becomes.now_used) (all_trees o.split.before) (all_trees o.split.after) (held.rows_at t.root)
+        (page_size mid size held.rows_at tables schema_left then_trees) refl (among mid size held.rows_at tables schema_left then_trees t o) o.split.is.fit))

@@ -1,0 +1,364 @@
+-- What an INSERT comes to on the database that pages hold.
+use Rattle.std.proofs.Common.{◌≡◌, ◌⊎◌, ◌≤◌, ◌+◌, inl, inr, refl, sym, ap, subst, ◌∙◌, ℕ, zero, suc, Bool, true, false, List, [], ◌∷◌, ◌++◌, length, map, slice_index_or, Option, Some, None, Result, Ok, Err, arith}
+use Rattle.std.specs.Prelude.{⊤, All, Contains, IsErrAnd, IsTrue, MatchResult}
+use Rattle.std.specs.List.{AllByRecursion, position_from, range_with_len}
+use Rattle.std.proofs.lemmas.Bool.{cases_eq}
+use Rattle.std.proofs.lemmas.List.{append-nil, get_or-append-add, get_or-map, length-append, length-map}
+use Rattle.std.proofs.lemmas.List.FromFn.{length-range_with_len}
+use Rattle.sqlval.specs.Names.{folded, is_same_name}
+use Rattle.sqlval.specs.Refusals.{Answer, ◌then◌, NoSuch, Refusal, refusal_of}
+use Rattle.sqlval.specs.declared.fault.Fault.{Fault}
+use Rattle.sqlval.specs.declared.fault.Fault.TheVariants as fault
+use Rattle.sqlval.specs.declared.value.Value.{Value}
+use Rattle.sqlval.specs.declared.value.Value.TheVariants.{Null}
+use Rattle.sql_syntax.specs.declared.change.Change.TheVariants as kind
+use Rattle.sql_syntax.specs.declared.change.Insert.{Insert}
+use Rattle.sql_syntax.specs.declared.statement.Statement.{Statement}
+use Rattle.sql_syntax.specs.declared.statement.Statement.TheVariants as statement
+use Rattle.pages.specs.Calls.{Limits}
+use Rattle.pages.specs.Map.{PageMap}
+use Rattle.db_layout.specs.Trees.{AreAmong}
+use Rattle.catalog.specs.Database as database
+use Rattle.catalog.specs.Database.{ATable, Database, Name, Object, with_object}
+use Rattle.catalog.specs.Laws.{KeepsOnlyPlain, ListsOtherRows}
+use Rattle.catalog.specs.Listed.{Lists, has_only_plain, plain_table, table_named}
+use Rattle.catalog.specs.Named.{IsOfTables, KeepsNamed}
+use Rattle.catalog.specs.declared.tables.Column.{Column}
+use Rattle.catalog.specs.declared.tables.Table.{Table}
+use Rattle.query_names.specs.Bound.{columns_seen, count_wanted, is_twice_named, looked_up}
+use Rattle.query_names.specs.Checked.{Checked, Meant, faults, good, known_map, meant}
+use Rattle.query_names.specs.Inserts.{AreColumns, IsTargetFault, places_in}
+use Rattle.query_names.specs.Views.{look_up}
+use Rattle.query_names.proofs.ColumnNames.{folded_twice}
+use Rattle.query_names.proofs.KnownTables.{known_listed}
+use Rattle.row_scan.specs.Rows.{TableRow}
+use Rattle.row_change.specs.Agreement.{IsSetFor}
+use Rattle.row_change.specs.Binding.{row_with}
+use Rattle.row_change.specs.Changes.{Given, Inserts, Resolved, no_outer, resolve_change, resolve_given}
+use Rattle.row_change.specs.Constraints.{table_of}
+use Rattle.row_change.specs.Inserting.{AllStorable, IsRefusedAs, given_at, last_rowid, rows_added}
+use Rattle.record.specs.Writing.{AreStorable}
+use Rattle.db_write.specs.Changing.{InsertsInTrees, IsRefusedInsert}
+use Rattle.db_write.specs.Turning.{AreEntriesStorable}
+use Rattle.catalog.specs.declared.tables.Index.{Index}
+use Rattle.index_entries.specs.Entries.{indexed}
+use Rattle.db_layout.specs.Trees.{columns_of}
+use Rattle.row_change.proofs.GivenAsMeant.{columns_refused, row_placed, source_refused, source_stands, table_missing, value_places}
+use Rattle.trigger.specs.Binding.{IsFault}
+use Rattle.trigger.specs.Effects.{change, given_rows}
+use Rattle.trigger.specs.Laws.{BindsAlone, InsertAddsRows, InsertIsRefused, InsertOfNoneStays}
+use Rattle.executor.specs.Changing.{HasLongRow, IsChangeRefusal, IsMade}
+use Rattle.executor.specs.Reading.{AnswersRead}
+use Rattle.db_pages.specs.Stored.{Stores, all_trees, schema_tree}
+use Rattle.executor.specs.Works.{Reaches, RefusesWith, change_made, given_on, of_answer}
+use Rattle.executor.proofs.Owners.{HasTable}
+use Rattle.executor.proofs.HeldTrees.{HoldsTrees, among, named_as, page_size, rows_elsewhere, rows_here, rows_with, stores_rows, held_table, trees_held}
+use Rattle.executor.proofs.Roots.{own_pages}
+use Rattle.executor.proofs.FoundTables.{indexes_listed, table_found}
+
+-- what follows for every listed database, and for the trees of its file
+pub record Laws : Type 0 where
+  pub lists : ListsOtherRows
+  pub tables : KeepsOnlyPlain
+  pub named : KeepsNamed
+  pub binds : BindsAlone
+  pub refused : InsertIsRefused
+  pub inserts : InsertAddsRows
+  pub none : InsertOfNoneStays
+
+abbrev inserting : Insert → Statement
+inserting i = statement.Change (kind.Insert i)
+
+abbrev table_in : Option Object → Answer database.Table
+table_in o = elim o [ Some (ATable t) ↦ Ok t | _ ↦ Err NoSuch ]
+
+pub named_folded : (tables : List Table) (name : Name) (t : Table) → table_named name tables ≡ Some t → table_named (folded name) tables ≡ Some t
+named_folded tables name t named = named_as tables (folded name) name (folded_twice name) ∙ named
+
+-- a listed table of the database
+pub listed_table : (rows_at : ℕ → List TableRow) (tables : List Table) (db : Database) (name : Name) (t : Table) → Lists rows_at tables db → table_named name tables ≡ Some t
+    → table_of db (folded name) ≡ Ok (plain_table t (rows_at t.root))
+listed_table rows_at tables db name t lists named =
+    ap table_in (table_found rows_at tables db (folded name) t lists (named_folded tables name t named))
+
+-- binding it isn't refused
+pub not_refused : Laws → (db : Database) (i : Insert) (what : Resolved) → has_only_plain db ≡ true → resolve_change db no_outer (kind.Insert i) ≡ Meant what [] → (r : Refusal) → IsFault db (kind.Insert i) r → ⊥
+not_refused laws db i what only stands r is = nothing (subst (λ (k : Checked Resolved). Contains (faults k) r) stands ((laws.binds db (kind.Insert i) r only).0 is))
+  where
+    nothing : Contains [] r → ⊥
+    nothing has = absurd (omega (arith, has.1))
+
+-- ---- why its names and values are refused
+
+abbrev work : Insert → Database → Refusal → Type 0
+work i db r = RefusesWith (change_made (inserting i) db) r
+
+pub target_refused : (laws : Laws) (pages : PageMap) (size : ℕ) (tables : List Table) (db : Database) (held : Stores pages size tables db) (i : Insert) (f : Fault) → IsTargetFault tables i f
+    → IsChangeRefusal (inserting i) db f
+target_refused laws pages size tables db held i f (inl memory) = inl (inl (inl memory))
+target_refused laws pages size tables db held i f (inr (inl (e, none))) =
+    inr (inl (inl ((laws.binds db (kind.Insert i) (refusal_of f) held.of_tables.only).1
+    (subst (Contains (faults (resolve_change db no_outer (kind.Insert i)))) (sym e)
+    (table_missing db i.table i.columns i.source (known_listed held.rows_at tables db held.of_tables.lists i.table ∙ ap looked_up none))))))
+target_refused laws pages size tables db held i f (inr (inr (t, named, list))) =
+    inr (inl (inl ((laws.binds db (kind.Insert i) (refusal_of f) held.of_tables.only).1
+    (columns_refused db i.table i.source t (known_listed held.rows_at tables db held.of_tables.lists i.table ∙ ap looked_up named) (held.once i.table t named) i.columns (refusal_of f) list))))
+
+-- ---- what its source gives
+
+each_for : {A : Type 0} (P Q : A → Type 0) (xs : List A) → ((x : A) → P x → Q x) → AllByRecursion P xs → AllByRecursion Q xs
+each_for P Q [] go each = tt
+each_for P Q (x ∷ xs) go each = (go x each.0, each_for P Q xs go each.1)
+
+abbrev source_known : Database → ℕ → Insert → Checked Given
+source_known db n i = resolve_given db no_outer (Some n) i.source
+
+-- what is meant, where nothing is refused
+is_meant : {A B : Type 0} (f : A → B) (k : Checked A) (x : B) → known_map f k ≡ Meant x [] → (k ≡ Meant (meant k) []) × (f (meant k) ≡ x)
+is_meant f (Meant y rs) x e = (ap (Meant y) (ap faults e), ap meant e)
+
+refused_so : (f : Fault) → RefusesWith (of_answer (Err (refusal_of f))) (refusal_of f)
+refused_so fault.Memory = (0, omega arith, refl)
+refused_so fault.Io = (0, omega arith, refl)
+refused_so fault.NotADatabase = (0, omega arith, refl)
+refused_so (fault.Unsupported feature) = (0, omega arith, refl)
+refused_so (fault.Damaged damage page) = (0, omega arith, refl)
+refused_so fault.Full = (0, omega arith, refl)
+refused_so (fault.Syntax place) = (0, omega arith, refl)
+refused_so (fault.NoSuch kind name) = (0, omega arith, refl)
+refused_so (fault.Exists name) = (0, omega arith, refl)
+refused_so (fault.Ambiguous name) = (0, omega arith, refl)
+refused_so (fault.Misuse misuse) = (0, omega arith, refl)
+refused_so fault.Busy = (0, omega arith, refl)
+refused_so fault.StaleSnapshot = (0, omega arith, refl)
+refused_so fault.NoTransaction = (0, omega arith, refl)
+refused_so fault.InTransaction = (0, omega arith, refl)
+refused_so fault.NoSavepoint = (0, omega arith, refl)
+refused_so fault.NotNull = (0, omega arith, refl)
+refused_so fault.Unique = (0, omega arith, refl)
+refused_so fault.Check = (0, omega arith, refl)
+refused_so (fault.Raised text) = (0, omega arith, refl)
+refused_so fault.RealRefused = (0, omega arith, refl)
+refused_so fault.TypeRefused = (0, omega arith, refl)
+refused_so fault.RowidFull = (0, omega arith, refl)
+refused_so fault.RowidMismatch = (0, omega arith, refl)
+refused_so fault.TooLong = (0, omega arith, refl)
+refused_so fault.RowChangedBefore = (0, omega arith, refl)
+refused_so fault.ViewReadOnly = (0, omega arith, refl)
+refused_so fault.Failed = (0, omega arith, refl)
+refused_so fault.Blank = (0, omega arith, refl)
+
+-- The INSERT isn't refused and has this source, whose rows are these. Each gives the table's columns the same values by their places
+-- in the row, where they have one, as by the place of each value's column.
+pub record IsGivenAs (db : Database) (i : Insert) (t : Table) (places : List (Option ℕ)) (rows : List (List Value)) : Type 0 where
+  pub at : List ℕ
+  pub source : Given
+  pub stands : resolve_change db no_outer (kind.Insert i) ≡ Meant (Inserts (folded i.table) at source) []
+  pub answered : given_rows db no_outer source ≡ Ok rows
+  pub placed : AllByRecursion (λ vs. row_with t at vs ≡ map (given_at vs) places) rows
+
+module _ (laws : Laws) (pages : PageMap) (size : ℕ) (tables : List Table) (db : Database) (held : Stores pages size tables db) (i : Insert) (t : Table) (n : ℕ) (named : table_named i.table tables ≡ Some t)
+    (columns : AreColumns t.columns i.columns) (n_is : n ≡ count_wanted i.columns t) where
+  found : look_up db i.table ≡ good (columns_seen t)
+  found = known_listed held.rows_at tables db held.of_tables.lists i.table ∙ ap looked_up named
+
+  once : is_twice_named t.columns ≡ false
+  once = held.once i.table t named
+
+  stands_so : (given_as : Given) → source_known db n i ≡ Meant given_as [] → resolve_change db no_outer (kind.Insert i) ≡ Meant (Inserts (folded i.table) (value_places t i.columns) given_as) []
+  stands_so given_as e = source_stands db i.table i.source t found once i.columns given_as columns (subst (λ m. source_known db m i ≡ Meant given_as []) n_is e)
+
+  pub rows_refused : (f : Fault) → AnswersRead {X = List (List Value)} (λ rows. rows) (given_on db n i.source) (Err f) → IsChangeRefusal (inserting i) db f
+  rows_refused f (inl outside) = inl (inl outside)
+  rows_refused f (inr (inl has)) = inr (inl (inl ((laws.binds db (kind.Insert i) (refusal_of f) held.of_tables.only).1
+      (source_refused db i.table i.source t found once i.columns (refusal_of f) (subst (λ m. Contains (faults (source_known db m i)) (refusal_of f)) n_is (in_it (source_known db n i) has))))))
+    where
+      in_it : (k : Checked Given) → Contains (faults (known_map (given_rows db no_outer) k)) (refusal_of f) → Contains (faults k) (refusal_of f)
+      in_it (Meant g rs) has = has
+  rows_refused f (inr (inr e)) =
+      let is = is_meant (given_rows db no_outer) (source_known db n i) (Err (refusal_of f)) e in
+      let stands = stands_so (meant (source_known db n i)) is.0 in
+      let refused = laws.refused db i t (held.rows_at t.root) (value_places t i.columns) (meant (source_known db n i)) (refusal_of f) (listed_table held.rows_at tables db i.table t held.of_tables.lists named) stands is.1 in
+      inr (inl (inr (not_refused laws db i _ held.of_tables.only stands, subst (λ (a : Answer Database). RefusesWith (of_answer a) (refusal_of f)) (sym refused) (refused_so f))))
+
+  pub given_as : (rows : List (List Value)) (places : List (Option ℕ)) → places ≡ places_in t.columns i.columns → given_on db n i.source ≡ Meant (Ok rows) [] → AllByRecursion (λ vs. length vs ≡ n) rows
+      → IsGivenAs db i t places rows
+  given_as rows places places_are e wide =
+      let is = is_meant (given_rows db no_outer) (source_known db n i) (Ok rows) e in
+      record {
+        at = value_places t i.columns;
+        source = meant (source_known db n i);
+        stands = stands_so (meant (source_known db n i)) is.0;
+        answered = is.1;
+        placed = each_for (λ vs. length vs ≡ n) (λ vs. row_with t (value_places t i.columns) vs ≡ map (given_at vs) places) rows (λ vs l.
+            subst (λ ps. row_with t (value_places t i.columns) vs ≡ map (given_at vs) ps) (sym places_are)
+            (row_placed db i.table i.source t found once i.columns columns vs (l ∙ n_is))) wide;
+      }
+
+-- ---- what it gives
+
+pub places_long : (columns : List Column) (names : Option (List Name)) → length (places_in columns names) ≡ length columns
+places_long columns None = length-map (range_with_len 0 (length columns)) (λ (n : ℕ). Some n) ∙ length-range_with_len 0 (length columns)
+places_long columns (Some names) = length-map columns (λ column. position_from (λ name. is_same_name name column.name) 0 names)
+
+all_of : {A : Type 0} (P : A → Type 0) (xs : List A) → AllByRecursion P xs → All P xs
+all_of P [] each i d lt = absurd (omega (arith, lt))
+all_of P (x ∷ xs) each zero d lt = each.0
+all_of P (x ∷ xs) each (suc i) d lt = all_of P xs each.1 i d (omega (arith, lt))
+
+all_behind : {A : Type 0} (P : A → Type 0) (xs ys : List A) → All P (xs ++ ys) → All P ys
+all_behind P xs ys all i d lt = subst P (get_or-append-add xs ys i d) (all (length xs + i) d (let sum = length-append xs ys in omega (arith, lt, sum)))
+
+all_last : {A : Type 0} (P : A → Type 0) (xs ys : List A) → AllByRecursion P (xs ++ ys) → AllByRecursion P ys
+all_last P [] ys all = all
+all_last P (x ∷ xs) ys all = all_last P xs ys all.1
+
+-- the entries of rows after others
+entries_behind : (rows added : List TableRow) (indexes : List Index) → AreEntriesStorable indexes (rows ++ added) → AreEntriesStorable indexes added
+entries_behind rows added [] all = tt
+entries_behind rows added (i ∷ is) all = (all_last (λ row. AreStorable (indexed (columns_of i) row)) rows added all.0, entries_behind rows added is all.1)
+
+some_or_none : {A : Type 0} (xs : List A) → (xs ≡ []) ⊎ (1 ≤ length xs)
+some_or_none [] = inl refl
+some_or_none (x ∷ xs) = inr (omega arith)
+
+-- the database that the rows make
+pub record IsMadeOf (rows_at : ℕ → List TableRow) (tables : List Table) (db : Database) (i : Insert) (t : Table) (added : List TableRow) : Type 0 where
+  pub made : Database
+  pub is : change db (kind.Insert i) ≡ Ok made
+  pub of_tables : IsOfTables (rows_with rows_at t.root (rows_at t.root ++ added)) tables made
+
+abbrev rows_answer : List TableRow → Answer (List TableRow)
+rows_answer rows = Ok rows
+
+nothing_added : (added : List TableRow) → rows_answer [] ≡ rows_answer added → [] ≡ added
+nothing_added added e = cc
+
+not_none : (r : Refusal) → rows_answer [] ≡ Err r → ⊥
+not_none r e = absurd cc
+
+module _ (laws : Laws) (pages : PageMap) (size : ℕ) (tables : List Table) (db : Database) (held : Stores pages size tables db) (i : Insert) (t : Table) (places : List (Option ℕ)) (given : List (List Value)) (named : table_named i.table tables ≡ Some t)
+    (is : IsGivenAs db i t places given) (long : length places ≡ length t.columns) where
+  owned : HasTable held.rows_at tables held.held t
+  owned = held_table pages size tables db held i.table t named
+
+  set_for : All (IsSetFor t places is.at) given
+  set_for = all_of (IsSetFor t places is.at) given (each_for (λ vs. row_with t is.at vs ≡ map (given_at vs) places) (IsSetFor t places is.at) given one is.placed)
+    where
+      one : (vs : List Value) → row_with t is.at vs ≡ map (given_at vs) places → IsSetFor t places is.at vs
+      one vs e = record {
+        full = ap length e ∙ (length-map places (given_at vs) ∙ long);
+        each = λ k lt. ap (λ ws. slice_index_or ws k Null) e ∙ get_or-map (given_at vs) places k None Null (omega (arith, lt, long));
+      }
+
+  -- what the statement comes to on the database
+  abbrev changed : List (List Value) → Answer Database
+  changed rows = rows_added t.columns places (last_rowid (held.rows_at t.root)) rows then λ added. Ok (with_object db (folded i.table) (ATable (plain_table t (held.rows_at t.root ++ added))))
+
+  change_is : 1 ≤ length given → change db (kind.Insert i) ≡ changed given
+  change_is some =
+      laws.inserts db i t (held.rows_at t.root) is.at is.source places given held.of_tables.only (listed_table held.rows_at tables db i.table t held.of_tables.lists named) owned.split.is.fit is.stands is.answered set_for some
+
+  pub made : (added : List TableRow) → rows_added t.columns places (last_rowid (held.rows_at t.root)) given ≡ Ok added → IsMadeOf held.rows_at tables db i t added
+  made added e = by (some_or_none given)
+    where
+      same : [] ≡ added → (root : ℕ) → held.rows_at root ≡ rows_with held.rows_at t.root (held.rows_at t.root ++ added) root
+      same nothing root = elim (cases_eq root t.root) [
+        | inl here ↦ ap held.rows_at here ∙ (sym (append-nil (held.rows_at t.root)) ∙ (ap (λ more. held.rows_at t.root ++ more) nothing ∙ sym (rows_here held.rows_at t.root root (held.rows_at t.root ++ added) here)))
+        | inr differ ↦ sym (rows_elsewhere held.rows_at t.root root (held.rows_at t.root ++ added) differ)
+      ]
+
+      by : (given ≡ []) ⊎ (1 ≤ length given) → IsMadeOf held.rows_at tables db i t added
+      by (inl none) =
+          let nothing = nothing_added added (subst (λ rows. rows_added t.columns places (last_rowid (held.rows_at t.root)) rows ≡ Ok added) none e) in
+          record {
+            made = db;
+            is = laws.none db i t (held.rows_at t.root) is.at is.source (listed_table held.rows_at tables db i.table t held.of_tables.lists named) is.stands (is.answered ∙ ap (λ (rows : List (List Value)). Ok rows) none);
+            of_tables = record {
+              lists = subst (λ (rows_at : ℕ → List TableRow). Lists rows_at tables db) (λ k root. same nothing root k) held.of_tables.lists;
+              only = held.of_tables.only;
+              named = held.of_tables.named;
+              once = held.of_tables.once;
+            };
+          }
+      by (inr some) = record {
+        made = with_object db (folded i.table) (ATable (plain_table t (held.rows_at t.root ++ added)));
+        is = change_is some ∙ ap (λ (a : Answer (List TableRow)). a then λ added. Ok (with_object db (folded i.table) (ATable (plain_table t (held.rows_at t.root ++ added))))) e;
+        of_tables = record {
+          lists = laws.lists held.rows_at tables db (folded i.table) t (held.rows_at t.root ++ added) held.of_tables.lists (named_folded tables i.table t named)
+              (λ other u found here. own_pages pages size tables db held other (folded i.table) u t found (named_folded tables i.table t named) here);
+          only = laws.tables db (folded i.table) (ATable (plain_table t (held.rows_at t.root ++ added))) held.of_tables.only refl;
+          named = laws.named db (folded i.table) (ATable (plain_table t (held.rows_at t.root ++ added))) held.of_tables.named;
+          once = held.of_tables.once;
+        };
+      }
+
+  pub reaches : (made : Database) → change db (kind.Insert i) ≡ Ok made → Reaches (change_made (inserting i) db) made
+  reaches made e = (not_refused laws db i _ held.of_tables.only is.stands, subst (λ (a : Answer Database). Reaches (of_answer a) made) (sym e) refl)
+
+  pub refused : (f : Fault) → IsRefusedAs (rows_added t.columns places (last_rowid (held.rows_at t.root)) given) f → work i db (refusal_of f)
+  refused f (what, e) = inr (not_refused laws db i _ held.of_tables.only is.stands, subst (λ (a : Answer Database). RefusesWith (of_answer a) (refusal_of f)) (sym (by (some_or_none given))) (as_answer what))
+    where
+      by : (given ≡ []) ⊎ (1 ≤ length given) → change db (kind.Insert i) ≡ Err (refusal_of f)
+      by (inl none) = absurd (not_none (refusal_of f) (subst (λ rows. rows_added t.columns places (last_rowid (held.rows_at t.root)) rows ≡ Err (refusal_of f)) none e))
+      by (inr some) = change_is some ∙ ap (λ (a : Answer (List TableRow)). a then λ added. Ok (with_object db (folded i.table) (ATable (plain_table t (held.rows_at t.root ++ added))))) e
+
+      as_answer : (f ≡ fault.RealRefused) ⊎ (f ≡ fault.RowidFull) → RefusesWith (of_answer (Err (refusal_of f))) (refusal_of f)
+      as_answer (inl e) = subst (λ (x : Fault). RefusesWith (of_answer (Err (refusal_of x))) (refusal_of x)) (sym e) (0, omega arith, refl)
+      as_answer (inr e) = subst (λ (x : Fault). RefusesWith (of_answer (Err (refusal_of x))) (refusal_of x)) (sym e) (0, omega arith, refl)
+
+  -- the database has the rows that are too long
+  long_row : (added : List TableRow) (m : IsMadeOf held.rows_at tables db i t added) → (AllStorable added × AreEntriesStorable t.indexes added → ⊥) → HasLongRow m.made
+  long_row added m too_long = record {
+    name = i.table;
+    table = t;
+    rows = held.rows_at t.root ++ added;
+    is = table_found (rows_with held.rows_at t.root (held.rows_at t.root ++ added)) tables m.made i.table t m.of_tables.lists named
+        ∙ ap (λ rows. Some (ATable (plain_table t rows))) (rows_here held.rows_at t.root t.root (held.rows_at t.root ++ added) refl);
+    indexed = indexes_listed (rows_with held.rows_at t.root (held.rows_at t.root ++ added)) tables m.made m.of_tables owned.front t owned.back owned.tables_are;
+    long = λ all. too_long (all_behind (λ row. AreStorable row.1) (held.rows_at t.root) added all.0, entries_behind (held.rows_at t.root) added t.indexes all.1);
+  }
+
+  put_refused : (f : Fault) → IsRefusedInsert t places given (held.rows_at t.root) f → IsChangeRefusal (inserting i) db f
+  put_refused f (inl outside) = inl outside
+  put_refused f (inr (inl as_rows)) = inr (inl (refused f as_rows))
+  put_refused f (inr (inr too_long)) =
+      let m = made too_long.added too_long.answer in
+      inr (inr (record {
+        is = too_long.is;
+        made = m.made;
+        reaches = reaches m.made m.is;
+        why = inl (long_row too_long.added m too_long.long);
+      }))
+
+  abbrev trees : HoldsTrees pages size held.rows_at tables held.schema
+  trees = trees_held pages size tables db held
+
+  its_trees : AreAmong pages size (schema_tree held.schema held.schema_used) (all_trees owned.split.before) t (held.rows_at t.root) (all_trees owned.split.after)
+  its_trees = among pages size held.rows_at tables held.schema trees t owned
+
+  -- what the call that puts the rows comes to
+  pub put_makes : (new : PageMap) (result : Result ⊤ Fault) → InsertsInTrees pages new size t places given result
+      → MatchResult result (λ done. IsMade (inserting i) db new size tables) (IsChangeRefusal (inserting i) db)
+  put_makes new (Ok done) puts =
+      let put = puts (schema_tree held.schema held.schema_used) (all_trees owned.split.before) (all_trees owned.split.after) (held.rows_at t.root) (page_size pages size held.rows_at tables held.schema trees) refl its_trees owned.split.is.fit in
+      let m = made put.added put.answer in
+      record {
+        made = m.made;
+        reaches = reaches m.made m.is;
+        stored = stores_rows pages new size tables db m.made held t (held.rows_at t.root ++ put.added) owned put.hold m.of_tables;
+      }
+  put_makes new (Err f) puts =
+      put_refused f (puts (schema_tree held.schema held.schema_used) (all_trees owned.split.before) (all_trees owned.split.after) (held.rows_at t.root) (page_size pages size held.rows_at tables held.schema trees) refl its_trees owned.split.is.fit)
+
+-- a call that passes a refusal on
+pub passed_on : (P : ⊤ → Type 0) (Q : Fault → Type 0) (r : Result ⊤ Fault) (f : Fault) → IsErrAnd r (λ e. e ≡ f) → Q f → MatchResult r P Q
+passed_on P Q (Ok x) f is why = absurd is
+passed_on P Q (Err e) f is why = subst Q (sym is) why
+
+-- after a call that reads
+pub read_before : {P K : Type 0} (below : P → K) (tells : K → Bool) (limits : K → Limits) (pages : P → PageMap) (Q : PageMap → ℕ → Type 0) (old mid : P) → below mid ≡ below old → pages mid ≡ pages old
+    → (IsTrue (tells (below mid)) → Q (pages mid) (limits (below mid)).page) → IsTrue (tells (below old)) → Q (pages old) (limits (below old)).page
+read_before {P} {K} below tells limits pages Q old mid kept same says told =
+    subst (λ (m : PageMap). Q m (limits (below old)).page) same
+    (subst (λ (k : K). Q (pages mid) (limits k).page) kept (says (subst (λ (k : K). IsTrue (tells k)) (sym kept) told)))

@@ -1,0 +1,9 @@
+-- what is left of the rows decides
+use Rattle.std.proofs.Common.{◌≡◌, drop, map}
+use Rattle.query_names.specs.Checked.{known_all}
+use Rattle.query_bind.specs.Named.{onto_list}
+use Rattle.executor.proofs.WrittenRows.{row_known}
+use Rattle.executor.proofs.giving.bind_rows.Given as goal
+
+abbrev pub invariant-rows : goal.invariant-rows
+invariant-rows l = onto_list l.found (known_all (map row_known (drop l.row-index l.rows))) ≡ known_all (map row_known l.rows)

@@ -1,0 +1,62 @@
+use Rattle.std.proofs.Common.{◌≡◌, ◌∙◌, ap, map, length}
+use Rattle.catalog.specs.Listed.{tables_of}
+use Rattle.db_write.specs.Changing.{InsertsInTrees}
+use Rattle.executor.proofs.Insertions.{Laws, given_as, passed_on, places_long, put_makes, read_before, rows_refused, target_refused}
+use Rattle.executor.proofs.inserting.insert.Goals as goal
+
+pub returns-in_err-target-clause-made : goal.returns-in_err-target-clause-made
+returns-in_err-target-clause-made g c told db held =
+    let laws : Laws = record {
+      lists = c.other_rows_are_listed.ensures.lists;
+      tables = c.other_rows_are_listed.ensures.plain;
+      named = c.named_databases_are_one.ensures.named;
+      binds = c.only_tables_set_nothing_off.ensures.binds;
+      refused = c.only_tables_set_nothing_off.ensures.refused;
+      inserts = c.only_tables_set_nothing_off.ensures.inserts;
+      none = c.only_tables_set_nothing_off.ensures.none;
+    } in
+    passed_on _ _ c.from_residual.result c.in_err-target.field-0.0 c.from_residual.ensures.1
+    (target_refused laws _ _ (tables_of c.args.catalog.now) db held c.args.insert.now c.in_err-target.field-0.0 c.in_err-target.ensures.refused)
+
+pub returns-in_err-rows-clause-made : goal.returns-in_err-rows-clause-made
+returns-in_err-rows-clause-made g c told db held =
+    let laws : Laws = record {
+      lists = c.other_rows_are_listed.ensures.lists;
+      tables = c.other_rows_are_listed.ensures.plain;
+      named = c.named_databases_are_one.ensures.named;
+      binds = c.only_tables_set_nothing_off.ensures.binds;
+      refused = c.only_tables_set_nothing_off.ensures.refused;
+      inserts = c.only_tables_set_nothing_off.ensures.inserts;
+      none = c.only_tables_set_nothing_off.ensures.none;
+    } in
+    let target = c.in_ok-target.target in
+    passed_on _ _ c.from_residual-in_err-rows.result c.in_err-rows.field-0.0 c.from_residual-in_err-rows.ensures.1
+    (rows_refused laws _ _ (tables_of c.args.catalog.now) db held c.args.insert.now target.table.now target.count c.in_ok-target.ensures.table c.in_ok-target.ensures.listed c.in_ok-target.ensures.count
+    c.in_err-rows.field-0.0 (c.in_err-rows.ensures.given db told held))
+
+pub returns-clause-made : goal.returns-clause-made
+returns-clause-made g c told db held =
+    let i = c.args.insert.now in
+    let target = c.in_ok-target.target in
+    let t = target.table.now in
+    let rows = map (λ row. row.items) c.in_ok-rows.rows.items in
+    let tables = tables_of c.args.catalog.now in
+    let laws : Laws = record {
+      lists = c.other_rows_are_listed.ensures.lists;
+      tables = c.other_rows_are_listed.ensures.plain;
+      named = c.named_databases_are_one.ensures.named;
+      binds = c.only_tables_set_nothing_off.ensures.binds;
+      refused = c.only_tables_set_nothing_off.ensures.refused;
+      inserts = c.only_tables_set_nothing_off.ensures.inserts;
+      none = c.only_tables_set_nothing_off.ensures.none;
+    } in
+    let given = c.in_ok-rows.ensures.given db told held in
+    let is = given_as laws _ _ tables db held i t target.count c.in_ok-target.ensures.table c.in_ok-target.ensures.listed c.in_ok-target.ensures.count rows target.places.items
+    c.in_ok-target.ensures.places given c.in_ok-rows.ensures.wide in
+    let long : length target.places.items ≡ length t.columns = ap length c.in_ok-target.ensures.places ∙ places_long t.columns i.columns in
+    let pages = g.P.Pages in
+    let stays = c.in_ok-rows.ensures.stays in
+    let new = pages.map c.insert_rows.new.pages in
+    let puts = read_before pages.below pages.tells pages.limits pages.map (λ old size. InsertsInTrees old new size t target.places.items rows c.insert_rows.result)
+    c.args.pages.now c.given_rows.new.pages stays.kept stays.same c.insert_rows.ensures.inserted told in
+    put_makes laws _ _ tables db held i t target.places.items rows c.in_ok-target.ensures.table is long new c.insert_rows.result puts

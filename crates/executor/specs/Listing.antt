@@ -1,0 +1,61 @@
+-- Rows that are added to the schema table, and taken out of it (Database File Format, "Storage Of The SQL Database Schema").
+use Rattle.std.specs.Prelude.{◌≡◌, ◌⊎◌, ⊤, false, ℕ, ℤ, List, [], ◌∷◌, None, Result, MatchResult}
+use Rattle.sqlval.specs.declared.fault.Fault.{Fault}
+use Rattle.sqlval.specs.declared.fault.Fault.TheVariants as fault
+use Rattle.sqlval.specs.declared.value.Value.{Value}
+use Rattle.record.specs.Record.{IsRecord}
+use Rattle.record.specs.Writing.{AreStorable}
+use Rattle.tree_leaf.specs.Leaf.{Entry}
+use Rattle.pages.specs.Calls.{IsOutsideOrFull}
+use Rattle.pages.specs.Map.{PageMap}
+use Rattle.sql_syntax.specs.declared.create.TableDefinition.{TableDefinition}
+use Rattle.catalog.specs.Listed.{is_name_of}
+use Rattle.catalog.specs.declared.tables.Table.{Table}
+use Rattle.db_pages.specs.Schema.{IsTableOf}
+use Rattle.tree_table.specs.Calls.{BecomesRows, Stands}
+use Rattle.tree_table.specs.Rows.{payload_at, with_row, without_row}
+
+-- the tree has one more row, of these values and at this rowid
+pub record IsAdded (old new : PageMap) (size : ℕ) (values : List Value) (rows : List Entry) (used free : List ℕ) (rowid : ℤ) : Type 0 where
+  pub entry : Entry
+  pub rowid_is : entry.rowid ≡ rowid
+  pub is : IsRecord entry.payload values
+  pub becomes : BecomesRows old new size 1 (with_row entry rows) used free
+
+-- no record can hold the values
+abbrev pub AreTooLong : List Value → Fault → Type 0
+AreTooLong values f = (f ≡ fault.TooLong) × (AreStorable values → ⊥)
+
+-- where a tree stands under page 1 that has no row of this rowid, it has one of these values then; or the call is refused
+abbrev pub AddsRow : PageMap → PageMap → ℕ → ℤ → List Value → Result ⊤ Fault → Type 0
+AddsRow old new size rowid values result = (rows : List Entry) (used free : List ℕ) → Stands old size 1 rows used free → payload_at rowid rows ≡ None
+    → MatchResult result (λ done. IsAdded old new size values rows used free rowid) (λ f. IsOutsideOrFull f ⊎ AreTooLong values f)
+
+-- the rows without those of these rowids
+abbrev pub without_rows : List ℤ → List Entry → List Entry
+without_rows [] rows = rows
+without_rows (rowid ∷ rowids) rows = without_rows rowids (without_row rowid rows)
+
+-- each of these rows is there once
+abbrev pub AreThere : List ℤ → List Entry → Type 0
+AreThere [] rows = ⊤
+AreThere (rowid ∷ rowids) rows = (payload_at rowid rows ≡ None → ⊥) × AreThere rowids (without_row rowid rows)
+
+-- where a tree stands under page 1, its rows of these rowids are taken out; or memory was short, a disk's call failed, or there are as many
+-- pages as there may be
+abbrev pub TakesSchemaRows : PageMap → PageMap → ℕ → List ℤ → Result ⊤ Fault → Type 0
+TakesSchemaRows old new size rowids result = (rows : List Entry) (used free : List ℕ) → Stands old size 1 rows used free → AreThere rowids rows
+    → MatchResult result (λ done. BecomesRows old new size 1 (without_rows rowids rows) used free) IsOutsideOrFull
+
+-- where a tree stands under page 1, its row of this rowid is taken out; or memory was short, a disk's call failed, or there are as
+-- many pages as there may be
+abbrev pub TakesSchemaRow : PageMap → PageMap → ℕ → ℤ → Result ⊤ Fault → Type 0
+TakesSchemaRow old new size rowid result = (rows : List Entry) (used free : List ℕ) → Stands old size 1 rows used free
+    → (payload_at rowid rows ≡ None → ⊥)
+    → MatchResult result (λ done. BecomesRows old new size 1 (without_row rowid rows) used free) IsOutsideOrFull
+
+-- The table of a definition, without indexes. Its name is new among the tables and their indexes.
+pub record IsNewTable (tables : List Table) (d : TableDefinition) (table : Table) : Type 0 where
+  pub makes : IsTableOf d table
+  pub new : is_name_of tables d.name ≡ false
+  pub bare : table.indexes ≡ []

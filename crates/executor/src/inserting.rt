@@ -1,0 +1,46 @@
+//! INSERT.
+
+ghost use Rattle.std.specs.Prelude.{◌≡◌, IsTrue};
+ghost use Rattle.pages.specs.Calls.{Causes};
+ghost use Rattle.sql_syntax.specs.declared.change.Change.TheVariants as change;
+ghost use Rattle.sql_syntax.specs.declared.statement.Statement.TheVariants as statement;
+ghost use Rattle.catalog.specs.Listed.{tables_of};
+ghost use Rattle.executor.specs.Changing.{MakesChange};
+
+use crate::giving::given_rows;
+use catalog::{Catalog, named_databases_are_one, other_rows_are_listed};
+use db_write::insert_rows;
+use pages::WritePages;
+use query_names::{BoundInsert, bind_target};
+use sql_syntax::Insert;
+use sqlval::R;
+use std::alloc::Global;
+use trigger::only_tables_set_nothing_off;
+
+/// Makes the rows of an INSERT: all are known before the first is stored. (What `bind_target`, `given_rows` and `insert_rows` refuse;
+/// then some pages may have changed.)
+pub fn insert<P: WritePages>(
+    alloc: Global,
+    pages: &mut P,
+    catalog: &Catalog,
+    insert: &Insert,
+) -> R<()>
+    ensures made { IsTrue (P.Pages.tells (P.Pages.below pages.old))
+        → MakesChange (λ done. tables_of catalog.now) (statement.Change (change.Insert insert.now)) (P.Pages.map pages.old) (P.Pages.map pages.new)
+        (P.Pages.limits (P.Pages.below pages.old)).page (tables_of catalog.now) result }
+    ensures kept { P.Pages.below pages.new ≡ P.Pages.below pages.old }
+    ensures causes { Causes result (P.Pages.failures pages.old) (P.Pages.failures pages.new)
+        (P.Pages.count pages.new ≡ (P.Pages.limits (P.Pages.below pages.new)).most) }
+{
+    other_rows_are_listed();
+    named_databases_are_one();
+    only_tables_set_nothing_off();
+    let target = bind_target(alloc, insert, catalog)?;
+    let rows = given_rows(alloc, pages, catalog, &insert.source, target.count)?;
+    let bound = BoundInsert {
+        table: target.table,
+        places: target.places,
+        rows,
+    };
+    insert_rows(alloc, pages, bound)
+}

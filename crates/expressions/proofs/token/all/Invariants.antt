@@ -1,6 +1,0 @@
-use Rattle.std.proofs.Common.{◌≡◌, take}
-use Rattle.expressions.specs.Symbols.{symbols, seen}
-use Rattle.expressions.proofs.token.all.Given as goal
-
-abbrev pub invariant-loop-place : goal.invariant-loop-place
-invariant-loop-place l = seen l.spelled l.tokens.items ≡ symbols (take l.place l.spelled)

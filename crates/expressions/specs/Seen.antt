@@ -1,6 +1,0 @@
--- What contracts see of lists of expressions.
-use Rattle.expressions.specs.Reading as spec
-use Rattle.expressions.specs.declared.levels.Deeps.{Deeps}
-
-abbrev pub seen_all : Deeps → spec.Deeps
-seen_all d = record { trees = d.trees.items; depth = d.depth }

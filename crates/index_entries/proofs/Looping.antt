@@ -1,0 +1,38 @@
+-- Rows one after another: what the tree becomes of those that are left decides what it becomes of all.
+use Rattle.std.proofs.Common.{◌≡◌, refl, sym, ap, subst, ◌∙◌, ◌≤◌, ◌<◌, ◌-◌, ℕ, suc, Bool, List, [], ◌∷◌, length, map, take, drop, slice_index_or, IsTrue, Ok, arith}
+use Rattle.std.proofs.lemmas.List.{take_all}
+use Rattle.std.specs.Prelude.{Result, ⊤}
+use Rattle.sqlval.specs.declared.fault.Fault.{Fault}
+use Rattle.pages.specs.Calls.{Causes, Limits}
+use Rattle.pages.specs.Map.{PageMap}
+use Rattle.index_entries.specs.Entries.{Columns, Row}
+use Rattle.index_entries.specs.Keeping.{row_in}
+use Rattle.catalog.specs.declared.tables.TableRow.{TableRow}
+
+-- The pages stand as they did; and what becomes of the rows that are left, from here on, is what becomes of all from the first on.
+pub record IsOn {P K : Type 0} (below : P → K) (tells : K → Bool) (limits : K → Limits) (pages : P → PageMap) (failures : P → ℕ × ℕ)
+    (Becomes : PageMap → PageMap → ℕ → ℕ → Columns → List Row → Result ⊤ Fault → Type 0) (old now : P) (root : ℕ) (columns : Columns) (all left : List Row) : Type 0 where
+  pub kept : below now ≡ below old
+  pub causes : Causes {T = ⊤} (Ok tt) (failures old) (failures now) ⊥
+  pub decides : IsTrue (tells (below old)) → (new : PageMap) (result : Result ⊤ Fault)
+      → Becomes (pages now) new (limits (below old)).page root columns left result → Becomes (pages old) new (limits (below old)).page root columns all result
+
+-- what one call does it does from before the first
+pub since : {P K : Type 0} (below : P → K) (tells : K → Bool) (limits : K → Limits) (old mid : P) (Does : ℕ → Type 0) → below mid ≡ below old
+    → (IsTrue (tells (below mid)) → Does (limits (below mid)).page) → IsTrue (tells (below old)) → Does (limits (below old)).page
+since {P} {K} below tells limits old mid Does kept does told =
+    subst (λ (k : K). Does (limits k).page) kept (does (subst (λ (k : K). IsTrue (tells k)) (sym kept) told))
+
+-- the first row and the others
+all_taken : (row : TableRow) (rows : List TableRow) → take (length (row ∷ rows) - 1) rows ≡ rows
+all_taken row rows = (let e : length (row ∷ rows) - 1 ≡ length rows = omega arith in ap (λ (n : ℕ). take n rows) e ∙ take_all (length rows) rows (omega arith))
+
+pub first_of : (left : List TableRow) (row : TableRow) → 1 ≤ length left → row ≡ slice_index_or left 0 row
+    → map row_in left ≡ row_in row ∷ map row_in (take (length left - 1) (drop 1 left))
+first_of [] row some is = absurd (omega (arith, some))
+first_of (first ∷ left) row some is =
+    ap (λ (r : TableRow). row_in r ∷ map row_in left) (sym is) ∙ ap (λ (rs : List TableRow). row_in row ∷ map row_in rs) (sym (all_taken first left))
+
+pub none_left : (left : List TableRow) → length left < 1 → map row_in left ≡ []
+none_left [] few = refl
+none_left (first ∷ left) few = absurd (omega (arith, few))

@@ -1,0 +1,110 @@
+//! Entries of rows that come to a table, and of rows that go.
+
+ghost use Rattle.std.specs.Prelude.{◌≡◌, ◌∷◌, [], map, IsTrue};
+ghost use Rattle.pages.specs.Calls.{Causes};
+ghost use Rattle.index_entries.specs.Keeping.{AddsEntries, TakesEntries, TakesEntry, columns_in, row_in};
+
+use crate::columns::{collations_of, entry_of};
+use catalog::{IndexColumn, TableRow};
+use pages::WritePages;
+use sqlval::{Collation, Damage, Fault, R};
+use std::alloc::Global;
+use tree_index::{insert, remove};
+
+/// Puts the entry of a row into an index's tree. (What `insert` refuses; `Damaged(Index, root)` if it is there.)
+fn add_entry<P: WritePages>(
+    alloc: Global,
+    pages: &mut P,
+    root: u32,
+    columns: &[IndexColumn],
+    under: &[Collation],
+    row: &TableRow,
+) -> R<()>
+    requires { under.now ≡ map (λ column. column.collation) columns.now }
+    ensures added { IsTrue (P.Pages.tells (P.Pages.below pages.old))
+        → AddsEntries (P.Pages.map pages.old) (P.Pages.map pages.new) (P.Pages.limits (P.Pages.below pages.old)).page
+        root (columns_in columns.now) (row_in row.now ∷ []) result }
+    ensures kept { P.Pages.below pages.new ≡ P.Pages.below pages.old }
+    ensures causes { Causes result (P.Pages.failures pages.old) (P.Pages.failures pages.new)
+        (P.Pages.count pages.new ≡ (P.Pages.limits (P.Pages.below pages.new)).most) }
+{
+    let entry = entry_of(alloc, columns, row)?;
+    if insert(alloc, pages, root, under, &entry)? {
+        return Ok(());
+    }
+    Err(Fault::Damaged(Damage::Index, root))
+}
+
+/// Takes the entry of a row out of an index's tree. (What `remove` refuses; `Damaged(Index, root)` if it isn't there.)
+fn take_entry<P: WritePages>(
+    alloc: Global,
+    pages: &mut P,
+    root: u32,
+    columns: &[IndexColumn],
+    under: &[Collation],
+    row: &TableRow,
+) -> R<()>
+    requires { under.now ≡ map (λ column. column.collation) columns.now }
+    ensures taken { IsTrue (P.Pages.tells (P.Pages.below pages.old))
+        → TakesEntry (P.Pages.map pages.old) (P.Pages.map pages.new) (P.Pages.limits (P.Pages.below pages.old)).page
+        root (columns_in columns.now) (row_in row.now) result }
+    ensures kept { P.Pages.below pages.new ≡ P.Pages.below pages.old }
+    ensures causes { Causes result (P.Pages.failures pages.old) (P.Pages.failures pages.new)
+        (P.Pages.count pages.new ≡ (P.Pages.limits (P.Pages.below pages.new)).most) }
+{
+    let entry = entry_of(alloc, columns, row)?;
+    if remove(alloc, pages, root, under, &entry)? {
+        return Ok(());
+    }
+    Err(Fault::Damaged(Damage::Index, root))
+}
+
+/// Puts the entries of rows that come to a table into the tree of one of its indexes. (`Memory`, `Io`, `Full`; `TooLong` if no record
+/// can hold an entry. Then some entries may be in.)
+pub fn add_entries<P: WritePages>(
+    alloc: Global,
+    pages: &mut P,
+    root: u32,
+    columns: &[IndexColumn],
+    rows: &[TableRow],
+) -> R<()>
+    ensures added { IsTrue (P.Pages.tells (P.Pages.below pages.old))
+        → AddsEntries (P.Pages.map pages.old) (P.Pages.map pages.new) (P.Pages.limits (P.Pages.below pages.old)).page
+        root (columns_in columns.now) (map row_in rows.now) result }
+    ensures kept { P.Pages.below pages.new ≡ P.Pages.below pages.old }
+    ensures causes { Causes result (P.Pages.failures pages.old) (P.Pages.failures pages.new)
+        (P.Pages.count pages.new ≡ (P.Pages.limits (P.Pages.below pages.new)).most) }
+{
+    let under = collations_of(alloc, columns)?;
+    let mut left = rows;
+    'rows: while let [row, rest @ ..] = left {
+        add_entry(alloc, pages, root, columns, &under, row)?;
+        left = rest;
+    }
+    Ok(())
+}
+
+/// Takes the entries of rows that go from a table out of the tree of one of its indexes. (`Memory`, `Io`, `Full`. Then some entries may be
+/// out.)
+pub fn take_entries<P: WritePages>(
+    alloc: Global,
+    pages: &mut P,
+    root: u32,
+    columns: &[IndexColumn],
+    rows: &[TableRow],
+) -> R<()>
+    ensures taken { IsTrue (P.Pages.tells (P.Pages.below pages.old))
+        → TakesEntries (P.Pages.map pages.old) (P.Pages.map pages.new) (P.Pages.limits (P.Pages.below pages.old)).page
+        root (columns_in columns.now) (map row_in rows.now) result }
+    ensures kept { P.Pages.below pages.new ≡ P.Pages.below pages.old }
+    ensures causes { Causes result (P.Pages.failures pages.old) (P.Pages.failures pages.new)
+        (P.Pages.count pages.new ≡ (P.Pages.limits (P.Pages.below pages.new)).most) }
+{
+    let under = collations_of(alloc, columns)?;
+    let mut left = rows;
+    'rows: while let [row, rest @ ..] = left {
+        take_entry(alloc, pages, root, columns, &under, row)?;
+        left = rest;
+    }
+    Ok(())
+}

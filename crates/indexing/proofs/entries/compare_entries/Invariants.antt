@@ -1,5 +1,0 @@
-use Rattle.indexing.proofs.Ranks.{IsLeft}
-use Rattle.indexing.proofs.entries.compare_entries.Given as goal
-
-abbrev pub invariant-columns : goal.invariant-columns
-invariant-columns l = IsLeft l.columns l.a l.b l.index

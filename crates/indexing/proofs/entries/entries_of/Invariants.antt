@@ -1,7 +1,0 @@
--- the entries of the rows so far
-use Rattle.std.proofs.Common.{◌≡◌, map, take}
-use Rattle.indexing.specs.Ranking.{indexed_of}
-use Rattle.indexing.proofs.entries.entries_of.Given as goal
-
-abbrev pub invariant-rows : goal.invariant-rows
-invariant-rows l = l.entries.items ≡ map (indexed_of l.fn.columns) (take l.row-index l.fn.rows)

@@ -1,4 +1,0 @@
-use Rattle.indextree.proofs.flattening.+leaves_below.Given as goal
-
-abbrev pub decreases-leaves_below : goal.decreases-leaves_below
-decreases-leaves_below g l = l.ways

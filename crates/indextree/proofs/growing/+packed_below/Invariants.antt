@@ -1,4 +1,0 @@
-use Rattle.indextree.proofs.growing.+packed_below.Given as goal
-
-abbrev pub decreases-packed_below : goal.decreases-packed_below
-decreases-packed_below g l = l.ways

@@ -1,4 +1,0 @@
-use Rattle.indextree.proofs.joining.+united.Given as goal
-
-abbrev pub decreases-united : goal.decreases-united
-decreases-united g l = l.depth

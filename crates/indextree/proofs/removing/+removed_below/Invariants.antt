@@ -1,4 +1,0 @@
-use Rattle.indextree.proofs.removing.+removed_below.Given as goal
-
-abbrev pub decreases-removed_below : goal.decreases-removed_below
-decreases-removed_below g l = l.depth

@@ -1,5 +1,0 @@
-use Rattle.std.proofs.Common.{◌≡◌, take}
-use Rattle.indextree.proofs.scanning.values_of.Given as goal
-
-abbrev pub invariant-values : goal.invariant-values
-invariant-values l = l.values.items ≡ take l.place l.record

@@ -1,5 +1,0 @@
-use Rattle.lexer.proofs.Whole.{one_way}
-use Rattle.lexer.proofs.laws.cut_in_one_way.Goals as goal
-
-pub returns : goal.returns
-returns c = one_way

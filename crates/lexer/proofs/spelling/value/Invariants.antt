@@ -1,6 +1,0 @@
-use Rattle.std.proofs.Common.{◌≡◌, drop}
-use Rattle.lexer.specs.Lex.{number_from}
-use Rattle.lexer.proofs.spelling.value.Given as goal
-
-abbrev pub invariant-digits : goal.invariant-digits
-invariant-digits l = number_from l.value (drop l.digit-index l.digits) ≡ number_from 0 l.digits

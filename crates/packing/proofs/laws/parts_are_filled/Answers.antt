@@ -1,7 +1,0 @@
-use Rattle.std.proofs.Common.{arith}
-use Rattle.packing.proofs.FillingLemmas.{cut_some, as_long}
-use Rattle.packing.proofs.laws.parts_are_filled.Goals as goal
-
-pub returns : goal.returns
-returns g c = λ up room rises sizes counts items same long cut.
-    as_long up counts sizes items same (cut_some up room rises sizes counts (omega (arith, long, same)) cut)

@@ -1,5 +1,0 @@
-use Rattle.packing.proofs.RowLemmas.{rows_parted}
-use Rattle.packing.proofs.laws.rows_are_parted.Goals as goal
-
-pub returns : goal.returns
-returns g c = λ none low high counts rows within rises. rows_parted none counts rows low high within rises

@@ -1,9 +1,0 @@
-use Rattle.packing.proofs.Joins.{sides_joined}
-use Rattle.packing.proofs.FillingLemmas.{cut_sides}
-use Rattle.packing.proofs.laws.sides_are_joined.Goals as goal
-
-pub returns-clause-whole : goal.returns-clause-whole
-returns-clause-whole g c = λ counts side. sides_joined counts side
-
-pub returns-clause-parts : goal.returns-clause-parts
-returns-clause-parts g c = λ room rises sizes counts side same cut. cut_sides room rises sizes counts side same cut

@@ -1,6 +1,0 @@
-use Rattle.pagecheck.proofs.LeftEdge.{HasGone}
-use Rattle.pagecheck.proofs.branches.depth_of.Given as goal
-
-abbrev pub invariant-levels : goal.invariant-levels
-invariant-levels g l =
-    HasGone g.P.Pages.below g.P.Pages.tells g.P.Pages.limits g.P.Pages.map g.P.Pages.count g.P.Pages.failures l.fn.pages l.pages l.fn.root l.page l.depth

@@ -1,5 +1,0 @@
-use Rattle.plan.proofs.Unfound.{other_rows_fail}
-use Rattle.plan.proofs.other_rows_fail.Goals as goal
-
-pub returns : goal.returns
-returns c = other_rows_fail

@@ -1,8 +1,0 @@
--- Items of lists of terms.
-use Rattle.std.proofs.Common.{ℕ, ◌<◌, List, length, get_or}
-use Rattle.terms.specs.Terms.{Term, size, size_in, terms}
-use Rattle.terms.proofs.Items as below
-
--- an item is smaller than the list
-pub item_falls : (es : List Term) (i : ℕ) (d : Term) → i < length es → size (get_or es i d) < size_in (terms es)
-item_falls = below.item_falls

@@ -1,5 +1,0 @@
-use Rattle.queries.proofs.Places.{one_more_kept}
-use Rattle.queries.proofs.distinct.firsts.Goals as goal
-
-pub rows-preserved : goal.rows-preserved
-rows-preserved c = one_more_kept c.args.orders.now c.rows.kept.items c.keep.new.kept.items c.rows.yielded c.in-Some.item c.rows.invariant c.in_ok-keep.ensures.kept

@@ -1,5 +1,0 @@
-use Rattle.queries.proofs.PartRows.{stay_refused}
-use Rattle.queries.proofs.parts.rows_are_given_in_parts.Goals as goal
-
-pub returns-clause-refused : goal.returns-clause-refused
-returns-clause-refused c = stay_refused

@@ -1,5 +1,0 @@
-use Rattle.queries.proofs.Needed.{needed}
-use Rattle.queries.proofs.searches_as_scans.Goals as goal
-
-pub returns : goal.returns
-returns c = needed c.other_rows_fail.ensures

@@ -1,7 +1,0 @@
--- the keys so far are those of the expressions so far
-use Rattle.std.proofs.Common.{◌≡◌, map, take}
-use Rattle.queries.specs.Sorting.{order_of}
-use Rattle.queries.proofs.sorting.rising_orders.Given as goal
-
-abbrev pub invariant-terms : goal.invariant-terms
-invariant-terms l = l.orders.items ≡ map order_of (take l.term-index l.terms)

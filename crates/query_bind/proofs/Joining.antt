@@ -1,0 +1,189 @@
+-- One source after another.
+use Rattle.std.proofs.Common.{◌≡◌, refl, sym, ap, subst, ◌∙◌, ◌⊎◌, inl, inr, ℕ, ◌<◌, ◌+◌, Bool, false, not, ◌||◌, List, [], ◌∷◌, ◌++◌, length, drop, map, get_or, Option, Some, None, append_assoc, arith}
+use Rattle.std.specs.Prelude.{OnOk, Result, Ok, Err, option_map, unwrap_or}
+use Rattle.std.specs.List.{find}
+use Rattle.query_names.proofs.ColumnNames.{same_folded}
+use Rattle.std.proofs.lemmas.List.{append-nil, at_drop_more}
+use Rattle.std.proofs.lemmas.List.Folds.{list_any-append}
+use Rattle.sqlval.specs.Names.{folded}
+use Rattle.sqlval.specs.Refusals.{Refusal, NoSuch, refusal_of}
+use Rattle.sqlval.specs.declared.fault.Fault.{Fault}
+use Rattle.sqlval.specs.declared.fault.Fault.TheVariants.{Memory}
+use Rattle.sql_syntax.specs.Tree.{Tree}
+use Rattle.sql_syntax.specs.declared.query.Join.{Join}
+use Rattle.sql_syntax.specs.declared.query.JoinKind.{JoinKind}
+use Rattle.sql_syntax.specs.declared.query.Source.{Source}
+use Rattle.catalog.specs.Database.{Name}
+use Rattle.catalog.specs.Listed.{plain_column, table_named}
+use Rattle.catalog.specs.declared.tables.Column.{Column}
+use Rattle.catalog.specs.declared.tables.Table.{Table}
+use Rattle.query_names.specs.Bound.{EachOf, IsFaultOf, columns_seen, looked_up, source_seen}
+use Rattle.query_names.specs.Checked.{Checked, Meant, meant, faults, noted, also, known_map, ◌and_then◌}
+use Rattle.query_names.specs.Queries.{Lookup, resolve_join, resolve_sources, source_name}
+use Rattle.query_names.specs.Scopes.{source_of}
+use Rattle.query_names.specs.declared.queries.BoundSource.{BoundSource}
+use Rattle.query_names.specs.declared.reading.Condition.{Condition}
+use Rattle.query_names.specs.declared.scope.ScopeColumn.{ScopeColumn}
+use Rattle.query_names.specs.declared.scope.ScopeSource.{ScopeSource}
+use Rattle.query_bind.specs.Named.{AreTables, ArePlaced, IsPlaced, column_seen, look_among, onto_source, onto_sources, place_seen, resolve_source}
+use Rattle.query_bind.proofs.Chains.{in_front}
+
+-- a table's columns, one by one
+pub columns_are : (t : Table) → map column_seen t.columns ≡ (columns_seen t).0
+columns_are t = each t.columns
+  where
+    each : (cs : List Column) → map column_seen cs ≡ map (λ c. (let s : ScopeColumn = record { name = Some c.name; affinity = Some c.affinity; collation = c.collation } in s)) (map plain_column cs)
+    each [] = refl
+    each (c ∷ cs) = ap (λ xs. column_seen c ∷ xs) (each cs)
+
+pub begins : (k : Checked (List ScopeSource × List (Name × Condition))) → onto_sources [] k ≡ k
+begins (Meant x rs) = refl
+
+pub ends : (scope : List ScopeSource) (joined : List (Name × Condition)) → onto_sources joined (Meant (scope, []) []) ≡ Meant (scope, joined) []
+ends scope joined = ap (λ js. Meant (scope, js) []) (append-nil joined)
+
+-- ---- one source
+
+-- what a source's table makes of it
+abbrev of_condition : List ScopeSource → Name → List (Name × Condition) → Checked Condition → Checked (List ScopeSource × List (Name × Condition))
+of_condition here name joined k = known_map (λ c. (here, joined ++ (name, c) ∷ [])) k
+
+at_table : (joined : List (Name × Condition)) (before : List ScopeSource) (kind : JoinKind) (s : Source) (on : Option Tree) (found : Option Table) (t : Table) → found ≡ Some t
+    → onto_source joined (noted (looked_up found) and_then λ k. known_map (λ c. (before ++ source_of (source_name s) k ∷ [], (folded s.name, c))) (resolve_join (before ++ source_of (source_name s) k ∷ []) kind on))
+    ≡ of_condition (before ++ source_seen (unwrap_or s.alias s.name) t ∷ []) (folded s.name) joined (resolve_join (before ++ source_seen (unwrap_or s.alias s.name) t ∷ []) kind on)
+at_table joined before kind s on found t h =
+    ap (λ o. onto_source joined (noted (looked_up o) and_then λ k. known_map (λ c. (before ++ source_of (source_name s) k ∷ [], (folded s.name, c))) (resolve_join (before ++ source_of (source_name s) k ∷ []) kind on))) h
+    ∙ twice (resolve_join (before ++ source_seen (unwrap_or s.alias s.name) t ∷ []) kind on)
+  where
+    twice : (k : Checked Condition) → onto_source joined (also [] (known_map (λ c. (before ++ source_seen (unwrap_or s.alias s.name) t ∷ [], (folded s.name, c))) k))
+        ≡ of_condition (before ++ source_seen (unwrap_or s.alias s.name) t ∷ []) (folded s.name) joined k
+    twice (Meant c rs) = refl
+
+pub source_known : (tables : List Table) (joined : List (Name × Condition)) (before : List ScopeSource) (kind : JoinKind) (s : Source) (on : Option Tree) (t : Table) → table_named s.name tables ≡ Some t
+    → onto_source joined (resolve_source (look_among tables) before kind s on)
+    ≡ of_condition (before ++ source_seen (unwrap_or s.alias s.name) t ∷ []) (folded s.name) joined (resolve_join (before ++ source_seen (unwrap_or s.alias s.name) t ∷ []) kind on)
+source_known tables joined before kind s on t h = at_table joined before kind s on (table_named s.name tables) t h
+
+pub condition_refused : (tables : List Table) (joined : List (Name × Condition)) (before here : List ScopeSource) (kind : JoinKind) (s : Source) (on : Option Tree) (t : Table) (fault : Fault)
+    → table_named s.name tables ≡ Some t → here ≡ before ++ source_seen (unwrap_or s.alias s.name) t ∷ [] → IsFaultOf (faults (resolve_join here kind on)) fault
+    → IsFaultOf (faults (onto_source joined (resolve_source (look_among tables) before kind s on))) fault
+condition_refused tables joined before here kind s on t fault h is refused =
+    subst (λ k. IsFaultOf (faults k) fault) (sym (source_known tables joined before kind s on t h ∙ ap (λ x. of_condition x (folded s.name) joined (resolve_join x kind on)) (sym is)))
+    (kept (resolve_join here kind on) refused)
+  where
+    kept : (k : Checked Condition) → IsFaultOf (faults k) fault → IsFaultOf (faults (of_condition here (folded s.name) joined k)) fault
+    kept (Meant c rs) r = r
+
+pub source_missing : (tables : List Table) (joined : List (Name × Condition)) (before : List ScopeSource) (kind : JoinKind) (s : Source) (on : Option Tree) (fault : Fault)
+    → (fault ≡ Memory) ⊎ (refusal_of fault ≡ NoSuch) × (table_named s.name tables ≡ None)
+    → IsFaultOf (faults (onto_source joined (resolve_source (look_among tables) before kind s on))) fault
+source_missing tables joined before kind s on fault (inl m) = inl m
+source_missing tables joined before kind s on fault (inr (why, h)) =
+    subst (λ o. IsFaultOf (faults (onto_source joined (noted (looked_up o) and_then λ k. known_map (λ c. (before ++ source_of (source_name s) k ∷ [], (folded s.name, c))) (resolve_join (before ++ source_of (source_name s) k ∷ []) kind on)))) fault) (sym h)
+    (first (resolve_join (before ++ source_of (source_name s) (looked_up None) ∷ []) kind on))
+  where
+    first : (k : Checked Condition)
+        → IsFaultOf (faults (onto_source joined (also (NoSuch ∷ []) (known_map (λ c. (before ++ source_of (source_name s) (looked_up None) ∷ [], (folded s.name, c))) k)))) fault
+    first (Meant c rs) = inr (0, omega arith, sym why)
+
+-- ---- a source, and the rest
+
+-- where nothing is refused up to a source, the rest decides
+split : (joined after : List (Name × Condition)) (x : Name × Condition) (here seen : List ScopeSource) (rs ss : List Refusal) (rest : List ScopeSource → Checked (List ScopeSource × List (Name × Condition)))
+    → ◌≡◌ {A = Checked (List ScopeSource × List (Name × Condition))} (Meant (here, joined ++ x ∷ []) (rs ++ ss)) (Meant (seen, after) [])
+    → onto_sources joined (also rs (also ss (known_map (λ r. (r.0, x ∷ r.1)) (rest here)))) ≡ onto_sources after (rest seen)
+split joined after x here seen rs ss rest h =
+    ap (λ s. onto_sources joined (also rs (also ss (known_map (λ r. (r.0, x ∷ r.1)) (rest s))))) (ap (λ (k : Checked (List ScopeSource × List (Name × Condition))). (meant k).0) h)
+    ∙ flat (rest seen)
+  where
+    flat : (k : Checked (List ScopeSource × List (Name × Condition))) → onto_sources joined (also rs (also ss (known_map (λ r. (r.0, x ∷ r.1)) k))) ≡ onto_sources after k
+    flat (Meant r ts) =
+        ap (λ us. Meant (r.0, joined ++ x ∷ r.1) us) (sym (append_assoc rs ss ts))
+        ∙ (ap (λ us. Meant (r.0, joined ++ x ∷ r.1) (us ++ ts)) (ap faults h)
+        ∙ ap (λ js. Meant (r.0, js) ts) (sym (append_assoc joined (x ∷ []) r.1) ∙ ap (λ js. js ++ r.1) (ap (λ (k : Checked (List ScopeSource × List (Name × Condition))). (meant k).1) h)))
+
+pub joined_more : (look : Lookup) (before seen : List ScopeSource) (j : Join) (js : List Join) (joined after : List (Name × Condition))
+    → onto_source joined (resolve_source look before j.kind j.source j.condition) ≡ Meant (seen, after) []
+    → onto_sources joined (resolve_sources look before (j ∷ js)) ≡ onto_sources after (resolve_sources look seen js)
+joined_more look before seen j js joined after h = of_look (look j.source.name) h
+  where
+    of_join : (here : List ScopeSource) (rs : List Refusal) (k : Checked Condition)
+        → onto_source joined (also rs (known_map (λ c. (here, (folded j.source.name, c))) k)) ≡ Meant (seen, after) []
+        → onto_sources joined (also rs (k and_then λ c. known_map (λ rest. (rest.0, (folded j.source.name, c) ∷ rest.1)) (resolve_sources look here js))) ≡ onto_sources after (resolve_sources look seen js)
+    of_join here rs (Meant c ss) e = split joined after (folded j.source.name, c) here seen rs ss (λ s. resolve_sources look s js) e
+
+    of_look : (k : Checked (List ScopeColumn × Bool))
+        → onto_source joined (noted k and_then λ found. known_map (λ c. (before ++ source_of (source_name j.source) found ∷ [], (folded j.source.name, c))) (resolve_join (before ++ source_of (source_name j.source) found ∷ []) j.kind j.condition)) ≡ Meant (seen, after) []
+        → onto_sources joined (noted k and_then λ found. resolve_join (before ++ source_of (source_name j.source) found ∷ []) j.kind j.condition and_then λ c. known_map (λ rest. (rest.0, (folded j.source.name, c) ∷ rest.1)) (resolve_sources look (before ++ source_of (source_name j.source) found ∷ []) js))
+        ≡ onto_sources after (resolve_sources look seen js)
+    of_look (Meant x rs) e =
+        of_join (before ++ source_of (source_name j.source) (Meant x rs) ∷ []) rs (resolve_join (before ++ source_of (source_name j.source) (Meant x rs) ∷ []) j.kind j.condition) e
+
+pub joined_refused : (look : Lookup) (before : List ScopeSource) (j : Join) (js : List Join) (joined : List (Name × Condition)) (fault : Fault)
+    → IsFaultOf (faults (onto_source joined (resolve_source look before j.kind j.source j.condition))) fault
+    → IsFaultOf (faults (onto_sources joined (resolve_sources look before (j ∷ js)))) fault
+joined_refused look before j js joined fault h = of_look (look j.source.name) h
+  where
+    of_rest : (here : List ScopeSource) (c : Condition) (rs ss : List Refusal) (k : Checked (List ScopeSource × List (Name × Condition))) → IsFaultOf (rs ++ ss) fault
+        → IsFaultOf (faults (onto_sources joined (also rs (also ss (known_map (λ rest. (rest.0, (folded j.source.name, c) ∷ rest.1)) k))))) fault
+    of_rest here c rs ss (Meant r ts) e = subst (λ us. IsFaultOf us fault) (append_assoc rs ss ts) (in_front (rs ++ ss) ts fault e)
+
+    of_join : (here : List ScopeSource) (rs : List Refusal) (k : Checked Condition)
+        → IsFaultOf (faults (onto_source joined (also rs (known_map (λ c. (here, (folded j.source.name, c))) k)))) fault
+        → IsFaultOf (faults (onto_sources joined (also rs (k and_then λ c. known_map (λ rest. (rest.0, (folded j.source.name, c) ∷ rest.1)) (resolve_sources look here js))))) fault
+    of_join here rs (Meant c ss) e = of_rest here c rs ss (resolve_sources look here js) e
+
+    of_look : (k : Checked (List ScopeColumn × Bool))
+        → IsFaultOf (faults (onto_source joined (noted k and_then λ found. known_map (λ c. (before ++ source_of (source_name j.source) found ∷ [], (folded j.source.name, c))) (resolve_join (before ++ source_of (source_name j.source) found ∷ []) j.kind j.condition)))) fault
+        → IsFaultOf (faults (onto_sources joined (noted k and_then λ found. resolve_join (before ++ source_of (source_name j.source) found ∷ []) j.kind j.condition and_then λ c. known_map (λ rest. (rest.0, (folded j.source.name, c) ∷ rest.1)) (resolve_sources look (before ++ source_of (source_name j.source) found ∷ []) js)))) fault
+    of_look (Meant x rs) e =
+        of_join (before ++ source_of (source_name j.source) (Meant x rs) ∷ []) rs (resolve_join (before ++ source_of (source_name j.source) (Meant x rs) ∷ []) j.kind j.condition) e
+
+-- ---- the sources are tables, each at its place
+
+pub table_added : (scope : List ScopeSource) (name : Name) (t : Table) → AreTables scope → AreTables (scope ++ source_seen name t ∷ [])
+table_added scope name t h = (
+  list_any-append (λ s. s.needs_name) scope (source_seen name t ∷ []) ∙ ap (λ b. b || false) h.0,
+  list_any-append (λ s. not s.is_known) scope (source_seen name t ∷ []) ∙ ap (λ b. b || false) h.1,
+)
+
+-- a table has a name, whichever letters are large
+same_table : (name : Name) (tables : List Table) → table_named (folded name) tables ≡ table_named name tables
+same_table name tables = ap (λ p. find p tables) (λ i t. same_folded t.name name i)
+
+pub each_more : {A B : Type 0} (P : A → B → Type 0) (xs : List A) (ys : List B) (x : A) (y : B) → EachOf P xs ys → P x y → EachOf P (xs ++ x ∷ []) (ys ++ y ∷ [])
+each_more P [] [] x y h p = (p, tt)
+each_more P (a ∷ xs) (b ∷ ys) x y (q, h) p = (q, each_more P xs ys x y h p)
+each_more P [] (b ∷ ys) x y h p = absurd h
+each_more P (a ∷ xs) [] x y h p = absurd h
+
+-- ---- the sources of a list
+
+next_source : (look : Lookup) (before : List ScopeSource) (js : List Join) (i : ℕ) (j : Join) (joined : List (Name × Condition)) → i < length js → j ≡ get_or js i j
+    → onto_sources joined (resolve_sources look before (drop i js)) ≡ onto_sources joined (resolve_sources look before (j ∷ drop (i + 1) js))
+next_source look before js i j joined lt is =
+    at_drop_more (λ ks. onto_sources joined (resolve_sources look before ks)) js i j lt
+    ∙ ap (λ k. onto_sources joined (resolve_sources look before (k ∷ drop (i + 1) js))) (sym is)
+
+pub next_join : (look : Lookup) (before seen : List ScopeSource) (js : List Join) (i : ℕ) (j : Join) (joined after : List (Name × Condition)) → i < length js → j ≡ get_or js i j
+    → onto_source joined (resolve_source look before j.kind j.source j.condition) ≡ Meant (seen, after) []
+    → onto_sources after (resolve_sources look seen (drop (i + 1) js)) ≡ onto_sources joined (resolve_sources look before (drop i js))
+next_join look before seen js i j joined after lt is h =
+    sym (next_source look before js i j joined lt is ∙ joined_more look before seen j (drop (i + 1) js) joined after h)
+
+pub next_refused : (look : Lookup) (before : List ScopeSource) (js : List Join) (i : ℕ) (j : Join) (joined : List (Name × Condition)) (fault : Fault) → i < length js → j ≡ get_or js i j
+    → IsFaultOf (faults (onto_source joined (resolve_source look before j.kind j.source j.condition))) fault
+    → IsFaultOf (faults (onto_sources joined (resolve_sources look before (drop i js)))) fault
+next_refused look before js i j joined fault lt is h =
+    subst (λ k. IsFaultOf (faults k) fault) (sym (next_source look before js i j joined lt is)) (joined_refused look before j (drop (i + 1) js) joined fault h)
+
+pub placed_more : (tables : List Table) (joined : List (Name × Condition)) (places : List BoundSource) (name : Name) (t : Table) (c : Condition) → table_named name tables ≡ Some t
+    → ArePlaced tables joined places → ArePlaced tables (joined ++ (folded name, c) ∷ []) (places ++ place_seen t ∷ [])
+placed_more tables joined places name t c h placed =
+    each_more (IsPlaced tables) joined places (folded name, c) (place_seen t) placed (ap (option_map place_seen) (same_table name tables ∙ h))
+
+pub placed_then : {X E : Type 0} (result : Result X E) (tables : List Table) (joined after : List (Name × Condition)) (places more : List BoundSource) (name : Name) (t : Table) (c : Condition) → table_named name tables ≡ Some t
+    → OnOk result (after ≡ joined ++ (folded name, c) ∷ []) → OnOk result (more ≡ places ++ place_seen t ∷ []) → ArePlaced tables joined places → OnOk result (ArePlaced tables after more)
+placed_then (Ok x) tables joined after places more name t c h hj hp placed =
+    subst (λ js. ArePlaced tables js more) (sym hj) (subst (λ ps. ArePlaced tables (joined ++ (folded name, c) ∷ []) ps) (sym hp) (placed_more tables joined places name t c h placed))
+placed_then (Err e) tables joined after places more name t c h hj hp placed = tt

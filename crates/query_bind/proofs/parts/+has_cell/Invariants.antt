@@ -1,0 +1,19 @@
+-- Each part of a term is smaller.
+use Rattle.std.proofs.Common.{◌≡◌, ◌≤◌, false, length}
+use Rattle.query_terms.specs.Terms.{size, size_in, terms}
+use Rattle.query_names.specs.Grouping.{has_in, is_own_cell}
+use Rattle.query_bind.proofs.parts.+has_cell.Given as goal
+
+abbrev pub decreases-has_cell : goal.decreases-has_cell
+decreases-has_cell l = size l.term.now
+
+abbrev pub decreases-any_has_cell : goal.decreases-any_has_cell
+decreases-any_has_cell l = size_in (terms l.list.now)
+
+-- what is left of the list decides
+abbrev pub invariant-any_has_cell-terms : goal.invariant-any_has_cell-terms
+invariant-any_has_cell-terms l =
+    (has_in false (is_own_cell 0) (terms l.rest) ≡ has_in false (is_own_cell 0) (terms l.list)) × (size_in (terms l.rest) ≤ size_in (terms l.list))
+
+abbrev pub decreases-any_has_cell-terms : goal.decreases-any_has_cell-terms
+decreases-any_has_cell-terms l = length l.rest

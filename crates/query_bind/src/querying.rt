@@ -1,0 +1,182 @@
+//! Queries, looked up whole.
+
+ghost use Rattle.std.specs.Prelude.{◌≡◌, ◌&&◌, ◌||◌, [], false, map, option_map, IfErr, IfOk};
+ghost use Rattle.std.specs.List.{list_any};
+ghost use Rattle.sqlval.specs.Faults.{IsNotDiskFault};
+ghost use Rattle.catalog.specs.Listed.{tables_of};
+ghost use Rattle.query_names.specs.Bound.{Knows};
+ghost use Rattle.query_names.specs.Checked.{meant};
+ghost use Rattle.query_names.specs.Grouping.{has, is_own_cell, keyed};
+ghost use Rattle.query_names.specs.Named.{Names, NamesBy};
+ghost use Rattle.query_names.specs.Queries as query;
+ghost use Rattle.query_names.specs.Queries.{Lookup, resolve_query};
+ghost use Rattle.query_bind.specs.Named.{ArePlaced, AreTables, is_grouped_by, is_no_result, reading_for, resolve_clauses};
+
+use crate::clauses::{bind_filter, bind_keys, bind_orders};
+use crate::marking::{marked_orders, marked_results};
+use crate::parts::{
+    has_other, orders_have_cell, orders_have_total, results_have_cell, results_have_total,
+};
+use crate::results::{bind_results, columns_of};
+use crate::sources::{Sources, bind_sources};
+use catalog::Catalog;
+use query_names::{BoundSource, Condition, Reading, ScopeColumn, ScopeSource};
+use query_terms::Term;
+use sql_syntax::{Limit, Query};
+use sqlval::limits::MAX_COLUMNS;
+use sqlval::{Fault, Many, Misuse, Name, R};
+use std::alloc::Global;
+
+/// A query whose names are looked up, and where its sources' trees begin.
+#[derive(Drop)]
+pub struct BoundReading {
+    pub reading: Reading,
+    /// The table of each source: the page at which its tree begins, and the number of its columns.
+    pub tables: Many<BoundSource>,
+}
+
+/// The parts of a query, each looked up.
+#[derive(Drop)]
+pub struct Parts {
+    pub joined: Vec<(Name, Condition)>,
+    pub filter: Option<Term>,
+    pub keys: Vec<Term>,
+    pub results: Vec<(Term, ScopeColumn)>,
+    pub orders: Vec<(Term, bool)>,
+}
+
+/// Whether the results are of groups of rows.
+fn is_grouped(parts: &Parts) -> bool
+    ensures { result ≡ is_grouped_by parts.now }
+{
+    results_have_total(&parts.results) || orders_have_total(&parts.orders) || !parts.keys.is_empty()
+}
+
+/// The number of rows that are left out.
+fn offset_of(limit: Option<Limit>) -> u64
+    ensures { result ≡ query.offset_of limit }
+{
+    match limit {
+        Some(limit) => limit.offset.unwrap_or(0),
+        None => 0,
+    }
+}
+
+/// The number of rows after which the answer ends.
+fn count_of(limit: Option<Limit>) -> Option<u64>
+    ensures { result ≡ option_map (λ l. l.count) limit }
+{
+    match limit {
+        Some(limit) => Some(limit.count),
+        None => None,
+    }
+}
+
+/// Whether, in a query with groups, a column stands outside aggregates and keys.
+fn is_mixed(parts: &Parts, results: &[Term], orders: &[(Term, bool)]) -> bool
+    ensures { result ≡ (is_grouped_by parts.now && (list_any (has false (is_own_cell 0)) results.now
+        || list_any (λ o. has false (is_own_cell 0) o.0) orders.now)) }
+{
+    is_grouped(parts) && (results_have_cell(results) || orders_have_cell(orders))
+}
+
+/// Whether the rows are told apart, and ORDER BY has a term that is none of the results.
+fn is_astray(query: &Query, parts: &Parts) -> bool
+    ensures { result ≡ (query.now.is_distinct
+        && list_any (λ o. is_no_result parts.now.results.items o.0) parts.now.orders.items) }
+{
+    query.is_distinct && has_other(&parts.results, &parts.orders)
+}
+
+/// Refuses a column that is neither grouped nor in an aggregate, a DISTINCT whose ORDER BY names no result, and results past
+/// the limit.
+fn check_parts(query: &Query, parts: &Parts, results: &[Term], orders: &[(Term, bool)]) -> R<()>
+    ensures { results.now ≡ map (λ r. keyed parts.now.keys.items r.0) parts.now.results.items
+        → orders.now ≡ map (λ o. (keyed parts.now.keys.items o.0, o.1)) parts.now.orders.items
+        → NamesBy (λ done. meant (reading_for query.now parts.now)) (reading_for query.now parts.now) result }
+{
+    if is_mixed(parts, results, orders) {
+        return Err(Fault::Misuse(Misuse::Ungrouped));
+    }
+    if is_astray(query, parts) {
+        return Err(Fault::Misuse(Misuse::OrderBy));
+    }
+    if parts.results.len() > MAX_COLUMNS {
+        return Err(Fault::TooLong);
+    }
+    Ok(())
+}
+
+/// The reading of a query of these parts.
+fn reading_of(alloc: Global, query: &Query, parts: Parts) -> R<Reading>
+    ensures named { Names (reading_for query.now parts) result }
+    ensures closed { IfOk result (λ reading. reading.is_open ≡ false) }
+{
+    let results = marked_results(alloc, &parts.keys, &parts.results)?;
+    let order = marked_orders(alloc, &parts.keys, &parts.orders)?;
+    check_parts(query, &parts, &results, &order)?;
+    let columns = columns_of(alloc, &parts.results)?;
+    let is_grouped = is_grouped(&parts);
+    Ok(Reading {
+        sources: Many::from_vec(parts.joined),
+        filter: parts.filter,
+        is_grouped,
+        keys: Many::from_vec(parts.keys),
+        results: Many::from_vec(results),
+        columns: Many::from_vec(columns),
+        is_open: false,
+        order: Many::from_vec(order),
+        distinct: query.is_distinct,
+        limit: count_of(query.limit),
+        offset: offset_of(query.limit),
+    })
+}
+
+/// The reading of a query whose sources are looked up.
+fn bind_clauses(
+    alloc: Global,
+    scope: &[ScopeSource],
+    joined: Vec<(Name, Condition)>,
+    query: &Query,
+) -> R<Reading>
+    ensures named { AreTables scope.now → Names (resolve_clauses scope.now joined.items query.now) result }
+    ensures closed { IfOk result (λ reading. reading.is_open ≡ false) }
+{
+    let items = query.results.as_slice();
+    let keys = bind_keys(alloc, scope, query.groups.as_slice())?;
+    let results = bind_results(alloc, scope, items)?;
+    let orders = bind_orders(alloc, scope, items, &results, query.order.as_slice())?;
+    let filter = bind_filter(alloc, scope, &query.condition)?;
+    reading_of(
+        alloc,
+        query,
+        Parts {
+            joined,
+            filter,
+            keys,
+            results,
+            orders,
+        },
+    )
+}
+
+/// Looks up the names of a query: its reading, with the place of each source, or one of the refusals that its text has.
+/// (`NoSuch`, `Ambiguous`, `Misuse`, `TooLong`.)
+pub fn bind_reading(alloc: Global, catalog: &Catalog, query: &Query) -> R<BoundReading>
+    ensures named { (look : Lookup) → Knows look (tables_of catalog.now)
+        → NamesBy (λ bound. bound.reading) (resolve_query look [] query.now) result }
+    ensures placed { IfOk result (λ bound. ArePlaced (tables_of catalog.now) bound.reading.sources bound.tables) }
+    ensures closed { IfOk result (λ bound. bound.reading.is_open ≡ false) }
+    ensures not_disk { IfErr result (λ fault. IsNotDiskFault fault) }
+{
+    let Sources {
+        scope,
+        joined,
+        tables,
+    } = bind_sources(alloc, catalog, &query.from)?;
+    let reading = bind_clauses(alloc, scope.as_slice(), joined, query)?;
+    Ok(BoundReading {
+        reading,
+        tables: Many::from_vec(tables),
+    })
+}

@@ -1,0 +1,309 @@
+-- What CREATE TABLE makes of a definition without rules, and what refuses it.
+use Rattle.std.proofs.Common.{◌≡◌, refl, sym, ap, subst, ◌∙◌, ◌⊎◌, inl, inr, ℕ, suc, Bool, true, false, ◌&&◌, ◌||◌, ◌==◌, cond, List, [], ◌∷◌, ◌++◌, length, map, Option, Some, None, arith}
+use Rattle.std.proofs.lemmas.Bool.{false≢true}
+use Rattle.std.proofs.lemmas.Bool.Decides.{nat_tests}
+use Rattle.std.proofs.lemmas.List.Elements.{Contains-append_left, Contains-append_right}
+use Rattle.std.specs.Prelude.{flat_map, if◌then◌else◌, is_none, is_some, unwrap_or}
+use Rattle.std.specs.List.{Contains, find, last_or, list_all, list_any}
+use Rattle.std.specs.FinMap.Entries.{put}
+use Rattle.sqlval.specs.Affinity.{declared_affinity}
+use Rattle.sqlval.specs.Lists.{any_twice}
+use Rattle.sqlval.specs.Names.{folded, is_same_name}
+use Rattle.sqlval.specs.Refusals.{Refusal, Exists, Misuse, Unsupported}
+use Rattle.sqlval.specs.declared.affinity.Affinity.{Affinity}
+use Rattle.sqlval.specs.declared.affinity.Affinity.TheVariants as kind
+use Rattle.sqlval.specs.declared.collation.Collation.TheVariants.{Binary}
+use Rattle.sqlval.specs.declared.value.Value.{Value}
+use Rattle.sqlval.specs.declared.value.Value.TheVariants.{Null}
+use Rattle.sql_syntax.specs.declared.create.ColumnDefinition.{ColumnDefinition}
+use Rattle.sql_syntax.specs.declared.create.ColumnRule.{ColumnRule}
+use Rattle.sql_syntax.specs.declared.create.ColumnRule.TheVariants as column
+use Rattle.sql_syntax.specs.declared.create.TableDefinition.{TableDefinition}
+use Rattle.catalog.specs.Database.{Database, Name, Object, ATable, TableColumn, name_order, object, with_object}
+use Rattle.catalog.proofs.Found.{names_listed}
+use Rattle.catalog.specs.Laws.{NamesListed}
+use Rattle.catalog.specs.Listed.{defined, described, has_doubled, is_real, is_reserved, is_table, plain_column, plain_table, type_text}
+use Rattle.catalog.specs.declared.tables.Column.{Column}
+use Rattle.catalog.specs.declared.tables.Table.{Table}
+use Rattle.query_names.specs.Bound.{is_twice_named}
+use Rattle.query_names.specs.Creating.{HasColumnsOf, KeepsNamesOnce, MakesListedTable, RefusesTableAsDefined, has_no_rules}
+use Rattle.query_names.specs.Checked.{Checked, Meant, good, bad, meant, faults, also, both, known_all, known_map, ◌and_then◌, unless}
+use Rattle.query_names.specs.Schema.{automatic, create_table}
+use Rattle.query_names.specs.Tables.{checks_of, column_of, keys_of, table_made, without_rows}
+
+-- ---- tests
+
+both_true : (a b : Bool) → (a && b) ≡ true → (a ≡ true) × (b ≡ true)
+both_true true b h = (refl, h)
+both_true false b h = absurd (false≢true h)
+
+not_none : (n : ℕ) → (suc n == 0) ≡ true → ⊥
+not_none n h = absurd (false≢true (sym (none n) ∙ h))
+  where
+    none : (n : ℕ) → (suc n == 0) ≡ false
+    none n = grind (arith, nat_tests)
+
+no_items : {A : Type 0} (xs : List A) → (length xs == 0) ≡ true → xs ≡ []
+no_items [] h = refl
+no_items (x ∷ xs) h = absurd (not_none (length xs) h)
+
+no_join : {A : Type 0} (xs ys : List A) → xs ≡ [] → ys ≡ [] → xs ++ ys ≡ []
+no_join xs ys h k = ap (λ zs. zs ++ ys) h ∙ k
+
+-- ---- texts that aren't refused
+
+then_good : {A B : Type 0} (k : Checked A) (x : A) (f : A → Checked B) → k ≡ good x → (k and_then f) ≡ f x
+then_good k x f e = ap (λ k. k and_then f) e ∙ plain (f x)
+  where
+    plain : {B : Type 0} (l : Checked B) → also [] l ≡ l
+    plain (Meant y ss) = refl
+
+unless_false : {A : Type 0} (b : Bool) (r : Refusal) (k : Checked A) → b ≡ false → unless b r k ≡ k
+unless_false true r k h = absurd (false≢true (sym h))
+unless_false false r (Meant x ss) h = refl
+
+both_good : {A B C : Type 0} (f : A → B → C) (k : Checked A) (l : Checked B) (x : A) (y : B) → k ≡ good x → l ≡ good y → both f k l ≡ good (f x y)
+both_good f k l x y h g = ap (λ k. both f k l) h ∙ ap (both f (good x)) g
+
+none_known : {A B : Type 0} (f : A → Checked B) (xs : List A) → xs ≡ [] → known_all (map f xs) ≡ good []
+none_known f xs h = ap (λ xs. known_all (map f xs)) h
+
+none_twice : {A : Type 0} (same : A → A → Bool) (xs : List A) → xs ≡ [] → any_twice same xs ≡ false
+none_twice same xs h = ap (any_twice same) h
+
+no_parts : {A B : Type 0} (f : A → List B) (xs : List A) → xs ≡ [] → flat_map f xs ≡ []
+no_parts f xs h = ap (flat_map f) h
+
+-- ---- the columns
+
+known_affinity : (c : ColumnDefinition) (column : Column) → c.rules ≡ [] → described column ≡ defined c → column_of c ≡ good (plain_column column)
+known_affinity c column rules same = let e : declared_affinity (type_text c) ≡ Some column.affinity = sym (ap (λ x. x.1) same) in let n : column.name ≡ c.name = ap (λ x. x.0) same in
+    rw (e, rules) (ap (λ name. good (record { name = folded name; affinity = column.affinity; collation = Binary; is_filled = false; default = Null })) (sym n))
+
+heads : {A B : Type 0} (f : A → B) (x : A) (y : B) (xs : List A) (ys : List B) → f x ∷ map f xs ≡ y ∷ ys → (f x ≡ y) × (map f xs ≡ ys)
+heads f x y xs ys h = (cc, cc)
+
+pub known_columns : (cs : List ColumnDefinition) (columns : List Column) → list_all (λ c. length c.rules == 0) cs ≡ true → map described columns ≡ map defined cs
+    → known_all (map column_of cs) ≡ good (map plain_column columns)
+known_columns [] [] plain same = refl
+known_columns [] (column ∷ columns) plain same = absurd cc
+known_columns (c ∷ cs) [] plain same = absurd cc
+known_columns (c ∷ cs) (column ∷ columns) plain same =
+    let rules = both_true (length c.rules == 0) (list_all (λ c. length c.rules == 0) cs) plain in
+    let parts = heads described column (defined c) columns (map defined cs) same in
+    both_good (λ (x : TableColumn) xs. x ∷ xs) (column_of c) (known_all (map column_of cs)) (plain_column column) (map plain_column columns)
+    (known_affinity c column (no_items c.rules rules.0) parts.0) (known_columns cs columns rules.1 parts.1)
+
+-- ---- no rules
+
+no_rules_among : {A : Type 0} (f : ColumnDefinition → ColumnRule → List A) (cs : List ColumnDefinition) → list_all (λ c. length c.rules == 0) cs ≡ true → flat_map (λ c. flat_map (f c) c.rules) cs ≡ []
+no_rules_among f [] plain = refl
+no_rules_among f (c ∷ cs) plain =
+    let rules = both_true (length c.rules == 0) (list_all (λ c. length c.rules == 0) cs) plain in
+    no_join (flat_map (f c) c.rules) (flat_map (λ c. flat_map (f c) c.rules) cs) (no_parts (f c) c.rules (no_items c.rules rules.0)) (no_rules_among f cs rules.1)
+
+module _ (d : TableDefinition) (plain : has_no_rules d ≡ true) where
+  no_table_rules : d.rules ≡ []
+  no_table_rules = no_items d.rules (both_true (length d.rules == 0) (list_all (λ c. length c.rules == 0) d.columns) plain).0
+
+  no_column_rules : list_all (λ c. length c.rules == 0) d.columns ≡ true
+  no_column_rules = (both_true (length d.rules == 0) (list_all (λ c. length c.rules == 0) d.columns) plain).1
+
+  no_keys : keys_of d ≡ []
+  no_keys = no_join _ _ (no_rules_among _ d.columns no_column_rules) (no_parts _ d.rules no_table_rules)
+
+  no_checks : checks_of d ≡ []
+  no_checks = no_join _ _ (no_rules_among _ d.columns no_column_rules) (no_parts _ d.rules no_table_rules)
+
+  pub listed_made : (t : Table) → has_doubled d.columns ≡ false → HasColumnsOf d t → table_made d ≡ good (plain_table t [], [])
+  listed_made t once same =
+      unless_false (has_doubled d.columns) Misuse _ once
+      ∙ unless_false _ Misuse _ (none_twice _ (keys_of d) no_keys)
+      ∙ unless_false _ Misuse _ (none_twice _ (keys_of d) no_keys)
+      ∙ then_good (known_all (map column_of d.columns)) (map plain_column t.columns) _ (known_columns d.columns t.columns no_column_rules same)
+      ∙ then_good _ [] _ (none_known _ (checks_of d) no_checks)
+      ∙ then_good _ [] _ (none_known _ (keys_of d) no_keys)
+      ∙ ap (λ es. good (without_rows (map plain_column t.columns) None es, [])) no_checks
+
+-- ---- the database
+
+-- a name that is none of those listed finds nothing, and one that is finds something
+nothing : (found : Option Object) → is_some found ≡ false → found ≡ None
+nothing None h = refl
+nothing (Some o) h = absurd (false≢true (sym h))
+
+something : (found : Option Object) → is_some found ≡ true → (o : Object) × (found ≡ Some o)
+something None h = absurd (false≢true h)
+something (Some o) h = (o, refl)
+
+abbrev with_each : Database → List (Name × Object) → Database
+with_each db [] = db
+with_each db (o ∷ os) = with_each (put name_order o.0 o.1 db) os
+
+-- an object whose name is free and new, and what is made of the database with it
+is_added : (f : Database → Database) (db : Database) (n : Name) (o : Object) (reserved : Bool) (taken : Option Object) → reserved ≡ false → taken ≡ None
+    → known_map f (unless reserved Misuse (unless (is_some taken) Exists (known_map (with_object db n) (good o)))) ≡ good (f (with_object db n o))
+is_added f db n o reserved taken free fresh =
+    ap (λ b. known_map f (unless b Misuse (unless (is_some taken) Exists (known_map (with_object db n) (good o))))) free
+    ∙ ap (λ t. known_map f (unless false Misuse (unless (is_some t) Exists (known_map (with_object db n) (good o))))) fresh
+
+pub makes_by : NamesListed → MakesListedTable
+makes_by names rows_at tables db d t lists plain fresh same =
+    then_good (table_made d) (plain_table t [], []) _ (listed_made d plain t fresh.once same)
+    ∙ is_added (λ after. with_each after (automatic d.name 1 [])) db d.name (ATable (plain_table t [])) (is_reserved d.name) (object db d.name) fresh.free
+    (nothing (object db d.name) (names rows_at tables db d.name lists ∙ fresh.new))
+
+-- ---- refusals
+
+-- this is among its refusals
+record Has {A : Type 0} (k : Checked A) (r : Refusal) : Type 0 where
+  among : Contains (faults k) r
+
+unless_has : {A : Type 0} (b : Bool) (r : Refusal) (k : Checked A) → b ≡ true → Has (unless b r k) r
+unless_has true r (Meant x ss) h = record { among = (0, omega arith, refl) }
+unless_has false r k h = absurd (false≢true h)
+
+also_front : {A : Type 0} (rs : List Refusal) (k : Checked A) (r : Refusal) → Contains rs r → Has (also rs k) r
+also_front rs (Meant x ss) r h = record { among = Contains-append_left rs ss r h }
+
+also_behind : {A : Type 0} (rs : List Refusal) (k : Checked A) (r : Refusal) → Has k r → Has (also rs k) r
+also_behind rs (Meant x ss) r h = record { among = Contains-append_right rs ss r h.among }
+
+unless_later : {A : Type 0} (b : Bool) (r s : Refusal) (k : Checked A) → Has k s → Has (unless b r k) s
+unless_later b r s k h = also_behind (if b then (r ∷ []) else []) k s h
+
+then_has : {A B : Type 0} (k : Checked A) (f : A → Checked B) (r : Refusal) → Has k r → Has (k and_then f) r
+then_has (Meant x rs) f r h = also_front rs (f x) r h.among
+
+then_later : {A B : Type 0} (k : Checked A) (f : A → Checked B) (r : Refusal) → Has (f (meant k)) r → Has (k and_then f) r
+then_later (Meant x rs) f r h = also_behind rs (f x) r h
+
+both_first : {A B C : Type 0} (f : A → B → C) (k : Checked A) (l : Checked B) (r : Refusal) → Has k r → Has (both f k l) r
+both_first f (Meant x rs) (Meant y ss) r h = record { among = Contains-append_left rs ss r h.among }
+
+both_second : {A B C : Type 0} (f : A → B → C) (k : Checked A) (l : Checked B) (r : Refusal) → Has l r → Has (both f k l) r
+both_second f (Meant x rs) (Meant y ss) r h = record { among = Contains-append_right rs ss r h.among }
+
+map_has : {A B : Type 0} (f : A → B) (k : Checked A) (r : Refusal) → Has k r → Has (known_map f k) r
+map_has f (Meant x rs) r h = record { among = h.among }
+
+none_is : {A : Type 0} (o : Option A) → is_none o ≡ true → o ≡ None
+none_is None h = refl
+none_is (Some x) h = absurd (false≢true h)
+
+-- the parts of a column that its rules make
+abbrev last_given : {A : Type 0} → (ColumnRule → Option A) → A → List ColumnRule → A
+last_given f a [] = a
+last_given f a (r ∷ rs) = last_given f (unwrap_or (f r) a) rs
+
+abbrev given_default : ColumnRule → Option Value
+given_default (column.Default v) = Some v
+given_default _ = None
+
+abbrev is_filling : ColumnRule → Bool
+is_filling column.NotNull = true
+is_filling _ = false
+
+-- of its affinity, whatever its rules
+real_affinity : {A B : Type 0} (f : Affinity → A → B) (a : Affinity) (l : Checked A) → Has (both f (bad a Unsupported) l) Unsupported
+real_affinity f a (Meant y ss) = record { among = (0, omega arith, refl) }
+
+real_column : (c : ColumnDefinition) → is_real c ≡ true → Has (column_of c) Unsupported
+real_column c h = let e : declared_affinity (type_text c) ≡ None = none_is (declared_affinity (type_text c)) h in
+    rw (e) (real_affinity (λ a ks. record { name = folded c.name; affinity = a; collation = unwrap_or (last_or None ks) Binary; is_filled = list_any is_filling c.rules; default = last_given given_default Null c.rules }) kind.Blob _)
+
+real_among : (cs : List ColumnDefinition) → list_any is_real cs ≡ true → Has (known_all (map column_of cs)) Unsupported
+real_among [] h = absurd (false≢true h)
+real_among (c ∷ cs) h = by_test (real_among cs) (is_real c) refl h
+  where
+    by_test : (list_any is_real cs ≡ true → Has (known_all (map column_of cs)) Unsupported) → (b : Bool) → is_real c ≡ b → (b || list_any is_real cs) ≡ true → Has (known_all (map column_of (c ∷ cs))) Unsupported
+    by_test rest true e h = both_first (λ (x : TableColumn) xs. x ∷ xs) (column_of c) (known_all (map column_of cs)) Unsupported (real_column c e)
+    by_test rest false e h = both_second (λ (x : TableColumn) xs. x ∷ xs) (column_of c) (known_all (map column_of cs)) Unsupported (rest h)
+
+module _ (db : Database) (d : TableDefinition) where
+  -- the new object, and with the test whether another has its name
+  abbrev placed : Checked Database
+  placed = known_map (with_object db d.name) (good (ATable (meant (table_made d)).0))
+
+  abbrev tried : Checked Database
+  tried = unless (is_some (object db d.name)) Exists placed
+
+  reserved_refused : is_reserved d.name ≡ true → Has (create_table db d) Misuse
+  reserved_refused h = then_later (table_made d) _ Misuse (map_has (λ after. with_each after (automatic d.name 1 (meant (table_made d)).1)) _ Misuse (unless_has (is_reserved d.name) Misuse tried h))
+
+  taken_refused : (o : Object) → object db d.name ≡ Some o → Has (create_table db d) Exists
+  taken_refused o h = then_later (table_made d) _ Exists (map_has (λ after. with_each after (automatic d.name 1 (meant (table_made d)).1)) _ Exists (unless_later (is_reserved d.name) Misuse Exists tried (unless_has (is_some (object db d.name)) Exists placed (ap is_some h))))
+
+  doubled_refused : has_doubled d.columns ≡ true → Has (create_table db d) Misuse
+  doubled_refused h = then_has (table_made d) _ Misuse (unless_has (has_doubled d.columns) Misuse _ h)
+
+  reals_refused : list_any is_real d.columns ≡ true → Has (create_table db d) Unsupported
+  reals_refused h = then_has (table_made d) _ Unsupported
+      (unless_later (has_doubled d.columns) Misuse Unsupported _ (unless_later _ Misuse Unsupported _ (unless_later _ Misuse Unsupported _
+      (then_has (known_all (map column_of d.columns)) _ Unsupported (real_among d.columns h)))))
+
+  refused_so : (r s : Refusal) → r ≡ s → Has (create_table db d) s → Contains (faults (create_table db d)) r
+  refused_so r s e h = subst (Contains (faults (create_table db d))) (sym e) h.among
+
+pub refuses_by : NamesListed → RefusesTableAsDefined
+refuses_by names rows_at tables db d r lists (inl (e, h)) = refused_so db d r Misuse e (reserved_refused db d h)
+refuses_by names rows_at tables db d r lists (inr (inl (e, h))) =
+    let (o, is) = something (object db d.name) (names rows_at tables db d.name lists ∙ h) in refused_so db d r Exists e (taken_refused db d o is)
+refuses_by names rows_at tables db d r lists (inr (inr (inl (e, h)))) = refused_so db d r Misuse e (doubled_refused db d h)
+refuses_by names rows_at tables db d r lists (inr (inr (inr (e, h)))) = refused_so db d r Unsupported e (reals_refused db d h)
+
+pub makes_table : MakesListedTable
+makes_table = makes_by names_listed
+
+pub refuses_table : RefusesTableAsDefined
+refuses_table = refuses_by names_listed
+
+-- ---- names of columns
+
+-- what is found with one item more is found without it, or is that item
+at_end : {A : Type 0} (p : A → Bool) (xs : List A) (x t : A) → find p (xs ++ x ∷ []) ≡ Some t → (find p xs ≡ Some t) ⊎ (x ≡ t)
+at_end p [] x t h = by_test (p x) h
+  where
+    by_test : (b : Bool) → cond b (Some x) None ≡ Some t → (None ≡ Some t) ⊎ (x ≡ t)
+    by_test true h = inr cc
+    by_test false h = inl h
+at_end p (y ∷ xs) x t h = by_test (at_end p xs x t) (p y) h
+  where
+    by_test : (find p (xs ++ x ∷ []) ≡ Some t → (find p xs ≡ Some t) ⊎ (x ≡ t)) → (b : Bool) → cond b (Some y) (find p (xs ++ x ∷ [])) ≡ Some t → (cond b (Some y) (find p xs) ≡ Some t) ⊎ (x ≡ t)
+    by_test rest true h = inl h
+    by_test rest false h = rest h
+
+names_of : (cs : List ColumnDefinition) (columns : List Column) → map described columns ≡ map defined cs → map (λ c. c.name) columns ≡ map (λ c. c.name) cs
+names_of [] [] same = refl
+names_of [] (column ∷ columns) same = absurd cc
+names_of (c ∷ cs) [] same = absurd cc
+names_of (c ∷ cs) (column ∷ columns) same =
+    let parts = heads described column (defined c) columns (map defined cs) same in
+    let h : column.name ≡ c.name = ap (λ x. x.0) parts.0 in
+    let k = names_of cs columns parts.1 in
+    cc
+
+pub keeps_once : KeepsNamesOnce
+keeps_once tables d t each once same name u found = elim (at_end (is_table name) tables t u found) [
+  | inl h ↦ each name u h
+  | inr e ↦ subst (λ u. is_twice_named u.columns ≡ false) e (ap (any_twice is_same_name) (names_of d.columns t.columns same) ∙ once)
+]
+
+-- ---- definitions that aren't refused
+
+-- the name may be given, no two columns have one name, and none is of reals
+pub record IsAccepted (d : TableDefinition) : Type 0 where
+  pub free : is_reserved d.name ≡ false
+  pub once : has_doubled d.columns ≡ false
+  pub known : list_any is_real d.columns ≡ false
+
+not_so : {A : Type 0} (k : Checked A) (r : Refusal) (b : Bool) → faults k ≡ [] → (b ≡ true → Has k r) → b ≡ false
+not_so k r true none has = (let among = subst (λ rs. Contains rs r) none (has refl).among in absurd (omega (arith, among.1)))
+not_so k r false none has = refl
+
+pub accepted : (db : Database) (d : TableDefinition) → faults (create_table db d) ≡ [] → IsAccepted d
+accepted db d none = record {
+  free = not_so (create_table db d) Misuse (is_reserved d.name) none (reserved_refused db d);
+  once = not_so (create_table db d) Misuse (has_doubled d.columns) none (doubled_refused db d);
+  known = not_so (create_table db d) Unsupported (list_any is_real d.columns) none (reals_refused db d);
+}

@@ -1,0 +1,53 @@
+-- CREATE TABLE of a definition that is a name and columns alone: the table that it makes, and what refuses it.
+use Rattle.std.specs.Prelude.{◌≡◌, ◌⊎◌, ℕ, ℤ, Bool, true, false, ◌&&◌, ◌==◌, List, [], ◌∷◌, ◌++◌, length, map}
+use Rattle.std.specs.List.{Contains, list_all, list_any}
+use Rattle.sqlval.specs.Refusals.{Refusal, Exists, Misuse, Unsupported}
+use Rattle.sqlval.specs.declared.value.Value.{Value}
+use Rattle.sql_syntax.specs.declared.create.NewObject.TheVariants as new
+use Rattle.sql_syntax.specs.declared.create.TableDefinition.{TableDefinition}
+use Rattle.catalog.specs.Database.{Database, ATable, with_object}
+use Rattle.catalog.specs.Listed.{Lists, defined, described, has_doubled, is_name_of, is_real, is_reserved, plain_table}
+use Rattle.catalog.specs.declared.tables.Table.{Table}
+use Rattle.query_names.specs.Bound.{AreOnce}
+use Rattle.query_names.specs.Checked.{good, faults}
+use Rattle.query_names.specs.Schema.{create}
+
+-- neither the table nor one of its columns has a rule
+abbrev pub has_no_rules : TableDefinition → Bool
+has_no_rules d = length d.rules == 0 && list_all (λ c. length c.rules == 0) d.columns
+
+-- nothing is in the definition's way: its name may be given, none of the tables and of their indexes has it, and no two columns have one
+-- name
+pub record IsNewBeside (tables : List Table) (d : TableDefinition) : Type 0 where
+  pub free : is_reserved d.name ≡ false
+  pub new : is_name_of tables d.name ≡ false
+  pub once : has_doubled d.columns ≡ false
+
+-- the table has the definition's columns, each with its name and its affinity
+abbrev pub HasColumnsOf : TableDefinition → Table → Type 0
+HasColumnsOf d t = map described t.columns ≡ map defined d.columns
+
+-- Why a definition is refused beside these tables: its name is reserved, a table or an index has it, two columns have one name, or a
+-- column's type is that of reals.
+abbrev pub IsCreateRefusal : List Table → TableDefinition → Refusal → Type 0
+IsCreateRefusal tables d r =
+    (r ≡ Misuse) × (is_reserved d.name ≡ true)
+    ⊎ (((r ≡ Exists) × (is_name_of tables d.name ≡ true))
+    ⊎ ((r ≡ Misuse) × (has_doubled d.columns ≡ true)
+    ⊎ (r ≡ Unsupported) × (list_any is_real d.columns ≡ true)))
+
+-- A table with the columns of a definition without rules, where nothing is in its way, is the one that CREATE TABLE makes:
+-- under its name, without rows, and not refused.
+abbrev pub MakesListedTable : Type 0
+MakesListedTable = (rows_at : ℕ → List (ℤ × List Value)) (tables : List Table) (db : Database) (d : TableDefinition) (t : Table)
+    → Lists rows_at tables db → has_no_rules d ≡ true → IsNewBeside tables d → HasColumnsOf d t
+    → create db (new.Table d) ≡ good (with_object db d.name (ATable (plain_table t [])))
+
+-- Why a definition is refused beside the listed tables is among the refusals of its CREATE TABLE.
+abbrev pub RefusesTableAsDefined : Type 0
+RefusesTableAsDefined = (rows_at : ℕ → List (ℤ × List Value)) (tables : List Table) (db : Database) (d : TableDefinition) (r : Refusal)
+    → Lists rows_at tables db → IsCreateRefusal tables d r → Contains (faults (create db (new.Table d))) r
+
+-- With a new table whose columns are those of a definition that names none twice, each listed table's columns have different names.
+abbrev pub KeepsNamesOnce : Type 0
+KeepsNamesOnce = (tables : List Table) (d : TableDefinition) (t : Table) → AreOnce tables → has_doubled d.columns ≡ false → HasColumnsOf d t → AreOnce (tables ++ t ∷ [])

@@ -1,0 +1,54 @@
+//! What names, expressions and queries mean on a database, and what CREATE and DROP make of it, as definitions; and the names
+//! of the statements that are supported, looked up.
+#![tactic(auto)]
+
+mod columns;
+mod expressions;
+mod forms;
+mod functions;
+mod inserting;
+mod names;
+mod queries;
+mod reading;
+mod scope;
+
+ghost use Rattle.query_names.specs.Comprehension.{IsComprehension};
+ghost use Rattle.query_names.specs.Creating.{KeepsNamesOnce, MakesListedTable, RefusesTableAsDefined};
+ghost use Rattle.query_names.specs.Laws.{CalmIsNotRefused, KnowsListed};
+
+use catalog::listed_tables_are_found;
+pub use expressions::bind_term;
+pub use functions::collation_named;
+pub use inserting::{BoundInsert, Target, bind_target};
+pub use names::{find_table, missing};
+pub use queries::BoundSource;
+pub use reading::{Condition, Reading};
+pub use scope::{ScopeColumn, ScopeSource};
+
+/// A calm condition isn't refused, so a plan may leave rows unread.
+pub fn calm_is_not_refused()
+    ensures { CalmIsNotRefused }
+{}
+
+/// Where nothing is refused, a query without groups, DISTINCT, ORDER BY and LIMIT nests its sources' rows, filters them, and
+/// gives the results of each.
+pub fn plain_query_is_a_comprehension()
+    ensures { IsComprehension }
+{}
+
+/// The tables that a catalog lists of a database are those that its names are looked up among.
+pub fn listed_tables_are_known()
+    ensures { KnowsListed }
+{
+    listed_tables_are_found();
+}
+
+/// A CREATE TABLE of a definition without rules, beside listed tables, makes the table of the definition's columns, or is
+/// refused for each cause that there is.
+pub fn tables_are_created_as_defined()
+    ensures makes { MakesListedTable }
+    ensures refuses { RefusesTableAsDefined }
+    ensures once { KeepsNamesOnce }
+{
+    listed_tables_are_found();
+}

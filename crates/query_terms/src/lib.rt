@@ -1,0 +1,35 @@
+//! Expressions whose names are looked up, and their values over rows.
+#![tactic(auto)]
+
+mod collating;
+mod comparing;
+mod datum;
+mod evaluating;
+mod integers;
+mod numbers;
+mod places;
+mod rows;
+mod sameness;
+mod texts;
+mod totals;
+mod tree;
+mod truth;
+
+ghost use Rattle.query_terms.specs.Laws.{ConvertsAsRelated, RefusesReals};
+
+pub use collating::{affinity, collation};
+pub use comparing::Manner;
+pub use datum::Datum;
+pub use integers::{evaluate, holds};
+pub use places::RowPlaces;
+pub use rows::{Env, SourceRow};
+pub use sameness::is_same;
+pub use tree::{
+    Aggregate, Arithmetic, Comparison, Function, Node, OneSided, Place, Term, TwoSided,
+};
+
+/// The affinity's function agrees with its relation.
+pub fn conversion_is_one()
+    ensures gives { ConvertsAsRelated }
+    ensures refuses { RefusesReals }
+{}

@@ -1,9 +1,0 @@
--- what is left of the list decides
-use Rattle.std.proofs.Common.{◌≡◌, drop}
-use Rattle.bind.specs.Named.{IsOutside}
-use Rattle.querybinder.specs.Assigned.{sets_known}
-use Rattle.querybinder.specs.Named.{onto_list}
-use Rattle.querybinder.proofs.assigning.bind_each.Given as goal
-
-abbrev pub invariant-assignments : goal.invariant-assignments
-invariant-assignments l = IsOutside l.scope → onto_list l.sets.items (sets_known l.table.columns l.scope (drop l.assignment-index l.assignments)) ≡ sets_known l.table.columns l.scope l.assignments

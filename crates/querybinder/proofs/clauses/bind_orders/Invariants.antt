@@ -1,9 +1,0 @@
--- what is left of ORDER BY decides
-use Rattle.std.proofs.Common.{◌≡◌, drop, map}
-use Rattle.querybinder.specs.Named.{AreTables, onto_list, order_given, orders_checked}
-use Rattle.querybinder.proofs.clauses.bind_orders.Given as goal
-
-abbrev pub invariant-orders : goal.invariant-orders
-invariant-orders l =
-    AreTables l.scope
-    → onto_list l.found.items (orders_checked (map (order_given l.scope l.items l.results) (drop l.order-index l.orders))) ≡ orders_checked (map (order_given l.scope l.items l.results) l.orders)

@@ -1,7 +1,0 @@
--- each result so far is marked
-use Rattle.std.proofs.Common.{◌≡◌, map, take}
-use Rattle.bind.specs.Grouping.{keyed}
-use Rattle.querybinder.proofs.marking.marked_results.Given as goal
-
-abbrev pub invariant-results : goal.invariant-results
-invariant-results l = l.found.items ≡ map (λ r. keyed l.keys r.0) (take l.result-index l.results)

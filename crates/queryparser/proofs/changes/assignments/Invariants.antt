@@ -1,8 +1,0 @@
-use Rattle.std.proofs.Common.{◌≡◌, ◌-◌, length}
-use Rattle.expressions.specs.Symbols.{seen}
-use Rattle.grammar.specs.Readers.{listed, listed_upto}
-use Rattle.queryparser.specs.ChangeReading.{assignment_from}
-use Rattle.queryparser.proofs.changes.assignments.Given as goal
-
-abbrev pub invariant-assignments : goal.invariant-assignments
-invariant-assignments l = listed assignment_from (seen l.spelled l.tokens) ≡ listed_upto assignment_from (length l.tokens - l.counter) l.assignments (seen l.spelled l.rest)

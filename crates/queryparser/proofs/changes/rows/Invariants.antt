@@ -1,8 +1,0 @@
-use Rattle.std.proofs.Common.{◌≡◌, ◌-◌, length}
-use Rattle.expressions.specs.Symbols.{seen}
-use Rattle.grammar.specs.Readers.{listed, listed_upto}
-use Rattle.expressions.specs.Reading.{row_from}
-use Rattle.queryparser.proofs.changes.rows.Given as goal
-
-abbrev pub invariant-rows : goal.invariant-rows
-invariant-rows l = listed row_from (seen l.spelled l.tokens) ≡ listed_upto row_from (length l.tokens - l.counter) l.rows (seen l.spelled l.rest)

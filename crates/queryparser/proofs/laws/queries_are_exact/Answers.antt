@@ -1,8 +1,0 @@
-use Rattle.queryparser.proofs.SelectLaws.{exact_query, exact_selection}
-use Rattle.queryparser.proofs.laws.queries_are_exact.Goals as goal
-
-pub returns-clause-selections : goal.returns-clause-selections
-returns-clause-selections c = exact_selection.exact
-
-pub returns-clause-queries : goal.returns-clause-queries
-returns-clause-queries c = exact_query.exact

@@ -1,8 +1,0 @@
-use Rattle.std.proofs.Common.{◌≡◌, ◌-◌, length}
-use Rattle.expressions.specs.Symbols.{seen}
-use Rattle.grammar.specs.Readers.{listed, listed_upto}
-use Rattle.queryparser.specs.QueryReading.{result_from}
-use Rattle.queryparser.proofs.queries.all_results.Given as goal
-
-abbrev pub invariant-results : goal.invariant-results
-invariant-results l = listed result_from (seen l.spelled l.tokens) ≡ listed_upto result_from (length l.tokens - l.counter) l.results (seen l.spelled l.rest)

@@ -1,0 +1,382 @@
+-- Rows of a tree are replaced one after another.
+use Rattle.std.proofs.Common.{◌≡◌, inl, inr, refl, sym, ap, subst, ◌∙◌, ◌<ℤ◌, ◌≤ℤ◌, ◌&&◌, ◌==◌, ℕ, zero, suc, ℤ, Bool, true, false, cond, filter, List, [], ◌∷◌, ◌++◌, length, map, Option, Some, None, if◌then◌else◌, Result, Ok, Err, All, zip, slice_set, arith}
+use Rattle.std.specs.Prelude.{MatchResult, ⊤, int_lt}
+use Rattle.std.specs.Global.{Vec}
+use Rattle.std.specs.List.{AllByRecursion, list_all}
+use Rattle.std.specs.Ordering.{int_cmp, int_eq}
+use Rattle.std.proofs.lemmas.Bool.{eq-eqb, false≢true}
+use Rattle.std.proofs.lemmas.List.{length-map, length-set}
+use Rattle.sqlval.specs.Conversion.{converted, is_word}
+use Rattle.sqlval.specs.Lists.{is_rising}
+use Rattle.sqlval.specs.Refusals.{Answer, Refusal, ◌then◌, all_answers}
+use Rattle.sqlval.specs.declared.fault.Fault.{Fault}
+use Rattle.sqlval.specs.declared.value.Value.{Value}
+use Rattle.tree_leaf.specs.Leaf.{Entry}
+use Rattle.pages.specs.Calls.{IsOutsideOrFull}
+use Rattle.pages.specs.Map.{PageMap}
+use Rattle.tree_page.specs.Cells.{Pairwise}
+use Rattle.tree_table.specs.Calls.{BecomesRows, ChangesRows}
+use Rattle.tree_table.specs.Rows.{payload_at, with_row, with_change, with_changes, with_replaced}
+use Rattle.tree_table.specs.declared.changing.RowChange.{RowChange}
+use Rattle.tree_table.proofs.Orders.{less_not, not_less, same_or_other, lt_le}
+use Rattle.catalog.specs.Database.{TableColumn}
+use Rattle.catalog.specs.Listed.{plain_column, plain_table}
+use Rattle.catalog.specs.Rows.{is_row, is_value}
+use Rattle.catalog.specs.declared.tables.Column.{Column}
+use Rattle.catalog.specs.declared.tables.Table.{Table}
+use Rattle.query_names.specs.Readings.{env_of, values}
+use Rattle.query_terms.specs.Terms.{Term}
+use Rattle.row_scan.specs.Rows.{IsRow, TableRow}
+use Rattle.row_scan.specs.Sources.{as_source}
+use Rattle.row_scan.proofs.RowOrder.{both_true}
+use Rattle.row_change.specs.Constraints.{set_values, with_affinity}
+use Rattle.row_change.specs.NewRows.{IsReplacement, IsWritten, entry_left}
+use Rattle.record.specs.Writing.{AreStorable}
+use Rattle.row_change.specs.Setting.{row_set, rows_meant_set, values_set}
+use Rattle.row_change.specs.Updating.{FitNow, ReplacesRows, with_all_replaced}
+use Rattle.row_change.proofs.Rising.{Climbs, Rises, both, further}
+
+-- ---- the call
+
+pub all_push : {A : Type 0} (P : A → Type 0) (xs : List A) (x : A) → AllByRecursion P xs → P x → AllByRecursion P (xs ++ x ∷ [])
+all_push P [] x all one = (one, tt)
+all_push P (y ∷ xs) x all one = (all.0, all_push P xs x all.1 one)
+
+change_by : (rowid : ℤ) (payload : Option (Vec ℕ)) (rows : List Entry) → (payload ≡ None → ⊥)
+    → with_change (record { rowid = rowid; payload = payload }) rows ≡ with_replaced (entry_left (record { rowid = rowid; payload = payload })) rows
+change_by rowid None rows some = absurd (some refl)
+change_by rowid (Some payload) rows some = refl
+
+-- changes that give rows other payloads put the entries in place of theirs
+changes_replace : (changes : List RowChange) (rows : List Entry) → AllByRecursion IsReplacement changes → with_changes changes rows ≡ with_all_replaced (map entry_left changes) rows
+changes_replace [] rows all = refl
+changes_replace (change ∷ changes) rows all =
+    changes_replace changes (with_change change rows) all.1
+    ∙ ap (λ (rs : List Entry). with_all_replaced (map entry_left changes) rs) (change_by change.rowid change.payload rows all.0)
+
+pub as_replaced : (old new : PageMap) (size root : ℕ) (changes : List RowChange) (result : Result ⊤ Fault) → AllByRecursion IsReplacement changes → ChangesRows old new size root changes result
+    → ReplacesRows old new size root (with_all_replaced (map entry_left changes)) result
+as_replaced old new size root changes result all makes rows used free is = by result (makes rows used free is)
+  where
+    by : (r : Result ⊤ Fault) → MatchResult r (λ done. BecomesRows old new size root (with_changes changes rows) used free) IsOutsideOrFull
+        → MatchResult r (λ done. BecomesRows old new size root (with_all_replaced (map entry_left changes) rows) used free) IsOutsideOrFull
+    by (Ok done) becomes = subst (λ (rs : List Entry). BecomesRows old new size root rs used free) (changes_replace changes rows all) becomes
+    by (Err fault) refused = refused
+
+-- ---- the parts of an answer
+
+abbrev given_row : TableRow → Answer TableRow
+given_row row = Ok row
+
+abbrev given_rows : List TableRow → Answer (List TableRow)
+given_rows rows = Ok rows
+
+abbrev given_values : List Value → Answer (List Value)
+given_values values = Ok values
+
+same_row : (a b : TableRow) → given_row a ≡ given_row b → a ≡ b
+same_row a b e = cc
+
+same_rows : (a b : List TableRow) → given_rows a ≡ given_rows b → a ≡ b
+same_rows a b e = cc
+
+same_values : (a b : List Value) → given_values a ≡ given_values b → a ≡ b
+same_values a b e = cc
+
+-- the first row and those after it
+record Parts (a : Answer TableRow) (b : Answer (List TableRow)) (all : List TableRow) : Type 0 where
+  row : TableRow
+  more : List TableRow
+  first_is : a ≡ Ok row
+  more_is : b ≡ Ok more
+  are : row ∷ more ≡ all
+
+parts_of : (a : Answer TableRow) (b : Answer (List TableRow)) (all : List TableRow) → (a then λ x. b then λ xs. Ok (x ∷ xs)) ≡ Ok all → Parts a b all
+parts_of (Ok x) (Ok xs) all e = record { row = x; more = xs; first_is = refl; more_is = refl; are = same_rows (x ∷ xs) all e }
+parts_of (Ok x) (Err r) all e = absurd cc
+parts_of (Err r) b all e = absurd cc
+
+-- ---- as many values as columns
+
+as_long : (before : List Value) (ps : List (ℕ × Value)) → length (set_values before ps) ≡ length before
+as_long before [] = refl
+as_long before (p ∷ ps) = as_long (slice_set before p.0 p.1) ps ∙ length-set before p.0 p.1
+
+long_list : (a : Answer Value) (b : Answer (List Value)) (n : ℕ) (values : List Value) → (a then λ w. b then λ ws. Ok (w ∷ ws)) ≡ Ok values → ((ws : List Value) → b ≡ Ok ws → length ws ≡ n) → length values ≡ suc n
+long_list (Ok w) (Ok ws) n values e long = ap length (sym (same_values (w ∷ ws) values e)) ∙ ap suc (long ws refl)
+long_list (Ok w) (Err r) n values e long = absurd cc
+long_list (Err r) b n values e long = absurd cc
+
+long_stored : (columns : List TableColumn) (values stored : List Value) → length values ≡ length columns → with_affinity columns values ≡ Ok stored → length stored ≡ length columns
+long_stored [] values stored long e = ap length (sym (same_values [] stored e))
+long_stored (c ∷ columns) [] stored long e = absurd (omega (arith, long))
+long_stored (c ∷ columns) (v ∷ values) stored long e =
+    long_list (converted c.affinity v) (with_affinity columns values) (length columns) stored e (λ ws h. long_stored columns values ws (omega (arith, long)) h)
+
+module _ (columns : List Column) (sets : List (ℕ × Term)) where
+  long_set : (row : TableRow) (stored : List Value) → length row.1 ≡ length columns → values_set columns sets (as_source row) ≡ Ok stored → length stored ≡ length columns
+  long_set row stored long e = by (values (env_of (as_source row ∷ [])) (map (λ s. s.1) sets)) e
+    where
+      by : (a : Answer (List Value)) → ((a then λ given. given_values (set_values row.1 (zip (map (λ s. s.0) sets) given))) then λ vs. with_affinity (map plain_column columns) vs) ≡ Ok stored → length stored ≡ length columns
+      by (Ok given) h =
+          let ps = zip (map (λ s. s.0) sets) given in
+          let as_many = length-map columns plain_column in
+          long_stored (map plain_column columns) (set_values row.1 ps) stored (as_long row.1 ps ∙ (long ∙ sym as_many)) h ∙ as_many
+      by (Err r) h = absurd cc
+
+  -- what a row becomes keeps its rowid
+  set_parts : (row now : TableRow) → row_set columns sets row ≡ Ok now → (now.0 ≡ row.0) × (values_set columns sets (as_source row) ≡ Ok now.1)
+  set_parts row now e = by (values_set columns sets (as_source row)) e
+    where
+      by : (a : Answer (List Value)) → (a then λ values. given_row (row.0, values)) ≡ Ok now → (now.0 ≡ row.0) × (a ≡ Ok now.1)
+      by (Ok values) h = (ap (λ (r : TableRow). r.0) (sym (same_row (row.0, values) now h)), ap (λ (r : TableRow). Ok r.1) (same_row (row.0, values) now h))
+      by (Err r) h = absurd cc
+
+-- ---- a row among others
+
+-- each entry's rowid is greater
+abbrev pub AreOver : ℤ → List Entry → Type 0
+AreOver low [] = ⊤
+AreOver low (entry ∷ entries) = (low <ℤ entry.rowid) × AreOver low entries
+
+-- the rows with one in place of that of its rowid, by what the tests of the first are
+abbrev by_tests : Entry → Entry → List Entry → Bool → Bool → Bool → List Entry
+by_tests row first rows is less same =
+    elim (if is then Some first.payload else payload_at row.rowid rows) [
+      | None ↦ first ∷ rows
+      | Some payload ↦ (if less then row ∷ first ∷ rows else (if same then row ∷ rows else first ∷ with_row row rows))
+    ]
+
+tested : (row first : Entry) (rows : List Entry) (is less same : Bool) → int_eq first.rowid row.rowid ≡ is → int_lt row.rowid first.rowid ≡ less → int_eq row.rowid first.rowid ≡ same
+    → with_replaced row (first ∷ rows) ≡ by_tests row first rows is less same
+tested row first rows is less same e h k =
+    ap (λ (b : Bool). by_tests row first rows b (int_lt row.rowid first.rowid) (int_eq row.rowid first.rowid)) e
+    ∙ (ap (λ (b : Bool). by_tests row first rows is b (int_eq row.rowid first.rowid)) h ∙ ap (λ (b : Bool). by_tests row first rows is less b) k)
+
+apart : (a b : ℤ) → a <ℤ b → b ≡ a → ⊥
+apart a b lt same = grind (arith)
+
+-- a row of a greater rowid leaves the first
+stays_before : (row first : Entry) (rows : List Entry) → first.rowid <ℤ row.rowid → with_replaced row (first ∷ rows) ≡ first ∷ with_replaced row rows
+stays_before row first rows lt =
+    tested row first rows false false false (less_not first.rowid row.rowid lt) (not_less row.rowid first.rowid (lt_le first.rowid row.rowid lt)) other ∙ by (payload_at row.rowid rows)
+  where
+    other : int_eq row.rowid first.rowid ≡ false
+    other = elim (same_or_other row.rowid first.rowid) [ inl is ↦ absurd (apart first.rowid row.rowid lt is.1) | inr is ↦ is.0 ]
+
+    by : (o : Option (List ℕ)) → elim o [ None ↦ first ∷ rows | Some payload ↦ first ∷ with_row row rows ] ≡ first ∷ elim o [ None ↦ rows | Some payload ↦ with_row row rows ]
+    by None = refl
+    by (Some payload) = refl
+
+stay_before : (more : List Entry) (first : Entry) (rows : List Entry) → AreOver first.rowid more → with_all_replaced more (first ∷ rows) ≡ first ∷ with_all_replaced more rows
+stay_before [] first rows over = refl
+stay_before (row ∷ more) first rows over = ap (with_all_replaced more) (stays_before row first rows over.0) ∙ stay_before more first (with_replaced row rows) over.1
+
+-- one of the same rowid comes in the place of the first
+in_place : (row first : Entry) (rows : List Entry) → first.rowid ≡ row.rowid → with_replaced row (first ∷ rows) ≡ row ∷ rows
+in_place row first rows same = tested row first rows true false true there (not_less row.rowid first.rowid (at_most first.rowid row.rowid same)) back
+  where
+    there : int_eq first.rowid row.rowid ≡ true
+    there = elim (same_or_other first.rowid row.rowid) [ inl is ↦ is.0 | inr other ↦ absurd (other.1 same) ]
+
+    back : int_eq row.rowid first.rowid ≡ true
+    back = elim (same_or_other row.rowid first.rowid) [ inl is ↦ is.0 | inr other ↦ absurd (other.1 (sym same)) ]
+
+    at_most : (a b : ℤ) → a ≡ b → a ≤ℤ b
+    at_most a b same = grind (arith)
+
+-- ---- some rows
+
+lower : (low mid : ℤ) (rows : List TableRow) → low <ℤ mid → Climbs mid rows → Climbs low rows
+lower low mid [] lt climb = tt
+lower low mid (row ∷ rows) lt climb = (further low mid row.0 lt climb.0, climb.1)
+
+rest_rises : (row : TableRow) (rows : List TableRow) → Climbs row.0 rows → Rises rows
+rest_rises row [] climb = tt
+rest_rises row (next ∷ rows) climb = climb.1
+
+-- each of some rows, by recursion
+first_of_all : {X : Type 0} (P : X → Type 0) (x : X) (xs : List X) → All P (x ∷ xs) → P x
+first_of_all P x xs all = all 0 x (omega arith)
+
+rest_of_all : {X : Type 0} (P : X → Type 0) (x : X) (xs : List X) → All P (x ∷ xs) → All P xs
+rest_of_all P x xs all k d lt = all (suc k) d (omega (arith, lt))
+
+all_with : {X : Type 0} (P : X → Type 0) (x : X) (xs : List X) → P x → All P xs → All P (x ∷ xs)
+all_with P x xs first rest zero d lt = first
+all_with P x xs first rest (suc k) d lt = rest k d (omega (arith, lt))
+
+abbrev pub CanStore : TableRow → Type 0
+CanStore row = AreStorable row.1
+
+module _ (columns : List Column) (sets : List (ℕ × Term)) (is_meant : TableRow → Bool) where
+  -- what the rows that are meant become
+  abbrev pub made : List TableRow → Answer (List TableRow)
+  made rows = all_answers (map (row_set columns sets) (filter is_meant rows))
+
+  -- one is meant, or it is not
+  made_one : (r : TableRow) (rows : List TableRow) → is_meant r ≡ true → made (r ∷ rows) ≡ (row_set columns sets r then λ x. made rows then λ xs. Ok (x ∷ xs))
+  made_one r rows it = ap (λ (b : Bool). all_answers (map (row_set columns sets) (cond b (r ∷ filter is_meant rows) (filter is_meant rows)))) it
+
+  made_none : (r : TableRow) (rows : List TableRow) → is_meant r ≡ false → made (r ∷ rows) ≡ made rows
+  made_none r rows it = ap (λ (b : Bool). all_answers (map (row_set columns sets) (cond b (r ∷ filter is_meant rows) (filter is_meant rows)))) it
+
+  set_one : (r : TableRow) (rows : List TableRow) → is_meant r ≡ true
+      → rows_meant_set columns sets is_meant (r ∷ rows) ≡ (row_set columns sets r then λ x. rows_meant_set columns sets is_meant rows then λ xs. Ok (x ∷ xs))
+  set_one r rows it = ap (λ (b : Bool). (if b then row_set columns sets r else Ok r) then λ x. rows_meant_set columns sets is_meant rows then λ xs. Ok (x ∷ xs)) it
+
+  set_none : (r : TableRow) (rows : List TableRow) → is_meant r ≡ false → rows_meant_set columns sets is_meant (r ∷ rows) ≡ (rows_meant_set columns sets is_meant rows then λ xs. Ok (r ∷ xs))
+  set_none r rows it = ap (λ (b : Bool). (if b then row_set columns sets r else Ok r) then λ x. rows_meant_set columns sets is_meant rows then λ xs. Ok (x ∷ xs)) it
+
+  -- where the rows become these, their records leave the tree with all rows
+  pub record AreSet (rows new : List TableRow) (entries more : List Entry) : Type 0 where
+    pub now : List TableRow
+    pub answer : rows_meant_set columns sets is_meant rows ≡ Ok now
+    pub each : Pairwise (IsRow (length columns)) (with_all_replaced more entries) now
+    pub ids : map (λ row. row.0) now ≡ map (λ row. row.0) rows
+    pub fit : (t : Table) (held : List TableRow) → t.columns ≡ columns → list_all (is_row (plain_table t held)) rows ≡ true → list_all (is_row (plain_table t held)) now ≡ true
+    pub storable : All CanStore now → All CanStore new
+    pub over : (low : ℤ) → Climbs low rows → AreOver low more
+
+  none_set : AreSet [] [] [] []
+  none_set = record { now = []; answer = refl; each = tt; ids = refl; fit = λ t held same all. refl; storable = λ all k d lt. absurd (omega (arith, lt)); over = λ low climb. tt }
+
+  one_stays : (r : TableRow) (rows new : List TableRow) (entry : Entry) (entries more : List Entry) → is_meant r ≡ false → IsRow (length columns) entry r → Climbs r.0 rows → AreSet rows new entries more
+      → AreSet (r ∷ rows) new (entry ∷ entries) more
+  one_stays r rows new entry entries more it is climb set = record {
+    now = r ∷ set.now;
+    answer = set_none r rows it ∙ ap (λ (a : Answer (List TableRow)). a then λ xs. Ok (r ∷ xs)) set.answer;
+    each = subst (λ (all : List Entry). Pairwise (IsRow (length columns)) all (r ∷ set.now)) (sym (stay_before more entry entries (subst (λ (n : ℤ). AreOver n more) (sym is.rowid) (set.over r.0 climb)))) (is, set.each);
+    ids = ap (λ (ids : List ℤ). r.0 ∷ ids) set.ids;
+    fit = λ t held same all.
+        (let parts = both (is_row (plain_table t held) r) (list_all (is_row (plain_table t held)) rows) all in
+        both_true (is_row (plain_table t held) r) (list_all (is_row (plain_table t held)) set.now) parts.0 (set.fit t held same parts.1));
+    storable = λ all. set.storable (rest_of_all CanStore r set.now all);
+    over = λ low climbs. set.over low (lower low r.0 rows climbs.0 climbs.1);
+  }
+
+  -- the row that it becomes fits as it did
+  still_fits : (t : Table) (held : List TableRow) (r x : TableRow) → t.columns ≡ columns → is_row (plain_table t held) r ≡ true → x.0 ≡ r.0 → length x.1 ≡ length columns → list_all is_value x.1 ≡ true
+      → is_row (plain_table t held) x ≡ true
+  still_fits t held r x same was id long fit =
+      both_true (is_word x.0 && length x.1 == length (map plain_column t.columns) && list_all is_value x.1) true
+      (both_true (is_word x.0 && length x.1 == length (map plain_column t.columns)) (list_all is_value x.1)
+      (both_true (is_word x.0) (length x.1 == length (map plain_column t.columns)) (ap is_word id ∙ word (is_word r.0) (length r.1 == length (map plain_column t.columns)) (list_all is_value r.1) was)
+      (eq-eqb (length x.1) (length (map plain_column t.columns)) (long ∙ (ap length (sym same) ∙ sym (length-map t.columns plain_column))))) fit) refl
+    where
+      word : (a b c : Bool) → (a && b && c && true) ≡ true → a ≡ true
+      word true b c e = refl
+      word false b c e = absurd (false≢true e)
+
+  one_set : (r x : TableRow) (rows new : List TableRow) (entry m : Entry) (entries more : List Entry) → is_meant r ≡ true → IsRow (length columns) entry r → Climbs r.0 rows → row_set columns sets r ≡ Ok x → IsWritten x m
+      → AreSet rows new entries more → AreSet (r ∷ rows) (x ∷ new) (entry ∷ entries) (m ∷ more)
+  one_set r x rows new entry m entries more it is climb e written set = record {
+    now = x ∷ set.now;
+    answer = set_one r rows it
+        ∙ (ap (λ (a : Answer TableRow). a then λ x. rows_meant_set columns sets is_meant rows then λ xs. Ok (x ∷ xs)) e ∙ ap (λ (a : Answer (List TableRow)). a then λ xs. Ok (x ∷ xs)) set.answer);
+    each = subst (λ (all : List Entry). Pairwise (IsRow (length columns)) all (x ∷ set.now))
+        (sym (ap (with_all_replaced more) (in_place m entry entries (is.rowid ∙ sym at)) ∙ stay_before more m entries (subst (λ (n : ℤ). AreOver n more) (sym at) (set.over r.0 climb))))
+        (record { rowid = m_is; values = written.values; full = long }, set.each);
+    ids = let h = parts.0 in let k = set.ids in cc;
+    fit = λ t held same all.
+        (let halves = both (is_row (plain_table t held) r) (list_all (is_row (plain_table t held)) rows) all in
+        both_true (is_row (plain_table t held) x) (list_all (is_row (plain_table t held)) set.now) (still_fits t held r x same halves.0 parts.0 long written.fit) (set.fit t held same halves.1));
+    storable = λ all. all_with CanStore x new (first_of_all CanStore x set.now all) (set.storable (rest_of_all CanStore x set.now all));
+    over = λ low climbs. (subst (λ (n : ℤ). low <ℤ n) (sym at) climbs.0, set.over low (lower low r.0 rows climbs.0 climbs.1));
+  }
+    where
+      parts : (x.0 ≡ r.0) × (values_set columns sets (as_source r) ≡ Ok x.1)
+      parts = set_parts columns sets r x e
+
+      m_is : m.rowid ≡ x.0
+      m_is = ap (λ (n : Entry). n.rowid) written.is
+
+      at : m.rowid ≡ r.0
+      at = m_is ∙ parts.0
+
+      long : length x.1 ≡ length columns
+      long = long_set columns sets r x.1 is.full parts.1
+
+  pub are_set : (rows new : List TableRow) (entries more : List Entry) → Pairwise (IsRow (length columns)) entries rows → Rises rows → made rows ≡ Ok new → Pairwise IsWritten new more → AreSet rows new entries more
+  are_set [] [] [] [] each rises e all = none_set
+  are_set [] [] [] (m ∷ more) each rises e all = absurd all
+  are_set [] (x ∷ new) [] more each rises e all = absurd cc
+  are_set [] new (entry ∷ entries) more each rises e all = absurd each
+  are_set (r ∷ rows) new [] more each rises e all = absurd each
+  are_set (r ∷ rows) new (entry ∷ entries) more each rises e all = by (λ new more. are_set rows new entries more each.1 (rest_rises r rows rises)) (is_meant r) refl
+    where
+      written : (x : TableRow) (xs new : List TableRow) (more : List Entry) → x ∷ xs ≡ new → Pairwise IsWritten new more → row_set columns sets r ≡ Ok x → is_meant r ≡ true
+          → ((more : List Entry) → Pairwise IsWritten xs more → AreSet rows xs entries more) → AreSet (r ∷ rows) new (entry ∷ entries) more
+      written x xs [] more same all is it on = absurd cc
+      written x xs (y ∷ new) [] same all is it on = absurd all
+      written x xs (y ∷ new) (m ∷ more) same all is it on =
+          let first : x ≡ y = head_is same in
+          let rest : xs ≡ new = tail_is same in
+          one_set r y rows new entry m entries more it each.0 rises (is ∙ ap (λ (z : TableRow). Ok z) first) all.0
+          (subst (λ (zs : List TableRow). AreSet rows zs entries more) rest (on more (subst (λ (zs : List TableRow). Pairwise IsWritten zs more) (sym rest) all.1)))
+        where
+          head_is : x ∷ xs ≡ y ∷ new → x ≡ y
+          head_is h = cc
+
+          tail_is : x ∷ xs ≡ y ∷ new → xs ≡ new
+          tail_is h = cc
+
+      by : ((new : List TableRow) (more : List Entry) → made rows ≡ Ok new → Pairwise IsWritten new more → AreSet rows new entries more) → (b : Bool) → is_meant r ≡ b → AreSet (r ∷ rows) new (entry ∷ entries) more
+      by on true it =
+          let parts = parts_of (row_set columns sets r) (made rows) new (sym (made_one r rows it) ∙ e) in
+          written parts.row parts.more new more parts.are all parts.first_is it (λ more all. on parts.more more parts.more_is all)
+      by on false it = one_stays r rows new entry entries more it each.0 rises (on new more (sym (made_none r rows it) ∙ e) all)
+
+  -- where they are refused, so is the whole
+  pub set_refused : (rows : List TableRow) (why : Refusal) → made rows ≡ Err why → rows_meant_set columns sets is_meant rows ≡ Err why
+  set_refused [] why e = absurd cc
+  set_refused (r ∷ rows) why e = by (set_refused rows why) (is_meant r) refl
+    where
+      first_or_rest : (a : Answer TableRow) (b c : Answer (List TableRow)) → (b ≡ Err why → c ≡ Err why) → (a then λ x. b then λ xs. given_rows (x ∷ xs)) ≡ Err why → (a then λ x. c then λ xs. given_rows (x ∷ xs)) ≡ Err why
+      first_or_rest (Ok x) (Ok xs) c on h = absurd cc
+      first_or_rest (Ok x) (Err s) c on h = ap (λ (d : Answer (List TableRow)). d then λ xs. given_rows (x ∷ xs)) (on (same_refusal s h))
+        where
+          same_refusal : (s : Refusal) → (let l : Answer (List TableRow) = Err s in l) ≡ Err why → (let l : Answer (List TableRow) = Err s in l) ≡ Err why
+          same_refusal s h = h
+      first_or_rest (Err s) b c on h = h
+
+      by : (made rows ≡ Err why → rows_meant_set columns sets is_meant rows ≡ Err why) → (b : Bool) → is_meant r ≡ b → rows_meant_set columns sets is_meant (r ∷ rows) ≡ Err why
+      by on true it = set_one r rows it ∙ first_or_rest (row_set columns sets r) (made rows) (rows_meant_set columns sets is_meant rows) on (sym (made_one r rows it) ∙ e)
+      by on false it = set_none r rows it ∙ ap (λ (d : Answer (List TableRow)). d then λ xs. Ok (r ∷ xs)) (on (sym (made_none r rows it) ∙ e))
+
+  -- where the rows become these, all rows become others that can be stored only if these can
+  pub record AreChanged (rows new : List TableRow) : Type 0 where
+    pub now : List TableRow
+    pub answer : rows_meant_set columns sets is_meant rows ≡ Ok now
+    pub storable : All CanStore now → All CanStore new
+
+  pub are_changed : (rows new : List TableRow) → made rows ≡ Ok new → AreChanged rows new
+  are_changed [] [] e = record { now = []; answer = refl; storable = λ all k d lt. absurd (omega (arith, lt)) }
+  are_changed [] (x ∷ new) e = absurd cc
+  are_changed (r ∷ rows) new e = by (are_changed rows) (is_meant r) refl
+    where
+      with_one : (x : TableRow) (xs : List TableRow) → row_set columns sets r ≡ Ok x → is_meant r ≡ true → AreChanged rows xs → AreChanged (r ∷ rows) (x ∷ xs)
+      with_one x xs is it rest = record {
+        now = x ∷ rest.now;
+        answer = set_one r rows it
+            ∙ (ap (λ (a : Answer TableRow). a then λ x. rows_meant_set columns sets is_meant rows then λ xs. Ok (x ∷ xs)) is ∙ ap (λ (a : Answer (List TableRow)). a then λ xs. Ok (x ∷ xs)) rest.answer);
+        storable = λ all. all_with CanStore x xs (first_of_all CanStore x rest.now all) (rest.storable (rest_of_all CanStore x rest.now all));
+      }
+
+      by : ((new : List TableRow) → made rows ≡ Ok new → AreChanged rows new) → (b : Bool) → is_meant r ≡ b → AreChanged (r ∷ rows) new
+      by on true it =
+          let parts = parts_of (row_set columns sets r) (made rows) new (sym (made_one r rows it) ∙ e) in
+          subst (λ (all : List TableRow). AreChanged (r ∷ rows) all) parts.are (with_one parts.row parts.more parts.first_is it (on parts.more parts.more_is))
+      by on false it =
+          let rest = on new (sym (made_none r rows it) ∙ e) in
+          record {
+            now = r ∷ rest.now;
+            answer = set_none r rows it ∙ ap (λ (a : Answer (List TableRow)). a then λ xs. Ok (r ∷ xs)) rest.answer;
+            storable = λ all. rest.storable (rest_of_all CanStore r rest.now all);
+          }
+
+  -- where a table may hold the rows, it may hold what they become
+  pub fit_now : (rows new : List TableRow) (entries more : List Entry) (set : AreSet rows new entries more) → FitNow columns rows set.now
+  fit_now rows new entries more set t same fit =
+      let parts = both (is_rising int_cmp (map (λ row. row.0) rows)) (list_all (is_row (plain_table t rows)) rows) fit in
+      both_true (is_rising int_cmp (map (λ row. row.0) set.now)) (list_all (is_row (plain_table t rows)) set.now) (ap (is_rising int_cmp) set.ids ∙ parts.0) (set.fit t rows same parts.1)

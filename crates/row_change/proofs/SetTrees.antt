@@ -1,0 +1,189 @@
+-- What UPDATE leaves in a tree is what the definition says.
+use Rattle.std.proofs.Common.{◌≡◌, ◌⊎◌, inl, inr, refl, sym, ap, subst, ◌∙◌, ℕ, Bool, true, false, filter, List, [], ◌∷◌, ◌++◌, append_assoc, length, map, Option, Some, None, Result, Ok, Err}
+use Rattle.std.specs.Global.{Vec}
+use Rattle.std.specs.Prelude.{IsErrAnd, MatchResult, ⊤}
+use Rattle.std.proofs.lemmas.List.{append-nil}
+use Rattle.sqlval.specs.Refusals.{Answer, Refusal, ◌then◌, all_answers, refusal_of}
+use Rattle.sqlval.specs.declared.fault.Fault.{Fault}
+use Rattle.sqlval.specs.declared.fault.Fault.TheVariants as f
+use Rattle.tree_leaf.specs.Leaf.{Entry}
+use Rattle.pages.specs.Calls.{IsOutsideOrFull}
+use Rattle.pages.specs.Map.{PageMap}
+use Rattle.tree_page.specs.Cells.{Pairwise}
+use Rattle.tree_table.specs.Calls.{BecomesRows}
+use Rattle.catalog.specs.declared.tables.Column.{Column}
+use Rattle.catalog.specs.declared.tables.TableRow as stored
+use Rattle.query_terms.specs.Outcome.{IsRefusedBy}
+use Rattle.query_terms.specs.Terms.{Term}
+use Rattle.query_terms.specs.Values.{Row}
+use Rattle.row_scan.specs.Rows.{TableRow}
+use Rattle.row_scan.specs.Sources.{as_source}
+use Rattle.row_scan.proofs.TreeOrder.{tree_rises}
+use Rattle.row_change.specs.Choosing.{is_chosen, tested}
+use Rattle.row_change.specs.Inserting.{AllStorable}
+use Rattle.row_change.specs.Meaning.{AreEnough, chosen_or_all}
+use Rattle.row_change.specs.NewRows.{IsWritten, row_of}
+use Rattle.row_change.specs.Setting.{rows_changed, rows_meant, rows_meant_set, rows_set, source_set}
+use Rattle.row_change.specs.Updating.{AreSetIn, IsSetRefusal, ReplacesRows, SetsRows, TellsChanged, with_all_replaced}
+use Rattle.row_change.proofs.Replaced.{are_changed, are_set, fit_now, made, set_refused}
+use Rattle.row_change.proofs.Rising.{Rises, rows_rise}
+use Rattle.row_change.proofs.SetRows.{map_twice}
+
+-- what the condition says of each row, and of a row
+abbrev pub asked : Option Term → List TableRow → Answer (List (Option Bool))
+asked None rows = Ok []
+asked (Some c) rows = all_answers (map (tested c) rows)
+
+abbrev pub meant_by : Option Term → TableRow → Bool
+meant_by None = λ row. true
+meant_by (Some c) = is_chosen c
+
+abbrev given_rows : List Row → Answer (List Row)
+given_rows rows = Ok rows
+
+pub set_as : (columns : List Column) (sets : List (ℕ × Term)) (c : Option Term) (rows : List TableRow) → rows_set columns sets c rows ≡ (asked c rows then λ ts. rows_meant_set columns sets (meant_by c) rows)
+set_as columns sets None rows = refl
+set_as columns sets (Some c) rows = refl
+
+abbrev is_true : Answer (Option Bool) → Bool
+is_true test = elim test [ Ok (Some true) ↦ true | _ ↦ false ]
+
+pub meant_as : (c : Option Term) (before : List Row) (rows : List TableRow) → rows_meant c before (map as_source rows) ≡ (asked c rows then λ ts. Ok (before ++ map as_source (filter (meant_by c) rows)))
+meant_as None before [] = ap given_rows (sym (append-nil before))
+meant_as (Some c) before [] = ap given_rows (sym (append-nil before))
+meant_as None before (r ∷ rows) = meant_as None (before ++ as_source r ∷ []) rows ∙ ap given_rows (append_assoc before (as_source r ∷ []) (map as_source (filter (λ row. true) rows)))
+meant_as (Some c) before (r ∷ rows) = by (λ more. meant_as (Some c) more rows) (tested c r) refl
+  where
+    taken : (a : Answer (List (Option Bool))) (x : Option Bool) (them : List Row)
+        → (a then λ ts. given_rows ((before ++ as_source r ∷ []) ++ them)) ≡ ((a then λ xs. Ok (x ∷ xs)) then λ ts. given_rows (before ++ (as_source r ∷ them)))
+    taken (Ok xs) x them = ap given_rows (append_assoc before (as_source r ∷ []) them)
+    taken (Err e) x them = refl
+
+    passed : (a : Answer (List (Option Bool))) (x : Option Bool) (them : List Row) → (a then λ ts. given_rows (before ++ them)) ≡ ((a then λ xs. Ok (x ∷ xs)) then λ ts. given_rows (before ++ them))
+    passed (Ok xs) x them = refl
+    passed (Err e) x them = refl
+
+    by : ((more : List Row) → rows_meant (Some c) more (map as_source rows) ≡ (asked (Some c) rows then λ ts. Ok (more ++ map as_source (filter (is_chosen c) rows)))) → (t : Answer (Option Bool)) → tested c r ≡ t
+        → rows_meant (Some c) before (map as_source (r ∷ rows)) ≡ (asked (Some c) (r ∷ rows) then λ ts. Ok (before ++ map as_source (filter (is_chosen c) (r ∷ rows))))
+    by again (Err e) it = rw (it) refl
+    by again (Ok (Some true)) it = rw (it, ap is_true it) (again (before ++ as_source r ∷ []) ∙ taken (asked (Some c) rows) (Some true) (map as_source (filter (is_chosen c) rows)))
+    by again (Ok (Some false)) it = rw (it, ap is_true it) (again before ∙ passed (asked (Some c) rows) (Some false) (map as_source (filter (is_chosen c) rows)))
+    by again (Ok None) it = rw (it, ap is_true it) (again before ∙ passed (asked (Some c) rows) None (map as_source (filter (is_chosen c) rows)))
+
+abbrev pub as_sources : List TableRow → Answer (List Row)
+as_sources them = Ok (map as_source them)
+
+all_rows : (rows : List TableRow) → filter (meant_by None) rows ≡ rows
+all_rows [] = refl
+all_rows (row ∷ rows) = ap (λ (rs : List TableRow). row ∷ rs) (all_rows rows)
+
+-- the rows that are meant are those that the condition chooses
+pub meant_as_chosen : (c : Option Term) (rows : List TableRow) → rows_meant c [] (map as_source rows) ≡ (chosen_or_all c rows then as_sources)
+meant_as_chosen None rows = meant_as None [] rows ∙ ap as_sources (all_rows rows)
+meant_as_chosen (Some c) rows = meant_as (Some c) [] rows ∙ by (all_answers (map (tested c) rows))
+  where
+    by : (a : Answer (List (Option Bool))) → (a then λ ts. given_rows (map as_source (filter (is_chosen c) rows))) ≡ ((a then λ tests. Ok (filter (is_chosen c) rows)) then as_sources)
+    by (Ok ts) = refl
+    by (Err r) = refl
+
+module _ (columns : List Column) (sets : List (ℕ × Term)) (c : Option Term) where
+  abbrev changes : List Row → Answer (List TableRow)
+  changes them = all_answers (map (source_set columns sets) them)
+
+  changed_as : (rows : List TableRow) → rows_changed columns sets c (map as_source rows) ≡ (asked c rows then λ ts. made columns sets (meant_by c) rows)
+  changed_as rows =
+      ap (λ (a : Answer (List Row)). a then changes) (meant_as c [] rows)
+      ∙ by (asked c rows)
+    where
+      by : (a : Answer (List (Option Bool))) → ((a then λ ts. given_rows (map as_source (filter (meant_by c) rows))) then changes) ≡ (a then λ ts. made columns sets (meant_by c) rows)
+      by (Ok ts) = ap all_answers (sym (map_twice (source_set columns sets) as_source (filter (meant_by c) rows)))
+      by (Err r) = refl
+
+  pub changed_known : (rows new : List TableRow) → rows_changed columns sets c (map as_source rows) ≡ Ok new
+      → (made columns sets (meant_by c) rows ≡ Ok new) × (rows_set columns sets c rows ≡ rows_meant_set columns sets (meant_by c) rows)
+  changed_known rows new e = (let both = by (asked c rows) (sym (changed_as rows) ∙ e) in (both.0, set_as columns sets c rows ∙ both.1))
+    where
+      by : (a : Answer (List (Option Bool))) → (a then λ ts. made columns sets (meant_by c) rows) ≡ Ok new
+          → (made columns sets (meant_by c) rows ≡ Ok new) × ((a then λ ts. rows_meant_set columns sets (meant_by c) rows) ≡ rows_meant_set columns sets (meant_by c) rows)
+      by (Ok ts) h = (h, refl)
+      by (Err r) h = absurd cc
+
+  pub changed_refused : (rows : List TableRow) (why : Refusal) → rows_changed columns sets c (map as_source rows) ≡ Err why → rows_set columns sets c rows ≡ Err why
+  changed_refused rows why e = set_as columns sets c rows ∙ by (asked c rows) (sym (changed_as rows) ∙ e)
+    where
+      by : (a : Answer (List (Option Bool))) → (a then λ ts. made columns sets (meant_by c) rows) ≡ Err why → (a then λ ts. rows_meant_set columns sets (meant_by c) rows) ≡ Err why
+      by (Ok ts) h = set_refused columns sets (meant_by c) rows why h
+      by (Err r) h = h
+
+  -- what the rows become of which it's enough to read some
+  enough_changed : (found : List Row) (rows : List TableRow) → AreEnough c found rows → rows_changed columns sets c found ≡ rows_changed columns sets c (map as_source rows)
+  enough_changed found rows enough =
+      ap (rows_changed columns sets c) enough.are
+      ∙ ap (λ (a : Answer (List Row)). a then changes)
+      (meant_as_chosen c enough.some ∙ (ap (λ (a : Answer (List TableRow)). a then as_sources) enough.same ∙ sym (meant_as_chosen c rows)))
+
+  -- ---- what the calls answer
+
+  module _ (old new : PageMap) (size root : ℕ) (found : List Row) where
+    refused : {X : Type 0} (fault : Fault) (result : Result X Fault) → IsErrAnd result (λ e. e ≡ fault)
+        → ((rows : List TableRow) → AreEnough c found rows → IsSetRefusal columns sets c rows fault)
+        → SetsRows old new size root columns sets c found result
+    refused fault (Ok x) same why = absurd same
+    refused fault (Err e) same why = λ rows entries used free is each enough. subst (λ (g : Fault). IsSetRefusal columns sets c rows g) (sym same) (why rows enough)
+
+    -- a call that passes it on
+    pub passed_on : {X : Type 0} (fault : Fault) (result : Result X Fault) → IsErrAnd result (λ e. e ≡ fault) → SetsRows {X = ⊤} old new size root columns sets c found (Err fault)
+        → SetsRows old new size root columns sets c found result
+    passed_on fault (Ok x) same sets_so = absurd same
+    passed_on fault (Err e) same sets_so = λ rows entries used free is each enough. subst (λ (g : Fault). IsSetRefusal columns sets c rows g) (sym same) (sets_so rows entries used free is each enough)
+
+    pub none_changed : {X : Type 0} (fault : Fault) (result : Result X Fault) → IsErrAnd result (λ e. e ≡ fault) → IsRefusedBy (rows_changed columns sets c found) fault → SetsRows old new size root columns sets c found result
+    none_changed fault result same why = refused fault result same (λ rows enough. by rows enough why)
+      where
+        by : (rows : List TableRow) → AreEnough c found rows → IsRefusedBy (rows_changed columns sets c found) fault → IsSetRefusal columns sets c rows fault
+        by rows enough (inl memory) = inl (inl (inl memory))
+        by rows enough (inr e) = inr (inl (changed_refused rows (refusal_of fault) (sym (enough_changed found rows enough) ∙ e)))
+
+    module _ (changed : List TableRow) (answer : rows_changed columns sets c found ≡ Ok changed) where
+      known : (rows : List TableRow) → AreEnough c found rows → (made columns sets (meant_by c) rows ≡ Ok changed) × (rows_set columns sets c rows ≡ rows_meant_set columns sets (meant_by c) rows)
+      known rows enough = changed_known rows changed (sym (enough_changed found rows enough) ∙ answer)
+
+      pub none_stored : {X : Type 0} (fault : Fault) (result : Result X Fault) → IsErrAnd result (λ e. e ≡ fault) → (fault ≡ f.Memory) ⊎ ((fault ≡ f.TooLong) × (AllStorable changed → ⊥)) → SetsRows old new size root columns sets c found result
+      none_stored fault result same why = refused fault result same (λ rows enough. by rows enough why)
+        where
+          by : (rows : List TableRow) → AreEnough c found rows → (fault ≡ f.Memory) ⊎ ((fault ≡ f.TooLong) × (AllStorable changed → ⊥)) → IsSetRefusal columns sets c rows fault
+          by rows enough (inl memory) = inl (inl (inl memory))
+          by rows enough (inr (long, cannot)) =
+              let is = known rows enough in
+              let set = are_changed columns sets (meant_by c) rows changed is.0 in
+              inr (inr (record { is = long; now = set.now; answer = is.1 ∙ set.answer; long = λ all. cannot (set.storable all) }))
+
+      pub rows_replaced : (more : List Entry) (result : Result ⊤ Fault) → Pairwise IsWritten changed more → ReplacesRows old new size root (with_all_replaced more) result → SetsRows old new size root columns sets c found result
+      rows_replaced more result written replaces rows entries used free is each enough = by result (replaces entries used free is)
+        where
+          rises : Rises rows
+          rises = rows_rise (length columns) entries rows (tree_rises old size root entries used is.tree) each
+
+          by : (r : Result ⊤ Fault) → MatchResult r (λ done. BecomesRows old new size root (with_all_replaced more entries) used free) IsOutsideOrFull
+              → MatchResult r (λ done. AreSetIn old new size root columns sets c rows used free) (IsSetRefusal columns sets c rows)
+          by (Ok done) becomes =
+              let are = known rows enough in
+              let set = are_set columns sets (meant_by c) rows changed entries more each rises are.0 written in
+              record {
+                now = set.now;
+                answer = are.1 ∙ set.answer;
+                entries = with_all_replaced more entries;
+                becomes = becomes;
+                each = set.each;
+                fit = fit_now columns sets (meant_by c) rows changed entries more set;
+              }
+          by (Err fault) cannot = inl cannot
+
+  -- the rows that are answered
+  module _ (found : List Row) where
+    pub none_told : (fault : Fault) (result : Result (Vec stored.TableRow) Fault) → IsErrAnd result (λ e. e ≡ fault) → TellsChanged columns sets c found result
+    none_told fault (Ok x) same = absurd same
+    none_told fault (Err e) same = λ rows enough. tt
+
+    pub told_changed : (them : Vec stored.TableRow) → rows_changed columns sets c found ≡ Ok (map row_of them.items) → TellsChanged columns sets c found (Ok them)
+    told_changed them answer rows enough = sym (enough_changed found rows enough) ∙ answer

@@ -1,0 +1,62 @@
+-- What UPDATE makes of the rows of a table without constraints (SQL As Understood By SQLite, "UPDATE").
+use Rattle.std.specs.Prelude.{ℕ, ℤ, pos, Bool, true, false, List, [], ◌∷◌, ◌++◌, map, zip, Option, Some, None, Ok, if◌then◌else◌, unwrap_or}
+use Rattle.sqlval.specs.Refusals.{Answer, ◌then◌, all_answers}
+use Rattle.sqlval.specs.declared.value.Value.{Value}
+use Rattle.sqlval.specs.declared.value.Value.TheVariants.{Int}
+use Rattle.query_names.specs.Readings.{env_of, holds, values}
+use Rattle.catalog.specs.Listed.{plain_column}
+use Rattle.catalog.specs.declared.tables.Column.{Column}
+use Rattle.query_terms.specs.Terms.{Term}
+use Rattle.query_terms.specs.Values.{Environment, Row}
+use Rattle.row_scan.specs.Rows.{TableRow}
+use Rattle.row_scan.specs.Sources.{as_source}
+use Rattle.row_change.specs.Choosing.{is_chosen, tested}
+use Rattle.row_change.specs.Constraints.{set_values, with_affinity}
+
+-- The values of a row with those of SET's expressions at their places, which are asked of the row as it was.
+abbrev pub set_over : List (ℕ × Term) → Environment → List Value → Answer (List Value)
+set_over sets seen before = values seen (map (λ s. s.1) sets) then λ given. Ok (set_values before (zip (map (λ s. s.0) sets) given))
+
+-- and as the columns store them
+abbrev pub values_set : List Column → List (ℕ × Term) → Row → Answer (List Value)
+values_set columns sets row = set_over sets (env_of (row ∷ [])) row.values then λ values. with_affinity (map plain_column columns) values
+
+-- what the row becomes by SET; it keeps its rowid
+abbrev pub row_set : List Column → List (ℕ × Term) → TableRow → Answer TableRow
+row_set columns sets row = values_set columns sets (as_source row) then λ values. Ok (row.0, values)
+
+-- the rows that are meant become what SET makes of them, and the others stay; or the first refusal
+abbrev pub rows_meant_set : List Column → List (ℕ × Term) → (TableRow → Bool) → List TableRow → Answer (List TableRow)
+rows_meant_set columns sets is_meant rows = all_answers (map (λ row. if is_meant row then row_set columns sets row else Ok row) rows)
+
+-- The rows for which the condition is true, or all where there is none, become what SET makes of them. The condition is asked of all
+-- rows before the first is set.
+abbrev pub rows_set : List Column → List (ℕ × Term) → Option Term → List TableRow → Answer (List TableRow)
+rows_set columns sets None rows = rows_meant_set columns sets (λ row. true) rows
+rows_set columns sets (Some condition) rows =
+    all_answers (map (tested condition) rows) then λ tests. rows_meant_set columns sets (is_chosen condition) rows
+
+-- ---- of a source's rows
+
+-- whether the condition is true for a row, or there is none
+abbrev pub is_meant_for : Option Term → Row → Answer Bool
+is_meant_for None row = Ok true
+is_meant_for (Some condition) row = holds condition (row ∷ []) then λ test. Ok (unwrap_or test false)
+
+-- after some rows those that are meant, or the first refusal
+abbrev pub rows_meant : Option Term → List Row → List Row → Answer (List Row)
+rows_meant condition before [] = Ok before
+rows_meant condition before (row ∷ rows) =
+    is_meant_for condition row then λ test. rows_meant condition (if test then before ++ row ∷ [] else before) rows
+
+-- the rowid of a table's row
+abbrev pub rowid_number : Value → ℤ
+rowid_number value = elim value [ Int rowid ↦ rowid | _ ↦ pos 0 ]
+
+-- what a source's row becomes by SET
+abbrev pub source_set : List Column → List (ℕ × Term) → Row → Answer TableRow
+source_set columns sets row = values_set columns sets row then λ values. Ok (rowid_number row.rowid, values)
+
+-- what the rows that are meant become
+abbrev pub rows_changed : List Column → List (ℕ × Term) → Option Term → List Row → Answer (List TableRow)
+rows_changed columns sets condition rows = rows_meant condition [] rows then λ them. all_answers (map (source_set columns sets) them)

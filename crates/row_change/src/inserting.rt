@@ -1,0 +1,210 @@
+//! Changes of a table's rows.
+
+ghost use Rattle.std.specs.Prelude.{◌≡◌, ◌⊎◌, map, slice_index_or, None, Some, Ok, Err, true, IfOk, IfErr, OnOk};
+ghost use Rattle.std.specs.List.{AllByRecursion, list_all};
+ghost use Rattle.sqlval.specs.Conversion.{converted};
+ghost use Rattle.sqlval.specs.Refusals as refusal;
+ghost use Rattle.record.specs.Record.{IsRecord};
+ghost use Rattle.record.specs.Writing.{AreStorable, IsBytes, record_of};
+ghost use Rattle.tree_page.specs.Cells.{Pairwise};
+ghost use Rattle.catalog.specs.Rows.{is_value};
+ghost use Rattle.row_change.specs.Agreement.{InsertsRows};
+ghost use Rattle.row_change.specs.Inserting.{AllStorable, IsRefusedAs, given_at, row_added, row_stored, rows_added};
+ghost use Rattle.row_change.specs.NewRows.{IsReplacement, IsWritten, entry_in, entry_left, row_of};
+
+use catalog::{Column, TableRow, other_rows_are_listed};
+use query_terms::conversion_is_one;
+use record::{encode, is_storable};
+use sqlval::{Fault, R, Row, Value, apply};
+use std::alloc::Global;
+use tree_table::{RowChange, next_rowid};
+
+/// The value given for a column, at its place: NULL where it has none.
+fn value_given(alloc: Global, given: &[Value], place: Option<usize>) -> R<Value>
+    ensures value { IfOk result (λ value. value ≡ given_at given.now place) }
+    ensures memory { IfErr result (λ fault. fault ≡ Fault.Memory) }
+{
+    match place {
+        Some(place) if place < given.len() => Ok(given[place].copy(alloc)?),
+        _ => Ok(Value::Null),
+    }
+}
+
+/// The place of the value given for a column, where it has one.
+fn place_of(places: &[Option<usize>], index: usize) -> Option<usize>
+    ensures { result ≡ slice_index_or places.now index None }
+{
+    if index < places.len() {
+        places[index]
+    } else {
+        None
+    }
+}
+
+/// What a column stores of the value given for it.
+pub(crate) fn stored_value(
+    alloc: Global,
+    column: &Column,
+    place: Option<usize>,
+    given: &[Value],
+) -> R<Value>
+    ensures stored { IfOk result (λ value. converted column.now.affinity (given_at given.now place) ≡ Ok value) }
+    ensures refused { IfErr result (λ fault. (fault ≡ Fault.Memory)
+        ⊎ ((fault ≡ Fault.RealRefused) × (converted column.now.affinity (given_at given.now place) ≡ Err refusal.RealRefused))) }
+{
+    conversion_is_one();
+    let value = value_given(alloc, given, place)?;
+    apply(alloc, column.affinity, value)
+}
+
+/// The values of a new row, each as its column stores it: NULL where none is given.
+fn stored_values(
+    alloc: Global,
+    columns: &[Column],
+    places: &[Option<usize>],
+    given: &[Value],
+) -> R<Vec<Value>>
+    ensures stored { IfOk result (λ values. row_stored columns.now places.now given.now ≡ Ok values.items) }
+    ensures refused { IfErr result (λ fault. (fault ≡ Fault.Memory)
+        ⊎ ((fault ≡ Fault.RealRefused) × (row_stored columns.now places.now given.now ≡ Err refusal.RealRefused))) }
+{
+    let mut values = Vec::new(alloc);
+    'columns: for index in 0..columns.len() {
+        let place = place_of(places, index);
+        values.push(stored_value(alloc, &columns[index], place, given)?)?;
+    }
+    Ok(values)
+}
+
+/// Builds the row to insert after `last`: converts each value to its column's affinity, then takes the next rowid.
+fn new_row(
+    alloc: Global,
+    columns: &[Column],
+    places: &[Option<usize>],
+    given: &[Value],
+    last: Option<i64>,
+) -> R<TableRow>
+    ensures added { IfOk result (λ row. row_added columns.now places.now last given.now ≡ Ok (row_of row)) }
+    ensures refused { IfErr result (λ fault. (fault ≡ Fault.Memory) ⊎ IsRefusedAs (row_added columns.now places.now last given.now) fault) }
+{
+    let values = stored_values(alloc, columns, places, given)?;
+    let rowid = next_rowid(last)?;
+    Ok(TableRow { rowid, values })
+}
+
+/// The last rowid, once this row is added.
+fn last_after(row: &TableRow) -> Option<i64>
+    ensures { result ≡ Some (row_of row.now).0 }
+{
+    Some(row.rowid)
+}
+
+/// Builds the rows to insert, in order.
+pub(crate) fn new_rows(
+    alloc: Global,
+    columns: &[Column],
+    places: &[Option<usize>],
+    rows: &[Row],
+    last: Option<i64>,
+) -> R<Vec<TableRow>>
+    ensures added { IfOk result (λ added. rows_added columns.now places.now last (map (λ row. row.items) rows.now) ≡ Ok (map row_of added.items)) }
+    ensures refused { IfErr result (λ fault. (fault ≡ Fault.Memory)
+        ⊎ IsRefusedAs (rows_added columns.now places.now last (map (λ row. row.items) rows.now)) fault) }
+{
+    let mut added = Vec::new(alloc);
+    let mut before = last;
+    'rows: for row in rows {
+        let new = new_row(alloc, columns, places, row, before)?;
+        before = last_after(&new);
+        added.push(new)?;
+    }
+    Ok(added)
+}
+
+/// The record of a new row.
+#[derive(Drop)]
+pub(crate) struct RowRecord {
+    pub(crate) rowid: i64,
+    pub(crate) payload: Vec<u8>,
+}
+
+/// The items of a slice of bytes are bytes.
+fn bytes_are_small(bytes: &[u8])
+    ensures { IsBytes bytes.now }
+{
+    let _len = bytes.len();
+}
+
+/// The record of these values, each of which can be stored then.
+fn payload_of(alloc: Global, values: &[Value]) -> R<Vec<u8>>
+    ensures is { IfOk result (λ payload. IsRecord payload.items values.now) }
+    ensures exact { IfOk result (λ payload. payload.items ≡ record_of values.now) }
+    ensures fit { OnOk result (list_all is_value values.now ≡ true) }
+    ensures refused { IfErr result (λ fault. (fault ≡ Fault.Memory)
+        ⊎ ((fault ≡ Fault.TooLong) × (AreStorable values.now → ⊥))) }
+{
+    if !is_storable(values) {
+        return Err(Fault::TooLong);
+    }
+    let payload = encode(alloc, values)?;
+    bytes_are_small(&payload);
+    Ok(payload)
+}
+
+/// The record of a new row.
+fn record_for(alloc: Global, row: &TableRow) -> R<RowRecord>
+    ensures written { IfOk result (λ made. IsWritten (row_of row.now) (entry_in made)) }
+    ensures refused { IfErr result (λ fault. (fault ≡ Fault.Memory)
+        ⊎ ((fault ≡ Fault.TooLong) × (AreStorable (row_of row.now).1 → ⊥))) }
+{
+    Ok(RowRecord {
+        rowid: row.rowid,
+        payload: payload_of(alloc, &row.values)?,
+    })
+}
+
+/// The records of the new rows.
+pub(crate) fn records_of(alloc: Global, rows: &[TableRow]) -> R<Vec<RowRecord>>
+    ensures written { IfOk result (λ records. Pairwise IsWritten (map row_of rows.now) (map entry_in records.items)) }
+    ensures refused { IfErr result (λ fault. (fault ≡ Fault.Memory)
+        ⊎ ((fault ≡ Fault.TooLong) × (AllStorable (map row_of rows.now) → ⊥))) }
+{
+    let mut records = Vec::new(alloc);
+    'rows: for row in rows {
+        records.push(record_for(alloc, row)?)?;
+    }
+    Ok(records)
+}
+
+/// The change of the row of a rowid to this one, with its record.
+fn change_for(alloc: Global, row: &TableRow) -> R<RowChange>
+    ensures made { IfOk result (λ made. IsWritten (row_of row.now) (entry_left made)) }
+    ensures some { IfOk result IsReplacement }
+    ensures refused { IfErr result (λ fault. (fault ≡ Fault.Memory)
+        ⊎ ((fault ≡ Fault.TooLong) × (AreStorable (row_of row.now).1 → ⊥))) }
+{
+    let rowid = row.rowid;
+    let payload = Some(payload_of(alloc, &row.values)?);
+    Ok(RowChange { rowid, payload })
+}
+
+/// The changes of rows to these, with their records.
+pub(crate) fn changes_of(alloc: Global, rows: &[TableRow]) -> R<Vec<RowChange>>
+    ensures made { IfOk result (λ changes. Pairwise IsWritten (map row_of rows.now) (map entry_left changes.items)) }
+    ensures some { IfOk result (λ changes. AllByRecursion IsReplacement changes.items) }
+    ensures refused { IfErr result (λ fault. (fault ≡ Fault.Memory)
+        ⊎ ((fault ≡ Fault.TooLong) × (AllStorable (map row_of rows.now) → ⊥))) }
+{
+    let mut changes = Vec::new(alloc);
+    'rows: for row in rows {
+        changes.push(change_for(alloc, row)?)?;
+    }
+    Ok(changes)
+}
+
+/// An INSERT that sets off no trigger appends its rows to the table, or is refused as they are.
+pub fn insert_adds_its_rows()
+    ensures { InsertsRows }
+{
+    other_rows_are_listed();
+}

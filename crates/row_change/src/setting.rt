@@ -1,0 +1,192 @@
+//! What UPDATE makes of rows.
+
+ghost use Rattle.std.specs.Prelude.{◌≡◌, ◌++◌, ◌∷◌, [], IfErr, IfOk, OnOk, map, slice_set, if◌then◌else◌};
+ghost use Rattle.sqlval.specs.Faults.{IsNotDiskFault};
+ghost use Rattle.sqlval.specs.Refusals.{all_answers};
+ghost use Rattle.catalog.specs.Listed.{plain_column};
+ghost use Rattle.query_names.specs.Readings.{env_of};
+ghost use Rattle.query_terms.specs.Outcome.{AnswersBy};
+ghost use Rattle.query_terms.specs.Rows.{picked_rows, row_at, seen};
+ghost use Rattle.row_change.specs.Constraints.{with_affinity};
+ghost use Rattle.row_change.specs.NewRows.{row_of};
+ghost use Rattle.row_change.specs.Setting.{is_meant_for, rowid_number, rows_changed, rows_meant, set_over, source_set};
+
+use crate::inserting::stored_value;
+use catalog::{Column, TableRow};
+use query_terms::{Env, SourceRow, Term, evaluate, holds};
+use sqlval::{Fault, Many, R, Value};
+use std::alloc::Global;
+use std::array::from_ref;
+
+/// What an expression is evaluated over where the row at a place is picked.
+fn env_at<'a>(rows: &'a Many<SourceRow>, picked: &'a [usize]) -> Env<'a>
+    ensures { seen result ≡ env_of (picked_rows (rows.now ∷ []) picked.now) }
+{
+    Env {
+        sources: from_ref(rows).as_slice(),
+        picked,
+        group: &[],
+        keys: &[],
+    }
+}
+
+/// Whether the row at a place is meant: the condition is true for it, or there is none. (What the condition refuses.)
+fn is_meant(
+    alloc: Global,
+    rows: &Many<SourceRow>,
+    place: usize,
+    condition: &Option<Term>,
+) -> R<bool>
+    ensures { AnswersBy (λ b. b) (is_meant_for condition.now (row_at rows.now place)) result }
+{
+    let picked = [place];
+    let env = env_at(rows, picked.as_slice());
+    match condition {
+        Some(term) => Ok(holds(alloc, term, env)?.unwrap_or(false)),
+        None => Ok(true),
+    }
+}
+
+/// Adds a place, if the row there is meant. (`Memory`.)
+fn push_if(places: &mut Vec<usize>, place: usize, is_meant: bool) -> R<()>
+    ensures pushed { OnOk result (places.new.items ≡ (if is_meant then places.old.items ++ place ∷ [] else places.old.items)) }
+    ensures refused { IfErr result (λ fault. fault ≡ Fault.Memory) }
+{
+    if is_meant {
+        places.push(place)?;
+    }
+    Ok(())
+}
+
+/// The places of the rows that are meant, in order. (What the condition refuses for a row, in order.)
+pub(crate) fn places_meant(
+    alloc: Global,
+    rows: &Many<SourceRow>,
+    condition: &Option<Term>,
+) -> R<Vec<usize>>
+    ensures { AnswersBy (λ places. map (row_at rows.now) places.items) (rows_meant condition.now [] rows.now) result }
+{
+    let mut places = Vec::new(alloc);
+    'rows: for index in 0..rows.len() {
+        let test = is_meant(alloc, rows, index, condition)?;
+        push_if(&mut places, index, test)?;
+    }
+    Ok(places)
+}
+
+/// Copies of the values of the row at a place. (`Memory`.)
+pub(crate) fn values_at(alloc: Global, rows: &Many<SourceRow>, place: usize) -> R<Vec<Value>>
+    ensures copied { IfOk result (λ new. new.items ≡ (row_at rows.now place).values) }
+    ensures refused { IfErr result (λ fault. fault ≡ Fault.Memory) }
+{
+    match rows.as_slice().get(place) {
+        Some(row) => Ok(row.values(alloc)?.into_vec()),
+        None => Ok(Vec::new(alloc)),
+    }
+}
+
+/// The rowid of a row, 0 where it has none.
+fn rowid_of(row: &SourceRow) -> i64
+    ensures { result ≡ rowid_number row.now.rowid }
+{
+    match row.rowid() {
+        Some(rowid) => rowid,
+        None => 0,
+    }
+}
+
+/// The rowid of the row at a place, 0 where there is none.
+pub(crate) fn rowid_at(rows: &Many<SourceRow>, place: usize) -> i64
+    ensures { result ≡ rowid_number (row_at rows.now place).rowid }
+{
+    match rows.as_slice().get(place) {
+        Some(row) => rowid_of(row),
+        None => 0,
+    }
+}
+
+/// Puts a value at its place, if there is one.
+fn set_at(values: &mut Vec<Value>, place: usize, value: Value)
+    ensures { values.new.items ≡ slice_set values.old.items place value }
+{
+    if place < values.len() {
+        values[place] = value;
+    }
+}
+
+/// Puts the values of SET's expressions at their places, one after another. (What the expressions refuse, in order.)
+fn set_each(alloc: Global, values: &mut Vec<Value>, sets: &[(usize, Term)], env: Env<'_>) -> R<()>
+    ensures { AnswersBy (λ done. values.new.items) (set_over sets.now (seen env.entry) values.old.items) result }
+{
+    'sets: for (place, term) in sets {
+        let value = evaluate(alloc, term, env)?.into_value(alloc)?;
+        set_at(values, *place, value);
+    }
+    Ok(())
+}
+
+/// The values as their columns store them. (What `stored_value` refuses, in order.)
+fn stored(alloc: Global, columns: &[Column], values: &[Value]) -> R<Vec<Value>>
+    ensures { AnswersBy (λ new. new.items) (with_affinity (map plain_column columns.now) values.now) result }
+{
+    let mut new = Vec::new(alloc);
+    let most = columns.len().min(values.len());
+    'columns: for index in 0..most {
+        new.push(stored_value(alloc, &columns[index], Some(index), values)?)?;
+    }
+    Ok(new)
+}
+
+/// What the row at a place becomes by SET. (What SET's expressions refuse, and then what `stored` does.)
+fn changed_row(
+    alloc: Global,
+    columns: &[Column],
+    sets: &[(usize, Term)],
+    rows: &Many<SourceRow>,
+    place: usize,
+) -> R<TableRow>
+    ensures { AnswersBy row_of (source_set columns.now sets.now (row_at rows.now place)) result }
+{
+    let mut values = values_at(alloc, rows, place)?;
+    let picked = [place];
+    let env = env_at(rows, picked.as_slice());
+    set_each(alloc, &mut values, sets, env)?;
+    let values = stored(alloc, columns, &values)?;
+    Ok(TableRow {
+        rowid: rowid_at(rows, place),
+        values,
+    })
+}
+
+/// What the rows at these places become by SET. (What `changed_row` refuses, in order.)
+fn changed_at(
+    alloc: Global,
+    columns: &[Column],
+    sets: &[(usize, Term)],
+    rows: &Many<SourceRow>,
+    places: &[usize],
+) -> R<Vec<TableRow>>
+    ensures { AnswersBy (λ new. map row_of new.items)
+        (all_answers (map (λ place. source_set columns.now sets.now (row_at rows.now place)) places.now)) result }
+{
+    let mut new = Vec::new(alloc);
+    'places: for place in places {
+        new.push(changed_row(alloc, columns, sets, rows, *place)?)?;
+    }
+    Ok(new)
+}
+
+/// What the rows that are meant become by SET. (What the condition refuses for a row, and then what `changed_row` does.)
+pub(crate) fn changed_rows(
+    alloc: Global,
+    columns: &[Column],
+    sets: &[(usize, Term)],
+    rows: &Many<SourceRow>,
+    condition: &Option<Term>,
+) -> R<Vec<TableRow>>
+    ensures changed { AnswersBy (λ new. map row_of new.items) (rows_changed columns.now sets.now condition.now rows.now) result }
+    ensures not_disk { IfErr result (λ fault. IsNotDiskFault fault) }
+{
+    let places = places_meant(alloc, rows, condition)?;
+    changed_at(alloc, columns, sets, rows, &places)
+}

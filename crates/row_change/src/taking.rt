@@ -1,0 +1,59 @@
+//! Rows that are taken out of the tree of their table.
+
+ghost use Rattle.std.specs.Prelude.{◌≡◌, List, None, IfOk, IfErr, IsTrue};
+ghost use Rattle.tree_leaf.specs.Leaf.{Entry};
+ghost use Rattle.pages.specs.Calls.{Causes};
+ghost use Rattle.tree_table.specs.Rows.{with_changes};
+ghost use Rattle.row_change.specs.Taking.{TakesRows, without_rows};
+
+use crate::choosing::chosen_rowids;
+use pages::WritePages;
+use query_names::BoundSource;
+use query_terms::{SourceRow, Term};
+use sqlval::{Fault, Many, R};
+use std::alloc::Global;
+use tree_table::{RowChange, change_rows};
+
+/// The removal of the row of a rowid.
+fn removal(rowid: &i64) -> RowChange
+    ensures rowid { result.rowid ≡ rowid.now }
+    ensures none { result.payload ≡ None }
+{
+    RowChange {
+        rowid: *rowid,
+        payload: None,
+    }
+}
+
+/// The removals of the rows of these rowids.
+fn removals(alloc: Global, rowids: &[i64]) -> R<Vec<RowChange>>
+    ensures made { (rows : List Entry) → IfOk result (λ changes. with_changes changes.items rows ≡ without_rows rowids.now rows) }
+    ensures refused { IfErr result (λ fault. fault ≡ Fault.Memory) }
+{
+    let mut changes = Vec::with_capacity(alloc, rowids.len())?;
+    'rowids: for rowid in rowids {
+        changes.push(removal(rowid))?;
+    }
+    Ok(changes)
+}
+
+/// Takes the rows for which a condition is true out of a table's tree, of which the rows given are enough for the condition. (What the condition
+/// and `change_rows` refuse; where the condition is refused, no row is taken out.)
+pub fn take_rows<P: WritePages>(
+    alloc: Global,
+    pages: &mut P,
+    table: BoundSource,
+    condition: &Term,
+    rows: &Many<SourceRow>,
+) -> R<()>
+    ensures taken { IsTrue (P.Pages.tells (P.Pages.below pages.old))
+        → TakesRows (P.Pages.map pages.old) (P.Pages.map pages.new) (P.Pages.limits (P.Pages.below pages.old)).page
+        table condition.now rows.now result }
+    ensures kept { P.Pages.below pages.new ≡ P.Pages.below pages.old }
+    ensures causes { Causes result (P.Pages.failures pages.old) (P.Pages.failures pages.new)
+        (P.Pages.count pages.new ≡ (P.Pages.limits (P.Pages.below pages.new)).most) }
+{
+    let rowids = chosen_rowids(alloc, rows, condition)?;
+    let changes = removals(alloc, &rowids)?;
+    change_rows(alloc, pages, table.root, &changes)
+}

@@ -1,0 +1,49 @@
+//! UPDATE.
+
+ghost use Rattle.std.specs.Prelude.{◌≡◌, IsTrue};
+ghost use Rattle.pages.specs.Calls.{Causes};
+ghost use Rattle.row_change.specs.Agreement.{UpdatesSome};
+ghost use Rattle.row_change.specs.Updating.{SetsRows, TellsChanged};
+
+use crate::inserting::changes_of;
+use crate::setting::changed_rows;
+use catalog::{Table, TableRow, named_databases_are_one, other_rows_are_listed};
+use pages::WritePages;
+use query_terms::{SourceRow, Term};
+use sqlval::{Many, R};
+use std::alloc::Global;
+use tree_table::change_rows;
+
+/// An UPDATE that sets off no trigger leaves the table with what SET makes of its rows, or is refused as they are.
+pub fn update_sets_its_rows()
+    ensures { UpdatesSome }
+{
+    other_rows_are_listed();
+    named_databases_are_one();
+}
+
+/// Sets values in the rows of a table's tree for which a condition is true, or in all where there is none, and answers what these rows have
+/// become. The rows given are enough of the table's for the condition. They are chosen before the first is set. (What the condition, SET's
+/// expressions and `change_rows` refuse, a real, and `TooLong` for a row that no record can hold; only what `change_rows` refuses leaves rows
+/// that are set.)
+pub fn set_new_rows<P: WritePages>(
+    alloc: Global,
+    pages: &mut P,
+    table: &Table,
+    condition: &Option<Term>,
+    sets: &[(usize, Term)],
+    rows: &Many<SourceRow>,
+) -> R<Vec<TableRow>>
+    ensures set { IsTrue (P.Pages.tells (P.Pages.below pages.old))
+        → SetsRows (P.Pages.map pages.old) (P.Pages.map pages.new) (P.Pages.limits (P.Pages.below pages.old)).page
+        table.now.root table.now.columns sets.now condition.now rows.now result }
+    ensures rows { TellsChanged table.now.columns sets.now condition.now rows.now result }
+    ensures kept { P.Pages.below pages.new ≡ P.Pages.below pages.old }
+    ensures causes { Causes result (P.Pages.failures pages.old) (P.Pages.failures pages.new)
+        (P.Pages.count pages.new ≡ (P.Pages.limits (P.Pages.below pages.new)).most) }
+{
+    let new = changed_rows(alloc, table.columns.as_slice(), sets, rows, condition)?;
+    let changes = changes_of(alloc, &new)?;
+    change_rows(alloc, pages, table.root, &changes)?;
+    Ok(new)
+}

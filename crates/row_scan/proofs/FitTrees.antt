@@ -1,0 +1,241 @@
+-- The rows of a tree that is checked batch by batch are such as a table may hold.
+use Rattle.std.proofs.Common.{◌≡◌, refl, sym, ap, subst, ◌∙◌, ◌<◌, ◌≤◌, ◌+◌, ◌&&◌, ◌==◌, ℕ, pos, zero, suc, ℤ, Bool, true, false, List, [], ◌∷◌, ◌++◌, length, map, take, slice_index_or, Option, None, Ok, Err, IsTrue, SFits, w64, append_assoc, arith}
+use Rattle.std.proofs.lemmas.Bool.{eq-eqb, false≢true}
+use Rattle.std.proofs.lemmas.Bool.Decides.{nat_tests}
+use Rattle.std.proofs.lemmas.Int.{ints}
+use Rattle.std.proofs.lemmas.List.{append-nil, length-map, length-replicate, take_more}
+use Rattle.std.proofs.lemmas.List.Elements.{All-from_recursion, recursion_from_All}
+use Rattle.std.specs.List.{AllByRecursion, list_all}
+use Rattle.std.specs.Ordering.{int_cmp}
+use Rattle.std.specs.Prelude.{All, Result, replicate, nat_le, ⊤}
+use Rattle.std.specs.Str.Lossy.{utf8_valid_len}
+use Rattle.sqlval.specs.Conversion.{is_word}
+use Rattle.sqlval.specs.Faults.{IsOutside}
+use Rattle.sqlval.specs.Gives.{Refuses}
+use Rattle.sqlval.specs.Lists.{is_rising}
+use Rattle.sqlval.specs.declared.affinity.Affinity.TheVariants as to
+use Rattle.sqlval.specs.declared.fault.Fault.{Fault}
+use Rattle.sqlval.specs.declared.fault.Fault.TheVariants.{Memory}
+use Rattle.sqlval.specs.declared.value.Value.{Value}
+use Rattle.sqlval.specs.declared.value.Value.TheVariants.{Null, Int, Text, Blob}
+use Rattle.record.specs.Writing.{IsStorable}
+use Rattle.record.proofs.VarintLemmas.{AreBytes}
+use Rattle.tree_leaf.specs.Leaf.{Entry}
+use Rattle.pages.specs.Calls.{Limits, Stays}
+use Rattle.pages.specs.Map.{PageMap, AreWhole}
+use Rattle.tree_page.specs.Cells.{Pairwise}
+use Rattle.tree_table.specs.Rows.{rows_from}
+use Rattle.tree_table.specs.Scanning.{BeginsAll, GivesBatch}
+use Rattle.tree_table.specs.Tree.{IsTableTree}
+use Rattle.catalog.specs.Listed.{plain_column, plain_table}
+use Rattle.catalog.specs.Rows.{is_row, is_value}
+use Rattle.catalog.specs.declared.tables.Column.{Column}
+use Rattle.catalog.specs.declared.tables.Table.{Table}
+use Rattle.row_scan.specs.Answers.{row_at}
+use Rattle.row_scan.specs.Rows.{IsRow, TableRow}
+use Rattle.row_scan.specs.Trees.{AreFitRows, HasRows, HoldsFit, IsFitRow, FindsFit}
+use Rattle.row_scan.proofs.RowLemmas.{only_memory, ok_is, row_again, row_is}
+use Rattle.row_scan.proofs.RowOrder.{both_true, record_holds, rowids_rise}
+use Rattle.row_scan.proofs.TreeOrder.{tree_rises}
+
+-- ---- one row
+
+word_in : (n : ℤ) → SFits w64 n → is_word n ≡ true
+word_in n fits = grind (arith, ints)
+
+-- what was read of an entry of bytes
+pub fit_row : (width : ℕ) (entry : Entry) (row : TableRow) → AreBytes entry.payload → SFits w64 entry.rowid → All IsStorable row.1 → row_at width entry ≡ Ok row → IsFitRow width entry row
+fit_row width entry row bytes fits can reads =
+    let is = row_is width entry row bytes reads in
+    record { is = is; word = ap is_word (sym is.rowid) ∙ word_in entry.rowid fits; values = record_holds entry.payload row.1 bytes (recursion_from_All IsStorable row.1 can) is.values }
+
+-- a fit row is refused only when out of memory
+pub fit_read : (width : ℕ) (entry : Entry) (row : TableRow) (fault : Fault) → IsFitRow width entry row → Refuses fault (row_at width entry) → fault ≡ Memory
+fit_read width entry row fault is refuses = only_memory fault row (subst (λ r. Refuses fault r) (row_again width entry row is.is) refuses)
+
+first_of : (a b : Bool) → (a && b) ≡ true → a ≡ true
+first_of true b e = refl
+first_of false b e = absurd (false≢true e)
+
+second_of : (a b : Bool) → (a && b) ≡ true → b ≡ true
+second_of true b e = e
+second_of false b e = absurd (false≢true e)
+
+within : (n : ℕ) → nat_le n 1000000 ≡ true → n ≤ 1000000
+within n e = grind (arith, nat_tests)
+
+storable : (value : Value) → is_value value ≡ true → IsStorable value
+storable Null e = tt
+storable (Int n) e = tt
+storable (Text t) e = within (length t) (first_of (nat_le (length t) 1000000) (utf8_valid_len t == length t) e)
+storable (Blob b) e = within (length b) (first_of (nat_le (length b) 1000000) _ e)
+
+all_storable : (values : List Value) → list_all is_value values ≡ true → AllByRecursion IsStorable values
+all_storable [] e = tt
+all_storable (value ∷ values) e = (storable value (first_of (is_value value) (list_all is_value values) e), all_storable values (second_of (is_value value) (list_all is_value values) e))
+
+-- each value of a fit row can be stored
+pub fit_storable : (width : ℕ) (entry : Entry) (row other : TableRow) → IsFitRow width entry row → row_at width entry ≡ Ok other → All IsStorable other.1
+fit_storable width entry row other is reads =
+    subst (λ (r : TableRow). All IsStorable r.1) (ok_is (sym (row_again width entry row is.is) ∙ reads)) (All-from_recursion IsStorable row.1 (all_storable row.1 is.values))
+
+-- ---- a batch
+
+-- the rows up to a place
+abbrev pub HaveRows : ℕ → List Entry → Type 0
+HaveRows width entries = (rows : List TableRow) × Pairwise (IsFitRow width) entries rows
+
+behind : {A B : Type 0} (P : A → B → Type 0) (xs others : List A) (ys more : List B) → Pairwise P xs ys → Pairwise P others more → Pairwise P (xs ++ others) (ys ++ more)
+behind P [] others [] more all rest = rest
+behind P [] others (y ∷ ys) more all rest = absurd all
+behind P (x ∷ xs) others [] more all rest = absurd all
+behind P (x ∷ xs) others (y ∷ ys) more all rest = (all.0, behind P xs others ys more all.1 rest)
+
+pub have_more : (width : ℕ) (entries more : List Entry) → HaveRows width entries → HaveRows width more → HaveRows width (entries ++ more)
+have_more width entries more have others = (have.0 ++ others.0, behind (IsFitRow width) entries more have.0 others.0 have.1 others.1)
+
+pub one_more : (width : ℕ) (entries : List Entry) (i : ℕ) (d : Entry) → i < length entries → (row : TableRow) × IsFitRow width (slice_index_or entries i d) row → HaveRows width (take i entries) → HaveRows width (take (i + 1) entries)
+one_more width entries i d lt one have =
+    subst (HaveRows width) (sym (take_more entries i d lt)) (have_more width (take i entries) (slice_index_or entries i d ∷ []) have (one.0 ∷ [], (one.1, tt)))
+
+-- the row of an entry among others
+pub row_there : (width : ℕ) (entries : List Entry) (rows : List TableRow) (i : ℕ) (d : Entry) → i < length entries → Pairwise (IsFitRow width) entries rows → (row : TableRow) × IsFitRow width (slice_index_or entries i d) row
+row_there width [] rows i d lt each = absurd (omega (arith, lt))
+row_there width (entry ∷ entries) [] i d lt each = absurd each
+row_there width (entry ∷ entries) (row ∷ rows) zero d lt each = (row, each.0)
+row_there width (entry ∷ entries) (row ∷ rows) (suc i) d lt each = row_there width entries rows i d (omega (arith, lt)) each.1
+
+-- the rows of a part of the entries
+pub part_has : (width : ℕ) (front mid after : List Entry) (rows : List TableRow) → Pairwise (IsFitRow width) (front ++ (mid ++ after)) rows → HaveRows width mid
+part_has width (entry ∷ front) mid after [] each = absurd each
+part_has width (entry ∷ front) mid after (row ∷ rows) each = part_has width front mid after rows each.1
+part_has width [] [] after rows each = ([], tt)
+part_has width [] (entry ∷ mid) after [] each = absurd each
+part_has width [] (entry ∷ mid) after (row ∷ rows) each = (let more = part_has width [] mid after rows each.1 in (row ∷ more.0, (each.0, more.1)))
+
+-- ---- rows that a table may hold
+
+plain_rows : (width : ℕ) (entries : List Entry) (rows : List TableRow) → Pairwise (IsFitRow width) entries rows → Pairwise (IsRow width) entries rows
+plain_rows width [] [] each = tt
+plain_rows width [] (row ∷ rows) each = absurd each
+plain_rows width (entry ∷ entries) [] each = absurd each
+plain_rows width (entry ∷ entries) (row ∷ rows) each = (each.0.is, plain_rows width entries rows each.1)
+
+each_fit : (t : Table) (held : List TableRow) (width : ℕ) (entries : List Entry) (rows : List TableRow) → width ≡ length t.columns → Pairwise (IsFitRow width) entries rows → list_all (is_row (plain_table t held)) rows ≡ true
+each_fit t held width [] [] same each = refl
+each_fit t held width [] (row ∷ rows) same each = absurd each
+each_fit t held width (entry ∷ entries) [] same each = absurd each
+each_fit t held width (entry ∷ entries) (row ∷ rows) same each =
+    both_true (is_row (plain_table t held) row) (list_all (is_row (plain_table t held)) rows)
+    (both_true (is_word row.0 && length row.1 == length (map plain_column t.columns) && list_all is_value row.1) true
+    (both_true (is_word row.0 && length row.1 == length (map plain_column t.columns)) (list_all is_value row.1)
+    (both_true (is_word row.0) (length row.1 == length (map plain_column t.columns)) each.0.word
+    (eq-eqb (length row.1) (length (map plain_column t.columns)) (each.0.is.full ∙ same ∙ sym (length-map t.columns plain_column)))) each.0.values) refl)
+    (each_fit t held width entries rows same each.1)
+
+-- the entries of a tree that are fit rows
+pub holds_fit : (pages : PageMap) (size root width : ℕ) (entries : List Entry) (used : List ℕ) → IsTableTree pages size root entries used → HaveRows width entries → HoldsFit entries width
+holds_fit pages size root width entries used tree have =
+    let each = plain_rows width entries have.0 have.1 in
+    record {
+      rows = have.0;
+      each = each;
+      fit = λ t same. both_true (is_rising int_cmp (map (λ r. r.0) have.0)) (list_all (is_row (plain_table t have.0)) have.0)
+          (rowids_rise width entries have.0 (tree_rises pages size root entries used tree) each) (each_fit t have.0 width entries have.0 same have.1);
+    }
+
+abbrev column : Column
+column = record { name = []; affinity = to.Blob }
+
+-- a table of so many columns
+abbrev some_table : ℕ → Table
+some_table width = record { name = []; columns = replicate width column; indexes = []; root = 0; rowid = pos 0 }
+
+word_first : (a b c : Bool) → (a && b && c && true) ≡ true → a ≡ true
+word_first true b c e = refl
+word_first false b c e = absurd (false≢true e)
+
+values_last : (a b c : Bool) → (a && b && c && true) ≡ true → c ≡ true
+values_last true true true e = refl
+values_last true true false e = absurd (false≢true e)
+values_last true false c e = absurd (false≢true e)
+values_last false b c e = absurd (false≢true e)
+
+fit_each : (t : Table) (held : List TableRow) (width : ℕ) (entries : List Entry) (rows : List TableRow) → Pairwise (IsRow width) entries rows → list_all (is_row (plain_table t held)) rows ≡ true → Pairwise (IsFitRow width) entries rows
+fit_each t held width [] [] each fit = tt
+fit_each t held width [] (row ∷ rows) each fit = absurd each
+fit_each t held width (entry ∷ entries) [] each fit = absurd each
+fit_each t held width (entry ∷ entries) (row ∷ rows) each fit =
+    let one = first_of (is_row (plain_table t held) row) (list_all (is_row (plain_table t held)) rows) fit in
+    let a = is_word row.0 in
+    let b = length row.1 == length (map plain_column t.columns) in
+    let c = list_all is_value row.1 in (
+      record { is = each.0; word = word_first a b c one; values = values_last a b c one },
+      fit_each t held width entries rows each.1 (second_of (is_row (plain_table t held) row) (list_all (is_row (plain_table t held)) rows) fit),
+    )
+
+pub fit_rows : (width : ℕ) (entries : List Entry) (rows : List TableRow) → Pairwise (IsRow width) entries rows → AreFitRows width rows → Pairwise (IsFitRow width) entries rows
+fit_rows width entries rows each fit =
+    let t = some_table width in
+    let all = fit t (sym (length-replicate width column)) in
+    fit_each t rows width entries rows each (second_of (is_rising int_cmp (map (λ r. r.0) rows)) (list_all (is_row (plain_table t rows)) rows) all)
+
+-- ---- batch by batch
+
+module _ {P K : Type 0} (below : P → K) (tells : K → Bool) (limits : K → Limits) (pages : P → PageMap) (count : P → ℕ) (failures : P → ℕ × ℕ) where
+  -- What is so after some batches.
+  pub record HasChecked (old now : P) (root at_root : ℕ) (next : Option ℤ) (width : ℕ) : Type 0 where
+    pub stays : Stays below pages count failures {T = ⊤} (Ok tt) old now
+    pub same_root : at_root ≡ root
+    pub done : List Entry
+    pub have : HaveRows width done
+    pub are : IsTrue (tells (below old)) → (rows : List Entry) (used : List ℕ) → AreWhole (limits (below old)).page (pages old) → IsTableTree (pages old) (limits (below old)).page root rows used
+        → rows ≡ done ++ rows_from next rows
+
+  pub none_checked : (old : P) (root at_root : ℕ) (next : Option ℤ) (width : ℕ) → at_root ≡ root → BeginsAll next → HasChecked old old root at_root next width
+  none_checked old root at_root next width same begin = record {
+    stays = record { kept = refl; same = refl; counted = refl; causes = record { db = omega arith; log = omega arith; why = tt } };
+    same_root = same;
+    done = [];
+    have = ([], tt);
+    are = λ told rows used whole tree. sym (begin (pages old) (limits (below old)).page root rows used tree);
+  }
+
+  batch_is : (old mid : P) (root at_root : ℕ) (next later : Option ℤ) (batch : List Entry) (result : Result ⊤ Fault) → Stays below pages count failures {T = ⊤} (Ok tt) old mid → at_root ≡ root
+      → (IsTrue (tells (below mid)) → GivesBatch (pages mid) (limits (below mid)).page at_root next later batch result) → IsTrue (tells (below old)) → GivesBatch (pages old) (limits (below old)).page root next later batch result
+  batch_is old mid root at_root next later batch result stays same gives told =
+      subst (λ (n : ℕ). GivesBatch (pages old) (limits (below old)).page n next later batch result) same
+      (subst (λ (m : PageMap). GivesBatch m (limits (below old)).page at_root next later batch result) stays.same
+      (subst (λ (k : K). GivesBatch (pages mid) (limits k).page at_root next later batch result) stays.kept (gives (subst (λ (k : K). IsTrue (tells k)) (sym stays.kept) told))))
+
+  module _ (old mid : P) (root at_root : ℕ) (next later : Option ℤ) (width : ℕ) (batch : List Entry) (has : HasChecked old mid root at_root next width) where
+    parts : (IsTrue (tells (below mid)) → GivesBatch (pages mid) (limits (below mid)).page at_root next later batch (Ok tt)) → IsTrue (tells (below old)) → (rows : List Entry) (used : List ℕ)
+        → AreWhole (limits (below old)).page (pages old) → IsTableTree (pages old) (limits (below old)).page root rows used → rows ≡ has.done ++ (batch ++ rows_from later rows)
+    parts gives told rows used whole tree =
+        has.are told rows used whole tree ∙ ap (λ (them : List Entry). has.done ++ them) (batch_is old mid root at_root next later batch (Ok tt) has.stays has.same_root gives told rows used whole tree).0
+
+    pub checked_on : (new : P) (new_root : ℕ) → new_root ≡ at_root → Stays below pages count failures {T = ⊤} (Ok tt) old new
+        → (IsTrue (tells (below mid)) → GivesBatch (pages mid) (limits (below mid)).page at_root next later batch (Ok tt)) → HaveRows width batch → HasChecked old new root new_root later width
+    checked_on new new_root same stays gives have = record {
+      stays = stays;
+      same_root = same ∙ has.same_root;
+      done = has.done ++ batch;
+      have = have_more width has.done batch has.have have;
+      are = λ told rows used whole tree. parts gives told rows used whole tree ∙ sym (append_assoc has.done batch (rows_from later rows));
+    }
+
+    -- where the tree's rows are fit, those of the batch are
+    pub batch_has : (IsTrue (tells (below mid)) → GivesBatch (pages mid) (limits (below mid)).page at_root next later batch (Ok tt)) → IsTrue (tells (below old)) → (rows : List TableRow)
+        → AreWhole (limits (below old)).page (pages old) → HasRows (pages old) (limits (below old)).page root width rows → AreFitRows width rows → HaveRows width batch
+    batch_has gives told rows whole tree fit =
+        part_has width has.done batch (rows_from later tree.entries) rows
+        (subst (λ (entries : List Entry). Pairwise (IsFitRow width) entries rows) (parts gives told tree.entries tree.used whole tree.tree) (fit_rows width tree.entries rows tree.each fit))
+
+    pub batch_fails : (fault : Fault) → (IsTrue (tells (below mid)) → GivesBatch (pages mid) (limits (below mid)).page at_root next later batch (Err fault)) → IsTrue (tells (below old)) → (rows : List TableRow)
+        → AreWhole (limits (below old)).page (pages old) → HasRows (pages old) (limits (below old)).page root width rows → IsOutside fault
+    batch_fails fault gives told rows whole tree = batch_is old mid root at_root next later batch (Err fault) has.stays has.same_root gives told tree.entries tree.used whole tree.tree
+
+    pub all_checked : next ≡ None → IsTrue (tells (below old)) → FindsFit (pages old) (limits (below old)).page root width (Ok tt)
+    all_checked none told entries used whole tree =
+        let same = has.are told entries used whole tree ∙ ap (λ (at : Option ℤ). has.done ++ rows_from at entries) none ∙ append-nil has.done in
+        holds_fit (pages old) (limits (below old)).page root width entries used tree (subst (HaveRows width) (sym same) has.have)

@@ -1,0 +1,14 @@
+use Rattle.std.proofs.Common.{rules, ◌≡◌, List, subst}
+use Rattle.sqlval.specs.declared.value.Value.{Value}
+use Rattle.row_search.specs.Searching.{LoadsKeyed}
+use Rattle.row_search.proofs.Searched.{of_key}
+use Rattle.row_search.proofs.searching.rows_by_key.Goals as goal
+
+pub returns-clause-loaded : goal.returns-clause-loaded
+returns-clause-loaded g c = λ told.
+    (let gs = g.P.Pages in
+    let pages = gs.map c.args.pages.now in
+    let size = (gs.limits (gs.below c.args.pages.now)).page in
+    let key : c.as_slice.result.now ≡ c.args.key = search rules in
+    subst (λ (k : List Value). LoadsKeyed pages size c.args.table c.args.index.now.root c.args.index.now.columns k c.sought_rows.result) key
+    (of_key pages size c.args.index.now.root c.args.table c.args.index.now.columns c.as_slice.result.now c.sought_rows.result (c.sought_rows.ensures.loaded told)))

@@ -1,9 +1,0 @@
-use Rattle.std.proofs.Common.{arith}
-use Rattle.rowprog.proofs.SourceRows.{holds_more}
-use Rattle.rowprog.proofs.RowLemmas.{no_row}
-use Rattle.rowprog.proofs.sources.batch_rows.Goals as goal
-
-pub written-preserved : goal.written-preserved
-written-preserved c =
-    holds_more c.args.batch.now c.written.place _ c.written.items.items c.put_source_row.new.rows.items (omega (arith, c.written-test.true, c.len-place-end.ensures))
-    (c.row.ensures no_row) c.written.invariant c.in_ok-put_source_row.ensures

@@ -1,7 +1,0 @@
--- the rows in front are those of the batch so far
-use Rattle.std.proofs.Common.{◌≡◌, map, take}
-use Rattle.rowprog.specs.Sources.{as_held}
-use Rattle.rowprog.proofs.sources.batch_rows.Given as goal
-
-abbrev pub invariant-written : goal.invariant-written
-invariant-written l = take l.place l.items.items ≡ map as_held (take l.place l.batch)

@@ -1,6 +1,0 @@
-use Rattle.std.proofs.Common.{rules}
-use Rattle.std.proofs.lemmas.Fn.{filter_same}
-use Rattle.rowsearch.proofs.between.cut_off.Goals as goal
-
-pub returns : goal.returns
-returns c = filter_same _ _ _ (λ row b f' told. search rules) _ _ c.retain.ensures.filtered

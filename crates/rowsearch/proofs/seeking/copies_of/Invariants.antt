@@ -1,6 +1,0 @@
--- copies of the values so far
-use Rattle.std.proofs.Common.{◌≡◌, take}
-use Rattle.rowsearch.proofs.seeking.copies_of.Given as goal
-
-abbrev pub invariant-values : goal.invariant-values
-invariant-values l = l.copies.items ≡ take l.value-index l.values

@@ -1,5 +1,0 @@
-use Rattle.sharing.proofs.Sharing.{index_trees_stand}
-use Rattle.sharing.proofs.trees.index_trees_stand.Goals as goal
-
-pub returns : goal.returns
-returns c = index_trees_stand

@@ -1,9 +1,0 @@
-use Rattle.catalog.specs.Listed.{tables_of}
-use Rattle.storage.proofs.Creations.{handed_on}
-use Rattle.storage.proofs.Droppings.{no_index}
-use Rattle.storage.proofs.dropping.drop_index.Goals as goal
-
-pub returns-in_err-table-clause-made : goal.returns-in_err-table-clause-made
-returns-in_err-table-clause-made g c told db held =
-    handed_on _ _ c.from_residual.result c.in_err-table.field-0.0 c.from_residual.ensures.1
-    (no_index c.listed_tables_are_found.ensures.finds _ _ (tables_of c.args.catalog.now) db held c.args.name.now c.listed_tables_are_found.ensures.names c.in_err-table.field-0.0 c.in_err-table.ensures.refused)

@@ -1,9 +1,0 @@
--- what is left of the rows decides
-use Rattle.std.proofs.Common.{◌≡◌, drop, map}
-use Rattle.bind.specs.Checked.{known_all}
-use Rattle.querybinder.specs.Named.{onto_list}
-use Rattle.storage.proofs.WrittenRows.{row_known}
-use Rattle.storage.proofs.giving.bind_rows.Given as goal
-
-abbrev pub invariant-rows : goal.invariant-rows
-invariant-rows l = onto_list l.found (known_all (map row_known (drop l.row-index l.rows))) ≡ known_all (map row_known l.rows)

@@ -1,5 +1,0 @@
-use Rattle.stored.proofs.Standing.{stand_if_stored}
-use Rattle.stored.proofs.laws.stored_pages_stand.Goals as goal
-
-pub returns : goal.returns
-returns c = stand_if_stored

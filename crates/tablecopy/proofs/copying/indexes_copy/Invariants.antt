@@ -1,6 +1,0 @@
-use Rattle.std.specs.Prelude.{◌≡◌, take}
-use Rattle.tablecopy.proofs.copying.indexes_copy.Given as goal
-
--- those so far are copied
-abbrev pub invariant-indexes : goal.invariant-indexes
-invariant-indexes l = l.copy.items ≡ take l.index-index l.indexes

@@ -1,8 +1,0 @@
-use Rattle.std.proofs.Common.{◌≡◌, ◌-◌, length}
-use Rattle.expressions.specs.Symbols.{seen}
-use Rattle.grammar.specs.Readers.{listed, listed_upto}
-use Rattle.tableparser.proofs.indexes.index_columns.Given as goal
-use Rattle.tableparser.specs.IndexReading.{index_column_from}
-
-abbrev pub invariant-columns : goal.invariant-columns
-invariant-columns l = listed index_column_from (seen l.spelled l.tokens) ≡ listed_upto index_column_from (length l.tokens - l.counter) l.columns (seen l.spelled l.rest)

@@ -1,4 +1,0 @@
-use Rattle.tabletree.proofs.flattening.+build_over.Given as goal
-
-abbrev pub decreases-build_over : goal.decreases-build_over
-decreases-build_over g l = l.levels

@@ -1,5 +1,0 @@
-use Rattle.tabletree.proofs.Givings.{HasGivenRows}
-use Rattle.tabletree.proofs.freeing.free_rows.Given as goal
-
-abbrev pub invariant-rows : goal.invariant-rows
-invariant-rows g l = HasGivenRows g.P.Pages.below g.P.Pages.tells g.P.Pages.limits g.P.Pages.map g.P.Pages.failures l.fn.pages l.pages l.leaf l.len l.place

@@ -1,5 +1,0 @@
-use Rattle.tabletree.proofs.OneTrees.{one_table_tree}
-use Rattle.tabletree.proofs.laws.one_table_tree.Goals as goal
-
-pub returns : goal.returns
-returns c = one_table_tree

@@ -1,4 +1,0 @@
-use Rattle.tabletree.proofs.lowering.lone_in.Goals as goal
-
-pub returns-in_err-page-clause-only : goal.returns-in_err-page-clause-only
-returns-in_err-page-clause-only c = λ node is. absurd (c.in_err-page.ensures.only node is)

@@ -1,4 +1,0 @@
-use Rattle.tabletree.proofs.runs.+changed_below.Given as goal
-
-abbrev pub decreases-changed_below : goal.decreases-changed_below
-decreases-changed_below g l = l.ways

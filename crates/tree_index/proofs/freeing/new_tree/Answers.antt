@@ -1,0 +1,43 @@
+use Rattle.std.proofs.Common.{rules, ◌≡◌, ◌∙◌, ℕ, List, IsTrue, length, sym, ap, subst, inl}
+use Rattle.sqlval.specs.Faults.{IsOutside}
+use Rattle.sqlval.specs.PageSizes.{IsPageSize}
+use Rattle.pages.specs.Map.{IsThere}
+use Rattle.tree_overflow.proofs.Laying.{taken_from}
+use Rattle.tree_index.specs.Freeing.{IsEmptyPage}
+use Rattle.tree_index.proofs.Emptied.{made_on}
+use Rattle.tree_index.proofs.Readings.{full_err}
+use Rattle.tree_index.proofs.freeing.new_tree.Goals as goal
+
+pub returns-in_err-page-clause-made : goal.returns-in_err-page-clause-made
+returns-in_err-page-clause-made g c = λ told columns free are sized.
+    full_err _ _ c.in_err-page.field-0.0 c.from_residual.ensures.1 (inl (inl (c.in_err-page.ensures.refused (subst IsPageSize (sym c.page_size.ensures) sized))))
+
+pub returns-in_err-root-clause-made : goal.returns-in_err-root-clause-made
+returns-in_err-root-clause-made g c = λ told columns free are sized.
+    full_err _ _ c.in_err-root.field-0.0 c.from_residual-in_err-root.ensures.1 (c.in_err-root.ensures.taken told free are)
+
+pub returns-in_err-put-clause-made : goal.returns-in_err-put-clause-made
+returns-in_err-put-clause-made g c = λ told columns free are sized.
+    (let pages = g.P.Pages in
+    let old = pages.map c.args.pages.now in
+    let mid = pages.map c.take.new.pages in
+    let size = (pages.limits (pages.below c.args.pages.now)).page in
+    let root = c.in_ok-root.root in
+    let from = taken_from old mid size free root are (c.in_ok-root.ensures.taken told free are) in
+    let told_mid = subst (λ k. IsTrue (pages.tells k)) (sym c.in_ok-root.ensures.kept) told in
+    let bytes : c.as_slice.result.now ≡ c.in_ok-page.page.items = search rules in
+    let long : length c.as_slice.result.now ≡ size = ap length bytes ∙ c.in_ok-page.ensures.is.sized ∙ c.page_size.ensures in
+    let refusal = subst (λ k. IsThere mid (pages.limits k).page root → length c.as_slice.result.now ≡ (pages.limits k).page → IsOutside c.in_err-put.field-0.0) c.in_ok-root.ensures.kept (c.in_err-put.ensures.refusal told_mid) in
+    full_err _ _ c.in_err-put.field-0.0 c.from_residual-in_err-put.ensures.1 (inl (refusal (record { has = from.there; whole = (from.are).whole root from.there }) long)))
+
+pub returns-clause-made : goal.returns-clause-made
+returns-clause-made g c = λ told columns free are sized.
+    (let pages = g.P.Pages in
+    let old = pages.map c.args.pages.now in
+    let mid = pages.map c.take.new.pages in
+    let size = (pages.limits (pages.below c.args.pages.now)).page in
+    let root = c.in_ok-root.root in
+    let told_mid = subst (λ k. IsTrue (pages.tells k)) (sym c.in_ok-root.ensures.kept) told in
+    let bytes : c.as_slice.result.now ≡ c.in_ok-page.page.items = search rules in
+    let page = subst (λ (them : List ℕ). IsEmptyPage size them) (sym bytes) (subst (λ (n : ℕ). IsEmptyPage n c.in_ok-page.page.items) c.page_size.ensures c.in_ok-page.ensures.is) in
+    made_on old mid (pages.map c.put.new.self) size root columns c.as_slice.result.now free sized are (c.in_ok-root.ensures.taken told free are) page (c.in_ok-put.ensures.done told_mid))

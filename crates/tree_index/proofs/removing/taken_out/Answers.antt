@@ -1,0 +1,22 @@
+use Rattle.std.proofs.Common.{◌≡◌, ◌-◌, ℕ, suc, sym, subst, arith}
+use Rattle.tree_index.specs.Removing.{TakesAt}
+use Rattle.tree_index.proofs.Spreading.{outside_or_full}
+use Rattle.tree_index.proofs.removing.taken_out.Goals as goal
+
+pub returns-then-depth-eq0-clause-taken : goal.returns-then-depth-eq0-clause-taken
+returns-then-depth-eq0-clause-taken g c = λ told.
+    (let gs = g.P.Pages in
+    let old = gs.map c.args.pages.now in
+    let size = (gs.limits (gs.below c.args.pages.now)).page in
+    subst (λ (d : ℕ). TakesAt old (gs.map c.cut_leaf.new.pages) size c.args.number c.args.place d c.cut_leaf.result) (sym c.if-depth-eq0.true)
+    (λ ways t free under sized lt. outside_or_full _ c.cut_leaf.result (c.cut_leaf.ensures.cut told ways t free under sized lt)))
+
+pub returns-clause-taken : goal.returns-clause-taken
+returns-clause-taken g c = λ told.
+    (let gs = g.P.Pages in
+    let old = gs.map c.args.pages.now in
+    let size = (gs.limits (gs.below c.args.pages.now)).page in
+    let fewer = c.args.depth - 1 in
+    let more : c.args.depth ≡ suc fewer = omega (arith, c.if-depth-eq0.false) in
+    subst (λ (d : ℕ). TakesAt old (gs.map c.parted.new.pages) size c.args.number c.args.place d c.parted.result) (sym more)
+    (λ ways t free under sized lt. c.parted.ensures.parted told ways t free under sized lt))

@@ -1,0 +1,110 @@
+//! How an entry compares with those on a page.
+
+ghost use Rattle.std.specs.Prelude.{◌≡◌, ◌≤◌, ◌<◌, List, length, map, IsTrue, IfOk, IfErr};
+ghost use Rattle.sqlval.specs.Faults.{IsNotDiskFault, IsOrMemory};
+ghost use Rattle.sqlval.specs.Fields.{value_of};
+ghost use Rattle.sqlval.specs.Order.{order as value_order};
+ghost use Rattle.sqlval.specs.declared.value.Value.{Value as ValueIs};
+ghost use Rattle.pages.specs.Calls.{Stays};
+ghost use Rattle.record.specs.Record.{IsRecord};
+ghost use Rattle.tree_index.specs.Comparing.{ComparesEntry, collation_for};
+ghost use Rattle.tree_index.specs.Entries.{entry_cmp};
+
+use crate::cells::{at_page, local_in, most_in};
+use pages::Pages;
+use record::Record;
+use sqlval::{Collation, Fault, Field, R, Value, compare};
+use std::alloc::Global;
+use std::cmp::Ordering;
+use tree_overflow::read_payload;
+
+/// What is sought in an index: the values of an entry, or its first ones, in the order of the columns, the rowid last.
+#[derive(Clone, Copy)]
+pub struct Key<'a> {
+    pub columns: &'a [Collation],
+    pub values: &'a [Value],
+}
+
+/// The collation of the value at a place of an entry: that of the column, and BINARY for the rowid.
+fn collation_at(columns: &[Collation], place: usize) -> Collation
+    ensures { result ≡ collation_for place columns.now }
+{
+    if place < columns.len() {
+        return columns[place];
+    }
+    Collation::Binary
+}
+
+/// The order of a value and a field. (`Memory`.)
+fn compare_field(
+    alloc: Global,
+    value: &Value,
+    field: Field<'_>,
+    collation: Collation,
+) -> R<Ordering>
+    ensures is { IfOk result (λ order. order ≡ value_order collation value.now (value_of field.entry)) }
+    ensures refused { IfErr result (λ fault. fault ≡ Fault.Memory) }
+{
+    let held = field.to_value(alloc)?;
+    Ok(compare(value, &held, collation))
+}
+
+/// The order of a key and an entry. (`Memory`.)
+pub fn compare_entry(alloc: Global, key: Key<'_>, entry: &Record<'_>) -> R<Ordering>
+    ensures is { IfOk result (λ order. order ≡ entry_cmp key.entry.columns.now key.entry.values.now entry.now) }
+    ensures refused { IfErr result (λ fault. fault ≡ Fault.Memory) }
+{
+    let most = key.values.len().min(entry.len());
+    'values: for place in 0..most {
+        if place > key.columns.len() {
+            return Ok(Ordering::Equal);
+        }
+        let collation = collation_at(key.columns, place);
+        let order = compare_field(alloc, &key.values[place], entry.column(place), collation)?;
+        if order.is_ne() {
+            return Ok(order);
+        }
+    }
+    Ok(Ordering::Equal)
+}
+
+/// The order of a key and the entry of a payload. (`Memory`, and what `Record::over` refuses.)
+fn compare_payload(alloc: Global, key: Key<'_>, payload: &[u8]) -> R<Ordering>
+    ensures only { (entry : List ValueIs) → IsRecord payload.now entry
+        → IsOrMemory (λ order. order ≡ entry_cmp key.entry.columns.now key.entry.values.now entry) result }
+    ensures not_disk { IfErr result IsNotDiskFault }
+{
+    let entry = Record::over(alloc, payload)?;
+    compare_entry(alloc, key, &entry)
+}
+
+/// The order of a key and the entry at a place of a page: from the page if its payload lies whole there, else from `scratch`, which it is read
+/// into. (What `load`, `read_payload` and `Record::over` refuse; `Damaged` for a page that is none of an index, or has no such entry.)
+pub fn order<P: Pages>(
+    pages: &mut P,
+    number: u32,
+    place: usize,
+    key: Key<'_>,
+    scratch: &mut Vec<u8>,
+) -> R<Ordering>
+    ensures found { IsTrue (P.Pages.tells (P.Pages.below pages.old))
+        → ComparesEntry (P.Pages.map pages.old) (P.Pages.limits (P.Pages.below pages.old)).page number place key.entry.columns.now key.entry.values.now result }
+    ensures stays { Stays P.Pages.below P.Pages.map P.Pages.count P.Pages.failures result pages.old pages.new }
+{
+    pages.load(number)?;
+    let alloc = *scratch.allocator();
+    let most = most_in(pages.page_size());
+    let local = match local_in(pages.loaded(), number, place) {
+        Ok(local) => local,
+        Err(fault) => return Err(at_page(fault, number)),
+    };
+    let size = local.size;
+    if size <= most as u64 {
+        return compare_payload(alloc, key, local.bytes);
+    }
+    // The chain is read through the same pages, which lend these bytes.
+    let held = local.bytes.to_vec(alloc)?;
+    scratch.clear();
+    read_payload(pages, held.as_slice(), size, most, scratch)?;
+    compare_payload(alloc, key, scratch.as_slice())
+}

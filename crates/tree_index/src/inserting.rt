@@ -1,0 +1,49 @@
+//! Putting an entry into an index's tree.
+
+ghost use Rattle.std.specs.Prelude.{◌≡◌, IsTrue};
+ghost use Rattle.pages.specs.Calls.{Causes};
+ghost use Rattle.tree_index.specs.Calls.{InsertsEntry};
+
+use crate::comparing::Key;
+use crate::flattening::store_top;
+use crate::freeing::WAYS;
+use crate::growing::{Change, New, packed_below};
+use pages::WritePages;
+use record::encode_row;
+use sqlval::{Collation, R, Value};
+use std::alloc::Global;
+
+/// Puts an entry into the tree under this root, which keeps its number. Answers `false` if the entry is there: then nothing changes.
+/// A tree whose ways would have more than 20 pages is built anew. (`TooLong` if no record can hold the entry; what the calls of pages
+/// refuse; `Damaged` for pages that are none of an index's tree.)
+pub fn insert<P: WritePages>(
+    alloc: Global,
+    pages: &mut P,
+    root: u32,
+    columns: &[Collation],
+    entry: &[Value],
+) -> R<bool>
+    ensures inserted { IsTrue (P.Pages.tells (P.Pages.below pages.old))
+        → InsertsEntry (P.Pages.map pages.old) (P.Pages.map pages.new) (P.Pages.limits (P.Pages.below pages.old)).page root columns.now entry.now result }
+    ensures kept { P.Pages.below pages.new ≡ P.Pages.below pages.old }
+    ensures causes { Causes result (P.Pages.failures pages.old) (P.Pages.failures pages.new)
+        (P.Pages.count pages.new ≡ (P.Pages.limits (P.Pages.below pages.new)).most) }
+{
+    let payload = encode_row(alloc, entry)?;
+    let new = New {
+        key: Key {
+            columns,
+            values: entry,
+        },
+        payload: payload.as_slice(),
+    };
+    let mut scratch = Vec::new(alloc);
+    match packed_below(alloc, pages, root, WAYS, new, &mut scratch)? {
+        Change::There => Ok(false),
+        Change::Same => Ok(true),
+        Change::Spread(packed, deep) => {
+            store_top(alloc, pages, root, &packed, deep)?;
+            Ok(true)
+        }
+    }
+}

@@ -1,0 +1,97 @@
+//! Where a key stands among the entries of a page.
+
+ghost use Rattle.std.specs.Prelude.{◌≡◌, IsTrue};
+ghost use Rattle.pages.specs.Calls.{Stays};
+ghost use Rattle.tree_index.specs.Comparing.{FindsPlace};
+ghost use Rattle.tree_index.specs.Entries.{is_passed};
+ghost use Rattle.tree_index.specs.Growing.{FindsEqual, StepsFrom};
+
+use crate::cells::{child_of, len_of};
+use crate::comparing::{Key, order};
+use pages::Pages;
+use sqlval::R;
+use std::cmp::Ordering;
+
+/// Where the way to an entry goes on from a page.
+#[derive(Clone, Copy, Drop)]
+pub(crate) enum Step {
+    /// The entry is at this place of the page.
+    Found(usize),
+    /// This leaf hasn't the entry. It would stand at this place.
+    Here(usize),
+    /// To the child at this place, with its page's number; the last child stands after all cells.
+    Down(usize, u32),
+}
+
+/// Whether an entry that compares so with a key is passed: it is less, or, where the key itself is passed, equal.
+fn is_past(order: Ordering, after: bool) -> bool
+    ensures { result ≡ is_passed after order }
+{
+    if after { !order.is_lt() } else { order.is_gt() }
+}
+
+/// The first place on a page whose entry isn't less than the key, or, where `after` is set, is greater, by halving. (What `len_of` and
+/// `order` refuse.)
+pub(crate) fn place_of<P: Pages>(
+    pages: &mut P,
+    number: u32,
+    key: Key<'_>,
+    after: bool,
+    scratch: &mut Vec<u8>,
+) -> R<usize>
+    ensures found { IsTrue (P.Pages.tells (P.Pages.below pages.old))
+        → FindsPlace (P.Pages.map pages.old) (P.Pages.limits (P.Pages.below pages.old)).page number after key.entry.columns.now key.entry.values.now result }
+    ensures stays { Stays P.Pages.below P.Pages.map P.Pages.count P.Pages.failures result pages.old pages.new }
+{
+    let mut low = 0;
+    let mut high = len_of(pages, number)?;
+    'halves: while low < high {
+        let middle = low + (high - low) / 2;
+        let order = order(pages, number, middle, key, scratch)?;
+        if is_past(order, after) {
+            low = middle + 1;
+        } else {
+            high = middle;
+        }
+    }
+    Ok(low)
+}
+
+/// Whether the entry at a place of a page equals the key. (What `len_of` and `order` refuse.)
+fn is_equal_at<P: Pages>(
+    pages: &mut P,
+    number: u32,
+    place: usize,
+    key: Key<'_>,
+    scratch: &mut Vec<u8>,
+) -> R<bool>
+    ensures found { IsTrue (P.Pages.tells (P.Pages.below pages.old))
+        → FindsEqual (P.Pages.map pages.old) (P.Pages.limits (P.Pages.below pages.old)).page number place key.entry.columns.now key.entry.values.now result }
+    ensures stays { Stays P.Pages.below P.Pages.map P.Pages.count P.Pages.failures result pages.old pages.new }
+{
+    if place >= len_of(pages, number)? {
+        return Ok(false);
+    }
+    Ok(order(pages, number, place, key, scratch)?.is_eq())
+}
+
+/// Where the way to an entry goes on from a page. (What `place_of`, `is_equal_at` and `child_of` refuse.)
+pub(crate) fn step_from<P: Pages>(
+    pages: &mut P,
+    number: u32,
+    key: Key<'_>,
+    scratch: &mut Vec<u8>,
+) -> R<Step>
+    ensures found { IsTrue (P.Pages.tells (P.Pages.below pages.old))
+        → StepsFrom (P.Pages.map pages.old) (P.Pages.limits (P.Pages.below pages.old)).page number key.entry.columns.now key.entry.values.now result }
+    ensures stays { Stays P.Pages.below P.Pages.map P.Pages.count P.Pages.failures result pages.old pages.new }
+{
+    let place = place_of(pages, number, key, false, scratch)?;
+    if is_equal_at(pages, number, place, key, scratch)? {
+        return Ok(Step::Found(place));
+    }
+    match child_of(pages, number, place)? {
+        Some(child) => Ok(Step::Down(place, child)),
+        None => Ok(Step::Here(place)),
+    }
+}

@@ -1,0 +1,205 @@
+//! Taking an entry out of an index's tree.
+
+ghost use Rattle.std.specs.Prelude.{◌≡◌, ◌<◌, ◌≤◌, length, IsTrue, IfOk};
+ghost use Rattle.pages.specs.Calls.{Causes, Stays};
+ghost use Rattle.tree_page.specs.Node.{Node, IsNode};
+ghost use Rattle.tree_page.specs.Reading.{count_of};
+ghost use Rattle.tree_index.specs.Calls.{RemovesEntry};
+ghost use Rattle.tree_index.specs.Removing.{CutsLeaf, FindsDepth, Lessens, Narrows, TakesAt};
+
+use crate::cells::{child_of, len_of};
+use crate::comparing::Key;
+use crate::freeing::{WAYS, free_entry};
+use crate::growing::fanned;
+use crate::joining::{joined, parted};
+use crate::lowering::settle;
+use crate::placing::{Step, step_from};
+use pages::{Pages, WritePages};
+use sqlval::{Collation, Damage, Fault, R, Value};
+use std::alloc::Global;
+use tree_pack::{Packed, splice};
+use tree_page::TreePage;
+use tree_store::store;
+
+/// What becomes of a page out of whose tree an entry is taken.
+#[derive(Drop)]
+pub(crate) enum Loss {
+    /// There is no such entry: nothing has changed.
+    Still,
+    /// The page stays, and below it all is done.
+    Done,
+    /// The page gives way to these, which aren't stored yet.
+    Spread(Packed),
+}
+
+/// How many pages stand below a page on a way from it. (`Damaged(Depth, number)` if there are more than `ways`; what `child_of` refuses.)
+fn depth_below<P: Pages>(pages: &mut P, number: u32, ways: u32) -> R<u32>
+    ensures found { IsTrue (P.Pages.tells (P.Pages.below pages.old))
+        → FindsDepth (P.Pages.map pages.old) (P.Pages.limits (P.Pages.below pages.old)).page number ways result }
+    ensures stays { Stays P.Pages.below P.Pages.map P.Pages.count P.Pages.failures result pages.old pages.new }
+    ensures within { IfOk result (λ depth. depth ≤ ways) }
+{
+    let Some(child) = child_of(pages, number, 0)? else {
+        return Ok(0);
+    };
+    if ways == 0 {
+        return Err(Fault::Damaged(Damage::Depth, number));
+    }
+    Ok(depth_below(pages, child, ways - 1)? + 1)
+}
+
+/// The page that a leaf gives way to when the entry at a place of it is taken out. Its overflow pages are given back, the page isn't stored.
+fn cut_leaf<P: WritePages>(alloc: Global, pages: &mut P, number: u32, place: usize) -> R<Packed>
+    ensures cut { IsTrue (P.Pages.tells (P.Pages.below pages.old))
+        → CutsLeaf (P.Pages.map pages.old) (P.Pages.map pages.new) (P.Pages.limits (P.Pages.below pages.old)).page number place result }
+    ensures kept { P.Pages.below pages.new ≡ P.Pages.below pages.old }
+    ensures causes { Causes result (P.Pages.failures pages.old) (P.Pages.failures pages.new) ⊥ }
+{
+    free_entry(alloc, pages, number, place)?;
+    pages.load(number)?;
+    splice(alloc, pages.loaded(), 0, place, 1, &[], None)
+}
+
+/// The pages that the top of a tree of this depth gives way to when the entry at a place of it is taken out. All pages below it are stored.
+fn taken_out<P: WritePages>(
+    alloc: Global,
+    pages: &mut P,
+    number: u32,
+    place: usize,
+    depth: u32,
+) -> R<Packed>
+    ensures taken { IsTrue (P.Pages.tells (P.Pages.below pages.old))
+        → TakesAt (P.Pages.map pages.old) (P.Pages.map pages.new) (P.Pages.limits (P.Pages.below pages.old)).page number place depth result }
+    ensures kept { P.Pages.below pages.new ≡ P.Pages.below pages.old }
+    ensures causes { Causes result (P.Pages.failures pages.old) (P.Pages.failures pages.new)
+        (P.Pages.count pages.new ≡ (P.Pages.limits (P.Pages.below pages.new)).most) }
+{
+    if depth == 0 {
+        return cut_leaf(alloc, pages, number, place);
+    }
+    parted(alloc, pages, number, place, depth - 1)
+}
+
+/// Whether packed pages are one page without cells.
+fn is_bare(packed: &Packed) -> bool
+    ensures alone { IsTrue result → length packed.now.pieces.items ≡ 0 }
+    ensures empty { (node : Node) → IsNode packed.now.last.items 0 node → IsTrue result → count_of node ≡ 0 }
+{
+    let Ok(page) = TreePage::over(packed.last.as_slice(), 0) else {
+        return false;
+    };
+    packed.pieces.is_empty() && page.len() == 0
+}
+
+/// The place itself, or if it is after all, the last one.
+fn place_within(place: usize, len: usize) -> usize
+    ensures within { 1 ≤ len → result < len }
+{
+    if place < len {
+        place
+    } else {
+        len.saturating_sub(1)
+    }
+}
+
+/// What becomes of an interior page when the child at a place of it, a tree of this depth, gives way to packed pages, which are stored. A
+/// child without cells is joined with one beside it.
+fn narrowed<P: WritePages>(
+    alloc: Global,
+    pages: &mut P,
+    number: u32,
+    place: usize,
+    child: u32,
+    packed: &Packed,
+    depth: u32,
+) -> R<Loss>
+    ensures narrowed { IsTrue (P.Pages.tells (P.Pages.below pages.old))
+        → Narrows (P.Pages.map pages.old) (P.Pages.map pages.new) (P.Pages.limits (P.Pages.below pages.old)).page number place child packed.now depth result }
+    ensures kept { P.Pages.below pages.new ≡ P.Pages.below pages.old }
+    ensures causes { Causes result (P.Pages.failures pages.old) (P.Pages.failures pages.new)
+        (P.Pages.count pages.new ≡ (P.Pages.limits (P.Pages.below pages.new)).most) }
+{
+    let fan = store(alloc, pages, &[child], packed)?;
+    if !fan.cells.is_empty() {
+        pages.load(number)?;
+        let spread = fanned(alloc, pages.loaded(), place, &fan)?;
+        return Ok(Loss::Spread(spread));
+    }
+    if !is_bare(packed) {
+        return Ok(Loss::Done);
+    }
+    let len = len_of(pages, number)?;
+    if len == 0 {
+        return Ok(Loss::Done);
+    }
+    let spread = joined(alloc, pages, number, place_within(place, len), depth)?;
+    Ok(Loss::Spread(spread))
+}
+
+/// What becomes of the top of a tree of this depth when an entry is taken out of the tree. All pages below it are stored then.
+/// (`Damaged(Depth, number)` if a way is longer.)
+fn removed_below<P: WritePages>(
+    alloc: Global,
+    pages: &mut P,
+    number: u32,
+    depth: u32,
+    key: Key<'_>,
+    scratch: &mut Vec<u8>,
+) -> R<Loss>
+    ensures lessens { IsTrue (P.Pages.tells (P.Pages.below pages.old))
+        → Lessens (P.Pages.map pages.old) (P.Pages.map pages.new) (P.Pages.limits (P.Pages.below pages.old)).page number depth
+        key.entry.columns.now key.entry.values.now result }
+    ensures kept { P.Pages.below pages.new ≡ P.Pages.below pages.old }
+    ensures causes { Causes result (P.Pages.failures pages.old) (P.Pages.failures pages.new)
+        (P.Pages.count pages.new ≡ (P.Pages.limits (P.Pages.below pages.new)).most) }
+{
+    let (place, child) = match step_from(pages, number, key, scratch)? {
+        Step::Found(place) => {
+            let packed = taken_out(alloc, pages, number, place, depth)?;
+            return Ok(Loss::Spread(packed));
+        }
+        Step::Here(_) => return Ok(Loss::Still),
+        Step::Down(place, child) => (place, child),
+    };
+    if depth == 0 {
+        return Err(Fault::Damaged(Damage::Depth, number));
+    }
+    let loss = removed_below(alloc, pages, child, depth - 1, key, scratch)?;
+    match loss {
+        Loss::Spread(packed) => narrowed(alloc, pages, number, place, child, &packed, depth - 1),
+        Loss::Done => Ok(Loss::Done),
+        Loss::Still => Ok(Loss::Still),
+    }
+}
+
+/// Takes an entry out of the tree under this root, which keeps its number. Answers `false` if there is no such entry: then nothing changes.
+/// A tree whose ways would have more than 20 pages then is built anew. (What the calls of pages refuse, `Full` among them: pages beside the
+/// entry that are joined may need one more; `Damaged` for pages that are none of an index's tree.)
+pub fn remove<P: WritePages>(
+    alloc: Global,
+    pages: &mut P,
+    root: u32,
+    columns: &[Collation],
+    entry: &[Value],
+) -> R<bool>
+    ensures removed { IsTrue (P.Pages.tells (P.Pages.below pages.old))
+        → RemovesEntry (P.Pages.map pages.old) (P.Pages.map pages.new) (P.Pages.limits (P.Pages.below pages.old)).page root columns.now entry.now result }
+    ensures kept { P.Pages.below pages.new ≡ P.Pages.below pages.old }
+    ensures causes { Causes result (P.Pages.failures pages.old) (P.Pages.failures pages.new)
+        (P.Pages.count pages.new ≡ (P.Pages.limits (P.Pages.below pages.new)).most) }
+{
+    let depth = depth_below(pages, root, WAYS)?;
+    let key = Key {
+        columns,
+        values: entry,
+    };
+    let mut scratch = Vec::new(alloc);
+    match removed_below(alloc, pages, root, depth, key, &mut scratch)? {
+        Loss::Still => Ok(false),
+        Loss::Done => Ok(true),
+        Loss::Spread(packed) => {
+            settle(alloc, pages, root, &packed, depth == WAYS)?;
+            Ok(true)
+        }
+    }
+}

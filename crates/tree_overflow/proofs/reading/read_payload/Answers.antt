@@ -1,0 +1,35 @@
+use Rattle.std.proofs.Common.{◌≡◌, ◌<◌, ◌∙◌, ◌++◌, [], ℕ, take, sym, ap, arith, Some, rules}
+use Rattle.std.specs.Prelude.{min}
+use Rattle.tree_page.specs.Payload.{local_size}
+use Rattle.tree_overflow.proofs.ReadPayloads.{goes_on, read_on}
+use Rattle.tree_overflow.proofs.reading.read_payload.Goals as goal
+use Rattle.tree_overflow.specs.Chains.{next_of}
+
+less_than : (local_len local size : ℕ) → local ≡ min local_len size → (local ≡ size → ⊥) → local < size
+less_than local_len local size is other = omega (arith, is, other)
+
+the_number : (m n : ℕ) → Some m ≡ Some n → m ≡ n
+the_number m n e = cc
+
+pub returns-in_default-clause-read : goal.returns-in_default-clause-read
+returns-in_default-clause-read g c = λ told payload chain whole is long.
+    (let pages = g.P.Pages in
+    let map = pages.map c.args.pages.now in
+    let usable = (pages.limits (pages.below c.args.pages.now)).page in
+    let local : c.min-local.result ≡ min (local_size usable c.args.most c.args.size) c.args.size = c.min-local.ensures ∙ ap (λ (n : ℕ). min n c.args.size) (c.local_len.ensures ∙ ap (λ (n : ℕ). local_size n c.args.most c.args.size) c.page_size.ensures) in
+    let less = less_than (local_size usable c.args.most c.args.size) c.min-local.result c.args.size local c.if-local-size.false in
+    let on = goes_on map usable c.args.most c.args.size c.min-local.result c.args.held.now payload chain is long local less in
+    absurd (c.in_default.not-Some (next_of chain) (c.number_in.ensures (next_of chain) [] on.near (c.split_at.ensures.back ∙ on.back))))
+
+pub returns-clause-read : goal.returns-clause-read
+returns-clause-read g c = λ told payload chain whole is long.
+    (let pages = g.P.Pages in
+    let map = pages.map c.args.pages.now in
+    let usable = (pages.limits (pages.below c.args.pages.now)).page in
+    let local : c.min-local.result ≡ min (local_size usable c.args.most c.args.size) c.args.size = c.min-local.ensures ∙ ap (λ (n : ℕ). min n c.args.size) (c.local_len.ensures ∙ ap (λ (n : ℕ). local_size n c.args.most c.args.size) c.page_size.ensures) in
+    let less = less_than (local_size usable c.args.most c.args.size) c.min-local.result c.args.size local c.if-local-size.false in
+    let on = goes_on map usable c.args.most c.args.size c.min-local.result c.args.held.now payload chain is long local less in
+    let first = the_number c.in-Some.first (next_of chain) (c.in-Some.ensures (next_of chain) [] on.near (c.split_at.ensures.back ∙ on.back)) in
+    let put : c.extend_from_slice.new.self.items ≡ c.args.out.now.items ++ take c.min-local.result c.args.held.now = search rules in
+    read_on map usable c.args.most c.args.size c.min-local.result c.in-Some.first c.args.held.now payload chain c.args.out.now.items c.extend_from_slice.new.self.items c.read_chain.new.out.items c.read_chain.result
+    whole long less on (sym first) put (c.read_chain.ensures.read told))

@@ -1,0 +1,16 @@
+pub mod BuildingLemmas
+pub mod CellLemmas
+pub mod Totals
+pub mod Joins
+pub mod FillingLemmas
+pub mod RowLemmas
+pub mod SpreadLemmas
+pub mod SayLemmas
+pub mod DividingLemmas
+pub mod PackLemmas
+pub mod SmallLemmas
+pub mod SplicingLemmas
+pub mod CountLemmas
+pub mod Splices
+pub mod Rooms
+pub mod PlacingLemmas

@@ -1,0 +1,63 @@
+-- One more cell on a page of a tree (Database File Format, "B-tree Pages").
+use Rattle.std.specs.Prelude.{◌≡◌, ◌≤◌, ◌<◌, ◌+◌, ◌-◌, ◌*◌, ◌^◌, ℕ, List, [], ◌∷◌, ◌++◌, length, take, drop, min, IfOk, IfSome, Option, Result}
+use Rattle.std.specs.Global.{Vec}
+use Rattle.std.specs.Int.{w16, to_be_bytes}
+use Rattle.std.specs.List.{AllByRecursion, insert}
+use Rattle.sqlval.specs.declared.fault.Fault.{Fault}
+use Rattle.tree_page.specs.declared.items.Kind.{Kind}
+use Rattle.tree_page.specs.declared.items.Kind.TheVariants.{TableLeaf, TableInterior, IndexLeaf, IndexInterior}
+use Rattle.tree_page.specs.Bytes.{two_bytes}
+use Rattle.tree_page.specs.Node.{Node, IsNode, Say, code_of, right_of}
+
+-- What stands before the page's header is what it was, and the page is as long as it was and says this with these cells.
+pub record IsPlaced (page : List ℕ) (start : ℕ) (cells : List (List ℕ)) (node : Node) (new : List ℕ) : Type 0 where
+  pub is : IsNode new start node
+  pub cells_are : is.cells ≡ cells
+  pub long : length new ≡ length page
+  pub front : take start new ≡ take start page
+
+-- Where a page says a node, and its cells with this one more say another of the same type and with the same last child, a page that is
+-- answered says that one, with these cells.
+abbrev pub Places : List ℕ → ℕ → ℕ → List ℕ → Result (Option (Vec ℕ)) Fault → Type 0
+Places page start place cell result = (old new : Node) (is : IsNode page start old) → length page < 2 ^ 16 → start ≤ 100 → place ≤ length is.cells
+    → code_of new ≡ code_of old → right_of new ≡ right_of old → Say (length page) (insert is.cells place cell) new
+    → IfOk result (λ answer. IfSome answer (λ written. IsPlaced page start (insert is.cells place cell) new written.items))
+
+-- ---- the room on a page
+
+-- how many bytes the last child's number takes
+abbrev pub right_width : Kind → ℕ
+right_width TableLeaf = 0
+right_width TableInterior = 4
+right_width IndexLeaf = 0
+right_width IndexInterior = 4
+
+-- the least of this number and the pointers in these bytes
+abbrev pub least_in : ℕ → List ℕ → ℕ
+least_in most [] = most
+least_in most (high ∷ []) = most
+least_in most (high ∷ low ∷ pointers) = least_in (min most (two_bytes high low)) pointers
+
+-- Between so many pointers, with one more, and this offset there is room for so many bytes.
+pub record HasRoom (page : List ℕ) (start size pointers count low : ℕ) : Type 0 where
+  pub after : start + 8 ≤ pointers
+  pub room : pointers + 2 * count + 2 + size ≤ low
+  pub within : low ≤ length page
+  pub near : low < 2 ^ 16
+  pub few : count + 1 < 2 ^ 16
+
+-- The page has so many cells, with their pointers from here on, and each begins at or after this offset.
+pub record Lies (page : List ℕ) (start : ℕ) (node : Node) (is : IsNode page start node) (pointers count low : ℕ) : Type 0 where
+  pub pointers_are : pointers ≡ start + 8 + length (right_of node)
+  pub count_is : count ≡ length is.cells
+  pub behind : AllByRecursion (λ span. low ≤ span.from) is.page_is.spans
+
+-- The page with a cell before this offset, its pointer at this place among the pointers, and so many cells counted.
+abbrev pub placed_of : List ℕ → ℕ → ℕ → ℕ → ℕ → List ℕ → List ℕ
+placed_of page start middle count low cell =
+    let pointer = to_be_bytes w16 (low - length cell) in
+    take (start + 3) page
+    ++ (to_be_bytes w16 count
+    ++ (pointer
+    ++ (take (middle - (start + 7)) (drop (start + 7) page)
+    ++ (pointer ++ (take (low - length cell - 2 - middle) (drop middle page) ++ (cell ++ drop low page))))))

@@ -1,0 +1,165 @@
+//! Writing one page.
+
+ghost use Rattle.std.specs.Prelude.{◌≡◌, ◌≤◌, ◌<◌, ◌+◌, ◌++◌, ◌↔◌, ◌^◌, ◌-◌, [], ◌∷◌, IsTrue, length, map, reverse, min, IfOk, IfErr, OnOk};
+ghost use Rattle.std.specs.List.{flat_map};
+ghost use Rattle.std.specs.Int.{w16, to_be_bytes};
+ghost use Rattle.tree_page.specs.Cells.{pointer, page_header, IsTreePage};
+ghost use Rattle.tree_page.specs.Reading.{type_of};
+ghost use Rattle.tree_pack.specs.Parts.{total};
+ghost use Rattle.tree_pack.specs.Building.{Fits, cell_room, right_room, right_bytes, spans_below, content_of, page_of};
+
+use sqlval::{Fault, R};
+use std::alloc::{AllocError, Global};
+use tree_page::Kind;
+
+/// The type of a page of this kind.
+fn type_code(kind: Kind) -> u8
+    ensures { result ≡ type_of kind }
+{
+    match kind {
+        Kind::TableLeaf => 13,
+        Kind::TableInterior => 5,
+        Kind::IndexLeaf => 10,
+        Kind::IndexInterior => 2,
+    }
+}
+
+/// How many bytes stand between the header and the pointers.
+pub(crate) fn right_len(kind: Kind) -> usize
+    ensures { result ≡ right_room kind }
+{
+    match kind {
+        Kind::TableLeaf | Kind::IndexLeaf => 0,
+        Kind::TableInterior | Kind::IndexInterior => 4,
+    }
+}
+
+/// The room that a cell takes, with its pointer.
+pub(crate) fn cell_len(cell: &[u8]) -> usize
+    ensures { result ≡ cell_room cell.now }
+{
+    cell.len() + 2
+}
+
+/// The room that the cells take with their pointers, or `most` if they take more.
+pub(crate) fn room_of(cells: &[&[u8]], most: usize) -> usize
+    ensures { result ≡ min (total (map cell_room (map (λ cell. cell.now) cells.now))) most }
+{
+    let mut room = 0;
+    let mut left = cells;
+    'cells: while let [cell, after @ ..] = left {
+        let size = cell_len(cell);
+        if most - room <= size {
+            return most;
+        }
+        room += size;
+        left = after;
+    }
+    room
+}
+
+/// Whether the cells fit a page of this kind and size whose header begins at `start`.
+pub fn fits(page_size: usize, start: usize, kind: Kind, cells: &[&[u8]]) -> bool
+    ensures { IsTrue result ↔ Fits page_size start (right_room kind) (map (λ cell. cell.now) cells.now) }
+{
+    if page_size > 65535 || page_size < start {
+        return false;
+    }
+    let used = start + 8 + right_len(kind);
+    used <= page_size && room_of(cells, page_size) <= page_size - used
+}
+
+/// Writes the header of a page with `count` cells, of which the last begins at `content`.
+fn put_header(out: &mut Vec<u8>, kind: Kind, count: usize, content: usize) -> Result<(), AllocError>
+    requires { (count < 2 ^ 16) × (content < 2 ^ 16) }
+    ensures { OnOk result (out.new.items ≡ out.old.items ++ page_header (type_of kind) (0 ∷ 0 ∷ []) count (to_be_bytes w16 content) 0) }
+{
+    let [high, low] = (count as u16).to_be_bytes();
+    let [content_high, content_low] = (content as u16).to_be_bytes();
+    out.extend_from_slice(&[
+        type_code(kind),
+        0,
+        0,
+        high,
+        low,
+        content_high,
+        content_low,
+        0,
+    ])
+}
+
+/// Writes the pointers to cells of which the first ends at `end` and each next one ends where the one before begins.
+fn put_pointers(out: &mut Vec<u8>, end: usize, cells: &[&[u8]]) -> Result<(), AllocError>
+    requires room { total (map length (map (λ cell. cell.now) cells.now)) ≤ end }
+    requires addressed { end < 2 ^ 16 }
+    ensures { OnOk result (out.new.items ≡ out.old.items ++ flat_map pointer (spans_below end (map (λ cell. cell.now) cells.now))) }
+{
+    let mut offset = end;
+    let mut left = cells;
+    'cells: while let [cell, after @ ..] = left {
+        offset -= cell.len();
+        out.extend_from_slice(&(offset as u16).to_be_bytes())?;
+        left = after;
+    }
+    Ok(())
+}
+
+/// Writes the cells, the last one first.
+fn put_cells(out: &mut Vec<u8>, cells: &[&[u8]]) -> Result<(), AllocError>
+    ensures { OnOk result (out.new.items ≡ out.old.items ++ flat_map (λ cell. cell) (reverse (map (λ cell. cell.now) cells.now))) }
+{
+    let mut left = cells;
+    'cells: while let Some(cell) = left.last() {
+        out.extend_from_slice(cell)?;
+        left = &left[..left.len() - 1];
+    }
+    Ok(())
+}
+
+/// The bytes of the page.
+#[tactic(auto, unfolding(crate::specs::Building::page_of))]
+pub(crate) fn write(
+    alloc: Global,
+    front: &[u8],
+    page_size: usize,
+    kind: Kind,
+    right: &[u8],
+    cells: &[&[u8]],
+) -> Result<Vec<u8>, AllocError>
+    requires { Fits page_size (length front.now) (length right.now) (map (λ cell. cell.now) cells.now) }
+    ensures { IfOk result (λ page. page.items ≡ page_of front.now page_size kind right.now (map (λ cell. cell.now) cells.now)) }
+{
+    let content = page_size - (room_of(cells, page_size) - 2 * cells.len());
+    let mut out = Vec::with_capacity(alloc, page_size)?;
+    out.extend_from_slice(front)?;
+    put_header(&mut out, kind, cells.len(), content)?;
+    out.extend_from_slice(right)?;
+    put_pointers(&mut out, page_size, cells)?;
+    out.resize(content, 0)?;
+    put_cells(&mut out, cells)?;
+    Ok(out)
+}
+
+/// The page with these cells, in order: `front`, which stands before its header, the header, the last child of an interior
+/// page, the pointers, zeros, and the cells from the page's end downwards. (`Memory` alone.)
+pub fn build(
+    alloc: Global,
+    front: &[u8],
+    page_size: usize,
+    kind: Kind,
+    right: Option<u32>,
+    cells: &[&[u8]],
+) -> R<Vec<u8>>
+    requires { Fits page_size (length front.now) (length (right_bytes right)) (map (λ cell. cell.now) cells.now) }
+    ensures is { IfOk result (λ page. IsTreePage (type_of kind) page.items (length front.now) (right_bytes right)
+        (map (λ cell. cell.now) cells.now)) }
+    ensures exact { IfOk result (λ page. page.items ≡ page_of front.now page_size kind (right_bytes right)
+        (map (λ cell. cell.now) cells.now)) }
+    ensures size { IfOk result (λ page. length page.items ≡ page_size) }
+    ensures refused { IfErr result (λ fault. fault ≡ Fault.Memory) }
+{
+    match right {
+        Some(child) => Ok(write(alloc, front, page_size, kind, &child.to_be_bytes(), cells)?),
+        None => Ok(write(alloc, front, page_size, kind, &[], cells)?),
+    }
+}

@@ -1,0 +1,134 @@
+//! Putting a cell into the room between the pointers and the other cells.
+
+ghost use Rattle.std.specs.Prelude.{◌≡◌, ◌≤◌, ◌<◌, ◌+◌, ◌*◌, ◌^◌, IfOk, IfErr, IfSome, length};
+ghost use Rattle.tree_page.specs.Node.{Node, IsNode};
+ghost use Rattle.tree_pack.specs.Placing.{Places, HasRoom, Lies, least_in, placed_of, right_width};
+
+use sqlval::{Fault, R};
+use std::alloc::{AllocError, Global};
+use tree_page::{Kind, TreePage};
+
+/// How many bytes stand between the header and the pointers.
+fn right_len(kind: Kind) -> usize
+    ensures value { result ≡ right_width kind }
+    ensures small { result ≤ 4 }
+{
+    match kind {
+        Kind::TableLeaf | Kind::IndexLeaf => 0,
+        Kind::TableInterior | Kind::IndexInterior => 4,
+    }
+}
+
+/// Whether this number stands in the two bytes at an offset.
+fn stands_at(page: &[u8], at: usize, number: u16) -> bool {
+    match page.get(at..) {
+        Some(bytes) => bytes.starts_with(&number.to_be_bytes()),
+        None => false,
+    }
+}
+
+/// The least of these pointers, or `most` if none is less.
+fn least_pointer(pointers: &[u8], most: usize) -> usize
+    ensures value { result ≡ least_in most pointers.now }
+    ensures within { result ≤ most }
+{
+    let mut least = most;
+    let mut left = pointers;
+    'pointers: while let [high, low, after @ ..] = left {
+        least = least.min(usize::from(u16::from_be_bytes([*high, *low])));
+        left = after;
+    }
+    least
+}
+
+/// Where a cell has room.
+#[derive(Clone, Copy)]
+struct Room {
+    /// Where the pointers begin.
+    pointers: usize,
+    /// How many there are.
+    count: usize,
+    /// Where the first of the other cells begins.
+    low: usize,
+}
+
+/// The room for a cell of so many bytes between the pointers and the other cells, if there is so much. None where the header says
+/// that the cells begin elsewhere: something else may lie there then.
+fn find_room(page: &[u8], start: usize, size: usize) -> Option<Room>
+    ensures room { IfSome result (λ room. HasRoom page.now start size room.pointers room.count room.low) }
+    ensures lies { (node : Node) (is : IsNode page.now start node)
+        → IfSome result (λ room. Lies page.now start node is room.pointers room.count room.low) }
+{
+    let Ok(tree) = TreePage::over(page, start) else {
+        return None;
+    };
+    let count = tree.len();
+    if page.len() < start || count >= 65535 {
+        return None;
+    }
+    let pointers = start + 8 + right_len(tree.kind());
+    let end = pointers + 2 * count;
+    let low = least_pointer(page.get(pointers..end)?, page.len());
+    let is_first = stands_at(page, start + 5, u16::try_from(low).ok()?);
+    if !is_first || low < end + 2 || low - (end + 2) < size {
+        return None;
+    }
+    Some(Room {
+        pointers,
+        count,
+        low,
+    })
+}
+
+/// The page with a cell before the offset `low`, with its pointer at `middle`, and `count` cells counted. (`Memory` alone.)
+fn write(
+    alloc: Global,
+    page: &[u8],
+    start: usize,
+    middle: usize,
+    count: u16,
+    low: usize,
+    cell: &[u8],
+) -> Result<Vec<u8>, AllocError>
+    requires header { start + 7 ≤ middle }
+    requires room { middle + 2 + length cell.now ≤ low }
+    requires within { low ≤ length page.now }
+    requires near { low < 2 ^ 16 }
+    ensures { IfOk result (λ written. written.items ≡ placed_of page.now start middle count low cell.now) }
+{
+    let at = low - cell.len();
+    let pointer = (at as u16).to_be_bytes();
+    let mut out = Vec::with_capacity(alloc, page.len())?;
+    out.extend_from_slice(&page[..start + 3])?;
+    out.extend_from_slice(&count.to_be_bytes())?;
+    out.extend_from_slice(&pointer)?;
+    out.extend_from_slice(&page[start + 7..middle])?;
+    out.extend_from_slice(&pointer)?;
+    out.extend_from_slice(&page[middle..at - 2])?;
+    out.extend_from_slice(cell)?;
+    out.extend_from_slice(&page[low..])?;
+    Ok(out)
+}
+
+/// The page with one cell more, before which stand as many as `place` says, in the room between the pointers and the other cells.
+/// None where there isn't so much room, or where something else may lie there. (`Memory`.)
+pub fn place_cell(
+    alloc: Global,
+    page: &[u8],
+    start: usize,
+    place: usize,
+    cell: &[u8],
+) -> R<Option<Vec<u8>>>
+    ensures placed { Places page.now start place cell.now result }
+    ensures refused { IfErr result (λ fault. fault ≡ Fault.Memory) }
+{
+    let Some(room) = find_room(page, start, cell.len()) else {
+        return Ok(None);
+    };
+    if room.count < place {
+        return Ok(None);
+    }
+    let middle = room.pointers + 2 * place;
+    let count = (room.count + 1) as u16;
+    Ok(Some(write(alloc, page, start, middle, count, room.low, cell)?))
+}

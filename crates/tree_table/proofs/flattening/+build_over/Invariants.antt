@@ -1,0 +1,4 @@
+use Rattle.tree_table.proofs.flattening.+build_over.Given as goal
+
+abbrev pub decreases-build_over : goal.decreases-build_over
+decreases-build_over g l = l.levels

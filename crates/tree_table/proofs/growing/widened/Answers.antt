@@ -1,0 +1,63 @@
+use Rattle.std.proofs.Common.{rules, ◌≡◌, ◌∙◌, IsTrue, suc, Ok, Err, inl, sym, subst}
+use Rattle.pages.specs.Map.{page_at, IsThere}
+use Rattle.tree_table.specs.Growing.{IsWidened}
+use Rattle.tree_table.specs.declared.growing.Change.TheVariants.{Spread}
+use Rattle.tree_table.proofs.Exits.{full_err, outside_full, widened_since, no_cells}
+use Rattle.tree_table.proofs.Widening.{store_refused, widened_same, page_there, widened_spread}
+use Rattle.tree_table.proofs.growing.widened.Goals as goal
+
+pub returns-in_err-fan-clause-widened : goal.returns-in_err-fan-clause-widened
+returns-in_err-fan-clause-widened g c = λ told old ways rowid edit depth low t high free under at child gives.
+    (let pages = g.P.Pages in
+    let mid = pages.map c.args.pages.now in
+    let size = (pages.limits (pages.below c.args.pages.now)).page in
+    let new = pages.map c.store.new.pages in
+    let fault = c.in_err-fan.field-0.0 in
+    full_err (IsWidened old new size c.args.number (suc ways) edit (suc depth) low t high free) c.from_residual.result fault c.from_residual.ensures.1
+    (store_refused old size c.args.number ways rowid edit depth low t high free under c.args.place c.args.child at child mid c.args.packed.now c.args.deep gives new fault (c.in_err-fan.ensures.stored told)))
+
+pub returns-then-is_empty-clause-widened : goal.returns-then-is_empty-clause-widened
+returns-then-is_empty-clause-widened g c = λ told old ways rowid edit depth low t high free under at child gives.
+    (let pages = g.P.Pages in
+    let mid = pages.map c.args.pages.now in
+    let size = (pages.limits (pages.below c.args.pages.now)).page in
+    let new = pages.map c.store.new.pages in
+    widened_same old size c.args.number ways rowid edit depth low t high free under c.args.place c.args.child at child mid c.args.packed.now c.args.deep gives new c.in_ok-fan.fan (c.in_ok-fan.ensures.stored told)
+    (no_cells c.in_ok-fan.fan (search rules)))
+
+pub returns-in_err-load-clause-widened : goal.returns-in_err-load-clause-widened
+returns-in_err-load-clause-widened g c = λ told old ways rowid edit depth low t high free under at child gives.
+    (let pages = g.P.Pages in
+    let mid = pages.map c.args.pages.now in
+    let size = (pages.limits (pages.below c.args.pages.now)).page in
+    let new = pages.map c.store.new.pages in
+    let told_new = subst (λ k. IsTrue (pages.tells k)) (sym c.in_ok-fan.ensures.kept) told in
+    outside_full (IsWidened old (pages.map c.load.new.self) size c.args.number (suc ways) edit (suc depth) low t high free) c.from_residual-in_err-load.result c.in_err-load.field-0.0 c.from_residual-in_err-load.ensures.1
+    (c.in_err-load.ensures.refusal told_new (subst (λ k. IsThere new (pages.limits k).page c.args.number) (sym c.in_ok-fan.ensures.kept)
+    (page_there old size c.args.number ways rowid edit depth low t high free under c.args.place c.args.child at child mid c.args.packed.now c.args.deep gives new c.in_ok-fan.fan (c.in_ok-fan.ensures.stored told)))))
+
+pub returns-in_err-packed-clause-widened : goal.returns-in_err-packed-clause-widened
+returns-in_err-packed-clause-widened g c = λ told old ways rowid edit depth low t high free under at child gives.
+    (let pages = g.P.Pages in
+    let mid = pages.map c.args.pages.now in
+    let size = (pages.limits (pages.below c.args.pages.now)).page in
+    let new = pages.map c.store.new.pages in
+    let told_new = subst (λ k. IsTrue (pages.tells k)) (sym c.in_ok-fan.ensures.kept) told in
+    let bytes : c.loaded.result.now ≡ page_at new c.args.number = c.loaded.ensures ∙ c.in_ok-load.ensures.bytes told_new in
+    let fault = c.in_err-packed.field-0.0 in
+    full_err (IsWidened old (pages.map c.load.new.self) size c.args.number (suc ways) edit (suc depth) low t high free) c.from_residual-in_err-packed.result fault c.from_residual-in_err-packed.ensures.1
+    (inl (inl (widened_spread old size c.args.number ways rowid edit depth low t high free under c.args.place c.args.child at child mid c.args.packed.now c.args.deep gives new c.in_ok-fan.fan (c.in_ok-fan.ensures.stored told)
+    c.loaded.result.now c.start_of.result (Err fault) bytes c.start_of.ensures c.in_err-packed.ensures.fans))))
+
+pub returns-clause-widened : goal.returns-clause-widened
+returns-clause-widened g c = λ told old ways rowid edit depth low t high free under at child gives.
+    (let pages = g.P.Pages in
+    let mid = pages.map c.args.pages.now in
+    let size = (pages.limits (pages.below c.args.pages.now)).page in
+    let new = pages.map c.store.new.pages in
+    let told_new = subst (λ k. IsTrue (pages.tells k)) (sym c.in_ok-fan.ensures.kept) told in
+    let bytes : c.loaded.result.now ≡ page_at new c.args.number = c.loaded.ensures ∙ c.in_ok-load.ensures.bytes told_new in
+    let packed = c.in_ok-packed.packed in
+    widened_since old new (pages.map c.load.new.self) size c.args.number (suc ways) edit (suc depth) low t high free (Spread packed c.args.deep) (c.in_ok-load.ensures.stays).same
+    (widened_spread old size c.args.number ways rowid edit depth low t high free under c.args.place c.args.child at child mid c.args.packed.now c.args.deep gives new c.in_ok-fan.fan (c.in_ok-fan.ensures.stored told)
+    c.loaded.result.now c.start_of.result (Ok packed) bytes c.start_of.ensures c.in_ok-packed.ensures.fans))

@@ -1,0 +1,253 @@
+//! Changing a run of rows, those that stand on one leaf of a table's tree.
+
+ghost use Rattle.std.specs.Prelude.{◌≡◌, ◌<◌, ◌≤◌, length, map, IsTrue, IfOk, IfErr};
+ghost use Rattle.sqlval.specs.Faults.{IsNotDiskFault};
+ghost use Rattle.pages.specs.Calls.{Causes};
+ghost use Rattle.tree_table.specs.Runs.{AppendsRow, ChangesBelow, ChangesLeaf, Exchanges, FindsPlace, FindsRun, FreesRun, IsFirst, room_for, WritesRow, WritesRows};
+
+use crate::changing::RowChange;
+use crate::descending::{Step, look, step_from};
+use crate::freeing::free_row;
+use crate::growing::Change;
+use crate::joining::narrowed;
+use crate::leaf::start_of;
+use pages::WritePages;
+use sqlval::{Damage, Fault, R};
+use std::alloc::Global;
+use tree_overflow::write_payload;
+use tree_pack::{Packed, row_cell, splice};
+use tree_page::TreePage;
+
+/// How much room the row's new cell takes at most on a page of this size.
+fn room_for(change: &RowChange, size: usize) -> usize
+    ensures { result ≡ room_for size change.now }
+{
+    match &change.payload {
+        None => 0,
+        Some(payload) => payload.len().min(size.saturating_sub(35)) + 24,
+    }
+}
+
+/// The place of a change's row on a leaf of these bytes, if it stands there after a place and its new cell takes no more than this room.
+/// (`Damaged` for another page.)
+fn next_place(
+    bytes: &[u8],
+    start: usize,
+    last: usize,
+    room: usize,
+    change: &RowChange,
+) -> R<Option<usize>>
+    ensures found { FindsPlace bytes.now start last room change.now result }
+    ensures not_disk { IfErr result IsNotDiskFault }
+{
+    match look(bytes, start, change.rowid)? {
+        Step::Found(place) => {
+            if last < place && room_for(change, bytes.len()) <= room {
+                return Ok(Some(place));
+            }
+            Ok(None)
+        }
+        _ => Ok(None),
+    }
+}
+
+/// The places on a leaf of these bytes of the rows of the first changes: of the first one, and of those after it as long as their rows stand
+/// there at rising places and the new cells take no more than a page's room together. (`Memory`; `Damaged` for another page.)
+fn run_in(
+    alloc: Global,
+    bytes: &[u8],
+    start: usize,
+    place: usize,
+    changes: &[RowChange],
+) -> R<Vec<usize>>
+    ensures found { FindsRun bytes.now start place changes.now result }
+    ensures few { IfOk result (λ places. 0 < length changes.now → (0 < length places.items) × (length places.items ≤ length changes.now)) }
+    ensures not_disk { IfErr result IsNotDiskFault }
+{
+    let mut places = Vec::new(alloc);
+    let Some((first, rest)) = changes.split_first() else {
+        return Ok(places);
+    };
+    places.push(place)?;
+    let mut last = place;
+    let mut room = bytes.len().saturating_sub(room_for(first, bytes.len()));
+    'changes: for change in rest {
+        let Some(next) = next_place(bytes, start, last, room, change)? else {
+            return Ok(places);
+        };
+        places.push(next)?;
+        last = next;
+        room = room.saturating_sub(room_for(change, bytes.len()));
+    }
+    Ok(places)
+}
+
+/// Gives the pages back over which the rows at these places of a leaf go on. (What `free_row` refuses.)
+fn free_run<P: WritePages>(alloc: Global, pages: &mut P, leaf: u32, places: &[usize]) -> R<()>
+    ensures freed { IsTrue (P.Pages.tells (P.Pages.below pages.old))
+        → FreesRun (P.Pages.map pages.old) (P.Pages.map pages.new) (P.Pages.limits (P.Pages.below pages.old)).page leaf places.now result }
+    ensures kept { P.Pages.below pages.new ≡ P.Pages.below pages.old }
+    ensures causes { Causes result (P.Pages.failures pages.old) (P.Pages.failures pages.new) ⊥ }
+{
+    'places: for place in places {
+        free_row(alloc, pages, leaf, *place)?;
+    }
+    Ok(())
+}
+
+/// Writes a row's new payload, and answers its cell; nothing if the row is removed. (What `write_payload` refuses.)
+fn write_row<P: WritePages>(alloc: Global, pages: &mut P, change: &RowChange) -> R<Option<Vec<u8>>>
+    ensures written { IsTrue (P.Pages.tells (P.Pages.below pages.old))
+        → WritesRow (P.Pages.map pages.old) (P.Pages.map pages.new) (P.Pages.limits (P.Pages.below pages.old)).page change.now result }
+    ensures kept { P.Pages.below pages.new ≡ P.Pages.below pages.old }
+    ensures causes { Causes result (P.Pages.failures pages.old) (P.Pages.failures pages.new)
+        (P.Pages.count pages.new ≡ (P.Pages.limits (P.Pages.below pages.new)).most) }
+{
+    let Some(payload) = &change.payload else {
+        return Ok(None);
+    };
+    let most = pages.page_size().saturating_sub(35);
+    let held = write_payload(alloc, pages, most, payload.as_slice())?;
+    let cell = row_cell(alloc, change.rowid, payload.len() as u64, held.as_slice())?;
+    Ok(Some(cell))
+}
+
+/// Writes the new payloads of rows, and answers their cells. (What `write_row` refuses.)
+fn write_rows<P: WritePages>(
+    alloc: Global,
+    pages: &mut P,
+    changes: &[RowChange],
+) -> R<Vec<Option<Vec<u8>>>>
+    ensures written { IsTrue (P.Pages.tells (P.Pages.below pages.old))
+        → WritesRows (P.Pages.map pages.old) (P.Pages.map pages.new) (P.Pages.limits (P.Pages.below pages.old)).page changes.now result }
+    ensures counted { IfOk result (λ cells. length cells.items ≡ length changes.now) }
+    ensures kept { P.Pages.below pages.new ≡ P.Pages.below pages.old }
+    ensures causes { Causes result (P.Pages.failures pages.old) (P.Pages.failures pages.new)
+        (P.Pages.count pages.new ≡ (P.Pages.limits (P.Pages.below pages.new)).most) }
+{
+    let mut cells = Vec::with_capacity(alloc, changes.len())?;
+    'changes: for change in changes {
+        let cell = write_row(alloc, pages, change)?;
+        cells.push(cell)?;
+    }
+    Ok(cells)
+}
+
+/// Appends the cells of a page from one place up to another, and then this cell, if there is one. (`Memory`; `Damaged(Cell, 0)` if the page
+/// has no such cells.)
+fn append_row<'a>(
+    out: &mut Vec<&'a [u8]>,
+    page: &TreePage<'a>,
+    from: usize,
+    to: usize,
+    cell: &'a Option<Vec<u8>>,
+) -> R<()>
+    ensures put { AppendsRow page.now from to cell.now (map (λ cell. cell.now) out.old.items) (map (λ cell. cell.now) out.new.items) result }
+    ensures not_disk { IfErr result IsNotDiskFault }
+{
+    let mut index = from;
+    'cells: while index < to {
+        out.push(page.cell(index)?)?;
+        index += 1;
+    }
+    if let Some(cell) = cell {
+        out.push(cell.as_slice())?;
+    }
+    Ok(())
+}
+
+/// The pages that a leaf gives way to when the rows at these places get these cells, or none. (`Memory`; `Damaged` for another page.)
+fn exchange(
+    alloc: Global,
+    bytes: &[u8],
+    start: usize,
+    places: &[usize],
+    cells: &[Option<Vec<u8>>],
+) -> R<Packed>
+    requires { length places.now ≡ length cells.now }
+    ensures exchanged { Exchanges bytes.now start places.now cells.now result }
+    ensures not_disk { IfErr result IsNotDiskFault }
+{
+    let page = TreePage::over(bytes, start)?;
+    let mut all = Vec::new(alloc);
+    let mut from = 0;
+    'places: for index in 0..places.len() {
+        append_row(&mut all, &page, from, places[index], &cells[index])?;
+        from = places[index].saturating_add(1);
+    }
+    splice(alloc, bytes, start, 0, from, all.as_slice(), None)
+}
+
+/// The pages that a leaf gives way to when the rows of a run are changed, the first of which stands at this place, and how many changes were
+/// made. The old rows' overflow pages are given back, the new payloads are written, the pages aren't.
+fn changed_leaf<P: WritePages>(
+    alloc: Global,
+    pages: &mut P,
+    number: u32,
+    place: usize,
+    changes: &[RowChange],
+) -> R<(usize, Packed)>
+    requires { 0 < length changes.now }
+    ensures changed { IsTrue (P.Pages.tells (P.Pages.below pages.old))
+        → ChangesLeaf (P.Pages.map pages.old) (P.Pages.map pages.new) (P.Pages.limits (P.Pages.below pages.old)).page number place changes.now result }
+    ensures some { IfOk result (λ done. (0 < done.0) × (done.0 ≤ length changes.now)) }
+    ensures kept { P.Pages.below pages.new ≡ P.Pages.below pages.old }
+    ensures causes { Causes result (P.Pages.failures pages.old) (P.Pages.failures pages.new)
+        (P.Pages.count pages.new ≡ (P.Pages.limits (P.Pages.below pages.new)).most) }
+{
+    pages.load(number)?;
+    let places = run_in(alloc, pages.loaded(), start_of(number), place, changes)?;
+    free_run(alloc, pages, number, places.as_slice())?;
+    let count = places.len();
+    let cells = write_rows(alloc, pages, &changes[..count])?;
+    pages.load(number)?;
+    let packed = exchange(
+        alloc,
+        pages.loaded(),
+        start_of(number),
+        places.as_slice(),
+        cells.as_slice(),
+    )?;
+    Ok((count, packed))
+}
+
+/// What becomes of a page in whose tree the rows of a run are changed, the first of which has this rowid, where as many more pages as `ways`
+/// may stand on a way below it; and how many changes were made. All pages below it are stored then. (`Damaged(Depth, number)` if a way is
+/// longer.)
+pub(crate) fn changed_below<P: WritePages>(
+    alloc: Global,
+    pages: &mut P,
+    number: u32,
+    ways: u32,
+    rowid: i64,
+    changes: &[RowChange],
+) -> R<(usize, Change)>
+    requires { IsFirst rowid changes.now }
+    ensures changed { IsTrue (P.Pages.tells (P.Pages.below pages.old))
+        → ChangesBelow (P.Pages.map pages.old) (P.Pages.map pages.new) (P.Pages.limits (P.Pages.below pages.old)).page number ways rowid changes.now result }
+    ensures some { IfOk result (λ done. (0 < done.0) × (done.0 ≤ length changes.now)) }
+    ensures kept { P.Pages.below pages.new ≡ P.Pages.below pages.old }
+    ensures causes { Causes result (P.Pages.failures pages.old) (P.Pages.failures pages.new)
+        (P.Pages.count pages.new ≡ (P.Pages.limits (P.Pages.below pages.new)).most) }
+{
+    let (place, child) = match step_from(pages, number, rowid)? {
+        Step::Found(place) => {
+            let (count, packed) = changed_leaf(alloc, pages, number, place, changes)?;
+            return Ok((count, Change::Spread(packed, ways == 0)));
+        }
+        Step::Here(_) => return Ok((1, Change::Still)),
+        Step::Down(place, child) => (place, child),
+    };
+    if ways == 0 {
+        return Err(Fault::Damaged(Damage::Depth, number));
+    }
+    let (count, change) = changed_below(alloc, pages, child, ways - 1, rowid, changes)?;
+    match change {
+        Change::Spread(packed, deep) => {
+            let change = narrowed(alloc, pages, number, place, child, &packed, deep)?;
+            Ok((count, change))
+        }
+        Change::Same => Ok((count, Change::Same)),
+        Change::Still => Ok((count, Change::Still)),
+    }
+}

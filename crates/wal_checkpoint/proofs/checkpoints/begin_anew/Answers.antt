@@ -1,0 +1,18 @@
+use Rattle.std.proofs.Common.{◌≡◌, ◌∙◌, sym}
+use Rattle.std.proofs.lemmas.Bool.{eqb-true}
+use Rattle.wal.specs.LogState.{state_of}
+use Rattle.wal_checkpoint.proofs.Emptying.{emptying, meanwhile_nothing, restart_emptied}
+use Rattle.wal_checkpoint.proofs.checkpoints.begin_anew.Goals as goal
+
+pub returns-then-not-is_all_copied-clause-crash : goal.returns-then-not-is_all_copied-clause-crash
+returns-then-not-is_all_copied-clause-crash g c may = meanwhile_nothing c.args.log.now may
+
+pub returns-clause-done : goal.returns-clause-done
+returns-clause-done g c may =
+    let all : (state_of c.args.log.now).copied ≡ (state_of c.args.log.now).frames = eqb-true _ _ (sym c.is_all_copied.ensures ∙ c.if-not-is_all_copied.false) in
+    restart_emptied c.args.log.now c.restart.new.self c.restart.result may all c.restart.ensures.same c.restart.ensures.known (c.restart.ensures.done may.told.log)
+
+pub returns-clause-crash : goal.returns-clause-crash
+returns-clause-crash g c may =
+    let all : (state_of c.args.log.now).copied ≡ (state_of c.args.log.now).frames = eqb-true _ _ (sym c.is_all_copied.ensures ∙ c.if-not-is_all_copied.false) in
+    emptying c.args.log.now c.restart.new.self may all c.restart.ensures.same.db (c.restart.ensures.crash may.told.whole may.told.log) (c.restart.ensures.left may.told.whole may.told.log)

@@ -1,6 +1,0 @@
-use Rattle.std.proofs.Common.{refl}
-use Rattle.walframe.proofs.Reading.{finished}
-use Rattle.walframe.proofs.progress.Progress.finish.Goals as goal
-
-pub returns-clause-found : goal.returns-clause-found
-returns-clause-found c log whole = finished c.args.header.now log c.args.self _ c.requires whole c.truncate.ensures.items refl refl
