@@ -29,7 +29,33 @@ def load_rt():
     return made
 
 
+def keep_answers(crate):
+    """Has the kit's crates keep their libraries, and the sums of their files until something is built: the kit goes over them once for each
+    way that leads to a crate, and sums them several times for each library."""
+    below, stamp, call = crate.below, crate.stamp, crate.call
+    libraries, sums = {}, {}
+
+    def kept_below(self):
+        if self.folder not in libraries:
+            libraries[self.folder] = below(self)
+        return list(libraries[self.folder])
+
+    def kept_stamp(self):
+        if self.folder not in sums:
+            sums[self.folder] = stamp(self)
+        return sums[self.folder]
+
+    def call_anew(self, *words):
+        status = call(self, *words)
+        # (a file may have changed meanwhile: the kit compares the sums before and after)
+        sums.clear()
+        return status
+
+    crate.below, crate.stamp, crate.call = kept_below, kept_stamp, call_anew
+
+
 rt = load_rt()
+keep_answers(rt.rtlib.Crate)
 
 
 def say(text):
