@@ -1,17 +1,9 @@
-//! The tests of trees, over pages in memory and on public calls alone.
+//! The tests of trees that no statement makes, over pages in memory and on public calls alone.
 #![tactic(auto)]
 
 #[cfg(test)]
 mod databases;
 #[cfg(test)]
-mod forests;
-#[cfg(test)]
 mod index_ways;
-#[cfg(test)]
-mod keys;
-#[cfg(test)]
-mod removals;
-#[cfg(test)]
-mod tables;
 #[cfg(test)]
 mod ways;
