@@ -19,3 +19,4 @@ pub mod Served
 pub mod Marked
 mod LoadedFiles
 mod OneView
+mod PastLimits

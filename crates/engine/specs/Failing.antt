@@ -1,14 +1,28 @@
 -- What the counts of the two disks' failed calls say of an engine.
-use Rattle.std.specs.Prelude.{◌≤◌, true, IsTrue, IsFalse, Result}
+use Rattle.std.specs.Prelude.{◌≡◌, ◌≤◌, ℕ, List, true, IsTrue, IsFalse, Result, Err}
 use Rattle.disk.specs.declared.device.Disk.{Ghosts}
 use Rattle.sqlval.specs.declared.fault.Fault.{Fault}
+use Rattle.sqlval.specs.declared.fault.Fault.TheVariants.{Full}
+use Rattle.sql_syntax.specs.declared.statement.Statement.{Statement}
+use Rattle.sql_grammar.specs.Texts.{IsStatementText}
 use Rattle.session.specs.ConnectionState.{HasCauseIn}
-use Rattle.session.specs.Failing.{HasCallFailed, MarksFailure}
+use Rattle.session.specs.Failing.{HasCallFailed, IsPastIn, MarksFailure, may_commit}
+use Rattle.session.specs.Machine.{Machine}
+use Rattle.session.specs.Representation.{transaction_of}
+use Rattle.session.specs.Limits.{may_be_full}
 use Rattle.engine.specs.EngineState.{connections_of, db_disk, has_failed_of, log_disk}
-use Rattle.engine.specs.Representation.{files_in}
+use Rattle.engine.specs.Representation.{EngineRepresents, files_in}
 use Rattle.engine.specs.declared.opening.Engine.{Engine}
 
 module _ {D : Type 0} {g : Ghosts D} where
+  -- where the statement may commit, what the connection's transaction has written is past the limits
+  abbrev pub IsPastOnCommit : Engine D g → ℕ → Statement → Type 0
+  IsPastOnCommit engine connection s = (m : Machine) → EngineRepresents engine m → may_commit s ≡ true → IsPastIn (files_in engine) (transaction_of (connections_of engine) connection)
+
+  -- `Full` comes only of a statement that may make the database larger or commit, and where it commits, only past the limits
+  abbrev pub HasFullCause : {T : Type 0} → Engine D g → ℕ → List ℕ → Result T Fault → Type 0
+  HasFullCause engine connection text result = result ≡ Err Full → (s : Statement) × IsStatementText text s × IsTrue (may_be_full s) × IsPastOnCommit engine connection s
+
   -- The answer to a statement: `Io` comes only where a call of a disk failed; of refusals it alone marks the engine as failed, and where it
   -- doesn't, it leaves what readers see.
   pub record CountsFailures {T : Type 0} (result : Result T Fault) (old new : Engine D g) : Type 0 where

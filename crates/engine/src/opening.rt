@@ -23,7 +23,6 @@ ghost use Rattle.sql_syntax.specs.declared.statement.Statement.{Statement};
 ghost use Rattle.sql_grammar.specs.Texts.{IsStatementText};
 ghost use Rattle.session.specs.Seats.{AreFresh, catalog_in};
 ghost use Rattle.executor.specs.Forms as forms;
-ghost use Rattle.session.specs.Limits.{may_be_full};
 
 use crate::creating::is_blank;
 use catalog::Catalog;
@@ -137,7 +136,7 @@ fn load_and_truncate<D: Disk + Drop>(alloc: Global, log: &mut Log<D>) -> R<Seats
 impl<D: Disk + Drop> Engine<D> {
     ghost use Rattle.session.specs.ConnectionState.{IsNoConnection, first_refusal};
     ghost use Rattle.engine.specs.EngineState.{db_disk, has_failed_of, log_disk};
-    ghost use Rattle.engine.specs.Failing.{CountsFailures};
+    ghost use Rattle.engine.specs.Failing.{CountsFailures, HasFullCause};
     ghost use Rattle.session.specs.Holding.{Hold, LeaveHeld};
     ghost use Rattle.engine.specs.Opening.{IsOpenOf, IsOpenedFrom, IsRefusedOpen, db_left, log_left};
     ghost use Rattle.engine.specs.Serving.{GivesUp};
@@ -215,9 +214,8 @@ impl<D: Disk + Drop> Engine<D> {
             → IfOk result (λ _. ⊥) × (self.new ≡ self.old) }
         // What the counts of the two disks' failed calls say of the answer, and of the mark of a failed engine.
         ensures counted { CountsFailures result self.old self.new }
-        // What only reads, begins or rolls back is never refused as `Full`.
-        ensures full { result ≡ Err Fault.Full
-            → (statement : Statement) × IsStatementText text.now statement × IsTrue (may_be_full statement) }
+        // What only reads, begins or rolls back is never refused as `Full`, and a COMMIT, or a RELEASE that commits, only past the limits.
+        ensures full { HasFullCause self.old connection text.now result }
         // The reply to the text is a step of each machine that was represented, and the machine after it is represented then.
         ensures step { StepsByText self.old connection text.now (rows_reply result) self.new }
     {

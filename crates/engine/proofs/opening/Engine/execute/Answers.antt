@@ -9,6 +9,7 @@ use Rattle.sql_parser.proofs.ParseLaws.{one_text}
 use Rattle.sqlval.specs.declared.fault.Fault.{Fault}
 use Rattle.sql_parser.specs.Refusals.{IsTextRefusal}
 use Rattle.engine.proofs.Marked.{check_not_io, for_any, nothing_called}
+use Rattle.engine.proofs.PastLimits.{past_of}
 use Rattle.engine.proofs.Refusing.{full_of, never_answered}
 use Rattle.engine.specs.Representation.{StepsByText}
 use Rattle.engine.proofs.TextSteps.{executed, read_candidate, refused_check, refused_text, text_fault}
@@ -28,7 +29,13 @@ pub returns-clause-counted : goal.returns-clause-counted
 returns-clause-counted g c = record { cause = for_any _ c.execute-rows.result _ _ c.execute-rows.ensures.cause; marks = c.execute-rows.ensures.marks }
 
 pub returns-clause-full : goal.returns-clause-full
-returns-clause-full g c is = (c.in_ok-statement.statement, c.in_ok-statement.ensures.found.0, full_of _ c.execute-rows.result _ _ c.execute-rows.ensures.cause is)
+returns-clause-full g c is =
+    let statement = c.in_ok-statement.statement in (
+      statement,
+      c.in_ok-statement.ensures.found.0,
+      full_of _ c.execute-rows.result _ _ c.execute-rows.ensures.cause is,
+      past_of _ c.args.connection statement c.execute-rows.result (sym c.in_ok-check.ensures) c.execute-rows.ensures.refused is,
+    )
 
 pub returns-clause-unsupported : goal.returns-clause-unsupported
 returns-clause-unsupported g c = λ statement first is unsupported.
