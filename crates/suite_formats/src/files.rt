@@ -4,13 +4,6 @@ use disk::MemDisk;
 use sqlval::R;
 use std::alloc::Global;
 use std::test::*;
-use wal_frame::Salts;
-
-/// The salts of each new log.
-pub const SALTS: Salts = Salts {
-    first: 1,
-    second: 2,
-};
 
 /// So many bytes of one value.
 pub fn filled(alloc: Global, byte: u8, size: usize) -> Result<Vec<u8>, Fail> {

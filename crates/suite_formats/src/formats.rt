@@ -128,43 +128,6 @@ fn headers_are_refused_for_the_first_fault(rt: HostRuntime) {
     assert!(rt; matches!(db_header::read(&bytes), Err(Fault::NotADatabase)));
 }
 
-/// Whether these bytes stand at an offset.
-fn begins_at(bytes: &[u8], offset: usize, wanted: &[u8]) -> bool {
-    offset <= bytes.len() && bytes[offset..].starts_with(wanted)
-}
-
-#[test]
-fn page_one_with_one_table(rt: HostRuntime) -> Result<(), Fail> {
-    let payload = b"\x06\x17\x0f\x0f\x01\x2ftablett\x02CREATE TABLE t(a)";
-    let cell = Cell {
-        rowid: 1,
-        payload: payload.as_slice(),
-    };
-    let front = vec![in rt.alloc(); 7; 100]?;
-    let page = build(rt.alloc(), &front, 512, &[cell])?;
-    assert_eq!(rt; page.len(), 512);
-    assert!(rt; page.starts_with(&front));
-    assert!(rt;
-        begins_at(
-            &page,
-            100,
-            b"\x0d\x00\x00\x00\x01\x01\xdf\x00\x01\xdf".as_slice()
-        )
-    );
-    assert!(rt; begins_at(&page, 479, b"\x1f\x01\x06\x17\x0f\x0f\x01\x2f".as_slice()));
-    assert!(rt; begins_at(&page, 481, payload.as_slice()));
-    Ok(())
-}
-
-#[test]
-fn a_leaf_without_rows(rt: HostRuntime) -> Result<(), Fail> {
-    let front = vec![in rt.alloc(); 0; 100]?;
-    let page = build(rt.alloc(), &front, 512, &[])?;
-    assert_eq!(rt; page.len(), 512);
-    assert!(rt; begins_at(&page, 100, b"\x0d\x00\x00\x00\x00\x02\x00\x00".as_slice()));
-    Ok(())
-}
-
 #[test]
 fn a_long_row_is_refused(rt: HostRuntime) -> Result<(), Fail> {
     let payload = vec![in rt.alloc(); 5; 512]?;

@@ -6,10 +6,6 @@ mod files;
 #[cfg(test)]
 mod formats;
 #[cfg(test)]
-mod frame_index;
-#[cfg(test)]
 mod logs;
 #[cfg(test)]
 mod memory_files;
-#[cfg(test)]
-mod values;

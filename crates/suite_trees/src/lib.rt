@@ -1,9 +1,5 @@
-//! The tests of trees that no statement makes, over pages in memory and on public calls alone.
+//! The tests of calls of trees that no statement makes, over pages in memory and on public calls alone.
 #![tactic(auto)]
 
 #[cfg(test)]
-mod databases;
-#[cfg(test)]
-mod index_ways;
-#[cfg(test)]
-mod ways;
+mod calls;
