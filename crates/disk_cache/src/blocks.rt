@@ -122,7 +122,8 @@ fn fill(alloc: Global, blocks: &mut Vec<Block>, count: usize)
 /// Puts a block in the place of its offset.
 fn put(blocks: &mut Vec<Block>, block: Block)
     ensures few { length blocks.new.items ≡ length blocks.old.items }
-    ensures kept { (content : List ℕ) (end : ℕ) → AreKept content end blocks.old.items → IsKept content end block → AreKept content end blocks.new.items }
+    ensures kept { (content : List ℕ) (end : ℕ) → AreKept content end blocks.old.items → IsKept content end block
+        → AreKept content end blocks.new.items }
 {
     let count = blocks.len();
     if count > 0 {
