@@ -13,7 +13,7 @@ ghost use Rattle.record.specs.Record.{IsRecord};
 ghost use Rattle.tree_page.specs.Cells.{Pairwise};
 ghost use Rattle.tree_index.specs.Entries.{Entry};
 ghost use Rattle.row_search.specs.Finding as finding;
-ghost use Rattle.row_search.specs.Finding.{AddsFirst, AddsRowids, EndsWithRowid, FindsRowids, begins_with, entry_rowid, passing_rowid};
+ghost use Rattle.row_search.specs.Finding.{AddsFirst, AddsRowids, EndsWithRowid, FindsRowids, entry_rowid, passing_rowid};
 
 use crate::ranges::is_within;
 use crate::seeking::seek;
@@ -73,21 +73,12 @@ fn goes_on_in(key: Key<'_>, range: Option<&Range>, entry: &Record<'_>) -> bool
     )
 }
 
-/// Whether an entry begins with a key. (`Memory`.)
-fn is_keyed(alloc: Global, key: Key<'_>, entry: &Record<'_>) -> R<bool>
-    ensures is { IfOk result (λ is. is ≡ begins_with key.entry.columns.now key.entry.values.now entry.now) }
-    ensures refused { IfErr result (λ fault. fault ≡ Fault.Memory) }
+/// Whether an entry begins with a key, and its next value lies in a range, if there is one.
+fn is_sought(key: Key<'_>, range: Option<&Range>, entry: &Record<'_>) -> bool
+    ensures { result
+        ≡ finding.is_sought key.entry.columns.now key.entry.values.now (option_map (λ r. r.now) range.entry) entry.now }
 {
-    Ok(compare_entry(alloc, key, entry)?.is_eq())
-}
-
-/// Whether an entry begins with a key, and its next value lies in a range, if there is one. (`Memory`.)
-fn is_sought(alloc: Global, key: Key<'_>, range: Option<&Range>, entry: &Record<'_>) -> R<bool>
-    ensures is { IfOk result (λ is. is
-        ≡ finding.is_sought key.entry.columns.now key.entry.values.now (option_map (λ r. r.now) range.entry) entry.now) }
-    ensures refused { IfErr result (λ fault. fault ≡ Fault.Memory) }
-{
-    Ok(is_keyed(alloc, key, entry)? && goes_on_in(key, range, entry))
+    compare_entry(key, entry).is_eq() && goes_on_in(key, range, entry)
 }
 
 /// The rowid of the entry of a record, if it is looked for. (`Memory`, and what `Record::over` refuses; `Damaged(Index, root)` for an entry
@@ -105,7 +96,7 @@ fn sought_rowid(
     ensures not_disk { IfErr result IsNotDiskFault }
 {
     let entry = Record::over(alloc, bytes)?;
-    if !is_sought(alloc, key, range, &entry)? {
+    if !is_sought(key, range, &entry) {
         return Ok(None);
     }
     match rowid_of(&entry) {

@@ -52,22 +52,21 @@ fn check_payload<P: Pages>(
     Ok(payload)
 }
 
-/// Whether an entry has a value for each column and a rowid, and comes after the last one. (`Memory`.)
-fn is_next(alloc: Global, columns: &[Collation], last: &[Value], entry: &Record<'_>) -> R<bool>
-    ensures is { IfOk result (λ next. (IsTrue next → IsNext columns.now last.now entry.now) × (IsNext columns.now last.now entry.now → IsTrue next)) }
-    ensures refused { IfErr result (λ fault. fault ≡ Fault.Memory) }
+/// Whether an entry has a value for each column and a rowid, and comes after the last one.
+fn is_next(columns: &[Collation], last: &[Value], entry: &Record<'_>) -> bool
+    ensures { (IsTrue result → IsNext columns.now last.now entry.now) × (IsNext columns.now last.now entry.now → IsTrue result) }
 {
     if entry.len() != columns.len() + 1 {
-        return Ok(false);
+        return false;
     }
     if last.is_empty() {
-        return Ok(true);
+        return true;
     }
     let key = Key {
         columns,
         values: last,
     };
-    Ok(compare_entry(alloc, key, entry)?.is_lt())
+    compare_entry(key, entry).is_lt()
 }
 
 /// The values of a record that is the next entry. (`Damaged(Order, 0)` if it isn't; `Memory`, and what `Record::over` refuses.)
@@ -84,7 +83,7 @@ fn next_values(
 {
     records_hold_their_values();
     let entry = Record::over(alloc, payload)?;
-    if !is_next(alloc, columns, last, &entry)? {
+    if !is_next(columns, last, &entry) {
         return Err(Fault::Damaged(Damage::Order, 0));
     }
     Ok(values_of(alloc, payload)?)

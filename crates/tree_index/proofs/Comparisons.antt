@@ -3,7 +3,7 @@ use Rattle.std.proofs.Common.{◌≡◌, refl, sym, ◌∙◌, ap, subst, IsTrue
 use Rattle.std.specs.declared.cmp.Ordering.{Ordering}
 use Rattle.std.specs.declared.cmp.Ordering.TheVariants.{Less, Equal, Greater}
 use Rattle.std.specs.Ordering.{is_ne, ordering_then}
-use Rattle.std.specs.Prelude.{⊤, min, IfOk, IfErr, IsErrAnd, MatchResult}
+use Rattle.std.specs.Prelude.{⊤, min, IsErrAnd, MatchResult}
 use Rattle.std.proofs.lemmas.Bool.{cases_lt}
 use Rattle.std.proofs.lemmas.List.{length-drop}
 use Rattle.sqlval.specs.Faults.{IsOutside, IsOrMemory}
@@ -149,11 +149,6 @@ same_ok x y e = cc
 -- what was read is the entry
 pub entry_is : (row entry : List Value) → ◌≡◌ {A = Result (List Value) Fault} (Ok entry) (Ok row) → row ≡ entry
 entry_is row entry e = sym (same_ok entry row e)
-
-pub or_memory : (result : Result Ordering Fault) (columns : List Collation) (key row entry : List Value) → row ≡ entry → IfOk result (λ o. o ≡ entry_cmp columns key row) → IfErr result (λ fault. fault ≡ Memory)
-    → IsOrMemory (λ o. o ≡ entry_cmp columns key entry) result
-or_memory (Ok o) columns key row entry same is refused = is ∙ ap (λ (e : List Value). entry_cmp columns key e) same
-or_memory (Err fault) columns key row entry same is refused = refused
 
 pub memory_or : (result : Result Ordering Fault) (fault : Fault) (P : Ordering → Type 0) → IsErrAnd result (λ e. e ≡ fault) → fault ≡ Memory → IsOrMemory P result
 memory_or (Ok o) fault P is memory = absurd is

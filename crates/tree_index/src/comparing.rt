@@ -1,6 +1,6 @@
 //! How an entry compares with those on a page.
 
-ghost use Rattle.std.specs.Prelude.{◌≡◌, ◌≤◌, ◌<◌, List, length, map, IsTrue, IfOk, IfErr};
+ghost use Rattle.std.specs.Prelude.{◌≡◌, ◌≤◌, ◌<◌, List, length, map, IsTrue, IfErr};
 ghost use Rattle.sqlval.specs.Faults.{IsNotDiskFault, IsOrMemory};
 ghost use Rattle.sqlval.specs.Fields.{value_of};
 ghost use Rattle.sqlval.specs.Order.{order as value_order};
@@ -13,7 +13,7 @@ ghost use Rattle.tree_index.specs.Entries.{entry_cmp};
 use crate::cells::{at_page, local_in, most_in};
 use pages::Pages;
 use record::Record;
-use sqlval::{Collation, Fault, Field, R, Value, compare};
+use sqlval::{Collation, Field, R, Value, compare_fields};
 use std::alloc::Global;
 use std::cmp::Ordering;
 use tree_overflow::read_payload;
@@ -35,37 +35,29 @@ fn collation_at(columns: &[Collation], place: usize) -> Collation
     Collation::Binary
 }
 
-/// The order of a value and a field. (`Memory`.)
-fn compare_field(
-    alloc: Global,
-    value: &Value,
-    field: Field<'_>,
-    collation: Collation,
-) -> R<Ordering>
-    ensures is { IfOk result (λ order. order ≡ value_order collation value.now (value_of field.entry)) }
-    ensures refused { IfErr result (λ fault. fault ≡ Fault.Memory) }
+/// The order of a value and a field.
+fn compare_field(value: &Value, field: Field<'_>, collation: Collation) -> Ordering
+    ensures { result ≡ value_order collation value.now (value_of field.entry) }
 {
-    let held = field.to_value(alloc)?;
-    Ok(compare(value, &held, collation))
+    compare_fields(value.as_field(), field, collation)
 }
 
-/// The order of a key and an entry. (`Memory`.)
-pub fn compare_entry(alloc: Global, key: Key<'_>, entry: &Record<'_>) -> R<Ordering>
-    ensures is { IfOk result (λ order. order ≡ entry_cmp key.entry.columns.now key.entry.values.now entry.now) }
-    ensures refused { IfErr result (λ fault. fault ≡ Fault.Memory) }
+/// The order of a key and an entry.
+pub fn compare_entry(key: Key<'_>, entry: &Record<'_>) -> Ordering
+    ensures { result ≡ entry_cmp key.entry.columns.now key.entry.values.now entry.now }
 {
     let most = key.values.len().min(entry.len());
     'values: for place in 0..most {
         if place > key.columns.len() {
-            return Ok(Ordering::Equal);
+            return Ordering::Equal;
         }
         let collation = collation_at(key.columns, place);
-        let order = compare_field(alloc, &key.values[place], entry.column(place), collation)?;
+        let order = compare_field(&key.values[place], entry.column(place), collation);
         if order.is_ne() {
-            return Ok(order);
+            return order;
         }
     }
-    Ok(Ordering::Equal)
+    Ordering::Equal
 }
 
 /// The order of a key and the entry of a payload. (`Memory`, and what `Record::over` refuses.)
@@ -75,7 +67,7 @@ fn compare_payload(alloc: Global, key: Key<'_>, payload: &[u8]) -> R<Ordering>
     ensures not_disk { IfErr result IsNotDiskFault }
 {
     let entry = Record::over(alloc, payload)?;
-    compare_entry(alloc, key, &entry)
+    Ok(compare_entry(key, &entry))
 }
 
 /// The order of a key and the entry at a place of a page: from the page if its payload lies whole there, else from `scratch`, which it is read

@@ -1,4 +1,6 @@
-use Rattle.tree_index.proofs.Comparisons.{memory_alone, memory_or, entry_is, or_memory}
+use Rattle.std.proofs.Common.{ap, ◌∙◌}
+use Rattle.tree_index.specs.Entries.{entry_cmp}
+use Rattle.tree_index.proofs.Comparisons.{entry_is, memory_alone, memory_or}
 use Rattle.tree_index.proofs.comparing.compare_payload.Goals as goal
 
 pub returns-in_err-entry-clause-only : goal.returns-in_err-entry-clause-only
@@ -7,4 +9,4 @@ returns-in_err-entry-clause-only c = λ entry is.
 
 pub returns-clause-only : goal.returns-clause-only
 returns-clause-only c = λ entry is.
-    or_memory c.compare_entry.result c.args.key.columns.now c.args.key.values.now _ entry (entry_is _ entry (c.in_ok-entry.ensures.only entry is)) c.compare_entry.ensures.is c.compare_entry.ensures.refused
+    c.compare_entry.ensures ∙ ap (entry_cmp c.args.key.columns.now c.args.key.values.now) (entry_is _ entry (c.in_ok-entry.ensures.only entry is))
