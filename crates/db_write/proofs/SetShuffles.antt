@@ -1,13 +1,15 @@
 -- What SET leaves of a table's rows: those that aren't meant stay, and what the others become comes.
-use Rattle.std.proofs.Common.{◌≡◌, refl, sym, ap, subst, ◌∙◌, ℕ, Bool, true, false, cond, not, filter, List, [], ◌∷◌, map, Option, Some, None, if◌then◌else◌, Ok, Err}
+use Rattle.std.proofs.Common.{◌≡◌, refl, sym, ap, subst, ◌∙◌, ℕ, ℤ, Bool, true, false, cond, not, filter, List, [], ◌∷◌, map, Option, Some, None, if◌then◌else◌, Ok, Err}
 use Rattle.sqlval.specs.Refusals.{Answer, Refusal, ◌then◌, all_answers}
+use Rattle.sqlval.specs.declared.value.Value.{Value}
 use Rattle.catalog.specs.declared.tables.Column.{Column}
 use Rattle.query_terms.specs.Terms.{Term}
 use Rattle.row_scan.specs.Rows.{TableRow}
 use Rattle.row_scan.specs.Sources.{as_source}
 use Rattle.row_change.specs.Choosing.{is_chosen, tested}
 use Rattle.row_change.specs.Meaning.{chosen_or_all}
-use Rattle.row_change.specs.Setting.{row_set, rows_changed, rows_meant_set, rows_set}
+use Rattle.row_change.specs.Setting.{row_set, rows_changed, rows_meant_set, rows_set, values_set}
+use Rattle.index_entries.specs.Replacing.{rowids}
 use Rattle.row_change.proofs.Replaced.{made}
 use Rattle.row_change.proofs.SetTrees.{changed_known, meant_by}
 use Rattle.db_write.proofs.Shuffling.{Shuffles, no_rows, one_comes, one_stays}
@@ -74,6 +76,28 @@ module _ (columns : List Column) (sets : List (ℕ × Term)) (c : Option Term) w
   changed_shuffle rows come now e h =
       let known = changed_known columns sets c rows come e in
       set_shuffles columns sets (meant_by c) rows come now known.0 (sym known.1 ∙ h)
+
+-- ---- rowids
+
+module _ (columns : List Column) (sets : List (ℕ × Term)) where
+  -- a row that is set keeps its rowid
+  row_kept : (row now : TableRow) → row_set columns sets row ≡ Ok now → row.0 ≡ now.0
+  row_kept row now e = by (values_set columns sets (as_source row)) e
+    where
+      by : (a : Answer (List Value)) → (a then λ values. given_row (row.0, values)) ≡ Ok now → row.0 ≡ now.0
+      by (Ok values) h = ap (λ (r : TableRow). r.0) (same_row (row.0, values) now h)
+      by (Err r) h = absurd cc
+
+  all_kept : (rows come : List TableRow) → all_answers (map (row_set columns sets) rows) ≡ Ok come → rowids rows ≡ rowids come
+  all_kept [] come e = ap rowids (same_rows [] come e)
+  all_kept (row ∷ rows) come e =
+      let p = parts_of (row_set columns sets row) (all_answers (map (row_set columns sets) rows)) come e in
+      ap (λ (n : ℤ). n ∷ rowids rows) (row_kept row p.row p.first_is) ∙ ap (λ (ns : List ℤ). p.row.0 ∷ ns) (all_kept rows p.more p.more_is) ∙ ap rowids p.are
+
+-- those that are meant keep their rowids
+pub rowids_kept : (columns : List Column) (sets : List (ℕ × Term)) (c : Option Term) (rows come : List TableRow) → rows_changed columns sets c (map as_source rows) ≡ Ok come
+    → rowids (filter (meant_by c) rows) ≡ rowids come
+rowids_kept columns sets c rows come e = all_kept columns sets (filter (meant_by c) rows) come (changed_known columns sets c rows come e).0
 
 -- ---- the rows that are meant
 

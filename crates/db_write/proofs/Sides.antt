@@ -15,8 +15,9 @@ use Rattle.catalog.specs.declared.tables.Index.{Index}
 use Rattle.row_scan.specs.Rows.{TableRow}
 use Rattle.index_entries.specs.Entries.{Columns, collations, entries_of_rows}
 use Rattle.index_entries.specs.Keeping.{AddsEntries, TakesEntries, Turns}
+use Rattle.index_entries.specs.Replacing.{ReplacesEntries}
 use Rattle.db_layout.specs.Trees.{IsEntriesTree, columns_of}
-use Rattle.db_write.specs.Turning.{AddsToIndexes, AreEntriesStorable, AreLeft, CanBeIndexed, ClearsIndexes, FreesIndexes, HaveEntries, HaveNow, TakesFromIndexes, TurnIndexes}
+use Rattle.db_write.specs.Turning.{AddsToIndexes, AreEntriesStorable, AreLeft, CanBeIndexed, ClearsIndexes, FreesIndexes, HaveEntries, HaveNow, ReplacesInIndexes, TakesFromIndexes, TurnIndexes}
 use Rattle.db_write.proofs.Among.{entries_stand, entries_tree, is_entries_tree, keeps_all, keeps_then, one_gone, one_replaced, regrouped}
 
 -- ---- one index among others
@@ -146,6 +147,31 @@ module _ (old mid : PageMap) (size : ℕ) (index : Index) (rest : List Index) (g
 
   pub takes_stop : (fault : Fault) (result : Result ⊤ Fault) → IsErrAnd result (λ e. e ≡ fault) → TakesEntries old mid size index.root (columns_of index) gone (Err fault) → TakesFromIndexes old mid size (index ∷ rest) gone result
   takes_stop fault result same first rows apart = turn_stop old mid size index rest (rows ++ gone) rows IsOutsideOrFull IsOutsideOrFull fault result same (first rows apart) (λ why. why)
+
+-- ---- rows that take others' places
+
+pub replaces_none : (pages : PageMap) (size : ℕ) (gone come : List TableRow) → ReplacesInIndexes pages pages size [] gone come (Ok tt)
+replaces_none pages size gone come rows apart same = turn_none pages size (rows ++ gone) (rows ++ come) (IsAddRefused [] come)
+
+module _ (old mid : PageMap) (size : ℕ) (index : Index) (rest : List Index) (gone come : List TableRow) where
+  pub replaces_more : (new : PageMap) (result : Result ⊤ Fault) → ReplacesEntries old mid size index.root (columns_of index) gone come (Ok tt) → ReplacesInIndexes mid new size rest gone come result
+      → ReplacesInIndexes old new size (index ∷ rest) gone come result
+  replaces_more new result first next rows apart same =
+      widened old new size (index ∷ rest) (rows ++ gone) (rows ++ come) (IsAddRefused rest come) (IsAddRefused (index ∷ rest) come) result wider
+      (turn_more old mid size index rest (rows ++ gone) (rows ++ come) (IsOneRefused (columns_of index) come) new (IsAddRefused rest come) result (first rows apart same) (next rows apart same))
+    where
+      wider : (f : Fault) → IsAddRefused rest come f → IsAddRefused (index ∷ rest) come f
+      wider f (inl outside) = inl outside
+      wider f (inr long) = inr (long.0, λ all. long.1 all.1)
+
+  pub replaces_stop : (fault : Fault) (result : Result ⊤ Fault) → IsErrAnd result (λ e. e ≡ fault) → ReplacesEntries old mid size index.root (columns_of index) gone come (Err fault)
+      → ReplacesInIndexes old mid size (index ∷ rest) gone come result
+  replaces_stop fault result same first rows apart ids =
+      turn_stop old mid size index rest (rows ++ gone) (rows ++ come) (IsOneRefused (columns_of index) come) (IsAddRefused (index ∷ rest) come) fault result same (first rows apart ids) wider
+    where
+      wider : IsOneRefused (columns_of index) come fault → IsAddRefused (index ∷ rest) come fault
+      wider (inl outside) = inl outside
+      wider (inr long) = inr (long.0, λ all. long.1 all.0)
 
 -- ---- all rows go
 

@@ -1,5 +1,5 @@
 -- What updating rows with their entries comes to.
-use Rattle.std.proofs.Common.{◌≡◌, ◌⊎◌, inl, inr, refl, sym, subst, ℕ, true, not, filter, List, [], ◌∷◌, ◌++◌, length, map, Option, Ok, Err, arith}
+use Rattle.std.proofs.Common.{◌≡◌, ◌⊎◌, ◌∙◌, inl, inr, refl, sym, ap, subst, ℕ, true, not, filter, List, [], ◌∷◌, ◌++◌, length, map, Option, Ok, Err}
 use Rattle.std.specs.Prelude.{Result, IsErrAnd, MatchResult, ⊤}
 use Rattle.std.specs.Global.{Vec}
 use Rattle.sqlval.specs.Faults.{IsOutside}
@@ -25,14 +25,15 @@ use Rattle.row_change.specs.Updating.{AreSetIn, IsSetRefusal, SetsRows, TellsCha
 use Rattle.row_change.proofs.SetTrees.{meant_by}
 use Rattle.index_entries.specs.Entries.{AreApart, indexed}
 use Rattle.index_entries.specs.Keeping.{row_in}
+use Rattle.index_entries.specs.Replacing.{rowids}
 use Rattle.db_write.specs.Changing.{AreUpdated, IsRefusedUpdate, UpdatesInTrees}
 use Rattle.db_layout.specs.Trees.{columns_of}
 use Rattle.db_write.specs.Reading.{LoadsEnough}
-use Rattle.db_write.specs.Turning.{AddsToIndexes, AreEntriesStorable, HaveEntries, HaveNow, TakesFromIndexes}
-use Rattle.db_write.proofs.Among.{keeps_then, rows_tree}
+use Rattle.db_write.specs.Turning.{AreEntriesStorable, HaveEntries, HaveNow, ReplacesInIndexes}
+use Rattle.db_write.proofs.Among.{rows_tree}
 use Rattle.db_write.proofs.Needed.{MeansRows}
 use Rattle.db_write.proofs.Owned.{RowsStand, fit_apart, indexes_stand, rows_among, same_entries, table_holds}
-use Rattle.db_write.proofs.SetShuffles.{changed_shuffle, meant_are, meant_refused}
+use Rattle.db_write.proofs.SetShuffles.{changed_shuffle, meant_are, meant_refused, rowids_kept}
 use Rattle.db_write.proofs.Shuffling.{Shuffles, all_come, parted, shuffled_apart, shuffled_entries}
 use Rattle.db_write.proofs.Sides.{no_index}
 
@@ -102,9 +103,9 @@ module _ (old mid : PageMap) (size : ℕ) (table : Table) (c : Option Term) (set
         (no_index mid size schema _ table.indexes rows (set sets_so schema before after rows s enough fit).now after sized is_root bare (stand sets_so schema before after rows s enough fit))
 
     -- of a table with indexes
-    module _ (next : PageMap) (gone come : Vec stored.TableRow) (means : MeansRows c found (Ok gone)) (sets_so : SetsRows {X = ⊤} old mid size table.root table.columns sets c found (Ok tt))
+    module _ (gone come : Vec stored.TableRow) (means : MeansRows c found (Ok gone)) (sets_so : SetsRows {X = ⊤} old mid size table.root table.columns sets c found (Ok tt))
         (tells : TellsChanged table.columns sets c found (Ok come)) where
-      module _ (schema : Owner) (before after : List Owner) (rows : List TableRow) (sized : IsPageSize size) (is_root : schema.root ≡ 1) (s : RowsStand old size schema before table rows after)
+      module _ (new : PageMap) (schema : Owner) (before after : List Owner) (rows : List TableRow) (sized : IsPageSize size) (is_root : schema.root ≡ 1) (s : RowsStand old size schema before table rows after)
           (enough : AreEnough c found rows) (fit : are_rows (plain_table table rows) ≡ true) where
         abbrev stay : List TableRow
         stay = filter (λ row. not (meant_by c row)) rows
@@ -124,28 +125,25 @@ module _ (old mid : PageMap) (size : ℕ) (table : Table) (c : Option Term) (set
         came : Shuffles stay (map row_in come.items) now
         came = changed_shuffle table.columns sets c rows (map row_in come.items) now (tells rows enough) (set sets_so schema before after rows s enough fit).answer
 
-        -- the old entries are out, or the call is refused
-        out : (result : Result ⊤ Fault) → TakesFromIndexes mid next size table.indexes (map row_in gone.items) result
-            → MatchResult result (λ done. HaveNow mid next size schema front table.indexes stay after) IsOutsideOrFull
-        out result takes =
-            takes stay (shuffled_apart went (fit_apart table rows fit)) schema front after sized is_root
-            (same_entries mid size schema front table.indexes rows (stay ++ map row_in gone.items) after (λ columns. shuffled_entries columns went (fit_apart table rows fit)) (stand sets_so schema before after rows s enough fit))
+        same_rowids : rowids (map row_in gone.items) ≡ rowids (map row_in come.items)
+        same_rowids = sym (ap rowids gone_are) ∙ rowids_kept table.columns sets c rows (map row_in come.items) (tells rows enough)
 
         now_apart : AreApart now
         now_apart = fit_apart table now (fits sets_so schema before after rows s enough fit)
 
-        -- the new ones are in, or the call is refused
-        and_in : (new : PageMap) (result : Result ⊤ Fault) → HaveNow mid next size schema front table.indexes stay after → AddsToIndexes next new size table.indexes (map row_in come.items) result
+        -- the new entries are in the places of the old ones, or the call is refused
+        replaced : (result : Result ⊤ Fault) → ReplacesInIndexes mid new size table.indexes (map row_in gone.items) (map row_in come.items) result
             → MatchResult result (λ done. AreUpdated old new size schema before table c sets rows after) (IsRefusedUpdate table c sets rows)
-        and_in new result was adds = by result (adds stay (shuffled_apart came now_apart) schema front after sized is_root was.have)
+        replaced result replaces = by result (replaces stay (shuffled_apart went (fit_apart table rows fit)) same_rowids schema front after sized is_root
+            (same_entries mid size schema front table.indexes rows (stay ++ map row_in gone.items) after (λ columns. shuffled_entries columns went (fit_apart table rows fit)) (stand sets_so schema before after rows s enough fit)))
           where
-            by : (r : Result ⊤ Fault) → MatchResult r (λ done. HaveNow next new size schema front table.indexes (stay ++ map row_in come.items) after)
+            by : (r : Result ⊤ Fault) → MatchResult r (λ done. HaveNow mid new size schema front table.indexes (stay ++ map row_in come.items) after)
                 (λ fault. IsOutsideOrFull fault ⊎ ((fault ≡ TooLong) × (AreEntriesStorable table.indexes (map row_in come.items) → ⊥)))
                 → MatchResult r (λ done. AreUpdated old new size schema before table c sets rows after) (IsRefusedUpdate table c sets rows)
             by (Ok done) have = updated sets_so schema before after rows s enough fit new (record {
               have = same_entries new size schema front table.indexes (stay ++ map row_in come.items) now after (λ columns. sym (shuffled_entries columns came now_apart)) have.have;
-              header = keeps_then mid next new was.header have.header;
-              longer = (let a = was.longer in let b = have.longer in omega (arith, a, b));
+              header = have.header;
+              longer = have.longer;
             })
             by (Err fault) (inl outside) = inl outside
             by (Err fault) (inr long) = inr (inr (record {
@@ -155,17 +153,8 @@ module _ (old mid : PageMap) (size : ℕ) (table : Table) (c : Option Term) (set
               long = λ both. long.1 (some_storable table.indexes came both.1);
             }))
 
-      -- the old entries aren't taken out
-      pub none_out : (fault : Fault) (result : Result ⊤ Fault) → IsErrAnd result (λ e. e ≡ fault) → TakesFromIndexes mid next size table.indexes (map row_in gone.items) (Err fault) → UpdatesInTrees old next size table c sets result
-      none_out fault (Ok done) same takes = absurd same
-      none_out fault (Err e) same takes = λ schema before after rows sized is_root among fit. (
+      pub indexed_set : (new : PageMap) (result : Result ⊤ Fault) → ReplacesInIndexes mid new size table.indexes (map row_in gone.items) (map row_in come.items) result → UpdatesInTrees old new size table c sets result
+      indexed_set new result replaces schema before after rows sized is_root among fit =
           let s = rows_among old size schema before table rows after among sized is_root in
           let enough = loads schema before after rows sized is_root among fit in
-          inl (subst IsOutsideOrFull (sym same) (out schema before after rows sized is_root s enough fit (Err fault) takes)))
-
-      pub indexed_set : (new : PageMap) (result : Result ⊤ Fault) → TakesFromIndexes mid next size table.indexes (map row_in gone.items) (Ok tt) → AddsToIndexes next new size table.indexes (map row_in come.items) result
-          → UpdatesInTrees old new size table c sets result
-      indexed_set new result takes adds schema before after rows sized is_root among fit =
-          let s = rows_among old size schema before table rows after among sized is_root in
-          let enough = loads schema before after rows sized is_root among fit in
-          and_in schema before after rows sized is_root s enough fit new result (out schema before after rows sized is_root s enough fit (Ok tt) takes) adds
+          replaced new schema before after rows sized is_root s enough fit result replaces

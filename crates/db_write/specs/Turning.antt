@@ -14,6 +14,7 @@ use Rattle.db_layout.specs.Layout.{AreShared, Owner}
 use Rattle.catalog.specs.declared.tables.Index.{Index}
 use Rattle.row_scan.specs.Rows.{TableRow}
 use Rattle.index_entries.specs.Entries.{AreApart, Columns, indexed}
+use Rattle.index_entries.specs.Replacing.{rowids}
 use Rattle.db_layout.specs.Trees.{IsEntriesTree, columns_of}
 
 -- a record can hold the entry of each row in an index of these columns
@@ -52,6 +53,11 @@ AddsToIndexes old new size indexes added result = (rows : List TableRow) → Are
 -- Rows go from the table, and their entries from each index.
 abbrev pub TakesFromIndexes : PageMap → PageMap → ℕ → List Index → List TableRow → Result ⊤ Fault → Type 0
 TakesFromIndexes old new size indexes gone result = (rows : List TableRow) → AreApart (rows ++ gone) → TurnIndexes old new size indexes (rows ++ gone) rows IsOutsideOrFull result
+
+-- Rows take the places of those of their rowids, and their entries those of the others' in each index.
+abbrev pub ReplacesInIndexes : PageMap → PageMap → ℕ → List Index → List TableRow → List TableRow → Result ⊤ Fault → Type 0
+ReplacesInIndexes old new size indexes gone come result = (rows : List TableRow) → AreApart (rows ++ gone) → rowids gone ≡ rowids come
+    → TurnIndexes old new size indexes (rows ++ gone) (rows ++ come) (λ fault. IsOutsideOrFull fault ⊎ ((fault ≡ TooLong) × (AreEntriesStorable indexes come → ⊥))) result
 
 -- All rows go from the table, and all entries from each index.
 abbrev pub ClearsIndexes : PageMap → PageMap → ℕ → List Index → Result ⊤ Fault → Type 0

@@ -1,13 +1,14 @@
-//! Entries of rows that come to a table and of rows that go, in the tree of each of its indexes.
+//! Entries of rows that come to a table, of rows that go, and of rows that take others' places, in the tree of each of its indexes.
 
 ghost use Rattle.std.specs.Prelude.{◌≡◌, IsTrue, map};
 ghost use Rattle.pages.specs.Calls.{Causes};
 ghost use Rattle.index_entries.specs.Keeping.{AddsEntries, TakesEntries, row_in};
+ghost use Rattle.index_entries.specs.Replacing.{ReplacesEntries};
 ghost use Rattle.db_layout.specs.Trees.{columns_of};
-ghost use Rattle.db_write.specs.Turning.{AddsToIndexes, ClearsIndexes, FreesIndexes, TakesFromIndexes};
+ghost use Rattle.db_write.specs.Turning.{AddsToIndexes, ClearsIndexes, FreesIndexes, ReplacesInIndexes, TakesFromIndexes};
 
 use catalog::{Index, TableRow};
-use index_entries::{add_entries, take_entries};
+use index_entries::{add_entries, replace_entries, take_entries};
 use pages::WritePages;
 use sqlval::R;
 use std::alloc::Global;
@@ -88,6 +89,55 @@ pub(crate) fn take_from_indexes<P: WritePages>(
     let mut left = indexes;
     'indexes: while let [index, rest @ ..] = left {
         take_from_index(alloc, pages, index, rows)?;
+        left = rest;
+    }
+    Ok(())
+}
+
+/// Puts the entries of rows in place of those of others of their rowids in an index's tree. (What `replace_entries` refuses.)
+fn replace_in_index<P: WritePages>(
+    alloc: Global,
+    pages: &mut P,
+    index: &Index,
+    gone: &[TableRow],
+    come: &[TableRow],
+) -> R<()>
+    ensures replaced { IsTrue (P.Pages.tells (P.Pages.below pages.old))
+        → ReplacesEntries (P.Pages.map pages.old) (P.Pages.map pages.new) (P.Pages.limits (P.Pages.below pages.old)).page
+        index.now.root (columns_of index.now) (map row_in gone.now) (map row_in come.now) result }
+    ensures kept { P.Pages.below pages.new ≡ P.Pages.below pages.old }
+    ensures causes { Causes result (P.Pages.failures pages.old) (P.Pages.failures pages.new)
+        (P.Pages.count pages.new ≡ (P.Pages.limits (P.Pages.below pages.new)).most) }
+{
+    replace_entries(
+        alloc,
+        pages,
+        index.root,
+        index.columns.as_slice(),
+        gone,
+        come,
+    )
+}
+
+/// Puts the entries of rows in place of those of others of their rowids in the tree of each of these indexes. (What `replace_entries` refuses.
+/// Then some entries may have changed.)
+pub(crate) fn replace_in_indexes<P: WritePages>(
+    alloc: Global,
+    pages: &mut P,
+    indexes: &[Index],
+    gone: &[TableRow],
+    come: &[TableRow],
+) -> R<()>
+    ensures replaced { IsTrue (P.Pages.tells (P.Pages.below pages.old))
+        → ReplacesInIndexes (P.Pages.map pages.old) (P.Pages.map pages.new) (P.Pages.limits (P.Pages.below pages.old)).page
+        indexes.now (map row_in gone.now) (map row_in come.now) result }
+    ensures kept { P.Pages.below pages.new ≡ P.Pages.below pages.old }
+    ensures causes { Causes result (P.Pages.failures pages.old) (P.Pages.failures pages.new)
+        (P.Pages.count pages.new ≡ (P.Pages.limits (P.Pages.below pages.new)).most) }
+{
+    let mut left = indexes;
+    'indexes: while let [index, rest @ ..] = left {
+        replace_in_index(alloc, pages, index, gone, come)?;
         left = rest;
     }
     Ok(())

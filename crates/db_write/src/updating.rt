@@ -4,7 +4,7 @@ ghost use Rattle.std.specs.Prelude.{◌≡◌, IsTrue, length};
 ghost use Rattle.pages.specs.Calls.{Causes};
 ghost use Rattle.db_write.specs.Changing.{UpdatesInTrees};
 
-use crate::entries::{add_to_indexes, take_from_indexes};
+use crate::entries::replace_in_indexes;
 use crate::reading::enough_rows;
 use catalog::Table;
 use pages::WritePages;
@@ -34,8 +34,8 @@ fn set_bare_rows<P: WritePages>(
     Ok(())
 }
 
-/// Sets values in the rows of a table, takes the entries that these had out of the trees of its indexes, and puts in those that they have
-/// then. (What `enough_rows`, `meant_rows`, `set_new_rows`, `take_entries` and `add_entries` refuse.)
+/// Sets values in the rows of a table, and puts the entries that they have then in place of those that they had in the trees of its indexes.
+/// (What `enough_rows`, `meant_rows`, `set_new_rows` and `replace_entries` refuse.)
 fn set_indexed_rows<P: WritePages>(
     alloc: Global,
     pages: &mut P,
@@ -53,12 +53,11 @@ fn set_indexed_rows<P: WritePages>(
     let rows = enough_rows(alloc, pages, table, condition)?;
     let gone = meant_rows(alloc, &rows, condition)?;
     let new = set_new_rows(alloc, pages, table, condition, sets, &rows)?;
-    take_from_indexes(alloc, pages, table.indexes.as_slice(), &gone)?;
-    add_to_indexes(alloc, pages, table.indexes.as_slice(), &new)
+    replace_in_indexes(alloc, pages, table.indexes.as_slice(), &gone, &new)
 }
 
 /// Sets values in the rows of a table for which a condition is true, or in all where there is none, and changes their entries in its indexes
-/// accordingly. Rows are read once. (What the condition, SET's expressions and the columns refuse for a row, in order; `TooLong` for a row or
+/// accordingly. Rows are read once; an entry that stays as it is costs no page. (What the condition, SET's expressions and the columns refuse for a row, in order; `TooLong` for a row or
 /// an entry that no record can hold; `Memory`, `Io`, `Full`. Then some pages may have changed.)
 pub fn update_rows<P: WritePages>(
     alloc: Global,

@@ -2,4 +2,6 @@ mod Sorting
 mod RowOrder
 mod Turning
 mod Looping
+mod SameValues
+mod Replacing
 pub mod Rows

@@ -1,21 +1,20 @@
 -- Rows one after another: what the tree becomes of those that are left decides what it becomes of all.
-use Rattle.std.proofs.Common.{◌≡◌, refl, sym, ap, subst, ◌∙◌, ◌≤◌, ◌<◌, ◌-◌, ℕ, suc, Bool, List, [], ◌∷◌, length, map, take, drop, slice_index_or, IsTrue, Ok, arith}
+use Rattle.std.proofs.Common.{◌≡◌, refl, sym, ap, subst, ◌∙◌, ◌≤◌, ◌<◌, ◌-◌, ℕ, Bool, List, [], ◌∷◌, length, map, take, drop, slice_index_or, IsTrue, Ok, arith}
 use Rattle.std.proofs.lemmas.List.{take_all}
 use Rattle.std.specs.Prelude.{Result, ⊤}
 use Rattle.sqlval.specs.declared.fault.Fault.{Fault}
 use Rattle.pages.specs.Calls.{Causes, Limits}
 use Rattle.pages.specs.Map.{PageMap}
-use Rattle.index_entries.specs.Entries.{Columns, Row}
 use Rattle.index_entries.specs.Keeping.{row_in}
 use Rattle.catalog.specs.declared.tables.TableRow.{TableRow}
 
 -- The pages stand as they did; and what becomes of the rows that are left, from here on, is what becomes of all from the first on.
-pub record IsOn {P K : Type 0} (below : P → K) (tells : K → Bool) (limits : K → Limits) (pages : P → PageMap) (failures : P → ℕ × ℕ)
-    (Becomes : PageMap → PageMap → ℕ → ℕ → Columns → List Row → Result ⊤ Fault → Type 0) (old now : P) (root : ℕ) (columns : Columns) (all left : List Row) : Type 0 where
+pub record IsOn {P K X : Type 0} (below : P → K) (tells : K → Bool) (limits : K → Limits) (pages : P → PageMap) (failures : P → ℕ × ℕ)
+    (Becomes : PageMap → PageMap → ℕ → X → Result ⊤ Fault → Type 0) (old now : P) (all left : X) : Type 0 where
   pub kept : below now ≡ below old
   pub causes : Causes {T = ⊤} (Ok tt) (failures old) (failures now) ⊥
   pub decides : IsTrue (tells (below old)) → (new : PageMap) (result : Result ⊤ Fault)
-      → Becomes (pages now) new (limits (below old)).page root columns left result → Becomes (pages old) new (limits (below old)).page root columns all result
+      → Becomes (pages now) new (limits (below old)).page left result → Becomes (pages old) new (limits (below old)).page all result
 
 -- what one call does it does from before the first
 pub since : {P K : Type 0} (below : P → K) (tells : K → Bool) (limits : K → Limits) (old mid : P) (Does : ℕ → Type 0) → below mid ≡ below old

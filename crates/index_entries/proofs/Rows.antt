@@ -1,12 +1,12 @@
 -- The entries of rows with a row more, with one less, and in another order.
-use Rattle.std.proofs.Common.{◌≡◌, refl, sym, ap, ◌∙◌, subst, Bool, true, false, not, cond, List, [], ◌∷◌, ◌++◌, filter, map}
+use Rattle.std.proofs.Common.{◌≡◌, refl, sym, ap, ◌∙◌, Bool, true, false, not, cond, List, [], ◌∷◌, ◌++◌, filter, map}
 use Rattle.std.specs.List.{AllByRecursion, list_any}
 use Rattle.std.specs.Ordering.{is_eq}
 use Rattle.sqlval.specs.Lists.{placed, sorted}
 use Rattle.tree_index.specs.Entries.{Entry, entry_cmp, has_entry, with_entry, without_entry}
 use Rattle.index_entries.specs.Entries.{AreApart, Columns, IsApart, Row, collations, entries_of_rows, indexed}
 use Rattle.index_entries.specs.Laws.{AddsItsEntry, SameWhereParted, TakesItsEntry}
-use Rattle.index_entries.proofs.Sorting.{any_map, filter_map_through, none_sorted, one_placed, placed_map, placed_swap, sorted_map, sorted_with, tied_back, tied_self, without_placed}
+use Rattle.index_entries.proofs.Sorting.{any_map, filter_map_through, none_sorted, one_placed, placed_map, sorted_map, sorted_with, tied_self, without_placed}
 use Rattle.index_entries.proofs.RowOrder.{by_entries, entries_total, no_tie}
 
 -- ---- rows that are apart
@@ -23,7 +23,7 @@ pub apart_after : (before after : List Row) (row : Row) → AreApart (before ++ 
 apart_after [] after row apart = apart.0
 apart_after (first ∷ before) after row apart = apart_after before after row apart.1
 
-both_parts : {X : Type 0} (P : X → Type 0) (xs ys : List X) → AllByRecursion P xs → AllByRecursion P ys → AllByRecursion P (xs ++ ys)
+pub both_parts : {X : Type 0} (P : X → Type 0) (xs ys : List X) → AllByRecursion P xs → AllByRecursion P ys → AllByRecursion P (xs ++ ys)
 both_parts P [] ys a b = b
 both_parts P (x ∷ xs) ys a b = (a.0, both_parts P xs ys a.1 b)
 

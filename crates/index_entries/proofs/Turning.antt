@@ -1,24 +1,23 @@
 -- An index's tree turns from the entries of some rows to those of others, one row after another.
-use Rattle.std.proofs.Common.{◌≡◌, refl, sym, ap, subst, ◌∙◌, inl, inr, ℕ, ◌+◌, Bool, true, false, List, [], ◌∷◌, ◌++◌, length, map, slice_index_or, IsTrue, append_assoc, arith, Ok, Err}
+use Rattle.std.proofs.Common.{◌≡◌, refl, sym, ap, subst, ◌∙◌, inl, inr, ℕ, ◌+◌, true, false, List, [], ◌∷◌, ◌++◌, length, map, slice_index_or, append_assoc, arith, Ok, Err}
 use mathlib.Core.Bool.{true≢false}
 use Rattle.std.proofs.lemmas.Grind.{common_steps}
 use Rattle.std.proofs.lemmas.List.{append-nil}
-use Rattle.std.specs.Prelude.{Result, IsErrAnd, ⊤, MatchResult}
+use Rattle.std.specs.Prelude.{Result, IsErrAnd, ⊤}
 use Rattle.sqlval.specs.declared.collation.Collation.{Collation}
 use Rattle.sqlval.specs.declared.fault.Fault.{Fault}
 use Rattle.sqlval.specs.declared.value.Value.{Value}
-use Rattle.sqlval.specs.declared.value.Value.TheVariants.{Null, Int}
-use Rattle.pages.specs.Calls.{IsOutsideOrFull, Limits}
+use Rattle.sqlval.specs.declared.value.Value.TheVariants.{Null}
+use Rattle.pages.specs.Calls.{IsOutsideOrFull}
 use Rattle.pages.specs.Counting.{Moves, fresh}
 use Rattle.pages.specs.Map.{PageMap}
 use Rattle.pages.proofs.Moving.{in_sequence}
 use Rattle.freelist.specs.Calls.{KeepsHeader}
-use Rattle.tree_index.specs.Calls.{BecomesEntries, InsertsEntry, IsInsertRefusal, RemovesEntry, Stands}
-use Rattle.tree_index.specs.Entries.{has_entry, with_entry, without_entry}
+use Rattle.tree_index.specs.Calls.{BecomesEntries, InsertsEntry, IsInsertRefusal, RemovesEntry}
+use Rattle.tree_index.specs.Entries.{has_entry, with_entry}
 use Rattle.index_entries.specs.Entries.{AreApart, Columns, IsApart, Row, collations, entries_of_rows, indexed}
-use Rattle.index_entries.specs.Keeping.{AddsEntries, IsAddRefusal, TakesEntries, TakesEntry, Turns, columns_in, row_in}
+use Rattle.index_entries.specs.Keeping.{AddsEntries, IsAddRefusal, TakesEntries, TakesEntry, Turns, columns_in}
 use Rattle.catalog.specs.declared.tables.IndexColumn.{IndexColumn}
-use Rattle.catalog.specs.declared.tables.TableRow.{TableRow}
 use Rattle.index_entries.proofs.Rows.{adds_its_entry, takes_its_entry}
 
 -- ---- columns
@@ -123,11 +122,11 @@ front_apart : (row : Row) (xs ys : List Row) → IsApart row (xs ++ ys) → IsAp
 front_apart row [] ys all = tt
 front_apart row (x ∷ xs) ys all = (all.0, front_apart row xs ys all.1)
 
-apart_front : (xs ys : List Row) → AreApart (xs ++ ys) → AreApart xs
+pub apart_front : (xs ys : List Row) → AreApart (xs ++ ys) → AreApart xs
 apart_front [] ys apart = tt
 apart_front (x ∷ xs) ys apart = (front_apart x xs ys apart.0, apart_front xs ys apart.1)
 
-without_one : (before : List Row) (row : Row) (after : List Row) → AreApart (before ++ row ∷ after) → AreApart (before ++ after)
+pub without_one : (before : List Row) (row : Row) (after : List Row) → AreApart (before ++ row ∷ after) → AreApart (before ++ after)
 without_one [] row after apart = apart.1
 without_one (x ∷ before) row after apart = (less before apart.0, without_one before row after apart.1) where
   less : (before : List Row) → IsApart x (before ++ row ∷ after) → IsApart x (before ++ after)
@@ -135,13 +134,13 @@ without_one (x ∷ before) row after apart = (less before apart.0, without_one b
   less (y ∷ before) all = (all.0, less before all.1)
 
 -- nothing turns
-stays : (pages : PageMap) (size root : ℕ) (columns : Columns) (rows : List Row) (Why : Fault → Type 0) → Turns pages pages size root columns rows rows Why (Ok tt)
+pub stays : (pages : PageMap) (size root : ℕ) (columns : Columns) (rows : List Row) (Why : Fault → Type 0) → Turns pages pages size root columns rows rows Why (Ok tt)
 stays pages size root columns rows Why used free stands =
     record { now_used = used; now_free = free; stands = stands; moves = unmoved pages used free; header = keeps_all pages }
 
 module _ (old mid new : PageMap) (size root : ℕ) (columns : Columns) (before middle after : List Row) (First Why : Fault → Type 0) where
   -- one turn and then another
-  then_turns : (result : Result ⊤ Fault) → Turns old mid size root columns before middle First (Ok tt) → Turns mid new size root columns middle after Why result → Turns old new size root columns before after Why result
+  pub then_turns : (result : Result ⊤ Fault) → Turns old mid size root columns before middle First (Ok tt) → Turns mid new size root columns middle after Why result → Turns old new size root columns before after Why result
   then_turns (Ok done) first next used free stands =
       let was = first used free stands in
       let now = next was.now_used was.now_free was.stands in

@@ -1,3 +1,4 @@
 pub mod Entries
 pub mod Keeping
+pub mod Replacing
 pub mod Laws

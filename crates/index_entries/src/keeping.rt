@@ -12,7 +12,7 @@ use std::alloc::Global;
 use tree_index::{insert, remove};
 
 /// Puts the entry of a row into an index's tree. (What `insert` refuses; `Damaged(Index, root)` if it is there.)
-fn add_entry<P: WritePages>(
+pub(crate) fn add_entry<P: WritePages>(
     alloc: Global,
     pages: &mut P,
     root: u32,
@@ -36,7 +36,7 @@ fn add_entry<P: WritePages>(
 }
 
 /// Takes the entry of a row out of an index's tree. (What `remove` refuses; `Damaged(Index, root)` if it isn't there.)
-fn take_entry<P: WritePages>(
+pub(crate) fn take_entry<P: WritePages>(
     alloc: Global,
     pages: &mut P,
     root: u32,

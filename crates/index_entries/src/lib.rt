@@ -1,10 +1,12 @@
-//! An index is kept equal to its table: the entries of rows that come to the table, and of rows that go.
+//! An index is kept equal to its table: the entries of rows that come to the table, of rows that go, and of rows that take others' places.
 #![tactic(auto)]
 
 mod columns;
 mod keeping;
 mod laws;
+mod replacements;
 
 pub use columns::{collations_of, key_of};
 pub use keeping::{add_entries, take_entries};
 pub use laws::entries_follow_rows;
+pub use replacements::replace_entries;

@@ -5,9 +5,9 @@ use Rattle.catalog.specs.declared.tables.Index.{Index}
 use Rattle.catalog.specs.declared.tables.TableRow.{TableRow}
 use Rattle.row_change.specs.Updating.{SetsRows}
 use Rattle.index_entries.specs.Keeping.{row_in}
-use Rattle.db_write.specs.Turning.{AddsToIndexes, TakesFromIndexes}
+use Rattle.db_write.specs.Turning.{ReplacesInIndexes}
 use Rattle.db_write.proofs.Looping.{after_reading, since}
-use Rattle.db_write.proofs.Updated.{indexed_set, none_copied, none_out, none_read, none_set}
+use Rattle.db_write.proofs.Updated.{indexed_set, none_copied, none_read, none_set}
 use Rattle.db_write.proofs.updating.set_indexed_rows.Goals as goal
 
 pub returns-in_err-rows-clause-updated : goal.returns-in_err-rows-clause-updated
@@ -36,51 +36,24 @@ returns-in_err-new-clause-updated g c = λ told.
     none_set old new (pages.limits (pages.below c.args.pages.now)).page table c.args.condition.now c.args.sets.now rows (c.in_ok-rows.ensures.loaded told)
     fault c.from_residual-in_err-new.result c.from_residual-in_err-new.ensures.1 sets_so)
 
-pub returns-in_err-take_from_indexes-clause-updated : goal.returns-in_err-take_from_indexes-clause-updated
-returns-in_err-take_from_indexes-clause-updated g c = λ told.
-    (let pages = g.P.Pages in
-    let start = c.args.pages.now in
-    let old = pages.map start in
-    let mid = c.set_new_rows.new.pages in
-    let next = pages.map c.take_from_indexes.new.pages in
-    let size = (pages.limits (pages.below start)).page in
-    let table = c.args.table.now in
-    let rows = c.in_ok-rows.rows in
-    let fault = c.in_err-take_from_indexes.field-0.0 in
-    let stays = c.in_ok-rows.ensures.stays in
-    let sets_so = after_reading pages.below pages.tells pages.limits pages.map start c.enough_rows.new.pages
-    (λ (m : PageMap) (n : ℕ). SetsRows {X = ⊤} m (pages.map mid) n table.root table.columns c.args.sets.now c.args.condition.now rows (Ok tt)) stays.kept stays.same c.in_ok-new.ensures.set told in
-    let takes = since pages.below pages.tells pages.limits start mid (λ (n : ℕ). TakesFromIndexes (pages.map mid) next n c.as_slice.result.now (map row_in c.deref.result.now) (Err fault))
-    (c.in_ok-new.ensures.kept ∙ stays.kept) c.in_err-take_from_indexes.ensures.taken told in
-    none_out old (pages.map mid) size table c.args.condition.now c.args.sets.now rows (c.in_ok-rows.ensures.loaded told) next c.in_ok-gone.gone c.in_ok-new.new
-    c.in_ok-gone.ensures.found sets_so c.in_ok-new.ensures.rows
-    fault c.from_residual-in_err-take_from_indexes.result c.from_residual-in_err-take_from_indexes.ensures.1
-    (subst (λ (them : List Index). TakesFromIndexes (pages.map mid) next size them (map row_in c.in_ok-gone.gone.items) (Err fault)) c.as_slice.ensures
-    (subst (λ (rows : List TableRow). TakesFromIndexes (pages.map mid) next size c.as_slice.result.now (map row_in rows) (Err fault)) c.deref.ensures.value takes)))
-
 pub returns-clause-updated : goal.returns-clause-updated
 returns-clause-updated g c = λ told.
     (let pages = g.P.Pages in
     let start = c.args.pages.now in
     let old = pages.map start in
     let mid = c.set_new_rows.new.pages in
-    let next = c.take_from_indexes.new.pages in
-    let new = pages.map c.add_to_indexes.new.pages in
+    let new = pages.map c.replace_in_indexes.new.pages in
     let size = (pages.limits (pages.below start)).page in
     let table = c.args.table.now in
     let rows = c.in_ok-rows.rows in
-    let result = c.add_to_indexes.result in
+    let result = c.replace_in_indexes.result in
     let stays = c.in_ok-rows.ensures.stays in
     let sets_so = after_reading pages.below pages.tells pages.limits pages.map start c.enough_rows.new.pages
     (λ (m : PageMap) (n : ℕ). SetsRows {X = ⊤} m (pages.map mid) n table.root table.columns c.args.sets.now c.args.condition.now rows (Ok tt)) stays.kept stays.same c.in_ok-new.ensures.set told in
-    let kept = c.in_ok-new.ensures.kept ∙ stays.kept in
-    let takes = since pages.below pages.tells pages.limits start mid (λ (n : ℕ). TakesFromIndexes (pages.map mid) (pages.map next) n c.as_slice.result.now (map row_in c.deref.result.now) (Ok tt))
-    kept c.in_ok-take_from_indexes.ensures.taken told in
-    let adds = since pages.below pages.tells pages.limits start next (λ (n : ℕ). AddsToIndexes (pages.map next) new n c.as_slice-2.result.now (map row_in c.deref-2.result.now) result)
-    (c.in_ok-take_from_indexes.ensures.kept ∙ kept) c.add_to_indexes.ensures.added told in
-    indexed_set old (pages.map mid) size table c.args.condition.now c.args.sets.now rows (c.in_ok-rows.ensures.loaded told) (pages.map next) c.in_ok-gone.gone c.in_ok-new.new
+    let replaces = since pages.below pages.tells pages.limits start mid (λ (n : ℕ). ReplacesInIndexes (pages.map mid) new n c.as_slice.result.now (map row_in c.deref.result.now) (map row_in c.deref-2.result.now) result)
+    (c.in_ok-new.ensures.kept ∙ stays.kept) c.replace_in_indexes.ensures.replaced told in
+    indexed_set old (pages.map mid) size table c.args.condition.now c.args.sets.now rows (c.in_ok-rows.ensures.loaded told) c.in_ok-gone.gone c.in_ok-new.new
     c.in_ok-gone.ensures.found sets_so c.in_ok-new.ensures.rows new result
-    (subst (λ (them : List Index). TakesFromIndexes (pages.map mid) (pages.map next) size them (map row_in c.in_ok-gone.gone.items) (Ok tt)) c.as_slice.ensures
-    (subst (λ (rows : List TableRow). TakesFromIndexes (pages.map mid) (pages.map next) size c.as_slice.result.now (map row_in rows) (Ok tt)) c.deref.ensures.value takes))
-    (subst (λ (them : List Index). AddsToIndexes (pages.map next) new size them (map row_in c.in_ok-new.new.items) result) c.as_slice-2.ensures
-    (subst (λ (rows : List TableRow). AddsToIndexes (pages.map next) new size c.as_slice-2.result.now (map row_in rows) result) c.deref-2.ensures.value adds)))
+    (subst (λ (them : List Index). ReplacesInIndexes (pages.map mid) new size them (map row_in c.in_ok-gone.gone.items) (map row_in c.in_ok-new.new.items) result) c.as_slice.ensures
+    (subst (λ (come : List TableRow). ReplacesInIndexes (pages.map mid) new size c.as_slice.result.now (map row_in c.in_ok-gone.gone.items) (map row_in come) result) c.deref-2.ensures.value
+    (subst (λ (gone : List TableRow). ReplacesInIndexes (pages.map mid) new size c.as_slice.result.now (map row_in gone) (map row_in c.deref-2.result.now) result) c.deref.ensures.value replaces))))

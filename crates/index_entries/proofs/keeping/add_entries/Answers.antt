@@ -1,7 +1,4 @@
-use Rattle.std.proofs.Common.{rules, ◌≡◌, subst, sym, ◌∙◌, ℕ, List, [], ◌∷◌, length, map, take, drop, ◌-◌, Ok, Err}
-use Rattle.std.specs.Prelude.{Result, ⊤}
-use Rattle.sqlval.specs.declared.fault.Fault.{Fault}
-use Rattle.pages.specs.Map.{PageMap}
+use Rattle.std.proofs.Common.{rules, subst, sym, ◌∙◌, ℕ, List, [], ◌∷◌, length, map, take, drop, ◌-◌, Ok, Err}
 use Rattle.index_entries.specs.Entries.{Row}
 use Rattle.index_entries.specs.Keeping.{AddsEntries, columns_in, row_in}
 use Rattle.index_entries.proofs.Looping.{first_of, none_left, since}
