@@ -1,13 +1,16 @@
 //! A disk over a file of the operating system.
 
 ghost use Rattle.std.specs.Prelude.{◌≡◌, IfErr};
+ghost use Rattle.std.specs.Path.{path_bytes};
 ghost use Rattle.disk.specs.Calls.{CountsFailure};
+ghost use Rattle.disk_file.specs.Folders as folders;
 
 use disk::Disk;
 use sqlval::{Fault, R};
 use std::fs::{File, OpenOptions};
 use std::io;
 use std::os::unix::fs::FileExt;
+use std::path::Path;
 use std::rt::Files;
 
 /// Greatest offset that the operating system takes.
@@ -79,6 +82,30 @@ impl FileDisk {
                 Err(Fault::Io)
             }
         }
+    }
+}
+
+/// The folder of a file.
+fn folder_of(name: &str) -> Path<'_>
+    ensures { path_bytes result ≡ folders.folder_of name.now }
+{
+    match Path::new(name).parent() {
+        Some(folder) if !folder.as_str().is_empty() => folder,
+        _ => Path::new("."),
+    }
+}
+
+fn sync(folder: io::Result<File>) -> io::Result<()> {
+    folder?.sync_all()
+}
+
+/// Syncs the folder of a file, so that a crash doesn't lose the names of files that were created in it. The only refusal is `Io`.
+pub fn sync_folder<F: Files<File = File>>(files: &F, name: &str) -> R<()>
+    ensures refused { IfErr result (λ fault. fault ≡ Fault.Io) }
+{
+    match sync(File::open(files, folder_of(name))) {
+        Ok(()) => Ok(()),
+        Err(_) => Err(Fault::Io),
     }
 }
 

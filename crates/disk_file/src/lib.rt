@@ -3,4 +3,4 @@
 
 mod file_disk;
 
-pub use file_disk::FileDisk;
+pub use file_disk::{FileDisk, sync_folder};

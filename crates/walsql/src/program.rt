@@ -1,7 +1,7 @@
 //! The program over given arguments, input and output.
 
 use disk_cache::CachedDisk;
-use disk_file::FileDisk;
+use disk_file::{FileDisk, sync_folder};
 use engine::{Engine, Refused, create, put_reply};
 use sqlval::{Fault, R};
 use std::alloc::Global;
@@ -31,7 +31,7 @@ fn open_file<F: Files<File = File>>(files: &F, alloc: Global, name: &str) -> R<P
     Ok(CachedDisk::new(alloc, disk, KEPT_PAGES))
 }
 
-/// Opens the database file and its log, which are created where they don't exist.
+/// Opens the database file and its log, which are created where they don't exist. Then their folder is synced, so that no crash loses a name.
 fn open_files<F: Files<File = File>>(
     files: &F,
     alloc: Global,
@@ -40,6 +40,7 @@ fn open_files<F: Files<File = File>>(
     let log_name = format!(in alloc; "{name}-wal")?;
     let db = open_file(files, alloc, name)?;
     let log = open_file(files, alloc, log_name.as_str())?;
+    sync_folder(files, name)?;
     Ok((db, log))
 }
 
