@@ -15,6 +15,7 @@ use Rattle.query_terms.specs.Values.{Row, Environment, best, both_hold, compare,
 use Rattle.query_terms.specs.declared.comparing.Manner.{Manner}
 use Rattle.query_terms.specs.declared.datum.Datum.{Datum}
 use Rattle.query_terms.specs.declared.datum.Datum.TheVariants.{Lent, Made}
+use Rattle.query_terms.specs.declared.operands.Sides.{Sides}
 use Rattle.query_terms.specs.declared.rows.Env.{Env}
 use Rattle.query_terms.specs.declared.tree.Comparison.{Comparison}
 
@@ -22,6 +23,14 @@ use Rattle.query_terms.specs.declared.tree.Comparison.{Comparison}
 abbrev pub datum : Datum → Value
 datum (Lent f) = value_of f
 datum (Made v) = v
+
+-- the values of two operands
+abbrev pub pair : Sides → Value × Value
+pair s = (datum s.left, datum s.right)
+
+-- both values, or the first refusal
+abbrev pub pair_of : Answer Value → Answer Value → Answer (Value × Value)
+pair_of a b = a then λ v. b then λ w. Ok (v, w)
 
 -- ---- rows
 
