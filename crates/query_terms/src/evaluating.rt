@@ -15,8 +15,8 @@ use crate::datum::Datum;
 use crate::integers::integer_holds;
 use crate::numbers::word;
 use crate::operands::{
-    Sides, aggregated_of, applied_of, beside, calculated_of, compared_of, concatenated_of, made,
-    minus_of, not_of, of_holding, of_sameness, sameness_of, stands, truth_of, turned_holding,
+    Sides, Single, aggregated_of, applied_of, beside, calculated_of, compared_of, concatenated_of,
+    made, of_holding, of_sameness, sameness_of, stands, truth_of, turned_holding,
 };
 use crate::rows::Env;
 use crate::totals::count_word;
@@ -78,7 +78,7 @@ fn of_one<'a>(alloc: Global, operator: OneSided, operand: &'a Term, env: &Env<'a
 {
     match operator {
         OneSided::Negated => minus(alloc, operand, env),
-        OneSided::Not => not_of(evaluate(alloc, operand, env)),
+        OneSided::Not => applied_of(alloc, Single::Not, evaluate(alloc, operand, env)),
     }
 }
 
@@ -89,7 +89,7 @@ fn minus<'a>(alloc: Global, operand: &'a Term, env: &Env<'a>) -> R<Value>
 {
     match &operand.node {
         Node::Digits(number) => word(-i128::from(*number)),
-        _ => minus_of(evaluate(alloc, operand, env)),
+        _ => applied_of(alloc, Single::Minus, evaluate(alloc, operand, env)),
     }
 }
 
@@ -295,7 +295,11 @@ fn call<'a>(alloc: Global, function: Function, list: &'a [Term], env: &Env<'a>) 
 {
     match function {
         Function::Coalesce => first_value(alloc, list, env),
-        _ => made(applied_of(alloc, function, first_argument(alloc, list, env))),
+        _ => made(applied_of(
+            alloc,
+            Single::Of(function),
+            first_argument(alloc, list, env),
+        )),
     }
 }
 

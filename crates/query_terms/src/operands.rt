@@ -1,12 +1,11 @@
 //! What is made of values that were just evaluated, or why they were refused; each value is let go of here.
 
-ghost use Rattle.std.specs.Prelude.{◌≡◌, ◌⊎◌, if◌then◌else◌, Bool, List, Ok, Option, map, neg_ℤ, not};
-ghost use Rattle.sqlval.specs.Conversion.{word as word_of};
+ghost use Rattle.std.specs.Prelude.{◌≡◌, ◌⊎◌, if◌then◌else◌, Bool, List, Ok, Option, map, not};
 ghost use Rattle.sqlval.specs.Fields.{value_of};
 ghost use Rattle.sqlval.specs.Refusals.{Answer, ◌then◌};
 ghost use Rattle.sqlval.specs.declared.value.Value.{Value as Stored};
 ghost use Rattle.query_terms.specs.Outcome.{Answers, AnswersBy};
-ghost use Rattle.query_terms.specs.Rows.{compared_to, datum, pair};
+ghost use Rattle.query_terms.specs.Rows.{compared_to, datum, made_of, pair};
 ghost use Rattle.query_terms.specs.Values as meant;
 
 use crate::comparing::{Manner, are_same, compare_by, of_bool};
@@ -57,27 +56,6 @@ pub fn truth_of(operand: R<Datum<'_>>) -> R<Option<bool>>
 {
     let value = operand?;
     let found = truth(value.as_field());
-    drop(value);
-    found
-}
-
-/// NOT.
-pub fn not_of(operand: R<Datum<'_>>) -> R<Value>
-    ensures { (answer : Answer Stored) → AnswersBy datum answer operand.entry → Answers (answer then meant.negated) result }
-{
-    let value = operand?;
-    let found = negated(value.as_field());
-    drop(value);
-    found
-}
-
-/// A minus.
-pub fn minus_of(operand: R<Datum<'_>>) -> R<Value>
-    ensures { (answer : Answer Stored) → AnswersBy datum answer operand.entry
-        → Answers (answer then meant.on_number (λ z. word_of (neg_ℤ z))) result }
-{
-    let value = operand?;
-    let found = negative(value.as_field());
     drop(value);
     found
 }
@@ -170,27 +148,36 @@ pub fn stands(
     truth_of(made(found))
 }
 
-/// What a function of one argument makes of a value.
-fn applied(alloc: Global, function: Function, value: Field<'_>) -> R<Value>
-    ensures { Answers (meant.applied_to_one function (value_of value.entry)) result }
+/// What makes a value of one other.
+#[derive(Clone, Copy)]
+pub enum Single {
+    Minus,
+    Not,
+    Of(Function),
+}
+
+/// What is made of a value.
+fn applied(alloc: Global, single: Single, value: Field<'_>) -> R<Value>
+    ensures { Answers (made_of single (value_of value.entry)) result }
 {
-    match function {
-        Function::Abs => absolute(value),
-        Function::Length => length_of(alloc, value),
-        Function::Lower => lower(alloc, value),
-        Function::Upper => upper(alloc, value),
-        Function::TypeOf => type_of(alloc, value),
-        Function::Coalesce => Ok(value.to_value(alloc)?),
+    match single {
+        Single::Minus => negative(value),
+        Single::Not => negated(value),
+        Single::Of(Function::Abs) => absolute(value),
+        Single::Of(Function::Length) => length_of(alloc, value),
+        Single::Of(Function::Lower) => lower(alloc, value),
+        Single::Of(Function::Upper) => upper(alloc, value),
+        Single::Of(Function::TypeOf) => type_of(alloc, value),
+        Single::Of(Function::Coalesce) => Ok(value.to_value(alloc)?),
     }
 }
 
-/// What a function of one argument makes of it.
-pub fn applied_of(alloc: Global, function: Function, argument: R<Datum<'_>>) -> R<Value>
-    ensures { (answer : Answer Stored) → AnswersBy datum answer argument.entry
-        → Answers (answer then meant.applied_to_one function) result }
+/// What is made of an operand, or of the argument of a function.
+pub fn applied_of(alloc: Global, single: Single, operand: R<Datum<'_>>) -> R<Value>
+    ensures { (answer : Answer Stored) → AnswersBy datum answer operand.entry → Answers (answer then made_of single) result }
 {
-    let value = argument?;
-    let found = applied(alloc, function, value.as_field());
+    let value = operand?;
+    let found = applied(alloc, single, value.as_field());
     drop(value);
     found
 }

@@ -66,12 +66,12 @@ value_holds-returns t c =
 
 pub of_one-returns-in-Not : goal.of_one-returns-in-Not
 of_one-returns-in-Not t c =
-    let given = c.not_of.ensures _ c.evaluate.ensures in
+    let given = c.applied_of.ensures _ c.evaluate.ensures in
     search rules
 
 pub minus-returns-in_default : goal.minus-returns-in_default
 minus-returns-in_default t c =
-    let given = c.minus_of.ensures _ c.evaluate.ensures in
+    let given = c.applied_of.ensures _ c.evaluate.ensures in
     search rules
 
 pub both-returns : goal.both-returns
