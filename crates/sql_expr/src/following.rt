@@ -1,11 +1,12 @@
 //! What stands before an operand, and what goes on after it, by the tokens that come next.
 
-ghost use Rattle.std.specs.Prelude.{◌≡◌, ◌-◌, ◌==◌, ℕ, List};
+ghost use Rattle.std.specs.Prelude.{◌≡◌, ◌-◌, ◌==◌, ◌∷◌, ℕ, List};
+ghost use Rattle.sql_lexer.specs.declared.keyword.Keyword.TheVariants as w;
 ghost use Rattle.sql_lexer.specs.declared.token.Token.{Token as Spelling};
 ghost use Rattle.sql_expr.specs.declared.levels.Deep.{Deep};
 ghost use Rattle.sql_expr.specs.Forms.{by_turn};
 ghost use Rattle.sql_expr.specs.Grammar as grammar;
-ghost use Rattle.sql_expr.specs.Symbols.{Symbol, seen};
+ghost use Rattle.sql_expr.specs.Symbols.{Symbol, seen, word};
 ghost use Rattle.sql_expr.specs.Reading as spec;
 
 use crate::token::Rest;
@@ -97,6 +98,31 @@ pub fn is_prefixed(rank: u8, tokens: Rest<'_>) -> bool
     }
 }
 
+/// The form that goes on with IS.
+#[tactic(auto, unfolding(crate::specs::Reading::tail))]
+fn turn_of_is<'a>(tokens: Rest<'a>) -> (Turn, Rest<'a>)
+    ensures { (whole : List Spelling) (inner : ℕ → List Symbol → spec.Read Deep) (room rank : ℕ) (left : Deep)
+        → spec.tail inner room rank left (word w.Is ∷ seen whole tokens.now) ≡ by_turn inner room rank left result.0 (seen whole result.1.now) }
+{
+    match tokens {
+        [keyword!(Not), rest @ ..] => (Turn::Binary(Operator::IsNot), rest),
+        _ => (Turn::Binary(Operator::Is), tokens),
+    }
+}
+
+/// The form that goes on with NOT.
+#[tactic(auto, unfolding(crate::specs::Reading::tail))]
+fn turn_of_not<'a>(tokens: Rest<'a>) -> (Turn, Rest<'a>)
+    ensures { (whole : List Spelling) (inner : ℕ → List Symbol → spec.Read Deep) (room rank : ℕ) (left : Deep)
+        → spec.tail inner room rank left (word w.Not ∷ seen whole tokens.now) ≡ by_turn inner room rank left result.0 (seen whole result.1.now) }
+{
+    match tokens {
+        [keyword!(Between), rest @ ..] => (Turn::Between(true), rest),
+        [keyword!(In), rest @ ..] => (Turn::In(true), rest),
+        _ => (Turn::Nothing, tokens),
+    }
+}
+
 /// The form that goes on, and the tokens after its first words.
 #[tactic(auto, unfolding(crate::specs::Reading::tail))]
 pub fn turn_of<'a>(tokens: Rest<'a>) -> (Turn, Rest<'a>)
@@ -105,13 +131,10 @@ pub fn turn_of<'a>(tokens: Rest<'a>) -> (Turn, Rest<'a>)
 {
     match tokens {
         [keyword!(Collate), rest @ ..] => (Turn::Collate, rest),
-        [keyword!(Is), keyword!(Not), rest @ ..] => (Turn::Binary(Operator::IsNot), rest),
-        [keyword!(Is), rest @ ..] => (Turn::Binary(Operator::Is), rest),
+        [keyword!(Is), rest @ ..] => turn_of_is(rest),
         [keyword!(Between), rest @ ..] => (Turn::Between(false), rest),
         [keyword!(In), rest @ ..] => (Turn::In(false), rest),
-        [keyword!(Not), keyword!(Between), rest @ ..] => (Turn::Between(true), rest),
-        [keyword!(Not), keyword!(In), rest @ ..] => (Turn::In(true), rest),
-        [keyword!(Not), rest @ ..] => (Turn::Nothing, rest),
+        [keyword!(Not), rest @ ..] => turn_of_not(rest),
         [token, rest @ ..] => match operator(token.kind) {
             Some(op) => (Turn::Binary(op), rest),
             None => (Turn::Nothing, tokens),
