@@ -1,5 +1,5 @@
 -- What is read after a part of an expression.
-use Rattle.std.specs.Prelude.{ℕ, List, Some, Result, Ok, Err}
+use Rattle.std.specs.Prelude.{ℕ, List, Some, Ok}
 use Rattle.sql_lexer.specs.declared.token.Kind.TheVariants as k
 use Rattle.sql_syntax.specs.Tree as tree
 use Rattle.sql_expr.specs.Symbols.{Symbol}

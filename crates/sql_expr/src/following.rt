@@ -1,6 +1,6 @@
 //! What stands before an operand, and what goes on after it, by the tokens that come next.
 
-ghost use Rattle.std.specs.Prelude.{◌≡◌, ◌-◌, ◌==◌, ◌∷◌, ℕ, List};
+ghost use Rattle.std.specs.Prelude.{◌≡◌, ◌∷◌, ℕ, List};
 ghost use Rattle.sql_lexer.specs.declared.keyword.Keyword.TheVariants as w;
 ghost use Rattle.sql_lexer.specs.declared.token.Token.{Token as Spelling};
 ghost use Rattle.sql_expr.specs.declared.levels.Deep.{Deep};

@@ -1,10 +1,9 @@
 //! Forms of expressions over their parts, or why a part was refused; what isn't used is let go of here.
 
-ghost use Rattle.std.specs.Prelude.{◌≡◌, ◌-◌, ℕ, List, length, max, Ok, Err};
+ghost use Rattle.std.specs.Prelude.{◌≡◌, ◌-◌, ℕ, List, max, Ok};
 ghost use Rattle.sql_lexer.specs.declared.token.Token.{Token as Spelling};
 ghost use Rattle.sql_syntax.specs.Tree as tree;
 ghost use Rattle.sql_syntax.specs.View.{tree_of};
-ghost use Rattle.sql_expr.specs.declared.refusal.Refusal.TheVariants.{Syntax, TooLong};
 ghost use Rattle.sql_expr.specs.Forms.{all_closed, and_then, closing, of_all, of_source};
 ghost use Rattle.sql_expr.specs.Seen.{deep_of, seen_all};
 ghost use Rattle.sql_expr.specs.Symbols.{meant, seen, spelling_at};

@@ -1,7 +1,7 @@
-use Rattle.std.proofs.Common.{rules, ◌-◌, arith, ◌∙◌, sym, subst, refl}
+use Rattle.std.proofs.Common.{rules, ◌-◌, arith}
 use Rattle.std.proofs.lemmas.Grind.{common_steps}
 use Rattle.sql_expr.specs.Symbols.{seen}
-use Rattle.sql_expr.specs.Reading.{Gives, among, between, items, items_upto, level_at, operand, paren, tails}
+use Rattle.sql_expr.specs.Reading.{among, between, items, items_upto, level_at, operand, paren, tails}
 use Rattle.sql_expr.specs.Seen.{deep_of}
 use Rattle.sql_expr.proofs.Turns.{one_more, one_more_seen}
 use Rattle.sql_expr.proofs.levels.+expression.Goals as goal
