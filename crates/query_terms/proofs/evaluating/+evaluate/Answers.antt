@@ -105,10 +105,14 @@ of_two-returns-in-Or t c =
     search rules
 
 pub identity-returns : goal.identity-returns
-identity-returns t c = told_apart c.args.is_not c.args.left.now c.args.right.now (seen c.args.env.now) c.manner_of_two-manner.result c.of_sameness.result c.manner_of_two-manner.ensures (c.of_sameness.ensures _ (c.sameness_of.ensures _ c.both.ensures))
+identity-returns t c =
+    let given = told_apart c.args.is_not c.args.left.now c.args.right.now (seen c.args.env.now) c.manner_of_two-manner.result c.of_sameness.result c.manner_of_two-manner.ensures (c.of_sameness.ensures _ (c.sameness_of.ensures _ c.both.ensures)) in
+    search rules
 
 pub side-returns : goal.side-returns
-side-returns t c = c.stands.ensures _ c.evaluate.ensures
+side-returns t c =
+    let given = c.stands.ensures _ c.evaluate.ensures in
+    search rules
 
 pub among-returns : goal.among-returns
 among-returns t c =
