@@ -1,7 +1,9 @@
 -- BETWEEN as two sides, the second of which is met where the first doesn't decide.
-use Rattle.std.proofs.Common.{◌≡◌, refl, Bool, true, false, Option, Some, None, Ok, Err}
+use Rattle.std.proofs.Common.{◌≡◌, refl, subst, sym, Bool, true, false, Option, Some, None, Result, Ok, Err}
 use Rattle.sqlval.specs.Refusals.{Answer, ◌then◌}
+use Rattle.sqlval.specs.declared.fault.Fault.{Fault}
 use Rattle.sqlval.specs.declared.value.Value.{Value}
+use Rattle.query_terms.specs.Outcome.{Answers}
 use Rattle.query_terms.specs.Rows.{and_truth, both_sides, compared_to, manner_of}
 use Rattle.query_terms.specs.Terms.{Term, Between}
 use Rattle.query_terms.specs.declared.tree.Comparison.TheVariants.{GreaterOrEqual, LessOrEqual}
@@ -43,7 +45,7 @@ low : (n : Bool) (a : Answer Value) (g : Value → Answer Value) (other : Answer
 low n (Err r) g other f = refl
 low n (Ok w) g other f = compared n (g w) other f
 
-pub in_limits : (n : Bool) (a b c : Term) (env : Environment)
+in_limits : (n : Bool) (a b c : Term) (env : Environment)
     → value (Between n a b c) env
     ≡ (value a env then λ v. then_turned n (both_sides (compared_to GreaterOrEqual (manner_of a b) v (value b env)) (compared_to LessOrEqual (manner_of a c) v (value c env))))
 in_limits n a b c env = by (value a env)
@@ -52,3 +54,15 @@ in_limits n a b c env = by (value a env)
         ≡ (x then λ v. then_turned n (both_sides (compared_to GreaterOrEqual (manner_of a b) v (value b env)) (compared_to LessOrEqual (manner_of a c) v (value c env))))
     by (Err r) = refl
     by (Ok v) = low n (value b env) (compared_as GreaterOrEqual a b v) (value c env) (compared_as LessOrEqual a c v)
+
+-- both sides of an operand with this value
+abbrev sides_of : Term → Term → Term → Environment → Value → Answer (Option Bool)
+sides_of a b c env v = both_sides (compared_to GreaterOrEqual (manner_of a b) v (value b env)) (compared_to LessOrEqual (manner_of a c) v (value c env))
+
+-- what answers as both sides under NOT answers as BETWEEN
+pub between_again : (n : Bool) (a b c : Term) (env : Environment) (w v : Value) (result : Result Value Fault) → value a env ≡ Ok v → w ≡ v
+    → Answers (sides_of a b c env w then λ t. turned n (of_truth t)) result → Answers (value (Between n a b c) env) result
+between_again n a b c env w v result is same given =
+    subst (λ x. Answers x result) (sym (in_limits n a b c env))
+    (subst (λ x. Answers (x then λ u. then_turned n (sides_of a b c env u)) result) (sym is)
+    (subst (λ u. Answers (then_turned n (sides_of a b c env u)) result) same given))

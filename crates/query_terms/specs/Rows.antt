@@ -1,5 +1,5 @@
 -- What the code holds of values and rows, as the definitions see it.
-use Rattle.std.specs.Prelude.{ℕ, Bool, true, false, not, ◌==◌, if◌then◌else◌, count_by, filter, Some, None, Ok, List, [], ◌∷◌, map, Option, unwrap_or, slice_get, option_and_then}
+use Rattle.std.specs.Prelude.{ℕ, Bool, true, false, not, ◌==◌, if◌then◌else◌, count_by, filter, Some, None, Ok, List, [], ◌∷◌, map, Option, unwrap_or, slice_get, option_and_then, neg_ℤ}
 use Rattle.std.specs.declared.cmp.Ordering.{Ordering}
 use Rattle.std.specs.Ordering.{is_lt, is_gt}
 use Rattle.sqlval.specs.Conversion.{word}
@@ -11,10 +11,13 @@ use Rattle.sqlval.specs.declared.value.Field.{Field}
 use Rattle.sqlval.specs.declared.value.Value.{Value}
 use Rattle.sqlval.specs.declared.value.Value.TheVariants.{Null}
 use Rattle.query_terms.specs.Terms.{Term, affinity, collation, collation_of_two}
-use Rattle.query_terms.specs.Values.{Row, Environment, best, both_hold, compare, is_null, total, truth, value}
+use Rattle.query_terms.specs.Values.{Row, Environment, applied_to_one, best, both_hold, compare, is_null, negated, on_number, total, truth, value}
 use Rattle.query_terms.specs.declared.comparing.Manner.{Manner}
 use Rattle.query_terms.specs.declared.datum.Datum.{Datum}
 use Rattle.query_terms.specs.declared.datum.Datum.TheVariants.{Lent, Made}
+use Rattle.query_terms.specs.declared.operands.Sides.{Sides}
+use Rattle.query_terms.specs.declared.operands.Single.{Single}
+use Rattle.query_terms.specs.declared.operands.Single.TheVariants.{Minus, Not, Of}
 use Rattle.query_terms.specs.declared.rows.Env.{Env}
 use Rattle.query_terms.specs.declared.tree.Comparison.{Comparison}
 
@@ -22,6 +25,20 @@ use Rattle.query_terms.specs.declared.tree.Comparison.{Comparison}
 abbrev pub datum : Datum → Value
 datum (Lent f) = value_of f
 datum (Made v) = v
+
+-- the values of two operands
+abbrev pub pair : Sides → Value × Value
+pair s = (datum s.left, datum s.right)
+
+-- both values, or the first refusal
+abbrev pub pair_of : Answer Value → Answer Value → Answer (Value × Value)
+pair_of a b = a then λ v. b then λ w. Ok (v, w)
+
+-- what is made of a value
+abbrev pub made_of : Single → Value → Answer Value
+made_of Minus = on_number (λ z. word (neg_ℤ z))
+made_of Not = negated
+made_of (Of f) = applied_to_one f
 
 -- ---- rows
 

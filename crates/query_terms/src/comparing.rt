@@ -4,11 +4,12 @@ ghost use Rattle.std.specs.Prelude.{◌≡◌, ◌⊎◌, Bool, Ok};
 ghost use Rattle.sqlval.specs.Conversion.{converted};
 ghost use Rattle.sqlval.specs.Fields.{value_of};
 ghost use Rattle.query_terms.specs.Outcome.{Answers, AnswersBy};
-ghost use Rattle.query_terms.specs.Rows.{datum};
+ghost use Rattle.query_terms.specs.Rows.{datum, pair};
 ghost use Rattle.query_terms.specs.Values as meant;
 
 use crate::conversion_is_one;
 use crate::datum::Datum;
+use crate::operands::{Sides, beside};
 use crate::tree::Comparison;
 use sqlval::{Affinity, Collation, Field, R, Value, apply, compare_fields};
 use std::alloc::Global;
@@ -100,6 +101,22 @@ fn convert<'a>(alloc: Global, affinity: Affinity, value: Field<'a>) -> R<Datum<'
     }
 }
 
+/// Both values as they are compared.
+fn both_converted<'a>(
+    alloc: Global,
+    manner: Manner,
+    left: Field<'a>,
+    right: Field<'a>,
+) -> R<Sides<'a>>
+    ensures { AnswersBy pair (meant.both_converted manner.left manner.right (value_of left.entry) (value_of right.entry)) result }
+{
+    let first = convert(alloc, conversion(manner.left, manner.right), left)?;
+    beside(
+        first,
+        convert(alloc, conversion(manner.right, manner.left), right),
+    )
+}
+
 /// 1, 0 or NULL: how two values stand to each other.
 pub fn compare_by(
     alloc: Global,
@@ -110,21 +127,20 @@ pub fn compare_by(
 ) -> R<Value>
     ensures { Answers (meant.compare comparison manner.collation manner.left manner.right (value_of left.entry) (value_of right.entry)) result }
 {
-    let first = convert(alloc, conversion(manner.left, manner.right), left)?;
-    let second = convert(alloc, conversion(manner.right, manner.left), right)?;
-    Ok(compared(
-        comparison,
-        manner.collation,
-        first.as_field(),
-        second.as_field(),
-    ))
+    let sides = both_converted(alloc, manner, left, right)?;
+    let first = sides.left.as_field();
+    let outcome = compared(comparison, manner.collation, first, sides.right.as_field());
+    drop(sides);
+    Ok(outcome)
 }
 
 /// Whether two values are one.
 pub fn are_same(alloc: Global, manner: Manner, left: Field<'_>, right: Field<'_>) -> R<bool>
     ensures { Answers (meant.same manner.collation manner.left manner.right (value_of left.entry) (value_of right.entry)) result }
 {
-    let first = convert(alloc, conversion(manner.left, manner.right), left)?;
-    let second = convert(alloc, conversion(manner.right, manner.left), right)?;
-    Ok(compare_fields(first.as_field(), second.as_field(), manner.collation).is_eq())
+    let sides = both_converted(alloc, manner, left, right)?;
+    let first = sides.left.as_field();
+    let order = compare_fields(first, sides.right.as_field(), manner.collation);
+    drop(sides);
+    Ok(order.is_eq())
 }

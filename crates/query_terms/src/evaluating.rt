@@ -4,21 +4,24 @@ ghost use Rattle.std.specs.Prelude.{◌≡◌, ◌≢◌, ◌⊎◌, if◌then�
 ghost use Rattle.sqlval.specs.Fields.{value_of};
 ghost use Rattle.sqlval.specs.Refusals.{◌then◌};
 ghost use Rattle.query_terms.specs.Outcome.{Answers, AnswersBy};
-ghost use Rattle.query_terms.specs.Rows.{alone, at_each, both_sides, compared_to, datum, manner_of, seen};
+ghost use Rattle.query_terms.specs.Rows.{alone, at_each, both_sides, compared_to, datum, manner_of, pair, pair_of, seen};
 ghost use Rattle.query_terms.specs.Terms as tree;
 ghost use Rattle.query_terms.specs.Terms.{terms};
 ghost use Rattle.query_terms.specs.Values as meant;
 
 use crate::collating::{collation, manner_alone, manner_of_two};
-use crate::comparing::{Manner, are_same, compare_by, of_bool};
+use crate::comparing::Manner;
 use crate::datum::Datum;
 use crate::integers::integer_holds;
-use crate::numbers::{absolute, calculate, negative, word};
+use crate::numbers::word;
+use crate::operands::{
+    Sides, Single, aggregated_of, applied_of, beside, calculated_of, compared_of, concatenated_of,
+    made, of_holding, of_sameness, sameness_of, stands, truth_of, turned_holding,
+};
 use crate::rows::Env;
-use crate::texts::{concatenate, length_of, lower, type_of, upper};
-use crate::totals::{aggregated, count_word};
-use crate::tree::{Aggregate, Arithmetic, Comparison, Function, Node, OneSided, Term, TwoSided};
-use crate::truth::{both_hold, is_null, negated, of_truth, one_holds, truth, turned};
+use crate::totals::count_word;
+use crate::tree::{Aggregate, Comparison, Function, Node, OneSided, Term, TwoSided};
+use crate::truth::{both_hold, is_null, one_holds};
 use sqlval::{Field, R, Value};
 use std::alloc::Global;
 
@@ -29,23 +32,17 @@ pub fn evaluate<'a>(alloc: Global, term: &'a Term, env: &Env<'a>) -> R<Datum<'a>
 {
     match &term.node {
         Node::Const(value) => Ok(Datum::Lent(value.as_field())),
-        Node::Digits(number) => Ok(Datum::Made(word(i128::from(*number))?)),
+        Node::Digits(number) => made(word(i128::from(*number))),
         Node::Cell(source, place, _, _) => Ok(Datum::Lent(env.cell(*source, *place))),
         Node::Key(place, _) => Ok(Datum::Lent(env.key(*place))),
         Node::Collate(_, inner) => evaluate(alloc, inner, env),
         Node::Apply(function, list) => call(alloc, *function, list, env),
-        Node::Total(aggregate, argument) => {
-            Ok(Datum::Made(total(alloc, *aggregate, argument, env)?))
-        }
-        Node::One(operator, operand) => Ok(Datum::Made(of_one(alloc, *operator, operand, env)?)),
-        Node::Two(operator, left, right) => {
-            Ok(Datum::Made(of_two(alloc, *operator, left, right, env)?))
-        }
-        Node::In(is_negated, operand, list) => {
-            Ok(Datum::Made(among(alloc, *is_negated, operand, list, env)?))
-        }
+        Node::Total(aggregate, argument) => made(total(alloc, *aggregate, argument, env)),
+        Node::One(operator, operand) => made(of_one(alloc, *operator, operand, env)),
+        Node::Two(operator, left, right) => made(of_two(alloc, *operator, left, right, env)),
+        Node::In(is_negated, operand, list) => made(among(alloc, *is_negated, operand, list, env)),
         Node::Between(is_negated, operand, low, high) => {
-            Ok(Datum::Made(between(alloc, *is_negated, operand, low, high, env)?))
+            made(between(alloc, *is_negated, operand, low, high, env))
         }
     }
 }
@@ -71,7 +68,7 @@ fn value_holds<'a>(alloc: Global, term: &'a Term, env: &Env<'a>) -> R<Option<boo
     if let Some(test) = integer_holds(term, env) {
         return Ok(Some(test));
     }
-    truth(evaluate(alloc, term, env)?.as_field())
+    truth_of(evaluate(alloc, term, env))
 }
 
 /// A minus or NOT.
@@ -81,7 +78,7 @@ fn of_one<'a>(alloc: Global, operator: OneSided, operand: &'a Term, env: &Env<'a
 {
     match operator {
         OneSided::Negated => minus(alloc, operand, env),
-        OneSided::Not => negated(evaluate(alloc, operand, env)?.as_field()),
+        OneSided::Not => applied_of(alloc, Single::Not, evaluate(alloc, operand, env)),
     }
 }
 
@@ -92,11 +89,20 @@ fn minus<'a>(alloc: Global, operand: &'a Term, env: &Env<'a>) -> R<Value>
 {
     match &operand.node {
         Node::Digits(number) => word(-i128::from(*number)),
-        _ => negative(evaluate(alloc, operand, env)?.as_field()),
+        _ => applied_of(alloc, Single::Minus, evaluate(alloc, operand, env)),
     }
 }
 
-/// An operator between two operands; the left one is evaluated first.
+/// The values of two operands; the left one is evaluated first.
+#[cycle(evaluate)]
+fn both<'a>(alloc: Global, left: &'a Term, right: &'a Term, env: &Env<'a>) -> R<Sides<'a>>
+    ensures { AnswersBy pair (pair_of (meant.value left.now (seen env.now)) (meant.value right.now (seen env.now))) result }
+{
+    let first = evaluate(alloc, left, env)?;
+    beside(first, evaluate(alloc, right, env))
+}
+
+/// An operator between two operands.
 #[cycle(evaluate)]
 fn of_two<'a>(
     alloc: Global,
@@ -108,13 +114,16 @@ fn of_two<'a>(
     ensures { Answers (meant.value (tree.Two operator left.now right.now) (seen env.now)) result }
 {
     match operator {
-        TwoSided::Compare(operator) => comparison(alloc, operator, left, right, env),
-        TwoSided::Calculate(operator) => calculation(alloc, operator, left, right, env),
-        TwoSided::Is => Ok(of_bool(identity(alloc, false, left, right, env)?)),
-        TwoSided::IsNot => Ok(of_bool(identity(alloc, true, left, right, env)?)),
-        TwoSided::And => Ok(of_truth(joined(alloc, false, left, right, env)?)),
-        TwoSided::Or => Ok(of_truth(joined(alloc, true, left, right, env)?)),
-        TwoSided::Concatenate => concatenation(alloc, left, right, env),
+        TwoSided::Compare(operator) => {
+            let manner = manner_of_two(left, right);
+            compared_of(alloc, operator, manner, both(alloc, left, right, env))
+        }
+        TwoSided::Calculate(operator) => calculated_of(operator, both(alloc, left, right, env)),
+        TwoSided::Is => identity(alloc, false, left, right, env),
+        TwoSided::IsNot => identity(alloc, true, left, right, env),
+        TwoSided::And => of_holding(joined(alloc, false, left, right, env)),
+        TwoSided::Or => of_holding(joined(alloc, true, left, right, env)),
+        TwoSided::Concatenate => concatenated_of(alloc, both(alloc, left, right, env)),
     }
 }
 
@@ -142,49 +151,6 @@ fn joined<'a>(
     }
 }
 
-/// An operator on numbers.
-#[cycle(evaluate)]
-fn calculation<'a>(
-    alloc: Global,
-    operator: Arithmetic,
-    left: &'a Term,
-    right: &'a Term,
-    env: &Env<'a>,
-) -> R<Value>
-    ensures { Answers (meant.value (tree.Two (TwoSided.Calculate operator) left.now right.now) (seen env.now)) result }
-{
-    let first = evaluate(alloc, left, env)?;
-    let second = evaluate(alloc, right, env)?;
-    calculate(operator, first.as_field(), second.as_field())
-}
-
-/// `||`.
-#[cycle(evaluate)]
-fn concatenation<'a>(alloc: Global, left: &'a Term, right: &'a Term, env: &Env<'a>) -> R<Value>
-    ensures { Answers (meant.value (tree.Two TwoSided.Concatenate left.now right.now) (seen env.now)) result }
-{
-    let first = evaluate(alloc, left, env)?;
-    let second = evaluate(alloc, right, env)?;
-    concatenate(alloc, first.as_field(), second.as_field())
-}
-
-/// A comparison: 1, 0 or NULL.
-#[cycle(evaluate)]
-fn comparison<'a>(
-    alloc: Global,
-    operator: Comparison,
-    left: &'a Term,
-    right: &'a Term,
-    env: &Env<'a>,
-) -> R<Value>
-    ensures { Answers (meant.value (tree.Two (TwoSided.Compare operator) left.now right.now) (seen env.now)) result }
-{
-    let first = evaluate(alloc, left, env)?;
-    let second = evaluate(alloc, right, env)?;
-    let manner = manner_of_two(left, right);
-    compare_by(alloc, operator, manner, first.as_field(), second.as_field())
-}
-
 /// IS and IS NOT.
 #[cycle(evaluate)]
 fn identity<'a>(
@@ -193,15 +159,15 @@ fn identity<'a>(
     left: &'a Term,
     right: &'a Term,
     env: &Env<'a>,
-) -> R<bool>
-    ensures { AnswersBy meant.of_bool
+) -> R<Value>
+    ensures { Answers
         (meant.value (tree.Two (if is_not then TwoSided.IsNot else TwoSided.Is) left.now right.now) (seen env.now)) result }
 {
-    let first = evaluate(alloc, left, env)?;
-    let second = evaluate(alloc, right, env)?;
     let manner = manner_of_two(left, right);
-    let is_same = are_same(alloc, manner, first.as_field(), second.as_field())?;
-    if is_not { Ok(!is_same) } else { Ok(is_same) }
+    of_sameness(
+        is_not,
+        sameness_of(alloc, manner, both(alloc, left, right, env)),
+    )
 }
 
 /// How an operand's value stands to another expression's.
@@ -216,9 +182,7 @@ fn side<'a>(
 ) -> R<Option<bool>>
     ensures { Answers (compared_to comparison manner (value_of value.entry) (meant.value term.now (seen env.now))) result }
 {
-    let other = evaluate(alloc, term, env)?;
-    let outcome = compare_by(alloc, comparison, manner, value, other.as_field())?;
-    truth(outcome.as_field())
+    stands(alloc, comparison, manner, value, evaluate(alloc, term, env))
 }
 
 /// Whether an operand of this manner and value equals another expression.
@@ -275,8 +239,9 @@ fn among<'a>(
     ensures { Answers (meant.value (tree.In is_negated operand.now (terms list.now)) (seen env.now)) result }
 {
     let value = evaluate(alloc, operand, env)?;
-    let found = found_among(alloc, operand, value.as_field(), list, env)?;
-    turned(is_negated, of_truth(found))
+    let found = found_among(alloc, operand, value.as_field(), list, env);
+    drop(value);
+    turned_holding(is_negated, found)
 }
 
 /// Whether `>=` holds of the least, and then `<=` of the greatest.
@@ -306,7 +271,6 @@ fn within<'a>(
 
 /// BETWEEN and NOT BETWEEN.
 #[cycle(evaluate)]
-#[tactic(auto, using(crate::proofs::Limits::in_limits))]
 fn between<'a>(
     alloc: Global,
     is_negated: bool,
@@ -319,8 +283,9 @@ fn between<'a>(
         (meant.value (tree.Between is_negated operand.now low.now high.now) (seen env.now)) result }
 {
     let value = evaluate(alloc, operand, env)?;
-    let is_within = within(alloc, operand, value.as_field(), low, high, env)?;
-    turned(is_negated, of_truth(is_within))
+    let is_within = within(alloc, operand, value.as_field(), low, high, env);
+    drop(value);
+    turned_holding(is_negated, is_within)
 }
 
 /// A function of one row.
@@ -330,7 +295,11 @@ fn call<'a>(alloc: Global, function: Function, list: &'a [Term], env: &Env<'a>) 
 {
     match function {
         Function::Coalesce => first_value(alloc, list, env),
-        _ => Ok(Datum::Made(call_of_one(alloc, function, list, env)?)),
+        _ => made(applied_of(
+            alloc,
+            Single::Of(function),
+            first_argument(alloc, list, env),
+        )),
     }
 }
 
@@ -345,25 +314,9 @@ fn first_value<'a>(alloc: Global, list: &'a [Term], env: &Env<'a>) -> R<Datum<'a
         if !is_null(found.as_field()) {
             return Ok(found);
         }
+        drop(found);
     }
     Ok(Datum::Made(Value::Null))
-}
-
-/// What a function of one argument makes of it.
-#[cycle(evaluate)]
-fn call_of_one<'a>(alloc: Global, function: Function, list: &'a [Term], env: &Env<'a>) -> R<Value>
-    ensures { Answers
-        (meant.value_of_one (terms list.now) (seen env.now) then meant.applied_to_one function) result }
-{
-    let argument = first_argument(alloc, list, env)?;
-    match function {
-        Function::Abs => absolute(argument.as_field()),
-        Function::Length => length_of(alloc, argument.as_field()),
-        Function::Lower => lower(alloc, argument.as_field()),
-        Function::Upper => upper(alloc, argument.as_field()),
-        Function::TypeOf => type_of(alloc, argument.as_field()),
-        Function::Coalesce => Ok(argument.into_value(alloc)?),
-    }
 }
 
 /// The value of a function's first argument.
@@ -384,23 +337,16 @@ fn total<'a>(alloc: Global, aggregate: Aggregate, argument: &'a Term, env: &Env<
 {
     match aggregate {
         Aggregate::CountAll => count_word(env.group.len()),
-        _ => over_group(alloc, aggregate, argument, env),
+        _ => {
+            let collation = collation(argument);
+            aggregated_of(
+                alloc,
+                aggregate,
+                collation,
+                values_of_group(alloc, argument, env),
+            )
+        }
     }
-}
-
-/// An aggregate of an argument that is evaluated at each of the group's rows first.
-#[cycle(evaluate)]
-fn over_group<'a>(
-    alloc: Global,
-    aggregate: Aggregate,
-    argument: &'a Term,
-    env: &Env<'a>,
-) -> R<Value>
-    ensures { Answers
-        (at_each argument.now (seen env.now).group then meant.aggregated aggregate (tree.collation argument.now)) result }
-{
-    let values = values_of_group(alloc, argument, env)?;
-    aggregated(alloc, aggregate, collation(argument), values.as_slice())
 }
 
 /// The values of an expression at the group's rows.

@@ -7,6 +7,7 @@ mod datum;
 mod evaluating;
 mod integers;
 mod numbers;
+mod operands;
 mod places;
 mod rows;
 mod sameness;

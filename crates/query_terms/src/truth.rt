@@ -1,6 +1,6 @@
 //! Truth: true, false or NULL.
 
-ghost use Rattle.std.specs.Prelude.{◌≡◌, ◌⊎◌, Bool};
+ghost use Rattle.std.specs.Prelude.{◌≡◌, ◌⊎◌, Bool, Ok};
 ghost use Rattle.sqlval.specs.Fields.{value_of};
 ghost use Rattle.query_terms.specs.Outcome.{Answers};
 ghost use Rattle.query_terms.specs.Values as meant;
@@ -62,13 +62,14 @@ pub fn negated(value: Field<'_>) -> R<Value>
 }
 
 /// Under NOT, where it is written.
-pub fn turned(is_negated: bool, value: Value) -> R<Value>
-    ensures { Answers (meant.turned is_negated value) result }
+#[tactic(auto, using(crate::proofs::Truths::other))]
+pub fn turned(is_negated: bool, truth: Option<bool>) -> Option<bool>
+    ensures { meant.turned is_negated (meant.of_truth truth) ≡ Ok (meant.of_truth result) }
 {
-    if is_negated {
-        return negated(value.as_field());
+    match truth {
+        Some(is_true) if is_negated => Some(!is_true),
+        _ => truth,
     }
-    Ok(value)
 }
 
 /// Whether it is NULL.

@@ -1,6 +1,7 @@
 pub mod Depth
 pub mod Exact
 pub mod Follows
+pub mod Forms
 pub mod Grammar
 pub mod Limits
 pub mod Meaning

@@ -1,30 +1,31 @@
 //! Expressions, a function for each kind of rule.
 
-ghost use Rattle.std.specs.Prelude.{◌≡◌, ◌<◌, ◌≤◌, ◌-◌, ◌++◌, List, length, Ok, Err, IfOk, option_map};
-ghost use Rattle.sql_lexer.specs.declared.token.Token.{Token as Spelling};
+ghost use Rattle.std.specs.Prelude.{◌≡◌, ◌<◌, ◌≤◌, ◌-◌, ◌++◌, List, Ok, Err, IfOk};
 ghost use Rattle.sql_syntax.specs.Tree.{Tree};
-ghost use Rattle.sql_syntax.specs.View.{tree_of};
-ghost use Rattle.sql_expr.specs.declared.refusal.Refusal.TheVariants.{Syntax, TooLong};
+ghost use Rattle.sql_expr.specs.declared.refusal.Refusal.TheVariants.{TooLong};
 ghost use Rattle.sql_expr.specs.Depth.{deep};
 ghost use Rattle.sql_expr.specs.Exact.{Used};
 ghost use Rattle.sql_expr.specs.Follows.{EndsExpression};
-ghost use Rattle.sql_expr.specs.Grammar as grammar;
 ghost use Rattle.sql_expr.specs.Grammar.{IsExpression};
 ghost use Rattle.sql_expr.specs.Limits.{is_shallow};
-ghost use Rattle.sql_expr.specs.Symbols.{Symbol, meant, seen, spelling_at};
+ghost use Rattle.sql_expr.specs.Symbols.{Symbol, seen};
 ghost use Rattle.sql_expr.specs.Reading as spec;
 ghost use Rattle.sql_expr.specs.Reading.{Gives, ReadsBy, level_at};
-ghost use Rattle.sql_expr.specs.Seen.{seen_all};
+ghost use Rattle.sql_expr.specs.Seen.{deep_of, seen_all};
 
-use crate::literals::{blob_of, name_of, text_of};
-use crate::naming::name;
+use crate::following::{Turn, goes_on, is_prefixed, turn_of};
+use crate::forms::{
+    Boxed, all_in_box, binary, called_of_all, closed, collate, column, in_box, leaf, literal,
+    membership, over, parenthesized, raise, range, stuck, wrapped,
+};
+use crate::literals::name_of;
 use crate::refusal::{Read, Refusal, beside, unexpected};
-use crate::token::{Rest, SourceTokens, TokenAt, spelling};
+use crate::token::{Rest, SourceTokens, spelling};
 use crate::words::{after_word, mark, word};
 use crate::{keyword, kind};
 use sql_lexer::{Keyword, Kind};
-use sql_syntax::{Expr, Node, Operator, RaiseAction};
-use sqlval::{Many, Name, Text};
+use sql_syntax::{Expr, Node, Operator};
+use sqlval::{Many, Name};
 use std::alloc::Global;
 
 /// The greatest depth of an expression.
@@ -127,107 +128,6 @@ pub fn maybe_after<'a>(
     }
 }
 
-fn leaf(node: Node) -> Deep
-    ensures { result ≡ spec.leaf (tree_of node) }
-{
-    Deep {
-        tree: Expr { node },
-        depth: 1,
-    }
-}
-
-/// A tree over others, of which the deepest has this depth.
-#[tactic(auto, unfolding(crate::specs::Reading::over))]
-fn over<'a>(room: usize, node: Node, depth: usize, rest: Rest<'a>) -> Read<'a, Deep>
-    ensures { (whole : List Spelling) → ReadsBy whole rest.now result (spec.over room (tree_of node) depth) }
-{
-    if depth < room {
-        let tree = Expr { node };
-        Ok((
-            Deep {
-                tree,
-                depth: depth + 1,
-            },
-            rest,
-        ))
-    } else {
-        drop(node);
-        Err(Refusal::TooLong)
-    }
-}
-
-/// The level whose chain a token goes on, and 0 where it goes on none.
-fn binds(kind: Kind) -> u8
-    ensures { result ≡ grammar.level_of kind }
-{
-    match kind {
-        Kind::Word(Keyword::Or) => 10,
-        Kind::Word(Keyword::And) => 9,
-        Kind::Word(Keyword::Not | Keyword::Is | Keyword::In | Keyword::Between) => 7,
-        Kind::Equal | Kind::DoubleEqual | Kind::NotEqual => 7,
-        Kind::Less | Kind::LessOrEqual | Kind::Greater | Kind::GreaterOrEqual => 6,
-        Kind::Plus | Kind::Minus => 5,
-        Kind::Star | Kind::Slash | Kind::Percent => 4,
-        Kind::Bars => 3,
-        Kind::Word(Keyword::Collate) => 2,
-        _ => 0,
-    }
-}
-
-/// The operator that stands between two operands.
-fn operator(kind: Kind) -> Option<Operator>
-    ensures { result ≡ grammar.operator kind }
-{
-    match kind {
-        Kind::Word(Keyword::Or) => Some(Operator::Or),
-        Kind::Word(Keyword::And) => Some(Operator::And),
-        Kind::Equal | Kind::DoubleEqual => Some(Operator::Equal),
-        Kind::NotEqual => Some(Operator::NotEqual),
-        Kind::Less => Some(Operator::Less),
-        Kind::LessOrEqual => Some(Operator::LessOrEqual),
-        Kind::Greater => Some(Operator::Greater),
-        Kind::GreaterOrEqual => Some(Operator::GreaterOrEqual),
-        Kind::Plus => Some(Operator::Add),
-        Kind::Minus => Some(Operator::Subtract),
-        Kind::Star => Some(Operator::Multiply),
-        Kind::Slash => Some(Operator::Divide),
-        Kind::Percent => Some(Operator::Remainder),
-        Kind::Bars => Some(Operator::Concatenate),
-        _ => None,
-    }
-}
-
-/// The level that a token before its operand belongs to, and 0 where it is no such token.
-fn prefixes(kind: Kind) -> u8
-    ensures { result ≡ spec.prefix_of kind }
-{
-    match kind {
-        Kind::Minus => 1,
-        Kind::Word(Keyword::Not) => 8,
-        _ => 0,
-    }
-}
-
-#[tactic(auto, unfolding(crate::specs::Reading::goes_on))]
-fn goes_on(rank: u8, tokens: Rest<'_>) -> bool
-    ensures { (whole : List Spelling) → result ≡ spec.goes_on rank (seen whole tokens.now) }
-{
-    match tokens {
-        [token, ..] => binds(token.kind) == rank,
-        [] => false,
-    }
-}
-
-#[tactic(auto, unfolding(crate::specs::Reading::is_prefixed))]
-fn is_prefixed(rank: u8, tokens: Rest<'_>) -> bool
-    ensures { (whole : List Spelling) → result ≡ spec.is_prefixed rank (seen whole tokens.now) }
-{
-    match tokens {
-        [token, ..] => prefixes(token.kind) == rank,
-        [] => false,
-    }
-}
-
 /// An expression of the level, with at most this depth.
 #[tactic(auto, unfolding(crate::specs::Reading::level_at))]
 #[cycle(expression)]
@@ -245,6 +145,22 @@ fn level<'a>(
         return Err(Refusal::TooLong);
     }
     ladder(alloc, spelled, room, rank, tokens)
+}
+
+/// An expression of the level inside a form of this room, in memory of its own.
+#[cycle(expression)]
+fn nested<'a>(
+    alloc: Global,
+    spelled: SourceTokens<'_>,
+    room: usize,
+    rank: u8,
+    tokens: Rest<'a>,
+) -> Read<'a, Boxed>
+    requires some { 0 < room }
+    requires rank { rank ≤ 10 }
+    ensures { Gives (λ x. (deep_of x.0, seen spelled.now x.1.now)) result (level_at (room - 1) rank (seen spelled.now tokens.now)) }
+{
+    all_in_box(alloc, level(alloc, spelled, room - 1, rank, tokens))
 }
 
 /// An expression of the level, where the room is for its outermost form.
@@ -287,15 +203,9 @@ fn prefix<'a>(
 {
     match tokens {
         [] => Err(Refusal::Syntax(0)),
-        [kind!(Minus), rest @ ..] => {
-            let (inner, rest) = level(alloc, spelled, room - 1, rank, rest)?;
-            let node = Node::Negated(Box::new(alloc, inner.tree)?);
-            over(room, node, inner.depth, rest)
-        }
-        [_, rest @ ..] => {
-            let (inner, rest) = level(alloc, spelled, room - 1, rank, rest)?;
-            let node = Node::Not(Box::new(alloc, inner.tree)?);
-            over(room, node, inner.depth, rest)
+        [token, rest @ ..] => {
+            let (inner, rest) = nested(alloc, spelled, room, rank, rest)?;
+            wrapped(room, token.kind, inner, rest)
         }
     }
 }
@@ -321,7 +231,7 @@ fn tails<'a>(
         if !goes_on(rank + 1, rest) {
             return Ok((left, rest));
         }
-        let (longer, after) = tail(alloc, spelled, room, rank, left, rest)?;
+        let (longer, after) = tail(alloc, spelled, room, rank, in_box(alloc, left)?, rest)?;
         left = longer;
         rest = after;
     }
@@ -333,63 +243,27 @@ fn tails<'a>(
 }
 
 /// What goes on after a left operand of the level above the rank, once.
-#[tactic(auto, unfolding(crate::specs::Reading::tail))]
 #[cycle(expression)]
 fn tail<'a>(
     alloc: Global,
     spelled: SourceTokens<'_>,
     room: usize,
     rank: u8,
-    left: Deep,
+    left: Boxed,
     tokens: Rest<'a>,
 ) -> Read<'a, Deep>
     requires some { 0 < room }
     requires rank { rank < 10 }
-    ensures { ReadsBy spelled.now tokens.now result (spec.tail (level_at (room - 1)) room rank left) }
+    ensures { ReadsBy spelled.now tokens.now result (spec.tail (level_at (room - 1)) room rank (deep_of left)) }
 {
-    match tokens {
-        [keyword!(Collate), rest @ ..] => collate(alloc, spelled, room, left, rest),
-        [keyword!(Is), keyword!(Not), rest @ ..] => {
-            operand(alloc, spelled, room, rank, Operator::IsNot, left, rest)
-        }
-        [keyword!(Is), rest @ ..] => operand(alloc, spelled, room, rank, Operator::Is, left, rest),
-        [keyword!(Between), rest @ ..] => between(alloc, spelled, room, rank, false, left, rest),
-        [keyword!(In), rest @ ..] => among(alloc, spelled, room, false, left, rest),
-        [keyword!(Not), keyword!(Between), rest @ ..] => between(
-            alloc, spelled, room, rank, true, left, rest,
-        ),
-        [keyword!(Not), keyword!(In), rest @ ..] => among(alloc, spelled, room, true, left, rest),
-        [keyword!(Not), rest @ ..] => stuck(left, rest),
-        [token, rest @ ..] => match operator(token.kind) {
-            Some(op) => operand(alloc, spelled, room, rank, op, left, rest),
-            None => stuck(left, tokens),
-        },
-        [] => stuck(left, tokens),
+    let (turn, rest) = turn_of(tokens);
+    match turn {
+        Turn::Collate => collate(alloc, spelled, room, left, rest),
+        Turn::Binary(op) => operand(alloc, spelled, room, rank, op, left, rest),
+        Turn::Between(is_negated) => between(alloc, spelled, room, rank, is_negated, left, rest),
+        Turn::In(is_negated) => among(alloc, spelled, room, is_negated, left, rest),
+        Turn::Nothing => stuck(left, rest),
     }
-}
-
-/// Lets go of an operand that nothing goes on with so.
-fn stuck<'a>(left: Deep, tokens: Rest<'a>) -> Read<'a, Deep>
-    ensures { result ≡ Err (Syntax (length tokens.now)) }
-{
-    drop(left);
-    Err(unexpected(tokens))
-}
-
-#[tactic(auto, unfolding(crate::specs::Reading::collate))]
-fn collate<'a>(
-    alloc: Global,
-    spelled: SourceTokens<'_>,
-    room: usize,
-    left: Deep,
-    tokens: Rest<'a>,
-) -> Read<'a, Deep>
-    ensures { ReadsBy spelled.now tokens.now result (spec.collate (level_at (room - 1)) room left) }
-{
-    let depth = left.depth;
-    let left = Box::new(alloc, left.tree)?;
-    let (collation, rest) = name(alloc, spelled, tokens)?;
-    over(room, Node::Collate(left, collation), depth, rest)
 }
 
 #[tactic(auto, unfolding(crate::specs::Reading::operand))]
@@ -400,19 +274,14 @@ fn operand<'a>(
     room: usize,
     rank: u8,
     op: Operator,
-    left: Deep,
+    left: Boxed,
     tokens: Rest<'a>,
 ) -> Read<'a, Deep>
     requires some { 0 < room }
     requires rank { rank < 10 }
-    ensures { ReadsBy spelled.now tokens.now result (spec.operand (level_at (room - 1)) room rank op left) }
+    ensures { ReadsBy spelled.now tokens.now result (spec.operand (level_at (room - 1)) room rank op (deep_of left)) }
 {
-    let left_depth = left.depth;
-    let left = Box::new(alloc, left.tree)?;
-    let (right, rest) = level(alloc, spelled, room - 1, rank, tokens)?;
-    let depth = left_depth.max(right.depth);
-    let node = Node::Binary(op, left, Box::new(alloc, right.tree)?);
-    over(room, node, depth, rest)
+    binary(room, op, left, nested(alloc, spelled, room, rank, tokens))
 }
 
 #[tactic(auto, unfolding(crate::specs::Reading::between))]
@@ -423,23 +292,22 @@ fn between<'a>(
     room: usize,
     rank: u8,
     is_negated: bool,
-    left: Deep,
+    left: Boxed,
     tokens: Rest<'a>,
 ) -> Read<'a, Deep>
     requires some { 0 < room }
     requires rank { rank < 10 }
-    ensures { ReadsBy spelled.now tokens.now result (spec.between (level_at (room - 1)) room rank is_negated left) }
+    ensures { ReadsBy spelled.now tokens.now result (spec.between (level_at (room - 1)) room rank is_negated (deep_of left)) }
 {
-    let left_depth = left.depth;
-    let left = Box::new(alloc, left.tree)?;
-    let (low, rest) = level(alloc, spelled, room - 1, rank, tokens)?;
-    let low_depth = low.depth;
-    let low = Box::new(alloc, low.tree)?;
+    let (low, rest) = nested(alloc, spelled, room, rank, tokens)?;
     let rest = word(Keyword::And, rest)?;
-    let (high, rest) = level(alloc, spelled, room - 1, rank, rest)?;
-    let depth = left_depth.max(low_depth.max(high.depth));
-    let node = Node::Between(is_negated, left, low, Box::new(alloc, high.tree)?);
-    over(room, node, depth, rest)
+    range(
+        room,
+        is_negated,
+        left,
+        low,
+        nested(alloc, spelled, room, rank, rest),
+    )
 }
 
 #[tactic(auto, unfolding(crate::specs::Reading::among))]
@@ -449,18 +317,14 @@ fn among<'a>(
     spelled: SourceTokens<'_>,
     room: usize,
     is_negated: bool,
-    left: Deep,
+    left: Boxed,
     tokens: Rest<'a>,
 ) -> Read<'a, Deep>
     requires some { 0 < room }
-    ensures { ReadsBy spelled.now tokens.now result (spec.among (level_at (room - 1)) room is_negated left) }
+    ensures { ReadsBy spelled.now tokens.now result (spec.among (level_at (room - 1)) room is_negated (deep_of left)) }
 {
-    let left_depth = left.depth;
-    let left = Box::new(alloc, left.tree)?;
     let rest = mark(Kind::LeftParen, tokens)?;
-    let (found, rest) = items(alloc, spelled, room, rest)?;
-    let node = Node::In(is_negated, left, found.trees);
-    over(room, node, left_depth.max(found.depth), rest)
+    membership(room, is_negated, left, items(alloc, spelled, room, rest))
 }
 
 /// Expressions up to a closing parenthesis.
@@ -475,8 +339,7 @@ fn items<'a>(
     requires some { 0 < room }
     ensures { Gives (λ x. (seen_all x.0, seen spelled.now x.1.now)) result (spec.items (level_at (room - 1)) room (seen spelled.now tokens.now)) }
 {
-    let (found, rest) = items_from(alloc, spelled, room, tokens)?;
-    Ok((found, mark(Kind::RightParen, rest)?))
+    closed(items_from(alloc, spelled, room, tokens))
 }
 
 /// One or more expressions with commas between, each with less depth than the room.
@@ -529,29 +392,9 @@ fn atom<'a>(
                 rest,
             )
         }
-        [token, rest @ ..] => match literal(alloc, spelled, *token)? {
-            Some(node) => Ok((leaf(node), rest)),
-            None => Err(unexpected(tokens)),
-        },
+        [token, rest @ ..] => literal(alloc, spelled, *token, rest, tokens),
         [] => Err(Refusal::Syntax(0)),
     }
-}
-
-/// An integer, a text, a blob or NULL.
-fn literal(
-    alloc: Global,
-    spelled: SourceTokens<'_>,
-    token: TokenAt,
-) -> Result<Option<Node>, Refusal>
-    ensures { Gives (λ node. option_map tree_of node) result (Ok (spec.literal (meant token.kind (spelling_at spelled.now token.place)))) }
-{
-    Ok(match token.kind {
-        Kind::Word(Keyword::Null) => Some(Node::Null),
-        Kind::Integer(n) => Some(Node::Integer(n)),
-        Kind::Text => Some(Node::Text(text_of(alloc, spelling(spelled, token))?)),
-        Kind::Blob => Some(Node::Blob(blob_of(alloc, spelling(spelled, token))?)),
-        _ => None,
-    })
 }
 
 #[tactic(auto, unfolding(crate::specs::Reading::paren))]
@@ -565,11 +408,7 @@ fn paren<'a>(
     requires some { 0 < room }
     ensures { ReadsBy spelled.now tokens.now result (spec.paren (level_at (room - 1)) room) }
 {
-    let (inner, rest) = level(alloc, spelled, room - 1, OR, tokens)?;
-    let depth = inner.depth;
-    let inner = Box::new(alloc, inner.tree)?;
-    let rest = mark(Kind::RightParen, rest)?;
-    over(room, Node::Paren(inner), depth, rest)
+    parenthesized(room, nested(alloc, spelled, room, OR, tokens))
 }
 
 /// What goes on after a name: a column of a source, a function's arguments, or nothing.
@@ -586,10 +425,7 @@ fn named<'a>(
     ensures { ReadsBy spelled.now tokens.now result (spec.named (level_at (room - 1)) room first) }
 {
     match tokens {
-        [kind!(Dot), rest @ ..] => {
-            let (column, rest) = name(alloc, spelled, rest)?;
-            Ok((leaf(Node::Column(Some(first), column)), rest))
-        }
+        [kind!(Dot), rest @ ..] => column(alloc, spelled, first, rest),
         [kind!(LeftParen), rest @ ..] => call(alloc, spelled, room, first, rest),
         _ => Ok((leaf(Node::Column(None, first)), tokens)),
     }
@@ -612,51 +448,10 @@ fn call<'a>(
         [kind!(RightParen), rest @ ..] => {
             over(room, Node::Call(function, Vec::new(alloc)), 0, rest)
         }
-        [kind!(Star), rest @ ..] => {
-            let rest = mark(Kind::RightParen, rest)?;
-            Ok((leaf(Node::CallAll(function)), rest))
-        }
+        [kind!(Star), rest @ ..] => called_of_all(function, rest),
         _ => {
             let (found, rest) = items(alloc, spelled, room, tokens)?;
             over(room, Node::Call(function, found.trees), found.depth, rest)
         }
     }
-}
-
-/// What RAISE undoes.
-#[tactic(auto, unfolding(crate::specs::Reading::action_from))]
-fn action<'a>(tokens: Rest<'a>) -> Read<'a, RaiseAction>
-    ensures { (whole : List Spelling) → ReadsBy whole tokens.now result spec.action_from }
-{
-    match tokens {
-        [keyword!(Abort), rest @ ..] => Ok((RaiseAction::Abort, rest)),
-        [keyword!(Rollback), rest @ ..] => Ok((RaiseAction::Rollback, rest)),
-        _ => Err(unexpected(tokens)),
-    }
-}
-
-/// A text.
-#[tactic(auto, unfolding(crate::specs::Reading::text_from))]
-fn text<'a>(alloc: Global, spelled: SourceTokens<'_>, tokens: Rest<'a>) -> Read<'a, Text>
-    ensures { ReadsBy spelled.now tokens.now result spec.text_from }
-{
-    match tokens {
-        [token @ kind!(Text), rest @ ..] => {
-            Ok((text_of(alloc, spelling(spelled, *token))?, rest))
-        }
-        _ => Err(unexpected(tokens)),
-    }
-}
-
-/// What stands after RAISE.
-#[tactic(auto, unfolding(crate::specs::Reading::raise_from))]
-fn raise<'a>(alloc: Global, spelled: SourceTokens<'_>, tokens: Rest<'a>) -> Read<'a, Deep>
-    ensures { ReadsBy spelled.now tokens.now result spec.raise_from }
-{
-    let rest = mark(Kind::LeftParen, tokens)?;
-    let (action, rest) = action(rest)?;
-    let rest = mark(Kind::Comma, rest)?;
-    let (message, rest) = text(alloc, spelled, rest)?;
-    let rest = mark(Kind::RightParen, rest)?;
-    Ok((leaf(Node::Raise(action, message)), rest))
 }

@@ -1,6 +1,8 @@
 //! Expressions of SQL, and the words, names and literals that every rule of the grammar has.
 #![tactic(auto)]
 
+mod following;
+mod forms;
 mod laws;
 mod levels;
 mod literals;

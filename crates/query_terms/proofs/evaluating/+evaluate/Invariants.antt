@@ -26,17 +26,11 @@ decreases-minus l = size l.operand.now * 8 + 2
 abbrev pub decreases-joined : goal.decreases-joined
 decreases-joined l = (size l.left.now + size l.right.now) * 8 + 3
 
-abbrev pub decreases-calculation : goal.decreases-calculation
-decreases-calculation l = (size l.left.now + size l.right.now) * 8 + 2
-
-abbrev pub decreases-concatenation : goal.decreases-concatenation
-decreases-concatenation l = (size l.left.now + size l.right.now) * 8 + 2
-
-abbrev pub decreases-comparison : goal.decreases-comparison
-decreases-comparison l = (size l.left.now + size l.right.now) * 8 + 2
+abbrev pub decreases-both : goal.decreases-both
+decreases-both l = (size l.left.now + size l.right.now) * 8 + 2
 
 abbrev pub decreases-identity : goal.decreases-identity
-decreases-identity l = (size l.left.now + size l.right.now) * 8 + 2
+decreases-identity l = (size l.left.now + size l.right.now) * 8 + 3
 
 abbrev pub decreases-of_two : goal.decreases-of_two
 decreases-of_two l = (size l.left.now + size l.right.now) * 8 + 4
@@ -65,9 +59,6 @@ decreases-first_argument l = size_in (terms l.list.now) * 8 + 1
 abbrev pub decreases-first_value : goal.decreases-first_value
 decreases-first_value l = size_in (terms l.list.now) * 8 + 1
 
-abbrev pub decreases-call_of_one : goal.decreases-call_of_one
-decreases-call_of_one l = size_in (terms l.list.now) * 8 + 2
-
 abbrev pub decreases-call : goal.decreases-call
 decreases-call l = size_in (terms l.list.now) * 8 + 3
 
@@ -82,9 +73,6 @@ invariant-found_among-terms l =
 
 abbrev pub decreases-total : goal.decreases-total
 decreases-total l = size l.argument.now * 8 + 3
-
-abbrev pub decreases-over_group : goal.decreases-over_group
-decreases-over_group l = size l.argument.now * 8 + 2
 
 abbrev pub decreases-values_of_group : goal.decreases-values_of_group
 decreases-values_of_group l = size l.term.now * 8 + 1

@@ -32,6 +32,9 @@ decreases-level l = l.room * 64 + 63
 abbrev pub decreases-named : goal.decreases-named
 decreases-named l = l.room * 64 + 6
 
+abbrev pub decreases-nested : goal.decreases-nested
+decreases-nested l = l.room * 64
+
 abbrev pub decreases-operand : goal.decreases-operand
 decreases-operand l = l.room * 64 + 5
 
