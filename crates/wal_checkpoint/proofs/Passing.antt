@@ -40,6 +40,15 @@ only_copied false known m = refl
 pub copied_alone : (known : LogState) (target : Snapshot) → after_copying known target ≡ record known { copied = (after_copying known target).copied }
 copied_alone known target = only_copied (sees_uncopied known target) known (seen_by target)
 
+kept_header : (known : LogState) (fault : Fault) → (after_refusal known fault).header ≡ known.header
+kept_header known Io = refl
+kept_header known _ = refl
+
+-- the header is as it was, refused or not
+pub copied_header : (result : Result (Unit {0}) Fault) (target : Snapshot) (old new : LogState) → IsStateCopied result target old new → new.header ≡ old.header
+copied_header (Ok u) target old new is = ap (λ (s : LogState). s.header) (is ∙ copied_alone old target)
+copied_header (Err e) target old new is = ap (λ (s : LogState). s.header) is ∙ kept_header old e
+
 some_under : (b : Bool) (h : LogHeader) (log : List ℕ) (n : ℕ) → (b ≡ false → n ≡ 0) → 0 < n → frames_under (header_where b h) log n ≡ [] → ⊥
 some_under true h log n none some is = omega (arith, some, framed_len h log n, ap length is)
 some_under false h log n none some is = omega (arith, some, none refl)
