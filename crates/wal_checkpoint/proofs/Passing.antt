@@ -23,7 +23,7 @@ use Rattle.wal.specs.declared.log.Log.{Log}
 use Rattle.wal.specs.declared.log.Snapshot.{Snapshot}
 use Rattle.wal.proofs.FrameLists.{framed_len}
 use Rattle.pager.specs.Views.{Tells, newest_view, view_at}
-use Rattle.wal_checkpoint.specs.Shown.{Checkpoints, IsCheckpointRefusal, LeaveShown, MayCopy, Meanwhile, ShowsNewest, ShowsSame}
+use Rattle.wal_checkpoint.specs.Shown.{Checkpoints, IsCheckpointRefusal, IsRefusedCopying, LeaveShown, MayCopy, Meanwhile, ShowsNewest, ShowsSame}
 
 -- a crash leaves a synced file as it is
 pub left_is : (file : File) → IsSynced file → (c : List ℕ) → IsLeft (versions file) c → c ≡ file.content
@@ -243,8 +243,14 @@ module _ {D : Type 0} {g : Ghosts D} (old : Log D g) (target : Snapshot) where
     refusal (Damaged Size number) may known is = absurd (never_missing may number (is.1 may.told.db may.told.log))
     refusal _ may known is = absurd is
 
-    pub copy_refused : (result : Result (Unit {0}) Fault) → MayCopy old target → IsStateCopied result target (state_of old) (state_of new)
+    short : (has_failed : Bool) (Missing : ℕ → Type 0) (Same : Type 0) (fault : Fault) → IsCopyRefusal has_failed Missing Same fault → fault ≡ Memory → Same
+    short has_failed Missing Same fault is memory = subst (IsCopyRefusal has_failed Missing Same) memory is
+
+    pub copy_refused : (result : Result (Unit {0}) Fault) → IsStateCopied result target (state_of old) (state_of new)
         → IfErr result (IsCopyRefusal (state_of old).has_failed (λ number. IsTrue (g.tells (db_of old)) → IsTrue (g.tells (log_of old)) → IsMissing (state_of old) target db.content log.content number)
-        ((db_of new ≡ db_of old) × (log_of new ≡ log_of old))) → IfErr result (IsCheckpointRefusal old new)
-    copy_refused (Ok u) may known is = tt
-    copy_refused (Err e) may known is = refusal e may known is
+        ((db_of new ≡ db_of old) × (log_of new ≡ log_of old))) → IfErr result (IsRefusedCopying old target new)
+    copy_refused (Ok u) known is = tt
+    copy_refused (Err e) known is = (
+      short (state_of old).has_failed (λ number. IsTrue (g.tells (db_of old)) → IsTrue (g.tells (log_of old)) → IsMissing (state_of old) target db.content log.content number) ((db_of new ≡ db_of old) × (log_of new ≡ log_of old)) e is,
+      λ may. refusal e may known is,
+    )

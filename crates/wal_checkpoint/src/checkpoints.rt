@@ -6,8 +6,8 @@ ghost use Rattle.wal.specs.ErrorCauses.{HasCause};
 ghost use Rattle.wal.specs.LogState.{log_of, seen_by, state_of};
 ghost use Rattle.pager.specs.Views.{Tells};
 ghost use Rattle.wal_checkpoint.specs.Answers.{counts_of, no_counts};
-ghost use Rattle.wal_checkpoint.specs.Emptied.{Emptied, EmptiedMeanwhile, MayEmpty};
-ghost use Rattle.wal_checkpoint.specs.Shown.{Checkpoints, IsCheckpointRefusal, MayCopy, Meanwhile};
+ghost use Rattle.wal_checkpoint.specs.Emptied.{Emptied, EmptiedMeanwhile, IsRefusedEmptying, MayEmpty};
+ghost use Rattle.wal_checkpoint.specs.Shown.{Checkpoints, IsRefusedCopying, MayCopy, Meanwhile};
 
 use disk::Disk;
 use sqlval::{Fault, R};
@@ -32,7 +32,7 @@ fn copy_seen<D: Disk + Drop>(alloc: Global, log: &mut Log<D>, target: Snapshot) 
     ensures kept { (state_of log.new).header ≡ (state_of log.old).header }
     ensures done { MayCopy log.old target → OnOk result (Checkpoints log.old target false log.new) }
     ensures crash { MayCopy log.old target → Meanwhile log.old target log.new }
-    ensures refused { MayCopy log.old target → IfErr result (IsCheckpointRefusal log.old log.new) }
+    ensures refused { IfErr result (IsRefusedCopying log.old target log.new) }
     ensures cause { HasCause false result log.old log.new }
 {
     if log.frame_count() == 0 {
@@ -50,7 +50,7 @@ pub fn passive<D: Disk + Drop>(alloc: Global, log: &mut Log<D>, target: Snapshot
     ensures kept { (state_of log.new).header ≡ (state_of log.old).header }
     ensures done { MayCopy log.old target → OnOk result (Checkpoints log.old target false log.new) }
     ensures crash { MayCopy log.old target → Meanwhile log.old target log.new }
-    ensures refused { MayCopy log.old target → IfErr result (IsCheckpointRefusal log.old log.new) }
+    ensures refused { IfErr result (IsRefusedCopying log.old target log.new) }
     ensures cause { HasCause false result log.old log.new }
 {
     copy_seen(alloc, log, target)?;
@@ -74,7 +74,7 @@ fn begin_anew<D: Disk + Drop>(log: &mut Log<D>) -> R<()>
     ensures crash { MayEmpty log.old → EmptiedMeanwhile log.old log.new }
     ensures anew { IsFalse (state_of log.old).has_failed → IsTrue (D.tells (log_of log.old)) → (state_of log.old).copied ≡ (state_of log.old).frames
         → OnOk result ((state_of log.new).frames ≡ 0) }
-    ensures refused { MayEmpty log.old → IfErr result (λ fault. fault ≡ Fault.Io) }
+    ensures refused { IfErr result (IsRefusedEmptying log.old) }
     ensures cause { HasCause false result log.old log.new }
 {
     if !is_all_copied(log) {
@@ -89,7 +89,7 @@ fn cut_to_nothing<D: Disk + Drop>(log: &mut Log<D>) -> R<()>
     ensures crash { MayEmpty log.old → EmptiedMeanwhile log.old log.new }
     ensures anew { (state_of log.old).copied ≡ (state_of log.old).frames → OnOk result (((state_of log.new).frames ≡ 0)
         × (IsTrue (D.tells (log_of log.old)) → (D.file (log_of log.new)).content ≡ [])) }
-    ensures refused { MayEmpty log.old → IfErr result (λ fault. fault ≡ Fault.Io) }
+    ensures refused { IfErr result (IsRefusedEmptying log.old) }
     ensures cause { HasCause false result log.old log.new }
 {
     if !is_all_copied(log) {
@@ -110,7 +110,7 @@ pub fn restart<D: Disk + Drop>(
         × (D.tells (log_of log.new) ≡ D.tells (log_of log.old))) }
     ensures done { MayCopy log.old target → OnOk result (Checkpoints log.old target is_alone log.new) }
     ensures crash { MayCopy log.old target → Meanwhile log.old target log.new }
-    ensures refused { MayCopy log.old target → IfErr result (IsCheckpointRefusal log.old log.new) }
+    ensures refused { IfErr result (IsRefusedCopying log.old target log.new) }
     ensures cause { HasCause false result log.old log.new }
     ensures anew { Tells log.old → (IsTrue is_alone → seen_by target ≡ (state_of log.old).frames)
         → OnOk result (IsTrue is_alone → (state_of log.new).frames ≡ 0) }
@@ -139,7 +139,7 @@ pub fn truncate<D: Disk + Drop>(
         × (D.tells (log_of log.new) ≡ D.tells (log_of log.old))) }
     ensures done { MayCopy log.old target → OnOk result (Checkpoints log.old target is_alone log.new) }
     ensures crash { MayCopy log.old target → Meanwhile log.old target log.new }
-    ensures refused { MayCopy log.old target → IfErr result (IsCheckpointRefusal log.old log.new) }
+    ensures refused { IfErr result (IsRefusedCopying log.old target log.new) }
     ensures cause { HasCause false result log.old log.new }
     ensures anew { (IsTrue is_alone → seen_by target ≡ (state_of log.old).frames) → OnOk result (IsTrue is_alone
         → ((state_of log.new).frames ≡ 0) × (IsTrue (D.tells (log_of log.old)) → (D.file (log_of log.new)).content ≡ [])) }
