@@ -39,7 +39,7 @@ use Rattle.session.specs.declared.seats.Transaction.{Transaction}
 use Rattle.session.specs.declared.seats.Transaction.TheVariants as transaction
 use Rattle.session.proofs.SeenPages.{at_newest}
 use Rattle.session.proofs.Parking.{busy_so}
-use Rattle.session.proofs.Settled.{as_shown, crash_keeps}
+use Rattle.session.proofs.Settled.{as_shown, crash_keeps, not_longer}
 use Rattle.session.proofs.Showing.{begins_in, idle_first, moved, still_shown}
 use Rattle.session.proofs.Stepping.{begin_outcome, begun_as, busy_begin, by_outcome, free_begin, instead}
 
@@ -97,6 +97,7 @@ module _ {D : Type 0} {g : Ghosts D} where
         (refusal.Busy, (0, omega arith, refl), refl, refl);
     shown = inr shown;
     crash = as_shown c m (inr shown);
+    renewed = λ more. not_longer m.history more;
   }
 
   -- the newest tables are those that a transaction without a snapshot sees
@@ -144,6 +145,7 @@ module _ {D : Type 0} {g : Ghosts D} where
                   (subst (λ (c : SavedCatalogs). ShowsDatabase (newest_view (files_of old)) (committed_in c) (newest m)) (sym start.catalog) base);
             })));
         crash = crash_keeps old new m next shown start.files;
+        renewed = λ more. not_longer m.history more;
       }
 
   -- where page 1 isn't read, when out of memory or a failed call
@@ -153,6 +155,7 @@ module _ {D : Type 0} {g : Ghosts D} where
     step = by_why (why m shown);
     shown = inr (still_shown old new m shown (reads.files shown.told) reads.beside reads.catalog reads.transaction);
     crash = crash_keeps old new m m shown (reads.files shown.told);
+    renewed = λ more. not_longer m.history more;
   }
     where
       outcome_is : outcome m old.connection (statement.Begin begins.Immediate) ≡ Gives [] (with_connection m old.connection (begun_as begins.Immediate m))

@@ -1,8 +1,8 @@
 -- A checkpoint is a step of the machine.
-use Rattle.std.proofs.Common.{◌≡◌, ◌⊎◌, ◌∙◌, inl, inr, refl, sym, ap, subst, ℕ, ◌-◌, List, [], ◌∷◌, Bool, true, false, arith}
-use Rattle.std.specs.Prelude.{◌||◌, pos, Result, Ok, Err, slice_set, if◌then◌else◌}
+use Rattle.std.proofs.Common.{◌≡◌, ◌⊎◌, ◌≤◌, ◌∙◌, inl, inr, refl, sym, ap, subst, ℕ, ◌-◌, List, [], ◌∷◌, Bool, true, false, arith}
+use Rattle.std.specs.Prelude.{◌||◌, IsTrue, pos, Result, Ok, Err, slice_set, if◌then◌else◌}
 use Rattle.std.specs.List.{list_any}
-use Rattle.std.proofs.lemmas.Bool.{false≢true}
+use Rattle.std.proofs.lemmas.Bool.{cases_lt, false≢true}
 use Rattle.disk.proofs.Moments.{throughout_both}
 use Rattle.disk.specs.declared.device.Disk.{Ghosts}
 use Rattle.sqlval.specs.Refusals as refusal
@@ -16,19 +16,24 @@ use Rattle.sql_syntax.specs.declared.statement.CheckpointMode.TheVariants as mod
 use Rattle.sql_syntax.specs.declared.statement.Statement.{Statement}
 use Rattle.sql_syntax.specs.declared.statement.Statement.TheVariants as statement
 use Rattle.catalog.specs.Database.{Database}
-use Rattle.wal.specs.LogState.{db_of, log_of}
+use Rattle.wal.specs.Anew.{begins_anew}
+use Rattle.wal.specs.LogState.{LogState, db_of, log_of, state_of}
+use Rattle.wal.specs.Restarts.{next_header}
+use Rattle.wal.specs.declared.log.Snapshot.{Snapshot}
 use Rattle.wal.specs.declared.log.Log.{Log}
 use Rattle.pager.specs.Views.{View, ViewHas, newest_view, view_at}
 use Rattle.wal_checkpoint.specs.declared.checkpoints.Counts.{Counts}
 use Rattle.wal_checkpoint.specs.Shown.{Checkpoints, IsCheckpointRefusal, MayCopy}
-use Rattle.session.specs.Checkpoints.{CopiesAfter, CopiesBack, IsCount, KeepsSeats, may_restart, numbers_of}
+use Rattle.session.specs.Applying.{BeginsAnewBeside}
+use Rattle.session.specs.Checkpoints.{CopiesAfter, CopiesQuietly, KeepsSeats}
 use Rattle.session.specs.ConnectionState.{files_of, has_failed_in, is_io}
+use Rattle.session.specs.CopiedBack.{CopiesBack, answer_of, is_kept, may_restart, numbers_of}
 use Rattle.session.specs.Crashes.{MayShow}
 use Rattle.session.specs.Holding.{HoldThroughout, IsLeftBy, LeaveHeld}
 use Rattle.session.specs.Machine.{Machine, Connection, Idle, InTransactionOf, Rows, Refused, another, connection, has_snapshot, newest}
 use Rattle.session.specs.Outcomes.{Copies, RefusedBy, outcome}
-use Rattle.session.specs.Representation.{AreParked, Beside, IsTransaction, RepresentsRunning, ShowTheSame, StepsOn, StepsTo, beside_in, is_idle, newest_tables}
-use Rattle.session.specs.Seats.{holds_snapshot, sees_snapshot}
+use Rattle.session.specs.Representation.{AreParked, Beside, CopiesAnswered, IsTransaction, RepresentsRunning, ShowTheSame, StepsOn, StepsTo, beside_in, is_alone, is_idle, newest_tables}
+use Rattle.session.specs.Seats.{holds_snapshot, see_none, sees_snapshot}
 use Rattle.session.specs.Steps.{Allowed, fails, is_connection}
 use Rattle.session.specs.Stored.{ShowsDatabase}
 use Rattle.session.specs.declared.savepoints.SavedCatalogs.{SavedCatalogs}
@@ -40,7 +45,7 @@ use Rattle.session.proofs.Committing.{same_files}
 use Rattle.session.proofs.Copied.{HasHeaderAt, IsSight, KeepsSights, alone_parked, alone_transaction, header_shown, least_sight, may_copy, moved_parked, newest_now, newest_same, settled_now, throughout_shown}
 use Rattle.session.proofs.SameViews.{same_shown}
 use Rattle.session.specs.Supported.{StepSoFar}
-use Rattle.session.proofs.Settled.{as_shown, held_end, settled_leaves, weaker}
+use Rattle.session.proofs.Settled.{as_shown, held_end, not_longer, settled_leaves, weaker}
 use Rattle.session.proofs.Showing.{busy_first, idle_first, still_shown}
 use Rattle.session.proofs.Stepping.{by_outcome, checkpoint_outcome, instead}
 
@@ -55,12 +60,25 @@ restart_alone modes.Truncate false is = refl
 abbrev row_with : Counts → Bool → List (List Value)
 row_with counts blocked = (Int (pos (if blocked then 1 else 0)) ∷ Int (pos counts.frames) ∷ Int (pos counts.copied) ∷ []) ∷ []
 
+-- it is answered whether the log was kept
+blocked_so : (mode : CheckpointMode) (others : Bool) (known : LogState) (target : Snapshot) → (answer_of mode others known target).is_blocked ≡ is_kept mode others
+blocked_so modes.Passive others known target = refl
+blocked_so modes.Restart others known target = refl
+blocked_so modes.Truncate true known target = refl
+blocked_so modes.Truncate false known target = refl
+
 -- what is answered may be answered
-answer_allowed : (m : Machine) (n : ℕ) (mode : CheckpointMode) (others : Bool) (counts : Counts) (rows : List (List Value)) → others ≡ another has_snapshot m n → IsCount mode others counts → rows ≡ numbers_of counts ∷ []
-    → Allowed m n (Copies mode) (Rows rows) m
-answer_allowed m n modes.Passive others counts rows same is one = (counts.frames, counts.copied, is.few, one ∙ ap (row_with counts) is.blocked, refl)
-answer_allowed m n modes.Restart others counts rows same is one = (counts.frames, counts.copied, is.few, one ∙ ap (row_with counts) (is.blocked ∙ same), refl)
-answer_allowed m n modes.Truncate others counts rows same is one = (counts.frames, counts.copied, is.few, one ∙ ap (row_with counts) (is.blocked ∙ same), refl)
+answer_allowed : (m : Machine) (n : ℕ) (mode : CheckpointMode) (others : Bool) (counts : Counts) (rows : List (List Value)) → others ≡ another has_snapshot m n → counts.is_blocked ≡ is_kept mode others → counts.copied ≤ counts.frames
+    → rows ≡ numbers_of counts ∷ [] → Allowed m n (Copies mode) (Rows rows) m
+answer_allowed m n modes.Passive others counts rows same blocked few one = (counts.frames, counts.copied, few, one ∙ ap (row_with counts) blocked, refl)
+answer_allowed m n modes.Restart others counts rows same blocked few one = (counts.frames, counts.copied, few, one ∙ ap (row_with counts) (blocked ∙ same), refl)
+answer_allowed m n modes.Truncate others counts rows same blocked few one = (counts.frames, counts.copied, few, one ∙ ap (row_with counts) (blocked ∙ same), refl)
+
+same_mode : (a b : CheckpointMode) → statement.Checkpoint a ≡ statement.Checkpoint b → a ≡ b
+same_mode a b is = cc
+
+same_rows : (xs ys : List (List Value)) → Rows xs ≡ Rows ys → xs ≡ ys
+same_rows xs ys is = cc
 
 idle_sees : (t : Transaction) → is_idle t ≡ true → sees_snapshot t ≡ false
 idle_sees transaction.Idle idle = refl
@@ -79,6 +97,7 @@ module _ {D : Type 0} {g : Ghosts D} where
         step = by_outcome m c.connection (statement.Checkpoint mode) refl shown.running shown.numbered (RefusedBy (refusal.InTransaction ∷ [])) (Refused refusal.InTransaction) m is (refusal.InTransaction, (0, omega arith, refl), refl, refl);
         shown = inr shown;
         crash = as_shown c m (inr shown);
+        renewed = λ more. not_longer m.history more;
       }
 
   sees_so : (files : Log D g) (catalog : SavedCatalogs) (history : List Database) (t : Transaction) (k : Connection) → IsTransaction files catalog history t k → sees_snapshot t ≡ has_snapshot k
@@ -159,13 +178,14 @@ module _ {D : Type 0} {g : Ghosts D} where
             sole = shown.sole;
           }
 
-      pub answered : (counts : Counts) (rows : List (List Value)) → IsCount mode others counts → rows ≡ numbers_of counts ∷ [] → StepsTo old m (statement.Checkpoint mode) (Rows rows) new
-      answered counts rows count one = record {
+      pub answered : (counts : Counts) (rows : List (List Value)) → counts.is_blocked ≡ is_kept mode others → counts.copied ≤ counts.frames → rows ≡ numbers_of counts ∷ [] → StepsTo old m (statement.Checkpoint mode) (Rows rows) new
+      answered counts rows blocked few one = record {
         next = m;
         step = by_outcome m old.connection (statement.Checkpoint mode) refl shown.running shown.numbered (Copies mode) (Rows rows) m outcome_is
-            (answer_allowed m old.connection mode others counts rows (others_so (files_of old) m.history old.parked.items ks shown.parked) count one);
+            (answer_allowed m old.connection mode others counts rows (others_so (files_of old) m.history old.parked.items ks shown.parked) blocked few one);
         shown = inr copied_shown;
         crash = held (MayShow m m) (inl refl);
+        renewed = λ more. not_longer m.history more;
       }
 
     -- what is left where a call of a disk has failed
@@ -183,6 +203,7 @@ module _ {D : Type 0} {g : Ghosts D} where
       step = by_outcome m old.connection (statement.Checkpoint mode) refl shown.running shown.numbered (Copies mode) (Refused refusal.Io) (fails m) outcome_is (refl, refl);
       shown = inl (marked, refl, left_failed);
       crash = held (MayShow m (fails m)) (inl refl);
+      renewed = λ more. not_longer m.history more;
     }
 
     short : beside_in new ≡ beside_in old → ShowTheSame (files_of old) (files_of new) → StepsTo old m (statement.Checkpoint mode) (Refused refusal.Memory) new
@@ -191,6 +212,7 @@ module _ {D : Type 0} {g : Ghosts D} where
       step = instead m old.connection (statement.Checkpoint mode) refl shown.running shown.numbered (Copies mode) (Refused refusal.Memory) outcome_is (inl refl, refl);
       shown = inr (still_shown old new m shown same beside catalog_is transaction_is);
       crash = held (MayShow m m) (inl refl);
+      renewed = λ more. not_longer m.history more;
     }
 
     no_more : (b : Bool) → (b || false) ≡ b
@@ -227,13 +249,24 @@ module _ {D : Type 0} {g : Ghosts D} where
       → CopiesBack mode old.parked.items (files_of old) (Ok counts) (files_of new) → rows ≡ numbers_of counts ∷ [] → StepsOn old (statement.Checkpoint mode) (Rows rows) new
   checkpoint_done old new mode counts rows idle seats copies one m shown =
       answered old new m mode shown idle (Ok counts) copies seats.transaction seats.catalog seats.beside
-      (copies.done (may_now old new m mode shown idle (Ok counts) copies seats.transaction seats.catalog)) counts rows copies.answer one
+      (copies.done (may_now old new m mode shown idle (Ok counts) copies seats.transaction seats.catalog)) counts rows
+      (ap (λ (c : Counts). c.is_blocked) copies.counts ∙ blocked_so mode (list_any holds_snapshot old.parked.items) (state_of (files_of old)) copies.target) copies.few one
 
   pub checkpoint_failed : (old new : Connections D g) (mode : CheckpointMode) (f : Fault) → is_idle old.transaction ≡ true → KeepsSeats (Err f) old new → CopiesBack mode old.parked.items (files_of old) (Err f) (files_of new)
       → StepsOn old (statement.Checkpoint mode) (Refused (refusal_of f)) new
   checkpoint_failed old new mode f idle seats copies m shown =
       refused_by old new m mode shown idle (Err f) copies seats.transaction seats.catalog f seats.failed
-      (copies.refused (may_now old new m mode shown idle (Err f) copies seats.transaction seats.catalog))
+      (copies.refused.1 (may_now old new m mode shown idle (Err f) copies seats.transaction seats.catalog))
+
+  -- ---- what is answered
+
+  pub answered_copies : (mode : CheckpointMode) (others : List Seat) (old new : Log D g) (counts : Counts) (rows : List (List Value)) → rows ≡ numbers_of counts ∷ [] → CopiesBack mode others old (Ok counts) new
+      → CopiesAnswered others old (statement.Checkpoint mode) (Rows rows) new
+  answered_copies mode others old new counts rows one copies other is those answered = (
+    counts,
+    sym (same_rows rows those answered) ∙ one,
+    subst (λ (m : CheckpointMode). CopiesBack m others old (Ok counts) new) (same_mode mode other is) copies,
+  )
 
   -- ---- after a commit
 
@@ -242,13 +275,33 @@ module _ {D : Type 0} {g : Ghosts D} where
     pub shown : (has_failed_in new ≡ true) × IsLeftBy (files_of new) (fails m) ⊎ RepresentsRunning new m
     pub crash : HoldThroughout (λ d. d ≡ newest m) (files_of mid) (files_of new)
 
-  pub copied_after : (mid new : Connections D g) (m : Machine) → RepresentsRunning mid m → mid.transaction ≡ transaction.Idle → CopiesAfter mid new → Follows mid new m
-  copied_after mid new m shown idle (inl same) = record {
+  followed : (mid new : Connections D g) → CopiesAfter mid new → (new ≡ mid) ⊎ CopiesQuietly mid new
+  followed mid new after = elim (cases_lt (state_of (files_of mid)).frames 1000) [
+    | inl few ↦ inl (after.short few)
+    | inr many ↦ inr (after.long many)
+  ]
+
+  -- and the log's header stays
+  pub header_after : (mid new : Connections D g) → CopiesAfter mid new → (state_of (files_of new)).header ≡ (state_of (files_of mid)).header
+  header_after mid new after = elim (followed mid new after) [
+    | inl same ↦ ap (λ (c : Connections D g). (state_of (files_of c)).header) same
+    | inr quiet ↦ quiet.copies.header refl
+  ]
+
+  -- the log was begun anew by a commit after which frames may have been copied
+  pub renewed_after : (old before committed new : Connections D g) → ShowTheSame (files_of old) (files_of before) → beside_in before ≡ beside_in old → BeginsAnewBeside before committed → CopiesAfter committed new → BeginsAnewBeside old new
+  renewed_after old before committed new same beside renewed after anew =
+      header_after committed new after
+      ∙ renewed (subst (λ (b : Beside). IsTrue (begins_anew (state_of (files_of before)) (see_none b.parked))) (sym beside) (subst (λ (k : LogState). IsTrue (begins_anew k (is_alone old))) (sym same.known) anew))
+      ∙ ap (λ (k : LogState). next_header k.header) same.known
+
+  copied_by : (mid new : Connections D g) (m : Machine) → RepresentsRunning mid m → mid.transaction ≡ transaction.Idle → (new ≡ mid) ⊎ CopiesQuietly mid new → Follows mid new m
+  copied_by mid new m shown idle (inl same) = record {
     shown = inr (subst (λ (c : Connections D g). RepresentsRunning c m) (sym same) shown);
     crash = subst (λ (c : Connections D g). HoldThroughout (λ d. d ≡ newest m) (files_of mid) (files_of c)) (sym same)
         ([], (settled_leaves (λ d. d ≡ newest m) (files_of mid) (newest_tables mid) (newest m) refl shown.settled shown.stored, refl, refl));
   }
-  copied_after mid new m shown idle (inr quiet) = record { shown = by_result quiet.result quiet.seats quiet.copies; crash = held_by (λ d. d ≡ newest m) refl }
+  copied_by mid new m shown idle (inr quiet) = record { shown = by_result quiet.result quiet.seats quiet.copies; crash = held_by (λ d. d ≡ newest m) refl }
     where
       is : is_idle mid.transaction ≡ true
       is = ap is_idle idle
@@ -261,17 +314,20 @@ module _ {D : Type 0} {g : Ghosts D} where
       by_result (Ok counts) seats copies = inr (copied_shown mid new m modes.Passive shown is (Ok counts) copies seats.transaction seats.catalog seats.beside
           (copies.done (may_now mid new m modes.Passive shown is (Ok counts) copies seats.transaction seats.catalog)))
       by_result (Err f) seats copies = left_after mid new m modes.Passive shown is (Err f) copies seats.transaction seats.catalog f seats.failed
-          (copies.refused (may_now mid new m modes.Passive shown is (Err f) copies seats.transaction seats.catalog))
+          (copies.refused.1 (may_now mid new m modes.Passive shown is (Err f) copies seats.transaction seats.catalog))
+
+  pub copied_after : (mid new : Connections D g) (m : Machine) → RepresentsRunning mid m → mid.transaction ≡ transaction.Idle → CopiesAfter mid new → Follows mid new m
+  copied_after mid new m shown idle after = copied_by mid new m shown idle (followed mid new after)
 
   -- a step of a commit, with what follows it
-  pub then_steps : (old mid new : Connections D g) (m next : Machine) (s : Statement) → Follows mid new next → HoldThroughout (MayShow m next) (files_of old) (files_of mid) → StepSoFar m old.connection s (Rows []) next
-      → StepSoFar m old.connection s (Rows []) (fails next) → StepsTo old m s (Rows []) new
-  then_steps old mid new m next s follows before step failed_step = by_shown follows.shown
+  pub then_steps : (old mid new : Connections D g) (m next : Machine) (s : Statement) → Follows mid new next → HoldThroughout (MayShow m next) (files_of old) (files_of mid) → BeginsAnewBeside old new
+      → StepSoFar m old.connection s (Rows []) next → StepSoFar m old.connection s (Rows []) (fails next) → StepsTo old m s (Rows []) new
+  then_steps old mid new m next s follows before renewed step failed_step = by_shown follows.shown
     where
       crash : HoldThroughout (MayShow m next) (files_of old) (files_of new)
       crash = throughout_both (LeaveHeld (MayShow m next)) (LeaveHeld (λ d. d ≡ newest next)) (weaker (λ d. d ≡ newest next) (MayShow m next) (λ d is. inr (inl is)))
           (g.file (db_of (files_of old))) (g.file (log_of (files_of old))) (g.file (db_of (files_of mid))) (g.file (log_of (files_of mid))) (g.file (db_of (files_of new))) (g.file (log_of (files_of new))) before follows.crash
 
       by_shown : (has_failed_in new ≡ true) × IsLeftBy (files_of new) (fails next) ⊎ RepresentsRunning new next → StepsTo old m s (Rows []) new
-      by_shown (inl gone) = record { next = fails next; step = failed_step; shown = inl (gone.0, refl, gone.1); crash = crash }
-      by_shown (inr shown) = record { next = next; step = step; shown = inr shown; crash = crash }
+      by_shown (inl gone) = record { next = fails next; step = failed_step; shown = inl (gone.0, refl, gone.1); crash = crash; renewed = λ more. renewed }
+      by_shown (inr shown) = record { next = next; step = step; shown = inr shown; crash = crash; renewed = λ more. renewed }

@@ -1,5 +1,5 @@
 -- COMMIT is a step of the machine.
-use Rattle.std.proofs.Common.{◌≡◌, ◌⊎◌, ◌<◌, ◌≤◌, inl, inr, refl, sym, ap, subst, ◌∙◌, ℕ, ◌-◌, zero, suc, List, [], ◌∷◌, ◌++◌, length, Bool, true, false, arith}
+use Rattle.std.proofs.Common.{◌≡◌, ◌<◌, ◌≤◌, inl, inr, refl, sym, ap, subst, ◌∙◌, ℕ, ◌-◌, zero, suc, List, [], ◌∷◌, ◌++◌, length, Bool, true, false, arith}
 use Rattle.std.proofs.lemmas.Bool.{false≢true}
 use Rattle.std.specs.Prelude.{⊤, ◌||◌, not, Option, Result, Ok, Err, slice_set, unwrap_or}
 use Rattle.std.specs.List.{list_any}
@@ -36,8 +36,8 @@ use Rattle.session.specs.declared.seats.Transaction.{Transaction}
 use Rattle.session.specs.declared.seats.Transaction.TheVariants as transaction
 use Rattle.session.proofs.CommitCrashes.{commit_crashes, doubt_left, doubt_crashes, doubted, last_is}
 use Rattle.session.specs.Checkpoints.{CopiesAfter}
-use Rattle.session.proofs.CheckpointSteps.{copied_after, then_steps}
-use Rattle.session.proofs.Settled.{crash_keeps}
+use Rattle.session.proofs.CheckpointSteps.{copied_after, renewed_after, then_steps}
+use Rattle.session.proofs.Settled.{crash_keeps, not_longer}
 use Rattle.session.proofs.Showing.{Begins, idle_first, in_range, lone_still, moved, stays, still_parked, still_saved, still_shown, the_same}
 use Rattle.session.proofs.Parking.{get_set, one_set, set_length, set_twice}
 use Rattle.session.proofs.Marked.{over_on}
@@ -70,6 +70,7 @@ module _ {D : Type 0} {g : Ghosts D} where
         step = by_outcome m old.connection s commits.0 shown.running shown.numbered (RefusedBy (refusal.NoTransaction ∷ [])) (Refused refusal.NoTransaction) m is (refusal.NoTransaction, (0, omega arith, refl), refl, refl);
         shown = inr (still_shown old new m shown (subst (ShowTheSame (files_of old)) (sym same.files) (the_same (files_of old) shown.told)) same.beside same.catalog same.now);
         crash = crash_keeps old new m m shown (subst (ShowTheSame (files_of old)) (sym same.files) (the_same (files_of old) shown.told));
+        renewed = λ more. not_longer m.history more;
       }
 
   -- a transaction that has written nothing ends
@@ -80,6 +81,7 @@ module _ {D : Type 0} {g : Ghosts D} where
     shown = inr (moved old new m Idle shown (subst (ShowTheSame (files_of old)) (sym ends.files) (the_same (files_of old) shown.told)) ends.beside (inl refl)
         (subst (λ (t : Transaction). IsTransaction (files_of new) new.catalog m.history t Idle) (sym ends.idle) (refl, ends.all, ends.savepoints)));
     crash = crash_keeps old new m (with_connection m old.connection Idle) shown (subst (ShowTheSame (files_of old)) (sym ends.files) (the_same (files_of old) shown.told));
+    renewed = λ more. not_longer m.history more;
   }
     where
       r : ReadsIn (files_of old) old.catalog m old.connection old.transaction shown.present
@@ -197,7 +199,7 @@ module _ {D : Type 0} {g : Ghosts D} where
         let shown = in_writing.shown in
         let next = after_commit m old.connection in_writing.on.db in
         then_steps old committed new m next s (copied_after committed new next (committed_shown old mid committed m shown in_writing.on.db in_writing.same beside has (has.transaction ∙ idle) alone_writes) (has.transaction ∙ idle) after)
-        (commit_crashes old mid committed m in_writing.on.db shown in_writing.same in_writing.base held)
+        (commit_crashes old mid committed m in_writing.on.db shown in_writing.same in_writing.base held) (renewed_after old mid committed new in_writing.same beside has.renewed after)
         (step_to (Rows []) next (refl, inl refl)) (step_to (Rows []) (fails next) (refl, inr refl))
 
     -- where a call of a disk has failed, the database is in doubt
@@ -207,6 +209,7 @@ module _ {D : Type 0} {g : Ghosts D} where
       step = step_to (Refused refusal.Io) (doubted m in_writing.on.db) (refl, inr refl);
       shown = inl (doubt.failed, refl, doubt_left old mid new m in_writing.on.db in_writing.shown in_writing.same in_writing.base doubt.held f doubt);
       crash = doubt_crashes old mid new m in_writing.on.db in_writing.shown in_writing.same in_writing.base doubt.held;
+      renewed = λ more. not_longer m.history more;
     }
 
     -- and where nothing was committed, the transaction goes on
@@ -241,6 +244,7 @@ module _ {D : Type 0} {g : Ghosts D} where
       step = instead m old.connection s commits.0 in_writing.shown.running in_writing.shown.numbered (Commits false in_writing.on.db) (Refused r) commits_it (inl free, refl);
       shown = inr shown;
       crash = crash_keeps old new m m in_writing.shown same;
+      renewed = λ more. not_longer m.history more;
     }
 
     pub refused_step : (left : Writer) (f : Fault) → beside_in mid ≡ beside_in old → files_of mid ≡ files_of old → mid.catalog ≡ old.catalog → CommitsChanges mid w in_writing.on.db (Err f) new left

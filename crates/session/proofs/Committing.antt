@@ -27,7 +27,7 @@ use Rattle.session.specs.ConnectionState.{files_of, has_failed_in, is_io}
 use Rattle.session.specs.Representation.{Beside, ShowTheSame, beside_in, is_alone}
 use Rattle.session.specs.Writers.{IsNewest, IsWriter}
 use Rattle.session.specs.Stored.{ShowsDatabase}
-use Rattle.session.specs.Applying.{CommitsChanges, CommitsDatabase, HoldsEither, IsAfterCommit, IsCommitCause, IsUncommitted, CanApply}
+use Rattle.session.specs.Applying.{BeginsAnewBeside, CommitsChanges, CommitsDatabase, HoldsEither, IsAfterCommit, IsCommitCause, IsUncommitted, CanApply}
 use Rattle.session.specs.declared.transactions.Connections.{Connections}
 use Rattle.session.proofs.FirstPages.{first_of, first_shown, shows_headed}
 use Rattle.session.proofs.Settled.{db_left, either_throughout, found_over, log_left, still_settled}
@@ -64,8 +64,9 @@ module _ {D : Type 0} {g : Ghosts D} where
   some_pages old w tables db held = (first_shown (view_of old w) tables db held).last
 
   pub has_committed : (old new : Connections D g) (w : Writer) (db : Database) (applies : CanApply old w db) → CommitsPages (files_of old) (is_alone old) w (first_of (view_of (files_of old) w)) applies.stored.stored.header (files_of new)
-      → db_of (files_of new) ≡ db_of (files_of old) → (is_alone old ≡ false → (state_of (files_of old)).frames < (state_of (files_of new)).frames) → IsAfterCommit old (files_of new) new → CommitsDatabase old db new
-  has_committed old new w db applies is db_same more next = record {
+      → db_of (files_of new) ≡ db_of (files_of old) → (is_alone old ≡ false → (state_of (files_of old)).frames < (state_of (files_of new)).frames) → BeginsAnewBeside old new → IsAfterCommit old (files_of new) new
+      → CommitsDatabase old db new
+  has_committed old new w db applies is db_same more anew next = record {
     told = is.tells;
     settled = record {
       db_synced = subst (λ (d : D). IsSynced (g.file d)) (sym db_same) applies.settled.db_synced;
@@ -79,6 +80,7 @@ module _ {D : Type 0} {g : Ghosts D} where
     transaction = next.transaction;
     all = next.all;
     savepoints = next.savepoints;
+    renewed = anew;
     older = λ others. record { more = more others; at = is.stay (ap (λ (b : Bool). begins_anew (state_of (files_of old)) b) others) };
     stored = subst (λ (ts : List Table). ShowsDatabase (newest_view (files_of new)) ts db) (sym next.newest) (stores_over (files_of old) w (current_in old.catalog) db applies.stored (newest_view (files_of new)) is.page_size_is is.left);
   }

@@ -1,6 +1,7 @@
 -- What is answered before a statement is looked at.
-use Rattle.std.proofs.Common.{◌≡◌, inl, inr, refl, sym, ap, subst, ◌∙◌, ℕ, ◌==◌, Bool, true, false, Ok, Err, arith}
-use Rattle.std.specs.Prelude.{◌≤◌, ◌||◌, nat_lt, IfErr, IsErrAnd, IsTrue, Result, ⊤, if◌then◌else◌}
+use Rattle.std.proofs.Common.{◌≡◌, inl, inr, refl, sym, ap, subst, ◌∙◌, ℕ, ◌==◌, List, Bool, true, false, Ok, Err, arith}
+use Rattle.std.specs.Prelude.{◌||◌, nat_lt, IfErr, IsErrAnd, IsTrue, Result, ⊤, if◌then◌else◌}
+use Rattle.std.proofs.lemmas.Bool.{false≢true}
 use Rattle.std.proofs.lemmas.Bool.Decides.{nat_tests}
 use Rattle.disk.specs.declared.device.Disk.{Ghosts}
 use Rattle.sqlval.specs.Refusals as refusal
@@ -8,25 +9,70 @@ use Rattle.sqlval.specs.Refusals.{Refusal, refusal_of}
 use Rattle.sqlval.specs.declared.fault.Fault.{Fault}
 use Rattle.sqlval.specs.declared.fault.Fault.TheVariants as fault
 use Rattle.sqlval.specs.declared.fault.Misuse.TheVariants as misuse
+use Rattle.sqlval.specs.declared.value.Value.{Value}
 use Rattle.sql_syntax.specs.declared.query.Query.{Query}
 use Rattle.sql_syntax.specs.declared.statement.CheckpointMode.{CheckpointMode}
 use Rattle.sql_syntax.specs.declared.statement.Statement.{Statement}
 use Rattle.sql_syntax.specs.declared.statement.Statement.TheVariants as statement
-use Rattle.catalog.specs.Database.{Database}
 use Rattle.session.specs.Supported.{StepSoFar}
 use Rattle.executor.specs.Forms.{answers_rows, is_supported}
 use Rattle.wal.specs.declared.log.Log.{Log}
+use Rattle.session.specs.CopiedBack.{KeepsDisksWhereShort}
 use Rattle.session.specs.ConnectionState.{files_of, first_refusal, has_failed_in}
-use Rattle.session.specs.Machine.{Machine, Reply, Refused}
+use Rattle.session.specs.Machine.{Machine, Reply, Refused, Rows}
 use Rattle.session.specs.Steps.{is_connection}
 use Rattle.pager.specs.Views.{Tells}
 use Rattle.session.specs.Failing.{HasCallFailed, IsPastIn, IsRefusedFor, IsRefusedHere, MarksFailure, may_want_memory}
-use Rattle.session.specs.Representation.{Represents, ShowTheSame, Steps, StepsOn, StepsOver, Switches, done_reply, rows_reply}
+use Rattle.session.specs.Representation.{CopiesAnswered, Represents, ShowTheSame, Steps, StepsOn, StepsOver, Switches, done_reply, others_in, rows_reply}
+use Rattle.session.specs.declared.seats.Seat.{Seat}
 use Rattle.session.specs.declared.transactions.Connections.{Connections}
 use Rattle.session.proofs.Selecting.{Rowed}
-use Rattle.session.proofs.Settled.{as_shown}
-use Rattle.session.proofs.Switching.{seat_there, steps_over, switched_shown, was_present}
+use Rattle.session.proofs.Settled.{as_shown, not_longer}
+use Rattle.session.proofs.Switching.{steps_over, switched_others, switched_shown, was_present}
 use Rattle.session.specs.declared.seats.Transaction.{Transaction}
+
+-- ---- what copies nothing
+
+-- a refusal has no rows
+no_rows : (r : Refusal) (rows : List (List Value)) → Refused r ≡ Rows rows → ⊥
+no_rows r rows is = absurd cc
+
+-- a statement that answers no rows is no checkpoint, and neither is a query
+pub no_checkpoint : (s : Statement) (mode : CheckpointMode) → answers_rows s ≡ false → s ≡ statement.Checkpoint mode → ⊥
+no_checkpoint s mode other is = false≢true (sym other ∙ ap answers_rows is)
+
+pub select_is_other : (s : Statement) (q : Query) (mode : CheckpointMode) → s ≡ statement.Select q → s ≡ statement.Checkpoint mode → ⊥
+select_is_other s q mode query is = by_form q mode (sym query ∙ is)
+  where
+    by_form : (q : Query) (mode : CheckpointMode) → statement.Select q ≡ statement.Checkpoint mode → ⊥
+    by_form q mode e = absurd cc
+
+module _ {D : Type 0} {g : Ghosts D} (others : List Seat) (old new : Log D g) (s : Statement) (reply : Reply) where
+  pub refused_copies : (r : Refusal) → reply ≡ Refused r → CopiesAnswered others old s reply new
+  refused_copies r refused mode is rows answered = absurd (no_rows r rows (sym refused ∙ answered))
+
+  pub done_copies : answers_rows s ≡ false → CopiesAnswered others old s reply new
+  done_copies other mode is rows answered = absurd (no_checkpoint s mode other is)
+
+  pub query_copies : (q : Query) → s ≡ statement.Select q → CopiesAnswered others old s reply new
+  query_copies q query mode is rows answered = absurd (select_is_other s q mode query is)
+
+abbrev failing : (T : Type 0) → Fault → Result T Fault
+failing T f = Err f
+
+abbrev answering : {T : Type 0} → T → Result T Fault
+answering x = Ok x
+
+one_failing : (T : Type 0) (e : Fault) → failing T e ≡ Err fault.Memory → e ≡ fault.Memory
+one_failing T e is = cc
+
+-- what was handed on was refused for memory
+pub short_of : {T : Type 0} (result : Result T Fault) (f : Fault) → IsErrAnd result (λ e. e ≡ f) → result ≡ Err fault.Memory → f ≡ fault.Memory
+short_of (Ok x) f is memory = absurd is
+short_of {T = T} (Err e) f is memory = sym is ∙ one_failing T e memory
+
+pub never_short : {T : Type 0} (x : T) → answering x ≡ Err fault.Memory → ⊥
+never_short x is = absurd cc
 
 -- ---- the first refusals
 
@@ -58,9 +104,6 @@ one_fault a b is = cc
 
 pub not_both : (f : Fault) → done ≡ Err f → ⊥
 not_both f is = absurd cc
-
-within_connections : (n : ℕ) → is_connection n ≡ true → 1 ≤ n
-within_connections n is = grind (arith, nat_tests)
 
 pub first_by : (n : ℕ) → (n == 0 || nat_lt 16 n) ≡ true → first_refusal false n ≡ first_fault (fault.Misuse misuse.Connection)
 first_by n bad = ap (λ b. if b then first_fault (fault.Misuse misuse.Connection) else done) bad
@@ -96,15 +139,22 @@ module _ {D : Type 0} {g : Ghosts D} where
       whole : first_refusal false n ≡ done
       whole = ap (λ b. first_refusal b n) (sym shown.whole) ∙ is
 
-  stays_with : (c : Connections D g) (m : Machine) (n : ℕ) (s : Statement) (reply : Reply) → Represents c m → StepSoFar m n s reply m → StepsOver c m n s reply c
-  stays_with c m n s reply shows step = record { next = m; step = step; shown = shows; crash = as_shown c m shows }
+  stays_with : (c : Connections D g) (m : Machine) (n : ℕ) (s : Statement) (r : Refusal) → Represents c m → StepSoFar m n s (Refused r) m → StepsOver c m n s (Refused r) c
+  stays_with c m n s r shows step = record {
+    next = m;
+    step = step;
+    shown = shows;
+    crash = as_shown c m shows;
+    copied = refused_copies (others_in c n) (files_of c) (files_of c) s (Refused r) r refl;
+    renewed = λ more. not_longer m.history more;
+  }
 
   -- refused before the statement is looked at
   pub refused_first : (c : Connections D g) (n : ℕ) (s : Statement) (f : Fault) → first_refusal (has_failed_in c) n ≡ Err f → Steps c n s (Refused (refusal_of f)) c
   refused_first c n s f is m (inl failed) =
       let why : first_refusal true n ≡ Err f = ap (λ b. first_refusal b n) (sym failed.0) ∙ is in
       subst (λ (e : Fault). StepsOver c m n s (Refused (refusal_of e)) c) (one_fault fault.Failed f why)
-      (stays_with c m n s (Refused refusal.Failed) (inl failed) (failed_step m n s failed.1))
+      (stays_with c m n s refusal.Failed (inl failed) (failed_step m n s failed.1))
   refused_first c n s f is m (inr shown) = either (n == 0 || nat_lt 16 n) none some
     where
       whole : first_refusal false n ≡ Err f
@@ -112,7 +162,7 @@ module _ {D : Type 0} {g : Ghosts D} where
 
       none : (n == 0 || nat_lt 16 n) ≡ true → StepsOver c m n s (Refused (refusal_of f)) c
       none bad = subst (λ (e : Fault). StepsOver c m n s (Refused (refusal_of e)) c) (one_fault (fault.Misuse misuse.Connection) f (sym (first_by n bad) ∙ whole))
-          (stays_with c m n s (Refused refusal.Misuse) (inr shown) (numbered_step m n s shown.running (no_connection n bad)))
+          (stays_with c m n s refusal.Misuse (inr shown) (numbered_step m n s shown.running (no_connection n bad)))
 
       some : (n == 0 || nat_lt 16 n) ≡ false → StepsOver c m n s (Refused (refusal_of f)) c
       some good = absurd (not_both f (sym (passes_by n good) ∙ whole))
@@ -121,18 +171,15 @@ module _ {D : Type 0} {g : Ghosts D} where
   pub unsupported_form : (c : Connections D g) (n : ℕ) (s : Statement) → first_refusal (has_failed_in c) n ≡ done → is_supported s ≡ false → Steps c n s (Refused refusal.Unsupported) c
   unsupported_form c n s first none m shows =
       let on = served_for c m n first shows in
-      stays_with c m n s (Refused refusal.Unsupported) shows (inr (none, refl, inr (inr (on.0, on.1, inl refl))))
+      stays_with c m n s refusal.Unsupported shows (inr (none, refl, inr (inr (on.0, on.1, inl refl))))
 
   -- where no commit has failed, what is shown is shown whole
-  pub steps_switched : (old mid new : Connections D g) (n : ℕ) (s : Statement) (reply : Reply) → first_refusal (has_failed_in old) n ≡ done → Switches n old mid → StepsOn mid s reply new → Steps old n s reply new
-  steps_switched old mid new n s reply is switch steps m (inl failed) = absurd (not_both fault.Failed (sym is ∙ ap (λ b. first_refusal b n) failed.0))
-  steps_switched old mid new n s reply is switch steps m (inr shown) =
+  pub steps_switched : (old mid new : Connections D g) (n : ℕ) (s : Statement) (reply : Reply) → first_refusal (has_failed_in old) n ≡ done → Switches n old mid → CopiesAnswered mid.parked.items (files_of mid) s reply (files_of new) → StepsOn mid s reply new → Steps old n s reply new
+  steps_switched old mid new n s reply is switch copied steps m (inl failed) = absurd (not_both fault.Failed (sym is ∙ ap (λ b. first_refusal b n) failed.0))
+  steps_switched old mid new n s reply is switch copied steps m (inr shown) =
       let on = served_for old m n is (inr shown) in
       let was = was_present n old mid switch in
-      let there = seat_there old m shown in
-      let bounds = within_connections n on.1 in
-      let own = within_connections old.connection shown.numbered in
-      steps_over old mid new m n s reply was.files was.number (was.transaction bounds (omega (arith, there n on.1, bounds)) own (omega (arith, there old.connection shown.numbered, own))) (steps m (switched_shown n old mid m on.1 switch shown))
+      steps_over old mid new m n s reply was.files was.number (switched_others n old mid m on.1 switch shown) copied (steps m (switched_shown n old mid m on.1 switch shown))
 
   -- the causes of refusals are those of the connection that became the present one
   pub refused_switched : {T : Type 0} (old mid : Connections D g) (n : ℕ) (s : Statement) (result : Result T Fault) → first_refusal (has_failed_in old) n ≡ done → Switches n old mid → IfErr result (IsRefusedHere mid s) → IfErr result (IsRefusedFor old n s)
@@ -156,3 +203,7 @@ module _ {D : Type 0} {g : Ghosts D} where
         marked = λ whole failed. (let is = marks.marked (was.failed ∙ whole) failed in (is.0, subst (λ (l : Log D g). HasCallFailed l (files_of new)) was.files is.1));
         unmarked = λ io whole told. subst (λ (l : Log D g). ShowTheSame l (files_of new)) was.files (marks.unmarked io whole (subst Tells (sym was.files) told));
       }
+
+  -- what short memory leaves, it leaves of the connections from before
+  pub short_switched : {T : Type 0} (old mid new : Connections D g) (n : ℕ) (s : Statement) (result : Result T Fault) → Switches n old mid → KeepsDisksWhereShort s (files_of mid) result (files_of new) → KeepsDisksWhereShort s (files_of old) result (files_of new)
+  short_switched old mid new n s result switch keeps = subst (λ (l : Log D g). KeepsDisksWhereShort s l result (files_of new)) (was_present n old mid switch).files keeps

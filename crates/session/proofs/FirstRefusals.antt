@@ -1,5 +1,5 @@
 -- What a write, or BEGIN IMMEDIATE, is refused for before its work is looked at.
-use Rattle.std.proofs.Common.{◌≡◌, inl, inr, refl, sym, ap, subst, ◌∙◌, ℕ, ◌-◌, Bool, List, [], ◌∷◌, true, false, Ok, Err, arith}
+use Rattle.std.proofs.Common.{◌≡◌, inl, inr, refl, sym, ap, subst, ◌∙◌, ◌-◌, Bool, [], ◌∷◌, true, false, Ok, Err, arith}
 use Rattle.std.proofs.lemmas.Bool.{false≢true}
 use Rattle.std.specs.List.{list_any}
 use Rattle.std.specs.Prelude.{⊤, Result, if◌then◌else◌, slice_set}
@@ -14,7 +14,7 @@ use Rattle.executor.specs.Forms.{is_supported}
 use Rattle.executor.specs.Works.{change_made}
 use Rattle.session.specs.Changing.{written}
 use Rattle.session.specs.ConnectionState.{files_of}
-use Rattle.session.specs.Machine.{Connection, Idle, Machine, NoSnapshot, Reads, Refused, another, is_writing, last_place, newest}
+use Rattle.session.specs.Machine.{Idle, Machine, NoSnapshot, Reads, Refused, another, is_writing, last_place, newest}
 use Rattle.session.specs.Outcomes.{RefusedBy, outcome, worked, worked_alone}
 use Rattle.session.specs.Representation.{Beside, IsTransaction, MayWrite, RepresentsRunning, StepsOn, StepsTo, TakesNewest, first_write_refusal, is_idle, is_reading}
 use Rattle.session.specs.Saving.{in_transaction, states_of}
@@ -22,14 +22,13 @@ use Rattle.session.specs.SavedTables.{savepoints_in}
 use Rattle.session.specs.Seats.{holds_writer}
 use Rattle.session.specs.Writers.{is_stale}
 use Rattle.session.specs.declared.changes.Write.{Write}
-use Rattle.session.specs.declared.seats.Seat.{Seat}
 use Rattle.session.specs.declared.seats.Transaction.{Transaction}
 use Rattle.session.specs.declared.seats.Transaction.TheVariants as transaction
 use Rattle.session.specs.declared.transactions.Connections.{Connections}
 use Rattle.session.proofs.Applying.{is_busy, write_outcome_of}
 use Rattle.session.proofs.Parking.{busy_so}
 use Rattle.session.proofs.ReadingPhases.{last_newest, newest_fresh, not_fresh, stale_writes}
-use Rattle.session.proofs.Settled.{as_shown}
+use Rattle.session.proofs.Settled.{as_shown, not_longer}
 use Rattle.session.proofs.Showing.{idle_first}
 use Rattle.session.proofs.Stepping.{by_outcome, instead}
 use Rattle.session.proofs.Switching.{taken_newest}
@@ -85,6 +84,7 @@ module _ {D : Type 0} {g : Ghosts D} where
         step = instead m old.connection s supported shown.running shown.numbered (outcome m old.connection s) (Refused refusal.Memory) refl (inl refl, refl);
         shown = inr shown;
         crash = as_shown old m (inr shown);
+        renewed = λ more. not_longer m.history more;
       }))
 
   -- ---- refused
@@ -95,6 +95,7 @@ module _ {D : Type 0} {g : Ghosts D} where
     step = by_outcome m c.connection s supported shown.running shown.numbered (RefusedBy (r ∷ [])) (Refused r) m comes (r, (0, omega arith, refl), refl, refl);
     shown = inr shown;
     crash = as_shown c m (inr shown);
+    renewed = λ more. not_longer m.history more;
   }
 
   busy_here : (c : Connections D g) (m : Machine) (shown : RepresentsRunning c m) → list_any holds_writer c.parked.items ≡ true → another is_writing m c.connection ≡ true

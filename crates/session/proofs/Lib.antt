@@ -39,6 +39,7 @@ pub mod StandingViews
 pub mod Standing
 pub mod StoredFiles
 pub mod Parking
+mod Alike
 pub mod Switching
 pub mod FirstRefusals
 mod OtherForms

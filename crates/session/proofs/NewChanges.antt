@@ -1,16 +1,17 @@
 -- The commit of those of a writer's pages that its snapshot doesn't show, after these were read.
 use Rattle.std.proofs.Common.{◌≡◌, ◌⊎◌, inl, inr, refl, sym, ap, subst, ◌∙◌, ℕ, ◌<◌, ◌≤◌, Bool, List, [], ◌∷◌, length, false, arith}
-use Rattle.std.specs.Prelude.{⊤, IfErr, IsErrAnd, OnOk, Result, Ok, Err}
+use Rattle.std.specs.Prelude.{⊤, IfErr, IsErrAnd, IsTrue, OnOk, Result, Ok, Err, if◌then◌else◌}
 use Rattle.sqlval.specs.Faults.{IsOutside}
 use Rattle.sqlval.specs.declared.fault.Fault.{Fault}
 use Rattle.disk.specs.declared.device.Disk.{Ghosts}
 use Rattle.disk.proofs.Current.{synced_left}
-use Rattle.pages.specs.Map.{PageMap, Has}
-use Rattle.wal.specs.Anew.{IsStateCommitted, base_of}
+use Rattle.pages.specs.Map.{PageMap}
+use Rattle.wal.specs.Anew.{IsStateCommitted, base_of, begins_anew}
 use Rattle.wal.specs.Commits.{grown}
 use Rattle.wal.specs.LogState.{LogState, db_of, log_of, state_of}
 use Rattle.wal.specs.declared.pages.PageImage.{PageImage}
 use Rattle.wal.specs.Refusals.{IsWithin}
+use Rattle.wal.specs.Restarts.{next_header, restarted}
 use Rattle.wal.specs.Sizes.{IsSizeWithinLimits}
 use Rattle.wal.specs.declared.log.Log.{Log}
 use Rattle.wal.specs.declared.log.Snapshot.{Snapshot}
@@ -25,7 +26,7 @@ use Rattle.pager.specs.Pruning.{AreAllThere, AreNew, IsPruned}
 use Rattle.pager.specs.Views.{View, ViewHas, after, changes_of, newest_view, view_at, view_of}
 use Rattle.pager.specs.Writers.{BeginAtPageOne, seen, snapshot_of}
 use Rattle.pager.specs.declared.writer.Writer.{Writer}
-use Rattle.pager.proofs.Mapping.{count_to, maps_alike, shows_mapped}
+use Rattle.pager.proofs.Mapping.{maps_alike}
 use Rattle.pager.proofs.NewPages.{new_twice}
 use Rattle.db_pages.specs.Stored.{Stores}
 use Rattle.session.specs.ConnectionState.{files_of, has_failed_in, is_io}
@@ -113,6 +114,7 @@ module _ {D : Type 0} {g : Ghosts D} where
             more = omega (arith, kept.more, ap (λ (k : LogState). k.frames) same.known);
             at = λ s within. kept.at s (omega (arith, within, ap (λ (k : LogState). k.frames) same.known)) ∙ same.at s;
           });
+      renewed = λ anew. is.renewed (subst (λ (k : LogState). IsTrue (begins_anew k (is_alone old))) (sym same.known) anew) ∙ ap (λ (k : LogState). next_header k.header) same.known;
     }
 
     doubt_over : (next : Connections D g) (f : Fault) → IsInDoubt (with_files old mid) db next f → IsInDoubt old db next f
@@ -216,6 +218,12 @@ module _ {D : Type 0} {g : Ghosts D} where
           known ∙ ap (λ (b : Bool). grown (base_of (state_of mid) b) (length (changes_of v)) (pages_of v)) others in
           omega (arith, some_changes (changes_of v) applies_now.writer.sound.consistent.first, ap (λ (k : LogState). k.frames) grows)
 
+      -- it begins the log anew where no other connection sees a snapshot and all frames are copied
+      begins_log : (new : Log D g) → state_of new ≡ grown (base_of (state_of mid) (is_alone old)) (length (changes_of v)) (pages_of v) → IsTrue (begins_anew (state_of mid) (is_alone old)) → (state_of new).header ≡ next_header (state_of mid).header
+      begins_log new known anew =
+          ap (λ (k : LogState). k.header) known
+          ∙ ap (λ (b : Bool). (if b then restarted (state_of mid) else state_of mid).header) anew
+
       on_mid : {files : Log D g} (next : Connections D g) → IsAfterCommit old files next → IsAfterCommit (with_files old mid) (files_of next) next
       on_mid next after = record {
         files_are = refl;
@@ -235,7 +243,7 @@ module _ {D : Type 0} {g : Ghosts D} where
           let made : CommitsPages mid (is_alone old) v page header (files_of next) = subst (CommitsPages mid (is_alone old) v page header) (sym after.files_are) commits in
           let same_db : db_of (files_of next) ≡ db_of mid = ap db_of after.files_are ∙ db_same in
           over (Ok done) next (
-            has_committed (with_files old mid) next v db applies_now made same_db (λ others. more_frames (files_of next) (ap state_of after.files_are ∙ known) others) (on_mid next after),
+            has_committed (with_files old mid) next v db applies_now made same_db (λ others. more_frames (files_of next) (ap state_of after.files_are ∙ known) others) (λ anew. begins_log (files_of next) (ap state_of after.files_are ∙ known) anew) (on_mid next after),
             commit_holds (with_files old mid) next v db applies_now same_db (subst (λ (l : Log D g). (log_of l ≡ log_of mid) ⊎ LeavesCommit mid v page header l) (sym after.files_are) crash),
           )
       ends (Err f) new left last commits refused db_same known crash over = λ next after.

@@ -23,7 +23,7 @@ use Rattle.session.specs.ConnectionState.{files_of}
 use Rattle.session.specs.Machine.{Machine, Connection, Idle, InTransactionOf, NoSnapshot, Phase, Reads, SavepointState, Writes, Rows, Refused, is_writing, last_place, newest, with_connection}
 use Rattle.session.specs.Outcomes.{Outcome, Gives, RefusedBy, back_to, commit_outcome, from_name, outcome, released, restored, saved}
 use Rattle.session.specs.Representation.{CommitsBy, IsReadingIn, IsTransaction, IsWritingIn, RepresentsRunning, ShowTheSame, StepsOn, StepsTo, beside_in, done_reply, is_idle, is_reading}
-use Rattle.session.specs.SavedTables.{AddsSavepoint, GoesBackTo, HasNoSavepoints, HasRoom, IsNewestNamed, KeepsTables, ReleasesFrom, SavedTables, Savepoints, committed_in, current_in, names_in, savepoints_in}
+use Rattle.session.specs.SavedTables.{AddsSavepoint, GoesBackTo, HasNoSavepoints, HasRoom, IsNewestNamed, KeepsTables, ReleasesFrom, SavedTables, Savepoints, current_in, names_in, savepoints_in}
 use Rattle.session.specs.Saving.{AddsMark, AreSaved, GoesBackToMark, IsOfName, KeepsWriter, OnWriter, ReleasesMarks, SavedAs, in_transaction, states_of}
 use Rattle.session.specs.declared.savepoints.SavedCatalogs.{SavedCatalogs}
 use Rattle.session.specs.declared.transactions.Connections.{Connections}
@@ -33,7 +33,7 @@ use Rattle.session.proofs.Beginning.{none_where_idle}
 use Rattle.session.proofs.ReadingPhases.{ReadsIn, reads_in}
 use Rattle.session.proofs.SavedPoints.{reading_adds, reading_takes, saved_count, saved_names_are, states_count, tables_at, unwritten, writing_adds, writing_goes_back, writing_keeps, writing_releases}
 use Rattle.session.proofs.SavedStates.{FromPlace, all_map, from_place, states_none}
-use Rattle.session.proofs.Settled.{as_shown, crash_keeps}
+use Rattle.session.proofs.Settled.{as_shown, crash_keeps, not_longer}
 use Rattle.session.proofs.Showing.{IsLone, idle_first, lone_still, moved, stays, still_transaction, the_same}
 use Rattle.session.proofs.Stepping.{by_outcome, commit_outcome_of, instead, release_outcome, return_outcome, savepoint_outcome}
 use Rattle.session.proofs.Writing.{other_catalog}
@@ -101,6 +101,7 @@ module _ {D : Type 0} {g : Ghosts D} where
     step = by_outcome m old.connection s supported shown.running shown.numbered (Gives [] (with_connection m old.connection k)) (Rows []) (with_connection m old.connection k) comes (refl, refl);
     shown = inr (moved old new m k shown (same_files old new kept shown.told) kept.beside lone (subst (λ (l : Log D g). IsTransaction l new.catalog m.history new.transaction k) (sym kept.files) is));
     crash = crash_keeps old new m (with_connection m old.connection k) shown (same_files old new kept shown.told);
+    renewed = λ more. not_longer m.history more;
   }
 
   -- a refusal that leaves all as it was
@@ -110,6 +111,7 @@ module _ {D : Type 0} {g : Ghosts D} where
     step = by_outcome m c.connection s supported shown.running shown.numbered (RefusedBy (r ∷ [])) (Refused r) m comes (r, (0, omega arith, refl), refl, refl);
     shown = inr shown;
     crash = as_shown c m (inr shown);
+    renewed = λ more. not_longer m.history more;
   }
 
   -- ---- SAVEPOINT
@@ -150,6 +152,7 @@ module _ {D : Type 0} {g : Ghosts D} where
     step = instead m old.connection s supported shown.running shown.numbered (outcome m old.connection s) (Refused refusal.Memory) refl (inl refl, refl);
     shown = inr still;
     crash = crash_keeps old new m m shown (same_files old new kept shown.told);
+    renewed = λ more. not_longer m.history more;
   }
 
   -- the connections show what they showed

@@ -34,7 +34,7 @@ use Rattle.session.proofs.SeenPages.{at_newest}
 use Rattle.session.specs.declared.transactions.Connections.{Connections}
 use Rattle.session.specs.declared.seats.Transaction.{Transaction}
 use Rattle.session.specs.declared.seats.Transaction.TheVariants as transaction
-use Rattle.session.proofs.Settled.{crash_keeps}
+use Rattle.session.proofs.Settled.{crash_keeps, not_longer}
 use Rattle.session.proofs.Showing.{moved, still_newest, still_shown, the_same}
 use Rattle.session.proofs.Stepping.{by_outcome, instead, select_outcome}
 
@@ -169,6 +169,7 @@ module _ {D : Type 0} {g : Ghosts D} where
         step = select_step old m shown q f s (answered m s.db shown s.stored);
         shown = inr (still_shown old new m shown (reads.files shown.told) reads.beside reads.catalog reads.transaction);
         crash = crash_keeps old new m m shown (reads.files shown.told);
+        renewed = λ more. not_longer m.history more;
       }
 
   -- a SELECT that gives rows
@@ -211,10 +212,10 @@ module _ {D : Type 0} {g : Ghosts D} where
           (subst (λ (t : Transaction). IsTransaction (files_of new) new.catalog m.history t k) (sym begun.1) (last_place m, mine, seen))
 
       by_case : (t : Transaction) → old.transaction ≡ t → (has_no_snapshot t ≡ true → committed_in old.catalog ≡ newest_tables old) → IsTransaction (files_of old) old.catalog m.history t shown.present → StepsTo old m (statement.Select q) (Rows rows) new
-      by_case transaction.Idle is b first = (let s = sees_by old m shown transaction.Idle is b first in record { next = s.next; step = step_of s; shown = inr (other_shown transaction.Idle is refl); crash = crash_of s.next })
-      by_case transaction.Begun is b first = (let s = sees_by old m shown transaction.Begun is b first in record { next = s.next; step = step_of s; shown = inr (begun_shown is (b refl) first); crash = crash_of s.next })
-      by_case (transaction.Reading t) is b first = (let s = sees_by old m shown (transaction.Reading t) is b first in record { next = s.next; step = step_of s; shown = inr (other_shown (transaction.Reading t) is refl); crash = crash_of s.next })
-      by_case (transaction.Writing w) is b first = (let s = sees_by old m shown (transaction.Writing w) is b first in record { next = s.next; step = step_of s; shown = inr (other_shown (transaction.Writing w) is refl); crash = crash_of s.next })
+      by_case transaction.Idle is b first = (let s = sees_by old m shown transaction.Idle is b first in record { next = s.next; step = step_of s; shown = inr (other_shown transaction.Idle is refl); crash = crash_of s.next; renewed = λ more. not_longer m.history more })
+      by_case transaction.Begun is b first = (let s = sees_by old m shown transaction.Begun is b first in record { next = s.next; step = step_of s; shown = inr (begun_shown is (b refl) first); crash = crash_of s.next; renewed = λ more. not_longer m.history more })
+      by_case (transaction.Reading t) is b first = (let s = sees_by old m shown (transaction.Reading t) is b first in record { next = s.next; step = step_of s; shown = inr (other_shown (transaction.Reading t) is refl); crash = crash_of s.next; renewed = λ more. not_longer m.history more })
+      by_case (transaction.Writing w) is b first = (let s = sees_by old m shown (transaction.Writing w) is b first in record { next = s.next; step = step_of s; shown = inr (other_shown (transaction.Writing w) is refl); crash = crash_of s.next; renewed = λ more. not_longer m.history more })
 
 pub refused_reply : (result : Rowed) (f : Fault) → IsErrAnd result (λ e. e ≡ f) → rows_reply result ≡ Refused (refusal_of f)
 refused_reply (Ok rows) f is = absurd is

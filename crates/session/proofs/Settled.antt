@@ -1,5 +1,5 @@
 -- What a crash leaves of files that are settled, and of what a commit makes of them.
-use Rattle.std.proofs.Common.{◌≡◌, ◌⊎◌, ◌≤◌, inl, inr, refl, sym, ap, subst, ◌∙◌, ℕ, List, [], ◌∷◌, length, map, arith}
+use Rattle.std.proofs.Common.{◌≡◌, ◌⊎◌, ◌<◌, ◌≤◌, inl, inr, refl, sym, ap, subst, ◌∙◌, ℕ, List, [], ◌∷◌, length, map, arith}
 use Rattle.std.specs.Prelude.{Option, Some, MatchOption, ⊤, None}
 use Rattle.disk.proofs.Current.{synced_left}
 use Rattle.disk.specs.File.{File, IsContentLeft, IsLeft, IsRun, IsSynced, OnDb, OnLog, Phase, Version, versions, whole}
@@ -30,6 +30,10 @@ use Rattle.session.specs.Representation.{RepresentsRunning, ShowTheSame, Represe
 use Rattle.session.specs.Crashes.{MayShow}
 use Rattle.session.specs.Stored.{ShowsDatabase}
 use Rattle.session.specs.declared.transactions.Connections.{Connections}
+
+-- a history isn't longer than itself
+pub not_longer : {P : Type 0} (history : List Database) → length history < length history → P
+not_longer history more = absurd (omega (arith, more))
 
 -- of a synced file a crash leaves the content
 synced_is : (file : File) → IsSynced file → (c : List ℕ) → IsLeft (versions file) c → c ≡ file.content

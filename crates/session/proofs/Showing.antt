@@ -37,7 +37,7 @@ use Rattle.session.specs.Writers.{IsNewest, IsWriter}
 use Rattle.session.specs.declared.transactions.Connections.{Connections}
 use Rattle.session.specs.declared.seats.Transaction.{Transaction}
 use Rattle.session.specs.declared.seats.Transaction.TheVariants as transaction
-use Rattle.session.proofs.Settled.{as_shown, still_settled, crash_keeps}
+use Rattle.session.proofs.Settled.{as_shown, crash_keeps, not_longer, still_settled}
 use Rattle.session.proofs.Stepping.{by_outcome, begin_outcome, rollback_outcome}
 
 -- a transaction that begins has no savepoint
@@ -246,6 +246,7 @@ module _ {D : Type 0} {g : Ghosts D} where
         step = by_outcome m c.connection statement.Rollback refl shown.running shown.numbered (RefusedBy (NoTransaction ∷ [])) (Refused NoTransaction) m is (NoTransaction, (0, omega arith, refl), refl, refl);
         shown = inr shown;
         crash = as_shown c m (inr shown);
+        renewed = λ more. not_longer m.history more;
       }
 
   pub rolled_back : (old new : Connections D g) → is_idle old.transaction ≡ false → IsGivenUp old new → StepsOn old statement.Rollback (Rows []) new
@@ -257,6 +258,7 @@ module _ {D : Type 0} {g : Ghosts D} where
         step = by_outcome m old.connection statement.Rollback refl shown.running shown.numbered (Gives [] (with_connection m old.connection Idle)) (Rows []) (with_connection m old.connection Idle) is (refl, refl);
         shown = inr (moved old new m Idle shown (subst (ShowTheSame (files_of old)) (sym gone.files) (the_same (files_of old) shown.told)) gone.beside (inl refl) (idle_now gone));
         crash = crash_keeps old new m (with_connection m old.connection Idle) shown (subst (ShowTheSame (files_of old)) (sym gone.files) (the_same (files_of old) shown.told));
+        renewed = λ more. not_longer m.history more;
       }
     where
       idle_now : IsGivenUp old new → IsTransaction (files_of new) new.catalog m.history new.transaction Idle
@@ -273,6 +275,7 @@ module _ {D : Type 0} {g : Ghosts D} where
         step = by_outcome m c.connection (statement.Begin mode) refl shown.running shown.numbered (RefusedBy (InTransaction ∷ [])) (Refused InTransaction) m is (InTransaction, (0, omega arith, refl), refl, refl);
         shown = inr shown;
         crash = as_shown c m (inr shown);
+        renewed = λ more. not_longer m.history more;
       }
 
   -- what changes where a transaction begins
@@ -295,6 +298,7 @@ module _ {D : Type 0} {g : Ghosts D} where
             (subst (λ (t : Transaction). IsTransaction (files_of new) new.catalog m.history t (InTransactionOf false [] NoSnapshot)) (sym begun.now)
             (begins_reading new.catalog (subst IsUnchanged (sym begun.catalog) was.0) (subst HasNoSavepoints (sym begun.catalog) was.1))));
         crash = crash_keeps old new m next shown (subst (ShowTheSame (files_of old)) (sym begun.files) (the_same (files_of old) shown.told));
+        renewed = λ more. not_longer m.history more;
       }
     where
       none_idle : (t : Transaction) (j : Connection) → IsTransaction (files_of old) old.catalog m.history t j → is_idle t ≡ true → IsUnchanged old.catalog × HasNoSavepoints old.catalog

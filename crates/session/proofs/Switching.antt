@@ -2,23 +2,22 @@
 use Rattle.std.proofs.Common.{◌≡◌, ◌≤◌, ◌<◌, refl, sym, ap, subst, ◌∙◌, ℕ, ◌-◌, ◌==◌, Bool, List, [], ◌∷◌, length, true, false, arith}
 use Rattle.std.proofs.lemmas.Bool.{false≢true}
 use Rattle.std.proofs.lemmas.Bool.Decides.{nat_tests}
-use Rattle.std.proofs.lemmas.List.{length-map}
 use Rattle.std.specs.List.{AllByRecursion}
-use Rattle.std.specs.Prelude.{⊤, Option, Some, map, reverse, option_map, slice_get, slice_set, unwrap_or}
+use Rattle.std.specs.Prelude.{⊤, Ok, Option, Some, map, reverse, option_map, slice_get, slice_set, unwrap_or}
 use Rattle.disk.specs.declared.device.Disk.{Ghosts}
 use Rattle.sql_syntax.specs.declared.statement.Statement.{Statement}
 use Rattle.wal.specs.declared.log.Log.{Log}
 use Rattle.catalog.specs.Database.{Database}
 use Rattle.catalog.specs.declared.tables.Table.{Table}
-use Rattle.pager.specs.Views.{Tells, View, newest_view}
+use Rattle.pager.specs.Views.{Tells, newest_view}
 use Rattle.session.specs.ConnectionState.{files_of, has_failed_in}
+use Rattle.session.specs.CopiedBack.{CopiesBack}
 use Rattle.session.specs.Crashes.{MayShow}
 use Rattle.session.specs.Holding.{HoldThroughout, IsSettled}
 use Rattle.session.specs.Machine.{Connection, Idle, InTransactionOf, Machine, NoSnapshot, Reply, connection, newest}
-use Rattle.session.specs.Representation.{AreParked, Beside, IsReadingIn, IsTransaction, RepresentsRunning, SeesNewest, ShowTheSame, StepsOn, StepsOver, StepsTo, Switches, TakesNewest, TradesWith, beside_in, has_no_snapshot, newest_tables, seats_in, seen_in, transaction_of}
-use Rattle.session.specs.SavedTables.{Rebases, SavedTables, Savepoints, committed_in, current_in, rebased, savepoints_in}
-use Rattle.session.specs.Saving.{AreSaved, IsUnwritten, SavedAs, states_of}
-use Rattle.session.specs.Seats.{Trades}
+use Rattle.session.specs.Representation.{AreParked, BeginsLog, Beside, CopiesAnswered, IsTransaction, RepresentsRunning, SeesNewest, ShowTheSame, StepsOn, StepsOver, StepsTo, Switches, TakesNewest, TradesWith, beside_in, has_no_snapshot, newest_tables, others_in, seats_in, transaction_of}
+use Rattle.session.specs.SavedTables.{Rebases, SavedTables, Savepoints, committed_in, rebased, savepoints_in}
+use Rattle.session.specs.Saving.{IsUnwritten, SavedAs, states_of}
 use Rattle.session.specs.Steps.{is_connection}
 use Rattle.session.specs.Stored.{ShowsDatabase}
 use Rattle.session.specs.Supported.{StepSoFar}
@@ -27,6 +26,7 @@ use Rattle.session.specs.declared.seats.Seat.{Seat}
 use Rattle.session.specs.declared.seats.Transaction.{Transaction}
 use Rattle.session.specs.declared.seats.Transaction.TheVariants as transaction
 use Rattle.session.specs.declared.transactions.Connections.{Connections}
+use Rattle.session.proofs.Alike.{alike_begins, alike_copies, set_alike, set_other, transactions_of}
 use Rattle.session.proofs.Parking.{get_set, parked_count, parked_get, parked_set, set_got, set_length, set_twice}
 use Rattle.session.proofs.Showing.{in_range, stays, the_same}
 
@@ -34,6 +34,11 @@ use Rattle.session.proofs.Showing.{in_range, stays, the_same}
 
 abbrev rebased_point : List Table → SavedAs ⊤ → SavedAs ⊤
 rebased_point tables p = record { state = p.state; tables = record { name = p.tables.name; tables = tables }; kept = p.kept }
+
+-- a connection has a transaction
+abbrev in_one : Connection → Bool
+in_one Idle = false
+in_one (InTransactionOf began points phase) = true
 
 equal_numbers : (a b : ℕ) → (a == b) ≡ true → a ≡ b
 equal_numbers a b is = grind (arith, nat_tests)
@@ -164,25 +169,71 @@ module _ {D : Type 0} {g : Ghosts D} where
             ∙ trades.2.trades.got (omega (arith, above, below, ap length set_is, set_length old.parked.items (old.connection - 1) (present_seat old)))));
       }))
 
+  -- ---- the others' seats
+
+  idle_alone : (files : Log D g) (catalog : SavedCatalogs) (history : List Database) (t : Transaction) → IsTransaction files catalog history t Idle → t ≡ transaction.Idle
+  idle_alone files catalog history transaction.Idle is = refl
+  idle_alone files catalog history transaction.Begun is = absurd (false≢true (ap in_one is.is))
+  idle_alone files catalog history (transaction.Reading s) is = absurd (false≢true (ap in_one is.1.is))
+  idle_alone files catalog history (transaction.Writing w) is = absurd (false≢true (ap in_one is.is))
+
+  abbrev idle_in : Connections D g → Seat
+  idle_in c = record { transaction = transaction.Idle; catalog = c.catalog }
+
+  -- the seat in the present connection's place has no transaction
+  own_idle : (c : Connections D g) (m : Machine) → RepresentsRunning c m → (s : Seat) → slice_get c.parked.items (c.connection - 1) ≡ Some s → s.transaction ≡ transaction.Idle
+  own_idle c m shown s got = idle_alone (files_of c) s.catalog m.history s.transaction
+      (subst (λ (k : Connection). IsTransaction (files_of c) s.catalog m.history s.transaction k)
+      (ap (λ (x : Option Connection). unwrap_or x Idle) (get_set m.connections (c.connection - 1) Idle (in_range c.connection m shown.sixteen shown.numbered)))
+      (parked_get (files_of c) m.history c.parked.items (slice_set m.connections (c.connection - 1) Idle) (c.connection - 1) s shown.parked got))
+
+  pub switched_others : (n : ℕ) (old new : Connections D g) (m : Machine) → is_connection n ≡ true → Switches n old new → RepresentsRunning old m → transactions_of new.parked.items ≡ transactions_of (others_in old n)
+  switched_others n old new m is switch shown = either_case n old.connection
+      (λ same.
+      ap (λ (c : Connections D g). transactions_of c.parked.items) (switch.same same)
+      ∙ sym (ap (λ k. transactions_of (slice_set (seats_in old) (k - 1) (idle_in old))) same
+      ∙ ap transactions_of (set_twice old.parked.items (old.connection - 1) (present_seat old) (idle_in old))
+      ∙ set_alike old.parked.items (old.connection - 1) (idle_in old) (λ s got. own_idle old m shown s got)))
+      (λ other. by_trades (switch.other other))
+    where
+      by_trades : (mid : Connections D g) × TradesWith old.connection old mid × TradesWith n (record mid { connection = n }) new → transactions_of new.parked.items ≡ transactions_of (others_in old n)
+      by_trades trades =
+          let there = seat_there old m shown old.connection shown.numbered in
+          let set_is : trades.0.parked.items ≡ seats_in old = trades.1.trades.set there in
+          let count : length trades.0.parked.items ≡ length old.parked.items = ap length set_is ∙ set_length old.parked.items (old.connection - 1) (present_seat old) in
+          ap transactions_of (trades.2.trades.set (omega (arith, seat_there old m shown n is, count)))
+          ∙ ap (λ (ss : List Seat). transactions_of (slice_set ss (n - 1) (present_seat trades.0))) set_is
+          ∙ set_other (seats_in old) (n - 1) (present_seat trades.0) (idle_in old) (own_idle old m shown (present_seat trades.0) (trades.1.trades.got there))
+
   -- ---- steps of the connections from before
 
-  pub steps_over : (old mid new : Connections D g) (m : Machine) (n : ℕ) (s : Statement) (reply : Reply) → files_of mid ≡ files_of old → mid.connection ≡ n → mid.transaction ≡ transaction_of old n → StepsTo mid m s reply new → StepsOver old m n s reply new
-  steps_over old mid new m n s reply files number own step = record {
+  pub steps_over : (old mid new : Connections D g) (m : Machine) (n : ℕ) (s : Statement) (reply : Reply) → files_of mid ≡ files_of old → mid.connection ≡ n → transactions_of mid.parked.items ≡ transactions_of (others_in old n)
+      → CopiesAnswered mid.parked.items (files_of mid) s reply (files_of new) → StepsTo mid m s reply new → StepsOver old m n s reply new
+  steps_over old mid new m n s reply files number others copied step = record {
     next = step.next;
     step = subst (λ k. StepSoFar m k s reply step.next) number step.step;
     shown = step.shown;
     crash = subst (λ (l : Log D g). HoldThroughout (MayShow m step.next) l (files_of new)) files step.crash;
+    copied = λ mode is rows answered. (let has = copied mode is rows answered in (
+      has.0,
+      has.1,
+      subst (λ (l : Log D g). CopiesBack mode (others_in old n) l (Ok has.0) (files_of new)) files (alike_copies mode mid.parked.items (others_in old n) (files_of mid) (Ok has.0) (files_of new) others has.2),
+    ));
+    renewed = subst (λ (l : Log D g). BeginsLog (others_in old n) l m step.next (files_of new)) files
+        (alike_begins mid.parked.items (others_in old n) (files_of mid) m step.next (files_of new) others step.renewed);
   }
 
-  pub steps_from : (old mid new : Connections D g) (s : Statement) (reply : Reply) → files_of mid ≡ files_of old → mid.connection ≡ old.connection → mid.transaction ≡ old.transaction → ((m : Machine) → RepresentsRunning old m → RepresentsRunning mid m)
-      → StepsOn mid s reply new → StepsOn old s reply new
-  steps_from old mid new s reply files number own shows steps m shown =
+  pub steps_from : (old mid new : Connections D g) (s : Statement) (reply : Reply) → files_of mid ≡ files_of old → beside_in mid ≡ beside_in old → ((m : Machine) → RepresentsRunning old m → RepresentsRunning mid m) → StepsOn mid s reply new
+      → StepsOn old s reply new
+  steps_from old mid new s reply files beside shows steps m shown =
       let step = steps m (shows m shown) in
       record {
         next = step.next;
-        step = subst (λ k. StepSoFar m k s reply step.next) number step.step;
+        step = subst (λ (b : Beside). StepSoFar m b.connection s reply step.next) beside step.step;
         shown = step.shown;
         crash = subst (λ (l : Log D g). HoldThroughout (MayShow m step.next) l (files_of new)) files step.crash;
+        renewed = subst (λ (b : Beside). BeginsLog b.parked (files_of old) m step.next (files_of new)) beside
+            (subst (λ (l : Log D g). BeginsLog mid.parked.items l m step.next (files_of new)) files step.renewed);
       }
 
   -- ---- the newest tables
@@ -223,4 +274,4 @@ module _ {D : Type 0} {g : Ghosts D} where
 
   -- a statement that begins with taking the newest tables
   pub after_taking : (old mid new : Connections D g) (s : Statement) (reply : Reply) → TakesNewest old mid → StepsOn mid s reply new → StepsOn old s reply new
-  after_taking old mid new s reply takes steps = steps_from old mid new s reply takes.files (ap (λ (b : Beside). b.connection) takes.beside) takes.transaction (λ m shown. taken_shown old mid m takes shown) steps
+  after_taking old mid new s reply takes steps = steps_from old mid new s reply takes.files takes.beside (λ m shown. taken_shown old mid m takes shown) steps

@@ -1,24 +1,21 @@
 -- A call of a connection by its number, from what it does as the present one.
-use Rattle.std.proofs.Common.{◌≡◌, ◌⊎◌, inl, inr, refl, sym, ap, subst, ◌∙◌, ℕ, ◌==◌, Bool, true, false, Result, Ok, Err, arith}
-use Rattle.std.specs.Prelude.{⊤, ◌||◌, if◌then◌else◌, nat_lt, IfErr, IsErrAnd, IsFalse, IsTrue}
+use Rattle.std.proofs.Common.{◌≡◌, ◌⊎◌, inl, inr, sym, ap, subst, ◌∙◌, ℕ, ◌==◌, Bool, true, false, Result, Ok, Err, arith}
+use Rattle.std.specs.Prelude.{⊤, ◌||◌, if◌then◌else◌, nat_lt, IfErr, IsErrAnd, IsTrue}
 use Rattle.std.proofs.lemmas.Bool.{false≢true}
 use Rattle.disk.specs.declared.device.Disk.{Ghosts}
-use Rattle.pages.specs.Calls.{Causes}
-use Rattle.pager.specs.Views.{Tells}
-use Rattle.sqlval.specs.Refusals.{refusal_of}
 use Rattle.sqlval.specs.declared.fault.Fault.{Fault}
 use Rattle.sqlval.specs.declared.fault.Fault.TheVariants as fault
 use Rattle.sqlval.specs.declared.fault.Misuse.TheVariants as misuse
 use Rattle.sql_syntax.specs.declared.statement.Statement.{Statement}
+use Rattle.executor.specs.Forms.{answers_rows}
 use Rattle.wal.specs.declared.log.Log.{Log}
 use Rattle.session.specs.Calls.{IsCallOf, IsRefusedOnly}
 use Rattle.session.specs.ConnectionState.{HasCause, HasCauseIn, files_of, first_refusal, has_failed_in}
-use Rattle.session.specs.Failing.{IsRefusedFor, IsRefusedHere, MarksFailure, ReadsFiles, may_commit, may_want_memory}
+use Rattle.session.specs.Failing.{IsRefusedHere, MarksFailure, ReadsFiles, may_commit, may_want_memory}
 use Rattle.session.specs.Limits.{may_be_full}
-use Rattle.session.specs.Machine.{Reply}
-use Rattle.session.specs.Representation.{Steps, StepsOn, Switches, done_reply}
+use Rattle.session.specs.Representation.{StepsOn, Switches, done_reply}
 use Rattle.session.specs.declared.transactions.Connections.{Connections}
-use Rattle.session.proofs.Executing.{done, marks_switched, refused_first, refused_switched, steps_switched}
+use Rattle.session.proofs.Executing.{done, done_copies, marks_switched, refused_first, refused_switched, steps_switched}
 use Rattle.session.proofs.Switching.{was_present}
 
 -- what is refused only for memory that it may take
@@ -86,10 +83,10 @@ module _ {D : Type 0} {g : Ghosts D} where
       as_refused (Err e) f is P there = subst (λ (x : Fault). P (Err x)) (sym is) there
 
   -- what the present connection does, once it is the present one
-  pub call_made : (old mid new : Connections D g) (n : ℕ) (s : Statement) (result : Result ⊤ Fault) → first_refusal (has_failed_in old) n ≡ done → Switches n old mid → StepsOn mid s (done_reply result) new
+  pub call_made : (old mid new : Connections D g) (n : ℕ) (s : Statement) (result : Result ⊤ Fault) → answers_rows s ≡ false → first_refusal (has_failed_in old) n ≡ done → Switches n old mid → StepsOn mid s (done_reply result) new
       → HasCauseIn (may_be_full s) result mid new → MarksFailure result mid new → IfErr result (IsRefusedHere mid s) → IsCallOf s old n result new
-  call_made old mid new n s result first switch steps cause marks refused = record {
-    step = steps_switched old mid new n s (done_reply result) first switch steps;
+  call_made old mid new n s result other first switch steps cause marks refused = record {
+    step = steps_switched old mid new n s (done_reply result) first switch (done_copies mid.parked.items (files_of mid) (files_of new) s (done_reply result) other) steps;
     cause = subst (λ (l : Log D g). HasCause (may_be_full s) result l (files_of new)) (was_present n old mid switch).files cause;
     marks = marks_switched old mid new n result switch marks;
     refused = refused_switched old mid n s result first switch refused;

@@ -16,12 +16,7 @@ use Rattle.session.specs.SavedTables.{HasNoSavepoints, IsUnchanged, Savepoints, 
 use Rattle.session.specs.Saving.{in_transaction, states_of}
 use Rattle.session.specs.declared.savepoints.SavedCatalogs.{SavedCatalogs}
 use Rattle.catalog.specs.declared.tables.Table.{Table}
-use Rattle.pages.specs.Map.{PageMap}
-use Rattle.pager.specs.Maps.{pages_in}
-use Rattle.pager.proofs.Mapping.{maps_alike}
-use Rattle.wal.specs.LogState.{LogState}
-use Rattle.pager.specs.Views.{View, newest_view, view_at, view_of}
-use Rattle.pager.specs.Writers.{seen}
+use Rattle.pager.specs.Views.{View, newest_view, view_of}
 use Rattle.pager.specs.declared.writer.Writer.{Writer}
 use Rattle.session.specs.Supported.{CannotStore, StepSoFar, database_of}
 use Rattle.executor.specs.Forms.{is_supported}
@@ -31,9 +26,9 @@ use Rattle.session.specs.Outcomes.{Outcome, outcome}
 use Rattle.executor.specs.Works.{Work, Makes, IsRefused, Undoes, Binds, Reaches, change_made}
 use Rattle.session.specs.Steps.{Allowed, after_commit, fails}
 use Rattle.session.specs.Stored.{ShowsDatabase}
-use Rattle.session.specs.Representation.{Beside, IsSnapshotOf, IsWritingIn, MayWrite, RepresentsRunning, IsTransaction, OnlyReads, ShowTheSame, StepsOn, StepsTo, beside_in, done_reply, has_no_snapshot, is_idle, is_reading, seen_in, with_transaction}
+use Rattle.session.specs.Representation.{Beside, IsSnapshotOf, IsWritingIn, MayWrite, RepresentsRunning, IsTransaction, OnlyReads, ShowTheSame, StepsOn, StepsTo, beside_in, done_reply, has_no_snapshot, is_idle, is_reading, with_transaction}
 use Rattle.session.specs.Applying.{CommitsChanges, EndsAlone, IsApplied, IsCommitCause, IsDropped, IsNotApplied, KeepsCommitted, Applies, CanApply, listing_of}
-use Rattle.executor.specs.Changing.{IsChangeRefusal, IsTooMuch}
+use Rattle.executor.specs.Changing.{IsChangeRefusal}
 use Rattle.session.specs.Changing.{ChangesPages, KeepsListed, written}
 use Rattle.session.specs.Writers.{IsWriter}
 use Rattle.session.specs.declared.transactions.Connections.{Connections}
@@ -41,11 +36,10 @@ use Rattle.session.specs.declared.seats.Transaction.{Transaction}
 use Rattle.session.specs.declared.seats.Transaction.TheVariants as transaction
 use Rattle.session.specs.declared.changes.Write.{Write}
 use Rattle.session.proofs.Beginning.{StartsWriting, free_of, newest_listed, none_where_idle, writer_begins, writer_stores}
-use Rattle.session.proofs.CheckpointSteps.{copied_after, then_steps}
+use Rattle.session.proofs.CheckpointSteps.{copied_after, renewed_after, then_steps}
 use Rattle.session.proofs.CommitSteps.{committed_shown}
 use Rattle.session.proofs.CommitCrashes.{commit_crashes, doubt_left, doubt_crashes, doubted}
-use Rattle.session.proofs.Settled.{still_settled, crash_keeps}
-use Rattle.session.proofs.SeenPages.{at_newest}
+use Rattle.session.proofs.Settled.{crash_keeps, not_longer, still_settled}
 use Rattle.session.proofs.ReadingPhases.{ReadsNewest, other_reading, reads_newest}
 use Rattle.session.proofs.Showing.{lone_still, moved, stays, still_saved, still_shown, still_stored, still_transaction, still_writer}
 use Rattle.session.proofs.Stepping.{by_outcome}
@@ -132,6 +126,7 @@ module _ {D : Type 0} {g : Ghosts D} where
     step = refused_step m old.connection (written w) supported_forms before.running before.numbered finish ends (change_made (written w) db) is db sees f why;
     shown = inr behind;
     crash = crash_keeps old new m m before same;
+    renewed = λ more. not_longer m.history more;
   }
 
   -- ---- a statement that begins to write
@@ -267,6 +262,7 @@ module _ {D : Type 0} {g : Ghosts D} where
               (subst (λ (ts : List Table). ShowsDatabase (newest_view (files_of old)) ts (newest m)) (sym (has.kept.tables ∙ ap committed_in start.catalog)) opened.base);
         }));
     crash = crash_keeps old after m (working_on b m old.connection has.made) shown same;
+    renewed = λ more. not_longer m.history more;
   }
     where
       r : ReadsNewest (files_of old) old.catalog m old.connection old.transaction shown.present
@@ -373,7 +369,7 @@ module _ {D : Type 0} {g : Ghosts D} where
           let next = after_commit m old.connection has.made in
           let committed = ended.0 in
           then_steps old committed new m next (written x) (copied_after committed new next (committed_shown old after committed m shown has.made worked left_beside ended.1 (ended.1.transaction ∙ is_alone) (free_of old m shown may.free)) (ended.1.transaction ∙ is_alone) ended.3)
-          (commit_crashes old after committed m has.made shown worked newest_stored ended.2)
+          (commit_crashes old after committed m has.made shown worked newest_stored ended.2) (renewed_after old after committed new worked left_beside ended.1.renewed ended.3)
           (by_outcome m old.connection (written x) supported_forms shown.running shown.numbered (alone m (change_made (written x) (newest m))) (Rows []) next opened.comes (alone_commits m old.connection has.made (change_made (written x) (newest m)) has.reaches))
           (by_outcome m old.connection (written x) supported_forms shown.running shown.numbered (alone m (change_made (written x) (newest m))) (Rows []) (fails next) opened.comes (alone_commits_failed m old.connection has.made (change_made (written x) (newest m)) has.reaches))
       by_result (Err f) (inl io) = record {
@@ -382,6 +378,7 @@ module _ {D : Type 0} {g : Ghosts D} where
             (by_outcome m old.connection (written x) supported_forms shown.running shown.numbered (alone m (change_made (written x) (newest m))) (Refused refusal.Io) (doubted m has.made) opened.comes (alone_doubts m old.connection has.made (change_made (written x) (newest m)) has.reaches));
         shown = inl (io.failed, refl, doubt_left old after new m has.made shown worked newest_stored io.held f io);
         crash = doubt_crashes old after new m has.made shown worked newest_stored io.held;
+        renewed = λ more. not_longer m.history more;
       }
       by_result (Err f) (inr gone) = refused old new m x (alone m) shown (same_gone f gone) (dropped_shown f gone) supported_forms opened.ends (newest m) opened.database opened.comes f (short f gone.why)
 
@@ -431,6 +428,7 @@ module _ {D : Type 0} {g : Ghosts D} where
         shown = inr (moved old (with_transaction after (transaction.Writing left)) m (in_transaction mid.catalog t.points (Writes (last_place m) has.made)) shown has.kept.files has.kept.beside
             (inr (lone_still old m shown (ap is_writing t.is))) (goes_on (in_transaction mid.catalog t.points (Writes (last_place m) has.made)) has.made refl has.kept has.applies));
         crash = crash_keeps old (with_transaction after (transaction.Writing left)) m (working_on b m old.connection has.made) shown has.kept.files;
+        renewed = λ more. not_longer m.history more;
       }
       by_result (Err f) has now =
           let still = went_back (written w) mid after t.db writer left f now over here has in

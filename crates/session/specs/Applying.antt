@@ -1,6 +1,6 @@
 -- What a statement makes of the database that its connection works on, and what a commit makes of that (SQL As Understood By
 -- SQLite, "BEGIN TRANSACTION").
-use Rattle.std.specs.Prelude.{◌≡◌, ◌⊎◌, ◌<◌, ◌≤◌, ⊤, true, false, List, length, Result, Ok, Err}
+use Rattle.std.specs.Prelude.{◌≡◌, ◌⊎◌, ◌<◌, ◌≤◌, ⊤, IsTrue, true, false, List, length, Result, Ok, Err}
 use Rattle.sqlval.specs.declared.fault.Fault.{Fault}
 use Rattle.sqlval.specs.declared.fault.Fault.TheVariants as fault
 use Rattle.disk.specs.File.{IsContentLeft}
@@ -8,8 +8,10 @@ use Rattle.disk.specs.declared.device.Disk.{Ghosts}
 use Rattle.sql_syntax.specs.declared.statement.Statement.{Statement}
 use Rattle.catalog.specs.Database.{Database}
 use Rattle.session.specs.SavedTables.{HasNoSavepoints, IsUnchanged, committed_in, current_in, savepoints_in}
+use Rattle.wal.specs.Anew.{begins_anew}
 use Rattle.wal.specs.LogState.{db_of, log_of, seen_by, state_of}
 use Rattle.wal.specs.Refusals.{IsWithin}
+use Rattle.wal.specs.Restarts.{next_header}
 use Rattle.wal.specs.declared.log.Log.{Log}
 use Rattle.wal.specs.declared.log.Snapshot.{Snapshot}
 use Rattle.wal.specs.declared.pages.PageImage.{PageImage}
@@ -25,7 +27,7 @@ use Rattle.executor.specs.Works.{Reaches, change_made}
 use Rattle.session.specs.Holding.{HoldThroughout, IsSettled}
 use Rattle.session.specs.Checkpoints.{CopiesAfter}
 use Rattle.session.specs.ConnectionState.{files_of, has_failed_in, is_io}
-use Rattle.session.specs.Representation.{Beside, ShowTheSame, beside_in, is_alone, newest_tables}
+use Rattle.session.specs.Representation.{ShowTheSame, beside_in, is_alone, newest_tables}
 use Rattle.session.specs.Stored.{ShowsDatabase}
 use Rattle.session.specs.declared.transactions.Connections.{Connections}
 
@@ -73,6 +75,10 @@ module _ {D : Type 0} {g : Ghosts D} where
     pub more : (state_of old).frames < (state_of new).frames
     pub at : (snapshot : Snapshot) → seen_by snapshot ≤ (state_of old).frames → view_at new snapshot ≡ view_at old snapshot
 
+  -- the log was begun anew where no other connection sees a snapshot and all frames were copied
+  abbrev pub BeginsAnewBeside : Connections D g → Connections D g → Type 0
+  BeginsAnewBeside old new = IsTrue (begins_anew (state_of (files_of old)) (is_alone old)) → (state_of (files_of new)).header ≡ next_header (state_of (files_of old)).header
+
   -- the database is the newest committed one, the present connection has no savepoint, and the others that see a snapshot see what they saw
   pub record CommitsDatabase (old : Connections D g) (db : Database) (new : Connections D g) : Type 0 where
     pub told : Tells (files_of new)
@@ -85,6 +91,7 @@ module _ {D : Type 0} {g : Ghosts D} where
     pub savepoints : HasNoSavepoints new.catalog
     pub stored : ShowsDatabase (newest_view (files_of new)) (newest_tables new) db
     pub older : is_alone old ≡ false → KeepsSnapshots (files_of old) (files_of new)
+    pub renewed : BeginsAnewBeside old new
 
   -- At each moment of a commit a crash leaves the database that was the newest before it, or this one.
   abbrev pub HoldsEither : Connections D g → Database → Connections D g → Type 0

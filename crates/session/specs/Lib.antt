@@ -11,6 +11,7 @@ pub mod SavedTables
 pub mod Seats
 pub mod Saving
 pub mod Writers
+pub mod CopiedBack
 pub mod Representation
 pub mod Checkpoints
 pub mod Stored

@@ -1,22 +1,26 @@
 -- Which machine the connections show.
-use Rattle.std.specs.Prelude.{◌≡◌, ◌⊎◌, ◌<◌, ◌≤◌, ◌-◌, slice_get, slice_set, unwrap_or, option_map, not, ⊤, ℕ, Bool, true, false, List, [], ◌∷◌, length, map, None, Result, Ok, Err, Vec, if◌then◌else◌}
+use Rattle.std.specs.Prelude.{◌≡◌, ◌⊎◌, ◌<◌, ◌≤◌, ◌-◌, slice_get, slice_set, unwrap_or, option_map, ⊤, ℕ, Bool, IsTrue, true, false, List, [], ◌∷◌, length, map, None, Result, Ok, Err, Vec, if◌then◌else◌}
 use Rattle.std.specs.declared.alloc.Global.{Global}
 use Rattle.smallvec.specs.SmallVec.{SmallVec}
-use Rattle.sqlval.specs.Refusals.{Refusal, refusal_of}
+use Rattle.sqlval.specs.Refusals.{refusal_of}
 use Rattle.sqlval.specs.declared.fault.Fault.{Fault}
 use Rattle.sqlval.specs.declared.fault.Fault.TheVariants.{Busy, StaleSnapshot}
 use Rattle.sqlval.specs.declared.value.Value.{Value}
 use Rattle.std.specs.List.{AllByRecursion, list_any}
 use Rattle.disk.specs.declared.device.Disk.{Ghosts}
+use Rattle.sql_syntax.specs.declared.statement.CheckpointMode.{CheckpointMode}
 use Rattle.sql_syntax.specs.declared.statement.Statement.{Statement}
 use Rattle.sql_syntax.specs.declared.statement.Statement.TheVariants as statement
 use Rattle.wal.specs.declared.log.Log.{Log}
 use Rattle.wal.specs.declared.log.Snapshot.{Snapshot}
+use Rattle.wal.specs.Anew.{begins_anew}
 use Rattle.wal.specs.LogState.{db_of, state_of, log_of, seen_by}
+use Rattle.wal.specs.Restarts.{next_header}
+use Rattle.wal_checkpoint.specs.declared.checkpoints.Counts.{Counts}
 use Rattle.catalog.specs.Listed.{tables_of}
 use Rattle.catalog.specs.declared.tables.Table.{Table}
 use Rattle.session.specs.SavedTables.{HasNoSavepoints, IsUnchanged, Rebases, committed_in, current_in}
-use Rattle.session.specs.Seats.{IsIdleSeat, Trades, holds_snapshot, holds_writer}
+use Rattle.session.specs.Seats.{IsIdleSeat, Trades, holds_writer, see_none}
 use Rattle.session.specs.declared.seats.Seat.{Seat}
 use Rattle.session.specs.Saving.{AreSaved, IsMarked, IsUnwritten, SavedAs, in_transaction}
 use Rattle.session.specs.declared.savepoints.SavedCatalogs.{SavedCatalogs}
@@ -29,6 +33,7 @@ use Rattle.executor.specs.Forms.{is_supported}
 use Rattle.session.specs.Supported.{StepSoFar}
 use Rattle.session.specs.Holding.{HoldThroughout, IsLeftBy, IsSettled}
 use Rattle.session.specs.ConnectionState.{files_of, has_failed_in}
+use Rattle.session.specs.CopiedBack.{CopiesBack, numbers_of}
 use Rattle.session.specs.Machine.{Machine, Connection, Idle, NoSnapshot, Phase, Reads, Writes, Reply, Rows, Refused, connection, is_writing, newest}
 use Rattle.session.specs.Steps.{is_connection}
 use Rattle.session.specs.Outcomes.{outcome}
@@ -162,11 +167,15 @@ module _ {D : Type 0} {g : Ghosts D} where
 
   -- no other connection sees a snapshot
   abbrev pub is_alone : Connections D g → Bool
-  is_alone c = not (list_any holds_snapshot c.parked.items)
+  is_alone c = see_none c.parked.items
 
   -- all seats, with the present one's at its place
   abbrev pub seats_in : Connections D g → List Seat
   seats_in c = slice_set c.parked.items (c.connection - 1) (record { transaction = c.transaction; catalog = c.catalog })
+
+  -- the seats of the others: all seats, with one that has no transaction in the place of this connection's
+  abbrev pub others_in : Connections D g → ℕ → List Seat
+  others_in c connection = slice_set (seats_in c) (connection - 1) (record { transaction = transaction.Idle; catalog = c.catalog })
 
   -- a connection's transaction
   abbrev pub transaction_of : Connections D g → ℕ → Transaction
@@ -182,20 +191,36 @@ module _ {D : Type 0} {g : Ghosts D} where
   seen_in (transaction.Reading snapshot) files = view_at files snapshot
   seen_in _ files = newest_view files
 
+  -- A checkpoint that answers rows, where the other connections have these seats, has copied frames, and its one row has their counts.
+  abbrev pub CopiesAnswered : List Seat → Log D g → Statement → Reply → Log D g → Type 0
+  CopiesAnswered others old s reply new = (mode : CheckpointMode) → s ≡ statement.Checkpoint mode → (rows : List (List Value)) → reply ≡ Rows rows
+      → (counts : Counts) × (rows ≡ numbers_of counts ∷ []) × CopiesBack mode others old (Ok counts) new
+
+  -- A commit, where the other connections have these seats, begins the log anew where none of them sees a snapshot and all frames are copied.
+  abbrev pub BeginsLog : List Seat → Log D g → Machine → Machine → Log D g → Type 0
+  BeginsLog others old m next new =
+      length m.history < length next.history → IsTrue (begins_anew (state_of old) (see_none others)) → (state_of new).header ≡ next_header (state_of old).header
+
   -- This is a step from a machine to one that is shown after it, and at each moment of it a crash leaves a database that they may show.
   pub record StepsOver (old : Connections D g) (m : Machine) (connection : ℕ) (statement : Statement) (reply : Reply) (new : Connections D g) : Type 0 where
     pub next : Machine
     pub step : StepSoFar m connection statement reply next
     pub shown : Represents new next
     pub crash : HoldThroughout (MayShow m next) (files_of old) (files_of new)
+    pub copied : CopiesAnswered (others_in old connection) (files_of old) statement reply (files_of new)
+    pub renewed : BeginsLog (others_in old connection) (files_of old) m next (files_of new)
 
   -- From each machine that was shown it is a step, and the machine after it is shown.
   abbrev pub Steps : Connections D g → ℕ → Statement → Reply → Connections D g → Type 0
   Steps old connection statement reply new = (m : Machine) → Represents old m → StepsOver old m connection statement reply new
 
-  -- the same of the present connection, where no commit has failed
-  abbrev pub StepsTo : Connections D g → Machine → Statement → Reply → Connections D g → Type 0
-  StepsTo old m statement reply new = StepsOver old m old.connection statement reply new
+  -- the same of the present connection, where no commit has failed, except for what a checkpoint copies
+  pub record StepsTo (old : Connections D g) (m : Machine) (statement : Statement) (reply : Reply) (new : Connections D g) : Type 0 where
+    pub next : Machine
+    pub step : StepSoFar m old.connection statement reply next
+    pub shown : Represents new next
+    pub crash : HoldThroughout (MayShow m next) (files_of old) (files_of new)
+    pub renewed : BeginsLog old.parked.items (files_of old) m next (files_of new)
 
   abbrev pub StepsOn : Connections D g → Statement → Reply → Connections D g → Type 0
   StepsOn old statement reply new = (m : Machine) → RepresentsRunning old m → StepsTo old m statement reply new

@@ -1,6 +1,6 @@
 -- The seats of the connections, each with its transaction and the tables of it (Isolation In SQLite).
-use Rattle.std.specs.Prelude.{◌≡◌, ◌⊎◌, ◌<◌, ◌≤◌, ⊤, ℕ, Bool, true, false, List, [], ◌∷◌, length, Option, Some, None, MatchOption, slice_get, slice_set}
-use Rattle.std.specs.List.{AllByRecursion}
+use Rattle.std.specs.Prelude.{◌≡◌, ◌⊎◌, ◌<◌, ◌≤◌, ⊤, ℕ, Bool, true, false, List, [], ◌∷◌, length, Option, Some, None, MatchOption, slice_get, slice_set, not}
+use Rattle.std.specs.List.{AllByRecursion, list_any}
 use Rattle.catalog.specs.declared.tables.Catalog.{Catalog}
 use Rattle.wal.specs.LogState.{seen_by}
 use Rattle.wal.specs.declared.log.Snapshot.{Snapshot}
@@ -29,6 +29,10 @@ sees_snapshot _ = false
 -- the same of that of a seat
 abbrev pub holds_snapshot : Seat → Bool
 holds_snapshot seat = sees_snapshot seat.transaction
+
+-- none of these seats sees one
+abbrev pub see_none : List Seat → Bool
+see_none seats = not (list_any holds_snapshot seats)
 
 -- the snapshot that a transaction sees
 abbrev pub snapshot_in : Transaction → Option Snapshot

@@ -2,8 +2,8 @@
 
 ghost use Rattle.std.specs.Prelude.{◌≡◌, ◌<◌, ◌∷◌, ◌++◌, [], false, length, map, vec_capacity};
 ghost use Rattle.row_scan.specs.Rows.{values_of};
-ghost use Rattle.session.specs.Checkpoints.{CopiesBack, numbers_of};
 ghost use Rattle.session.specs.ConnectionState.{HasCause};
+ghost use Rattle.session.specs.CopiedBack.{CopiesBack, numbers_of};
 
 use crate::seats::{Seat, any_holds_snapshot, least_snapshot};
 use disk::Disk;

@@ -78,8 +78,9 @@ fn is_io(fault: &Fault) -> bool
 }
 
 impl<D: Disk + Drop> Connections<D> {
-    ghost use Rattle.session.specs.Representation.{AreGivenUp, CommitsBy, IsGivenUp, MayWrite, OnlyReads, RepresentsRunning, SeesNewest, StartsReading, Steps, StepsOn, Switches, TakesNewest, TradesWith, done_reply, first_write_refusal, has_no_snapshot, is_alone, is_begun, is_idle, is_reading, rows_reply, seen_in, with_transaction};
-    ghost use Rattle.session.specs.Checkpoints.{CopiesAfter, CopiesBack, KeepsSeats};
+    ghost use Rattle.session.specs.Representation.{AreGivenUp, CommitsBy, CopiesAnswered, IsGivenUp, MayWrite, OnlyReads, RepresentsRunning, SeesNewest, StartsReading, Steps, StepsOn, Switches, TakesNewest, TradesWith, done_reply, first_write_refusal, has_no_snapshot, is_alone, is_begun, is_idle, is_reading, rows_reply, seen_in, with_transaction};
+    ghost use Rattle.session.specs.Checkpoints.{CopiesAfter, KeepsSeats};
+    ghost use Rattle.session.specs.CopiedBack.{CopiesBack, KeepsDisksWhereShort};
     ghost use Rattle.session.specs.Writers.{SeesBy, is_stale};
     ghost use Rattle.session.specs.Seats.{AreFresh, catalog_in, holds_writer};
     ghost use Rattle.session.specs.declared.seats.Transaction.TheVariants as transaction;
@@ -165,6 +166,8 @@ impl<D: Disk + Drop> Connections<D> {
         ensures marks { MarksFailure result self.old self.new }
         // Memory is short only where it is taken, and a COMMIT is refused as `Full` only past the limits.
         ensures refused { IfErr result (IsRefusedFor self.old connection statement.now) }
+        // A checkpoint takes its memory before it changes a file.
+        ensures early { KeepsDisksWhereShort statement.now (files_of self.old) result (files_of self.new) }
         // The reply is a step of each machine that was represented, and the machine after it is represented then. (A CREATE carries its own text.)
         ensures step { KeepsItsText statement.now → Steps self.old connection statement.now (rows_reply result) self.new }
     {
@@ -231,6 +234,8 @@ impl<D: Disk + Drop> Connections<D> {
         ensures cause { HasCauseIn (may_be_full statement.now) result self.old self.new }
         ensures marks { MarksFailure result self.old self.new }
         ensures refused { IfErr result (IsRefusedHere self.old statement.now) }
+        ensures copied { CopiesAnswered self.old.parked.items (files_of self.old) statement.now (rows_reply result) (files_of self.new) }
+        ensures early { KeepsDisksWhereShort statement.now (files_of self.old) result (files_of self.new) }
         ensures step { WhereSupported statement.now (StepsOn self.old statement.now (rows_reply result) self.new) }
     {
         match statement {
@@ -440,6 +445,8 @@ impl<D: Disk + Drop> Connections<D> {
         ensures cause { HasCauseIn false result self.old self.new }
         ensures marks { MarksFailure result self.old self.new }
         ensures refused { IfErr result (IsRefusedHere self.old (statement.Checkpoint mode)) }
+        ensures copied { CopiesAnswered self.old.parked.items (files_of self.old) (statement.Checkpoint mode) (rows_reply result) (files_of self.new) }
+        ensures early { KeepsDisksWhereShort (statement.Checkpoint mode) (files_of self.old) result (files_of self.new) }
         ensures step { StepsOn self.old (statement.Checkpoint mode) (rows_reply result) self.new }
     {
         if !self.is_idle() {

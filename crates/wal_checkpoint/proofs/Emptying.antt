@@ -1,21 +1,23 @@
 -- A log that begins anew, or is cut to nothing, once all its frames are copied.
 use Rattle.std.proofs.Common.{◌≡◌, inl, inr, ℕ, List, [], Bool, true, false, refl, sym, ◌∙◌, ap, subst, arith}
-use Rattle.std.specs.Prelude.{None, Result, Ok, Err, OnOk, if◌then◌else◌, ◌==◌}
+use Rattle.std.specs.Prelude.{None, Result, Ok, Err, IfErr, MatchResult, OnOk, if◌then◌else◌, ◌==◌}
 use Rattle.std.proofs.lemmas.Bool.{cases_lt, eq-eqb}
 use Rattle.disk.specs.declared.device.Disk.{Ghosts}
 use Rattle.disk.specs.File.{File, Version, versions, IsLeft, IsSynced, IsContentLeft, Always}
 use Rattle.disk.proofs.Current.{synced_left}
 use Rattle.disk.proofs.Moments.{always_weaker, stays}
 use Rattle.sqlval.specs.declared.fault.Fault.{Fault}
+use Rattle.sqlval.specs.declared.fault.Fault.TheVariants.{Failed, Io}
 use Rattle.wal_frame.specs.declared.log_header.LogHeader.{LogHeader}
 use Rattle.wal.specs.Committed.{HasCommits, frames_under}
 use Rattle.wal.specs.Commits.{KeepsDisks}
 use Rattle.wal.specs.LogState.{LogState, db_of, header_of, log_of, state_of}
+use Rattle.wal.specs.Refusals.{IsCutRefusal}
 use Rattle.wal.specs.Restarts.{IsRestarted, IsStateAnew, IsStateTruncated, IsTruncated, LeavesOrNone, is_copied, restarted, truncated}
 use Rattle.wal.specs.Stands.{header_where}
 use Rattle.wal.specs.declared.log.Log.{Log}
 use Rattle.pager.specs.Views.{Tells, newest_view}
-use Rattle.wal_checkpoint.specs.Emptied.{CountOn, Emptied, EmptiedMeanwhile, LeavesCounting, MayEmpty}
+use Rattle.wal_checkpoint.specs.Emptied.{CountOn, Emptied, EmptiedMeanwhile, IsRefusedEmptying, LeavesCounting, MayEmpty}
 use Rattle.wal_checkpoint.proofs.Passing.{left_is, synced_as}
 
 none_under : (b : Bool) (h : LogHeader) (log : List ℕ) → frames_under (header_where b h) log 0 ≡ []
@@ -134,3 +136,13 @@ module _ {D : Type 0} {g : Ghosts D} (old : Log D g) where
         emptied_of may all keeps (ap (λ (s : LogState). s.has_failed) state) (ap (λ (s : LogState). s.page_size) state) (ap (λ (s : LogState). s.size) state) (ap (λ (s : LogState). s.frames) state)
         (no_commits (state_of old).page_size new_log.content (truncates.content all)) (truncates.synced all)
     truncate_emptied (Err e) may all keeps known truncates = tt
+
+  -- why it is refused
+  pub emptying_refused : (has_failed : Bool) (P : Unit {0} → Type 0) (d e : D) (m n : ℕ) (result : Result (Unit {0}) Fault) → (MayEmpty old → has_failed ≡ false) → MatchResult result P (IsCutRefusal has_failed d e m n) → IfErr result (IsRefusedEmptying old)
+  emptying_refused has_failed P d e m n (Ok u) whole is = tt
+  emptying_refused has_failed P d e m n (Err f) whole is = (λ memory. subst (IsCutRefusal has_failed d e m n) memory is, λ may. by_fault f is (whole may))
+    where
+      by_fault : (f : Fault) → IsCutRefusal has_failed d e m n f → has_failed ≡ false → f ≡ Io
+      by_fault Io is whole = refl
+      by_fault Failed is whole = absurd (let bad : true ≡ false = sym is.1 ∙ whole in cc)
+      by_fault _ is whole = absurd is

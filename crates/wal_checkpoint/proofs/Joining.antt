@@ -1,9 +1,10 @@
 -- A copying, and then a log that begins anew.
 use Rattle.std.proofs.Common.{◌≡◌, inl, inr, ◌≤◌, ◌*◌, ℕ, List, [], ◌∷◌, Bool, true, false, refl, sym, ◌∙◌, ap, subst, arith}
-use Rattle.std.specs.Prelude.{IsTrue}
+use Rattle.std.specs.Prelude.{Err, IfErr, IsErrAnd, IsTrue, Ok, Result}
 use Rattle.disk.specs.declared.device.Disk.{Ghosts}
 use Rattle.disk.specs.File.{File, Version, versions, IsContentLeft, OnLog}
 use Rattle.disk.proofs.Moments.{always_end, always_weaker, throughout_both}
+use Rattle.sqlval.specs.declared.fault.Fault.{Fault}
 use Rattle.wal_frame.specs.Written.{Framed}
 use Rattle.wal.specs.Alone.{StandsAlone}
 use Rattle.wal.specs.Committed.{HasCommits}
@@ -12,9 +13,15 @@ use Rattle.wal.specs.View.{IsInFile, IsPageIn}
 use Rattle.wal.specs.declared.log.Log.{Log}
 use Rattle.wal.specs.declared.log.Snapshot.{Snapshot}
 use Rattle.pager.specs.Views.{newest_view}
-use Rattle.wal_checkpoint.specs.Emptied.{CountOn, Emptied, EmptiedMeanwhile, LeavesCounting, MayEmpty}
-use Rattle.wal_checkpoint.specs.Shown.{Checkpoints, LeaveShown, Meanwhile, ShowsNewest}
+use Rattle.wal_checkpoint.specs.Emptied.{CountOn, Emptied, EmptiedMeanwhile, IsRefusedEmptying, LeavesCounting, MayEmpty}
+use Rattle.wal_checkpoint.specs.Shown.{Checkpoints, IsRefusedCopying, LeaveShown, MayCopy, Meanwhile, ShowsNewest}
+use Rattle.wal_checkpoint.specs.declared.checkpoints.Counts.{Counts}
 use Rattle.wal_checkpoint.proofs.Passing.{left_is, synced_as}
+
+-- a refusal that is handed on
+pub handed_on : {D : Type 0} {g : Ghosts D} (old : Log D g) (target : Snapshot) (new : Log D g) (result : Result Counts Fault) (f : Fault) → IsErrAnd result (λ e. e ≡ f) → IsRefusedCopying old target new f → IfErr result (IsRefusedCopying old target new)
+handed_on old target new (Ok counts) f is why = absurd is
+handed_on old target new (Err e) f is why = subst (IsRefusedCopying old target new) (sym is) why
 
 module _ {D : Type 0} {g : Ghosts D} (old : Log D g) (target : Snapshot) (mid : Log D g) where
   abbrev db : File
@@ -86,3 +93,8 @@ module _ {D : Type 0} {g : Ghosts D} (old : Log D g) (target : Snapshot) (mid : 
           db_left = subst IsContentLeft (sym (ap g.file after.db)) before.db_left;
           log_left = after.left;
         }
+
+    -- frames were copied, and then the log wasn't emptied
+    pub refused_later : (result : Result Counts Fault) (f : Fault) → IsErrAnd result (λ e. e ≡ f) → IsRefusedEmptying mid f → (MayCopy old target → Checkpoints old target false mid) → IfErr result (IsRefusedCopying old target new)
+    refused_later (Ok counts) f is why first = absurd is
+    refused_later (Err e) f is why first = (λ memory. absurd (why.0 (sym is ∙ memory)), λ may. inr (is ∙ why.1 (may_empty (first may))))

@@ -23,7 +23,7 @@ use Rattle.wal.specs.declared.log.Log.{Log}
 use Rattle.wal.specs.declared.log.Snapshot.{Snapshot}
 use Rattle.wal.proofs.FrameLists.{framed_len}
 use Rattle.pager.specs.Views.{Tells, newest_view, view_at}
-use Rattle.wal_checkpoint.specs.Shown.{Checkpoints, IsCheckpointRefusal, LeaveShown, MayCopy, Meanwhile, ShowsNewest, ShowsSame}
+use Rattle.wal_checkpoint.specs.Shown.{Checkpoints, IsCheckpointRefusal, IsRefusedCopying, LeaveShown, MayCopy, Meanwhile, ShowsNewest, ShowsSame}
 
 -- a crash leaves a synced file as it is
 pub left_is : (file : File) → IsSynced file → (c : List ℕ) → IsLeft (versions file) c → c ≡ file.content
@@ -39,6 +39,15 @@ only_copied false known m = refl
 -- a copying changes the count of copied frames alone
 pub copied_alone : (known : LogState) (target : Snapshot) → after_copying known target ≡ record known { copied = (after_copying known target).copied }
 copied_alone known target = only_copied (sees_uncopied known target) known (seen_by target)
+
+kept_header : (known : LogState) (fault : Fault) → (after_refusal known fault).header ≡ known.header
+kept_header known Io = refl
+kept_header known _ = refl
+
+-- the header is as it was, refused or not
+pub copied_header : (result : Result (Unit {0}) Fault) (target : Snapshot) (old new : LogState) → IsStateCopied result target old new → new.header ≡ old.header
+copied_header (Ok u) target old new is = ap (λ (s : LogState). s.header) (is ∙ copied_alone old target)
+copied_header (Err e) target old new is = ap (λ (s : LogState). s.header) is ∙ kept_header old e
 
 some_under : (b : Bool) (h : LogHeader) (log : List ℕ) (n : ℕ) → (b ≡ false → n ≡ 0) → 0 < n → frames_under (header_where b h) log n ≡ [] → ⊥
 some_under true h log n none some is = omega (arith, some, framed_len h log n, ap length is)
@@ -234,8 +243,14 @@ module _ {D : Type 0} {g : Ghosts D} (old : Log D g) (target : Snapshot) where
     refusal (Damaged Size number) may known is = absurd (never_missing may number (is.1 may.told.db may.told.log))
     refusal _ may known is = absurd is
 
-    pub copy_refused : (result : Result (Unit {0}) Fault) → MayCopy old target → IsStateCopied result target (state_of old) (state_of new)
+    short : (has_failed : Bool) (Missing : ℕ → Type 0) (Same : Type 0) (fault : Fault) → IsCopyRefusal has_failed Missing Same fault → fault ≡ Memory → Same
+    short has_failed Missing Same fault is memory = subst (IsCopyRefusal has_failed Missing Same) memory is
+
+    pub copy_refused : (result : Result (Unit {0}) Fault) → IsStateCopied result target (state_of old) (state_of new)
         → IfErr result (IsCopyRefusal (state_of old).has_failed (λ number. IsTrue (g.tells (db_of old)) → IsTrue (g.tells (log_of old)) → IsMissing (state_of old) target db.content log.content number)
-        ((db_of new ≡ db_of old) × (log_of new ≡ log_of old))) → IfErr result (IsCheckpointRefusal old new)
-    copy_refused (Ok u) may known is = tt
-    copy_refused (Err e) may known is = refusal e may known is
+        ((db_of new ≡ db_of old) × (log_of new ≡ log_of old))) → IfErr result (IsRefusedCopying old target new)
+    copy_refused (Ok u) known is = tt
+    copy_refused (Err e) known is = (
+      short (state_of old).has_failed (λ number. IsTrue (g.tells (db_of old)) → IsTrue (g.tells (log_of old)) → IsMissing (state_of old) target db.content log.content number) ((db_of new ≡ db_of old) × (log_of new ≡ log_of old)) e is,
+      λ may. refusal e may known is,
+    )

@@ -2,6 +2,8 @@
 use Rattle.std.specs.Prelude.{◌≡◌, ◌⊎◌, ℕ, List, []}
 use Rattle.disk.specs.declared.device.Disk.{Ghosts}
 use Rattle.disk.specs.File.{Version, IsLeft, IsSynced, IsContentLeft, Always}
+use Rattle.sqlval.specs.declared.fault.Fault.{Fault}
+use Rattle.sqlval.specs.declared.fault.Fault.TheVariants.{Io, Memory}
 use Rattle.wal_frame.specs.Written.{Framed}
 use Rattle.wal.specs.Alone.{StandsAlone}
 use Rattle.wal.specs.Committed.{HasCommits}
@@ -39,3 +41,7 @@ module _ {D : Type 0} {g : Ghosts D} where
     pub shown : Always (g.file (log_of old)) (g.file (log_of new)) (LeavesCounting old)
     pub left : IsContentLeft (g.file (log_of new))
     pub db : db_of new ≡ db_of old
+
+  -- it takes no memory, and where that is known before, only a call of the disk that failed refuses it
+  abbrev pub IsRefusedEmptying : Log D g → Fault → Type 0
+  IsRefusedEmptying old fault = (fault ≡ Memory → ⊥) × (MayEmpty old → fault ≡ Io)

@@ -70,3 +70,7 @@ module _ {D : Type 0} {g : Ghosts D} where
   -- why it is refused: when out of memory, which changes nothing, or where a call of a disk failed
   abbrev pub IsCheckpointRefusal : Log D g → Log D g → Fault → Type 0
   IsCheckpointRefusal old new fault = (fault ≡ Memory) × (state_of new ≡ state_of old) × (db_of new ≡ db_of old) × (log_of new ≡ log_of old) ⊎ (fault ≡ Io)
+
+  -- out of memory neither disk has changed; and where frames may be copied it is refused so
+  abbrev pub IsRefusedCopying : Log D g → Snapshot → Log D g → Fault → Type 0
+  IsRefusedCopying old target new fault = (fault ≡ Memory → (db_of new ≡ db_of old) × (log_of new ≡ log_of old)) × (MayCopy old target → IsCheckpointRefusal old new fault)

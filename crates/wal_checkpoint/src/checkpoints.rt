@@ -6,8 +6,8 @@ ghost use Rattle.wal.specs.ErrorCauses.{HasCause};
 ghost use Rattle.wal.specs.LogState.{log_of, seen_by, state_of};
 ghost use Rattle.pager.specs.Views.{Tells};
 ghost use Rattle.wal_checkpoint.specs.Answers.{counts_of, no_counts};
-ghost use Rattle.wal_checkpoint.specs.Emptied.{Emptied, EmptiedMeanwhile, MayEmpty};
-ghost use Rattle.wal_checkpoint.specs.Shown.{Checkpoints, IsCheckpointRefusal, MayCopy, Meanwhile};
+ghost use Rattle.wal_checkpoint.specs.Emptied.{Emptied, EmptiedMeanwhile, IsRefusedEmptying, MayEmpty};
+ghost use Rattle.wal_checkpoint.specs.Shown.{Checkpoints, IsRefusedCopying, MayCopy, Meanwhile};
 
 use disk::Disk;
 use sqlval::{Fault, R};
@@ -29,9 +29,10 @@ pub struct Counts {
 fn copy_seen<D: Disk + Drop>(alloc: Global, log: &mut Log<D>, target: Snapshot) -> R<()>
     ensures known { OnOk result ((state_of log.new ≡ after_copying (state_of log.old) target)
         × (D.tells (log_of log.new) ≡ D.tells (log_of log.old))) }
+    ensures kept { (state_of log.new).header ≡ (state_of log.old).header }
     ensures done { MayCopy log.old target → OnOk result (Checkpoints log.old target false log.new) }
     ensures crash { MayCopy log.old target → Meanwhile log.old target log.new }
-    ensures refused { MayCopy log.old target → IfErr result (IsCheckpointRefusal log.old log.new) }
+    ensures refused { IfErr result (IsRefusedCopying log.old target log.new) }
     ensures cause { HasCause false result log.old log.new }
 {
     if log.frame_count() == 0 {
@@ -46,9 +47,10 @@ pub fn passive<D: Disk + Drop>(alloc: Global, log: &mut Log<D>, target: Snapshot
     ensures answer { IfOk result (λ counts. (counts ≡ counts_of false (state_of log.old) target) × (counts.copied ≤ counts.frames)) }
     ensures known { OnOk result ((state_of log.new ≡ after_copying (state_of log.old) target)
         × (D.tells (log_of log.new) ≡ D.tells (log_of log.old))) }
+    ensures kept { (state_of log.new).header ≡ (state_of log.old).header }
     ensures done { MayCopy log.old target → OnOk result (Checkpoints log.old target false log.new) }
     ensures crash { MayCopy log.old target → Meanwhile log.old target log.new }
-    ensures refused { MayCopy log.old target → IfErr result (IsCheckpointRefusal log.old log.new) }
+    ensures refused { IfErr result (IsRefusedCopying log.old target log.new) }
     ensures cause { HasCause false result log.old log.new }
 {
     copy_seen(alloc, log, target)?;
@@ -72,7 +74,7 @@ fn begin_anew<D: Disk + Drop>(log: &mut Log<D>) -> R<()>
     ensures crash { MayEmpty log.old → EmptiedMeanwhile log.old log.new }
     ensures anew { IsFalse (state_of log.old).has_failed → IsTrue (D.tells (log_of log.old)) → (state_of log.old).copied ≡ (state_of log.old).frames
         → OnOk result ((state_of log.new).frames ≡ 0) }
-    ensures refused { MayEmpty log.old → IfErr result (λ fault. fault ≡ Fault.Io) }
+    ensures refused { IfErr result (IsRefusedEmptying log.old) }
     ensures cause { HasCause false result log.old log.new }
 {
     if !is_all_copied(log) {
@@ -85,9 +87,9 @@ fn begin_anew<D: Disk + Drop>(log: &mut Log<D>) -> R<()>
 fn cut_to_nothing<D: Disk + Drop>(log: &mut Log<D>) -> R<()>
     ensures done { MayEmpty log.old → OnOk result (Emptied log.old log.new) }
     ensures crash { MayEmpty log.old → EmptiedMeanwhile log.old log.new }
-    ensures anew { IsTrue (D.tells (log_of log.old)) → (state_of log.old).copied ≡ (state_of log.old).frames
-        → OnOk result ((D.file (log_of log.new)).content ≡ []) }
-    ensures refused { MayEmpty log.old → IfErr result (λ fault. fault ≡ Fault.Io) }
+    ensures anew { (state_of log.old).copied ≡ (state_of log.old).frames → OnOk result (((state_of log.new).frames ≡ 0)
+        × (IsTrue (D.tells (log_of log.old)) → (D.file (log_of log.new)).content ≡ [])) }
+    ensures refused { IfErr result (IsRefusedEmptying log.old) }
     ensures cause { HasCause false result log.old log.new }
 {
     if !is_all_copied(log) {
@@ -104,12 +106,14 @@ pub fn restart<D: Disk + Drop>(
     is_alone: bool,
 ) -> R<Counts>
     ensures answer { IfOk result (λ counts. (counts ≡ counts_of (not is_alone) (state_of log.old) target) × (counts.copied ≤ counts.frames)) }
+    ensures known { OnOk result (IsFalse is_alone → (state_of log.new ≡ after_copying (state_of log.old) target)
+        × (D.tells (log_of log.new) ≡ D.tells (log_of log.old))) }
     ensures done { MayCopy log.old target → OnOk result (Checkpoints log.old target is_alone log.new) }
+    ensures crash { MayCopy log.old target → Meanwhile log.old target log.new }
+    ensures refused { IfErr result (IsRefusedCopying log.old target log.new) }
+    ensures cause { HasCause false result log.old log.new }
     ensures anew { Tells log.old → (IsTrue is_alone → seen_by target ≡ (state_of log.old).frames)
         → OnOk result (IsTrue is_alone → (state_of log.new).frames ≡ 0) }
-    ensures crash { MayCopy log.old target → Meanwhile log.old target log.new }
-    ensures refused { MayCopy log.old target → IfErr result (IsCheckpointRefusal log.old log.new) }
-    ensures cause { HasCause false result log.old log.new }
 {
     let counts = passive(alloc, log, target)?;
     if !is_alone {
@@ -131,12 +135,14 @@ pub fn truncate<D: Disk + Drop>(
 ) -> R<Counts>
     ensures answer { IfOk result (λ counts.
         (counts ≡ (if is_alone then no_counts else counts_of true (state_of log.old) target)) × (counts.copied ≤ counts.frames)) }
+    ensures known { OnOk result (IsFalse is_alone → (state_of log.new ≡ after_copying (state_of log.old) target)
+        × (D.tells (log_of log.new) ≡ D.tells (log_of log.old))) }
     ensures done { MayCopy log.old target → OnOk result (Checkpoints log.old target is_alone log.new) }
-    ensures anew { (IsTrue is_alone → seen_by target ≡ (state_of log.old).frames)
-        → OnOk result (IsTrue is_alone → IsTrue (D.tells (log_of log.old)) → (D.file (log_of log.new)).content ≡ []) }
     ensures crash { MayCopy log.old target → Meanwhile log.old target log.new }
-    ensures refused { MayCopy log.old target → IfErr result (IsCheckpointRefusal log.old log.new) }
+    ensures refused { IfErr result (IsRefusedCopying log.old target log.new) }
     ensures cause { HasCause false result log.old log.new }
+    ensures anew { (IsTrue is_alone → seen_by target ≡ (state_of log.old).frames) → OnOk result (IsTrue is_alone
+        → ((state_of log.new).frames ≡ 0) × (IsTrue (D.tells (log_of log.old)) → (D.file (log_of log.new)).content ≡ [])) }
 {
     let counts = passive(alloc, log, target)?;
     if !is_alone {

@@ -1,7 +1,7 @@
 use Rattle.std.proofs.Common.{◌≡◌, ◌∙◌, sym}
 use Rattle.std.proofs.lemmas.Bool.{eqb-true}
 use Rattle.wal.specs.LogState.{state_of}
-use Rattle.wal_checkpoint.proofs.Emptying.{emptying, meanwhile_nothing, restart_emptied}
+use Rattle.wal_checkpoint.proofs.Emptying.{emptying, emptying_refused, meanwhile_nothing, restart_emptied}
 use Rattle.wal_checkpoint.proofs.checkpoints.begin_anew.Goals as goal
 
 pub returns-then-not-is_all_copied-clause-crash : goal.returns-then-not-is_all_copied-clause-crash
@@ -16,3 +16,6 @@ pub returns-clause-crash : goal.returns-clause-crash
 returns-clause-crash g c may =
     let all : (state_of c.args.log.now).copied ≡ (state_of c.args.log.now).frames = eqb-true _ _ (sym c.is_all_copied.ensures ∙ c.if-not-is_all_copied.false) in
     emptying c.args.log.now c.restart.new.self may all c.restart.ensures.same.db (c.restart.ensures.crash may.told.whole may.told.log) (c.restart.ensures.left may.told.whole may.told.log)
+
+pub returns-clause-refused : goal.returns-clause-refused
+returns-clause-refused g c = emptying_refused c.args.log.now (state_of c.args.log.now).has_failed _ _ _ _ _ c.restart.result (λ may. may.told.whole) c.restart.ensures.refused

@@ -1,6 +1,6 @@
 use Rattle.std.proofs.Common.{◌<◌, arith}
 use Rattle.wal.specs.LogState.{state_of}
-use Rattle.wal_checkpoint.proofs.Passing.{copied_ok, copy_refused, meanwhile, nothing_left}
+use Rattle.wal_checkpoint.proofs.Passing.{copied_header, copied_ok, copy_refused, meanwhile, nothing_left}
 use Rattle.wal_checkpoint.proofs.checkpoints.copy_seen.Goals as goal
 
 pub returns-then-frame_count-eq0-clause-crash : goal.returns-then-frame_count-eq0-clause-crash
@@ -18,4 +18,7 @@ returns-clause-crash g c may =
     meanwhile c.args.log.now c.args.target c.copy.new.self may some (c.copy.ensures.kept.1.same may.told.log) (c.copy.ensures.crash may.told.whole may.told.db may.told.log may.db_synced)
 
 pub returns-clause-refused : goal.returns-clause-refused
-returns-clause-refused g c may = copy_refused c.args.log.now c.args.target c.copy.new.self c.copy.result may c.copy.ensures.known c.copy.ensures.refused
+returns-clause-refused g c = copy_refused c.args.log.now c.args.target c.copy.new.self c.copy.result c.copy.ensures.known c.copy.ensures.refused
+
+pub returns-clause-kept : goal.returns-clause-kept
+returns-clause-kept g c = copied_header c.copy.result c.args.target (state_of c.args.log.now) (state_of c.copy.new.self) c.copy.ensures.known

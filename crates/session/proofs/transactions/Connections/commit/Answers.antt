@@ -1,8 +1,6 @@
 use Rattle.std.proofs.Common.{refl}
-use Rattle.sqlval.specs.declared.fault.Fault.TheVariants as fault
-use Rattle.sql_syntax.specs.declared.statement.BeginMode.TheVariants as begins
 use Rattle.sql_syntax.specs.declared.statement.Statement.TheVariants as statement
-use Rattle.session.proofs.Turning.{call_made, first_only, memory_alone, not_memory, only_so, reads_mark, refused_call}
+use Rattle.session.proofs.Turning.{call_made, refused_call}
 use Rattle.session.proofs.transactions.Connections.commit.Goals as goal
 
 pub returns-in_err-turn_to : goal.returns-in_err-turn_to
@@ -12,6 +10,6 @@ returns-in_err-turn_to g c =
 pub returns : goal.returns
 returns g c =
     record {
-      call = call_made c.args.self.now c.turn_to.new.self c.commit_here.new.self c.args.connection statement.Commit c.commit_here.result c.in_ok-turn_to.ensures.free c.in_ok-turn_to.ensures.turned (c.commit_here.ensures.step statement.Commit (refl, λ m shown. refl))
+      call = call_made c.args.self.now c.turn_to.new.self c.commit_here.new.self c.args.connection statement.Commit c.commit_here.result refl c.in_ok-turn_to.ensures.free c.in_ok-turn_to.ensures.turned (c.commit_here.ensures.step statement.Commit (refl, λ m shown. refl))
           c.commit_here.ensures.cause (c.commit_here.ensures.marks) (c.commit_here.ensures.refused);
     }

@@ -2,9 +2,8 @@ use Rattle.std.proofs.Common.{◌≡◌, refl, true, Result, Ok, Err}
 use Rattle.std.specs.Prelude.{⊤, IfErr, IsTrue}
 use Rattle.sqlval.specs.declared.fault.Fault.{Fault}
 use Rattle.sqlval.specs.declared.fault.Fault.TheVariants as fault
-use Rattle.sql_syntax.specs.declared.statement.BeginMode.TheVariants as begins
 use Rattle.sql_syntax.specs.declared.statement.Statement.TheVariants as statement
-use Rattle.session.proofs.Turning.{call_made, first_only, memory_alone, not_memory, only_so, reads_mark, refused_call}
+use Rattle.session.proofs.Turning.{call_made, memory_alone, reads_mark, refused_call}
 use Rattle.session.proofs.transactions.Connections.savepoint.Goals as goal
 
 -- it may take memory
@@ -19,6 +18,6 @@ returns-in_err-turn_to g c =
 pub returns : goal.returns
 returns g c =
     record {
-      call = call_made c.args.self.now c.turn_to.new.self c.savepoint_here.new.self c.args.connection (statement.Savepoint c.args.name.now) c.savepoint_here.result c.in_ok-turn_to.ensures.free c.in_ok-turn_to.ensures.turned c.savepoint_here.ensures.step
+      call = call_made c.args.self.now c.turn_to.new.self c.savepoint_here.new.self c.args.connection (statement.Savepoint c.args.name.now) c.savepoint_here.result refl c.in_ok-turn_to.ensures.free c.in_ok-turn_to.ensures.turned c.savepoint_here.ensures.step
           c.savepoint_here.ensures.cause (reads_mark _ _ _ c.savepoint_here.ensures.reads) (memory_alone _ (statement.Savepoint c.args.name.now) c.savepoint_here.result refl (may_take c.savepoint_here.result));
     }
