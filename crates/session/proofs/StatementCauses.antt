@@ -15,14 +15,14 @@ use Rattle.pager.specs.declared.writer.Writer.{Writer}
 use Rattle.session.specs.Machine.{newest}
 use Rattle.session.specs.Stored.{ShowsDatabase}
 use Rattle.session.specs.Applying.{CanApply, CommitsChanges, CommitsThen, IsPast}
-use Rattle.session.specs.Changing.{written}
+use Rattle.executor.specs.Writes.{written}
 use Rattle.session.specs.ConnectionState.{files_of, has_failed_in}
 use Rattle.session.specs.Failing.{IsPastIn, IsPastLimits, IsRefusedHere, has_written}
 use Rattle.session.specs.declared.transactions.Connections.{Connections}
 use Rattle.session.specs.declared.seats.Transaction.{Transaction}
 use Rattle.session.specs.declared.seats.Transaction.TheVariants as transaction
-use Rattle.session.specs.declared.changes.Write.{Write}
-use Rattle.session.specs.declared.changes.Write.TheVariants as write
+use Rattle.executor.specs.declared.changes.Write.{Write}
+use Rattle.executor.specs.declared.changes.Write.TheVariants as write
 use Rattle.session.proofs.CommitSteps.{writes_in}
 
 io_not_full : fault.Io ≡ fault.Full → ⊥
