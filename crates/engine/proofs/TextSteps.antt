@@ -13,24 +13,26 @@ use Rattle.sql_lexer.specs.Lex.{Lexed, tokens}
 use Rattle.sql_syntax.specs.declared.statement.Statement.{Statement}
 use Rattle.sql_expr.specs.declared.refusal.Refusal.{Refusal}
 use Rattle.sql_expr.specs.declared.refusal.Refusal.TheVariants as reading
+use Rattle.sql_parser.proofs.Grammar.{exact_statement}
+use Rattle.sql_parser.proofs.ParseLaws.{one_text}
 use Rattle.sql_parser.specs.Parsing.{answered, parsed_by}
 use Rattle.sql_parser.specs.StatementReading.{whole_from}
 use Rattle.sql_parser.specs.Refusals.{IsTextRefusal}
 use Rattle.sql_grammar.specs.Statements.{is_statement_within}
 use Rattle.sql_grammar.specs.Texts.{IsStatementText, IsUnsupportedText, pieces_of, sql_in}
 use Rattle.session.specs.Supported.{StepSoFar}
-use Rattle.session.specs.ConnectionState.{first_refusal}
+use Rattle.session.specs.ConnectionState.{files_of, first_refusal}
 use Rattle.session.specs.Machine.{Machine, Reply, Refused}
 use Rattle.executor.specs.Forms.{KeepsItsText}
-use Rattle.session.specs.Representation.{Steps}
+use Rattle.session.specs.Representation.{CopiesAnswered, Steps, others_in}
 use Rattle.session.specs.Steps.{is_connection}
 use Rattle.session.specs.Texts.{IsCandidate, IsTextFault, StepByText, is_long}
 use Rattle.session.specs.declared.transactions.Connections.{Connections}
-use Rattle.session.proofs.Executing.{either, first_by, no_connection, not_both, one_fault, passes_by, served_for}
-use Rattle.session.proofs.Settled.{as_shown}
+use Rattle.session.proofs.Executing.{either, first_by, no_connection, not_both, one_fault, passes_by, refused_copies, served_for}
+use Rattle.session.proofs.Settled.{as_shown, not_longer}
 use Rattle.engine.specs.EngineState.{has_failed_of}
 use Rattle.engine.specs.Language.{grammar, token_refusal}
-use Rattle.engine.specs.Representation.{EngineRepresents, StepsByText, StepsByTextTo}
+use Rattle.engine.specs.Representation.{EngineRepresents, StepsByText, StepsByTextTo, files_in}
 use Rattle.engine.specs.declared.opening.Engine.{Engine}
 use Rattle.engine.proofs.KeptTexts.{keeps_text}
 
@@ -136,7 +138,7 @@ module _ {D : Type 0} {g : Ghosts D} (e : Engine D g) (n : ℕ) (text : List ℕ
   Step m reply next = StepByText (λ before c s answer after. StepSoFar before c s answer after) grammar m n text reply next
 
   stays : (m : Machine) (f : Fault) → EngineRepresents e m → Step m (Refused (refusal_of f)) m → StepsByTextTo e m n text (Refused (refusal_of f)) e
-  stays m f shows step = record { next = m; step = step; shown = shows; crash = as_shown e.connections m shows }
+  stays m f shows step = record { next = m; step = step; shown = shows; crash = as_shown e.connections m shows; copied = λ s is. refused_copies (others_in e.connections n) (files_in e) (files_in e) s (Refused (refusal_of f)) (refusal_of f) refl; renewed = λ more. not_longer m.history more }
 
   -- refused before the text is looked at
   pub refused_check : (f : Fault) → first_refusal (has_failed_of e) n ≡ Err f → StepsByText e n text (Refused (refusal_of f)) e
@@ -169,4 +171,11 @@ module _ {D : Type 0} {g : Ghosts D} (e : Engine D g) (n : ℕ) (text : List ℕ
   executed s reply new is stands reads within steps m shows =
       let served = served_for e.connections m n is shows in
       let to = steps (keeps_text text s reads within (short_text text stands.0)) m shows in
-      record { next = to.next; step = inr (inr (served.0, served.1, inr (inr (stands, s, reads, within, to.step)))); shown = to.shown; crash = to.crash }
+      record {
+        next = to.next;
+        step = inr (inr (served.0, served.1, inr (inr (stands, s, reads, within, to.step))));
+        shown = to.shown;
+        crash = to.crash;
+        copied = λ other is. subst (λ (x : Statement). CopiesAnswered (others_in e.connections n) (files_in e) x reply (files_of new)) (one_text exact_statement text s other reads is) to.copied;
+        renewed = to.renewed;
+      }
