@@ -9,7 +9,6 @@ use Rattle.session.specs.SavedTables.{committed_in, current_in, savepoints_in}
 use Rattle.catalog.specs.declared.tables.Catalog.{Catalog}
 use Rattle.session.specs.declared.savepoints.SavedCatalogs.{SavedCatalogs}
 use Rattle.wal.specs.declared.log.Log.{Log}
-use Rattle.pager.specs.Maps.{pages_in}
 use Rattle.pager.specs.Views.{Tells, view_of}
 use Rattle.pager.specs.declared.writer.Writer.{Writer}
 use Rattle.session.specs.Holding.{IsSettled}
