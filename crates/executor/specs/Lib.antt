@@ -3,3 +3,4 @@ pub mod Forms
 pub mod Listing
 pub mod Reading
 pub mod Works
+pub mod Writes

@@ -1,6 +1,7 @@
 //! A database over pages: what a query reads of it, and what a statement makes of it.
 #![tactic(auto)]
 
+mod changes;
 mod creating;
 mod deleting;
 mod dropping;
@@ -9,6 +10,7 @@ mod inserting;
 mod reading;
 mod updating;
 
+pub use changes::{Write, change, write_of};
 pub use creating::{create_index, create_table};
 pub use deleting::delete_rows;
 pub use dropping::drop_object;

@@ -13,9 +13,9 @@ use Rattle.session.specs.Machine.{Machine, Connection, Idle, InTransactionOf, Ph
 use Rattle.session.specs.Outcomes.{Outcome, RefusedBy, outcome, unless_busy, worked, worked_alone, write_outcome}
 use Rattle.executor.specs.Works.{Work, Makes, IsRefused, Undoes, Binds, Reaches, RefusesWith, change_made}
 use Rattle.session.specs.Steps.{Allowed, Instead, is_connection}
-use Rattle.session.specs.Changing.{written}
-use Rattle.session.specs.declared.changes.Write.{Write}
-use Rattle.session.specs.declared.changes.Write.TheVariants as write
+use Rattle.executor.specs.Writes.{written}
+use Rattle.executor.specs.declared.changes.Write.{Write}
+use Rattle.executor.specs.declared.changes.Write.TheVariants as write
 use Rattle.session.proofs.ReadingPhases.{IsNewestPhase}
 use Rattle.session.proofs.Stepping.{by_outcome, instead}
 

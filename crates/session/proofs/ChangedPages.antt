@@ -1,13 +1,12 @@
 -- What a statement's change of a writer's pages comes to for the two files.
 use Rattle.std.proofs.Common.{◌≡◌, ◌∙◌, ◌≤◌, ◌/◌, refl, sym, ap, subst, arith, ℕ, List, true, inl}
-use Rattle.std.specs.Prelude.{⊤, Result, Ok, Err, IsTrue, OnErr, max, IsErrAnd}
+use Rattle.std.specs.Prelude.{⊤, Option, Some, None, Result, Ok, Err, IsTrue, OnErr, max, IsErrAnd}
 use Rattle.std.proofs.Math.Nat.{div-mul-le_self, mul-le-mul_left, mul-le-mul_right}
 use Rattle.sqlval.specs.declared.fault.Fault.{Fault}
 use Rattle.sqlval.specs.declared.fault.Fault.TheVariants as fault
 use Rattle.disk.specs.declared.device.Disk.{Ghosts}
 use Rattle.sql_syntax.specs.declared.statement.Statement.{Statement}
 use Rattle.catalog.specs.Database.{Database}
-use Rattle.catalog.specs.Listed.{tables_of}
 use Rattle.session.specs.SavedTables.{committed_in, current_in, savepoints_in}
 use Rattle.catalog.specs.declared.tables.Catalog.{Catalog}
 use Rattle.session.specs.declared.savepoints.SavedCatalogs.{SavedCatalogs}
@@ -27,6 +26,7 @@ use Rattle.pager.specs.Marks.{Changes, IsOverTheSame, now_of}
 use Rattle.pager.proofs.Sounding.{sound_alike, sound_from, sound_to}
 use Rattle.pager.proofs.WriterSights.{map_told}
 use Rattle.executor.specs.Changing as pages
+use Rattle.executor.specs.Writes.{tables_then}
 use Rattle.db_pages.specs.Stored.{Stores}
 use Rattle.session.specs.Changing.{CanChange, ChangesPages, Listing, MakesCatalog, listing}
 use Rattle.session.specs.Representation.{ShowTheSame}
@@ -43,10 +43,6 @@ few_pages pages page_size le =
     let wide = mul-le-mul_left pages (let le : page_size ≤ max 1 page_size = omega arith in le) in
     let all = mul-le-mul_right (max 1 page_size) (let few : pages ≤ 1073741824 / max 1 page_size = omega (arith, le) in few) in
     record { few = omega (arith, le); small = omega (arith, wide, all, most) }
-
-pub on_any_err : {T : Type 0} (r : Result T Fault) (P : Type 0) → P → OnErr r P
-on_any_err (Ok x) P is = tt
-on_any_err (Err f) P is = is
 
 module _ {D : Type 0} {g : Ghosts D} where
   -- a writer whose schema change is noted sees what it saw
@@ -155,23 +151,18 @@ module _ {D : Type 0} {g : Ghosts D} where
     changed s catalog next db (Err f) on keeps points makes refused =
         record { kept = record { files = shows_same on.told; tables = keeps; savepoints = points }; tables = refused; why = makes db (stored_over old catalog w db a b on) }
 
-    -- the same where the change answers a catalog
-    pub changed_to : (s : Statement) (catalog : SavedCatalogs) (db : Database) (tables : List Table) (r : Result Catalog Fault) → CanChange (listing old catalog) w db → tables ≡ current_in catalog
-        → pages.MakesChange tables_of s (map_over (under_reader old (snapshot_of w) a b) w) (map_over (under_reader new (snapshot_of v) c d) v) (page_size_of w) tables r
+    -- the same of a call on the current catalog that answers another, or none where the tables stay
+    pub changed_to : (s : Statement) (catalog : SavedCatalogs) (db : Database) (tables : List Table) (r : Result (Option Catalog) Fault) → CanChange (listing old catalog) w db → tables ≡ current_in catalog
+        → pages.MakesChange (tables_then tables) s (map_over (under_reader old (snapshot_of w) a b) w) (map_over (under_reader new (snapshot_of v) c d) v) (page_size_of w) tables r
         → MakesCatalog s (listing old catalog) w db r new v
-    changed_to s catalog db tables (Ok made) on same makes = λ next now kept points.
+    changed_to s catalog db tables (Ok None) on same makes =
+        changed s catalog catalog db (Ok tt) on refl refl
+        (λ base held. subst (λ (ts : List Table). pages.IsMade s base (map_over (under_reader new (snapshot_of v) c d) v) (page_size_of w) ts) same
+        (makes base (subst (λ (ts : List Table). Stores (map_over (under_reader old (snapshot_of w) a b) w) (page_size_of w) ts base) (sym same) held))) tt
+    changed_to s catalog db tables (Ok (Some made)) on same makes = λ next now kept points.
         changed s catalog next db (Ok tt) on kept points
         (λ base held. subst (λ (ts : List Table). pages.IsMade s base (map_over (under_reader new (snapshot_of v) c d) v) (page_size_of w) ts) (sym now)
         (makes base (subst (λ (ts : List Table). Stores (map_over (under_reader old (snapshot_of w) a b) w) (page_size_of w) ts base) (sym same) held))) tt
     changed_to s catalog db tables (Err f) on same makes =
         changed s catalog catalog db (Err f) on refl refl
         (λ base held. makes base (subst (λ (ts : List Table). Stores (map_over (under_reader old (snapshot_of w) a b) w) (page_size_of w) ts base) (sym same) held)) refl
-
-    -- the same of a call on the current catalog
-    pub changed_on : (s : Statement) (catalog : SavedCatalogs) (db : Database) (tables : List Table) (r : Result ⊤ Fault) → CanChange (listing old catalog) w db → tables ≡ current_in catalog
-        → pages.MakesChange (λ done. tables) s (map_over (under_reader old (snapshot_of w) a b) w) (map_over (under_reader new (snapshot_of v) c d) v) (page_size_of w) tables r
-        → ChangesPages s (listing old catalog) w db r (listing new catalog) v
-    changed_on s catalog db tables r on same makes =
-        changed s catalog catalog db r on refl refl
-        (subst (λ (ts : List Table). pages.MakesChange (λ done. ts) s (map_over (under_reader old (snapshot_of w) a b) w) (map_over (under_reader new (snapshot_of v) c d) v) (page_size_of w) ts r) same makes)
-        (on_any_err r _ refl)

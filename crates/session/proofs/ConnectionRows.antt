@@ -1,5 +1,5 @@
 -- Worked examples of connections.
-use Rattle.std.specs.Prelude.{◌≡◌, ⊤, Bool, true, false, refl, ℕ, zero, suc, pos, codes, None, Some, Err, List, [], ◌∷◌, ◌++◌}
+use Rattle.std.specs.Prelude.{◌≡◌, Bool, true, false, refl, ℕ, zero, suc, pos, codes, None, Some, Err, List, [], ◌∷◌, ◌++◌}
 use Rattle.std.proofs.Common.{inl, inr, arith, sym, subst, ◌⊎◌}
 use mathlib.Core.Bool.{true≢false}
 use Rattle.sqlval.specs.Refusals.{Busy, Exists, StaleSnapshot, NoTransaction, NoSavepoint, InTransaction, Misuse, NoSuch, Raised, RaisedRollback, TooLong, Unsupported}

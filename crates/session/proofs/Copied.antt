@@ -1,10 +1,10 @@
 -- What files hold after the log's frames were copied into the database file.
-use Rattle.std.proofs.Common.{◌≡◌, ◌⊎◌, ◌<◌, ◌≤◌, ◌*◌, ◌∙◌, inl, inr, ℕ, List, [], ◌∷◌, Bool, true, false, length, map, take, refl, sym, ap, subst, arith}
-use Rattle.std.specs.Prelude.{⊤, ◌||◌, Option, Some, None, MatchOption, IsFalse, unwrap_or}
+use Rattle.std.proofs.Common.{◌≡◌, ◌⊎◌, ◌≤◌, ◌*◌, ◌∙◌, inl, inr, ℕ, List, [], ◌∷◌, Bool, true, false, length, map, take, refl, sym, ap, subst, arith}
+use Rattle.std.specs.Prelude.{⊤, ◌||◌, Option, Some, None, MatchOption, unwrap_or}
 use Rattle.std.specs.List.{AllByRecursion, list_any}
 use Rattle.std.proofs.lemmas.Bool.{false≢true}
 use Rattle.disk.specs.declared.device.Disk.{Ghosts}
-use Rattle.disk.specs.File.{Version, versions}
+use Rattle.disk.specs.File.{Version}
 use Rattle.disk.proofs.Moments.{run_weaker}
 use Rattle.sqlval.specs.PageSizes.{IsPageSize}
 use Rattle.db_header.specs.Header.{IsHeader, counted_of}
@@ -14,24 +14,21 @@ use Rattle.wal_frame.specs.declared.frame.FrameHeader.{FrameHeader}
 use Rattle.wal_frame.specs.Written.{Framed}
 use Rattle.catalog.specs.Database.{Database}
 use Rattle.catalog.specs.declared.tables.Table.{Table}
-use Rattle.wal.specs.Committed.{HasCommits}
-use Rattle.wal.specs.LogState.{LogState, db_of, log_of, seen_by, size_of, state_of}
+use Rattle.wal.specs.LogState.{db_of, log_of, seen_by, size_of, state_of}
 use Rattle.wal.specs.Sizes.{IsViewSize}
 use Rattle.wal.specs.declared.log.Log.{Log}
 use Rattle.wal.specs.declared.log.Snapshot.{Snapshot}
 use Rattle.pager.specs.Marks.{Changes}
-use Rattle.pager.specs.Limits.{pages_of}
-use Rattle.pager.specs.Views.{Tells, View, ViewHas, after, changes_of, newest_view, view_at, view_of}
+use Rattle.pager.specs.Views.{Tells, View, ViewHas, newest_view, view_at, view_of}
 use Rattle.pager.specs.Writers.{snapshot_of}
 use Rattle.pager.specs.declared.writer.Writer.{Writer}
 use Rattle.pager.proofs.Mapping.{maps_shown}
 use Rattle.wal_checkpoint.specs.Shown.{Checkpoints, LeaveShown, MayCopy, Meanwhile, ShowsNewest, ShowsSame, view_over}
-use Rattle.db_pages.specs.Stored.{Stores}
-use Rattle.session.specs.Holding.{Hold, HoldThroughout, IsFound, IsSettled, LeaveHeld}
+use Rattle.session.specs.Holding.{HoldThroughout, IsFound, IsSettled, LeaveHeld}
 use Rattle.session.specs.Machine.{Connection}
-use Rattle.session.specs.Representation.{AreParked, IsSnapshotOf, IsTransaction, IsWritingIn, committed_at, newest_in}
+use Rattle.session.specs.Representation.{AreParked, IsSnapshotOf, IsTransaction, committed_at, newest_in}
 use Rattle.session.specs.SavedTables.{committed_in, current_in}
-use Rattle.session.specs.Saving.{AreSaved, IsMarked, SavedAs}
+use Rattle.session.specs.Saving.{IsMarked, SavedAs}
 use Rattle.session.specs.Seats.{IsLeast, IsSeen, SeesAtLeast, holds_snapshot, sees_snapshot, snapshot_in}
 use Rattle.session.specs.Stored.{ShowsDatabase}
 use Rattle.session.specs.Writers.{IsNewest, IsWriter}

@@ -5,7 +5,7 @@ use Rattle.std.proofs.Math.Nat.{zero-mul}
 use Rattle.std.proofs.lemmas.List.{take-take}
 use Rattle.sqlval.specs.PageSizes.{IsPageSize}
 use Rattle.sqlval.proofs.PageSizeLemmas.{by_size}
-use Rattle.db_header.specs.Header.{IsHeader, counted_of}
+use Rattle.db_header.specs.Header.{counted_of}
 use Rattle.db_header.specs.declared.fields.Header.{Header}
 use Rattle.db_header.proofs.Fronts.{header_moves}
 use Rattle.catalog.specs.Database.{Database}

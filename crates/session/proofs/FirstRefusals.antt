@@ -12,7 +12,7 @@ use Rattle.sql_syntax.specs.declared.statement.Statement.{Statement}
 use Rattle.wal.specs.declared.log.Log.{Log}
 use Rattle.executor.specs.Forms.{is_supported}
 use Rattle.executor.specs.Works.{change_made}
-use Rattle.session.specs.Changing.{written}
+use Rattle.executor.specs.Writes.{written}
 use Rattle.session.specs.ConnectionState.{files_of}
 use Rattle.session.specs.Machine.{Idle, Machine, NoSnapshot, Reads, Refused, another, is_writing, last_place, newest}
 use Rattle.session.specs.Outcomes.{RefusedBy, outcome, worked, worked_alone}
@@ -21,7 +21,7 @@ use Rattle.session.specs.Saving.{in_transaction, states_of}
 use Rattle.session.specs.SavedTables.{savepoints_in}
 use Rattle.session.specs.Seats.{holds_writer}
 use Rattle.session.specs.Writers.{is_stale}
-use Rattle.session.specs.declared.changes.Write.{Write}
+use Rattle.executor.specs.declared.changes.Write.{Write}
 use Rattle.session.specs.declared.seats.Transaction.{Transaction}
 use Rattle.session.specs.declared.seats.Transaction.TheVariants as transaction
 use Rattle.session.specs.declared.transactions.Connections.{Connections}

@@ -1,5 +1,5 @@
 -- The snapshot that sees the fewest frames.
-use Rattle.std.proofs.Common.{◌≡◌, ◌⊎◌, ◌≤◌, inl, inr, sym, ◌∙◌, subst, ℕ, List, [], ◌∷◌, arith}
+use Rattle.std.proofs.Common.{◌≡◌, ◌⊎◌, ◌≤◌, inl, inr, sym, subst, List, [], ◌∷◌, arith}
 use Rattle.std.specs.Prelude.{⊤, Option, Some, None, MatchOption}
 use Rattle.std.specs.List.{AllByRecursion}
 use Rattle.wal.specs.LogState.{seen_by}

@@ -16,7 +16,6 @@ use Rattle.pager.specs.Views.{View, after, changes_of, view_at, view_of}
 use Rattle.pager.specs.Writers.{snapshot_of}
 use Rattle.pager.specs.declared.writer.Writer.{Writer}
 use Rattle.pager.proofs.Backing.{back_sound}
-use Rattle.pager.specs.Maps.{pages_in}
 use Rattle.session.specs.Applying.{IsApplied, IsNotApplied, Applies, CanApply}
 use Rattle.session.specs.ConnectionState.{files_of}
 use Rattle.session.specs.Writers.{IsNewest, IsWriter}

@@ -1,14 +1,13 @@
 -- The connections that aren't the present one.
-use Rattle.std.proofs.Common.{◌≡◌, ◌<◌, refl, sym, ap, subst, ◌∙◌, ℕ, ◌-◌, zero, suc, List, [], ◌∷◌, length, Bool, true, false, arith}
-use Rattle.std.specs.Prelude.{⊤, Option, Some, None, ◌||◌, slice_get, slice_set, unwrap_or}
+use Rattle.std.proofs.Common.{◌≡◌, ◌<◌, refl, sym, ap, subst, ◌∙◌, ℕ, zero, suc, List, [], ◌∷◌, length, Bool, true, false, arith}
+use Rattle.std.specs.Prelude.{Some, ◌||◌, slice_get, slice_set, unwrap_or}
 use Rattle.std.specs.List.{AllByRecursion, list_any}
 use Rattle.std.proofs.lemmas.Bool.{false≢true}
 use Rattle.disk.specs.declared.device.Disk.{Ghosts}
 use Rattle.wal.specs.declared.log.Log.{Log}
 use Rattle.catalog.specs.Database.{Database}
-use Rattle.session.specs.Machine.{Connection, Idle, Machine, idle, is_writing}
+use Rattle.session.specs.Machine.{Connection, Idle, idle, is_writing}
 use Rattle.session.specs.Representation.{AreParked, HaveOneWriter, IsTransaction}
-use Rattle.session.specs.SavedTables.{HasNoSavepoints, IsUnchanged}
 use Rattle.session.specs.Seats.{IsIdleSeat, holds_writer, is_writer}
 use Rattle.session.specs.declared.savepoints.SavedCatalogs.{SavedCatalogs}
 use Rattle.session.specs.declared.seats.Seat.{Seat}

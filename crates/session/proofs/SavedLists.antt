@@ -10,7 +10,7 @@ use Rattle.catalog.specs.Database.{Name}
 use Rattle.catalog.specs.Listed.{tables_of}
 use Rattle.catalog.specs.declared.tables.Catalog.{Catalog}
 use Rattle.catalog.specs.declared.tables.Table.{Table}
-use Rattle.session.specs.SavedTables.{AddsSavepoint, GoesBackTo, IsNewestNamed, Rebases, ReleasesFrom, SavedTables, Savepoints, changed_to, committed_in, current_in, first_in, rebased, saved_after, savepoints_in, tables_after, unchanged}
+use Rattle.session.specs.SavedTables.{AddsSavepoint, GoesBackTo, IsNewestNamed, Rebases, ReleasesFrom, SavedTables, Savepoints, changed_to, committed_in, current_in, first_in, saved_after, savepoints_in, tables_after, unchanged}
 use Rattle.session.specs.declared.savepoints.SavedCatalogs.{SavedCatalogs}
 use Rattle.session.specs.declared.savepoints.Savepoint.{Savepoint}
 

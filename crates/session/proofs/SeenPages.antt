@@ -1,5 +1,5 @@
 -- The pages that a connection sees.
-use Rattle.std.proofs.Common.{◌≡◌, ◌<◌, ◌≤◌, inl, inr, refl, ap, subst, ℕ, List, arith}
+use Rattle.std.proofs.Common.{◌≡◌, ◌≤◌, inl, inr, refl, ap, subst, ℕ, List, arith}
 use Rattle.disk.specs.declared.device.Disk.{Ghosts}
 use Rattle.wal.specs.Committed.{frames_under}
 use Rattle.wal.specs.LogState.{db_of, log_of, state_of, header_of, seen_by}

@@ -1,5 +1,5 @@
 -- Which refusals of statements have which causes.
-use Rattle.std.proofs.Common.{◌≡◌, inl, inr, refl, sym, ap, subst, ◌∙◌, false}
+use Rattle.std.proofs.Common.{◌≡◌, inl, inr, refl, sym, ap, subst, ◌∙◌, true, false}
 use Rattle.std.specs.Prelude.{⊤, Result, Ok, Err, IfErr}
 use Rattle.disk.specs.declared.device.Disk.{Ghosts}
 use Rattle.sqlval.specs.declared.fault.Fault.{Fault}
@@ -9,20 +9,20 @@ use Rattle.sql_syntax.specs.declared.statement.Statement.TheVariants as statemen
 use Rattle.wal.specs.declared.log.Log.{Log}
 use Rattle.catalog.specs.Database.{Database}
 use Rattle.session.specs.SavedTables.{committed_in}
-use Rattle.session.specs.declared.savepoints.SavedCatalogs.{SavedCatalogs}
 use Rattle.pager.specs.Views.{newest_view}
 use Rattle.pager.specs.declared.writer.Writer.{Writer}
 use Rattle.session.specs.Machine.{newest}
 use Rattle.session.specs.Stored.{ShowsDatabase}
 use Rattle.session.specs.Applying.{CanApply, CommitsChanges, CommitsThen, IsPast}
-use Rattle.session.specs.Changing.{written}
+use Rattle.executor.specs.Writes.{written}
 use Rattle.session.specs.ConnectionState.{files_of, has_failed_in}
+use Rattle.session.specs.Limits.{may_be_full}
 use Rattle.session.specs.Failing.{IsPastIn, IsPastLimits, IsRefusedHere, has_written}
 use Rattle.session.specs.declared.transactions.Connections.{Connections}
 use Rattle.session.specs.declared.seats.Transaction.{Transaction}
 use Rattle.session.specs.declared.seats.Transaction.TheVariants as transaction
-use Rattle.session.specs.declared.changes.Write.{Write}
-use Rattle.session.specs.declared.changes.Write.TheVariants as write
+use Rattle.executor.specs.declared.changes.Write.{Write}
+use Rattle.executor.specs.declared.changes.Write.TheVariants as write
 use Rattle.session.proofs.CommitSteps.{writes_in}
 
 io_not_full : fault.Io ≡ fault.Full → ⊥
@@ -30,6 +30,18 @@ io_not_full bad = absurd cc
 
 memory_not_full : fault.Memory ≡ fault.Full → ⊥
 memory_not_full bad = absurd cc
+
+-- a statement that changes the database may find it full
+change_is_full : (w : Write) → may_be_full (written w) ≡ true
+change_is_full (write.Insert i) = refl
+change_is_full (write.Delete d) = refl
+change_is_full (write.Update u) = refl
+change_is_full (write.Drop kind name) = refl
+change_is_full (write.CreateTable sql d) = refl
+change_is_full (write.CreateIndex sql d) = refl
+
+pub write_is_full : (w : Write) (s : Statement) → written w ≡ s → may_be_full s ≡ true
+write_is_full w s is = subst (λ (t : Statement). may_be_full t ≡ true) is (change_is_full w)
 
 module _ {D : Type 0} {g : Ghosts D} where
   -- a change may take memory, and is no COMMIT

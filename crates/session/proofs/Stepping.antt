@@ -1,17 +1,17 @@
 -- Steps of a connection.
-use Rattle.std.proofs.Common.{◌≡◌, inl, inr, refl, sym, ap, subst, ◌∙◌, ℕ, List, [], ◌∷◌, Bool, true, false}
+use Rattle.std.proofs.Common.{◌≡◌, inl, inr, refl, sym, ap, subst, ℕ, [], ◌∷◌, true, false}
 use Rattle.std.specs.Prelude.{if◌then◌else◌}
-use Rattle.sqlval.specs.Refusals.{Refusal, Busy}
+use Rattle.sqlval.specs.Refusals.{Busy}
 use Rattle.sql_syntax.specs.declared.query.Query.{Query}
 use Rattle.sql_syntax.specs.declared.statement.BeginMode.{BeginMode}
 use Rattle.sql_syntax.specs.declared.statement.BeginMode.TheVariants as begins
 use Rattle.sql_syntax.specs.declared.statement.CheckpointMode.{CheckpointMode}
 use Rattle.sql_syntax.specs.declared.statement.Statement.{Statement}
 use Rattle.sql_syntax.specs.declared.statement.Statement.TheVariants as statement
-use Rattle.catalog.specs.Database.{Name, Database}
+use Rattle.catalog.specs.Database.{Name}
 use Rattle.session.specs.Supported.{StepSoFar}
 use Rattle.executor.specs.Forms.{is_supported}
-use Rattle.session.specs.Machine.{Machine, Connection, Idle, InTransactionOf, NoSnapshot, Writes, Reply, another, connection, is_writing, last_place, newest, with_connection}
+use Rattle.session.specs.Machine.{Machine, Connection, InTransactionOf, NoSnapshot, Writes, Reply, another, connection, is_writing, last_place, newest, with_connection}
 use Rattle.session.specs.Outcomes.{Outcome, Gives, RefusedBy, outcome, read_outcome, control, begun}
 use Rattle.session.specs.Steps.{Allowed, Instead, is_connection}
 

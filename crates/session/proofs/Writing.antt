@@ -29,12 +29,13 @@ use Rattle.session.specs.Stored.{ShowsDatabase}
 use Rattle.session.specs.Representation.{Beside, IsSnapshotOf, IsWritingIn, MayWrite, RepresentsRunning, IsTransaction, OnlyReads, ShowTheSame, StepsOn, StepsTo, beside_in, done_reply, has_no_snapshot, is_idle, is_reading, with_transaction}
 use Rattle.session.specs.Applying.{CommitsChanges, EndsAlone, IsApplied, IsCommitCause, IsDropped, IsNotApplied, KeepsCommitted, Applies, CanApply, listing_of}
 use Rattle.executor.specs.Changing.{IsChangeRefusal}
-use Rattle.session.specs.Changing.{ChangesPages, KeepsListed, written}
+use Rattle.session.specs.Changing.{ChangesPages, KeepsListed}
+use Rattle.executor.specs.Writes.{written}
 use Rattle.session.specs.Writers.{IsWriter}
 use Rattle.session.specs.declared.transactions.Connections.{Connections}
 use Rattle.session.specs.declared.seats.Transaction.{Transaction}
 use Rattle.session.specs.declared.seats.Transaction.TheVariants as transaction
-use Rattle.session.specs.declared.changes.Write.{Write}
+use Rattle.executor.specs.declared.changes.Write.{Write}
 use Rattle.session.proofs.Beginning.{StartsWriting, free_of, newest_listed, none_where_idle, writer_begins, writer_stores}
 use Rattle.session.proofs.CheckpointSteps.{copied_after, renewed_after, then_steps}
 use Rattle.session.proofs.CommitSteps.{committed_shown}

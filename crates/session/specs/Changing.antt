@@ -1,18 +1,14 @@
 -- What a statement's change makes of the database whose pages a writer has (SQL As Understood By SQLite, "CREATE TABLE", "INSERT").
-use Rattle.std.specs.Prelude.{◌≡◌, ⊤, Result, Ok, Err}
+use Rattle.std.specs.Prelude.{◌≡◌, ⊤, Option, Some, None, Result, Ok, Err}
 use Rattle.sqlval.specs.declared.fault.Fault.{Fault}
 use Rattle.disk.specs.declared.device.Disk.{Ghosts}
-use Rattle.sql_syntax.specs.declared.change.Change.TheVariants as change
-use Rattle.sql_syntax.specs.declared.create.NewObject.TheVariants as new
 use Rattle.sql_syntax.specs.declared.statement.Statement.{Statement}
-use Rattle.sql_syntax.specs.declared.statement.Statement.TheVariants as statement
 use Rattle.catalog.specs.Database.{Database}
 use Rattle.catalog.specs.Listed.{tables_of}
 use Rattle.session.specs.SavedTables.{committed_in, current_in, savepoints_in}
 use Rattle.catalog.specs.declared.tables.Catalog.{Catalog}
 use Rattle.session.specs.declared.savepoints.SavedCatalogs.{SavedCatalogs}
 use Rattle.wal.specs.declared.log.Log.{Log}
-use Rattle.pager.specs.Maps.{pages_in}
 use Rattle.pager.specs.Views.{Tells, view_of}
 use Rattle.pager.specs.declared.writer.Writer.{Writer}
 use Rattle.session.specs.Holding.{IsSettled}
@@ -21,17 +17,6 @@ use Rattle.executor.specs.Works.{Reaches, change_made}
 use Rattle.session.specs.Representation.{ShowTheSame}
 use Rattle.session.specs.Writers.{IsWriter}
 use Rattle.session.specs.Stored.{ShowsDatabase}
-use Rattle.session.specs.declared.changes.Write.{Write}
-use Rattle.session.specs.declared.changes.Write.TheVariants as write
-
--- the statement that a change is
-abbrev pub written : Write → Statement
-written (write.Insert i) = statement.Change (change.Insert i.now)
-written (write.Delete d) = statement.Change (change.Delete d.now)
-written (write.Update u) = statement.Change (change.Update u.now)
-written (write.Drop kind name) = statement.Drop kind name.now
-written (write.CreateTable sql d) = statement.Create (record { sql = sql.now; object = new.Table d.now })
-written (write.CreateIndex sql d) = statement.Create (record { sql = sql.now; object = new.Index d.now })
 
 -- ---- a writer's pages
 
@@ -71,9 +56,10 @@ module _ {D : Type 0} {g : Ghosts D} where
     pub tables : current_in new.catalog ≡ current_in old.catalog
     pub why : IsChangeRefusal s db f
 
-  -- what a change of the writer's pages has come to that answers a catalog, whose tables are to be the current ones
-  abbrev pub MakesCatalog : Statement → Listing D g → Writer → Database → Result Catalog Fault → Log D g → Writer → Type 0
-  MakesCatalog s old writer db (Ok catalog) files left =
+  -- what a change of the writer's pages has come to that answers a catalog, whose tables are to be the current ones, or none where these stay
+  abbrev pub MakesCatalog : Statement → Listing D g → Writer → Database → Result (Option Catalog) Fault → Log D g → Writer → Type 0
+  MakesCatalog s old writer db (Ok None) files left = IsChangeMade s old db (listing files old.catalog) left
+  MakesCatalog s old writer db (Ok (Some catalog)) files left =
       (next : SavedCatalogs) → current_in next ≡ tables_of catalog → committed_in next ≡ committed_in old.catalog
       → savepoints_in next ≡ savepoints_in old.catalog
       → IsChangeMade s old db (listing files next) left

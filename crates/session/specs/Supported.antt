@@ -1,5 +1,5 @@
 -- A step while not all forms of the grammar are supported.
-use Rattle.std.specs.Prelude.{◌≡◌, Bool, true, false, ◌⊎◌, ℕ}
+use Rattle.std.specs.Prelude.{◌≡◌, true, false, ◌⊎◌, ℕ}
 use Rattle.sqlval.specs.Refusals.{Refusal, Memory, Misuse, Unsupported, Failed, refusal_of}
 use Rattle.sqlval.specs.declared.fault.Fault.{Fault}
 use Rattle.sql_syntax.specs.declared.statement.Statement.{Statement}

@@ -19,9 +19,9 @@ ghost use Rattle.session.specs.ConnectionState.{is_io};
 ghost use Rattle.session.specs.Limits.{may_be_full};
 ghost use Rattle.session.specs.Failing.{CountsStay, HasCallFailed, IsRefusedFor, IsRefusedHere, MarksFailure, ReadsFiles, is_immediate};
 ghost use Rattle.session.specs.Applying.{CommitsThen, EndsAlone, Applies, CanApply, KeepsAllButFiles, WritesChanges};
-ghost use Rattle.session.specs.Changing.{written};
+ghost use Rattle.executor.specs.Writes.{written};
 
-use crate::changes::{Write, apply, write_of};
+use crate::changes::apply;
 use crate::checkpoints::{copy_frames, put_counts};
 use crate::forms::is_supported;
 use crate::marks::{go_back, let_go, mark_times, save_marked};
@@ -32,6 +32,7 @@ use crate::seats::{
 };
 use catalog::Catalog;
 use disk::Disk;
+use executor::{Write, write_of};
 use pager::Writer;
 use row_scan::Rows;
 use sql_syntax::{BeginMode, CheckpointMode, Query, Statement};

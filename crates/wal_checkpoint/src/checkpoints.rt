@@ -10,7 +10,7 @@ ghost use Rattle.wal_checkpoint.specs.Emptied.{Emptied, EmptiedMeanwhile, IsRefu
 ghost use Rattle.wal_checkpoint.specs.Shown.{Checkpoints, IsRefusedCopying, MayCopy, Meanwhile};
 
 use disk::Disk;
-use sqlval::{Fault, R};
+use sqlval::R;
 use std::alloc::Global;
 use wal::{Log, Snapshot};
 

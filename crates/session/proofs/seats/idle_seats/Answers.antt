@@ -1,8 +1,7 @@
-use Rattle.std.proofs.Common.{refl, sym, ap, subst, ◌∙◌, List, length, arith}
+use Rattle.std.proofs.Common.{refl, sym, ap, subst, ◌∙◌, length, arith}
 use Rattle.std.proofs.lemmas.List.{length_push}
 use Rattle.std.specs.List.{AllByRecursion}
 use Rattle.session.specs.Seats.{IsIdleSeat}
-use Rattle.session.specs.declared.seats.Seat.{Seat}
 use Rattle.session.specs.declared.seats.Transaction.TheVariants as transaction
 use Rattle.session.proofs.SavedStates.{all_push}
 use Rattle.session.proofs.seats.idle_seats.Goals as goal

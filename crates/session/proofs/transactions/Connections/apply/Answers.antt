@@ -1,5 +1,5 @@
 use Rattle.std.proofs.Common.{refl}
-use Rattle.session.specs.Changing.{written}
+use Rattle.executor.specs.Writes.{written}
 use Rattle.session.proofs.Writing.{applied}
 use Rattle.session.proofs.transactions.Connections.apply.Goals as goal
 

@@ -5,12 +5,12 @@ use Rattle.executor.specs.Forms.{is_supported}
 use Rattle.executor.specs.Forms.{KeepsItsText}
 use Rattle.session.proofs.ErrorCauses.{causes_for}
 use Rattle.session.proofs.OtherForms.{no_other_form}
-use Rattle.session.proofs.StatementCauses.{changes_refused}
+use Rattle.session.proofs.StatementCauses.{changes_refused, write_is_full}
 use Rattle.session.proofs.transactions.Connections.change.Goals as goal
 
 pub returns-in-Some : goal.returns-in-Some
 returns-in-Some g c = record {
-  cause = causes_for _ _ _ _ c.in-Some.ensures.full c.write.ensures.cause;
+  cause = causes_for _ _ _ _ (write_is_full c.in-Some.write c.args.statement.now c.in-Some.ensures.same) c.write.ensures.cause;
   marks = c.write.ensures.marks;
   refused = changes_refused c.args.self.now c.in-Some.write c.args.statement.now c.write.result c.in-Some.ensures.same;
   step = λ supported_forms keeps query. subst (λ (s : Statement). StepsOn c.args.self.now s (done_reply c.write.result) c.write.new.self) c.in-Some.ensures.same

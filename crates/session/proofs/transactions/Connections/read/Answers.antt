@@ -1,4 +1,4 @@
-use Rattle.std.proofs.Common.{◌∙◌, sym, subst, arith, List}
+use Rattle.std.proofs.Common.{sym, subst, List}
 use Rattle.session.specs.SavedTables.{current_in}
 use Rattle.catalog.specs.declared.tables.Table.{Table}
 use Rattle.pager.specs.Views.{View, view_at, view_of}

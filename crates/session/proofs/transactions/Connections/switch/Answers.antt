@@ -1,4 +1,3 @@
-use Rattle.std.proofs.Common.{refl}
 use Rattle.session.proofs.transactions.Connections.switch.Goals as goal
 
 pub returns : goal.returns

@@ -1,0 +1,32 @@
+-- The statements that change a database (SQL As Understood By SQLite, "INSERT", "DELETE", "UPDATE", "CREATE TABLE", "CREATE INDEX", "DROP TABLE").
+use Rattle.std.specs.Prelude.{Bool, true, false, List, Option, Some, None}
+use Rattle.sql_syntax.specs.declared.change.Change.TheVariants as change
+use Rattle.sql_syntax.specs.declared.create.NewObject.TheVariants as new
+use Rattle.sql_syntax.specs.declared.statement.Statement.{Statement}
+use Rattle.sql_syntax.specs.declared.statement.Statement.TheVariants as statement
+use Rattle.catalog.specs.Listed.{tables_of}
+use Rattle.catalog.specs.declared.tables.Catalog.{Catalog}
+use Rattle.catalog.specs.declared.tables.Table.{Table}
+use Rattle.executor.specs.declared.changes.Write.{Write}
+use Rattle.executor.specs.declared.changes.Write.TheVariants as write
+
+-- the statement that a change is
+abbrev pub written : Write → Statement
+written (write.Insert i) = statement.Change (change.Insert i.now)
+written (write.Delete d) = statement.Change (change.Delete d.now)
+written (write.Update u) = statement.Change (change.Update u.now)
+written (write.Drop kind name) = statement.Drop kind name.now
+written (write.CreateTable sql d) = statement.Create (record { sql = sql.now; object = new.Table d.now })
+written (write.CreateIndex sql d) = statement.Create (record { sql = sql.now; object = new.Index d.now })
+
+-- it creates or drops an object, so that other tables are listed then
+abbrev pub changes_objects : Write → Bool
+changes_objects (write.Drop kind name) = true
+changes_objects (write.CreateTable sql d) = true
+changes_objects (write.CreateIndex sql d) = true
+changes_objects _ = false
+
+-- the tables that there are then: those of a catalog that was answered, or those that there were
+abbrev pub tables_then : List Table → Option Catalog → List Table
+tables_then before None = before
+tables_then before (Some catalog) = tables_of catalog
