@@ -5,13 +5,17 @@
 mod calls;
 mod changes;
 mod checkpoints;
+mod commits;
 mod forms;
 mod laws;
 mod marks;
+mod points;
+mod queries;
 mod reads;
 mod savepoints;
 mod seats;
 mod transactions;
+mod writes;
 
 ghost use Rattle.session.specs.Laws.{LeavesOthers, RefusalsAddNothing};
 
