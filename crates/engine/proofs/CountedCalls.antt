@@ -1,5 +1,5 @@
 -- A refusal is `Io` only where a call failed and was counted.
-use Rattle.std.proofs.Common.{◌≡◌, ◌⊎◌, ◌≤◌, ◌+◌, ◌-◌, ◌^◌, inl, inr, refl, sym, ◌∙◌, ap, subst, ⊎_elim, ℕ, Bool, false, arith}
+use Rattle.std.proofs.Common.{◌≡◌, ◌⊎◌, ◌≤◌, ◌+◌, ◌-◌, ◌^◌, inl, inr, refl, sym, ◌∙◌, ap, subst, ⊎_elim, ℕ, Bool, arith}
 use Rattle.std.specs.Prelude.{Result, Ok, Err, IfErr, IsErrAnd, OnErr, OnOk}
 use Rattle.std.proofs.lemmas.Result.{IfErr-weaker}
 use Rattle.disk.specs.Calls.{CountsFailure, Rose}

@@ -1,6 +1,6 @@
 -- Files that hold a database are opened as holding it.
 use Rattle.sqlval.specs.PageSizes.{IsPageSize}
-use Rattle.std.proofs.Common.{◌≤◌, ◌≡◌, ◌⊎◌, ◌<◌, ◌+◌, ◌-◌, ◌^◌, ◌++◌, inl, inr, refl, sym, ap, subst, ◌∙◌, ℕ, zero, suc, Bool, List, [], ◌∷◌, length, map, arith}
+use Rattle.std.proofs.Common.{◌≤◌, ◌≡◌, ◌⊎◌, ◌++◌, inl, inr, refl, sym, ap, subst, ◌∙◌, ℕ, zero, suc, Bool, List, [], ◌∷◌, length, map, arith}
 use Rattle.std.specs.Prelude.{⊤, Option, Some, None, Result, Ok, Err, IfErr, IfOk, IsTrue, IsErrAnd, MatchOption}
 use Rattle.disk.specs.declared.device.Disk.{Ghosts}
 use Rattle.disk.specs.File.{IsSynced}
@@ -8,7 +8,6 @@ use Rattle.sqlval.specs.declared.fault.Fault.{Fault}
 use Rattle.sqlval.specs.declared.fault.Fault.TheVariants.{Memory, Io}
 use Rattle.db_header.specs.Header.{IsHeader, counted_of}
 use Rattle.db_header.specs.declared.fields.Header.{Header}
-use Rattle.wal_frame.specs.Accepted as accepted
 use Rattle.wal_frame.specs.Accepted.{head_at, heads_to}
 use Rattle.wal_frame.specs.Log.{header_in}
 use Rattle.wal_frame.specs.Written.{Framed}

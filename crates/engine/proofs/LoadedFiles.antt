@@ -1,19 +1,18 @@
 -- What is loaded of the newest snapshot's pages is loaded of the two files.
-use Rattle.std.proofs.Common.{◌≡◌, ◌≤◌, ◌∙◌, sym, ap, subst, ℕ, List, length, arith}
-use Rattle.std.specs.Prelude.{⊤, IfOk, IsTrue, MatchOption, Result, Ok, Err}
+use Rattle.std.proofs.Common.{◌≡◌, ◌∙◌, sym, ap, subst, ℕ, List, length, arith}
+use Rattle.std.specs.Prelude.{⊤, IfOk, IsTrue, MatchOption, Result}
 use Rattle.disk.specs.declared.device.Disk.{Ghosts}
 use Rattle.sqlval.specs.declared.fault.Fault.{Fault}
 use Rattle.db_header.specs.Header.{IsHeader, counted_of}
 use Rattle.catalog.specs.Database.{Database}
 use Rattle.catalog.specs.declared.tables.Catalog.{Catalog}
 use Rattle.catalog.specs.declared.tables.Table.{Table}
-use Rattle.wal.specs.LogState.{db_of, log_of, seen_by, size_of, state_of}
+use Rattle.wal.specs.LogState.{db_of, log_of, size_of, state_of}
 use Rattle.wal.specs.declared.log.Log.{Log}
 use Rattle.wal.specs.declared.log.Snapshot.{Snapshot}
-use Rattle.pages.specs.Map.{PageMap}
 use Rattle.pager.specs.Maps.{pages_in}
 use Rattle.pager.specs.Sights.{UnderReader, tells_reader, under_reader, view_under}
-use Rattle.pager.specs.Views.{Tells, View, newest_view, view_at}
+use Rattle.pager.specs.Views.{Tells, View, newest_view}
 use Rattle.pager.proofs.Mapping.{count_to, maps_shown}
 use Rattle.pager.proofs.Sighting.{view_told}
 use Rattle.db_pages.specs.Stored.{IsCounted, Stores}

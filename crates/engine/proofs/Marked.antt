@@ -1,13 +1,13 @@
 -- Where an engine is marked as failed, a call of a disk has failed.
-use Rattle.std.proofs.Common.{◌≡◌, ◌⊎◌, ◌≤◌, inl, inr, refl, sym, ap, subst, ◌∙◌, ℕ, Bool, true, false, List, [], ◌∷◌, arith}
-use Rattle.std.specs.Prelude.{⊤, ◌==◌, ◌||◌, nat_lt, if◌then◌else◌, IsTrue, IsFalse, Option, Result, Ok, Err, OnOk, OnErr, IfErr, IsErrAnd}
+use Rattle.std.proofs.Common.{◌≡◌, ◌≤◌, inl, inr, refl, sym, ap, ◌∙◌, ℕ, Bool, true, false, List, [], ◌∷◌, arith}
+use Rattle.std.specs.Prelude.{⊤, ◌==◌, ◌||◌, nat_lt, if◌then◌else◌, IsTrue, Option, Result, Ok, Err, OnOk, OnErr, IsErrAnd}
 use Rattle.std.proofs.lemmas.Result.{IfErr-weaker}
 use Rattle.std.proofs.lemmas.Bool.{cases_Bool, false≢true}
 use Rattle.disk.specs.Calls.{Rose}
 use Rattle.disk.specs.declared.device.Disk.{Ghosts}
 use Rattle.disk.proofs.Moments.{rose_after}
 use Rattle.sqlval.specs.declared.fault.Fault.{Fault}
-use Rattle.sqlval.specs.declared.fault.Fault.TheVariants.{Io, Failed, Misuse}
+use Rattle.sqlval.specs.declared.fault.Fault.TheVariants.{Io, Misuse}
 use Rattle.sqlval.specs.declared.fault.Misuse.TheVariants.{Connection}
 use Rattle.pages.specs.Calls.{Causes, IsCause}
 use Rattle.pager.specs.Sights.{failures_of}
@@ -15,9 +15,7 @@ use Rattle.session.specs.ConnectionState.{first_refusal}
 use Rattle.session.proofs.Showing.{the_same}
 use Rattle.engine.proofs.Refusing.{on_err}
 use Rattle.wal.specs.LogState.{db_of, log_of}
-use Rattle.session.specs.Failing.{HasCallFailed}
-use Rattle.session.specs.declared.transactions.Connections.{Connections}
-use Rattle.engine.specs.EngineState.{connections_of, db_disk, has_failed_of, log_disk}
+use Rattle.engine.specs.EngineState.{has_failed_of}
 use Rattle.engine.specs.Failing.{CountsFailures, MarksWhereCounted}
 use Rattle.engine.specs.Representation.{files_in}
 use Rattle.engine.specs.Serving.{AnswersKept, AreReplies, GivesUp, HasServed, HasServedInPart, Reply}

@@ -1,6 +1,6 @@
 -- A statement that may commit is refused as `Full` only where what its transaction has written is past the limits.
 use Rattle.std.proofs.Common.{◌≡◌, ◌≤◌, ◌∙◌, inl, inr, refl, sym, ap, subst, ℕ, ◌-◌, length, true, Ok, Err, arith}
-use Rattle.std.specs.Prelude.{◌&&◌, nat_lt, Result, IfErr, Vec, slice_set}
+use Rattle.std.specs.Prelude.{Result, IfErr, Vec, slice_set}
 use Rattle.std.specs.declared.alloc.Global.{Global}
 use Rattle.std.proofs.lemmas.Bool.Decides.{nat_tests}
 use Rattle.disk.specs.declared.device.Disk.{Ghosts}

@@ -5,7 +5,6 @@ use Rattle.std.proofs.lemmas.Bool.{false≢true}
 use Rattle.disk.specs.declared.device.Disk.{Ghosts}
 use Rattle.disk.proofs.Moments.{throughout_both}
 use Rattle.sql_syntax.specs.declared.statement.Statement.{Statement}
-use Rattle.sqlval.specs.Refusals.{Refusal}
 use Rattle.catalog.specs.Database.{Database}
 use Rattle.session.specs.Supported.{StepSoFar}
 use Rattle.session.specs.Holding.{HoldThroughout, LeaveHeld}

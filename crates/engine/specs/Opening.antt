@@ -1,7 +1,7 @@
 -- What a crash leaves of two files while they are opened, and what opening makes of them.
 use Rattle.std.specs.Prelude.{◌≡◌, ◌⊎◌, ◌≤◌, ℕ, Bool, true, IsFalse, IsTrue, List, take, Result, Ok, Err}
 use Rattle.disk.specs.Calls.{Rose}
-use Rattle.disk.specs.File.{File, Version, IsLeft, IsSynced}
+use Rattle.disk.specs.File.{File, IsLeft, IsSynced, Throughout, Version}
 use Rattle.disk.specs.declared.device.Disk.{Ghosts}
 use Rattle.db_header.specs.Header.{IsHeader}
 use Rattle.db_header.specs.declared.fields.Header.{Header}
@@ -21,7 +21,7 @@ use Rattle.wal.specs.Crashes.{LeavesCommits}
 use Rattle.wal.specs.declared.log.Log.{Log}
 use Rattle.wal.specs.declared.log.Refused.{Refused}
 use Rattle.pager.specs.Views.{Tells, newest_view}
-use Rattle.session.specs.Holding.{Hold, IsSettled}
+use Rattle.session.specs.Holding.{Hold, IsSettled, LeaveHeld}
 use Rattle.session.specs.ConnectionState.{files_of}
 use Rattle.session.specs.Machine.{fresh}
 use Rattle.session.specs.Representation.{Represents}
@@ -132,3 +132,9 @@ module _ {D : Type 0} {g : Ghosts D} where
   -- An answer of opening: where the files tell what they hold, and hold a database, it is opened.
   abbrev pub IsOpenOf : D → D → Result (Engine D g) (Refused D) → Type 0
   IsOpenOf db log result = (database : Database) → IsTrue (g.tells db) → IsTrue (g.tells log) → Hold (g.file db).content (g.file log).content database → Opens database result
+
+  -- At each moment of an opening of files that were synced and hold a database, a crash leaves files that hold it.
+  abbrev pub HoldsMeanwhile : D → D → Result (Engine D g) (Refused D) → Type 0
+  HoldsMeanwhile db log result = (database : Database) → IsTrue (g.tells db) → IsTrue (g.tells log) → IsSynced (g.file db) → IsSynced (g.file log)
+      → Hold (g.file db).content (g.file log).content database
+      → Throughout (LeaveHeld (λ d. d ≡ database)) (g.file db) (g.file log) (g.file (db_left result)) (g.file (log_left result))

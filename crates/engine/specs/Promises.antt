@@ -1,18 +1,19 @@
 -- What follows of databases and crashes: the promise to a program that has been answered.
 use Rattle.std.specs.Prelude.{◌≡◌, ℕ, false, IsTrue, List, ◌++◌, Result}
-use Rattle.disk.specs.File.{File, Version, IsLeft, IsMoment}
+use Rattle.disk.specs.File.{File, Version, IsLeft, IsMoment, IsSynced, versions}
 use Rattle.disk.specs.Replay as replay
 use Rattle.disk.specs.declared.device.Disk.{Ghosts}
 use Rattle.catalog.specs.Database.{Database}
 use Rattle.wal.specs.Crashes.{HasNoChance}
 use Rattle.wal.specs.declared.log.Refused.{Refused}
-use Rattle.session.specs.Crashes.{MayShow}
+use Rattle.session.specs.Crashes.{MayShow, MayShowInRun}
 use Rattle.session.specs.Holding.{Hold, LeaveHeld}
 use Rattle.session.specs.Machine.{Machine, Reply, newest}
 use Rattle.engine.specs.Creating.{LeavesBlankOrCreated}
 use Rattle.engine.specs.EngineState.{db_disk, log_disk}
-use Rattle.engine.specs.Opening.{IsOpenOf, LeavesOpened, Opens}
+use Rattle.engine.specs.Opening.{HoldsMeanwhile, IsOpenOf, LeavesOpened, Opens, db_left, log_left}
 use Rattle.engine.specs.Representation.{EngineRepresents, StepsByTextTo}
+use Rattle.engine.specs.Serving.{RunsTo, Reply as Answer}
 use Rattle.engine.specs.declared.opening.Engine.{Engine}
 
 -- The contents of two files hold one database at most.
@@ -29,30 +30,44 @@ pub record HoldsEarlier : Type 0 where
   pub in_opening : (db log : File) → IsTrueEarlier (LeavesOpened db log)
   pub in_creating : (page_size : ℕ) → IsTrueEarlier (LeavesBlankOrCreated page_size)
 
--- Each moment of one file, from the old files until the new ones, goes with a moment of the other so that this is true of the two.
+-- Each moment of one file, from the old files until the new ones, goes with a moment of the other so that this is true of the two; and it is
+-- true of the two as they are at the end. (Each call of a disk may be the last that does anything, so each real moment is such an end.)
 pub record IsTrueAtMoments (Good : List Version → List Version → Type 0) (db log new_db new_log : File) : Type 0 where
   pub of_db : (dbs : List Version) → IsMoment db new_db dbs → (logs : List Version) × IsMoment log new_log logs × Good dbs logs
   pub of_log : (logs : List Version) → IsMoment log new_log logs → (dbs : List Version) × IsMoment db new_db dbs × Good dbs logs
+  pub at_end : Good (versions new_db) (versions new_log)
 
-module _ {D : Type 0} {g : Ghosts D} where
-  -- The files of an engine that hasn't failed hold the newest database of the machine that it represents.
-  abbrev pub RepresentedFilesHold : Engine D g → Type 0
-  RepresentedFilesHold engine = (m : Machine) → EngineRepresents engine m → m.failed ≡ false → Hold (g.file (db_disk engine)).content (g.file (log_disk engine)).content (newest m)
-
+module _ {D : Type 0} (g : Ghosts D) where
   -- These contents of the two files hold a database that may be shown. Two disks with just these contents, all synced, are opened as
   -- that database, unless memory runs out or a call fails.
-  pub record IsFoundAgain (engine : Engine D g) (May : Database → Type 0) (db log : List ℕ) : Type 0 where
+  pub record IsFoundAgain (May : Database → Type 0) (db log : List ℕ) : Type 0 where
     pub database : Database
     pub may : May database
     pub held : Hold db log database
     pub opens : (d l : D) (result : Result (Engine D g) (Refused D)) → IsTrue (g.tells d) → IsTrue (g.tells l) → g.file d ≡ replay.fresh db → g.file l ≡ replay.fresh log → IsOpenOf d l result → Opens database result
 
   -- whatever pair of contents a crash leaves, where no frame of the log is accepted by chance
-  abbrev pub AreFoundAgain : Engine D g → (Database → Type 0) → List Version → List Version → Type 0
-  AreFoundAgain engine May dbs logs = (db log : List ℕ) → IsLeft dbs db → IsLeft logs log → HasNoChance logs log → IsFoundAgain engine May db log
+  abbrev pub AreFoundAgain : (Database → Type 0) → List Version → List Version → Type 0
+  AreFoundAgain May dbs logs = (db log : List ℕ) → IsLeft dbs db → IsLeft logs log → HasNoChance logs log → IsFoundAgain May db log
+
+module _ {D : Type 0} {g : Ghosts D} where
+  -- The files of an engine that hasn't failed hold the newest database of the machine that it represents.
+  abbrev pub RepresentedFilesHold : Engine D g → Type 0
+  RepresentedFilesHold engine = (m : Machine) → EngineRepresents engine m → m.failed ≡ false → Hold (g.file (db_disk engine)).content (g.file (log_disk engine)).content (newest m)
 
   -- The promise. A statement was answered, from one machine to the next. Whenever in it a crash comes, and whatever it leaves, opening
   -- finds the newest database before or after the statement, or one that a failed commit has left in doubt.
   abbrev pub CrashKeepsCommits : Engine D g → Engine D g → Type 0
   CrashKeepsCommits old new = (m : Machine) (connection : ℕ) (text : List ℕ) (reply : Reply) (to : StepsByTextTo old m connection text reply new)
-      → IsTrueAtMoments (AreFoundAgain old (MayShow m to.next)) (g.file (db_disk old)) (g.file (log_disk old)) (g.file (db_disk new)) (g.file (log_disk new))
+      → IsTrueAtMoments (AreFoundAgain g (MayShow m to.next)) (g.file (db_disk old)) (g.file (log_disk old)) (g.file (db_disk new)) (g.file (log_disk new))
+
+  -- The same of lines that were served, from the machine before the first to the one after the last.
+  abbrev pub CrashKeepsRuns : Engine D g → Engine D g → Type 0
+  CrashKeepsRuns old new = (m : Machine) (lines : List (List ℕ)) (replies : List Answer) (to : RunsTo old m lines replies new)
+      → IsTrueAtMoments (AreFoundAgain g (MayShowInRun m to.end)) (g.file (db_disk old)) (g.file (log_disk old)) (g.file (db_disk new)) (g.file (log_disk new))
+
+  -- Two disks were opened, which were synced and held a database. Whenever in it a crash comes, and whatever it leaves, opening finds the same.
+  abbrev pub OpeningKeeps : D → D → Result (Engine D g) (Refused D) → Type 0
+  OpeningKeeps db log result = (database : Database) → IsTrue (g.tells db) → IsTrue (g.tells log) → IsSynced (g.file db) → IsSynced (g.file log)
+      → Hold (g.file db).content (g.file log).content database → HoldsMeanwhile db log result
+      → IsTrueAtMoments (AreFoundAgain g (λ found. found ≡ database)) (g.file db) (g.file log) (g.file (db_left result)) (g.file (log_left result))

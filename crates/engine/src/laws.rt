@@ -1,10 +1,11 @@
 //! Laws of what a crash leaves.
 
-ghost use Rattle.engine.specs.Promises.{CrashKeepsCommits, HeldOnce, HoldsEarlier, RepresentedFilesHold};
+ghost use Rattle.engine.specs.Promises.{CrashKeepsCommits, CrashKeepsRuns, HeldOnce, HoldsEarlier, OpeningKeeps, RepresentedFilesHold};
 
 use crate::opening::Engine;
 use db_pages::pages_store_one_database;
 use disk::Disk;
+use wal::Refused;
 
 /// What a crash may leave only grows until the next sync: what is said of it at the end of that time is true before.
 pub fn held_earlier()
@@ -26,4 +27,14 @@ pub fn represented_files_hold<D: Disk + Drop>(_engine: &Engine<D>)
 /// Whenever a crash comes during a statement, opening what it leaves finds a database that was committed.
 pub fn crash_keeps_commits<D: Disk + Drop>(_old: &Engine<D>, _new: &Engine<D>)
     ensures { CrashKeepsCommits _old.now _new.now }
+{}
+
+/// Whenever a crash comes while lines are served, opening what it leaves finds a database that was committed.
+pub fn crash_keeps_runs<D: Disk + Drop>(_old: &Engine<D>, _new: &Engine<D>)
+    ensures { CrashKeepsRuns _old.now _new.now }
+{}
+
+/// Whenever a crash comes while files are opened, opening what it leaves finds the database that they held.
+pub fn opening_keeps<D: Disk + Drop>(_db: &D, _log: &D, _opened: &Result<Engine<D>, Refused<D>>)
+    ensures { OpeningKeeps _db.now _log.now _opened.now }
 {}

@@ -138,7 +138,7 @@ impl<D: Disk + Drop> Engine<D> {
     ghost use Rattle.engine.specs.EngineState.{db_disk, has_failed_of, log_disk};
     ghost use Rattle.engine.specs.Failing.{CountsFailures, HasFullCause};
     ghost use Rattle.session.specs.Holding.{Hold, LeaveHeld};
-    ghost use Rattle.engine.specs.Opening.{IsOpenOf, IsOpenedFrom, IsRefusedOpen, db_left, log_left};
+    ghost use Rattle.engine.specs.Opening.{HoldsMeanwhile, IsOpenOf, IsOpenedFrom, IsRefusedOpen, db_left, log_left};
     ghost use Rattle.engine.specs.Serving.{GivesUp};
     ghost use Rattle.engine.specs.Representation.{StepsByText};
     ghost use Rattle.session.specs.Representation.{rows_reply};
@@ -152,9 +152,7 @@ impl<D: Disk + Drop> Engine<D> {
         ensures crash { IsTrue (D.tells db) → IsTrue (D.tells log)
             → Throughout (LeavesOpened (D.file db) (D.file log)) (D.file db) (D.file log) (D.file (db_left result)) (D.file (log_left result)) }
         // Files that hold a database, as a crash left them, hold it at each moment.
-        ensures holds { (database : Database) → IsTrue (D.tells db) → IsTrue (D.tells log) → IsSynced (D.file db) → IsSynced (D.file log)
-            → Hold (D.file db).content (D.file log).content database
-            → Throughout (LeaveHeld (λ d. d ≡ database)) (D.file db) (D.file log) (D.file (db_left result)) (D.file (log_left result)) }
+        ensures holds { HoldsMeanwhile db log result }
         // What is in the files then, also where a call failed, a crash may leave.
         ensures left { IsTrue (D.tells db) → IsTrue (D.tells log) → IsContentLeft (D.file db) → IsContentLeft (D.file log)
             → IsContentLeft (D.file (db_left result)) × IsContentLeft (D.file (log_left result)) }

@@ -1,5 +1,4 @@
 use Rattle.std.proofs.Common.{◌≡◌}
-use Rattle.catalog.specs.declared.tables.Catalog.{Catalog}
 use Rattle.db_load.specs.Loading.{FindsDatabase}
 use Rattle.pager.specs.Maps.{pages_in}
 use Rattle.pager.specs.Views.{newest_view}
@@ -7,7 +6,7 @@ use Rattle.sqlval.specs.Faults.{IsOutside}
 use Rattle.sqlval.specs.declared.fault.Fault.TheVariants.{Blank}
 use Rattle.engine.proofs.CountedCalls.{causes_passed}
 use Rattle.engine.proofs.HeldOpening.{seats_find, short_at_most}
-use Rattle.engine.proofs.Refusing.{no_ok, on_err}
+use Rattle.engine.proofs.Refusing.{on_err}
 use Rattle.engine.proofs.opening.load_seats.Goals as goal
 
 pub returns-in_err-catalog-clause-listed : goal.returns-in_err-catalog-clause-listed
