@@ -16,6 +16,9 @@ fn column_copy(alloc: Global, column: &Column) -> R<Column>
     Ok(Column {
         name: column.name.copy(alloc)?,
         affinity: column.affinity,
+        collation: column.collation,
+        is_filled: column.is_filled,
+        default: column.default.copy(alloc)?,
     })
 }
 
@@ -66,7 +69,8 @@ fn indexes_copy(alloc: Global, indexes: &[Index]) -> R<Vec<Index>>
 
 /// Copies of the indexes that don't have this name.
 fn others_copy(alloc: Global, indexes: &[Index], name: &str) -> R<Vec<Index>>
-    ensures { IsOrMemory (λ copy. copy.items ≡ filter (λ index. not (is_same_name index.name name.now)) indexes.now) result }
+    ensures { IsOrMemory (λ copy. copy.items ≡ filter
+        (λ index. not (is_same_name index.name name.now)) indexes.now) result }
 {
     let mut copy = Vec::new(alloc);
     'indexes: for index in indexes {

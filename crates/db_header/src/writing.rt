@@ -33,7 +33,8 @@ pub fn write(header: &Header) -> [u8; 100]
     requires { IsPageSize header.now.page_size }
     ensures is { IsHeader result header.now }
     // There is no other spelling.
-    ensures only { (other : List ℕ) → IsBytes other → IsHeader other header.now → take 100 other ≡ result }
+    ensures only { (other : List ℕ) → IsBytes other → IsHeader other header.now
+        → take 100 other ≡ result }
 {
     let [p0, p1] = pair(header.page_size);
     let [c0, c1, c2, c3] = quad(header.change_counter);

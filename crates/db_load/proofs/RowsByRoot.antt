@@ -15,7 +15,7 @@ use Rattle.tree_table.specs.Tree as tree
 use Rattle.tree_table.specs.Tree.{IsTableTree, Tree, top}
 use Rattle.db_layout.specs.Layout.{HoldsUnder, IsTree, Owner, used_by}
 use Rattle.db_layout.specs.Trees.{AreTreesOf}
-use Rattle.catalog.specs.Listed.{plain_column, plain_table}
+use Rattle.catalog.specs.Listed.{as_column, plain_table}
 use Rattle.catalog.specs.Rows.{are_rows, is_row, is_value}
 use Rattle.catalog.specs.declared.tables.Table.{Table}
 use Rattle.row_scan.specs.Rows.{TableRow}
@@ -33,7 +33,7 @@ same_fit t u held [] same = refl
 same_fit t u held (row ∷ rows) same = ap (λ (b : Bool). b && list_all (is_row (plain_table t held)) rows) one ∙ ap (λ (b : Bool). is_row (plain_table u held) row && b) (same_fit t u held rows same)
   where
     wide : length (plain_table t held).columns ≡ length (plain_table u held).columns
-    wide = length-map t.columns plain_column ∙ (same ∙ sym (length-map u.columns plain_column))
+    wide = length-map t.columns as_column ∙ (same ∙ sym (length-map u.columns as_column))
 
     one : is_row (plain_table t held) row ≡ is_row (plain_table u held) row
     one = ap (λ (n : ℕ). is_word row.0 && length row.1 == n && list_all is_value row.1 && true) wide

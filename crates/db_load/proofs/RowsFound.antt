@@ -9,15 +9,12 @@ use Rattle.sqlval.specs.Lists.{any_twice}
 use Rattle.sqlval.specs.Names.{is_same_name}
 use Rattle.sqlval.specs.declared.value.Value.{Value}
 use Rattle.sqlval.specs.declared.value.Value.TheVariants.{Text}
-use Rattle.sql_syntax.specs.declared.create.ColumnDefinition.{ColumnDefinition}
 use Rattle.sql_syntax.specs.declared.create.TableDefinition.{TableDefinition}
-use Rattle.catalog.specs.Database.{Name}
-use Rattle.catalog.specs.Listed.{are_named_once, defined, described}
-use Rattle.catalog.specs.declared.tables.Column.{Column}
+use Rattle.catalog.specs.Listed.{are_named_once}
 use Rattle.catalog.specs.declared.tables.Table.{Table}
-use Rattle.sqlval.specs.declared.affinity.Affinity.{Affinity}
 use Rattle.db_pages.specs.Reordering.{AreReordered}
 use Rattle.query_names.specs.Bound.{AreOnce, is_twice_named}
+use Rattle.query_names.proofs.CreatedTables.{named_columns}
 use Rattle.db_pages.specs.Schema.{AreRowsOf, IndexTold, IsTableOf, TableTold, Tells, Told, all_told}
 use Rattle.db_load.specs.Loading.{kind_text}
 use Rattle.db_load.specs.Reading.{AreSound, Finds, FindsTold, IsKind, bare_told, is_of_pass, parts_of}
@@ -27,19 +24,9 @@ use Rattle.db_load.proofs.RowPasses.{columns_own, own_columns}
 
 -- ---- columns
 
-names_of_columns : (cs : List Column) → map (λ (p : Name × Option Affinity). p.0) (map described cs) ≡ map (λ (c : Column). c.name) cs
-names_of_columns [] = refl
-names_of_columns (c ∷ cs) = ap (λ ns. c.name ∷ ns) (names_of_columns cs)
-
-names_defined : (ds : List ColumnDefinition) → map (λ (p : Name × Option Affinity). p.0) (map defined ds) ≡ map (λ (d : ColumnDefinition). d.name) ds
-names_defined [] = refl
-names_defined (d ∷ ds) = ap (λ ns. d.name ∷ ns) (names_defined ds)
-
 -- the columns of a definition that names none twice have different names
 columns_differ : (d : TableDefinition) (t : Table) → IsTableOf d t → is_twice_named t.columns ≡ false
-columns_differ d t is =
-    ap (any_twice is_same_name)
-    (sym (names_of_columns t.columns) ∙ (ap (map (λ (p : Name × Option Affinity). p.0)) is.columns ∙ names_defined d.columns)) ∙ is.once
+columns_differ d t is = ap (any_twice is_same_name) (named_columns d.columns t.columns is.columns) ∙ is.once
 
 pub told_columns : (pages : ℕ) (x : Told) (row : Entry) → Tells pages x row → HasOwnColumns x
 told_columns pages (TableTold t) row tells = columns_differ tells.definition t tells.makes

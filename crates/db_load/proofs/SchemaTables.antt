@@ -1,17 +1,16 @@
 -- What the rows of the schema table tell is read of them, and nothing else.
-use Rattle.std.proofs.Common.{◌≡◌, ◌⊎◌, ◌≤◌, ◌<◌, ◌+◌, inl, inr, refl, sym, ap, subst, ◌∙◌, ◌||◌, ℕ, ℤ, zero, suc, Bool, true, false, not, List, [], ◌∷◌, ◌++◌, length, map, drop, take, slice_index_or, arith}
-use Rattle.std.specs.Prelude.{Option, Some, Result, Ok, Err, IfErr, IsErrAnd, MatchResult, OnOk, is_none}
-use Rattle.std.specs.List.{list_any}
+use Rattle.std.proofs.Common.{◌≡◌, ◌⊎◌, ◌≤◌, ◌<◌, ◌+◌, inl, inr, refl, sym, ap, subst, ◌∙◌, ℕ, ℤ, zero, suc, Bool, true, false, not, List, [], ◌∷◌, ◌++◌, length, map, drop, take, slice_index_or, arith}
+use Rattle.std.specs.Prelude.{Result, Ok, Err, IfErr, IsErrAnd, MatchResult, OnOk}
+use Rattle.std.specs.List.{Contains}
 use Rattle.std.proofs.lemmas.Bool.{false≢true}
 use Rattle.std.proofs.lemmas.List.{take_more}
 use Rattle.sqlval.specs.Faults.{IsOrMemory}
 use Rattle.sqlval.specs.Gives.{Refuses}
-use Rattle.sqlval.specs.declared.affinity.Affinity.{Affinity}
 use Rattle.sqlval.specs.declared.fault.Fault.{Fault}
 use Rattle.sqlval.specs.declared.fault.Fault.TheVariants as fault
-use Rattle.sqlval.specs.declared.fault.Feature.TheVariants.{RealColumn}
 use Rattle.sqlval.specs.declared.fault.Misuse.TheVariants.{DoubledColumn}
 use Rattle.sqlval.specs.Names.{folded}
+use Rattle.sqlval.specs.Refusals.{Refusal, refusal_of}
 use Rattle.sqlval.specs.declared.value.Value.{Value}
 use Rattle.record.specs.Record.{IsRecord}
 use Rattle.tree_leaf.specs.Leaf.{Entry}
@@ -24,11 +23,15 @@ use Rattle.sql_syntax.specs.declared.statement.Statement.{Statement}
 use Rattle.sql_syntax.specs.declared.statement.Statement.TheVariants as statement
 use Rattle.sql_grammar.specs.Statements.{is_statement_within}
 use Rattle.sql_grammar.specs.Texts.{IsStatementText}
-use Rattle.catalog.specs.Database.{Name}
-use Rattle.catalog.specs.Listed.{defined, described, has_doubled, is_name_of, is_real, tables_of}
+use Rattle.catalog.specs.Database.{TableColumn}
+use Rattle.catalog.specs.Listed.{is_name_of, tables_of}
 use Rattle.catalog.specs.declared.tables.Catalog.{Catalog}
 use Rattle.catalog.specs.declared.tables.Column.{Column}
 use Rattle.catalog.specs.declared.tables.Table.{Table}
+use Rattle.query_names.specs.Checked.{faults, known_all}
+use Rattle.query_names.specs.Creating.{defined, described, has_doubled}
+use Rattle.query_names.specs.Tables.{column_of}
+use Rattle.query_names.proofs.CreatedTables.{known_columns}
 use Rattle.db_pages.specs.Schema.{CreatesSupported, IndexTold, IsCreateOf, TableTold, Tells, Told, schema_row}
 use Rattle.db_load.specs.Loading.{AreRowValues, HasParts, IsOfRow, TellsTable, bare, kind_text}
 use Rattle.db_load.specs.Reading.{AddsTold, AreSound, FindsParts, FindsRow, FindsTold, IsKind, TellsParts}
@@ -68,53 +71,17 @@ created sql s made o is of text within short = record {
 
 -- ---- columns
 
-name_is : (a b : Column) → described a ≡ described b → a.name ≡ b.name
-name_is a b h = ap (λ (d : Name × Option Affinity). d.0) h
+none_among : {A : Type 0} (r : Refusal) → Contains [] r → A
+none_among r among = absurd (omega (arith, among.1))
 
-some_affinity : (a b : Affinity) → Some a ≡ Some b → a ≡ b
-some_affinity a b h = cc
-
-column_is : (a b : Column) → described a ≡ described b → a ≡ b
-column_is a b h =
-    let affinity = some_affinity a.affinity b.affinity (ap (λ (d : Name × Option Affinity). d.1) h) in
-    λ i. record { name = name_is a b h i; affinity = affinity i }
-
-first_of : {A : Type 0} (a b : A) (us bs : List A) → a ∷ us ≡ b ∷ bs → a ≡ b
-first_of a b us bs h = cc
-
-rest_of : {A : Type 0} (a b : A) (us bs : List A) → a ∷ us ≡ b ∷ bs → us ≡ bs
-rest_of a b us bs h = cc
-
-no_item : {A B : Type 0} (b : B) (bs : List B) → [] ≡ b ∷ bs → A
-no_item b bs h = absurd cc
-
-pub columns_are : (us ts : List Column) → map described us ≡ map described ts → us ≡ ts
-columns_are [] [] h = refl
-columns_are [] (t ∷ ts) h = no_item (described t) (map described ts) h
-columns_are (u ∷ us) [] h = no_item (described u) (map described us) (sym h)
-columns_are (u ∷ us) (t ∷ ts) h =
-    let first = column_is u t (first_of (described u) (described t) (map described us) (map described ts) h) in
-    let rest = columns_are us ts (rest_of (described u) (described t) (map described us) (map described ts) h) in
-    λ i. first i ∷ rest i
-
-none_real : (t : Column) (d : ColumnDefinition) → described t ≡ defined d → is_real d ≡ false
-none_real t d h = ap (λ (p : Name × Option Affinity). is_none p.1) (sym h)
-
--- columns of a name and an affinity have no type of reals
-pub none_is_real : (ts : List Column) (ds : List ColumnDefinition) → map described ts ≡ map defined ds → list_any is_real ds ≡ false
-none_is_real ts [] h = refl
-none_is_real [] (d ∷ ds) h = no_item (defined d) (map defined ds) h
-none_is_real (t ∷ ts) (d ∷ ds) h =
-    let first = none_real t d (first_of (described t) (defined d) (map described ts) (map defined ds) h) in
-    let rest = none_is_real ts ds (rest_of (described t) (defined d) (map described ts) (map defined ds) h) in
-    ap (λ (b : Bool). b || list_any is_real ds) first ∙ rest
-
+-- nothing refuses a definition whose columns are listed
 pub columns_refused : (ds : List ColumnDefinition) (ts : List Column) (f : Fault)
-    → (f ≡ fault.Memory) ⊎ (f ≡ fault.Misuse DoubledColumn) × (has_doubled ds ≡ true) ⊎ (f ≡ fault.Unsupported RealColumn) × (list_any is_real ds ≡ true)
+    → (f ≡ fault.Memory) ⊎ (f ≡ fault.Misuse DoubledColumn) × (has_doubled ds ≡ true) ⊎ Contains (faults (known_all (map column_of ds))) (refusal_of f)
     → has_doubled ds ≡ false → map described ts ≡ map defined ds → f ≡ fault.Memory
 columns_refused ds ts f (inl memory) once same = memory
 columns_refused ds ts f (inr (inl doubled)) once same = absurd (false≢true (sym once ∙ doubled.1))
-columns_refused ds ts f (inr (inr real)) once same = absurd (false≢true (sym (none_is_real ts ds same) ∙ real.1))
+columns_refused ds ts f (inr (inr among)) once same =
+    none_among (refusal_of f) (subst (λ (rs : List Refusal). Contains rs (refusal_of f)) (ap (faults {A = List TableColumn}) (known_columns ds ts same)) among)
 
 -- ---- results
 

@@ -47,7 +47,8 @@ pub fn add_row(
     tables: bool,
 ) -> R<()>
     // What the row tells is listed, unless memory runs out.
-    ensures tells { (item : Told) (entry : Entry) → entry.rowid ≡ rowid → entry.payload ≡ payload.now → Tells size item entry
+    ensures tells { (item : Told) (entry : Entry) → entry.rowid ≡ rowid
+        → entry.payload ≡ payload.now → Tells size item entry
         → ReadsTold tables item (tables_of catalog.old) (tables_of catalog.new) result }
     // What is listed is what the row tells.
     ensures found { (entry : Entry) → entry.rowid ≡ rowid → entry.payload ≡ payload.now

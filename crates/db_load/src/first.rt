@@ -26,7 +26,8 @@ fn header_of(page: &[u8]) -> R<Header>
 /// another page size, `Damaged(Size, 1)` for another number of pages.)
 fn header_in(page: &[u8], page_size: usize, size: u32) -> R<Header>
     ensures found { IfOk result (IsFirstHeader page.now page_size size) }
-    ensures only { (header : Told) → IsFirstHeader page.now page_size size header → result ≡ Ok header }
+    ensures only { (header : Told) → IsFirstHeader page.now page_size size header
+        → result ≡ Ok header }
     ensures not_disk { IfErr result IsNotDiskFault }
 {
     let header = header_of(page)?;

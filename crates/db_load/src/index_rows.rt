@@ -28,7 +28,8 @@ use std::alloc::Global;
 
 /// The definition of an index, which the object must be.
 fn index_in(object: &NewObject) -> R<&IndexDefinition>
-    ensures tells { (definition : Defined) → object.now ≡ new.Index definition → IsOkAnd result (λ found. found.now ≡ definition) }
+    ensures tells { (definition : Defined) → object.now ≡ new.Index definition
+        → IsOkAnd result (λ found. found.now ≡ definition) }
     ensures found { IfOk result (λ definition. object.now ≡ new.Index definition.now) }
     ensures not_disk { IfErr result (λ fault. IsSchemaFault fault) }
 {
@@ -88,9 +89,11 @@ fn bound_in<'a>(
 /// A copy of the table on which a row and the statement that its text is tell an index, with that index after its others.
 fn grown(alloc: Global, catalog: &Catalog, row: &SchemaRow<'_>, statement: &Statement) -> R<Table>
     ensures tells { (table : Owned) (index : Listed) (tells : TellsIndex table index row.now) (made : Made)
-        → statement.now ≡ parsed.Create made → made.object ≡ new.Index tells.definition → CanGrow (tables_of catalog.now) table index
+        → statement.now ≡ parsed.Create made → made.object ≡ new.Index tells.definition
+        → CanGrow (tables_of catalog.now) table index
         → IsOrMemory (IsGrown (tables_of catalog.now) tells.definition.table table index) result }
-    ensures found { IsStatementText row.now.sql.now statement.now × (is_statement_within statement.now ≡ true)
+    ensures found { IsStatementText row.now.sql.now statement.now
+        × (is_statement_within statement.now ≡ true)
         × (length row.now.sql.now ≤ 65536) → AreOnce (tables_of catalog.now)
         → IfOk result (GrowsBy (tables_of catalog.now) row.now) }
     ensures not_disk { IfErr result (λ fault. IsSchemaFault fault) }
@@ -110,9 +113,11 @@ fn grown(alloc: Global, catalog: &Catalog, row: &SchemaRow<'_>, statement: &Stat
 
 /// A copy of the table on which a row tells an index, with that index after its others.
 fn grown_by(alloc: Global, catalog: &Catalog, row: &SchemaRow<'_>) -> R<Table>
-    ensures tells { (table : Owned) (index : Listed) (tells : TellsIndex table index row.now) → CanGrow (tables_of catalog.now) table index
+    ensures tells { (table : Owned) (index : Listed) (tells : TellsIndex table index row.now)
+        → CanGrow (tables_of catalog.now) table index
         → IsOrMemory (IsGrown (tables_of catalog.now) tells.definition.table table index) result }
-    ensures found { AreOnce (tables_of catalog.now) → IfOk result (GrowsBy (tables_of catalog.now) row.now) }
+    ensures found { AreOnce (tables_of catalog.now)
+        → IfOk result (GrowsBy (tables_of catalog.now) row.now) }
     ensures not_disk { IfErr result (λ fault. IsSchemaFault fault) }
 {
     let statement = statement_of(alloc, row.sql)?;

@@ -3,7 +3,6 @@
 
 mod adding;
 mod first;
-mod forms;
 mod index_rows;
 mod loading;
 mod schema;

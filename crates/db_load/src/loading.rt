@@ -58,7 +58,8 @@ fn load_uses<P: Pages>(
     marks: &mut Vec<bool>,
 ) -> R<Catalog>
     ensures loaded { (map : PageMap) (page : ℕ)
-        → AreTold P.Pages.below P.Pages.tells P.Pages.limits P.Pages.map pages.old map page → CanMark map page marks.old.items
+        → AreTold P.Pages.below P.Pages.tells P.Pages.limits P.Pages.map pages.old map page
+        → CanMark map page marks.old.items
         → size ≡ length map → LoadsUses map page header marks.old.items marks.new.items result }
     ensures long { length marks.new.items ≡ length marks.old.items }
     ensures stays { Stays P.Pages.below P.Pages.map P.Pages.count P.Pages.failures result pages.old pages.new }
@@ -74,7 +75,8 @@ fn load_uses<P: Pages>(
 /// `check_marks` refuse.)
 fn load_marked<P: Pages>(alloc: Global, pages: &mut P, size: u32, header: Header) -> R<Catalog>
     ensures loaded { (map : PageMap) (page : ℕ)
-        → AreTold P.Pages.below P.Pages.tells P.Pages.limits P.Pages.map pages.old map page → AreWhole page map
+        → AreTold P.Pages.below P.Pages.tells P.Pages.limits P.Pages.map pages.old map page
+        → AreWhole page map
         → IsPageSize page → size ≡ length map → LoadsAll map page header result }
     ensures stays { Stays P.Pages.below P.Pages.map P.Pages.count P.Pages.failures result pages.old pages.new }
 {
@@ -86,11 +88,13 @@ fn load_marked<P: Pages>(alloc: Global, pages: &mut P, size: u32, header: Header
 
 /// The tables of the database that the pages hold. (What `check_whole`, `read_header` and `load_marked` refuse.)
 fn load_checked<P: Pages>(alloc: Global, pages: &mut P, size: u32) -> R<Catalog>
-    ensures listed { (tables : List Table) (database : Database) → IsTrue (P.Pages.tells (P.Pages.below pages.old))
+    ensures listed { (tables : List Table) (database : Database)
+        → IsTrue (P.Pages.tells (P.Pages.below pages.old))
         → size ≡ length (P.Pages.map pages.old)
         → Stores (P.Pages.map pages.old) (P.Pages.limits (P.Pages.below pages.old)).page tables database
         → IsCounted (P.Pages.map pages.old) → IfErr result IsOutside }
-    ensures found { IsTrue (P.Pages.tells (P.Pages.below pages.old)) → size ≡ length (P.Pages.map pages.old)
+    ensures found { IsTrue (P.Pages.tells (P.Pages.below pages.old))
+        → size ≡ length (P.Pages.map pages.old)
         → IfOk result (FindsDatabase (P.Pages.map pages.old) (P.Pages.limits (P.Pages.below pages.old)).page) }
     ensures stays { Stays P.Pages.below P.Pages.map P.Pages.count P.Pages.failures result pages.old pages.new }
 {
@@ -116,12 +120,14 @@ fn not_blank(fault: Fault) -> Fault
 /// pages refuses, except for `Blank`.)
 pub fn load<P: Pages>(alloc: Global, pages: &mut P, size: u32) -> R<Catalog>
     // The tables of pages that hold a database are loaded, unless memory runs out or a disk's call fails.
-    ensures listed { (tables : List Table) (database : Database) → IsTrue (P.Pages.tells (P.Pages.below pages.old))
+    ensures listed { (tables : List Table) (database : Database)
+        → IsTrue (P.Pages.tells (P.Pages.below pages.old))
         → size ≡ length (P.Pages.map pages.old)
         → Stores (P.Pages.map pages.old) (P.Pages.limits (P.Pages.below pages.old)).page tables database
         → IsCounted (P.Pages.map pages.old) → IfErr result IsOutside }
     // Tables are loaded only of a database that the pages hold.
-    ensures found { IsTrue (P.Pages.tells (P.Pages.below pages.old)) → size ≡ length (P.Pages.map pages.old)
+    ensures found { IsTrue (P.Pages.tells (P.Pages.below pages.old))
+        → size ≡ length (P.Pages.map pages.old)
         → IfOk result (FindsDatabase (P.Pages.map pages.old) (P.Pages.limits (P.Pages.below pages.old)).page) }
     ensures stays { Stays P.Pages.below P.Pages.map P.Pages.count P.Pages.failures result pages.old pages.new }
     ensures not_blank { IfErr result (λ fault. fault ≡ Fault.Blank → ⊥) }

@@ -10,14 +10,15 @@ ghost use Rattle.sql_grammar.specs.Statements.{is_statement_within};
 ghost use Rattle.sql_grammar.specs.Texts.{IsStatementText};
 ghost use Rattle.sql_syntax.specs.declared.create.Create.{Create as Made};
 ghost use Rattle.sqlval.specs.Faults.{IsOrMemory};
-ghost use Rattle.catalog.specs.Listed.{defined, described, has_doubled, is_name_of, tables_of};
+ghost use Rattle.catalog.specs.Listed.{is_name_of, tables_of};
+ghost use Rattle.query_names.specs.Creating.{defined, described, has_doubled};
 ghost use Rattle.db_pages.specs.Schema.{schema_row};
 ghost use Rattle.db_pages.specs.Schema as told;
 ghost use Rattle.db_load.specs.Loading.{AreRowValues, HasParts, IsOfRow, IsSchemaFault, TellsTable, bare, kind_text};
 ghost use Rattle.db_load.specs.Reading.{AreSound, FindsParts, ReadsTold};
 
-use crate::forms::is_table_supported;
-use catalog::{Catalog, Column, Table, columns_of, is_reserved};
+use catalog::{Catalog, Column, Table, is_reserved};
+use query_names::{bind_columns, has_plain_rules};
 use record::Record;
 use sql_parser::{parse, release};
 use sql_syntax::{Create, NewObject, Statement, TableDefinition};
@@ -72,7 +73,8 @@ fn is_of_table(kind: Field<'_>) -> R<bool>
 
 /// The text of a row's field.
 fn text_of<'a>(field: Field<'a>) -> R<&'a str>
-    ensures tells { (text : List ℕ) → value_of field.entry ≡ value.Text text → IsOkAnd result (λ found. found.now ≡ text) }
+    ensures tells { (text : List ℕ) → value_of field.entry ≡ value.Text text
+        → IsOkAnd result (λ found. found.now ≡ text) }
     ensures found { IfOk result (λ text. value_of field.entry ≡ value.Text text.now) }
     ensures not_disk { IfErr result (λ fault. IsSchemaFault fault) }
 {
@@ -84,7 +86,8 @@ fn text_of<'a>(field: Field<'a>) -> R<&'a str>
 
 /// The text of a CREATE, in a row's field.
 fn sql_of<'a>(field: Field<'a>) -> R<&'a str>
-    ensures tells { (text : List ℕ) → value_of field.entry ≡ value.Text text → IsOkAnd result (λ found. found.now ≡ text) }
+    ensures tells { (text : List ℕ) → value_of field.entry ≡ value.Text text
+        → IsOkAnd result (λ found. found.now ≡ text) }
     ensures found { IfOk result (λ text. value_of field.entry ≡ value.Text text.now) }
     ensures not_disk { IfErr result (λ fault. IsSchemaFault fault) }
 {
@@ -97,8 +100,10 @@ fn sql_of<'a>(field: Field<'a>) -> R<&'a str>
 
 /// The number of the page where a tree begins: from 2 to `size`.
 fn root_of(field: Field<'_>, size: u32) -> R<u32>
-    ensures tells { (root : ℕ) → value_of field.entry ≡ value.Int (pos root) → 1 < root → root ≤ size → result ≡ Ok root }
-    ensures found { IfOk result (λ root. (value_of field.entry ≡ value.Int (pos root)) × (1 < root) × (root ≤ size)) }
+    ensures tells { (root : ℕ) → value_of field.entry ≡ value.Int (pos root) → 1 < root
+        → root ≤ size → result ≡ Ok root }
+    ensures found { IfOk result (λ root. (value_of field.entry ≡ value.Int (pos root)) × (1 < root)
+        × (root ≤ size)) }
     ensures not_disk { IfErr result (λ fault. IsSchemaFault fault) }
 {
     let Field::Int(root) = field else {
@@ -133,9 +138,11 @@ pub(crate) fn row_of<'a>(rowid: i64, row: &Record<'a>, size: u32) -> R<SchemaRow
 
 /// The statement that the text of a row is.
 pub(crate) fn statement_of(alloc: Global, sql: &str) -> R<Statement>
-    ensures tells { (statement : Parsed) → IsStatementText sql.now statement → is_statement_within statement ≡ true
+    ensures tells { (statement : Parsed) → IsStatementText sql.now statement
+        → is_statement_within statement ≡ true
         → length sql.now ≤ 65536 → IsOrMemory (λ found. found ≡ statement) result }
-    ensures found { IfOk result (λ statement. IsStatementText sql.now statement × (is_statement_within statement ≡ true)
+    ensures found { IfOk result (λ statement. IsStatementText sql.now statement
+        × (is_statement_within statement ≡ true)
         × (length sql.now ≤ 65536)) }
     ensures not_disk { IfErr result (λ fault. IsSchemaFault fault) }
 {
@@ -147,8 +154,10 @@ pub(crate) fn statement_of(alloc: Global, sql: &str) -> R<Statement>
 
 /// What a CREATE makes.
 pub(crate) fn created_by(statement: &Statement) -> R<&NewObject>
-    ensures tells { (made : Made) → statement.now ≡ parsed.Create made → IsOkAnd result (λ object. object.now ≡ made.object) }
-    ensures found { IfOk result (λ object. (made : Made) × (statement.now ≡ parsed.Create made) × (made.object ≡ object.now)) }
+    ensures tells { (made : Made) → statement.now ≡ parsed.Create made
+        → IsOkAnd result (λ object. object.now ≡ made.object) }
+    ensures found { IfOk result (λ object. (made : Made) × (statement.now ≡ parsed.Create made)
+        × (made.object ≡ object.now)) }
     ensures not_disk { IfErr result (λ fault. IsSchemaFault fault) }
 {
     match statement {
@@ -159,7 +168,8 @@ pub(crate) fn created_by(statement: &Statement) -> R<&NewObject>
 
 /// The definition of a table, which the object must be.
 fn table_in(object: &NewObject) -> R<&TableDefinition>
-    ensures tells { (definition : TableDefinition) → object.now ≡ new.Table definition → IsOkAnd result (λ found. found.now ≡ definition) }
+    ensures tells { (definition : TableDefinition) → object.now ≡ new.Table definition
+        → IsOkAnd result (λ found. found.now ≡ definition) }
     ensures found { IfOk result (λ definition. object.now ≡ new.Table definition.now) }
     ensures not_disk { IfErr result (λ fault. IsSchemaFault fault) }
 {
@@ -171,7 +181,8 @@ fn table_in(object: &NewObject) -> R<&TableDefinition>
 
 /// The definition in a CREATE TABLE.
 fn definition_in(statement: &Statement) -> R<&TableDefinition>
-    ensures tells { (made : Made) (definition : TableDefinition) → statement.now ≡ parsed.Create made
+    ensures tells { (made : Made) (definition : TableDefinition)
+        → statement.now ≡ parsed.Create made
         → made.object ≡ new.Table definition → IsOkAnd result (λ found. found.now ≡ definition) }
     ensures found { IfOk result (λ definition. (made : Made) × (statement.now ≡ parsed.Create made)
         × (made.object ≡ new.Table definition.now)) }
@@ -183,12 +194,13 @@ fn definition_in(statement: &Statement) -> R<&TableDefinition>
 /// The columns that a definition gives its table.
 fn columns_in(alloc: Global, definition: &TableDefinition) -> R<Many<Column>>
     ensures tells { (columns : List Column) → has_doubled definition.now.columns ≡ false
-        → map described columns ≡ map defined definition.now.columns → IsOrMemory (λ found. found ≡ columns) result }
+        → map described columns ≡ map defined definition.now.columns
+        → IsOrMemory (λ found. found ≡ columns) result }
     ensures found { IfOk result (λ columns. (has_doubled definition.now.columns ≡ false)
         × (map described columns ≡ map defined definition.now.columns)) }
     ensures not_disk { IfErr result (λ fault. IsSchemaFault fault) }
 {
-    match columns_of(alloc, definition) {
+    match bind_columns(alloc, definition) {
         Ok(columns) => Ok(columns),
         Err(fault) => Err(outside(fault)),
     }
@@ -200,7 +212,7 @@ fn is_of_row(definition: &TableDefinition, row: &SchemaRow<'_>) -> R<()>
     ensures found { OnOk result (IsOfRow row.now definition.now) }
     ensures not_disk { IfErr result (λ fault. IsSchemaFault fault) }
 {
-    if !is_table_supported(definition) {
+    if !has_plain_rules(definition) {
         return Err(Fault::Unsupported(Feature::StatementForm));
     }
     if !definition.name.is_same(row.name) {
@@ -220,7 +232,8 @@ fn table_made(alloc: Global, row: &SchemaRow<'_>, statement: &Statement) -> R<Ta
     ensures tells { (table : Table) (tells : TellsTable table row.now) (made : Made)
         → statement.now ≡ parsed.Create made → made.object ≡ new.Table tells.definition
         → IsOrMemory (λ found. found ≡ bare table) result }
-    ensures found { IsStatementText row.now.sql.now statement.now × (is_statement_within statement.now ≡ true)
+    ensures found { IsStatementText row.now.sql.now statement.now
+        × (is_statement_within statement.now ≡ true)
         × (length row.now.sql.now ≤ 65536)
         → IfOk result (λ table. TellsTable table row.now × (table.indexes ≡ [])) }
     ensures not_disk { IfErr result (λ fault. IsSchemaFault fault) }
@@ -240,7 +253,8 @@ fn table_made(alloc: Global, row: &SchemaRow<'_>, statement: &Statement) -> R<Ta
 
 /// The table that a row tells, under the name in its definition.
 fn table_of(alloc: Global, row: &SchemaRow<'_>) -> R<Table>
-    ensures tells { (table : Table) → TellsTable table row.now → IsOrMemory (λ found. found ≡ bare table) result }
+    ensures tells { (table : Table) → TellsTable table row.now
+        → IsOrMemory (λ found. found ≡ bare table) result }
     ensures found { IfOk result (λ table. TellsTable table row.now × (table.indexes ≡ [])) }
     ensures not_disk { IfErr result (λ fault. IsSchemaFault fault) }
 {
@@ -268,7 +282,8 @@ pub(crate) fn add_table(alloc: Global, catalog: &mut Catalog, row: &SchemaRow<'_
     ensures tells { (table : Table) → TellsTable table row.now
         → ReadsTold true (told.TableTold table) (tables_of catalog.old) (tables_of catalog.new) result }
     // What is listed is the table that the row tells.
-    ensures found { row.now.is_table ≡ true → OnOk result (FindsParts true row.now (tables_of catalog.old) (tables_of catalog.new)) }
+    ensures found { row.now.is_table ≡ true → OnOk result
+        (FindsParts true row.now (tables_of catalog.old) (tables_of catalog.new)) }
     ensures not_disk { IfErr result (λ fault. IsSchemaFault fault) }
 {
     let table = table_of(alloc, row)?;

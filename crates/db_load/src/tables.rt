@@ -44,9 +44,11 @@ fn check_index<P: Pages>(
     marks: &mut Vec<bool>,
 ) -> R<()>
     ensures checked { (map : PageMap) (size : ℕ)
-        → AreTold P.Pages.below P.Pages.tells P.Pages.limits P.Pages.map pages.old map size → CanMark map size marks.old.items
+        → AreTold P.Pages.below P.Pages.tells P.Pages.limits P.Pages.map pages.old map size
+        → CanMark map size marks.old.items
         → (rows : List TableRow) → HasRows map size table.now.root (length table.now.columns) rows
-        → Checks (HasEntries map size rows index.now) (λ owner. owner.used) marks.old.items marks.new.items result }
+        → Checks (HasEntries map size rows index.now)
+        (λ owner. owner.used) marks.old.items marks.new.items result }
     ensures long { length marks.new.items ≡ length marks.old.items }
     ensures stays { Stays P.Pages.below P.Pages.map P.Pages.count P.Pages.failures result pages.old pages.new }
 {
@@ -65,9 +67,11 @@ fn check_indexes<P: Pages>(
     marks: &mut Vec<bool>,
 ) -> R<()>
     ensures checked { (map : PageMap) (size : ℕ)
-        → AreTold P.Pages.below P.Pages.tells P.Pages.limits P.Pages.map pages.old map size → CanMark map size marks.old.items
+        → AreTold P.Pages.below P.Pages.tells P.Pages.limits P.Pages.map pages.old map size
+        → CanMark map size marks.old.items
         → (rows : List TableRow) → HasRows map size table.now.root (length table.now.columns) rows
-        → Checks (Pairwise (HasEntries map size rows) indexes.now) used_by marks.old.items marks.new.items result }
+        → Checks (Pairwise (HasEntries map size rows) indexes.now) used_by marks.old.items
+        marks.new.items result }
     ensures long { length marks.new.items ≡ length marks.old.items }
     ensures stays { Stays P.Pages.below P.Pages.map P.Pages.count P.Pages.failures result pages.old pages.new }
 {
@@ -88,7 +92,8 @@ fn check_table<P: Pages>(
     marks: &mut Vec<bool>,
 ) -> R<()>
     ensures checked { (map : PageMap) (size : ℕ)
-        → AreTold P.Pages.below P.Pages.tells P.Pages.limits P.Pages.map pages.old map size → CanMark map size marks.old.items
+        → AreTold P.Pages.below P.Pages.tells P.Pages.limits P.Pages.map pages.old map size
+        → CanMark map size marks.old.items
         → Checks (HasTrees map size table.now) used_by marks.old.items marks.new.items result }
     ensures long { length marks.new.items ≡ length marks.old.items }
     ensures stays { Stays P.Pages.below P.Pages.map P.Pages.count P.Pages.failures result pages.old pages.new }
@@ -106,8 +111,10 @@ pub(crate) fn check_tables<P: Pages>(
     marks: &mut Vec<bool>,
 ) -> R<()>
     ensures checked { (map : PageMap) (size : ℕ)
-        → AreTold P.Pages.below P.Pages.tells P.Pages.limits P.Pages.map pages.old map size → CanMark map size marks.old.items
-        → Checks (Pairwise (HasTrees map size) (shared tables.now)) pages_held marks.old.items marks.new.items result }
+        → AreTold P.Pages.below P.Pages.tells P.Pages.limits P.Pages.map pages.old map size
+        → CanMark map size marks.old.items
+        → Checks (Pairwise (HasTrees map size) (shared tables.now)) pages_held marks.old.items
+        marks.new.items result }
     ensures long { length marks.new.items ≡ length marks.old.items }
     ensures stays { Stays P.Pages.below P.Pages.map P.Pages.count P.Pages.failures result pages.old pages.new }
 {

@@ -1,11 +1,10 @@
 -- Pages store one database at most: each row of the schema table is one statement, and says one root.
-use Rattle.std.proofs.Common.{◌≡◌, ◌∙◌, refl, sym, ap, subst, ℕ, Bool, true, false, List, [], ◌∷◌, length, map, Option, Some, None}
+use Rattle.std.proofs.Common.{◌≡◌, ◌∙◌, refl, sym, ap, subst, ℕ, Bool, true, false, List, [], ◌∷◌, length, map, Some, None}
 use Rattle.std.specs.Prelude.{codes, not}
 use Rattle.std.specs.FinMap.Entries.{find}
 use Rattle.std.specs.List.{AllByRecursion}
 use Rattle.std.proofs.lemmas.Bool.{false≢true}
 use Rattle.sqlval.specs.Names.{folded}
-use Rattle.sqlval.specs.declared.affinity.Affinity.{Affinity}
 use Rattle.record.specs.Record.{DetermineValues}
 use Rattle.tree_leaf.specs.Leaf.{Entry}
 use Rattle.pages.specs.Map.{PageMap}
@@ -21,13 +20,14 @@ use Rattle.sql_syntax.specs.declared.statement.Statement.{Statement}
 use Rattle.sql_syntax.specs.declared.statement.Statement.TheVariants as statement
 use Rattle.sql_grammar.specs.Texts.{IsStatementText}
 use Rattle.catalog.specs.Database as database
-use Rattle.catalog.specs.Database.{ATable, Database, Name, name_order, object}
-use Rattle.catalog.specs.Listed.{defined, described, plain_column, plain_table}
+use Rattle.catalog.specs.Database.{ATable, Database, Name, TableColumn, name_order, object}
+use Rattle.catalog.specs.Listed.{as_column, plain_table}
 use Rattle.catalog.specs.declared.tables.Column.{Column}
 use Rattle.catalog.specs.declared.tables.Index.{Index}
 use Rattle.catalog.specs.declared.tables.Table.{Table}
 use Rattle.catalog.proofs.NamedDatabases.{one_database}
-use Rattle.query_names.specs.Checked.{meant}
+use Rattle.query_names.specs.Checked.{Checked, meant}
+use Rattle.query_names.specs.Creating.{defined, described}
 use Rattle.query_names.specs.Schema.{index_made}
 use Rattle.row_scan.specs.Rows.{IsRow, TableRow}
 use Rattle.row_scan.proofs.HeldRows.{same_rows}
@@ -76,16 +76,14 @@ rest_of a b us bs h = cc
 no_item : {A B : Type 0} (b : B) (bs : List B) → [] ≡ b ∷ bs → A
 no_item b bs h = absurd cc
 
-some_affinity : (a b : Affinity) → Some a ≡ Some b → a ≡ b
-some_affinity a b h = cc
-
+-- a column is what it is described as
 column_is : (a b : Column) → described a ≡ described b → a ≡ b
 column_is a b h =
-    let affinity = some_affinity a.affinity b.affinity (ap (λ (d : Name × Option Affinity). d.1) h) in
-    let name = ap (λ (d : Name × Option Affinity). d.0) h in
-    λ i. record { name = name i; affinity = affinity i }
+    let name : a.name ≡ b.name = ap (λ (d : Name × Checked TableColumn). d.0) h in
+    let made : as_column a ≡ as_column b = ap (λ (d : Name × Checked TableColumn). meant d.1) h in
+    λ i. record { name = name i; affinity = (made i).affinity; collation = (made i).collation; is_filled = (made i).is_filled; default = (made i).default }
 
-columns_are : (us ts : List Column) → map described us ≡ map described ts → us ≡ ts
+pub columns_are : (us ts : List Column) → map described us ≡ map described ts → us ≡ ts
 columns_are [] [] h = refl
 columns_are [] (t ∷ ts) h = no_item (described t) (map described ts) h
 columns_are (u ∷ us) [] h = no_item (described u) (map described us) (sym h)
@@ -95,7 +93,7 @@ columns_are (u ∷ us) (t ∷ ts) h =
     λ i. first i ∷ rest i
 
 abbrev plain_with : List Column → List TableRow → database.Table
-plain_with cs rows = record { columns = map plain_column cs; rowid_column = None; checks = []; rows = rows }
+plain_with cs rows = record { columns = map as_column cs; rowid_column = None; checks = []; rows = rows }
 
 is_not : (b : Bool) → not b ≡ true → b ≡ false
 is_not true h = absurd (false≢true h)

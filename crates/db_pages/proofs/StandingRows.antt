@@ -12,11 +12,12 @@ use Rattle.catalog.specs.Database.{ATable, AnIndex, Database, Name, name_order, 
 use Rattle.catalog.specs.Listed.{has_only_plain, plain_index, plain_table}
 use Rattle.catalog.specs.declared.tables.Index.{Index}
 use Rattle.catalog.specs.declared.tables.Table.{Table}
+use Rattle.query_names.proofs.CreatedTables.{listed_made}
 use Rattle.db_files.specs.Schema as listed
 use Rattle.db_files.specs.Schema.{IsSchemaEntry, IsSchemaRowOf, SchemaRow}
 use Rattle.db_pages.specs.Language.{supported_language}
 use Rattle.db_pages.specs.Schema.{IndexTold, IsIndexRow, IsTableRow, TableTold, Tells, Told}
-use Rattle.db_pages.proofs.StandingTexts.{index_is, index_not_refused, no_automatic, not_refused, plain_made, two_names}
+use Rattle.db_pages.proofs.StandingTexts.{index_is, index_not_refused, no_automatic, not_refused, two_names}
 use Rattle.db_pages.proofs.ToldObjects.{IsKept, told_name, told_object}
 
 -- what a row tells, as a row of the schema table
@@ -68,7 +69,7 @@ module _ (rows_at : ℕ → List (ℤ × List Value)) (db : Database) (only : ha
   -- the row's text makes the table
   table_said : (t : Table) (row : Entry) (tells : IsTableRow pages t row) → listed.IsTableRow supported_language db (row_told pages (TableTold t) row tells) (plain_table t (rows_at t.root))
   table_said t row tells =
-      let made = plain_made tells.definition tells.creates.1 t tells.makes.once tells.makes.columns in
+      let made = listed_made tells.definition tells.creates.1 t tells.makes.once tells.makes.columns in
       record {
         definition = tells.definition;
         kind = refl;

@@ -1,64 +1,32 @@
 -- What the CREATE of a listed table or index makes, and that nothing refuses it beside the other objects.
-use Rattle.std.proofs.Common.{◌≡◌, ◌∙◌, refl, sym, ap, ℕ, suc, ℤ, Bool, true, false, ◌&&◌, ◌||◌, ◌==◌, cond, List, [], ◌∷◌, ◌++◌, length, map, flat_map, Option, Some, None, arith}
+use Rattle.std.proofs.Common.{◌≡◌, ◌∙◌, refl, sym, ap, ℕ, ℤ, Bool, true, false, ◌&&◌, ◌||◌, cond, List, [], ◌∷◌, map, Option, Some, None}
 use Rattle.std.specs.Prelude.{is_some, not}
 use Rattle.std.specs.FinMap.Entries.{find}
-use Rattle.std.specs.List.{list_all}
 use Rattle.std.specs.Ordering.{eq_by_cmp}
 use Rattle.std.proofs.lemmas.Bool.{false≢true}
-use Rattle.std.proofs.lemmas.Bool.Decides.{nat_tests}
 use Rattle.std.proofs.lemmas.Map.Lookups.{exact_bytes}
 use Rattle.std.proofs.lemmas.Map.Views.{tells_apart}
-use Rattle.sqlval.specs.Lists.{any_twice}
 use Rattle.sqlval.specs.Names.{folded, is_same_name}
 use Rattle.sqlval.specs.Refusals.{Refusal, Exists, Misuse}
 use Rattle.sqlval.specs.declared.collation.Collation.{Collation}
 use Rattle.sqlval.specs.declared.value.Value.{Value}
-use Rattle.sql_syntax.specs.declared.create.ColumnDefinition.{ColumnDefinition}
-use Rattle.sql_syntax.specs.declared.create.ColumnRule.{ColumnRule}
 use Rattle.sql_syntax.specs.declared.create.IndexDefinition.{IndexDefinition}
 use Rattle.sql_syntax.specs.declared.create.TableDefinition.{TableDefinition}
 use Rattle.catalog.specs.Database as database
 use Rattle.catalog.specs.Database.{ATable, AnIndex, AView, ATrigger, Database, Name, Object, name_order, object, with_object}
-use Rattle.catalog.specs.Listed.{has_doubled, has_only_plain, is_reserved, plain_column, plain_index, plain_table}
+use Rattle.catalog.specs.Listed.{has_only_plain, is_reserved, plain_index, plain_table}
 use Rattle.catalog.specs.declared.tables.Index.{Index}
 use Rattle.catalog.specs.declared.tables.Table.{Table}
-use Rattle.query_names.specs.Checked.{Checked, Meant, also, faults, good, known_all, known_map, ◌and_then◌, unless}
-use Rattle.query_names.specs.Creating.{HasColumnsOf, has_no_rules}
+use Rattle.query_names.specs.Checked.{Checked, Meant, also, faults, good, known_map, ◌and_then◌, unless}
 use Rattle.query_names.specs.Schema.{create_index, create_table, index_made}
 use Rattle.query_names.specs.Scopes.{is_doubled}
-use Rattle.query_names.specs.Tables.{checks_of, column_of, keys_of, table_made, without_rows}
+use Rattle.query_names.specs.Tables.{table_made}
 use Rattle.query_names.proofs.ColumnNames.{folded_twice}
-use Rattle.query_names.proofs.CreatedTables.{known_columns}
 use Rattle.db_files.specs.Schema.{automatic_indexes}
 use Rattle.query_bind.specs.Indexed.{key_of, names_in}
 use Rattle.db_pages.specs.Language.{others}
 use Rattle.db_pages.specs.Schema.{IsIndexOf}
 use Rattle.db_pages.proofs.NamedObjects.{named_same, same_named}
-
--- ---- a definition without rules
-
-both_true : (a b : Bool) → (a && b) ≡ true → (a ≡ true) × (b ≡ true)
-both_true true b h = (refl, h)
-both_true false b h = absurd (false≢true h)
-
-no_items : {A : Type 0} (xs : List A) → (length xs == 0) ≡ true → xs ≡ []
-no_items [] h = refl
-no_items (x ∷ xs) h = absurd (false≢true (sym (some (length xs)) ∙ h))
-  where
-    some : (n : ℕ) → (suc n == 0) ≡ false
-    some n = grind (arith, nat_tests)
-
-no_join : {A : Type 0} (xs ys : List A) → xs ≡ [] → ys ≡ [] → xs ++ ys ≡ []
-no_join xs ys h k = ap (λ zs. zs ++ ys) h ∙ k
-
-no_parts : {A B : Type 0} (f : A → List B) (xs : List A) → xs ≡ [] → flat_map f xs ≡ []
-no_parts f xs h = ap (flat_map f) h
-
-no_rules_among : {A : Type 0} (f : ColumnDefinition → ColumnRule → List A) (cs : List ColumnDefinition) → list_all (λ c. length c.rules == 0) cs ≡ true → flat_map (λ c. flat_map (f c) c.rules) cs ≡ []
-no_rules_among f [] plain = refl
-no_rules_among f (c ∷ cs) plain =
-    let rules = both_true (length c.rules == 0) (list_all (λ c. length c.rules == 0) cs) plain in
-    no_join (flat_map (f c) c.rules) (flat_map (λ c. flat_map (f c) c.rules) cs) (no_parts (f c) c.rules (no_items c.rules rules.0)) (no_rules_among f cs rules.1)
 
 -- ---- texts that aren't refused
 
@@ -71,36 +39,6 @@ then_good k x f e = ap (λ k. k and_then f) e ∙ plain (f x)
 unless_false : {A : Type 0} (b : Bool) (r : Refusal) (k : Checked A) → b ≡ false → unless b r k ≡ k
 unless_false true r k h = absurd (false≢true (sym h))
 unless_false false r (Meant x ss) h = refl
-
-none_known : {A B : Type 0} (f : A → Checked B) (xs : List A) → xs ≡ [] → known_all (map f xs) ≡ good []
-none_known f xs h = ap (λ xs. known_all (map f xs)) h
-
-none_twice : {A : Type 0} (same : A → A → Bool) (xs : List A) → xs ≡ [] → any_twice same xs ≡ false
-none_twice same xs h = ap (any_twice same) h
-
-module _ (d : TableDefinition) (plain : has_no_rules d ≡ true) where
-  no_table_rules : d.rules ≡ []
-  no_table_rules = no_items d.rules (both_true (length d.rules == 0) (list_all (λ c. length c.rules == 0) d.columns) plain).0
-
-  no_column_rules : list_all (λ c. length c.rules == 0) d.columns ≡ true
-  no_column_rules = (both_true (length d.rules == 0) (list_all (λ c. length c.rules == 0) d.columns) plain).1
-
-  no_keys : keys_of d ≡ []
-  no_keys = no_join _ _ (no_rules_among _ d.columns no_column_rules) (no_parts _ d.rules no_table_rules)
-
-  no_checks : checks_of d ≡ []
-  no_checks = no_join _ _ (no_rules_among _ d.columns no_column_rules) (no_parts _ d.rules no_table_rules)
-
-  -- its CREATE makes the table with its columns, and no indexes
-  pub plain_made : (t : Table) → has_doubled d.columns ≡ false → HasColumnsOf d t → table_made d ≡ good (plain_table t [], [])
-  plain_made t once same =
-      unless_false (has_doubled d.columns) Misuse _ once
-      ∙ unless_false _ Misuse _ (none_twice _ (keys_of d) no_keys)
-      ∙ unless_false _ Misuse _ (none_twice _ (keys_of d) no_keys)
-      ∙ then_good (known_all (map column_of d.columns)) (map plain_column t.columns) _ (known_columns d.columns t.columns no_column_rules same)
-      ∙ then_good _ [] _ (none_known _ (checks_of d) no_checks)
-      ∙ then_good _ [] _ (none_known _ (keys_of d) no_keys)
-      ∙ ap (λ es. good (without_rows (map plain_column t.columns) None es, [])) no_checks
 
 -- ---- beside the others
 

@@ -1,56 +1,68 @@
 -- The table that a row of the schema table tells.
-use Rattle.std.proofs.Common.{◌≡◌, refl, sym, ap, subst, ◌∙◌, ℕ, ℤ, pos, Bool, true, false, ◌&&◌, ◌||◌, cond, List, [], ◌∷◌, map, Option, Some, None}
+use Rattle.std.proofs.Common.{◌≡◌, refl, sym, ap, subst, ◌∙◌, ℕ, ℤ, pos, Bool, true, false, ◌&&◌, cond, List, [], ◌∷◌, ◌++◌, map, Some}
 use Rattle.std.proofs.lemmas.Bool.{false≢true}
 use Rattle.std.specs.FinMap.Entries.{find}
 use Rattle.std.specs.List.{list_any}
 use Rattle.std.specs.Ordering.{eq_by_cmp}
-use Rattle.std.specs.Prelude.{codes, filter, is_none, unwrap_or}
+use Rattle.std.specs.Prelude.{codes, filter}
 use Rattle.sqlval.specs.Affinity.{declared_affinity}
 use Rattle.sqlval.specs.Lists.{sorted}
 use Rattle.sqlval.specs.Names.{folded, is_same_name}
-use Rattle.sqlval.specs.declared.affinity.Affinity.TheVariants as kind
+use Rattle.sqlval.specs.declared.affinity.Affinity.{Affinity}
 use Rattle.sqlval.specs.declared.collation.Collation.{Collation}
+use Rattle.sqlval.specs.declared.value.Value.TheVariants.{Null}
 use Rattle.sql_syntax.specs.declared.create.ColumnDefinition.{ColumnDefinition}
 use Rattle.sql_syntax.specs.declared.create.NewObject.TheVariants as new
 use Rattle.sql_syntax.specs.declared.create.TableDefinition.{TableDefinition}
 use Rattle.catalog.specs.Database as database
-use Rattle.catalog.specs.Database.{Name, Database, Object, ATable, AnIndex, AView, ATrigger, Index, name_order, object}
-use Rattle.catalog.specs.Listed.{defined, described, is_real, plain_table, type_text}
+use Rattle.catalog.specs.Database.{Name, Database, Object, AnIndex, Index, TableColumn, name_order}
+use Rattle.catalog.specs.Listed.{as_column, plain_table, type_text}
 use Rattle.catalog.specs.declared.tables.Column.{Column}
 use Rattle.catalog.specs.declared.tables.Table.{Table}
-use Rattle.query_names.specs.Checked.{good, meant}
+use Rattle.query_names.specs.Checked.{Checked, Meant, both, faults, good, known_all, meant}
+use Rattle.query_names.specs.Creating.{defined, described, has_plain_rules}
 use Rattle.query_names.specs.Schema.{automatic}
-use Rattle.query_names.specs.Tables.{table_made}
+use Rattle.query_names.specs.Tables.{affinity_known, collation_of, column_of, default_of, is_not_null, last_of, table_made}
 use Rattle.query_names.proofs.CreatedTables.{IsAccepted, accepted, listed_made}
 use Rattle.db_files.specs.Schema.{SchemaRow, IsTableRow, automatic_indexes}
 use Rattle.db_pages.specs.Language.{others, supported_language}
 use Rattle.db_pages.specs.Schema.{CreatesSupported}
-use Rattle.db_pages.specs.Forms.{is_table_supported}
 use Rattle.db_pages.proofs.StoredNames.{both_true, same_named, same_some, some_is_none}
 
 -- ---- the table of a definition
 
--- the column of a definition, whose affinity is known
+-- a column, under its name as it is written
+abbrev pub listed_as : Name → TableColumn → Column
+listed_as n c = record { name = n; affinity = c.affinity; collation = c.collation; is_filled = c.is_filled; default = c.default }
+
+-- the listed column of a definition
 abbrev pub column_for : ColumnDefinition → Column
-column_for c = record { name = c.name; affinity = unwrap_or (declared_affinity (type_text c)) kind.Blob }
+column_for c = listed_as c.name (meant (column_of c))
 
 -- the table of a definition, whose tree begins at this page, and whose row has this rowid
 abbrev pub table_of : TableDefinition → ℕ → ℤ → Table
 table_of d root rowid = record { name = d.name; columns = map column_for d.columns; indexes = []; root = root; rowid = rowid }
 
-known_is : {A : Type 0} (x : Option A) (other : A) → is_none x ≡ false → Some (unwrap_or x other) ≡ x
-known_is (Some x) other known = refl
-known_is None other known = absurd (false≢true (sym known))
+no_part : {A : Type 0} (xs ys : List A) → xs ++ ys ≡ [] → (xs ≡ []) × (ys ≡ [])
+no_part [] ys none = (refl, none)
+no_part (x ∷ xs) ys none = absurd cc
 
-neither : (a b : Bool) → (a || b) ≡ false → (a ≡ false) × (b ≡ false)
-neither true b h = absurd (false≢true (sym h))
-neither false b h = (refl, h)
+neither : {A B C : Type 0} (f : A → B → C) (k : Checked A) (l : Checked B) → faults (both f k l) ≡ [] → (faults k ≡ []) × (faults l ≡ [])
+neither f (Meant x rs) (Meant y ss) none = no_part rs ss none
 
-described_so : (cs : List ColumnDefinition) → list_any is_real cs ≡ false → map described (map column_for cs) ≡ map defined cs
+-- what a column's affinity and collation make with the rest of its definition
+abbrev made_with : ColumnDefinition → Affinity → Collation → TableColumn
+made_with c a k = record { name = folded c.name; affinity = a; collation = k; is_filled = list_any is_not_null c.rules; default = last_of default_of Null c.rules }
+
+-- where nothing is refused of them, that is the column that is listed
+column_so : (c : ColumnDefinition) (a : Checked Affinity) (k : Checked Collation) → faults (both (made_with c) a k) ≡ [] → good (as_column (listed_as c.name (meant (both (made_with c) a k)))) ≡ both (made_with c) a k
+column_so c (Meant a rs) (Meant k ss) none = ap (λ ts. Meant (made_with c a k) ts) (sym none)
+
+described_so : (cs : List ColumnDefinition) → faults (known_all (map column_of cs)) ≡ [] → map described (map column_for cs) ≡ map defined cs
 described_so [] known = refl
 described_so (c ∷ cs) known =
-    let parts = neither (is_real c) (list_any is_real cs) known in
-    ap (λ a. (c.name, a) ∷ map described (map column_for cs)) (known_is (declared_affinity (type_text c)) kind.Blob parts.0)
+    let parts = neither (λ (x : TableColumn) xs. x ∷ xs) (column_of c) (known_all (map column_of cs)) known in
+    ap (λ made. (c.name, made) ∷ map described (map column_for cs)) (column_so c (affinity_known (declared_affinity (type_text c))) (collation_of c.rules) parts.0)
     ∙ ap (λ ds. defined c ∷ ds) (described_so cs parts.1)
 
 -- ---- what its row says
@@ -73,7 +85,7 @@ abbrev Made : Type 0
 Made = database.Table × List (List (ℕ × Collation))
 
 -- what the definition makes, both ways
-both_made : (d : TableDefinition) (t : database.Table) (keys : List (List (ℕ × Collation))) (root : ℕ) (rowid : ℤ) → is_table_supported d ≡ true → IsAccepted d → table_made d ≡ good (record t { rows = [] }, keys)
+both_made : (d : TableDefinition) (t : database.Table) (keys : List (List (ℕ × Collation))) (root : ℕ) (rowid : ℤ) → has_plain_rules d ≡ true → IsAccepted d → table_made d ≡ good (record t { rows = [] }, keys)
     → ◌≡◌ {A = Made} (plain_table (table_of d root rowid) [], []) (record t { rows = [] }, keys)
 both_made d t keys root rowid plain is made =
     ap (meant {A = Made}) (sym (listed_made d plain (table_of d root rowid) is.once (described_so d.columns is.known)) ∙ made)

@@ -15,7 +15,7 @@ use Rattle.tree_index.specs.Tree.{IsIndexTree}
 use Rattle.index_entries.specs.Entries.{Columns, collations, entries_of_rows}
 use Rattle.catalog.specs.Database as database
 use Rattle.catalog.specs.Database.{Name, Database, Object, ATable, AnIndex, AView, ATrigger, name_order, object}
-use Rattle.catalog.specs.Listed.{plain_column, plain_table}
+use Rattle.catalog.specs.Listed.{as_column, plain_table}
 use Rattle.catalog.specs.Rows.{are_rows, holds_rows, is_in_order, is_row}
 use Rattle.catalog.specs.declared.tables.Index.{Index}
 use Rattle.catalog.specs.declared.tables.Table.{Table}
@@ -145,7 +145,7 @@ module _ (pages : PageMap) (size : ℕ) (db : Database) (in_order : is_in_order 
   fit_rows = found_among (λ o. holds_rows o ≡ true) db (folded row.name) (ATable t) (all_hold db (second_of _ (list_all (λ o. holds_rows o.1) db) in_order)) found
 
   wide : length t.columns ≡ length its_listing.table.columns
-  wide = ap (λ (x : database.Table). length x.columns) made ∙ length-map its_listing.table.columns plain_column
+  wide = ap (λ (x : database.Table). length x.columns) made ∙ length-map its_listing.table.columns as_column
 
   pub is_listing : IsListing pages size db its_listing
   is_listing = record {

@@ -15,11 +15,11 @@ use Rattle.sql_syntax.specs.declared.statement.Statement.TheVariants as statemen
 use Rattle.sql_grammar.specs.NewObjects.{is_object_within}
 use Rattle.sql_grammar.specs.Texts.{IsStatementText}
 use Rattle.catalog.specs.Database.{Name}
-use Rattle.catalog.specs.Listed.{has_doubled, is_reserved}
+use Rattle.catalog.specs.Listed.{is_reserved}
 use Rattle.catalog.specs.declared.tables.Index.{Index}
 use Rattle.catalog.specs.declared.tables.Table.{Table}
 use Rattle.query_names.specs.Checked.{good}
-use Rattle.query_names.specs.Creating.{HasColumnsOf}
+use Rattle.query_names.specs.Creating.{HasColumnsOf, has_doubled}
 use Rattle.query_names.specs.Scopes.{is_doubled}
 use Rattle.query_bind.specs.Indexed.{key_of, keys_known, names_in}
 use Rattle.db_pages.specs.Forms.{is_object_supported}

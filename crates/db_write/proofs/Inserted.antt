@@ -1,5 +1,5 @@
 -- What inserting rows with their entries comes to.
-use Rattle.std.proofs.Common.{◌≡◌, ◌⊎◌, inl, inr, refl, sym, subst, ◌∙◌, ℕ, List, [], ◌∷◌, ◌++◌, map, true, Option, Ok, Err}
+use Rattle.std.proofs.Common.{◌≡◌, ◌⊎◌, inl, inr, sym, subst, ◌∙◌, ℕ, List, [], ◌∷◌, ◌++◌, map, true, Option, Ok, Err}
 use Rattle.std.specs.Prelude.{Result, IsErrAnd, MatchResult, ⊤}
 use Rattle.std.specs.Global.{Vec}
 use Rattle.sqlval.specs.Refusals.{Answer}
@@ -29,20 +29,20 @@ same_rows a b e = cc
 
 module _ (old mid : PageMap) (size : ℕ) (table : Table) (places : List (Option ℕ)) (given : List (List Value)) where
   -- no row was put
-  pub none_put : (fault : Fault) (result : Result ⊤ Fault) → IsErrAnd result (λ e. e ≡ fault) → PutsRows {X = ⊤} old mid size table.root table.columns places given (Err fault) → InsertsInTrees old mid size table places given result
+  pub none_put : (fault : Fault) (result : Result ⊤ Fault) → IsErrAnd result (λ e. e ≡ fault) → PutsRows {X = ⊤} old mid size table.root table places given (Err fault) → InsertsInTrees old mid size table places given result
   none_put fault (Ok done) same puts = absurd same
   none_put fault (Err e) same puts = λ schema before after rows sized is_root among fit. (
       let s = rows_among old size schema before table rows after among sized is_root in
       subst (λ (f : Fault). IsRefusedInsert table places given rows f) (sym same) (by rows (puts rows s.entries s.used s.free s.stands s.each)))
     where
-      by : (rows : List TableRow) → IsPutRefusal table.columns places given rows fault → IsRefusedInsert table places given rows fault
+      by : (rows : List TableRow) → IsPutRefusal table places given rows fault → IsRefusedInsert table places given rows fault
       by rows (inl outside) = inl outside
       by rows (inr (inl as_rows)) = inr (inl as_rows)
       by rows (inr (inr long)) = inr (inr (record { is = long.is; added = long.added; answer = long.answer; long = λ both. long.long both.0 }))
 
   -- rows were put, and their entries are next
-  pub rows_inserted : (new : PageMap) (them : Vec stored.TableRow) (result : Result ⊤ Fault) → PutsRows {X = ⊤} old mid size table.root table.columns places given (Ok tt)
-      → TellsAdded old size table.root table.columns places given (Ok them) → AddsToIndexes mid new size table.indexes (map row_in them.items) result → InsertsInTrees old new size table places given result
+  pub rows_inserted : (new : PageMap) (them : Vec stored.TableRow) (result : Result ⊤ Fault) → PutsRows {X = ⊤} old mid size table.root table places given (Ok tt)
+      → TellsAdded old size table.root table places given (Ok them) → AddsToIndexes mid new size table.indexes (map row_in them.items) result → InsertsInTrees old new size table places given result
   rows_inserted new them result puts tells adds schema before after rows sized is_root among fit =
       by result (subst (λ (more : List TableRow). AddsToIndexes mid new size table.indexes more result) (sym same) adds rows apart schema (before ++ rows_tree table.root put.entries put.becomes.now_used ∷ []) after sized is_root
       (indexes_stand old mid size schema before table rows after s put.entries put.becomes))
@@ -50,14 +50,14 @@ module _ (old mid : PageMap) (size : ℕ) (table : Table) (places : List (Option
       s : RowsStand old size schema before table rows after
       s = rows_among old size schema before table rows after among sized is_root
 
-      put : ArePutIn old mid size table.root table.columns places given rows s.used s.free
+      put : ArePutIn old mid size table.root table places given rows s.used s.free
       put = puts rows s.entries s.used s.free s.stands s.each
 
       same : put.added ≡ map row_in them.items
       same = same_rows put.added (map row_in them.items) (sym put.answer ∙ tells rows s.stands.free_are.whole (has_rows old size schema before table rows after s))
 
       fits : are_rows (plain_table table (rows ++ put.added)) ≡ true
-      fits = put.fit table refl fit
+      fits = put.fit fit
 
       apart : AreApart (rows ++ put.added)
       apart = fit_apart table (rows ++ put.added) fits

@@ -14,7 +14,7 @@ use Rattle.pages.specs.Map.{PageMap}
 use Rattle.tree_page.specs.Cells.{Pairwise}
 use Rattle.tree_index.specs.Tree.{IsIndexTree}
 use Rattle.db_layout.specs.Layout.{HoldsUnder, IsTree, Owner}
-use Rattle.catalog.specs.Listed.{plain_column, plain_table}
+use Rattle.catalog.specs.Listed.{as_column, plain_table}
 use Rattle.catalog.specs.Rows.{are_rows, is_row, is_value}
 use Rattle.catalog.specs.declared.tables.Index.{Index}
 use Rattle.catalog.specs.declared.tables.Table.{Table}
@@ -167,7 +167,7 @@ rest_of P (x ∷ front) back all = rest_of P front back all.1
 
 word_of : (table : Table) (rows : List TableRow) (row : TableRow) → is_row (plain_table table rows) row ≡ true → is_word row.0 ≡ true
 word_of table rows row is =
-    let long = length row.1 == length (map plain_column table.columns) in
+    let long = length row.1 == length (map as_column table.columns) in
     let stored = list_all is_value row.1 in
     left_of (is_word row.0) long (left_of (is_word row.0 && long) stored (left_of (is_word row.0 && long && stored) true is))
 

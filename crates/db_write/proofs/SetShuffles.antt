@@ -1,16 +1,15 @@
 -- What SET leaves of a table's rows: those that aren't meant stay, and what the others become comes.
 use Rattle.std.proofs.Common.{◌≡◌, refl, sym, ap, subst, ◌∙◌, ℕ, ℤ, Bool, true, false, cond, not, filter, List, [], ◌∷◌, map, Option, Some, None, if◌then◌else◌, Ok, Err}
 use Rattle.sqlval.specs.Refusals.{Answer, Refusal, ◌then◌, all_answers}
-use Rattle.sqlval.specs.declared.value.Value.{Value}
-use Rattle.catalog.specs.declared.tables.Column.{Column}
+use Rattle.catalog.specs.declared.tables.Table.{Table}
 use Rattle.query_terms.specs.Terms.{Term}
 use Rattle.row_scan.specs.Rows.{TableRow}
 use Rattle.row_scan.specs.Sources.{as_source}
 use Rattle.row_change.specs.Choosing.{is_chosen, tested}
 use Rattle.row_change.specs.Meaning.{chosen_or_all}
-use Rattle.row_change.specs.Setting.{row_set, rows_changed, rows_meant_set, rows_set, values_set}
+use Rattle.row_change.specs.Setting.{row_set, rows_changed, rows_meant_set, rows_set}
 use Rattle.index_entries.specs.Replacing.{rowids}
-use Rattle.row_change.proofs.Replaced.{made}
+use Rattle.row_change.proofs.Replaced.{made, set_parts}
 use Rattle.row_change.proofs.SetTrees.{changed_known, meant_by}
 use Rattle.db_write.proofs.Shuffling.{Shuffles, no_rows, one_comes, one_stays}
 
@@ -48,56 +47,52 @@ parts_of (Ok x) (Ok xs) all e = record { row = x; more = xs; first_is = refl; mo
 parts_of (Ok x) (Err r) all e = absurd cc
 parts_of (Err r) b all e = absurd cc
 
-module _ (columns : List Column) (sets : List (ℕ × Term)) (is_meant : TableRow → Bool) where
+module _ (table : Table) (sets : List (ℕ × Term)) (is_meant : TableRow → Bool) where
   abbrev stay : List TableRow → List TableRow
   stay rows = filter (λ row. not (is_meant row)) rows
 
-  set_shuffles : (rows come now : List TableRow) → made columns sets is_meant rows ≡ Ok come → rows_meant_set columns sets is_meant rows ≡ Ok now → Shuffles (filter (λ row. not (is_meant row)) rows) come now
+  set_shuffles : (rows come now : List TableRow) → made table sets is_meant rows ≡ Ok come → rows_meant_set table sets is_meant rows ≡ Ok now → Shuffles (filter (λ row. not (is_meant row)) rows) come now
   set_shuffles [] come now e h = subst (λ (xs : List TableRow). Shuffles [] xs now) (same_rows [] come e) (subst (λ (xs : List TableRow). Shuffles [] [] xs) (same_rows [] now h) no_rows)
   set_shuffles (r ∷ rows) come now e h = by (is_meant r) e h (set_shuffles rows)
     where
-      by : (b : Bool) → all_answers (map (row_set columns sets) (cond b (r ∷ filter is_meant rows) (filter is_meant rows))) ≡ Ok come
-          → ((if b then row_set columns sets r else Ok r) then λ x. rows_meant_set columns sets is_meant rows then λ xs. Ok (x ∷ xs)) ≡ Ok now
-          → ((more after : List TableRow) → made columns sets is_meant rows ≡ Ok more → rows_meant_set columns sets is_meant rows ≡ Ok after → Shuffles (stay rows) more after)
+      by : (b : Bool) → all_answers (map (row_set table sets) (cond b (r ∷ filter is_meant rows) (filter is_meant rows))) ≡ Ok come
+          → ((if b then row_set table sets r else Ok r) then λ x. rows_meant_set table sets is_meant rows then λ xs. Ok (x ∷ xs)) ≡ Ok now
+          → ((more after : List TableRow) → made table sets is_meant rows ≡ Ok more → rows_meant_set table sets is_meant rows ≡ Ok after → Shuffles (stay rows) more after)
           → Shuffles (cond (not b) (r ∷ stay rows) (stay rows)) come now
       by true e h on =
-          let a = parts_of (row_set columns sets r) (made columns sets is_meant rows) come e in
-          let b = parts_of (row_set columns sets r) (rows_meant_set columns sets is_meant rows) now h in
+          let a = parts_of (row_set table sets r) (made table sets is_meant rows) come e in
+          let b = parts_of (row_set table sets r) (rows_meant_set table sets is_meant rows) now h in
           subst (λ (xs : List TableRow). Shuffles (stay rows) xs now) a.are
           (subst (λ (xs : List TableRow). Shuffles (stay rows) (a.row ∷ a.more) xs) (ap (λ (x : TableRow). x ∷ b.more) (same_row a.row b.row (sym a.first_is ∙ b.first_is)) ∙ b.are)
           (one_comes a.row (on a.more b.more a.more_is b.more_is)))
       by false e h on =
-          let b = parts_of (Ok r) (rows_meant_set columns sets is_meant rows) now h in
+          let b = parts_of (Ok r) (rows_meant_set table sets is_meant rows) now h in
           subst (λ (xs : List TableRow). Shuffles (r ∷ stay rows) come xs) (ap (λ (x : TableRow). x ∷ b.more) (same_row r b.row b.first_is) ∙ b.are) (one_stays r (on come b.more e b.more_is))
 
-module _ (columns : List Column) (sets : List (ℕ × Term)) (c : Option Term) where
+module _ (table : Table) (sets : List (ℕ × Term)) (c : Option Term) where
   -- what is answered, among the rows that SET leaves
-  pub changed_shuffle : (rows come now : List TableRow) → rows_changed columns sets c (map as_source rows) ≡ Ok come → rows_set columns sets c rows ≡ Ok now → Shuffles (filter (λ row. not (meant_by c row)) rows) come now
+  pub changed_shuffle : (rows come now : List TableRow) → rows_changed table sets c (map as_source rows) ≡ Ok come → rows_set table sets c rows ≡ Ok now → Shuffles (filter (λ row. not (meant_by c row)) rows) come now
   changed_shuffle rows come now e h =
-      let known = changed_known columns sets c rows come e in
-      set_shuffles columns sets (meant_by c) rows come now known.0 (sym known.1 ∙ h)
+      let known = changed_known table sets c rows come e in
+      set_shuffles table sets (meant_by c) rows come now known.0 (sym known.1 ∙ h)
 
 -- ---- rowids
 
-module _ (columns : List Column) (sets : List (ℕ × Term)) where
+module _ (table : Table) (sets : List (ℕ × Term)) where
   -- a row that is set keeps its rowid
-  row_kept : (row now : TableRow) → row_set columns sets row ≡ Ok now → row.0 ≡ now.0
-  row_kept row now e = by (values_set columns sets (as_source row)) e
-    where
-      by : (a : Answer (List Value)) → (a then λ values. given_row (row.0, values)) ≡ Ok now → row.0 ≡ now.0
-      by (Ok values) h = ap (λ (r : TableRow). r.0) (same_row (row.0, values) now h)
-      by (Err r) h = absurd cc
+  row_kept : (row now : TableRow) → row_set table sets row ≡ Ok now → row.0 ≡ now.0
+  row_kept row now e = sym (set_parts table sets row now e).0
 
-  all_kept : (rows come : List TableRow) → all_answers (map (row_set columns sets) rows) ≡ Ok come → rowids rows ≡ rowids come
+  all_kept : (rows come : List TableRow) → all_answers (map (row_set table sets) rows) ≡ Ok come → rowids rows ≡ rowids come
   all_kept [] come e = ap rowids (same_rows [] come e)
   all_kept (row ∷ rows) come e =
-      let p = parts_of (row_set columns sets row) (all_answers (map (row_set columns sets) rows)) come e in
+      let p = parts_of (row_set table sets row) (all_answers (map (row_set table sets) rows)) come e in
       ap (λ (n : ℤ). n ∷ rowids rows) (row_kept row p.row p.first_is) ∙ ap (λ (ns : List ℤ). p.row.0 ∷ ns) (all_kept rows p.more p.more_is) ∙ ap rowids p.are
 
 -- those that are meant keep their rowids
-pub rowids_kept : (columns : List Column) (sets : List (ℕ × Term)) (c : Option Term) (rows come : List TableRow) → rows_changed columns sets c (map as_source rows) ≡ Ok come
+pub rowids_kept : (table : Table) (sets : List (ℕ × Term)) (c : Option Term) (rows come : List TableRow) → rows_changed table sets c (map as_source rows) ≡ Ok come
     → rowids (filter (meant_by c) rows) ≡ rowids come
-rowids_kept columns sets c rows come e = all_kept columns sets (filter (meant_by c) rows) come (changed_known columns sets c rows come e).0
+rowids_kept table sets c rows come e = all_kept table sets (filter (meant_by c) rows) come (changed_known table sets c rows come e).0
 
 -- ---- the rows that are meant
 
@@ -113,10 +108,10 @@ meant_are (Some c) rows gone e = by (all_answers (map (tested c) rows)) e
     by (Ok tests) h = same_rows (filter (is_chosen c) rows) gone h
     by (Err r) h = absurd (not_given r gone h)
 
-pub meant_refused : (columns : List Column) (sets : List (ℕ × Term)) (c : Option Term) (rows : List TableRow) (r : Refusal) → chosen_or_all c rows ≡ Err r → rows_set columns sets c rows ≡ Err r
-meant_refused columns sets None rows r e = absurd (no_rows_refused rows r e)
-meant_refused columns sets (Some c) rows r e = by (all_answers (map (tested c) rows)) e
+pub meant_refused : (table : Table) (sets : List (ℕ × Term)) (c : Option Term) (rows : List TableRow) (r : Refusal) → chosen_or_all c rows ≡ Err r → rows_set table sets c rows ≡ Err r
+meant_refused table sets None rows r e = absurd (no_rows_refused rows r e)
+meant_refused table sets (Some c) rows r e = by (all_answers (map (tested c) rows)) e
   where
-    by : (a : Answer (List (Option Bool))) → (a then λ tests. given_rows (filter (is_chosen c) rows)) ≡ Err r → (a then λ tests. rows_meant_set columns sets (is_chosen c) rows) ≡ Err r
+    by : (a : Answer (List (Option Bool))) → (a then λ tests. given_rows (filter (is_chosen c) rows)) ≡ Err r → (a then λ tests. rows_meant_set table sets (is_chosen c) rows) ≡ Err r
     by (Ok tests) h = absurd (no_rows_refused (filter (is_chosen c) rows) r h)
     by (Err s) h = ap (λ (x : Refusal). Err x) (same_refusal s r h)

@@ -1,5 +1,5 @@
 -- What updating rows with their entries comes to.
-use Rattle.std.proofs.Common.{◌≡◌, ◌⊎◌, ◌∙◌, inl, inr, refl, sym, ap, subst, ℕ, true, not, filter, List, [], ◌∷◌, ◌++◌, length, map, Option, Ok, Err}
+use Rattle.std.proofs.Common.{◌≡◌, ◌⊎◌, ◌∙◌, inl, inr, sym, ap, subst, ℕ, true, not, filter, List, [], ◌∷◌, ◌++◌, length, map, Option, Ok, Err}
 use Rattle.std.specs.Prelude.{Result, IsErrAnd, MatchResult, ⊤}
 use Rattle.std.specs.Global.{Vec}
 use Rattle.sqlval.specs.Faults.{IsOutside}
@@ -58,28 +58,28 @@ module _ (old mid : PageMap) (size : ℕ) (table : Table) (c : Option Term) (set
       where
         by : (rows : List TableRow) → IsRefusedBy (chosen_or_all c rows) fault → IsRefusedUpdate table c sets rows fault
         by rows (inl memory) = inl (inl (inl memory))
-        by rows (inr e) = inr (inl (meant_refused table.columns sets c rows (refusal_of fault) e))
+        by rows (inr e) = inr (inl (meant_refused table sets c rows (refusal_of fault) e))
 
     -- no row is set
-    pub none_set : (fault : Fault) (result : Result ⊤ Fault) → IsErrAnd result (λ e. e ≡ fault) → SetsRows {X = ⊤} old mid size table.root table.columns sets c found (Err fault) → UpdatesInTrees old mid size table c sets result
+    pub none_set : (fault : Fault) (result : Result ⊤ Fault) → IsErrAnd result (λ e. e ≡ fault) → SetsRows {X = ⊤} old mid size table.root table sets c found (Err fault) → UpdatesInTrees old mid size table c sets result
     none_set fault (Ok done) same sets_so = absurd same
     none_set fault (Err e) same sets_so = λ schema before after rows sized is_root among fit. (
         let s = rows_among old size schema before table rows after among sized is_root in
         subst (λ (f : Fault). IsRefusedUpdate table c sets rows f) (sym same) (by rows (sets_so rows s.entries s.used s.free s.stands s.each (loads schema before after rows sized is_root among fit))))
       where
-        by : (rows : List TableRow) → IsSetRefusal table.columns sets c rows fault → IsRefusedUpdate table c sets rows fault
+        by : (rows : List TableRow) → IsSetRefusal table sets c rows fault → IsRefusedUpdate table c sets rows fault
         by rows (inl outside) = inl outside
         by rows (inr (inl e)) = inr (inl e)
         by rows (inr (inr long)) = inr (inr (record { is = long.is; now = long.now; answer = long.answer; long = λ both. long.long both.0 }))
 
     -- rows are set; then the indexes follow
-    module _ (sets_so : SetsRows {X = ⊤} old mid size table.root table.columns sets c found (Ok tt)) (schema : Owner) (before after : List Owner) (rows : List TableRow) (s : RowsStand old size schema before table rows after)
+    module _ (sets_so : SetsRows {X = ⊤} old mid size table.root table sets c found (Ok tt)) (schema : Owner) (before after : List Owner) (rows : List TableRow) (s : RowsStand old size schema before table rows after)
         (enough : AreEnough c found rows) (fit : are_rows (plain_table table rows) ≡ true) where
-      set : AreSetIn old mid size table.root table.columns sets c rows s.used s.free
+      set : AreSetIn old mid size table.root table sets c rows s.used s.free
       set = sets_so rows s.entries s.used s.free s.stands s.each enough
 
       fits : are_rows (plain_table table set.now) ≡ true
-      fits = set.fit table refl fit
+      fits = set.fit fit
 
       abbrev Before : List Owner
       Before = before ++ rows_tree table.root set.entries set.becomes.now_used ∷ []
@@ -95,7 +95,7 @@ module _ (old mid : PageMap) (size : ℕ) (table : Table) (c : Option Term) (set
       }
 
     -- of a table without indexes
-    pub bare_set : length table.indexes ≡ 0 → SetsRows {X = ⊤} old mid size table.root table.columns sets c found (Ok tt) → UpdatesInTrees old mid size table c sets (Ok tt)
+    pub bare_set : length table.indexes ≡ 0 → SetsRows {X = ⊤} old mid size table.root table sets c found (Ok tt) → UpdatesInTrees old mid size table c sets (Ok tt)
     bare_set bare sets_so schema before after rows sized is_root among fit =
         let s = rows_among old size schema before table rows after among sized is_root in
         let enough = loads schema before after rows sized is_root among fit in
@@ -103,8 +103,8 @@ module _ (old mid : PageMap) (size : ℕ) (table : Table) (c : Option Term) (set
         (no_index mid size schema _ table.indexes rows (set sets_so schema before after rows s enough fit).now after sized is_root bare (stand sets_so schema before after rows s enough fit))
 
     -- of a table with indexes
-    module _ (gone come : Vec stored.TableRow) (means : MeansRows c found (Ok gone)) (sets_so : SetsRows {X = ⊤} old mid size table.root table.columns sets c found (Ok tt))
-        (tells : TellsChanged table.columns sets c found (Ok come)) where
+    module _ (gone come : Vec stored.TableRow) (means : MeansRows c found (Ok gone)) (sets_so : SetsRows {X = ⊤} old mid size table.root table sets c found (Ok tt))
+        (tells : TellsChanged table sets c found (Ok come)) where
       module _ (new : PageMap) (schema : Owner) (before after : List Owner) (rows : List TableRow) (sized : IsPageSize size) (is_root : schema.root ≡ 1) (s : RowsStand old size schema before table rows after)
           (enough : AreEnough c found rows) (fit : are_rows (plain_table table rows) ≡ true) where
         abbrev stay : List TableRow
@@ -123,10 +123,10 @@ module _ (old mid : PageMap) (size : ℕ) (table : Table) (c : Option Term) (set
         went = subst (λ (rs : List TableRow). Shuffles stay rs rows) gone_are (parted (meant_by c) rows)
 
         came : Shuffles stay (map row_in come.items) now
-        came = changed_shuffle table.columns sets c rows (map row_in come.items) now (tells rows enough) (set sets_so schema before after rows s enough fit).answer
+        came = changed_shuffle table sets c rows (map row_in come.items) now (tells rows enough) (set sets_so schema before after rows s enough fit).answer
 
         same_rowids : rowids (map row_in gone.items) ≡ rowids (map row_in come.items)
-        same_rowids = sym (ap rowids gone_are) ∙ rowids_kept table.columns sets c rows (map row_in come.items) (tells rows enough)
+        same_rowids = sym (ap rowids gone_are) ∙ rowids_kept table sets c rows (map row_in come.items) (tells rows enough)
 
         now_apart : AreApart now
         now_apart = fit_apart table now (fits sets_so schema before after rows s enough fit)

@@ -17,7 +17,7 @@ use Rattle.catalog.specs.declared.tables.Table.{Table}
 use Rattle.query_terms.specs.Terms.{Term}
 use Rattle.row_scan.specs.Rows.{TableRow}
 use Rattle.row_change.specs.Choosing.{rows_left}
-use Rattle.row_change.specs.Inserting.{AllStorable, IsRefusedAs, last_rowid, rows_added}
+use Rattle.row_change.specs.Inserting.{AllStorable, last_rowid, rows_added}
 use Rattle.row_change.specs.Setting.{rows_set}
 use Rattle.index_entries.specs.Keeping.{columns_in}
 use Rattle.db_layout.specs.Trees.{AreAmong, HoldsNow}
@@ -43,20 +43,20 @@ pub record HoldsFitRows (old new : PageMap) (size : ℕ) (schema : Owner) (befor
 pub record AreInserted (old new : PageMap) (size : ℕ) (schema : Owner) (before : List Owner) (table : Table) (places : List (Option ℕ))
     (given : List (List Value)) (rows : List TableRow) (after : List Owner) : Type 0 where
   pub added : List TableRow
-  pub answer : rows_added table.columns places (last_rowid rows) given ≡ Ok added
+  pub answer : rows_added table places (last_rowid rows) given ≡ Ok added
   pub hold : HoldsFitRows old new size schema before table (rows ++ added) after
 
 -- no record can hold one of the rows that these become, or an index's entry of one
 pub record InsertsTooLong (table : Table) (places : List (Option ℕ)) (given : List (List Value)) (rows : List TableRow) (fault : Fault) : Type 0 where
   pub is : fault ≡ TooLong
   pub added : List TableRow
-  pub answer : rows_added table.columns places (last_rowid rows) given ≡ Ok added
+  pub answer : rows_added table places (last_rowid rows) given ≡ Ok added
   pub long : AllStorable added × AreEntriesStorable table.indexes added → ⊥
 
 -- why rows aren't inserted
 abbrev pub IsRefusedInsert : Table → List (Option ℕ) → List (List Value) → List TableRow → Fault → Type 0
 IsRefusedInsert table places given rows fault =
-    IsOutsideOrFull fault ⊎ (IsRefusedAs (rows_added table.columns places (last_rowid rows) given) fault ⊎ InsertsTooLong table places given rows fault)
+    IsOutsideOrFull fault ⊎ ((rows_added table places (last_rowid rows) given ≡ Err (refusal_of fault)) ⊎ InsertsTooLong table places given rows fault)
 
 -- Rows given are inserted into the table ("INSERT"). Or memory or pages are short, or a disk's call failed; or what they become is
 -- refused, or is too long.
@@ -91,20 +91,20 @@ DeletesInTrees old new size table (Some condition) result = ChangesTable old siz
 pub record AreUpdated (old new : PageMap) (size : ℕ) (schema : Owner) (before : List Owner) (table : Table) (condition : Option Term)
     (sets : List (ℕ × Term)) (rows : List TableRow) (after : List Owner) : Type 0 where
   pub now : List TableRow
-  pub answer : rows_set table.columns sets condition rows ≡ Ok now
+  pub answer : rows_set table sets condition rows ≡ Ok now
   pub hold : HoldsFitRows old new size schema before table now after
 
 -- no record can hold one of the rows that SET leaves, or an index's entry of one
 pub record UpdatesTooLong (table : Table) (condition : Option Term) (sets : List (ℕ × Term)) (rows : List TableRow) (fault : Fault) : Type 0 where
   pub is : fault ≡ TooLong
   pub now : List TableRow
-  pub answer : rows_set table.columns sets condition rows ≡ Ok now
+  pub answer : rows_set table sets condition rows ≡ Ok now
   pub long : AllStorable now × AreEntriesStorable table.indexes now → ⊥
 
 -- why rows aren't updated
 abbrev pub IsRefusedUpdate : Table → Option Term → List (ℕ × Term) → List TableRow → Fault → Type 0
 IsRefusedUpdate table condition sets rows fault =
-    IsOutsideOrFull fault ⊎ ((rows_set table.columns sets condition rows ≡ Err (refusal_of fault)) ⊎ UpdatesTooLong table condition sets rows fault)
+    IsOutsideOrFull fault ⊎ ((rows_set table sets condition rows ≡ Err (refusal_of fault)) ⊎ UpdatesTooLong table condition sets rows fault)
 
 -- Values are set in the rows of the table for which the condition is true, or in all where there is none ("UPDATE"). Or memory or pages
 -- are short, or a disk's call failed; or the condition, an expression or a value is refused for a row, or a row is too long.

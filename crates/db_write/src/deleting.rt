@@ -17,7 +17,8 @@ use tree_table::clear;
 /// Takes all rows out of a table's tree, and all entries out of the trees of its indexes. (What the two `clear` refuse.)
 fn clear_rows<P: WritePages>(alloc: Global, pages: &mut P, table: &Table) -> R<()>
     ensures deleted { IsTrue (P.Pages.tells (P.Pages.below pages.old))
-        → DeletesInTrees (P.Pages.map pages.old) (P.Pages.map pages.new) (P.Pages.limits (P.Pages.below pages.old)).page
+        → DeletesInTrees (P.Pages.map pages.old) (P.Pages.map pages.new)
+        (P.Pages.limits (P.Pages.below pages.old)).page
         table.now None result }
     ensures kept { P.Pages.below pages.new ≡ P.Pages.below pages.old }
     ensures causes { Causes result (P.Pages.failures pages.old) (P.Pages.failures pages.new)
@@ -38,7 +39,8 @@ fn take_bare_rows<P: WritePages>(
     requires bare { length table.now.indexes ≡ 0 }
     requires is { condition.now ≡ Some term.now }
     ensures deleted { IsTrue (P.Pages.tells (P.Pages.below pages.old))
-        → DeletesInTrees (P.Pages.map pages.old) (P.Pages.map pages.new) (P.Pages.limits (P.Pages.below pages.old)).page
+        → DeletesInTrees (P.Pages.map pages.old) (P.Pages.map pages.new)
+        (P.Pages.limits (P.Pages.below pages.old)).page
         table.now (Some term.now) result }
     ensures kept { P.Pages.below pages.new ≡ P.Pages.below pages.old }
     ensures causes { Causes result (P.Pages.failures pages.old) (P.Pages.failures pages.new)
@@ -59,7 +61,8 @@ fn take_indexed_rows<P: WritePages>(
 ) -> R<()>
     requires is { condition.now ≡ Some term.now }
     ensures deleted { IsTrue (P.Pages.tells (P.Pages.below pages.old))
-        → DeletesInTrees (P.Pages.map pages.old) (P.Pages.map pages.new) (P.Pages.limits (P.Pages.below pages.old)).page
+        → DeletesInTrees (P.Pages.map pages.old) (P.Pages.map pages.new)
+        (P.Pages.limits (P.Pages.below pages.old)).page
         table.now (Some term.now) result }
     ensures kept { P.Pages.below pages.new ≡ P.Pages.below pages.old }
     ensures causes { Causes result (P.Pages.failures pages.old) (P.Pages.failures pages.new)
@@ -81,7 +84,8 @@ pub fn delete_rows<P: WritePages>(
     condition: &Option<Term>,
 ) -> R<()>
     ensures deleted { IsTrue (P.Pages.tells (P.Pages.below pages.old))
-        → DeletesInTrees (P.Pages.map pages.old) (P.Pages.map pages.new) (P.Pages.limits (P.Pages.below pages.old)).page
+        → DeletesInTrees (P.Pages.map pages.old) (P.Pages.map pages.new)
+        (P.Pages.limits (P.Pages.below pages.old)).page
         table.now condition.now result }
     ensures kept { P.Pages.below pages.new ≡ P.Pages.below pages.old }
     ensures causes { Causes result (P.Pages.failures pages.old) (P.Pages.failures pages.new)

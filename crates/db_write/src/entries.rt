@@ -22,7 +22,8 @@ fn add_to_index<P: WritePages>(
     rows: &[TableRow],
 ) -> R<()>
     ensures added { IsTrue (P.Pages.tells (P.Pages.below pages.old))
-        → AddsEntries (P.Pages.map pages.old) (P.Pages.map pages.new) (P.Pages.limits (P.Pages.below pages.old)).page
+        → AddsEntries (P.Pages.map pages.old) (P.Pages.map pages.new)
+        (P.Pages.limits (P.Pages.below pages.old)).page
         index.now.root (columns_of index.now) (map row_in rows.now) result }
     ensures kept { P.Pages.below pages.new ≡ P.Pages.below pages.old }
     ensures causes { Causes result (P.Pages.failures pages.old) (P.Pages.failures pages.new)
@@ -40,7 +41,8 @@ pub(crate) fn add_to_indexes<P: WritePages>(
     rows: &[TableRow],
 ) -> R<()>
     ensures added { IsTrue (P.Pages.tells (P.Pages.below pages.old))
-        → AddsToIndexes (P.Pages.map pages.old) (P.Pages.map pages.new) (P.Pages.limits (P.Pages.below pages.old)).page
+        → AddsToIndexes (P.Pages.map pages.old) (P.Pages.map pages.new)
+        (P.Pages.limits (P.Pages.below pages.old)).page
         indexes.now (map row_in rows.now) result }
     ensures kept { P.Pages.below pages.new ≡ P.Pages.below pages.old }
     ensures causes { Causes result (P.Pages.failures pages.old) (P.Pages.failures pages.new)
@@ -62,7 +64,8 @@ fn take_from_index<P: WritePages>(
     rows: &[TableRow],
 ) -> R<()>
     ensures taken { IsTrue (P.Pages.tells (P.Pages.below pages.old))
-        → TakesEntries (P.Pages.map pages.old) (P.Pages.map pages.new) (P.Pages.limits (P.Pages.below pages.old)).page
+        → TakesEntries (P.Pages.map pages.old) (P.Pages.map pages.new)
+        (P.Pages.limits (P.Pages.below pages.old)).page
         index.now.root (columns_of index.now) (map row_in rows.now) result }
     ensures kept { P.Pages.below pages.new ≡ P.Pages.below pages.old }
     ensures causes { Causes result (P.Pages.failures pages.old) (P.Pages.failures pages.new)
@@ -80,7 +83,8 @@ pub(crate) fn take_from_indexes<P: WritePages>(
     rows: &[TableRow],
 ) -> R<()>
     ensures taken { IsTrue (P.Pages.tells (P.Pages.below pages.old))
-        → TakesFromIndexes (P.Pages.map pages.old) (P.Pages.map pages.new) (P.Pages.limits (P.Pages.below pages.old)).page
+        → TakesFromIndexes (P.Pages.map pages.old) (P.Pages.map pages.new)
+        (P.Pages.limits (P.Pages.below pages.old)).page
         indexes.now (map row_in rows.now) result }
     ensures kept { P.Pages.below pages.new ≡ P.Pages.below pages.old }
     ensures causes { Causes result (P.Pages.failures pages.old) (P.Pages.failures pages.new)
@@ -103,7 +107,8 @@ fn replace_in_index<P: WritePages>(
     come: &[TableRow],
 ) -> R<()>
     ensures replaced { IsTrue (P.Pages.tells (P.Pages.below pages.old))
-        → ReplacesEntries (P.Pages.map pages.old) (P.Pages.map pages.new) (P.Pages.limits (P.Pages.below pages.old)).page
+        → ReplacesEntries (P.Pages.map pages.old) (P.Pages.map pages.new)
+        (P.Pages.limits (P.Pages.below pages.old)).page
         index.now.root (columns_of index.now) (map row_in gone.now) (map row_in come.now) result }
     ensures kept { P.Pages.below pages.new ≡ P.Pages.below pages.old }
     ensures causes { Causes result (P.Pages.failures pages.old) (P.Pages.failures pages.new)
@@ -129,7 +134,8 @@ pub(crate) fn replace_in_indexes<P: WritePages>(
     come: &[TableRow],
 ) -> R<()>
     ensures replaced { IsTrue (P.Pages.tells (P.Pages.below pages.old))
-        → ReplacesInIndexes (P.Pages.map pages.old) (P.Pages.map pages.new) (P.Pages.limits (P.Pages.below pages.old)).page
+        → ReplacesInIndexes (P.Pages.map pages.old) (P.Pages.map pages.new)
+        (P.Pages.limits (P.Pages.below pages.old)).page
         indexes.now (map row_in gone.now) (map row_in come.now) result }
     ensures kept { P.Pages.below pages.new ≡ P.Pages.below pages.old }
     ensures causes { Causes result (P.Pages.failures pages.old) (P.Pages.failures pages.new)
@@ -146,7 +152,8 @@ pub(crate) fn replace_in_indexes<P: WritePages>(
 /// Takes all entries out of the tree of each of these indexes. (What `clear` refuses. Then some trees may be without entries.)
 pub(crate) fn clear_indexes<P: WritePages>(alloc: Global, pages: &mut P, indexes: &[Index]) -> R<()>
     ensures cleared { IsTrue (P.Pages.tells (P.Pages.below pages.old))
-        → ClearsIndexes (P.Pages.map pages.old) (P.Pages.map pages.new) (P.Pages.limits (P.Pages.below pages.old)).page
+        → ClearsIndexes (P.Pages.map pages.old) (P.Pages.map pages.new)
+        (P.Pages.limits (P.Pages.below pages.old)).page
         indexes.now result }
     ensures kept { P.Pages.below pages.new ≡ P.Pages.below pages.old }
     ensures causes { Causes result (P.Pages.failures pages.old) (P.Pages.failures pages.new)
@@ -163,7 +170,8 @@ pub(crate) fn clear_indexes<P: WritePages>(alloc: Global, pages: &mut P, indexes
 /// Gives the tree of each of these indexes back. (What `free_tree` refuses. Then some pages may be free.)
 pub(crate) fn free_indexes<P: WritePages>(alloc: Global, pages: &mut P, indexes: &[Index]) -> R<()>
     ensures freed { IsTrue (P.Pages.tells (P.Pages.below pages.old))
-        → FreesIndexes (P.Pages.map pages.old) (P.Pages.map pages.new) (P.Pages.limits (P.Pages.below pages.old)).page
+        → FreesIndexes (P.Pages.map pages.old) (P.Pages.map pages.new)
+        (P.Pages.limits (P.Pages.below pages.old)).page
         indexes.now result }
     ensures kept { P.Pages.below pages.new ≡ P.Pages.below pages.old }
     ensures causes { Causes result (P.Pages.failures pages.old) (P.Pages.failures pages.new)

@@ -15,7 +15,8 @@ use std::alloc::Global;
 /// `put_new_rows` and `add_entries` refuse; then some pages may have changed.)
 pub fn insert_rows<P: WritePages>(alloc: Global, pages: &mut P, insert: BoundInsert<'_>) -> R<()>
     ensures inserted { IsTrue (P.Pages.tells (P.Pages.below pages.old))
-        → InsertsInTrees (P.Pages.map pages.old) (P.Pages.map pages.new) (P.Pages.limits (P.Pages.below pages.old)).page
+        → InsertsInTrees (P.Pages.map pages.old) (P.Pages.map pages.new)
+        (P.Pages.limits (P.Pages.below pages.old)).page
         insert.entry.table.now insert.entry.places.items
         (map (λ row. row.items) insert.entry.rows.items) result }
     ensures kept { P.Pages.below pages.new ≡ P.Pages.below pages.old }

@@ -20,7 +20,8 @@ pub fn add_index<P: WritePages>(
     columns: &[IndexColumn],
 ) -> R<u32>
     ensures added { IsTrue (P.Pages.tells (P.Pages.below pages.old))
-        → AddsIndex (P.Pages.map pages.old) (P.Pages.map pages.new) (P.Pages.limits (P.Pages.below pages.old)).page
+        → AddsIndex (P.Pages.map pages.old) (P.Pages.map pages.new)
+        (P.Pages.limits (P.Pages.below pages.old)).page
         table.now columns.now result }
     ensures kept { P.Pages.below pages.new ≡ P.Pages.below pages.old }
     ensures causes { Causes result (P.Pages.failures pages.old) (P.Pages.failures pages.new)

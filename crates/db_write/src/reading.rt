@@ -32,7 +32,8 @@ pub(crate) fn enough_rows<P: Pages>(
     condition: &Option<Term>,
 ) -> R<Many<SourceRow>>
     ensures loaded { IsTrue (P.Pages.tells (P.Pages.below pages.old))
-        → LoadsEnough (P.Pages.map pages.old) (P.Pages.limits (P.Pages.below pages.old)).page table.now condition.now result }
+        → LoadsEnough (P.Pages.map pages.old)
+        (P.Pages.limits (P.Pages.below pages.old)).page table.now condition.now result }
     ensures stays { Stays P.Pages.below P.Pages.map P.Pages.count P.Pages.failures result pages.old pages.new }
 {
     other_rows_fail();

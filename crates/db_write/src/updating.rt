@@ -23,7 +23,8 @@ fn set_bare_rows<P: WritePages>(
 ) -> R<()>
     requires bare { length table.now.indexes ≡ 0 }
     ensures updated { IsTrue (P.Pages.tells (P.Pages.below pages.old))
-        → UpdatesInTrees (P.Pages.map pages.old) (P.Pages.map pages.new) (P.Pages.limits (P.Pages.below pages.old)).page
+        → UpdatesInTrees (P.Pages.map pages.old) (P.Pages.map pages.new)
+        (P.Pages.limits (P.Pages.below pages.old)).page
         table.now condition.now sets.now result }
     ensures kept { P.Pages.below pages.new ≡ P.Pages.below pages.old }
     ensures causes { Causes result (P.Pages.failures pages.old) (P.Pages.failures pages.new)
@@ -44,7 +45,8 @@ fn set_indexed_rows<P: WritePages>(
     sets: &[(usize, Term)],
 ) -> R<()>
     ensures updated { IsTrue (P.Pages.tells (P.Pages.below pages.old))
-        → UpdatesInTrees (P.Pages.map pages.old) (P.Pages.map pages.new) (P.Pages.limits (P.Pages.below pages.old)).page
+        → UpdatesInTrees (P.Pages.map pages.old) (P.Pages.map pages.new)
+        (P.Pages.limits (P.Pages.below pages.old)).page
         table.now condition.now sets.now result }
     ensures kept { P.Pages.below pages.new ≡ P.Pages.below pages.old }
     ensures causes { Causes result (P.Pages.failures pages.old) (P.Pages.failures pages.new)
@@ -67,7 +69,8 @@ pub fn update_rows<P: WritePages>(
     sets: &[(usize, Term)],
 ) -> R<()>
     ensures updated { IsTrue (P.Pages.tells (P.Pages.below pages.old))
-        → UpdatesInTrees (P.Pages.map pages.old) (P.Pages.map pages.new) (P.Pages.limits (P.Pages.below pages.old)).page
+        → UpdatesInTrees (P.Pages.map pages.old) (P.Pages.map pages.new)
+        (P.Pages.limits (P.Pages.below pages.old)).page
         table.now condition.now sets.now result }
     ensures kept { P.Pages.below pages.new ≡ P.Pages.below pages.old }
     ensures causes { Causes result (P.Pages.failures pages.old) (P.Pages.failures pages.new)

@@ -47,10 +47,12 @@ fn record_write(
     bytes: Vec<u8>,
     lands: bool,
 ) -> Result<(), AllocError>
-    ensures landed { IsTrue lands → OnOk result (content.new.items ≡ overwritten at bytes.items content.old.items) }
+    ensures landed { IsTrue lands → OnOk result
+        (content.new.items ≡ overwritten at bytes.items content.old.items) }
     ensures not_landed { IsFalse lands → content.new.items ≡ content.old.items }
     ensures recorded { OnOk result (changes.new.items ≡ changes.old.items ++ Write at bytes lands ∷ []) }
-    ensures refused { OnErr result ((content.new.items ≡ content.old.items) × (changes.new.items ≡ changes.old.items)) }
+    ensures refused { OnErr result ((content.new.items ≡ content.old.items)
+        × (changes.new.items ≡ changes.old.items)) }
 {
     changes.reserve(1)?;
     if lands {
@@ -77,12 +79,16 @@ pub fn overwrite(
 ) -> Result<bool, AllocError>
     requires { IsTrue is_gone → IsFalse lands }
     ensures landed { IsTrue (has_landed result)
-        → (v : Vec ℕ Global) × (v.items ≡ bytes.now) × (changes.new.items ≡ changes.old.items ++ Write at v true ∷ [])
+        → (v : Vec ℕ Global) × (v.items ≡ bytes.now)
+        × (changes.new.items ≡ changes.old.items ++ Write at v true ∷ [])
         × (content.new.items ≡ overwritten at bytes.now content.old.items) }
     ensures not_landed { IsFalse (has_landed result) → (content.new.items ≡ content.old.items)
-        × ((changes.new.items ≡ changes.old.items) ⊎ ((v : Vec ℕ Global) × (v.items ≡ bytes.now) × (changes.new.items ≡ changes.old.items ++ Write at v false ∷ []))) }
+        × ((changes.new.items ≡ changes.old.items)
+        ⊎ ((v : Vec ℕ Global) × (v.items ≡ bytes.now)
+        × (changes.new.items ≡ changes.old.items ++ Write at v false ∷ []))) }
     ensures recorded { IsFalse is_gone
-        → OnOk result ((v : Vec ℕ Global) × (v.items ≡ bytes.now) × (changes.new.items ≡ changes.old.items ++ Write at v lands ∷ [])) }
+        → OnOk result ((v : Vec ℕ Global) × (v.items ≡ bytes.now)
+        × (changes.new.items ≡ changes.old.items ++ Write at v lands ∷ [])) }
     ensures answer { IfOk result (λ landed. landed ≡ lands) }
 {
     if !is_gone {
@@ -101,10 +107,13 @@ pub fn cut_to(
 ) -> Result<bool, AllocError>
     requires { IsTrue is_gone → IsFalse lands }
     ensures landed { IsTrue (has_landed result)
-        → (changes.new.items ≡ changes.old.items ++ Cut len true ∷ []) × (content.new.items ≡ take len content.old.items) }
+        → (changes.new.items ≡ changes.old.items ++ Cut len true ∷ [])
+        × (content.new.items ≡ take len content.old.items) }
     ensures not_landed { IsFalse (has_landed result) → (content.new.items ≡ content.old.items)
-        × ((changes.new.items ≡ changes.old.items) ⊎ (changes.new.items ≡ changes.old.items ++ Cut len false ∷ [])) }
-    ensures recorded { IsFalse is_gone → OnOk result (changes.new.items ≡ changes.old.items ++ Cut len lands ∷ []) }
+        × ((changes.new.items ≡ changes.old.items)
+        ⊎ (changes.new.items ≡ changes.old.items ++ Cut len false ∷ [])) }
+    ensures recorded { IsFalse is_gone → OnOk result
+        (changes.new.items ≡ changes.old.items ++ Cut len lands ∷ []) }
     ensures answer { IfOk result (λ landed. landed ≡ lands) }
 {
     if !is_gone {
@@ -120,7 +129,8 @@ pub fn cut_to(
 
 /// Records a sync, if it is to succeed. Answers whether it did.
 pub fn note_sync(changes: &mut Vec<Change>, ok: bool) -> Result<bool, AllocError>
-    ensures landed { IsTrue (has_landed result) → changes.new.items ≡ changes.old.items ++ Sync ∷ [] }
+    ensures landed { IsTrue (has_landed result)
+        → changes.new.items ≡ changes.old.items ++ Sync ∷ [] }
     ensures not_landed { IsFalse (has_landed result) → changes.new.items ≡ changes.old.items }
     ensures answer { IfOk result (λ landed. landed ≡ ok) }
 {

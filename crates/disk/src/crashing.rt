@@ -54,7 +54,8 @@ fn apply(
     time: &mut VersionsSinceSync,
     change: &Change,
 ) -> Result<(), AllocError>
-    ensures { OnOk result ((f : File) → Stands content.old.items time.old f → Stands content.new.items time.new (step f change.now)) }
+    ensures { OnOk result ((f : File) → Stands content.old.items time.old f
+        → Stands content.new.items time.new (step f change.now)) }
 {
     match change {
         Change::Write { at, bytes, landed } => {
@@ -160,6 +161,8 @@ fn pick(picks: &[u32], at: usize, count: usize) -> usize
 
 /// The picks of `MemDisk::crash` reach each file that a crash may leave, and no other.
 pub fn every_left_file_is_picked()
-    ensures reached { (versions : List Version) (c : List ℕ) → length versions < 2 ^ 32 → IsLeft versions c → IsPicked versions c }
-    ensures no_other { (versions : List Version) (picks : List ℕ) → 0 < length versions → IsLeft versions (left_by versions picks) }
+    ensures reached { (versions : List Version) (c : List ℕ) → length versions < 2 ^ 32
+        → IsLeft versions c → IsPicked versions c }
+    ensures no_other { (versions : List Version) (picks : List ℕ) → 0 < length versions
+        → IsLeft versions (left_by versions picks) }
 {}

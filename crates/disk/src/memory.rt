@@ -46,7 +46,8 @@ impl MemDisk {
     ) -> R<MemDisk>
         ensures file { IfOk result (λ m. memory_file m ≡ fresh bytes.items) }
         ensures failures { IfOk result (λ m. failed_calls m ≡ 0) }
-        ensures schedule { IfOk result (λ m. (schedule_of m ≡ record { fail_at = fail_at; stop_at = stop_at }) × (calls_of m ≡ 0)) }
+        ensures schedule { IfOk result (λ m. (schedule_of m
+            ≡ record { fail_at = fail_at; stop_at = stop_at }) × (calls_of m ≡ 0)) }
         ensures refused { IfErr result (λ fault. fault ≡ Fault.Memory) }
     {
         let start = bytes.to_vec(alloc)?;
@@ -97,7 +98,8 @@ impl MemDisk {
 
     /// Answers a call that was to change the file, by whether it landed.
     fn finish(&mut self, landed: Result<bool, AllocError>) -> R<()>
-        ensures same { self.new ≡ record self.old { failures = self.new.failures; lacks_memory = not (is_ok landed) } }
+        ensures same { self.new ≡ record self.old
+            { failures = self.new.failures; lacks_memory = not (is_ok landed) } }
         ensures variant { is_ok result ≡ has_landed landed }
         ensures refused { IfErr result (λ fault. fault ≡ Fault.Io) }
         ensures count { CountsFailure result (failed_calls self.old) (failed_calls self.new) }
@@ -179,7 +181,8 @@ impl Disk for MemDisk {
         ensures moments { Elapses (memory_file self.old) (memory_file self.new) }
         ensures refused { IfErr result (λ fault. fault ≡ Fault.Io) }
         ensures count { CountsFailure result (failed_calls self.old) (failed_calls self.new) }
-        ensures follows { FollowsWith (write_version at bytes.now (memory_file self.old)) self.old self.new (is_ok result) }
+        ensures follows { FollowsWith (write_version at bytes.now (memory_file self.old)) self.old
+            self.new (is_ok result) }
     {
         let is_gone = self.is_gone();
         let ok = !self.is_to_fail();
@@ -203,7 +206,8 @@ impl Disk for MemDisk {
         ensures moments { Elapses (memory_file self.old) (memory_file self.new) }
         ensures refused { IfErr result (λ fault. fault ≡ Fault.Io) }
         ensures count { CountsFailure result (failed_calls self.old) (failed_calls self.new) }
-        ensures follows { FollowsWith (cut_version len (memory_file self.old)) self.old self.new (is_ok result) }
+        ensures follows { FollowsWith (cut_version len (memory_file self.old)) self.old self.new
+            (is_ok result) }
     {
         let is_gone = self.is_gone();
         let ok = !self.is_to_fail();

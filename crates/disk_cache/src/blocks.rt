@@ -23,7 +23,8 @@ fn place_of(at: u64, len: usize, count: usize) -> usize
 
 /// The bytes of a block, if it begins at this offset and is of this length.
 fn bytes_of(block: &Block, at: u64, len: usize) -> Option<&[u8]>
-    ensures { IfSome result (λ bytes. (block.now.at ≡ at) × (block.now.bytes.items ≡ bytes.now) × (length bytes.now ≡ len)) }
+    ensures { IfSome result (λ bytes. (block.now.at ≡ at) × (block.now.bytes.items ≡ bytes.now)
+        × (length bytes.now ≡ len)) }
 {
     if block.at == at && block.bytes.len() == len {
         Some(block.bytes.as_slice())
@@ -34,7 +35,8 @@ fn bytes_of(block: &Block, at: u64, len: usize) -> Option<&[u8]>
 
 /// The bytes that were read from an offset on, if so many of them are kept.
 pub fn find(blocks: &[Block], at: u64, len: usize) -> Option<&[u8]>
-    ensures { IfSome result (λ bytes. (length bytes.now ≡ len) × ((content : List ℕ) (end : ℕ) → AreKept content end blocks.now
+    ensures { IfSome result (λ bytes. (length bytes.now ≡ len)
+        × ((content : List ℕ) (end : ℕ) → AreKept content end blocks.now
         → bytes.now ≡ take len (drop at content))) }
 {
     if blocks.len() == 0 {
@@ -55,7 +57,8 @@ fn distance(from: u64, at: u64) -> Option<usize>
 
 /// So many bytes from a place on, if there are so many.
 fn part_from(bytes: &[u8], from: usize, len: usize) -> Option<&[u8]>
-    ensures { IfSome result (λ part. (from + len ≤ length bytes.now) × (part.now ≡ take len (drop from bytes.now)) × (length part.now ≡ len)) }
+    ensures { IfSome result (λ part. (from + len ≤ length bytes.now)
+        × (part.now ≡ take len (drop from bytes.now)) × (length part.now ≡ len)) }
 {
     match from.checked_add(len) {
         Some(end) if end <= bytes.len() => Some(&bytes[from..end]),
@@ -65,7 +68,8 @@ fn part_from(bytes: &[u8], from: usize, len: usize) -> Option<&[u8]>
 
 /// The bytes from an offset on that a block has, if it has so many there.
 pub fn part(block: &Block, at: u64, len: usize) -> Option<&[u8]>
-    ensures { IfSome result (λ bytes. (length bytes.now ≡ len) × ((content : List ℕ) (end : ℕ) → IsKept content end block.now
+    ensures { IfSome result (λ bytes. (length bytes.now ≡ len)
+        × ((content : List ℕ) (end : ℕ) → IsKept content end block.now
         → bytes.now ≡ take len (drop at content))) }
 {
     match distance(block.at, at) {
@@ -76,7 +80,8 @@ pub fn part(block: &Block, at: u64, len: usize) -> Option<&[u8]>
 
 /// Lets go of what blocks have, and of what another one has.
 pub fn let_go(blocks: &mut Vec<Block>, other: &mut Block)
-    ensures { (content : List ℕ) (end : ℕ) → AreKept content end blocks.new.items × IsKept content end other.new }
+    ensures { (content : List ℕ) (end : ℕ) → AreKept content end blocks.new.items
+        × IsKept content end other.new }
 {
     blocks.clear();
     other.bytes.clear();
@@ -98,7 +103,8 @@ pub fn renew(block: &mut Block, at: u64, bytes: &[u8])
 /// Adds a block without bytes, and answers whether there was memory for it.
 fn add_blank(alloc: Global, blocks: &mut Vec<Block>) -> bool
     ensures few { length blocks.new.items ≤ length blocks.old.items + 1 }
-    ensures kept { (content : List ℕ) (end : ℕ) → AreKept content end blocks.old.items → AreKept content end blocks.new.items }
+    ensures kept { (content : List ℕ) (end : ℕ) → AreKept content end blocks.old.items
+        → AreKept content end blocks.new.items }
 {
     let block = Block {
         at: 0,
@@ -110,7 +116,8 @@ fn add_blank(alloc: Global, blocks: &mut Vec<Block>) -> bool
 /// Adds blocks without bytes, as many as there is memory for, but at most so many.
 fn fill(alloc: Global, blocks: &mut Vec<Block>, count: usize)
     ensures few { length blocks.new.items ≤ length blocks.old.items + count }
-    ensures kept { (content : List ℕ) (end : ℕ) → AreKept content end blocks.old.items → AreKept content end blocks.new.items }
+    ensures kept { (content : List ℕ) (end : ℕ) → AreKept content end blocks.old.items
+        → AreKept content end blocks.new.items }
 {
     'blocks: for _ in 0..count {
         if !add_blank(alloc, blocks) {
@@ -122,7 +129,8 @@ fn fill(alloc: Global, blocks: &mut Vec<Block>, count: usize)
 /// Puts a block in the place of its offset.
 fn put(blocks: &mut Vec<Block>, block: Block)
     ensures few { length blocks.new.items ≡ length blocks.old.items }
-    ensures kept { (content : List ℕ) (end : ℕ) → AreKept content end blocks.old.items → IsKept content end block
+    ensures kept { (content : List ℕ) (end : ℕ) → AreKept content end blocks.old.items
+        → IsKept content end block
         → AreKept content end blocks.new.items }
 {
     let count = blocks.len();
@@ -135,7 +143,8 @@ fn put(blocks: &mut Vec<Block>, block: Block)
 /// Adds blocks where there are none.
 fn prepare(alloc: Global, blocks: &mut Vec<Block>, count: usize)
     ensures few { length blocks.new.items ≤ max (length blocks.old.items) count }
-    ensures kept { (content : List ℕ) (end : ℕ) → AreKept content end blocks.old.items → AreKept content end blocks.new.items }
+    ensures kept { (content : List ℕ) (end : ℕ) → AreKept content end blocks.old.items
+        → AreKept content end blocks.new.items }
 {
     if blocks.len() == 0 {
         fill(alloc, blocks, count);
@@ -145,8 +154,10 @@ fn prepare(alloc: Global, blocks: &mut Vec<Block>, count: usize)
 /// Keeps bytes that were read from an offset on, if there is memory for them. At most so many blocks are kept.
 pub fn keep(alloc: Global, blocks: &mut Vec<Block>, count: usize, at: u64, bytes: &[u8])
     ensures few { length blocks.new.items ≤ max (length blocks.old.items) count }
-    ensures kept { (content : List ℕ) (end : ℕ) → AreKept content end blocks.old.items → at + length bytes.now ≤ end
-        → bytes.now ≡ take (length bytes.now) (drop at content) → AreKept content end blocks.new.items }
+    ensures kept { (content : List ℕ) (end : ℕ) → AreKept content end blocks.old.items
+        → at + length bytes.now ≤ end
+        → bytes.now ≡ take (length bytes.now) (drop at content)
+        → AreKept content end blocks.new.items }
 {
     prepare(alloc, blocks, count);
     if let Ok(bytes) = Vec::from_slice(alloc, bytes) {

@@ -14,7 +14,8 @@ const MAX_LEN: usize = 65536;
 
 /// The length of a file after so many bytes were written from an offset on, if its length before is known.
 fn len_after(len: Option<u64>, at: u64, count: usize) -> Option<u64>
-    ensures { (bytes content : List ℕ) → length bytes ≡ count → at ≤ length content → IsLength len content
+    ensures { (bytes content : List ℕ) → length bytes ≡ count → at ≤ length content
+        → IsLength len content
         → IsLength result (overwritten at bytes content) }
 {
     match (len, at.checked_add(count as u64)) {
@@ -82,7 +83,8 @@ impl<D: Disk> CachedDisk<D> {
 
     /// Keeps what was read from an offset on.
     fn remember(&mut self, at: u64, bytes: &[u8])
-        requires { IsTrue (D.tells (below self.old)) → bytes.now ≡ take (length bytes.now) (drop at (D.file (below self.old)).content) }
+        requires { IsTrue (D.tells (below self.old))
+            → bytes.now ≡ take (length bytes.now) (drop at (D.file (below self.old)).content) }
         ensures { below self.new ≡ below self.old }
     {
         if bytes.len() > MAX_LEN {
@@ -97,7 +99,8 @@ impl<D: Disk> CachedDisk<D> {
 
     /// Keeps what was written from an offset on.
     fn remember_writing(&mut self, at: u64, bytes: &[u8])
-        requires { IsTrue (D.tells (below self.old)) → bytes.now ≡ take (length bytes.now) (drop at (D.file (below self.old)).content) }
+        requires { IsTrue (D.tells (below self.old))
+            → bytes.now ≡ take (length bytes.now) (drop at (D.file (below self.old)).content) }
         ensures { below self.new ≡ below self.old }
     {
         if bytes.len() > MAX_LEN {

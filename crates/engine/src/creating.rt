@@ -30,7 +30,8 @@ fn are_zero(bytes: &[u8]) -> bool
 /// Whether all bytes of a file of this length are zero.
 fn is_zero<D: Disk>(db: &mut D, len: u64) -> R<bool>
     requires { IsTrue (D.tells db.old) → len ≡ length (D.file db.old).content }
-    ensures zero { IsTrue (D.tells db.old) → IfOk result (λ zero. zero ≡ list_all is_zero_byte (D.file db.old).content) }
+    ensures zero { IsTrue (D.tells db.old) → IfOk result
+        (λ zero. zero ≡ list_all is_zero_byte (D.file db.old).content) }
     ensures kept { Stays D.tells D.file db.old db.new }
     ensures refused { IfErr result (λ fault. fault ≡ Io) }
     ensures counted { CountsIo result (D.failures db.old) (D.failures db.new) }
@@ -51,7 +52,8 @@ fn is_zero<D: Disk>(db: &mut D, len: u64) -> R<bool>
 
 /// Whether a database file is blank: at most 65,536 bytes, all of them zero.
 pub fn is_blank<D: Disk>(db: &mut D) -> R<bool>
-    ensures blank { IsTrue (D.tells db.old) → IfOk result (λ blank. blank ≡ is_blank_content (D.file db.old).content) }
+    ensures blank { IsTrue (D.tells db.old) → IfOk result
+        (λ blank. blank ≡ is_blank_content (D.file db.old).content) }
     ensures kept { Stays D.tells D.file db.old db.new }
     ensures refused { IfErr result (λ fault. fault ≡ Io) }
     ensures counted { CountsIo result (D.failures db.old) (D.failures db.new) }
@@ -87,7 +89,8 @@ fn empty_log<D: Disk>(log: &mut D) -> R<()>
 /// Makes a page the content of a blank file and syncs it.
 fn put_page<D: Disk>(db: &mut D, page: &[u8]) -> R<()>
     ensures made { IsTrue (D.tells db.old) → OnOk result (IsSyncedAs page.now (D.file db.new)) }
-    ensures crash { (size : ℕ) → IsPageSize size → IsEmptyDatabase size page.now → IsTrue (D.tells db.old) → IsSynced (D.file db.old)
+    ensures crash { (size : ℕ) → IsPageSize size → IsEmptyDatabase size page.now
+        → IsTrue (D.tells db.old) → IsSynced (D.file db.old)
         → is_blank_content (D.file db.old).content ≡ true
         → BecomesPage page.now (D.file db.old) (D.file db.new) }
     ensures refused { IfErr result (λ fault. fault ≡ Io) }
@@ -102,12 +105,15 @@ fn put_page<D: Disk>(db: &mut D, page: &[u8]) -> R<()>
 fn put_empty<D: Disk>(db: &mut D, log: &mut D, page: &[u8]) -> R<()>
     ensures made { IsTrue (D.tells db.old) → OnOk result (IsSyncedAs page.now (D.file db.new)) }
     ensures emptied { IsTrue (D.tells log.old) → OnOk result (IsSyncedAs [] (D.file log.new)) }
-    ensures none_failed { OnOk result ((D.failures db.new ≡ D.failures db.old) × (D.failures log.new ≡ D.failures log.old)) }
-    ensures crash { (size : ℕ) → IsPageSize size → IsEmptyDatabase size page.now → IsTrue (D.tells db.old) → IsTrue (D.tells log.old)
+    ensures none_failed { OnOk result ((D.failures db.new ≡ D.failures db.old)
+        × (D.failures log.new ≡ D.failures log.old)) }
+    ensures crash { (size : ℕ) → IsPageSize size → IsEmptyDatabase size page.now
+        → IsTrue (D.tells db.old) → IsTrue (D.tells log.old)
         → IsSynced (D.file db.old) → is_blank_content (D.file db.old).content ≡ true
         → BecomesDatabase size (D.file db.old) (D.file log.old) (D.file db.new) (D.file log.new) }
     ensures refused { IfErr result (λ fault. fault ≡ Io) }
-    ensures called { OnErr result (Rose (D.failures db.old) (D.failures db.new) ⊎ Rose (D.failures log.old) (D.failures log.new)) }
+    ensures called { OnErr result (Rose (D.failures db.old) (D.failures db.new)
+        ⊎ Rose (D.failures log.old) (D.failures log.new)) }
 {
     empty_log(log)?;
     put_page(db, page)
@@ -122,9 +128,11 @@ pub fn create<D: Disk>(alloc: Global, db: &mut D, log: &mut D, page_size: u32) -
     // A blank file isn't refused for what it holds.
     ensures refused { IfErr result (λ fault. IsNewFileRefusal page_size (IsTrue (D.tells db.old)
         → is_blank_content (D.file db.old).content ≡ false)
-        (Rose (D.failures db.old) (D.failures db.new) ⊎ Rose (D.failures log.old) (D.failures log.new)) fault) }
+        (Rose (D.failures db.old) (D.failures db.new)
+        ⊎ Rose (D.failures log.old) (D.failures log.new)) fault) }
     // A refusal other than a disk's failure changes nothing.
-    ensures kept { IfErr result (λ fault. fault ≢ Io → Stays D.tells D.file db.old db.new × Stays D.tells D.file log.old log.new) }
+    ensures kept { IfErr result (λ fault. fault ≢ Io → Stays D.tells D.file db.old db.new
+        × Stays D.tells D.file log.old log.new) }
     // Whatever the answer, nothing but a blank file is written over, and its log alone is cut.
     ensures untouched { IsTrue (D.tells db.old) → is_blank_content (D.file db.old).content ≡ false
         → Stays D.tells D.file db.old db.new × Stays D.tells D.file log.old log.new }

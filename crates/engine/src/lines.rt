@@ -48,7 +48,8 @@ fn not_shown(error: io::Error) -> R<Met>
 fn line_end(shown: &[u8]) -> (usize, Met)
     ensures within { result.0 + length (tail_of result.1) ≤ length shown.now }
     ensures line { All IsNoLineFeed (take result.0 shown.now) }
-    ensures tail { take (result.0 + length (tail_of result.1)) shown.now ≡ take result.0 shown.now ++ tail_of result.1 }
+    ensures tail { take (result.0 + length (tail_of result.1)) shown.now
+        ≡ take result.0 shown.now ++ tail_of result.1 }
     ensures end { (result.1 ≡ Met.End) → length shown.now ≡ 0 }
 {
     if shown.is_empty() {
@@ -75,7 +76,8 @@ fn keep(line: &mut Vec<u8>, part: &[u8]) -> Result<(), AllocError>
 
 /// Reads what the input has at hand of a line, and says what it met after that.
 fn read_part<I: BufRead>(input: &mut I, line: &mut Vec<u8>) -> R<Met>
-    ensures part { IfOk result (λ met. HasPart met (I.remaining input.old) (I.remaining input.new) line.old.items line.new.items) }
+    ensures part { IfOk result (λ met. HasPart met (I.remaining input.old)
+        (I.remaining input.new) line.old.items line.new.items) }
     ensures refused { IfErr result IsInputRefusal }
 {
     let shown = match input.fill_buf() {
@@ -91,7 +93,8 @@ fn read_part<I: BufRead>(input: &mut I, line: &mut Vec<u8>) -> R<Met>
 
 /// Reads a line without its line feed, and of a long one the beginning. Answers whether there was one.
 pub fn read_line<I: BufRead>(input: &mut I, line: &mut Vec<u8>) -> R<bool>
-    ensures read { IfOk result (λ is_line. HasRead is_line (I.remaining input.old) (I.remaining input.new) line.new.items) }
+    ensures read { IfOk result (λ is_line. HasRead is_line (I.remaining input.old)
+        (I.remaining input.new) line.new.items) }
     ensures refused { IfErr result IsInputRefusal }
 {
     line.clear();
@@ -119,7 +122,8 @@ fn split_number(line: &[u8]) -> Option<(u32, &[u8])>
 
 /// The connection's number and the statement of a line.
 pub fn split_line(line: &[u8]) -> R<(u32, &str)>
-    ensures found { IfOk result (λ found. IsInputLine line.now found.0 found.1.now × (length found.1.now ≤ 65536)) }
+    ensures found { IfOk result (λ found. IsInputLine line.now found.0 found.1.now
+        × (length found.1.now ≤ 65536)) }
     ensures refused { IfErr result (IsLineRefusal line.now) }
 {
     let Some((connection, statement)) = split_number(line) else {

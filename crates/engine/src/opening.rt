@@ -51,10 +51,12 @@ pub struct Engine<D: Disk + Drop> {
 fn file_header<D: Disk>(db: &mut D) -> R<Header>
     ensures kept { KeepsFile D.tells D.file db.old db.new }
     ensures found { IsTrue (D.tells db.old) → IfOk result (λ header. IsHeader (D.file db.old).content header) }
-    ensures read { (head : FileHeader) → IsTrue (D.tells db.old) → IsHeader (D.file db.old).content head → ReadsHeader head result }
+    ensures read { (head : FileHeader) → IsTrue (D.tells db.old)
+        → IsHeader (D.file db.old).content head → ReadsHeader head result }
     ensures counted { CountsIo result (D.failures db.old) (D.failures db.new) }
     ensures blank { IsTrue (D.tells db.old)
-        → MatchResult result (λ _. is_blank_content (D.file db.old).content ≡ true → ⊥) (TellsBlank (D.file db.old).content) }
+        → MatchResult result (λ _. is_blank_content (D.file db.old).content ≡ true → ⊥)
+        (TellsBlank (D.file db.old).content) }
 {
     if is_blank(db)? {
         return Err(Fault::Blank);
@@ -71,10 +73,12 @@ fn file_header<D: Disk>(db: &mut D) -> R<Header>
 fn load_files<D: Disk + Drop>(alloc: Global, log: &mut Log<D>) -> R<Catalog>
     ensures kept { KeepsFiles log.old log.new }
     // The tables of files that hold a database are loaded, unless memory runs out or a disk's call fails.
-    ensures listed { (tables : List Table) (database : Database) → Tells log.old → ShowsDatabase (newest_view log.old) tables database
+    ensures listed { (tables : List Table) (database : Database) → Tells log.old
+        → ShowsDatabase (newest_view log.old) tables database
         → IsFound (newest_view log.old) → IfErr result IsOutside }
     // Tables are loaded only of a database that the newest view holds.
-    ensures found { Tells log.old → IfOk result (FindsDatabase (pages_in (newest_view log.old)) (newest_view log.old).page_size) }
+    ensures found { Tells log.old → IfOk result
+        (FindsDatabase (pages_in (newest_view log.old)) (newest_view log.old).page_size) }
     ensures cause { HasCause false result log.old log.new }
     ensures not_blank { IfErr result (λ fault. fault ≡ Fault.Blank → ⊥) }
 {
@@ -92,10 +96,12 @@ fn load_files<D: Disk + Drop>(alloc: Global, log: &mut Log<D>) -> R<Catalog>
 /// Loads the tables of the newest snapshot, and makes the seats of the connections. (What `load` refuses.)
 fn load_seats<D: Disk + Drop>(alloc: Global, log: &mut Log<D>) -> R<Seats>
     ensures kept { KeepsFiles log.old log.new }
-    ensures listed { (tables : List Table) (database : Database) → Tells log.old → ShowsDatabase (newest_view log.old) tables database
+    ensures listed { (tables : List Table) (database : Database) → Tells log.old
+        → ShowsDatabase (newest_view log.old) tables database
         → IsFound (newest_view log.old) → IfErr result IsOutside }
     ensures found { Tells log.old
-        → IfOk result (λ seats. FindsDatabase (pages_in (newest_view log.old)) (newest_view log.old).page_size (catalog_in seats)) }
+        → IfOk result (λ seats. FindsDatabase (pages_in (newest_view log.old))
+        (newest_view log.old).page_size (catalog_in seats)) }
     ensures fresh { IfOk result AreFresh }
     ensures cause { HasCause false result log.old log.new }
     ensures not_blank { IfErr result (λ fault. fault ≡ Fault.Blank → ⊥) }
@@ -106,24 +112,31 @@ fn load_seats<D: Disk + Drop>(alloc: Global, log: &mut Log<D>) -> R<Seats>
 
 /// Loads the tables of the newest snapshot, then truncates the log after its last committed frame.
 fn load_and_truncate<D: Disk + Drop>(alloc: Global, log: &mut Log<D>) -> R<Seats>
-    ensures crash { IsFalse (state_of log.old).has_failed → HasPageSize (D.file (db_of log.old)).content (state_of log.old).page_size
-        → IsTrue (D.tells (db_of log.old)) → IsTrue (D.tells (log_of log.old)) → IsSynced (D.file (db_of log.old))
+    ensures crash { IsFalse (state_of log.old).has_failed
+        → HasPageSize (D.file (db_of log.old)).content (state_of log.old).page_size
+        → IsTrue (D.tells (db_of log.old)) → IsTrue (D.tells (log_of log.old))
+        → IsSynced (D.file (db_of log.old))
         → IsSynced (D.file (log_of log.old))
-        → Throughout (LeavesOpened (D.file (db_of log.old)) (D.file (log_of log.old))) (D.file (db_of log.old)) (D.file (log_of log.old)) (D.file (db_of log.new)) (D.file (log_of log.new)) }
+        → Throughout (LeavesOpened (D.file (db_of log.old)) (D.file (log_of log.old)))
+        (D.file (db_of log.old)) (D.file (log_of log.old)) (D.file (db_of log.new)) (D.file (log_of log.new)) }
     ensures cut { OnOk result ((state_of log.new ≡ state_of log.old)
         × (IsTrue (D.tells (log_of log.old))
         → IsCutTo (state_of log.old) (D.file (log_of log.old)).content (D.file (log_of log.new)).content)) }
-    ensures left { IsFalse (state_of log.old).has_failed → IsTrue (D.tells (db_of log.old)) → IsTrue (D.tells (log_of log.old))
+    ensures left { IsFalse (state_of log.old).has_failed → IsTrue (D.tells (db_of log.old))
+        → IsTrue (D.tells (log_of log.old))
         → IsContentLeft (D.file (db_of log.old)) → IsContentLeft (D.file (log_of log.old))
         → IsContentLeft (D.file (db_of log.new)) × IsContentLeft (D.file (log_of log.new)) }
     ensures kept { IsTrue (D.tells (db_of log.old)) → IsTrue (D.tells (log_of log.old))
-        → IfErr result (KeepsFilesBut Io (D.file (db_of log.old)) (D.file (log_of log.old)) (D.file (db_of log.new)) (D.file (log_of log.new))) }
+        → IfErr result (KeepsFilesBut Io (D.file (db_of log.old)) (D.file (log_of log.old))
+        (D.file (db_of log.new)) (D.file (log_of log.new))) }
     // Tables are loaded only of a database that the newest view holds.
     ensures found { Tells log.old
-        → IfOk result (λ seats. FindsDatabase (pages_in (newest_view log.old)) (newest_view log.old).page_size (catalog_in seats)) }
+        → IfOk result (λ seats. FindsDatabase (pages_in (newest_view log.old))
+        (newest_view log.old).page_size (catalog_in seats)) }
     // Of settled files that hold a database the catalog lists its tables, and the files stay settled.
     ensures opens { (tables : List Table) (database : Database) → Tells log.old → IsSettled log.old
-        → ShowsDatabase (newest_view log.old) tables database → IsOrOutside (StartsWith database log.new) result }
+        → ShowsDatabase (newest_view log.old) tables database
+        → IsOrOutside (StartsWith database log.new) result }
     ensures cause { HasCause false result log.old log.new }
     ensures not_blank { IfErr result (λ fault. fault ≡ Fault.Blank → ⊥) }
 {
@@ -150,11 +163,13 @@ impl<D: Disk + Drop> Engine<D> {
     pub fn open(alloc: Global, db: D, log: D, salts: Salts) -> Result<Engine<D>, Refused<D>>
         // A crash leaves what was there before, or what was read of it; or the database file that was read, with a log of the same commits.
         ensures crash { IsTrue (D.tells db) → IsTrue (D.tells log)
-            → Throughout (LeavesOpened (D.file db) (D.file log)) (D.file db) (D.file log) (D.file (db_left result)) (D.file (log_left result)) }
+            → Throughout (LeavesOpened (D.file db) (D.file log)) (D.file db) (D.file log)
+            (D.file (db_left result)) (D.file (log_left result)) }
         // Files that hold a database, as a crash left them, hold it at each moment.
         ensures holds { HoldsMeanwhile db log result }
         // What is in the files then, also where a call failed, a crash may leave.
-        ensures left { IsTrue (D.tells db) → IsTrue (D.tells log) → IsContentLeft (D.file db) → IsContentLeft (D.file log)
+        ensures left { IsTrue (D.tells db) → IsTrue (D.tells log) → IsContentLeft (D.file db)
+            → IsContentLeft (D.file log)
             → IsContentLeft (D.file (db_left result)) × IsContentLeft (D.file (log_left result)) }
         ensures opened { IfOk result (IsOpenedFrom db log salts) }
         ensures refused { IfErr result (IsRefusedOpen D.tells D.file D.failures db log) }
@@ -203,11 +218,13 @@ impl<D: Disk + Drop> Engine<D> {
     /// checkpoint may mark the engine as failed: then every statement answers `Failed`.
     pub fn execute(&mut self, connection: u32, text: &str) -> R<Rows>
         // Once a commit or a checkpoint has failed so, every statement is refused, and nothing changes any more.
-        ensures failed { IsTrue (has_failed_of self.old) → (result ≡ Err Fault.Failed) × (self.new ≡ self.old) }
+        ensures failed { IsTrue (has_failed_of self.old) → (result ≡ Err Fault.Failed)
+            × (self.new ≡ self.old) }
         ensures numbered { IsFalse (has_failed_of self.old) → IsNoConnection connection
             → (result ≡ Err (Fault.Misuse Misuse.Connection)) × (self.new ≡ self.old) }
         // A statement of a form that isn't supported yet is refused and changes nothing.
-        ensures unsupported { (statement : Statement) → first_refusal (has_failed_of self.old) connection ≡ Ok tt
+        ensures unsupported { (statement : Statement)
+            → first_refusal (has_failed_of self.old) connection ≡ Ok tt
             → IsStatementText text.now statement → IsFalse (forms.is_supported statement)
             → IfOk result (λ _. ⊥) × (self.new ≡ self.old) }
         // What the counts of the two disks' failed calls say of the answer, and of the mark of a failed engine.

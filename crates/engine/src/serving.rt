@@ -18,7 +18,8 @@ use std::io::{BufRead, ErrorKind, Write};
 
 /// Writes some bytes of a text, and returns the rest: the whole text if the output was interrupted.
 fn write_some<'a, O: Write>(output: &mut O, text: &'a [u8]) -> R<&'a [u8]>
-    ensures written { IfOk result (λ rest. HasWritten (O.contents output.old) (O.contents output.new) text.now rest.now) }
+    ensures written { IfOk result (λ rest. HasWritten (O.contents output.old)
+        (O.contents output.new) text.now rest.now) }
     ensures refused { OnErr result (Keeps (O.contents output.old) (O.contents output.new)) }
     ensures why { IfErr result IsInputRefusal }
 {
@@ -57,8 +58,10 @@ fn write_reply<O: Write>(
     output: &mut O,
     reply: &R<Rows>,
 ) -> R<()>
-    ensures written { OnOk result (Appends (O.contents output.old) (O.contents output.new) (reply_text (reply_of reply.now))) }
-    ensures refused { OnErr result (AppendsPart (O.contents output.old) (O.contents output.new) (reply_text (reply_of reply.now))) }
+    ensures written { OnOk result (Appends (O.contents output.old) (O.contents output.new)
+        (reply_text (reply_of reply.now))) }
+    ensures refused { OnErr result (AppendsPart (O.contents output.old) (O.contents output.new)
+        (reply_text (reply_of reply.now))) }
     ensures why { IfErr result IsInputRefusal }
 {
     text.clear();
@@ -87,9 +90,11 @@ impl<D: Disk + Drop> Engine<D> {
     /// Executes lines until the input ends, and writes the reply to each. Then open transactions are dropped. `Memory`, or
     /// `Io` if the input or the output fails; what is written is then a beginning of the replies.
     pub fn run<I: BufRead, O: Write>(&mut self, input: &mut I, output: &mut O) -> R<()>
-        ensures served { OnOk result (HasRun self.old (I.remaining input.old) (I.remaining input.new) (O.contents output.old)
+        ensures served { OnOk result (HasRun self.old (I.remaining input.old)
+            (I.remaining input.new) (O.contents output.old)
             (O.contents output.new) self.new) }
-        ensures refused { OnErr result (HasRunInPart self.old (I.remaining input.old) (O.contents output.old) (O.contents output.new) self.new) }
+        ensures refused { OnErr result (HasRunInPart self.old (I.remaining input.old)
+            (O.contents output.old) (O.contents output.new) self.new) }
         ensures why { IfErr result IsInputRefusal }
         // The engine is marked as failed only where a call of a disk failed.
         ensures marked { MarksWhereCounted self.old self.new }
@@ -100,9 +105,11 @@ impl<D: Disk + Drop> Engine<D> {
     }
 
     fn serve<I: BufRead, O: Write>(&mut self, input: &mut I, output: &mut O) -> R<()>
-        ensures served { OnOk result (HasServed self.old (I.remaining input.old) (I.remaining input.new) (O.contents output.old)
+        ensures served { OnOk result (HasServed self.old (I.remaining input.old)
+            (I.remaining input.new) (O.contents output.old)
             (O.contents output.new) self.new) }
-        ensures refused { OnErr result (HasServedInPart self.old (I.remaining input.old) (O.contents output.old) (O.contents output.new) self.new) }
+        ensures refused { OnErr result (HasServedInPart self.old (I.remaining input.old)
+            (O.contents output.old) (O.contents output.new) self.new) }
         ensures why { IfErr result IsInputRefusal }
     {
         let alloc = self.allocator();

@@ -34,11 +34,10 @@ use Rattle.catalog.specs.declared.tables.Index.{Index}
 use Rattle.catalog.specs.declared.tables.Table.{Table}
 use Rattle.catalog.proofs.Found.{names_found}
 use Rattle.query_names.specs.Checked.{Checked, Meant, faults}
-use Rattle.query_names.specs.Creating.{IsCreateRefusal, has_no_rules}
+use Rattle.query_names.specs.Creating.{IsCreateRefusal, has_plain_rules}
 use Rattle.query_names.specs.Schema.{create}
 use Rattle.query_names.proofs.CreatedTables.{makes_table, refuses_table}
 use Rattle.row_scan.specs.Rows.{TableRow}
-use Rattle.db_pages.specs.Forms.{is_table_supported}
 use Rattle.db_pages.specs.Schema.{AreRowsOf, IndexTold, IsCreateOf, IsTableRow, TableTold, all_told, schema_row}
 use Rattle.db_pages.specs.Stored.{Stores}
 use Rattle.executor.specs.Changing.{IsChangeRefusal, IsMade}
@@ -67,7 +66,7 @@ refused_work : (k : Checked Database) (r : Refusal) → Contains (faults k) r �
 refused_work (Meant db []) r has = absurd (omega (arith, has.1))
 refused_work (Meant db (s ∷ rs)) r has = has
 
-pub reached : (sql : List ℕ) (db : Database) (rows_at : ℕ → List TableRow) (tables : List Table) (d : TableDefinition) (t : Table) → IsOfTables rows_at tables db → has_no_rules d ≡ true → IsNewTable tables d t
+pub reached : (sql : List ℕ) (db : Database) (rows_at : ℕ → List TableRow) (tables : List Table) (d : TableDefinition) (t : Table) → IsOfTables rows_at tables db → has_plain_rules d ≡ true → IsNewTable tables d t
     → Reaches (change_made (creating sql d) db) (with_object db d.name (ATable (plain_table t [])))
 reached sql db rows_at tables d t of_tables plain new =
     subst (λ (k : Checked Database). Reaches (of_known k) (with_object db d.name (ATable (plain_table t []))))
@@ -137,7 +136,7 @@ module _ (laws : Laws) (old : PageMap) (size : ℕ) (tables : List Table) (db : 
     schema_then = schema_stands mid size (rows_with held.rows_at root []) (t ∷ tables) held.schema then_trees laws.stand
 
     -- its row isn't added
-    pub refused_row : has_no_rules d ≡ true → (f : Fault) → IsOutsideOrFull f ⊎ AreTooLong (schema_row (codes "table") d.name d.name root sql) f → IsChangeRefusal (creating sql d) db f
+    pub refused_row : has_plain_rules d ≡ true → (f : Fault) → IsOutsideOrFull f ⊎ AreTooLong (schema_row (codes "table") d.name d.name root sql) f → IsChangeRefusal (creating sql d) db f
     refused_row plain f (inl full) = inl full
     refused_row plain f (inr (what, long)) = inr (inr (record {
       is = what;
@@ -146,7 +145,7 @@ module _ (laws : Laws) (old : PageMap) (size : ℕ) (tables : List Table) (db : 
       why = inr (root, long);
     }))
 
-    module _ (plain : is_table_supported d ≡ true) (text : IsCreateOf sql (object.Table d)) (new : PageMap) (unused : is_among t.rowid (rowids_of tables) ≡ false)
+    module _ (plain : has_plain_rules d ≡ true) (text : IsCreateOf sql (object.Table d)) (new : PageMap) (unused : is_among t.rowid (rowids_of tables) ≡ false)
         (added : IsAdded mid new size (schema_row (codes "table") d.name d.name root sql) held.schema held.schema_used tree.now_free t.rowid) where
       longer : length mid ≤ length new
       longer = added.becomes.moves.longer
@@ -210,7 +209,7 @@ module _ (laws : Laws) (old : PageMap) (size : ℕ) (tables : List Table) (db : 
           (stores_of new size (rows_with held.rows_at root []) (t ∷ tables) (with_row added.entry held.schema) (with_object db t.name (ATable (plain_table t [])))
           (with_schema mid size (rows_with held.rows_at root []) (t ∷ tables) held.schema then_trees laws.give_way new (with_row added.entry held.schema) added.becomes) of_more told)
 
-      pub creates : (listed : List Table) → listed ≡ t ∷ tables → has_no_rules d ≡ true → IsMade (creating sql d) db new size listed
+      pub creates : (listed : List Table) → listed ≡ t ∷ tables → has_plain_rules d ≡ true → IsMade (creating sql d) db new size listed
       creates listed same no_rules = record {
         made = with_object db d.name (ATable (plain_table t []));
         reaches = reached sql db held.rows_at tables d t held.of_tables no_rules new_table;

@@ -36,7 +36,7 @@ use Rattle.row_change.specs.Agreement.{IsSetFor}
 use Rattle.row_change.specs.Binding.{row_with}
 use Rattle.row_change.specs.Changes.{Given, Inserts, Resolved, no_outer, resolve_change, resolve_given}
 use Rattle.row_change.specs.Constraints.{table_of}
-use Rattle.row_change.specs.Inserting.{AllStorable, IsRefusedAs, given_at, last_rowid, rows_added}
+use Rattle.row_change.specs.Inserting.{AllStorable, last_rowid, rows_added}
 use Rattle.record.specs.Writing.{AreStorable}
 use Rattle.db_write.specs.Changing.{InsertsInTrees, IsRefusedInsert}
 use Rattle.db_write.specs.Turning.{AreEntriesStorable}
@@ -155,7 +155,7 @@ pub record IsGivenAs (db : Database) (i : Insert) (t : Table) (places : List (Op
   pub source : Given
   pub stands : resolve_change db no_outer (kind.Insert i) ≡ Meant (Inserts (folded i.table) at source) []
   pub answered : given_rows db no_outer source ≡ Ok rows
-  pub placed : AllByRecursion (λ vs. row_with t at vs ≡ map (given_at vs) places) rows
+  pub placed : AllByRecursion (IsSetFor t places at) rows
 
 module _ (laws : Laws) (pages : PageMap) (size : ℕ) (tables : List Table) (db : Database) (held : Stores pages size tables db) (i : Insert) (t : Table) (n : ℕ) (named : table_named i.table tables ≡ Some t)
     (columns : AreColumns t.columns i.columns) (n_is : n ≡ count_wanted i.columns t) where
@@ -190,8 +190,8 @@ module _ (laws : Laws) (pages : PageMap) (size : ℕ) (tables : List Table) (db 
         source = meant (source_known db n i);
         stands = stands_so (meant (source_known db n i)) is.0;
         answered = is.1;
-        placed = each_for (λ vs. length vs ≡ n) (λ vs. row_with t (value_places t i.columns) vs ≡ map (given_at vs) places) rows (λ vs l.
-            subst (λ ps. row_with t (value_places t i.columns) vs ≡ map (given_at vs) ps) (sym places_are)
+        placed = each_for (λ vs. length vs ≡ n) (IsSetFor t places (value_places t i.columns)) rows (λ vs l.
+            subst (λ ps. IsSetFor t ps (value_places t i.columns) vs) (sym places_are)
             (row_placed db i.table i.source t found once i.columns columns vs (l ∙ n_is))) wide;
       }
 
@@ -243,23 +243,17 @@ module _ (laws : Laws) (pages : PageMap) (size : ℕ) (tables : List Table) (db 
   owned = held_table pages size tables db held i.table t named
 
   set_for : All (IsSetFor t places is.at) given
-  set_for = all_of (IsSetFor t places is.at) given (each_for (λ vs. row_with t is.at vs ≡ map (given_at vs) places) (IsSetFor t places is.at) given one is.placed)
-    where
-      one : (vs : List Value) → row_with t is.at vs ≡ map (given_at vs) places → IsSetFor t places is.at vs
-      one vs e = record {
-        full = ap length e ∙ (length-map places (given_at vs) ∙ long);
-        each = λ k lt. ap (λ ws. slice_index_or ws k Null) e ∙ get_or-map (given_at vs) places k None Null (omega (arith, lt, long));
-      }
+  set_for = all_of (IsSetFor t places is.at) given is.placed
 
   -- what the statement comes to on the database
   abbrev changed : List (List Value) → Answer Database
-  changed rows = rows_added t.columns places (last_rowid (held.rows_at t.root)) rows then λ added. Ok (with_object db (folded i.table) (ATable (plain_table t (held.rows_at t.root ++ added))))
+  changed rows = rows_added t places (last_rowid (held.rows_at t.root)) rows then λ added. Ok (with_object db (folded i.table) (ATable (plain_table t (held.rows_at t.root ++ added))))
 
   change_is : 1 ≤ length given → change db (kind.Insert i) ≡ changed given
   change_is some =
       laws.inserts db i t (held.rows_at t.root) is.at is.source places given held.of_tables.only (listed_table held.rows_at tables db i.table t held.of_tables.lists named) owned.split.is.fit is.stands is.answered set_for some
 
-  pub made : (added : List TableRow) → rows_added t.columns places (last_rowid (held.rows_at t.root)) given ≡ Ok added → IsMadeOf held.rows_at tables db i t added
+  pub made : (added : List TableRow) → rows_added t places (last_rowid (held.rows_at t.root)) given ≡ Ok added → IsMadeOf held.rows_at tables db i t added
   made added e = by (some_or_none given)
     where
       same : [] ≡ added → (root : ℕ) → held.rows_at root ≡ rows_with held.rows_at t.root (held.rows_at t.root ++ added) root
@@ -270,7 +264,7 @@ module _ (laws : Laws) (pages : PageMap) (size : ℕ) (tables : List Table) (db 
 
       by : (given ≡ []) ⊎ (1 ≤ length given) → IsMadeOf held.rows_at tables db i t added
       by (inl none) =
-          let nothing = nothing_added added (subst (λ rows. rows_added t.columns places (last_rowid (held.rows_at t.root)) rows ≡ Ok added) none e) in
+          let nothing = nothing_added added (subst (λ rows. rows_added t places (last_rowid (held.rows_at t.root)) rows ≡ Ok added) none e) in
           record {
             made = db;
             is = laws.none db i t (held.rows_at t.root) is.at is.source (listed_table held.rows_at tables db i.table t held.of_tables.lists named) is.stands (is.answered ∙ ap (λ (rows : List (List Value)). Ok rows) none);
@@ -296,16 +290,12 @@ module _ (laws : Laws) (pages : PageMap) (size : ℕ) (tables : List Table) (db 
   pub reaches : (made : Database) → change db (kind.Insert i) ≡ Ok made → Reaches (change_made (inserting i) db) made
   reaches made e = (not_refused laws db i _ held.of_tables.only is.stands, subst (λ (a : Answer Database). Reaches (of_answer a) made) (sym e) refl)
 
-  pub refused : (f : Fault) → IsRefusedAs (rows_added t.columns places (last_rowid (held.rows_at t.root)) given) f → work i db (refusal_of f)
-  refused f (what, e) = inr (not_refused laws db i _ held.of_tables.only is.stands, subst (λ (a : Answer Database). RefusesWith (of_answer a) (refusal_of f)) (sym (by (some_or_none given))) (as_answer what))
+  pub refused : (f : Fault) → rows_added t places (last_rowid (held.rows_at t.root)) given ≡ Err (refusal_of f) → work i db (refusal_of f)
+  refused f e = inr (not_refused laws db i _ held.of_tables.only is.stands, subst (λ (a : Answer Database). RefusesWith (of_answer a) (refusal_of f)) (sym (by (some_or_none given))) (refused_so f))
     where
       by : (given ≡ []) ⊎ (1 ≤ length given) → change db (kind.Insert i) ≡ Err (refusal_of f)
-      by (inl none) = absurd (not_none (refusal_of f) (subst (λ rows. rows_added t.columns places (last_rowid (held.rows_at t.root)) rows ≡ Err (refusal_of f)) none e))
+      by (inl none) = absurd (not_none (refusal_of f) (subst (λ rows. rows_added t places (last_rowid (held.rows_at t.root)) rows ≡ Err (refusal_of f)) none e))
       by (inr some) = change_is some ∙ ap (λ (a : Answer (List TableRow)). a then λ added. Ok (with_object db (folded i.table) (ATable (plain_table t (held.rows_at t.root ++ added))))) e
-
-      as_answer : (f ≡ fault.RealRefused) ⊎ (f ≡ fault.RowidFull) → RefusesWith (of_answer (Err (refusal_of f))) (refusal_of f)
-      as_answer (inl e) = subst (λ (x : Fault). RefusesWith (of_answer (Err (refusal_of x))) (refusal_of x)) (sym e) (0, omega arith, refl)
-      as_answer (inr e) = subst (λ (x : Fault). RefusesWith (of_answer (Err (refusal_of x))) (refusal_of x)) (sym e) (0, omega arith, refl)
 
   -- the database has the rows that are too long
   long_row : (added : List TableRow) (m : IsMadeOf held.rows_at tables db i t added) → (AllStorable added × AreEntriesStorable t.indexes added → ⊥) → HasLongRow m.made

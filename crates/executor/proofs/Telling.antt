@@ -8,12 +8,12 @@ use Rattle.tree_leaf.specs.Leaf.{Entry}
 use Rattle.tree_page.specs.Cells.{Pairwise}
 use Rattle.tree_table.specs.Rows.{payload_at, with_row, without_row}
 use Rattle.sql_syntax.specs.declared.create.TableDefinition.{TableDefinition}
-use Rattle.catalog.specs.Listed.{has_doubled, is_table, rowids_in, rowids_of}
+use Rattle.catalog.specs.Listed.{is_table, rowids_in, rowids_of}
 use Rattle.catalog.specs.UnusedRowids.{is_among}
 use Rattle.catalog.specs.declared.tables.Index.{Index}
 use Rattle.catalog.specs.declared.tables.Table.{Table}
 use Rattle.query_names.specs.Bound.{AreOnce, is_twice_named}
-use Rattle.query_names.specs.Creating.{HasColumnsOf}
+use Rattle.query_names.specs.Creating.{HasColumnsOf, has_doubled}
 use Rattle.query_names.proofs.CreatedTables.{keeps_once}
 use Rattle.db_pages.specs.Reordering.{AreReordered}
 use Rattle.db_pages.specs.Schema.{AreRowsOf, HasRowOf, IndexTold, TableTold, Tells, Told, all_told, told_by}

@@ -217,7 +217,7 @@ module _ (laws : Laws) (pages : PageMap) (size : ℕ) (tables : List Table) (db 
       its_trees : AreAmong pages size (schema_tree held.schema held.schema_used) (all_trees owned.split.before) t (held.rows_at t.root) (all_trees owned.split.after)
       its_trees = among pages size held.rows_at tables held.schema trees t owned
 
-      change_is : (a : Answer (List TableRow)) → rows_set t.columns sets condition (held.rows_at t.root) ≡ a → change db (kind.Update u) ≡ (a then λ now. Ok (with_now now))
+      change_is : (a : Answer (List TableRow)) → rows_set t sets condition (held.rows_at t.root) ≡ a → change db (kind.Update u) ≡ (a then λ now. Ok (with_now now))
       change_is a e =
           laws.updates db u t (held.rows_at t.root) sets (named_sets u) condition held.of_tables.only held.of_tables.named (listed_table held.rows_at tables db u.table t held.of_tables.lists named) owned.split.is.fit bound
           ∙ ap (λ (x : Answer (List TableRow)). x then λ now. Ok (with_now now)) e

@@ -66,8 +66,10 @@ pub fn change<P: WritePages>(
     catalog: &Catalog,
     write: Write<'_>,
 ) -> R<Option<Catalog>>
-    ensures made { IsTrue (P.Pages.tells (P.Pages.below pages.old)) → forms.WhereSupported (written write.entry)
-        (MakesChange (tables_then (tables_of catalog.now)) (written write.entry) (P.Pages.map pages.old) (P.Pages.map pages.new)
+    ensures made { IsTrue (P.Pages.tells (P.Pages.below pages.old))
+        → forms.WhereSupported (written write.entry)
+        (MakesChange (tables_then (tables_of catalog.now)) (written write.entry)
+        (P.Pages.map pages.old) (P.Pages.map pages.new)
         (P.Pages.limits (P.Pages.below pages.old)).page (tables_of catalog.now) result) }
     ensures listed { IfOk result (λ next. is_some next ≡ changes_objects write.entry) }
     ensures kept { P.Pages.below pages.new ≡ P.Pages.below pages.old }

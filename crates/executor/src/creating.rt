@@ -7,20 +7,20 @@ ghost use Rattle.pages.specs.Calls.{Causes};
 ghost use Rattle.sql_syntax.specs.declared.create.NewObject.TheVariants as object;
 ghost use Rattle.sql_syntax.specs.declared.statement.Statement.TheVariants as statement;
 ghost use Rattle.catalog.specs.Listed.{is_name_of, tables_of};
-ghost use Rattle.query_names.specs.Creating.{IsCreateRefusal};
-ghost use Rattle.db_pages.specs.Forms.{is_table_supported};
+ghost use Rattle.query_names.specs.Creating.{IsCreateRefusal, has_plain_rules};
 ghost use Rattle.db_pages.specs.Schema.{IsCreateOf, IsTableOf, schema_row};
 ghost use Rattle.executor.specs.Changing.{MakesChange};
 ghost use Rattle.executor.specs.Listing.{AddsRow, IsNewTable};
 
 use catalog::{
-    Catalog, Index, Table, columns_of, indexes_come_and_go, is_reserved, named_databases_are_one,
+    Catalog, Index, Table, indexes_come_and_go, is_reserved, named_databases_are_one,
     new_tables_are_listed, other_rows_are_listed, with_index,
 };
 use db_layout::{table_trees_stand, trees_give_way};
 use db_write::add_index;
 use pages::WritePages;
 use query_bind::{bind_index, indexes_are_created_as_defined};
+use query_names::bind_columns;
 use record::encode_row;
 use sql_syntax::{IndexDefinition, TableDefinition};
 use sqlval::{Damage, Fault, Many, Misuse, Name, R, Text, Value};
@@ -42,7 +42,8 @@ fn schema_values(
     root: u32,
     sql: &Text,
 ) -> R<Vec<Value>>
-    ensures values { IfOk result (λ values. values.items ≡ schema_row kind.now name.now table.now root sql.now) }
+    ensures values { IfOk result (λ values. values.items
+        ≡ schema_row kind.now name.now table.now root sql.now) }
     ensures memory { IfErr result (λ fault. fault ≡ Fault.Memory) }
 {
     let mut values = Vec::new(alloc);
@@ -54,7 +55,7 @@ fn schema_values(
     Ok(values)
 }
 
-/// The table of a definition, without a tree and a row in the schema table as yet. (`Misuse(ReservedName)`, `Exists`, and what `columns_of` refuses.)
+/// The table of a definition, without a tree and a row in the schema table as yet. (`Misuse(ReservedName)`, `Exists`, and what `bind_columns` refuses.)
 fn table_of(alloc: Global, catalog: &Catalog, definition: &TableDefinition) -> R<Table>
     ensures made { IfOk result (λ table. IsNewTable (tables_of catalog.now) definition.now table) }
     ensures why { IfErr result (λ fault. (fault ≡ Fault.Memory)
@@ -69,7 +70,7 @@ fn table_of(alloc: Global, catalog: &Catalog, definition: &TableDefinition) -> R
         return Err(Fault::Exists(name.copy(alloc)?));
     }
     Ok(Table {
-        columns: columns_of(alloc, definition)?,
+        columns: bind_columns(alloc, definition)?,
         name: name.copy(alloc)?,
         indexes: Many::new(alloc),
         root: NO_PAGE,
@@ -81,7 +82,8 @@ fn table_of(alloc: Global, catalog: &Catalog, definition: &TableDefinition) -> R
 /// `Damaged(Order, 1)` if there is such a row.)
 fn add_row<P: WritePages>(alloc: Global, pages: &mut P, rowid: i64, values: &[Value]) -> R<()>
     ensures added { IsTrue (P.Pages.tells (P.Pages.below pages.old))
-        → AddsRow (P.Pages.map pages.old) (P.Pages.map pages.new) (P.Pages.limits (P.Pages.below pages.old)).page rowid values.now result }
+        → AddsRow (P.Pages.map pages.old) (P.Pages.map pages.new)
+        (P.Pages.limits (P.Pages.below pages.old)).page rowid values.now result }
     ensures kept { P.Pages.below pages.new ≡ P.Pages.below pages.old }
     ensures causes { Causes result (P.Pages.failures pages.old) (P.Pages.failures pages.new)
         (P.Pages.count pages.new ≡ (P.Pages.limits (P.Pages.below pages.new)).most) }
@@ -94,7 +96,7 @@ fn add_row<P: WritePages>(alloc: Global, pages: &mut P, rowid: i64, values: &[Va
 }
 
 /// Makes a table: its row in the schema table, and a tree without rows. Answers the catalog with it. (`Misuse(ReservedName)`, `Exists`, and
-/// what `columns_of` refuses; `TooLong` if no record can hold its row. Then some pages may have changed.)
+/// what `bind_columns` refuses; `TooLong` if no record can hold its row. Then some pages may have changed.)
 pub fn create_table<P: WritePages>(
     alloc: Global,
     pages: &mut P,
@@ -102,9 +104,11 @@ pub fn create_table<P: WritePages>(
     sql: &Text,
     definition: &TableDefinition,
 ) -> R<Catalog>
-    ensures made { IsTrue (P.Pages.tells (P.Pages.below pages.old)) → is_table_supported definition.now ≡ true
+    ensures made { IsTrue (P.Pages.tells (P.Pages.below pages.old))
+        → has_plain_rules definition.now ≡ true
         → IsCreateOf sql.now (object.Table definition.now)
-        → MakesChange tables_of (statement.Create (record { sql = sql.now; object = object.Table definition.now })) (P.Pages.map pages.old)
+        → MakesChange tables_of (statement.Create
+        (record { sql = sql.now; object = object.Table definition.now })) (P.Pages.map pages.old)
         (P.Pages.map pages.new) (P.Pages.limits (P.Pages.below pages.old)).page (tables_of catalog.now) result }
     ensures kept { P.Pages.below pages.new ≡ P.Pages.below pages.old }
     ensures causes { Causes result (P.Pages.failures pages.old) (P.Pages.failures pages.new)
@@ -135,9 +139,11 @@ pub fn create_index<P: WritePages>(
     sql: &Text,
     definition: &IndexDefinition,
 ) -> R<Catalog>
-    ensures made { IsTrue (P.Pages.tells (P.Pages.below pages.old)) → definition.now.is_unique ≡ false
+    ensures made { IsTrue (P.Pages.tells (P.Pages.below pages.old))
+        → definition.now.is_unique ≡ false
         → IsCreateOf sql.now (object.Index definition.now)
-        → MakesChange tables_of (statement.Create (record { sql = sql.now; object = object.Index definition.now })) (P.Pages.map pages.old)
+        → MakesChange tables_of (statement.Create
+        (record { sql = sql.now; object = object.Index definition.now })) (P.Pages.map pages.old)
         (P.Pages.map pages.new) (P.Pages.limits (P.Pages.below pages.old)).page (tables_of catalog.now) result }
     ensures kept { P.Pages.below pages.new ≡ P.Pages.below pages.old }
     ensures causes { Causes result (P.Pages.failures pages.old) (P.Pages.failures pages.new)

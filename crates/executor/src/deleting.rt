@@ -21,7 +21,8 @@ use trigger::only_tables_set_nothing_off;
 /// The table of a name. (`NoSuch` if none has it.)
 pub(crate) fn listed_table<'a>(alloc: Global, catalog: &'a Catalog, name: &Name) -> R<&'a Table>
     ensures found { IfOk result (λ table. table_named name.now (tables_of catalog.now) ≡ Some table.now) }
-    ensures refused { IfErr result (λ fault. (fault ≡ Fault.Memory) ⊎ (refusal_of fault ≡ refusal.NoSuch)
+    ensures refused { IfErr result (λ fault. (fault ≡ Fault.Memory)
+        ⊎ (refusal_of fault ≡ refusal.NoSuch)
         × (table_named name.now (tables_of catalog.now) ≡ None)) }
     ensures not_disk { IfErr result (λ fault. IsNotDiskFault fault) }
 {
@@ -40,7 +41,8 @@ pub fn delete_rows<P: WritePages>(
     delete: &Delete,
 ) -> R<()>
     ensures made { IsTrue (P.Pages.tells (P.Pages.below pages.old))
-        → MakesChange (λ done. tables_of catalog.now) (statement.Change (change.Delete delete.now)) (P.Pages.map pages.old) (P.Pages.map pages.new)
+        → MakesChange (λ done. tables_of catalog.now) (statement.Change (change.Delete delete.now))
+        (P.Pages.map pages.old) (P.Pages.map pages.new)
         (P.Pages.limits (P.Pages.below pages.old)).page (tables_of catalog.now) result }
     ensures kept { P.Pages.below pages.new ≡ P.Pages.below pages.old }
     ensures causes { Causes result (P.Pages.failures pages.old) (P.Pages.failures pages.new)

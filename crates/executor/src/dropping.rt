@@ -30,7 +30,8 @@ use tree_table::remove;
 /// Takes the row of a rowid out of the schema table. (What `remove` refuses; `Damaged(Schema, 1)` if there is none.)
 fn take_row<P: WritePages>(alloc: Global, pages: &mut P, rowid: i64) -> R<()>
     ensures taken { IsTrue (P.Pages.tells (P.Pages.below pages.old))
-        → TakesSchemaRow (P.Pages.map pages.old) (P.Pages.map pages.new) (P.Pages.limits (P.Pages.below pages.old)).page rowid result }
+        → TakesSchemaRow (P.Pages.map pages.old) (P.Pages.map pages.new)
+        (P.Pages.limits (P.Pages.below pages.old)).page rowid result }
     ensures kept { P.Pages.below pages.new ≡ P.Pages.below pages.old }
     ensures causes { Causes result (P.Pages.failures pages.old) (P.Pages.failures pages.new)
         (P.Pages.count pages.new ≡ (P.Pages.limits (P.Pages.below pages.new)).most) }
@@ -44,7 +45,8 @@ fn take_row<P: WritePages>(alloc: Global, pages: &mut P, rowid: i64) -> R<()>
 /// Takes the rows of indexes out of the schema table. (What `take_row` refuses.)
 fn take_index_rows<P: WritePages>(alloc: Global, pages: &mut P, indexes: &[Index]) -> R<()>
     ensures taken { IsTrue (P.Pages.tells (P.Pages.below pages.old))
-        → TakesSchemaRows (P.Pages.map pages.old) (P.Pages.map pages.new) (P.Pages.limits (P.Pages.below pages.old)).page
+        → TakesSchemaRows (P.Pages.map pages.old) (P.Pages.map pages.new)
+        (P.Pages.limits (P.Pages.below pages.old)).page
         (map (λ index. index.rowid) indexes.now) result }
     ensures kept { P.Pages.below pages.new ≡ P.Pages.below pages.old }
     ensures causes { Causes result (P.Pages.failures pages.old) (P.Pages.failures pages.new)
@@ -61,7 +63,8 @@ fn take_index_rows<P: WritePages>(alloc: Global, pages: &mut P, indexes: &[Index
 /// Takes the rows of a table and of its indexes out of the schema table. (What `take_row` refuses.)
 fn take_rows<P: WritePages>(alloc: Global, pages: &mut P, table: &Table) -> R<()>
     ensures taken { IsTrue (P.Pages.tells (P.Pages.below pages.old))
-        → TakesSchemaRows (P.Pages.map pages.old) (P.Pages.map pages.new) (P.Pages.limits (P.Pages.below pages.old)).page
+        → TakesSchemaRows (P.Pages.map pages.old) (P.Pages.map pages.new)
+        (P.Pages.limits (P.Pages.below pages.old)).page
         (rowids_in table.now) result }
     ensures kept { P.Pages.below pages.new ≡ P.Pages.below pages.old }
     ensures causes { Causes result (P.Pages.failures pages.old) (P.Pages.failures pages.new)
@@ -101,7 +104,8 @@ fn drop_table<P: WritePages>(
     name: &Name,
 ) -> R<Catalog>
     ensures made { IsTrue (P.Pages.tells (P.Pages.below pages.old))
-        → MakesChange tables_of (statement.Drop kinds.Table name.now) (P.Pages.map pages.old) (P.Pages.map pages.new)
+        → MakesChange tables_of (statement.Drop kinds.Table name.now) (P.Pages.map pages.old)
+        (P.Pages.map pages.new)
         (P.Pages.limits (P.Pages.below pages.old)).page (tables_of catalog.now) result }
     ensures kept { P.Pages.below pages.new ≡ P.Pages.below pages.old }
     ensures causes { Causes result (P.Pages.failures pages.old) (P.Pages.failures pages.new)
@@ -120,7 +124,8 @@ fn drop_table<P: WritePages>(
 
 /// The first of a table's indexes that has this name.
 fn index_named<'a>(table: &'a Table, name: &str) -> Option<&'a Index>
-    ensures { option_map (λ index. index.now) result ≡ find (λ index. is_same_name index.name name.now) table.now.indexes }
+    ensures { option_map (λ index. index.now) result ≡ find
+        (λ index. is_same_name index.name name.now) table.now.indexes }
 {
     table
         .indexes
@@ -142,7 +147,8 @@ fn drop_listed_index<P: WritePages>(
     ensures made { IsTrue (P.Pages.tells (P.Pages.below pages.old))
         → table_with_index name.now (tables_of catalog.now) ≡ Some table.now
         → find (λ other. is_same_name other.name name.now) table.now.indexes ≡ Some index.now
-        → MakesChange tables_of (statement.Drop kinds.Index name.now) (P.Pages.map pages.old) (P.Pages.map pages.new)
+        → MakesChange tables_of (statement.Drop kinds.Index name.now) (P.Pages.map pages.old)
+        (P.Pages.map pages.new)
         (P.Pages.limits (P.Pages.below pages.old)).page (tables_of catalog.now) result }
     ensures kept { P.Pages.below pages.new ≡ P.Pages.below pages.old }
     ensures causes { Causes result (P.Pages.failures pages.old) (P.Pages.failures pages.new)
@@ -162,7 +168,8 @@ fn drop_listed_index<P: WritePages>(
 fn listed_index<'a>(alloc: Global, catalog: &'a Catalog, name: &Name) -> R<(&'a Table, &'a Index)>
     ensures found { IfOk result (λ found. (table_with_index name.now (tables_of catalog.now) ≡ Some found.0.now)
         × (find (λ other. is_same_name other.name name.now) found.0.now.indexes ≡ Some found.1.now)) }
-    ensures refused { IfErr result (λ fault. (fault ≡ Fault.Memory) ⊎ (refusal_of fault ≡ refusal.NoSuch)
+    ensures refused { IfErr result (λ fault. (fault ≡ Fault.Memory)
+        ⊎ (refusal_of fault ≡ refusal.NoSuch)
         × (table_with_index name.now (tables_of catalog.now) ≡ None)) }
     ensures not_disk { IfErr result (λ fault. IsNotDiskFault fault) }
 {
@@ -183,7 +190,8 @@ fn drop_index<P: WritePages>(
     name: &Name,
 ) -> R<Catalog>
     ensures made { IsTrue (P.Pages.tells (P.Pages.below pages.old))
-        → MakesChange tables_of (statement.Drop kinds.Index name.now) (P.Pages.map pages.old) (P.Pages.map pages.new)
+        → MakesChange tables_of (statement.Drop kinds.Index name.now) (P.Pages.map pages.old)
+        (P.Pages.map pages.new)
         (P.Pages.limits (P.Pages.below pages.old)).page (tables_of catalog.now) result }
     ensures kept { P.Pages.below pages.new ≡ P.Pages.below pages.old }
     ensures causes { Causes result (P.Pages.failures pages.old) (P.Pages.failures pages.new)

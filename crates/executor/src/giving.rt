@@ -47,7 +47,8 @@ fn bind_row(alloc: Global, row: &[Expr]) -> R<Many<Term>>
 
 /// Looks up the names of the rows of VALUES. (What `bind_row` refuses.)
 fn bind_rows(alloc: Global, rows: &[Many<Expr>]) -> R<Many<Many<Term>>>
-    ensures { NamesBy (λ found. found) (known_all (map (λ row. known_all (map (resolve false []) row)) rows.now)) result }
+    ensures { NamesBy (λ found. found) (known_all
+        (map (λ row. known_all (map (resolve false []) row)) rows.now)) result }
 {
     let mut found = Many::new(alloc);
     'rows: for row in rows {
@@ -76,7 +77,8 @@ fn row_values(alloc: Global, terms: &[Term]) -> R<Row>
 
 /// The values of each row's terms. (What `row_values` refuses.)
 fn evaluated_rows(alloc: Global, rows: &[Many<Term>]) -> R<Rows>
-    ensures { AnswersBy (λ found. map values_of found.items) (all_answers (map (values (env_of [])) rows.now)) result }
+    ensures { AnswersBy (λ found. map values_of found.items)
+        (all_answers (map (values (env_of [])) rows.now)) result }
 {
     let mut found = Vec::new(alloc);
     'rows: for terms in rows {
@@ -115,9 +117,13 @@ fn counted_rows<P: Pages>(
     bound: &BoundReading,
     count: usize,
 ) -> R<Rows>
-    ensures given { (db : Database) (query : Asked) → IsTrue (P.Pages.tells (P.Pages.below pages.old))
-        → Stores (P.Pages.map pages.old) (P.Pages.limits (P.Pages.below pages.old)).page (tables_of catalog.now) db
-        → ArePlaced (tables_of catalog.now) bound.now.reading.sources bound.now.tables → Asks db query bound.now.reading → AnswersRead (λ found. map values_of found.items) (given_on db count (source.Query query)) result }
+    ensures given { (db : Database) (query : Asked)
+        → IsTrue (P.Pages.tells (P.Pages.below pages.old))
+        → Stores (P.Pages.map pages.old) (P.Pages.limits (P.Pages.below pages.old)).page
+        (tables_of catalog.now) db
+        → ArePlaced (tables_of catalog.now) bound.now.reading.sources bound.now.tables
+        → Asks db query bound.now.reading → AnswersRead (λ found. map values_of found.items)
+        (given_on db count (source.Query query)) result }
     ensures wide { IfOk result (λ found. HaveWidth count (map values_of found.items)) }
     ensures stays { Stays P.Pages.below P.Pages.map P.Pages.count P.Pages.failures result pages.old pages.new }
 {
@@ -136,7 +142,8 @@ fn queried_rows<P: Pages>(
     count: usize,
 ) -> R<Rows>
     ensures given { (db : Database) → IsTrue (P.Pages.tells (P.Pages.below pages.old))
-        → Stores (P.Pages.map pages.old) (P.Pages.limits (P.Pages.below pages.old)).page (tables_of catalog.now) db
+        → Stores (P.Pages.map pages.old) (P.Pages.limits (P.Pages.below pages.old)).page
+        (tables_of catalog.now) db
         → AnswersRead (λ found. map values_of found.items) (given_on db count (source.Query query.now)) result }
     ensures wide { IfOk result (λ found. HaveWidth count (map values_of found.items)) }
     ensures stays { Stays P.Pages.below P.Pages.map P.Pages.count P.Pages.failures result pages.old pages.new }
@@ -154,7 +161,8 @@ pub fn given_rows<P: Pages>(
     count: usize,
 ) -> R<Rows>
     ensures given { (db : Database) → IsTrue (P.Pages.tells (P.Pages.below pages.old))
-        → Stores (P.Pages.map pages.old) (P.Pages.limits (P.Pages.below pages.old)).page (tables_of catalog.now) db
+        → Stores (P.Pages.map pages.old) (P.Pages.limits (P.Pages.below pages.old)).page
+        (tables_of catalog.now) db
         → AnswersRead (λ found. map values_of found.items) (given_on db count source.now) result }
     ensures wide { IfOk result (λ found. HaveWidth count (map values_of found.items)) }
     ensures stays { Stays P.Pages.below P.Pages.map P.Pages.count P.Pages.failures result pages.old pages.new }

@@ -29,7 +29,8 @@ use tree_table::{Batch, Cursor};
 
 /// The table that a query's source of a number is, if there is one of its name.
 fn table_of<'a>(catalog: &'a Catalog, reading: &Reading, source: usize) -> Option<&'a Table>
-    ensures { option_map (λ table. table.now) result ≡ source_table (tables_of catalog.now) reading.now.sources source }
+    ensures { option_map (λ table. table.now) result ≡ source_table
+        (tables_of catalog.now) reading.now.sources source }
 {
     let (name, _) = reading.sources.as_slice().get(source)?;
     catalog.table(name.as_str())
@@ -46,9 +47,11 @@ fn needed_rows<P: Pages>(
     place: BoundSource,
 ) -> R<Many<SourceRow>>
     ensures loaded { IsTrue (P.Pages.tells (P.Pages.below pages.old))
-        → LoadsNeeded (P.Pages.map pages.old) (P.Pages.limits (P.Pages.below pages.old)).page (tables_of catalog.now) reading.now source place result }
+        → LoadsNeeded (P.Pages.map pages.old) (P.Pages.limits (P.Pages.below pages.old)).page
+        (tables_of catalog.now) reading.now source place result }
     ensures exact { IsTrue (P.Pages.tells (P.Pages.below pages.old))
-        → LoadsSought (P.Pages.map pages.old) (P.Pages.limits (P.Pages.below pages.old)).page (tables_of catalog.now) reading.now source place result }
+        → LoadsSought (P.Pages.map pages.old) (P.Pages.limits (P.Pages.below pages.old)).page
+        (tables_of catalog.now) reading.now source place result }
     ensures stays { Stays P.Pages.below P.Pages.map P.Pages.count P.Pages.failures result pages.old pages.new }
 {
     let Some(table) = table_of(catalog, reading, source) else {
@@ -71,7 +74,8 @@ fn load_sources<P: Pages>(
     places: &[BoundSource],
 ) -> R<Vec<Many<SourceRow>>>
     ensures loaded { IsTrue (P.Pages.tells (P.Pages.below pages.old))
-        → LoadsSources (λ sources. sources.items) (P.Pages.map pages.old) (P.Pages.limits (P.Pages.below pages.old)).page
+        → LoadsSources (λ sources. sources.items) (P.Pages.map pages.old)
+        (P.Pages.limits (P.Pages.below pages.old)).page
         (tables_of catalog.now) reading.now places.now result }
     ensures stays { Stays P.Pages.below P.Pages.map P.Pages.count P.Pages.failures result pages.old pages.new }
 {
@@ -93,9 +97,11 @@ fn loaded_rows<P: Pages>(
     bound: &BoundReading,
 ) -> R<Rows>
     ensures answered { IsTrue (P.Pages.tells (P.Pages.below pages.old))
-        → AnswersBound (λ rows. map values_of rows.items) (P.Pages.map pages.old) (P.Pages.limits (P.Pages.below pages.old)).page
+        → AnswersBound (λ rows. map values_of rows.items) (P.Pages.map pages.old)
+        (P.Pages.limits (P.Pages.below pages.old)).page
         (tables_of catalog.now) bound.now result }
-    ensures wide { IfOk result (λ rows. HaveWidth (length bound.now.reading.results) (map values_of rows.items)) }
+    ensures wide { IfOk result (λ rows. HaveWidth (length bound.now.reading.results)
+        (map values_of rows.items)) }
     ensures stays { Stays P.Pages.below P.Pages.map P.Pages.count P.Pages.failures result pages.old pages.new }
 {
     rows_are_loaded_beside_conditions();
@@ -114,7 +120,8 @@ fn streamed_rows<P: Pages>(
 ) -> R<Rows>
     requires { row_by_row reading.now ≡ true }
     ensures answered { IsTrue (P.Pages.tells (P.Pages.below pages.old))
-        → Streams (λ rows. map values_of rows.items) (P.Pages.map pages.old) (P.Pages.limits (P.Pages.below pages.old)).page reading.now table result }
+        → Streams (λ rows. map values_of rows.items) (P.Pages.map pages.old)
+        (P.Pages.limits (P.Pages.below pages.old)).page reading.now table result }
     ensures wide { IfOk result (λ rows. HaveWidth (length reading.now.results) (map values_of rows.items)) }
     ensures stays { Stays P.Pages.below P.Pages.map P.Pages.count P.Pages.failures result pages.old pages.new }
 {
@@ -133,8 +140,10 @@ fn streamed_rows<P: Pages>(
 
 /// Whether a query seeks something of a source. (`Memory`.)
 fn seeks(alloc: Global, catalog: &Catalog, reading: &Reading, source: usize) -> R<bool>
-    ensures seen { IfOk result (λ seeks. seeks ≡ true → IsSearched (tables_of catalog.now) reading.now source) }
-    ensures only { IfOk result (λ seeks. seeks ≡ false → IsScanned (tables_of catalog.now) reading.now source) }
+    ensures seen { IfOk result (λ seeks. seeks ≡ true
+        → IsSearched (tables_of catalog.now) reading.now source) }
+    ensures only { IfOk result (λ seeks. seeks ≡ false
+        → IsScanned (tables_of catalog.now) reading.now source) }
     ensures refused { IfErr result (λ fault. fault ≡ Fault.Memory) }
 {
     match table_of(catalog, reading, source) {
@@ -166,9 +175,11 @@ pub(crate) fn bound_rows<P: Pages>(
     bound: &BoundReading,
 ) -> R<Rows>
     ensures answered { IsTrue (P.Pages.tells (P.Pages.below pages.old))
-        → AnswersBound (λ rows. map values_of rows.items) (P.Pages.map pages.old) (P.Pages.limits (P.Pages.below pages.old)).page
+        → AnswersBound (λ rows. map values_of rows.items) (P.Pages.map pages.old)
+        (P.Pages.limits (P.Pages.below pages.old)).page
         (tables_of catalog.now) bound.now result }
-    ensures wide { IfOk result (λ rows. HaveWidth (length bound.now.reading.results) (map values_of rows.items)) }
+    ensures wide { IfOk result (λ rows. HaveWidth (length bound.now.reading.results)
+        (map values_of rows.items)) }
     ensures stays { Stays P.Pages.below P.Pages.map P.Pages.count P.Pages.failures result pages.old pages.new }
 {
     rows_are_loaded_beside_conditions();
@@ -181,7 +192,8 @@ pub(crate) fn bound_rows<P: Pages>(
 /// The rows of a query. (What `bind_reading` and `bound_rows` refuse.)
 pub fn read<P: Pages>(alloc: Global, pages: &mut P, catalog: &Catalog, query: &Query) -> R<Rows>
     ensures answered { (db : Database) → IsTrue (P.Pages.tells (P.Pages.below pages.old))
-        → Stores (P.Pages.map pages.old) (P.Pages.limits (P.Pages.below pages.old)).page (tables_of catalog.now) db
+        → Stores (P.Pages.map pages.old) (P.Pages.limits (P.Pages.below pages.old)).page
+        (tables_of catalog.now) db
         → AnswersRead (λ rows. map values_of rows.items) (read_on db query.now) result }
     ensures stays { Stays P.Pages.below P.Pages.map P.Pages.count P.Pages.failures result pages.old pages.new }
 {

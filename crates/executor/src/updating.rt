@@ -25,7 +25,8 @@ pub fn update_rows<P: WritePages>(
     update: &Update,
 ) -> R<()>
     ensures made { IsTrue (P.Pages.tells (P.Pages.below pages.old))
-        → MakesChange (λ done. tables_of catalog.now) (statement.Change (change.Update update.now)) (P.Pages.map pages.old) (P.Pages.map pages.new)
+        → MakesChange (λ done. tables_of catalog.now) (statement.Change (change.Update update.now))
+        (P.Pages.map pages.old) (P.Pages.map pages.new)
         (P.Pages.limits (P.Pages.below pages.old)).page (tables_of catalog.now) result }
     ensures kept { P.Pages.below pages.new ≡ P.Pages.below pages.old }
     ensures causes { Causes result (P.Pages.failures pages.old) (P.Pages.failures pages.new)

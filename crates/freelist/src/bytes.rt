@@ -14,7 +14,8 @@ use std::alloc::Global;
 
 /// The number in the four bytes from a place on; None if the page ends before.
 pub fn number_at(page: &[u8], at: usize) -> Option<u32>
-    ensures only { (n : ℕ) (front rest : List ℕ) → n < 2 ^ 32 → page.now ≡ front ++ (to_be_bytes w32 n ++ rest) → length front ≡ at
+    ensures only { (n : ℕ) (front rest : List ℕ) → n < 2 ^ 32
+        → page.now ≡ front ++ (to_be_bytes w32 n ++ rest) → length front ≡ at
         → result ≡ Some n }
 {
     if page.len() < 4 || at > page.len() - 4 {
@@ -25,7 +26,8 @@ pub fn number_at(page: &[u8], at: usize) -> Option<u32>
 
 /// Writes a number over the four bytes from a place on, if the page has them.
 pub fn set_number(page: &mut [u8], at: usize, number: u32)
-    ensures set { (cell front rest : List ℕ) → length cell ≡ 4 → page.old ≡ front ++ (cell ++ rest) → length front ≡ at
+    ensures set { (cell front rest : List ℕ) → length cell ≡ 4 → page.old ≡ front ++ (cell ++ rest)
+        → length front ≡ at
         → page.new ≡ front ++ (to_be_bytes w32 number ++ rest) }
     ensures same { length page.new ≡ length page.old }
 {
@@ -54,7 +56,8 @@ pub fn set_header(page: &mut [u8], header: &Header)
 
 /// The next trunk page, and how many pages a trunk page lists; None if it has no room for them.
 pub fn listed(page: &[u8]) -> Option<(u32, u32)>
-    ensures only { (next : ℕ) (leaves : List ℕ) → IsTrunkPage page.now next leaves → result ≡ Some (next, length leaves) }
+    ensures only { (next : ℕ) (leaves : List ℕ) → IsTrunkPage page.now next leaves
+        → result ≡ Some (next, length leaves) }
     ensures room { IfSome result (λ found. found.1 + 2 ≤ length page.now / 4) }
 {
     let next = number_at(page, 0)?;

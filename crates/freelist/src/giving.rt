@@ -24,8 +24,10 @@ fn give_trunk<P: WritePages>(
 ) -> R<()>
     requires size { IsPageSize header.page_size }
     requires few { header.freelist_count + 1 < 2 ^ 32 }
-    ensures given { IsTrue (P.Pages.tells (P.Pages.below pages.old)) → IsFront (P.Pages.map pages.old) first.old header
-        → Gives (P.Pages.map pages.old) (P.Pages.map pages.new) (P.Pages.limits (P.Pages.below pages.old)).page page result }
+    ensures given { IsTrue (P.Pages.tells (P.Pages.below pages.old))
+        → IsFront (P.Pages.map pages.old) first.old header
+        → Gives (P.Pages.map pages.old) (P.Pages.map pages.new)
+        (P.Pages.limits (P.Pages.below pages.old)).page page result }
     ensures kept { P.Pages.below pages.new ≡ P.Pages.below pages.old }
     ensures counted { P.Pages.count pages.new ≡ P.Pages.count pages.old }
     ensures causes { Causes result (P.Pages.failures pages.old) (P.Pages.failures pages.new) ⊥ }
@@ -56,10 +58,13 @@ fn give_leaf<P: WritePages>(
     requires few { header.freelist_count + 1 < 2 ^ 32 }
     requires room { len + 8 < length trunk.now / 4 }
     requires short { len + 1 < 2 ^ 32 }
-    ensures given { IsTrue (P.Pages.tells (P.Pages.below pages.old)) → IsFront (P.Pages.map pages.old) first.old header
+    ensures given { IsTrue (P.Pages.tells (P.Pages.below pages.old))
+        → IsFront (P.Pages.map pages.old) first.old header
         → trunk.old ≡ page_at (P.Pages.map pages.old) header.freelist_trunk
-        → 1 ≤ header.freelist_count → (next : ℕ) → LeadsTo (page_at (P.Pages.map pages.old) header.freelist_trunk) next len
-        → Gives (P.Pages.map pages.old) (P.Pages.map pages.new) (P.Pages.limits (P.Pages.below pages.old)).page page result }
+        → 1 ≤ header.freelist_count → (next : ℕ)
+        → LeadsTo (page_at (P.Pages.map pages.old) header.freelist_trunk) next len
+        → Gives (P.Pages.map pages.old) (P.Pages.map pages.new)
+        (P.Pages.limits (P.Pages.below pages.old)).page page result }
     ensures kept { P.Pages.below pages.new ≡ P.Pages.below pages.old }
     ensures counted { P.Pages.count pages.new ≡ P.Pages.count pages.old }
     ensures causes { Causes result (P.Pages.failures pages.old) (P.Pages.failures pages.new) ⊥ }
@@ -87,8 +92,10 @@ fn give_listed<P: WritePages>(
     requires size { IsPageSize header.page_size }
     requires some { 1 ≤ header.freelist_count }
     requires few { header.freelist_count + 1 < 2 ^ 32 }
-    ensures given { IsTrue (P.Pages.tells (P.Pages.below pages.old)) → IsFront (P.Pages.map pages.old) first.old header
-        → Gives (P.Pages.map pages.old) (P.Pages.map pages.new) (P.Pages.limits (P.Pages.below pages.old)).page page result }
+    ensures given { IsTrue (P.Pages.tells (P.Pages.below pages.old))
+        → IsFront (P.Pages.map pages.old) first.old header
+        → Gives (P.Pages.map pages.old) (P.Pages.map pages.new)
+        (P.Pages.limits (P.Pages.below pages.old)).page page result }
     ensures kept { P.Pages.below pages.new ≡ P.Pages.below pages.old }
     ensures counted { P.Pages.count pages.new ≡ P.Pages.count pages.old }
     ensures causes { Causes result (P.Pages.failures pages.old) (P.Pages.failures pages.new) ⊥ }
@@ -112,8 +119,10 @@ fn give_told<P: WritePages>(
     first: &mut [u8],
 ) -> R<()>
     requires size { IsPageSize header.page_size }
-    ensures given { IsTrue (P.Pages.tells (P.Pages.below pages.old)) → IsFront (P.Pages.map pages.old) first.old header
-        → Gives (P.Pages.map pages.old) (P.Pages.map pages.new) (P.Pages.limits (P.Pages.below pages.old)).page page result }
+    ensures given { IsTrue (P.Pages.tells (P.Pages.below pages.old))
+        → IsFront (P.Pages.map pages.old) first.old header
+        → Gives (P.Pages.map pages.old) (P.Pages.map pages.new)
+        (P.Pages.limits (P.Pages.below pages.old)).page page result }
     ensures kept { P.Pages.below pages.new ≡ P.Pages.below pages.old }
     ensures counted { P.Pages.count pages.new ≡ P.Pages.count pages.old }
     ensures causes { Causes result (P.Pages.failures pages.old) (P.Pages.failures pages.new) ⊥ }
@@ -133,7 +142,8 @@ fn give_told<P: WritePages>(
 /// `put` refuses, if the page isn't one of the file.)
 pub fn give<P: WritePages>(alloc: Global, pages: &mut P, page: u32) -> R<()>
     ensures given { IsTrue (P.Pages.tells (P.Pages.below pages.old))
-        → Gives (P.Pages.map pages.old) (P.Pages.map pages.new) (P.Pages.limits (P.Pages.below pages.old)).page page result }
+        → Gives (P.Pages.map pages.old) (P.Pages.map pages.new)
+        (P.Pages.limits (P.Pages.below pages.old)).page page result }
     ensures kept { P.Pages.below pages.new ≡ P.Pages.below pages.old }
     ensures counted { P.Pages.count pages.new ≡ P.Pages.count pages.old }
     ensures causes { Causes result (P.Pages.failures pages.old) (P.Pages.failures pages.new) ⊥ }

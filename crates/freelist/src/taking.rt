@@ -18,9 +18,11 @@ use std::alloc::Global;
 fn take_trunk<P: WritePages>(pages: &mut P, header: Header, next: u32, first: &mut [u8]) -> R<u32>
     requires size { IsPageSize header.page_size }
     requires some { 1 ≤ header.freelist_count }
-    ensures taken { IsTrue (P.Pages.tells (P.Pages.below pages.old)) → IsFront (P.Pages.map pages.old) first.old header
+    ensures taken { IsTrue (P.Pages.tells (P.Pages.below pages.old))
+        → IsFront (P.Pages.map pages.old) first.old header
         → LeadsTo (page_at (P.Pages.map pages.old) header.freelist_trunk) next 0
-        → Takes (P.Pages.map pages.old) (P.Pages.map pages.new) (P.Pages.limits (P.Pages.below pages.old)).page result }
+        → Takes (P.Pages.map pages.old) (P.Pages.map pages.new)
+        (P.Pages.limits (P.Pages.below pages.old)).page result }
     ensures kept { P.Pages.below pages.new ≡ P.Pages.below pages.old }
     ensures causes { Causes result (P.Pages.failures pages.old) (P.Pages.failures pages.new) ⊥ }
 {
@@ -49,10 +51,12 @@ fn take_leaf<P: WritePages>(
     requires some { 1 ≤ header.freelist_count }
     requires leaves { 1 ≤ len }
     requires room { len + 2 ≤ length trunk.now / 4 }
-    ensures taken { IsTrue (P.Pages.tells (P.Pages.below pages.old)) → IsFront (P.Pages.map pages.old) first.old header
+    ensures taken { IsTrue (P.Pages.tells (P.Pages.below pages.old))
+        → IsFront (P.Pages.map pages.old) first.old header
         → trunk.old ≡ page_at (P.Pages.map pages.old) header.freelist_trunk
         → (next : ℕ) → LeadsTo (page_at (P.Pages.map pages.old) header.freelist_trunk) next len
-        → Takes (P.Pages.map pages.old) (P.Pages.map pages.new) (P.Pages.limits (P.Pages.below pages.old)).page result }
+        → Takes (P.Pages.map pages.old) (P.Pages.map pages.new)
+        (P.Pages.limits (P.Pages.below pages.old)).page result }
     ensures kept { P.Pages.below pages.new ≡ P.Pages.below pages.old }
     ensures causes { Causes result (P.Pages.failures pages.old) (P.Pages.failures pages.new) ⊥ }
 {
@@ -80,8 +84,10 @@ fn take_listed<P: WritePages>(
 ) -> R<u32>
     requires size { IsPageSize header.page_size }
     requires some { 1 ≤ header.freelist_count }
-    ensures taken { IsTrue (P.Pages.tells (P.Pages.below pages.old)) → IsFront (P.Pages.map pages.old) first.old header
-        → Takes (P.Pages.map pages.old) (P.Pages.map pages.new) (P.Pages.limits (P.Pages.below pages.old)).page result }
+    ensures taken { IsTrue (P.Pages.tells (P.Pages.below pages.old))
+        → IsFront (P.Pages.map pages.old) first.old header
+        → Takes (P.Pages.map pages.old) (P.Pages.map pages.new)
+        (P.Pages.limits (P.Pages.below pages.old)).page result }
     ensures kept { P.Pages.below pages.new ≡ P.Pages.below pages.old }
     ensures causes { Causes result (P.Pages.failures pages.old) (P.Pages.failures pages.new) ⊥ }
 {
@@ -101,7 +107,8 @@ fn take_listed<P: WritePages>(
 /// no such list.) What is on the page doesn't matter.
 pub fn take<P: WritePages>(alloc: Global, pages: &mut P) -> R<u32>
     ensures taken { IsTrue (P.Pages.tells (P.Pages.below pages.old))
-        → Takes (P.Pages.map pages.old) (P.Pages.map pages.new) (P.Pages.limits (P.Pages.below pages.old)).page result }
+        → Takes (P.Pages.map pages.old) (P.Pages.map pages.new)
+        (P.Pages.limits (P.Pages.below pages.old)).page result }
     ensures kept { P.Pages.below pages.new ≡ P.Pages.below pages.old }
     ensures causes { Causes result (P.Pages.failures pages.old) (P.Pages.failures pages.new)
         (P.Pages.count pages.new ≡ (P.Pages.limits (P.Pages.below pages.new)).most) }

@@ -3,3 +3,7 @@ pub mod RowEntries
 pub mod Comparing
 pub mod Checked
 pub mod Makings
+pub mod Neighbours
+pub mod OneKeys
+pub mod UniqueMakings
+pub mod SameClashes

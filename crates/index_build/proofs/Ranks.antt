@@ -35,13 +35,13 @@ then_equal Equal = refl
 then_equal Greater = refl
 
 -- the values of a list from a place of another on
-abbrev LieAt : ℕ → List Value → List Value → Type 0
+abbrev pub LieAt : ℕ → List Value → List Value → Type 0
 LieAt place a xs = (k : ℕ) → value_or_null a (k + place) ≡ value_or_null xs k
 
-first_at : (place : ℕ) (a xs : List Value) (x : Value) → LieAt place a (x ∷ xs) → value_or_null a place ≡ x
+pub first_at : (place : ℕ) (a xs : List Value) (x : Value) → LieAt place a (x ∷ xs) → value_or_null a place ≡ x
 first_at place a xs x lie = (let none : 0 + place ≡ place = omega arith in sym (ap (value_or_null a) none) ∙ lie 0)
 
-rest_at : (place : ℕ) (a xs : List Value) (x : Value) → LieAt place a (x ∷ xs) → LieAt (place + 1) a xs
+pub rest_at : (place : ℕ) (a xs : List Value) (x : Value) → LieAt place a (x ∷ xs) → LieAt (place + 1) a xs
 rest_at place a xs x lie k = (let next : k + (place + 1) ≡ suc k + place = omega arith in ap (value_or_null a) next ∙ lie (suc k))
 
 same_order : (c : Collation) (v w x y : Value) → v ≡ x → w ≡ y → order c v w ≡ order c x y
@@ -76,7 +76,7 @@ column_next [] place d lt = absurd (omega (arith, lt))
 column_next (column ∷ columns) zero d lt = refl
 column_next (column ∷ columns) (suc place) d lt = column_next columns place d (omega (arith, lt))
 
-column_there : (columns : List IndexColumn) (place : ℕ) (d : IndexColumn) → place < length columns → drop place columns ≡ slice_index_or columns place d ∷ drop (place + 1) columns
+pub column_there : (columns : List IndexColumn) (place : ℕ) (d : IndexColumn) → place < length columns → drop place columns ≡ slice_index_or columns place d ∷ drop (place + 1) columns
 column_there columns place d lt =
     (let next : suc place ≡ place + 1 = omega arith in subst (λ (n : ℕ). drop place columns ≡ slice_index_or columns place d ∷ drop n columns) next (column_next columns place d lt))
 

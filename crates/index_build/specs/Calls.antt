@@ -1,11 +1,12 @@
 -- What the calls do.
-use Rattle.std.specs.Prelude.{◌≡◌, ◌⊎◌, ℕ, Bool, IsTrue, List, map, ⊤, Result, MatchResult}
+use Rattle.std.specs.Prelude.{◌≡◌, ◌⊎◌, ℕ, Bool, true, IsTrue, List, map, ⊤, Result, MatchResult}
 use Rattle.sqlval.specs.Faults.{IsOutside}
 use Rattle.sqlval.specs.declared.collation.Collation.{Collation}
 use Rattle.sqlval.specs.declared.fault.Damage.TheVariants as Damage
 use Rattle.sqlval.specs.declared.fault.Fault.{Fault}
 use Rattle.sqlval.specs.declared.fault.Fault.TheVariants.{Damaged}
 use Rattle.pages.specs.Map.{PageMap, AreWhole}
+use Rattle.query_names.specs.Keys.{has_clash}
 use Rattle.query_names.specs.declared.queries.BoundSource.{BoundSource}
 use Rattle.row_scan.specs.Rows.{TableRow}
 use Rattle.row_scan.specs.Trees.{HasRows}
@@ -13,12 +14,18 @@ use Rattle.tree_index.specs.Entries.{Entry}
 use Rattle.tree_index.specs.Tree.{IsIndexTree}
 use Rattle.index_entries.specs.Entries.{entries_of_rows}
 use Rattle.index_entries.specs.Keeping.{columns_in}
+use Rattle.catalog.specs.Database.{Index}
 use Rattle.catalog.specs.declared.tables.IndexColumn.{IndexColumn}
 
 -- Of a tree of rows these are the entries, in order; or memory was short, or a disk's call failed.
 abbrev pub SortsEntries : PageMap → ℕ → BoundSource → List IndexColumn → Result (List Entry) Fault → Type 0
 SortsEntries pages size table columns result = (rows : List TableRow) → AreWhole size pages → HasRows pages size table.root table.width rows
     → MatchResult result (λ found. found ≡ entries_of_rows (columns_in columns) rows) IsOutside
+
+-- Of the entries of rows, in the order of a UNIQUE index of these columns, the answer is whether two of the rows have one key without NULL.
+abbrev pub TellsClash : List IndexColumn → List Entry → Bool → Type 0
+TellsClash columns entries answer = (i : Index) (rows : List TableRow) → i.is_unique ≡ true → i.columns ≡ columns_in columns
+    → entries ≡ entries_of_rows (columns_in columns) rows → answer ≡ has_clash i rows
 
 -- ---- entries that are compared
 

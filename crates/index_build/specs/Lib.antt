@@ -1,3 +1,4 @@
 pub mod Ranking
 pub mod Calls
 pub mod Making
+pub mod Laws

@@ -43,7 +43,8 @@ fn has_values(record: &Record<'_>, values: &[Value]) -> bool
 
 /// Whether these bytes are a record of these values. (`Memory`, and what `Record::over` refuses.)
 fn is_record_of(alloc: Global, bytes: &[u8], values: &[Value]) -> R<bool>
-    ensures only { (entry : Entry) → IsRecord bytes.now entry → IsOrMemory (λ same. Tells same (entry ≡ values.now)) result }
+    ensures only { (entry : Entry) → IsRecord bytes.now entry
+        → IsOrMemory (λ same. Tells same (entry ≡ values.now)) result }
     ensures not_disk { IfErr result IsNotDiskFault }
 {
     let record = Record::over(alloc, bytes)?;
@@ -85,7 +86,8 @@ fn compare_with<P: Pages>(
     entries: &[Many<Value>],
 ) -> R<()>
     ensures compared { IsTrue (P.Pages.tells (P.Pages.below pages.old))
-        → ComparesEntries (P.Pages.map pages.old) (P.Pages.limits (P.Pages.below pages.old)).page root columns.now entries.now result }
+        → ComparesEntries (P.Pages.map pages.old)
+        (P.Pages.limits (P.Pages.below pages.old)).page root columns.now entries.now result }
     ensures stays { Stays P.Pages.below P.Pages.map P.Pages.count P.Pages.failures result pages.old pages.new }
 {
     let mut batch = Vec::new(alloc);
@@ -118,7 +120,8 @@ pub fn check_entries<P: Pages>(
     columns: &[IndexColumn],
 ) -> R<()>
     ensures checked { IsTrue (P.Pages.tells (P.Pages.below pages.old))
-        → ChecksEntries (P.Pages.map pages.old) (P.Pages.limits (P.Pages.below pages.old)).page root table columns.now result }
+        → ChecksEntries (P.Pages.map pages.old)
+        (P.Pages.limits (P.Pages.below pages.old)).page root table columns.now result }
     ensures stays { Stays P.Pages.below P.Pages.map P.Pages.count P.Pages.failures result pages.old pages.new }
 {
     let entries = sorted_entries(alloc, pages, table, columns)?;

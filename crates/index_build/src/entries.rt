@@ -20,7 +20,7 @@ use std::alloc::Global;
 use std::cmp::Ordering;
 
 /// The value at a place, NULL past the last.
-fn value_in(values: &[Value], place: usize) -> Field<'_>
+pub(crate) fn value_in(values: &[Value], place: usize) -> Field<'_>
     ensures { value_of result ≡ unwrap_or (slice_get values.now place) Null }
 {
     match values.get(place) {
@@ -63,7 +63,7 @@ fn entries_of(alloc: Global, rows: &[SourceRow], columns: &[IndexColumn]) -> R<V
 }
 
 /// How the values at a place of two entries stand.
-fn compare_at(collation: Collation, place: usize, a: &[Value], b: &[Value]) -> Ordering
+pub(crate) fn compare_at(collation: Collation, place: usize, a: &[Value], b: &[Value]) -> Ordering
     ensures { result ≡ order collation (value_or_null a.now place) (value_or_null b.now place) }
 {
     compare_fields(value_in(a, place), value_in(b, place), collation)
@@ -99,7 +99,8 @@ pub fn sorted_entries<P: Pages>(
     columns: &[IndexColumn],
 ) -> R<Many<Many<Value>>>
     ensures sorted { IsTrue (P.Pages.tells (P.Pages.below pages.old))
-        → SortsEntries (P.Pages.map pages.old) (P.Pages.limits (P.Pages.below pages.old)).page table columns.now result }
+        → SortsEntries (P.Pages.map pages.old)
+        (P.Pages.limits (P.Pages.below pages.old)).page table columns.now result }
     ensures stays { Stays P.Pages.below P.Pages.map P.Pages.count P.Pages.failures result pages.old pages.new }
 {
     let rows = source_rows(alloc, pages, table)?;

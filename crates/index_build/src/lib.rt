@@ -2,9 +2,13 @@
 #![tactic(auto)]
 
 mod checking;
+mod clashes;
 mod entries;
+mod laws;
 mod making;
 
 pub use checking::check_entries;
+pub use clashes::has_clash;
 pub use entries::sorted_entries;
-pub use making::make_index;
+pub use laws::rows_clash_alike;
+pub use making::{make_index, make_unique_index};

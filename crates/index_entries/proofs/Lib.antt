@@ -5,3 +5,8 @@ mod Looping
 mod SameValues
 mod Replacing
 pub mod Rows
+mod Keys
+mod OtherKeys
+mod Lookings
+mod FirstEntries
+mod AloneReplacing

@@ -28,7 +28,7 @@ both_true true b e = (refl, e)
 both_true false b e = absurd (true≢false (sym e))
 
 -- rows of one rowid and of the same key have one entry
-same_entry : (columns : Columns) (gone come : Row) → gone.0 ≡ come.0 → has_same_key columns gone.1 come.1 ≡ true → indexed columns gone ≡ indexed columns come
+pub same_entry : (columns : Columns) (gone come : Row) → gone.0 ≡ come.0 → has_same_key columns gone.1 come.1 ≡ true → indexed columns gone ≡ indexed columns come
 same_entry [] gone come rowid same = ap (λ n. Int n ∷ []) rowid
 same_entry (column ∷ columns) gone come rowid same =
     let parts = both_true (is_same_value (slice_index_or gone.1 column.0 Null) (slice_index_or come.1 column.0 Null)) (has_same_key columns gone.1 come.1) same in
@@ -40,7 +40,7 @@ mapped : (columns : Columns) (before after : List Row) (gone come : Row) → ind
 mapped columns [] after gone come same = ap (λ (e : Entry). e ∷ map (indexed columns) after) same
 mapped columns (row ∷ before) after gone come same = ap (λ (es : List Entry). indexed columns row ∷ es) (mapped columns before after gone come same)
 
-same_entries : (columns : Columns) (before after : List Row) (gone come : Row) → indexed columns gone ≡ indexed columns come
+pub same_entries : (columns : Columns) (before after : List Row) (gone come : Row) → indexed columns gone ≡ indexed columns come
     → entries_of_rows columns (before ++ gone ∷ after) ≡ entries_of_rows columns (before ++ come ∷ after)
 same_entries columns before after gone come same = ap (sorted (entry_cmp (collations columns))) (mapped columns before after gone come same)
 
@@ -74,11 +74,11 @@ module _ (gone come : Row) (rowid : gone.0 ≡ come.0) where
   from_come [] all = tt
   from_come (row ∷ rows) all = (λ e. all.0 (rowid ∙ e), from_come rows all.1)
 
-  still_apart : (before after : List Row) → AreApart (before ++ gone ∷ after) → AreApart (before ++ come ∷ after)
+  pub still_apart : (before after : List Row) → AreApart (before ++ gone ∷ after) → AreApart (before ++ come ∷ after)
   still_apart [] after apart = (from_come after apart.0, apart.1)
   still_apart (row ∷ before) after apart = (one_apart row before after apart.0, still_apart before after apart.1)
 
-apart_last : (rows : List Row) (row : Row) → AllByRecursion (λ (other : Row). row.0 ≡ other.0 → ⊥) rows → AreApart rows → AreApart (rows ++ row ∷ [])
+pub apart_last : (rows : List Row) (row : Row) → AllByRecursion (λ (other : Row). row.0 ≡ other.0 → ⊥) rows → AreApart rows → AreApart (rows ++ row ∷ [])
 apart_last [] row none apart = (tt, tt)
 apart_last (first ∷ rows) row none apart = (at rows (λ e. none.0 (sym e)) apart.0, apart_last rows row none.1 apart.1) where
   at : (rows : List Row) → (first.0 ≡ row.0 → ⊥) → IsApart first rows → IsApart first (rows ++ row ∷ [])

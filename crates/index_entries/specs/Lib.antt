@@ -2,3 +2,5 @@ pub mod Entries
 pub mod Keeping
 pub mod Replacing
 pub mod Laws
+pub mod Alone
+pub mod Others

@@ -35,7 +35,8 @@ fn value_at(alloc: Global, values: &[Value], place: usize) -> R<Value>
 
 /// The values of the indexed columns, NULL past the last value. (`Memory`.)
 pub fn key_of(alloc: Global, columns: &[IndexColumn], values: &[Value]) -> R<Vec<Value>>
-    ensures key { IfOk result (λ key. key.items ≡ map (λ column. slice_index_or values.now column.place Null) columns.now) }
+    ensures key { IfOk result (λ key. key.items ≡ map
+        (λ column. slice_index_or values.now column.place Null) columns.now) }
     ensures refused { IfErr result (λ fault. fault ≡ Fault.Memory) }
 {
     let mut key = Vec::with_capacity(alloc, columns.len().saturating_add(1))?;

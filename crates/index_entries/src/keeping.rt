@@ -22,7 +22,8 @@ pub(crate) fn add_entry<P: WritePages>(
 ) -> R<()>
     requires { under.now ≡ map (λ column. column.collation) columns.now }
     ensures added { IsTrue (P.Pages.tells (P.Pages.below pages.old))
-        → AddsEntries (P.Pages.map pages.old) (P.Pages.map pages.new) (P.Pages.limits (P.Pages.below pages.old)).page
+        → AddsEntries (P.Pages.map pages.old) (P.Pages.map pages.new)
+        (P.Pages.limits (P.Pages.below pages.old)).page
         root (columns_in columns.now) (row_in row.now ∷ []) result }
     ensures kept { P.Pages.below pages.new ≡ P.Pages.below pages.old }
     ensures causes { Causes result (P.Pages.failures pages.old) (P.Pages.failures pages.new)
@@ -46,7 +47,8 @@ pub(crate) fn take_entry<P: WritePages>(
 ) -> R<()>
     requires { under.now ≡ map (λ column. column.collation) columns.now }
     ensures taken { IsTrue (P.Pages.tells (P.Pages.below pages.old))
-        → TakesEntry (P.Pages.map pages.old) (P.Pages.map pages.new) (P.Pages.limits (P.Pages.below pages.old)).page
+        → TakesEntry (P.Pages.map pages.old) (P.Pages.map pages.new)
+        (P.Pages.limits (P.Pages.below pages.old)).page
         root (columns_in columns.now) (row_in row.now) result }
     ensures kept { P.Pages.below pages.new ≡ P.Pages.below pages.old }
     ensures causes { Causes result (P.Pages.failures pages.old) (P.Pages.failures pages.new)
@@ -69,7 +71,8 @@ pub fn add_entries<P: WritePages>(
     rows: &[TableRow],
 ) -> R<()>
     ensures added { IsTrue (P.Pages.tells (P.Pages.below pages.old))
-        → AddsEntries (P.Pages.map pages.old) (P.Pages.map pages.new) (P.Pages.limits (P.Pages.below pages.old)).page
+        → AddsEntries (P.Pages.map pages.old) (P.Pages.map pages.new)
+        (P.Pages.limits (P.Pages.below pages.old)).page
         root (columns_in columns.now) (map row_in rows.now) result }
     ensures kept { P.Pages.below pages.new ≡ P.Pages.below pages.old }
     ensures causes { Causes result (P.Pages.failures pages.old) (P.Pages.failures pages.new)
@@ -94,7 +97,8 @@ pub fn take_entries<P: WritePages>(
     rows: &[TableRow],
 ) -> R<()>
     ensures taken { IsTrue (P.Pages.tells (P.Pages.below pages.old))
-        → TakesEntries (P.Pages.map pages.old) (P.Pages.map pages.new) (P.Pages.limits (P.Pages.below pages.old)).page
+        → TakesEntries (P.Pages.map pages.old) (P.Pages.map pages.new)
+        (P.Pages.limits (P.Pages.below pages.old)).page
         root (columns_in columns.now) (map row_in rows.now) result }
     ensures kept { P.Pages.below pages.new ≡ P.Pages.below pages.old }
     ensures causes { Causes result (P.Pages.failures pages.old) (P.Pages.failures pages.new)

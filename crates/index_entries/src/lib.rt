@@ -1,12 +1,15 @@
 //! An index is kept equal to its table: the entries of rows that come to the table, of rows that go, and of rows that take others' places.
 #![tactic(auto)]
 
+mod alone;
 mod columns;
 mod keeping;
 mod laws;
+mod others;
 mod replacements;
 
+pub use alone::{add_alone, replace_alone};
 pub use columns::{collations_of, key_of};
 pub use keeping::{add_entries, take_entries};
-pub use laws::entries_follow_rows;
+pub use laws::{entries_follow_rows, entries_have_keys};
 pub use replacements::replace_entries;

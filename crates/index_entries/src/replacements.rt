@@ -42,15 +42,17 @@ fn is_same_value(left: Field<'_>, right: Field<'_>) -> bool
 
 /// Whether both have the same value at a place.
 fn is_same_at(left: &[Value], right: &[Value], place: usize) -> bool
-    ensures { result ≡ is_same_value (slice_index_or left.now place Null) (slice_index_or right.now place Null) }
+    ensures { result ≡ is_same_value (slice_index_or left.now place Null)
+        (slice_index_or right.now place Null) }
 {
     is_same_value(field_at(left, place), field_at(right, place))
 }
 
 /// Whether both have the same values in the indexed columns.
-fn has_same_key(columns: &[IndexColumn], left: &[Value], right: &[Value]) -> bool
+pub(crate) fn has_same_key(columns: &[IndexColumn], left: &[Value], right: &[Value]) -> bool
     ensures { result ≡ list_all
-        (λ column. is_same_value (slice_index_or left.now column.place Null) (slice_index_or right.now column.place Null)) columns.now }
+        (λ column. is_same_value (slice_index_or left.now column.place Null)
+        (slice_index_or right.now column.place Null)) columns.now }
 {
     columns
         .iter()
@@ -70,7 +72,8 @@ fn replace_entry<P: WritePages>(
 ) -> R<()>
     requires { under.now ≡ map (λ column. column.collation) columns.now }
     ensures replaced { IsTrue (P.Pages.tells (P.Pages.below pages.old))
-        → ReplacesEntry (P.Pages.map pages.old) (P.Pages.map pages.new) (P.Pages.limits (P.Pages.below pages.old)).page
+        → ReplacesEntry (P.Pages.map pages.old) (P.Pages.map pages.new)
+        (P.Pages.limits (P.Pages.below pages.old)).page
         root (columns_in columns.now) (row_in gone.now) (row_in come.now) result }
     ensures idle { has_same_key (columns_in columns.now) (row_in gone.now).1 (row_in come.now).1 ≡ true
         → (result ≡ Ok tt) × (pages.new ≡ pages.old) }
@@ -96,7 +99,8 @@ pub fn replace_entries<P: WritePages>(
     come: &[TableRow],
 ) -> R<()>
     ensures replaced { IsTrue (P.Pages.tells (P.Pages.below pages.old))
-        → ReplacesEntries (P.Pages.map pages.old) (P.Pages.map pages.new) (P.Pages.limits (P.Pages.below pages.old)).page
+        → ReplacesEntries (P.Pages.map pages.old) (P.Pages.map pages.new)
+        (P.Pages.limits (P.Pages.below pages.old)).page
         root (columns_in columns.now) (map row_in gone.now) (map row_in come.now) result }
     ensures idle { HaveSameKeys (columns_in columns.now) (map row_in gone.now) (map row_in come.now)
         → (pages.new ≡ pages.old) × IfErr result (λ fault. fault ≡ Fault.Memory) }

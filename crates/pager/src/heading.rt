@@ -10,7 +10,8 @@ use wal::PageImage;
 
 /// Writes bytes at the front of a page, as far as it has room.
 fn put_front(page: &mut [u8], front: &[u8])
-    ensures front { length front.now ≤ length page.old → page.new ≡ front.now ++ drop (length front.now) page.old }
+    ensures front { length front.now ≤ length page.old
+        → page.new ≡ front.now ++ drop (length front.now) page.old }
     ensures bytes { IsBytes page.old }
 {
     let count = page.len().min(front.len());
@@ -21,7 +22,8 @@ fn put_front(page: &mut [u8], front: &[u8])
 fn give_header(page: &mut PageImage, header: &Header)
     requires { IsPageSize header.now.page_size }
     ensures number { page.new.number ≡ page.old.number }
-    ensures headed { 100 ≤ length page.old.bytes.items → IsHeaded page.old.bytes.items page.new.bytes.items header.now }
+    ensures headed { 100 ≤ length page.old.bytes.items
+        → IsHeaded page.old.bytes.items page.new.bytes.items header.now }
     ensures place { IsInPlace page.old page.new }
     ensures bytes { IsBytes page.old.bytes.items }
 {
@@ -31,7 +33,8 @@ fn give_header(page: &mut PageImage, header: &Header)
 /// Writes a header at the front of the first of some pages.
 pub fn rehead(pages: &mut Vec<PageImage>, header: &Header)
     requires { IsPageSize header.now.page_size }
-    ensures reheads { (old : Header) → HasHeader pages.old.items old → Reheads pages.old.items pages.new.items header.now }
+    ensures reheads { (old : Header) → HasHeader pages.old.items old
+        → Reheads pages.old.items pages.new.items header.now }
     ensures first { SetsFirst pages.old.items pages.new.items }
     ensures bytes { FirstIsBytes pages.old.items }
 {

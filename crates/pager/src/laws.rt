@@ -42,7 +42,8 @@ pub fn marks_are_sound()
 
 /// The pages of a snapshot are told where the two files are, and are those of its view.
 pub fn readers_are_told<D: Disk + Drop>(log: &Log<D>)
-    ensures told { (snapshot : Snapshot) (a b : ℕ) → Tells log.now → seen_by snapshot ≤ (state_of log.now).frames
+    ensures told { (snapshot : Snapshot) (a b : ℕ) → Tells log.now
+        → seen_by snapshot ≤ (state_of log.now).frames
         → IsTrue (tells_reader (under_reader log.now snapshot a b)) }
     ensures map { (snapshot : Snapshot) (a b : ℕ) → Tells log.now
         → pages_in (view_under (under_reader log.now snapshot a b)) ≡ pages_in (view_at log.now snapshot) }
@@ -50,10 +51,12 @@ pub fn readers_are_told<D: Disk + Drop>(log: &Log<D>)
 
 /// So are those of a sound writer, of pages of the log's size; and what tells is sound.
 pub fn writers_are_told<D: Disk + Drop>(log: &Log<D>)
-    ensures told { (writer : Writer) (a w b : ℕ) → IsSound writer → page_size_of writer ≡ (state_of log.now).page_size
+    ensures told { (writer : Writer) (a w b : ℕ) → IsSound writer
+        → page_size_of writer ≡ (state_of log.now).page_size
         → IsTrue (tells_reader (under_reader log.now (snapshot_of writer) a b))
         → IsTrue (tells_writer (under_writer log.now writer a w b)) }
-    ensures sound { (writer : Writer) (a w b : ℕ) → IsTrue (tells_writer (under_writer log.now writer a w b)) → IsSound writer }
+    ensures sound { (writer : Writer) (a w b : ℕ)
+        → IsTrue (tells_writer (under_writer log.now writer a w b)) → IsSound writer }
     ensures map { (writer : Writer) (a b : ℕ) → Tells log.now
         → map_over (under_reader log.now (snapshot_of writer) a b) writer ≡ pages_in (view_of log.now writer) }
 {}

@@ -29,7 +29,8 @@ impl Writer {
             × (marks_of self.new ≡ marks_of self.old ++ now_of self.old ∷ [])) }
         ensures same { now_of self.new ≡ now_of self.old }
         ensures stands { IsOverTheSame self.old self.new }
-        ensures refused { IfErr result (λ fault. (fault ≡ Memory) × (marks_of self.new ≡ marks_of self.old)) }
+        ensures refused { IfErr result (λ fault. (fault ≡ Memory)
+            × (marks_of self.new ≡ marks_of self.old)) }
     {
         let Some(stamp) = self.stamp.checked_add(1) else {
             return Err(Fault::Memory);
@@ -129,7 +130,8 @@ impl Writer {
         requires { IsGapFor (changes_of self.old) page.number index }
         ensures pages { OnOk result (changes_of self.new ≡ insert (changes_of self.old) index page) }
         ensures rest { DiffersInPages self.old self.new }
-        ensures refused { IfErr result (λ fault. (fault ≡ Memory) × (changes_of self.new ≡ changes_of self.old)) }
+        ensures refused { IfErr result (λ fault. (fault ≡ Memory)
+            × (changes_of self.new ≡ changes_of self.old)) }
     {
         if self.marks.is_empty() {
             return insert_stamped(&mut self.pages, &mut self.stamps, index, page, self.stamp);

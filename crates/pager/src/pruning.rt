@@ -26,12 +26,14 @@ fn is_shown<D: Disk + Drop>(
     page: &PageImage,
     buffer: &mut Vec<u8>,
 ) -> R<bool>
-    ensures kept { (state_of log.new ≡ state_of log.old) × KeepsFile D.tells D.file (db_of log.old) (db_of log.new)
+    ensures kept { (state_of log.new ≡ state_of log.old)
+        × KeepsFile D.tells D.file (db_of log.old) (db_of log.new)
         × KeepsFile D.tells D.file (log_of log.old) (log_of log.new) }
     ensures cause { HasCause false result log.old log.new }
     ensures shown { Tells log.old → seen_by snapshot ≤ (state_of log.old).frames
         → IfOk result (λ is. (is ≡ true) ↔ IsShown (view_at log.old snapshot) page.now) }
-    ensures refused { Tells log.old → seen_by snapshot ≤ (state_of log.old).frames → AreAllThere (view_at log.old snapshot)
+    ensures refused { Tells log.old → seen_by snapshot ≤ (state_of log.old).frames
+        → AreAllThere (view_at log.old snapshot)
         → 1 ≤ page.now.number → IfErr result IsOutside }
 {
     if page.number == 1 || page.number > log.size(snapshot) {
@@ -48,12 +50,14 @@ fn is_one_shown<D: Disk + Drop>(
     pages: &[PageImage],
     buffer: &mut Vec<u8>,
 ) -> R<bool>
-    ensures kept { (state_of log.new ≡ state_of log.old) × KeepsFile D.tells D.file (db_of log.old) (db_of log.new)
+    ensures kept { (state_of log.new ≡ state_of log.old)
+        × KeepsFile D.tells D.file (db_of log.old) (db_of log.new)
         × KeepsFile D.tells D.file (log_of log.old) (log_of log.new) }
     ensures cause { HasCause false result log.old log.new }
     ensures none { Tells log.old → seen_by snapshot ≤ (state_of log.old).frames
         → IfOk result (λ is. is ≡ false → AreNew (view_at log.old snapshot) pages.now pages.now) }
-    ensures refused { Tells log.old → seen_by snapshot ≤ (state_of log.old).frames → AreAllThere (view_at log.old snapshot)
+    ensures refused { Tells log.old → seen_by snapshot ≤ (state_of log.old).frames
+        → AreAllThere (view_at log.old snapshot)
         → AreNumbered pages.now → IfErr result IsOutside }
 {
     let mut left = pages;
@@ -68,7 +72,8 @@ fn is_one_shown<D: Disk + Drop>(
 
 /// A copy of a page. (`Memory`.)
 fn copy_of(alloc: Global, page: &PageImage) -> Result<PageImage, AllocError>
-    ensures { IfOk result (λ copy. (copy.number ≡ page.now.number) × (copy.bytes.items ≡ page.now.bytes.items)) }
+    ensures { IfOk result (λ copy. (copy.number ≡ page.now.number)
+        × (copy.bytes.items ≡ page.now.bytes.items)) }
 {
     Ok(PageImage {
         number: page.number,
@@ -84,13 +89,15 @@ fn new_pages<D: Disk + Drop>(
     pages: &[PageImage],
     buffer: &mut Vec<u8>,
 ) -> R<Vec<PageImage>>
-    ensures kept { (state_of log.new ≡ state_of log.old) × KeepsFile D.tells D.file (db_of log.old) (db_of log.new)
+    ensures kept { (state_of log.new ≡ state_of log.old)
+        × KeepsFile D.tells D.file (db_of log.old) (db_of log.new)
         × KeepsFile D.tells D.file (log_of log.old) (log_of log.new) }
     ensures cause { HasCause false result log.old log.new }
     ensures new { Tells log.old → seen_by snapshot ≤ (state_of log.old).frames
         → IfOk result (λ new. AreNew (view_at log.old snapshot) pages.now new.items) }
     ensures some { IfOk result (λ new. AreSome pages.now new.items) }
-    ensures refused { Tells log.old → seen_by snapshot ≤ (state_of log.old).frames → AreAllThere (view_at log.old snapshot)
+    ensures refused { Tells log.old → seen_by snapshot ≤ (state_of log.old).frames
+        → AreAllThere (view_at log.old snapshot)
         → AreNumbered pages.now → IfErr result IsOutside }
 {
     let mut new = Vec::new(alloc);
@@ -111,8 +118,10 @@ impl Writer {
     fn with_pages(&self, alloc: Global, pages: Vec<PageImage>) -> Result<Writer, AllocError>
         requires { NumbersRise 0 pages.items }
         ensures changes { IfOk result (λ writer. changes_of writer ≡ pages.items) }
-        ensures over { IfOk result (λ writer. (pages_of writer ≡ pages_of self.now) × (page_size_of writer ≡ page_size_of self.now)
-            × (snapshot_of writer ≡ snapshot_of self.now) × (makes_objects writer ≡ makes_objects self.now)) }
+        ensures over { IfOk result (λ writer. (pages_of writer ≡ pages_of self.now)
+            × (page_size_of writer ≡ page_size_of self.now)
+            × (snapshot_of writer ≡ snapshot_of self.now)
+            × (makes_objects writer ≡ makes_objects self.now)) }
     {
         let stamps = vec![in alloc; 0; pages.as_slice().len()]?;
         Ok(Writer {
@@ -136,12 +145,15 @@ impl Writer {
         log: &mut Log<D>,
         buffer: &mut Vec<u8>,
     ) -> R<Option<Writer>>
-        ensures kept { (state_of log.new ≡ state_of log.old) × KeepsFile D.tells D.file (db_of log.old) (db_of log.new)
+        ensures kept { (state_of log.new ≡ state_of log.old)
+            × KeepsFile D.tells D.file (db_of log.old) (db_of log.new)
             × KeepsFile D.tells D.file (log_of log.old) (log_of log.new) }
         ensures cause { HasCause false result log.old log.new }
-        ensures pruned { Tells log.old → seen_by (snapshot_of self.now) ≤ (state_of log.old).frames → IsSound self.now
+        ensures pruned { Tells log.old → seen_by (snapshot_of self.now) ≤ (state_of log.old).frames
+            → IsSound self.now
             → IfOk result (Prunes (view_at log.old (snapshot_of self.now)) self.now) }
-        ensures refused { Tells log.old → seen_by (snapshot_of self.now) ≤ (state_of log.old).frames → IsSound self.now
+        ensures refused { Tells log.old → seen_by (snapshot_of self.now) ≤ (state_of log.old).frames
+            → IsSound self.now
             → AreAllThere (view_at log.old (snapshot_of self.now)) → IfErr result IsOutside }
     {
         if !is_one_shown(log, self.snapshot, &self.pages, buffer)? {

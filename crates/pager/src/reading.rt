@@ -23,15 +23,19 @@ pub(crate) fn read_into<D: Disk + Drop>(
     number: u32,
     page: &mut [u8],
 ) -> R<()>
-    ensures kept { (state_of log.new ≡ state_of log.old) × KeepsFile D.tells D.file (db_of log.old) (db_of log.new)
+    ensures kept { (state_of log.new ≡ state_of log.old)
+        × KeepsFile D.tells D.file (db_of log.old) (db_of log.new)
         × KeepsFile D.tells D.file (log_of log.old) (log_of log.new) }
     ensures cause { HasCause false result log.old log.new }
     ensures read { Tells log.old → seen_by snapshot ≤ (state_of log.old).frames
         → OnOk result (ViewHas (view_at log.old snapshot) number page.new) }
-    ensures there { (bytes : List ℕ) → length page.old ≡ (state_of log.old).page_size → Tells log.old
-        → seen_by snapshot ≤ (state_of log.old).frames → IsViewPage (view_at log.old snapshot) number bytes
+    ensures there { (bytes : List ℕ) → length page.old ≡ (state_of log.old).page_size
+        → Tells log.old
+        → seen_by snapshot ≤ (state_of log.old).frames
+        → IsViewPage (view_at log.old snapshot) number bytes
         → IfErr result IsOutside }
-    ensures within { OnOk result ((1 ≤ number) × (number ≤ size_of snapshot) × (length page.old ≡ (state_of log.old).page_size)) }
+    ensures within { OnOk result ((1 ≤ number) × (number ≤ size_of snapshot)
+        × (length page.old ≡ (state_of log.old).page_size)) }
     ensures not_blank { IfErr result (λ fault. fault ≡ Fault.Blank → ⊥) }
 {
     log.page(snapshot, number, page)
@@ -44,7 +48,8 @@ pub fn read_page<D: Disk + Drop>(
     snapshot: Snapshot,
     number: u32,
 ) -> R<Vec<u8>>
-    ensures kept { (state_of log.new ≡ state_of log.old) × KeepsFile D.tells D.file (db_of log.old) (db_of log.new)
+    ensures kept { (state_of log.new ≡ state_of log.old)
+        × KeepsFile D.tells D.file (db_of log.old) (db_of log.new)
         × KeepsFile D.tells D.file (log_of log.old) (log_of log.new) }
     ensures cause { HasCause false result log.old log.new }
     ensures read { Tells log.old → seen_by snapshot ≤ (state_of log.old).frames

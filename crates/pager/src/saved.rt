@@ -53,7 +53,8 @@ pub fn exchange(pages: &mut Vec<PageImage>, index: usize, page: PageImage) -> Pa
 /// Gives the page at a place other bytes, as many as it has.
 pub fn refill(pages: &mut Vec<PageImage>, index: usize, bytes: &[u8])
     requires within { index < length pages.old.items }
-    requires long { (d : PageImage) → length (slice_index_or pages.old.items index d).bytes.items ≡ length bytes.now }
+    requires long { (d : PageImage) → length (slice_index_or pages.old.items index d).bytes.items
+        ≡ length bytes.now }
     ensures { Refills index bytes.now pages.old.items pages.new.items }
 {
     pages[index].bytes.copy_from_slice(bytes);
@@ -144,7 +145,8 @@ fn step(saved: &mut Vec<Saved>, to: usize, at: usize, limit: u64) -> usize
     ensures bounds { (to ≤ result) × (result ≤ at + 1) }
     ensures len { length saved.new.items ≡ length saved.old.items }
     ensures capacity { vec_capacity saved.new ≡ vec_capacity saved.old }
-    ensures same { take result saved.new.items ++ needed limit (drop (at + 1) saved.new.items) ≡ take to saved.old.items
+    ensures same { take result saved.new.items ++ needed limit (drop (at + 1) saved.new.items)
+        ≡ take to saved.old.items
         ++ needed limit (drop at saved.old.items) }
 {
     if !stays(&saved[at], limit) {

@@ -28,7 +28,8 @@ pub(crate) fn fill<D: Disk + Drop>(
     number: u32,
     buffer: &mut Vec<u8>,
 ) -> R<()>
-    ensures kept { (state_of log.new ≡ state_of log.old) × KeepsFile D.tells D.file (db_of log.old) (db_of log.new)
+    ensures kept { (state_of log.new ≡ state_of log.old)
+        × KeepsFile D.tells D.file (db_of log.old) (db_of log.new)
         × KeepsFile D.tells D.file (log_of log.old) (log_of log.new) }
     ensures cause { HasCause false result log.old log.new }
     ensures read { Tells log.old → seen_by snapshot ≤ (state_of log.old).frames
@@ -92,14 +93,16 @@ fn fetch<D: Disk + Drop>(
     number: u32,
     buffer: &mut Vec<u8>,
 ) -> R<Option<usize>>
-    ensures kept { (state_of log.new ≡ state_of log.old) × KeepsFile D.tells D.file (db_of log.old) (db_of log.new)
+    ensures kept { (state_of log.new ≡ state_of log.old)
+        × KeepsFile D.tells D.file (db_of log.old) (db_of log.new)
         × KeepsFile D.tells D.file (log_of log.old) (log_of log.new) }
     ensures cause { HasCause false result log.old log.new }
     ensures bytes { (a w b : ℕ) → IsTrue (tells_writer (under_writer log.old writer.now a w b))
         → IfOk result (λ place. page_held place (changes_of writer.now) buffer.new.items
         ≡ page_at (map_over (under_reader log.old (snapshot_of writer.now) a b) writer.now) number) }
     ensures there { (a w b : ℕ) → IsTrue (tells_writer (under_writer log.old writer.now a w b))
-        → IsThere (map_over (under_reader log.old (snapshot_of writer.now) a b) writer.now) (page_size_of writer.now) number
+        → IsThere (map_over (under_reader log.old (snapshot_of writer.now) a b) writer.now)
+        (page_size_of writer.now) number
         → IfErr result IsOutside }
 {
     if number == 0 || number > writer.size() {

@@ -56,14 +56,17 @@ impl Writer {
 
     /// Starts a writer on a snapshot, with no change but a copy of page 1.
     pub fn begin<D: Disk + Drop>(alloc: Global, log: &mut Log<D>, snapshot: Snapshot) -> R<Writer>
-        ensures kept { (state_of log.new ≡ state_of log.old) × KeepsFile D.tells D.file (db_of log.old) (db_of log.new)
+        ensures kept { (state_of log.new ≡ state_of log.old)
+            × KeepsFile D.tells D.file (db_of log.old) (db_of log.new)
             × KeepsFile D.tells D.file (log_of log.old) (log_of log.new) }
         ensures cause { HasCause false result log.old log.new }
         ensures stands { IfOk result (λ writer. snapshot_of writer ≡ snapshot) }
-        ensures begun { Tells log.old → seen_by snapshot ≤ (state_of log.old).frames → 1 ≤ size_of snapshot
+        ensures begun { Tells log.old → seen_by snapshot ≤ (state_of log.old).frames
+            → 1 ≤ size_of snapshot
             → IfOk result (λ writer. IsBegun (view_at log.old snapshot) writer) }
         // Where page 1 exists, it is refused only if out of memory or if a disk's call failed.
-        ensures there { (bytes : List ℕ) → Tells log.old → seen_by snapshot ≤ (state_of log.old).frames
+        ensures there { (bytes : List ℕ) → Tells log.old
+            → seen_by snapshot ≤ (state_of log.old).frames
             → IsViewPage (view_at log.old snapshot) 1 bytes
             → IfErr result IsOutside }
     {
@@ -154,10 +157,13 @@ impl Writer {
             → IfErr result (IsRefusedCommit log.old may_restart self.old page header log.new self.new) }
         // A crash leaves the frames of the newest view, or those of the one that the commit leaves, unless the log is as it was.
         ensures crash { (page : List ℕ) (header : Header) → MayCommit log.old self.old page header
-            → (log_of log.new ≡ log_of log.old) ⊎ LeavesCommit log.old self.old page header log.new }
+            → (log_of log.new ≡ log_of log.old)
+            ⊎ LeavesCommit log.old self.old page header log.new }
         ensures known { (page : List ℕ) (header : Header) → MayCommit log.old self.old page header
-            → IsStateCommitted may_restart result (state_of log.old) (length (changes_of self.old)) (pages_of self.old) (state_of log.new) }
-        ensures disks { KeepsDisks D.tells D.failures (db_of log.old) (db_of log.new) (log_of log.old) (log_of log.new) }
+            → IsStateCommitted may_restart result (state_of log.old) (length (changes_of self.old))
+            (pages_of self.old) (state_of log.new) }
+        ensures disks { KeepsDisks D.tells D.failures (db_of log.old) (db_of log.new)
+            (log_of log.old) (log_of log.new) }
         ensures cause { HasCause true result log.old log.new }
     {
         let old = self.header()?;
@@ -174,7 +180,8 @@ impl Writer {
     /// The header on page 1 as the commit is to leave it.
     fn next_header(&self, old: &Header) -> Header
         ensures page_size { result.page_size ≡ old.now.page_size }
-        ensures next { 0 < pages_of self.now → IsNextHeader old.now result (makes_objects self.now) (pages_of self.now) }
+        ensures next { 0 < pages_of self.now → IsNextHeader old.now result (makes_objects self.now)
+            (pages_of self.now) }
     {
         let counter = old.change_counter.wrapping_add(1);
         let cookie = if self.has_new_objects {
@@ -193,7 +200,8 @@ impl Writer {
 
     fn header(&self) -> R<Header>
         ensures size { IfOk result (λ header. IsPageSize header.page_size) }
-        ensures only { (header : Header) → IsConsistent self.now → HasHeader (changes_of self.now) header → result ≡ Ok header }
+        ensures only { (header : Header) → IsConsistent self.now
+            → HasHeader (changes_of self.now) header → result ≡ Ok header }
         ensures refused { IfErr result (λ fault. IsNotDiskFault fault) }
     {
         match self.find(1) {
@@ -206,8 +214,10 @@ impl Writer {
         requires { IsPageSize header.now.page_size }
         ensures reheads { (old : Header) → HasHeader (changes_of self.old) old
             → Reheads (changes_of self.old) (changes_of self.new) header.now }
-        ensures rest { (pages_of self.new ≡ pages_of self.old) × (page_size_of self.new ≡ page_size_of self.old)
-            × (snapshot_of self.new ≡ snapshot_of self.old) × (makes_objects self.new ≡ makes_objects self.old) }
+        ensures rest { (pages_of self.new ≡ pages_of self.old)
+            × (page_size_of self.new ≡ page_size_of self.old)
+            × (snapshot_of self.new ≡ snapshot_of self.old)
+            × (makes_objects self.new ≡ makes_objects self.old) }
         ensures first { SetsFirst (changes_of self.old) (changes_of self.new) }
         ensures bytes { FirstIsBytes (changes_of self.old) }
         ensures log { (self.new.saved ≡ self.old.saved) × (self.new.marks ≡ self.old.marks) }
@@ -270,11 +280,13 @@ impl Writer {
     fn insert(&mut self, index: usize, page: PageImage) -> R<()>
         requires place { 1 ≤ index }
         requires gap { IsGapFor (changes_of self.old) page.number index }
-        requires number { (1 ≤ page.number) × (page.number ≤ pages_of self.old) × (page.number ≤ size_of (snapshot_of self.old)) }
+        requires number { (1 ≤ page.number) × (page.number ≤ pages_of self.old)
+            × (page.number ≤ size_of (snapshot_of self.old)) }
         requires length { length page.bytes.items ≡ page_size_of self.old }
         ensures rest { KeepsRest self.old self.new }
         ensures size { pages_of self.new ≡ pages_of self.old }
-        ensures page { IsConsistent self.old → OnOk result (GetsPage page.number page.bytes.items self.old self.new) }
+        ensures page { IsConsistent self.old → OnOk result
+            (GetsPage page.number page.bytes.items self.old self.new) }
         ensures refused { IfErr result (λ fault. fault ≡ Memory) }
     {
         self.insert_page(index, page)?;
@@ -288,7 +300,8 @@ impl Writer {
         ensures rest { KeepsRest self.old self.new }
         ensures size { pages_of self.new ≡ pages_of self.old }
         ensures page { IsConsistent self.old → OnOk result (GetsPage number bytes.now self.old self.new) }
-        ensures there { IsSound self.old → 1 ≤ number → number ≤ pages_of self.old → length bytes.now ≡ page_size_of self.old
+        ensures there { IsSound self.old → 1 ≤ number → number ≤ pages_of self.old
+            → length bytes.now ≡ page_size_of self.old
             → IfErr result (λ fault. fault ≡ Memory) }
         ensures within { OnOk result ((1 ≤ number) × (number ≤ pages_of self.old)) }
         ensures not_disk { IfErr result (λ fault. IsNotDiskFault fault) }
@@ -313,9 +326,12 @@ impl Writer {
     pub(crate) fn add(&mut self, alloc: Global) -> R<u32>
         ensures rest { KeepsRest self.old self.new }
         ensures page { IsConsistent self.old
-            → OnOk result (GetsPage (pages_of self.old + 1) (replicate (page_size_of self.old) 0) self.old self.new) }
-        ensures counted { IfOk result (λ n. (n ≡ pages_of self.old + 1) × (pages_of self.new ≡ n) × (n ≤ most_of (page_size_of self.old))) }
-        ensures full { IfErr result (λ fault. fault ≡ Fault.Full → pages_of self.new ≡ most_of (page_size_of self.new)) }
+            → OnOk result (GetsPage (pages_of self.old + 1)
+            (replicate (page_size_of self.old) 0) self.old self.new) }
+        ensures counted { IfOk result (λ n. (n ≡ pages_of self.old + 1) × (pages_of self.new ≡ n)
+            × (n ≤ most_of (page_size_of self.old))) }
+        ensures full { IfErr result (λ fault. fault ≡ Fault.Full
+            → pages_of self.new ≡ most_of (page_size_of self.new)) }
         ensures refused { IsSound self.old → IfErr result (λ fault. (fault ≡ Memory) ⊎ (fault ≡ Fault.Full)) }
         ensures not_io { IfErr result (λ fault. fault ≡ Io → ⊥) }
     {

@@ -44,8 +44,10 @@ pub trait Pages {
     /// Fetches a page, so that `loaded` lends it. (`Damaged` for a number outside 1 to the size, or
     /// a page that isn't there; `Memory`; `Io`, and `Failed` where a call failed before.)
     fn load(&mut self, number: u32) -> R<()>
-        ensures bytes { IsTrue (tells (below self.old)) → OnOk result (held self.new ≡ page_at (map self.old) number) }
-        ensures refusal { IsTrue (tells (below self.old)) → IsThere (map self.old) (limits (below self.old)).page number
+        ensures bytes { IsTrue (tells (below self.old))
+            → OnOk result (held self.new ≡ page_at (map self.old) number) }
+        ensures refusal { IsTrue (tells (below self.old))
+            → IsThere (map self.old) (limits (below self.old)).page number
             → IfErr result IsOutside }
         ensures stays { Stays below map count failures result self.old self.new };
 
@@ -72,10 +74,13 @@ pub trait WritePages: Pages {
     /// pages as there may be; `Memory`, `Io`, `Failed`.)
     fn grow(&mut self) -> R<u32>
         ensures kept { Self.below self.new ≡ Self.below self.old }
-        ensures number { IsTrue (Self.tells (Self.below self.old)) → IfOk result (λ n. n ≡ length (Self.map self.old) + 1) }
+        ensures number { IsTrue (Self.tells (Self.below self.old))
+            → IfOk result (λ n. n ≡ length (Self.map self.old) + 1) }
         ensures done { IsTrue (Self.tells (Self.below self.old))
-            → OnOk result (Self.map self.new ≡ Self.map self.old ++ (replicate (Self.limits (Self.below self.old)).page 0 ∷ [])) }
-        ensures counted { IfOk result (λ n. (n ≡ Self.count self.old + 1) × (Self.count self.new ≡ n)
+            → OnOk result (Self.map self.new ≡ Self.map self.old ++
+            (replicate (Self.limits (Self.below self.old)).page 0 ∷ [])) }
+        ensures counted { IfOk result (λ n. (n ≡ Self.count self.old + 1)
+            × (Self.count self.new ≡ n)
             × (n ≤ (Self.limits (Self.below self.old)).most)) }
         ensures refusal { IsTrue (Self.tells (Self.below self.old)) → IfErr result IsOutsideOrFull }
         ensures causes { Causes result (Self.failures self.old) (Self.failures self.new)

@@ -56,7 +56,8 @@ fn group_end(orders: &[SortOrder], rows: &[FoundRow], start: usize) -> usize
     ensures after { start < result }
     ensures within { result ≤ length rows.now }
     ensures group { groups (have_same_keys orders.now) (drop start rows.now)
-        ≡ take (result - start) (drop start rows.now) ∷ groups (have_same_keys orders.now) (drop result rows.now) }
+        ≡ take (result - start) (drop start rows.now) ∷ groups (have_same_keys orders.now)
+        (drop result rows.now) }
 {
     let first = &rows[start];
     let others = &rows[start + 1..];

@@ -5,6 +5,7 @@ mod answering;
 mod arguments;
 mod distinct;
 mod grouping;
+mod keys;
 mod lookups;
 mod nesting;
 mod parts;

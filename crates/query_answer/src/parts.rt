@@ -74,7 +74,8 @@ fn give_row(
 ) -> R<()>
     ensures { AnswersBy (λ u. all_found loops.entry.sources.now found.new.items)
         (onto (all_found loops.entry.sources.now found.old.items)
-        (of_row loops.entry.reading.now condition.now (picked_rows loops.entry.sources.now (index ∷ [])))) result }
+        (of_row loops.entry.reading.now condition.now
+        (picked_rows loops.entry.sources.now (index ∷ [])))) result }
 {
     let picked = [index];
     if !joins(alloc, loops, picked.as_slice(), condition)? {
@@ -93,7 +94,8 @@ fn give_each(
 ) -> R<()>
     requires { loops.sources.now ≡ rows.now ∷ [] }
     ensures { AnswersBy (λ u. all_found loops.entry.sources.now found.new.items)
-        (onto (all_found loops.entry.sources.now found.old.items) (of_rows loops.entry.reading.now condition.now rows.now)) result }
+        (onto (all_found loops.entry.sources.now found.old.items)
+        (of_rows loops.entry.reading.now condition.now rows.now)) result }
 {
     'rows: for index in 0..rows.len() {
         give_row(alloc, loops, condition, index, found)?;
@@ -138,7 +140,8 @@ pub fn give_rows(
     rows: &Many<SourceRow>,
     found: &mut GivenRows,
 ) -> R<()>
-    ensures given { meant.is_row_by_row reading.now ≡ true → (before : List Row) → given_of reading.now before ≡ Ok found.old
+    ensures given { meant.is_row_by_row reading.now ≡ true → (before : List Row)
+        → given_of reading.now before ≡ Ok found.old
         → AnswersBy (λ u. found.new) (given_of reading.now (before ++ rows.now)) result }
     ensures not_disk { IfErr result IsNotDiskFault }
 {

@@ -4,7 +4,7 @@ ghost use Rattle.std.specs.Prelude.{◌≡◌, drop, IfErr, IfNone, IfOk, IfSome
 ghost use Rattle.query_answer.specs.Searches.{IsReadAmong, IsScannedAt, IsSearchAmong, IsSearchAt, IsSoughtBy, NothingIsSought};
 ghost use Rattle.query_answer.specs.Searches as meant;
 
-use crate::lookups::may_wait;
+use crate::keys::may_wait;
 use catalog::Index;
 use query_names::{Condition, Reading};
 use query_plan::{Search, search_for};
@@ -30,8 +30,10 @@ fn search_by(
     source: usize,
     indexes: &[Index],
 ) -> R<Option<Search>>
-    ensures found { IfOk result (λ found. IfSome found (IsSoughtBy indexes.now source (option_map (λ r. r.now) condition.entry))) }
-    ensures only { IfOk result (λ found. IfNone found (NothingIsSought indexes.now source (option_map (λ r. r.now) condition.entry))) }
+    ensures found { IfOk result (λ found. IfSome found
+        (IsSoughtBy indexes.now source (option_map (λ r. r.now) condition.entry))) }
+    ensures only { IfOk result (λ found. IfNone found
+        (NothingIsSought indexes.now source (option_map (λ r. r.now) condition.entry))) }
     ensures refused { IfErr result (λ fault. fault ≡ Fault.Memory) }
 {
     match condition {
@@ -48,7 +50,8 @@ fn search_among(
     source: usize,
     indexes: &[Index],
 ) -> R<Option<Search>>
-    ensures found { IfOk result (λ found. IfSome found (IsSearchAmong indexes.now source filter.now sources.now)) }
+    ensures found { IfOk result (λ found. IfSome found
+        (IsSearchAmong indexes.now source filter.now sources.now)) }
     ensures only { IfOk result (λ found. IfNone found (IsReadAmong indexes.now source filter.now sources.now)) }
     ensures refused { IfErr result (λ fault. fault ≡ Fault.Memory) }
 {
@@ -72,7 +75,8 @@ pub fn search_at(
     source: usize,
     indexes: &[Index],
 ) -> R<Option<Search>>
-    ensures found { IfOk result (λ found. IfSome found (λ search. IsSearchAt indexes.now reading.now source search)) }
+    ensures found { IfOk result (λ found. IfSome found
+        (λ search. IsSearchAt indexes.now reading.now source search)) }
     ensures only { IfOk result (λ found. IfNone found (IsScannedAt indexes.now reading.now source)) }
     ensures refused { IfErr result (λ fault. fault ≡ Fault.Memory) }
 {

@@ -64,7 +64,8 @@ pub fn compare_values(orders: &[SortOrder], a: &[Value], b: &[Value]) -> Orderin
 
 /// Sorts rows by their keys; those that tie stay as they stand.
 pub fn sort_rows(found: &mut Vec<FoundRow>, orders: &[SortOrder]) -> R<()>
-    ensures sorted { OnOk result (found.new.items ≡ sorted (λ r s. by_values orders.now r.keys s.keys) found.old.items) }
+    ensures sorted { OnOk result (found.new.items ≡ sorted
+        (λ r s. by_values orders.now r.keys s.keys) found.old.items) }
     ensures refused { IfErr result (λ fault. fault ≡ Fault.Memory) }
 {
     found.sort_by(|a, b| compare_values(orders, a.keys.as_slice(), b.keys.as_slice()))?;

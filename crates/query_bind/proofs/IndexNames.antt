@@ -17,7 +17,7 @@ use Rattle.sql_syntax.specs.declared.create.IndexDefinition.{IndexDefinition}
 use Rattle.sql_syntax.specs.declared.create.NewObject.TheVariants as new
 use Rattle.catalog.specs.Database.{Name, Database, Object, TableColumn, ATable, AnIndex, object, with_object}
 use Rattle.catalog.specs.Laws.{FindsListed, IsNoTable, NamesListed}
-use Rattle.catalog.specs.Listed.{Lists, is_reserved, place_named, plain_column, plain_table, table_named}
+use Rattle.catalog.specs.Listed.{Lists, is_reserved, place_named, as_column, plain_table, table_named}
 use Rattle.catalog.specs.declared.tables.Column.{Column}
 use Rattle.catalog.specs.declared.tables.IndexColumn.{IndexColumn}
 use Rattle.catalog.specs.declared.tables.Table.{Table}
@@ -54,42 +54,43 @@ place_missing as_name t name f once none (inr is) =
 
 -- ---- collations
 
--- each column of a listed table compares bytes
-abbrev of_place : List Column → ℕ → Option Column
-of_place cs i = slice_get cs i
-
-plain_collation : (cs : List Column) (i : ℕ) → collation_at (map plain_column cs) i ≡ Binary
-plain_collation cs i = ap (λ (o : Option TableColumn). elim o as (λ x. Collation) [ None ↦ Binary | Some c ↦ c.collation ]) (slice_get-map plain_column cs i) ∙ by_found (slice_get cs i)
+pub collation_found : (cs : List Column) (i : ℕ) (found : Option Column) → found ≡ slice_get cs i
+    → elim found as (λ x. Collation) [ None ↦ Binary | Some c ↦ c.collation ] ≡ collation_at (map as_column cs) i
+collation_found cs i found h =
+    by_found found ∙ (ap (λ o. collation_in (option_map as_column o)) h ∙ sym (ap collation_in (slice_get-map as_column cs i)))
   where
-    by_found : (o : Option Column) → elim (option_map plain_column o) as (λ x. Collation) [ None ↦ Binary | Some c ↦ c.collation ] ≡ Binary
+    collation_in : Option TableColumn → Collation
+    collation_in o = elim o as (λ x. Collation) [ None ↦ Binary | Some c ↦ c.collation ]
+
+    by_found : (o : Option Column) → elim o as (λ x. Collation) [ None ↦ Binary | Some c ↦ c.collation ] ≡ collation_in (option_map as_column o)
     by_found None = refl
     by_found (Some c) = refl
 
 -- ---- a column
 
 abbrev found_key : Table → ℕ → Option Name → Checked (ℕ × Collation)
-found_key t i None = good (i, collation_at (map plain_column t.columns) i)
+found_key t i None = good (i, collation_at (map as_column t.columns) i)
 found_key t i (Some name) = known_map (λ k. (i, k)) (resolve_collation name)
 
-pub key_found : (as_name : Name) (t : Table) (written : Written) (place : ℕ) (collation : Collation) → place_of (source_seen as_name t) written.name ≡ good place → collation_written written.collation ≡ good collation
-    → resolve_index_column as_name (plain_table t []) written ≡ good (place, collation)
+pub key_found : (as_name : Name) (t : Table) (written : Written) (place : ℕ) (collation : Collation) → place_of (source_seen as_name t) written.name ≡ good place
+    → collation_written t.columns place written.collation ≡ good collation → resolve_index_column as_name (plain_table t []) written ≡ good (place, collation)
 key_found as_name t written place collation at named =
     then_good (place_of (source_seen as_name t) written.name) _ place at ∙ by_written written.collation named
   where
-    by_written : (w : Option Name) → collation_written w ≡ good collation → found_key t place w ≡ good (place, collation)
-    by_written None h = ap (λ k. good (place, k)) (plain_collation t.columns place ∙ ap meant h)
+    by_written : (w : Option Name) → collation_written t.columns place w ≡ good collation → found_key t place w ≡ good (place, collation)
+    by_written None h = ap (λ k. good (place, k)) (ap meant h)
     by_written (Some name) h = ap (known_map (λ k. (place, k))) h
 
 pub place_refused : (as_name : Name) (t : Table) (written : Written) (f : Fault) → IsFaultOf (faults (place_of (source_seen as_name t) written.name)) f
     → IsFaultOf (faults (resolve_index_column as_name (plain_table t []) written)) f
 place_refused as_name t written f h = refused_first (place_of (source_seen as_name t) written.name) _ f h
 
-pub collation_refused : (as_name : Name) (t : Table) (written : Written) (place : ℕ) (f : Fault) → IsFaultOf (faults (collation_written written.collation)) f
+pub collation_refused : (as_name : Name) (t : Table) (written : Written) (place : ℕ) (f : Fault) → IsFaultOf (faults (collation_written t.columns place written.collation)) f
     → IsFaultOf (faults (resolve_index_column as_name (plain_table t []) written)) f
 collation_refused as_name t written place f h =
     refused_later (place_of (source_seen as_name t) written.name) _ f (by_written written.collation h)
   where
-    by_written : (w : Option Name) → IsFaultOf (faults (collation_written w)) f → IsFaultOf (faults (found_key t (meant (place_of (source_seen as_name t) written.name)) w)) f
+    by_written : (w : Option Name) → IsFaultOf (faults (collation_written t.columns place w)) f → IsFaultOf (faults (found_key t (meant (place_of (source_seen as_name t) written.name)) w)) f
     by_written None h = h
     by_written (Some name) h = mapped_on (resolve_collation name) h
       where

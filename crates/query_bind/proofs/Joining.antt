@@ -14,7 +14,7 @@ use Rattle.sql_syntax.specs.declared.query.Join.{Join}
 use Rattle.sql_syntax.specs.declared.query.JoinKind.{JoinKind}
 use Rattle.sql_syntax.specs.declared.query.Source.{Source}
 use Rattle.catalog.specs.Database.{Name}
-use Rattle.catalog.specs.Listed.{plain_column, table_named}
+use Rattle.catalog.specs.Listed.{as_column, table_named}
 use Rattle.catalog.specs.declared.tables.Column.{Column}
 use Rattle.catalog.specs.declared.tables.Table.{Table}
 use Rattle.query_names.specs.Bound.{EachOf, IsFaultOf, columns_seen, looked_up, source_seen}
@@ -32,7 +32,7 @@ use Rattle.query_bind.proofs.Chains.{in_front}
 pub columns_are : (t : Table) → map column_seen t.columns ≡ (columns_seen t).0
 columns_are t = each t.columns
   where
-    each : (cs : List Column) → map column_seen cs ≡ map (λ c. (let s : ScopeColumn = record { name = Some c.name; affinity = Some c.affinity; collation = c.collation } in s)) (map plain_column cs)
+    each : (cs : List Column) → map column_seen cs ≡ map (λ c. (let s : ScopeColumn = record { name = Some c.name; affinity = Some c.affinity; collation = c.collation } in s)) (map as_column cs)
     each [] = refl
     each (c ∷ cs) = ap (λ xs. column_seen c ∷ xs) (each cs)
 

@@ -5,19 +5,20 @@ use Rattle.std.specs.List.{Contains}
 use Rattle.sqlval.specs.Names.{folded}
 use Rattle.sqlval.specs.Refusals.{Refusal, Exists, Misuse, NoSuch}
 use Rattle.sqlval.specs.declared.collation.Collation.{Collation}
-use Rattle.sqlval.specs.declared.collation.Collation.TheVariants.{Binary}
 use Rattle.sqlval.specs.declared.value.Value.{Value}
 use Rattle.sql_syntax.specs.declared.create.IndexColumn.{IndexColumn as Written}
 use Rattle.sql_syntax.specs.declared.create.IndexDefinition.{IndexDefinition}
 use Rattle.sql_syntax.specs.declared.create.NewObject.TheVariants as new
 use Rattle.catalog.specs.Database.{Name, Database, AnIndex, with_object}
-use Rattle.catalog.specs.Listed.{Lists, is_name_of, is_reserved, plain_table, table_named}
+use Rattle.catalog.specs.Listed.{Lists, as_column, is_name_of, is_reserved, plain_table, table_named}
+use Rattle.catalog.specs.declared.tables.Column.{Column}
 use Rattle.catalog.specs.declared.tables.IndexColumn.{IndexColumn}
 use Rattle.catalog.specs.declared.tables.Table.{Table}
 use Rattle.query_names.specs.Checked.{Checked, faults, good, known_all}
 use Rattle.query_names.specs.Expressions.{resolve_collation}
 use Rattle.query_names.specs.Schema.{create, resolve_index_column}
 use Rattle.query_names.specs.Scopes.{is_doubled}
+use Rattle.query_names.specs.Tables.{collation_at}
 
 -- the names of the columns
 abbrev pub names_in : List Written → List Name
@@ -27,10 +28,10 @@ names_in columns = map (λ c. c.name) columns
 abbrev pub key_of : IndexColumn → ℕ × Collation
 key_of column = (column.place, column.collation)
 
--- the collation that is written, or that of a column without one
-abbrev pub collation_written : Option Name → Checked Collation
-collation_written None = good Binary
-collation_written (Some name) = resolve_collation name
+-- the collation that is written, or that of the table's column
+abbrev pub collation_written : List Column → ℕ → Option Name → Checked Collation
+collation_written columns place None = good (collation_at (map as_column columns) place)
+collation_written columns place (Some name) = resolve_collation name
 
 -- what the columns of a definition stand for on a listed table
 abbrev pub keys_known : Table → IndexDefinition → Checked (List (ℕ × Collation))

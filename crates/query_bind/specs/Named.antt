@@ -3,7 +3,6 @@ use Rattle.std.specs.Prelude.{◌≡◌, Bool, false, not, ◌||◌, List, [], �
 use Rattle.std.specs.List.{list_any}
 use Rattle.std.specs.Option.{option_or}
 use Rattle.sqlval.specs.Names.{folded}
-use Rattle.sqlval.specs.declared.collation.Collation.TheVariants.{Binary}
 use Rattle.sql_syntax.specs.Tree.{Tree}
 use Rattle.sql_syntax.specs.declared.query.FromClause.{FromClause}
 use Rattle.sql_syntax.specs.declared.query.Join.{Join}
@@ -40,7 +39,7 @@ look_among tables name = looked_up (table_named name tables)
 
 -- a table's column, as expressions see it
 abbrev pub column_seen : Column → ScopeColumn
-column_seen c = record { name = Some (folded c.name); affinity = Some c.affinity; collation = Binary }
+column_seen c = record { name = Some (folded c.name); affinity = Some c.affinity; collation = c.collation }
 
 -- each source is known, and none is NEW or OLD
 abbrev pub AreTables : List ScopeSource → Type 0

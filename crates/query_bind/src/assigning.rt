@@ -24,7 +24,8 @@ use std::array::from_ref;
 
 /// The first assignment whose column the table doesn't have.
 fn unknown_in<'a>(table: &Table, assignments: &'a [Assignment]) -> Option<&'a Assignment>
-    ensures { option_map (λ a. a.now) result ≡ find (λ a. is_none (place_named a.column table.now.columns)) assignments.now }
+    ensures { option_map (λ a. a.now) result ≡ find
+        (λ a. is_none (place_named a.column table.now.columns)) assignments.now }
 {
     assignments.iter().find(|assignment| table.place_of(assignment.column.as_str()).is_none())
 }
@@ -73,7 +74,8 @@ fn bind_set(
     scope: &[ScopeSource],
     assignment: &Assignment,
 ) -> R<(usize, Term)>
-    ensures { IsOutside scope.now → NamesBy (λ set. set) (set_known table.now.columns scope.now assignment.now) result }
+    ensures { IsOutside scope.now → NamesBy (λ set. set)
+        (set_known table.now.columns scope.now assignment.now) result }
 {
     let term = bind_term(alloc, false, scope, &assignment.value)?;
     Ok((place_of(table, assignment), term))
@@ -86,7 +88,8 @@ fn bind_each(
     scope: &[ScopeSource],
     assignments: &[Assignment],
 ) -> R<Vec<(usize, Term)>>
-    ensures { IsOutside scope.now → NamesBy (λ sets. sets.items) (sets_known table.now.columns scope.now assignments.now) result }
+    ensures { IsOutside scope.now → NamesBy (λ sets. sets.items)
+        (sets_known table.now.columns scope.now assignments.now) result }
 {
     let mut sets = Vec::new(alloc);
     'assignments: for assignment in assignments {
@@ -105,10 +108,12 @@ pub fn bind_sets(
     assignments: &[Assignment],
 ) -> R<Vec<(usize, Term)>>
     ensures known { OnOk result (AreColumns table.now.columns (Some (columns_set assignments.now))) }
-    ensures sets { IfOk result (λ sets. sets_known table.now.columns (source_seen name.now table.now ∷ []) assignments.now ≡ Meant sets.items []) }
+    ensures sets { IfOk result (λ sets. sets_known table.now.columns
+        (source_seen name.now table.now ∷ []) assignments.now ≡ Meant sets.items []) }
     ensures refused { IfErr result (λ fault. (fault ≡ Fault.Memory)
         ⊎ IsListRefusal table.now.columns (Some (columns_set assignments.now)) (refusal_of fault)
-        ⊎ Contains (faults (sets_known table.now.columns (source_seen name.now table.now ∷ []) assignments.now)) (refusal_of fault)) }
+        ⊎ Contains (faults (sets_known table.now.columns
+        (source_seen name.now table.now ∷ []) assignments.now)) (refusal_of fault)) }
     ensures not_disk { IfErr result (λ fault. IsNotDiskFault fault) }
 {
     if let Some(unknown) = unknown_in(table, assignments) {

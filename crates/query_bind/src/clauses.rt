@@ -90,7 +90,8 @@ fn bind_name(
     tree: &Expr,
 ) -> R<Term>
     ensures { AreTables scope.now → tree.now ≡ form.Column None name.now
-        → Names (resolve true scope.now (unwrap_or (as_named name.now items.now) (form.Column None name.now))) result }
+        → Names (resolve true scope.now (unwrap_or (as_named name.now items.now)
+        (form.Column None name.now))) result }
 {
     match result_named(items, name) {
         Some(named) => bind_term(alloc, true, scope, named),

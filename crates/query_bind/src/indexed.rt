@@ -5,15 +5,16 @@ ghost use Rattle.std.specs.List.{list_any};
 ghost use Rattle.sqlval.specs.Faults.{IsNotDiskFault};
 ghost use Rattle.sqlval.specs.Names.{is_same_name};
 ghost use Rattle.sqlval.specs.Refusals.{refusal_of};
-ghost use Rattle.catalog.specs.Listed.{plain_table, tables_of};
+ghost use Rattle.catalog.specs.Listed.{as_column, plain_table, tables_of};
 ghost use Rattle.query_names.specs.Bound.{AreOnce, is_twice_named, source_seen};
 ghost use Rattle.query_names.specs.Checked.{known_all};
 ghost use Rattle.query_names.specs.Named.{Names, NamesBy};
 ghost use Rattle.query_names.specs.Schema.{resolve_index_column};
 ghost use Rattle.query_names.specs.Scopes.{is_doubled, place_of};
+ghost use Rattle.query_names.specs.Tables as meant;
 ghost use Rattle.query_bind.specs.Indexed.{IsIndexOn, IsIndexRefusal, MakesListedIndex, RefusesIndexAsDefined, collation_written, key_of, names_in};
 
-use catalog::{Catalog, IndexColumn, Table, is_reserved, listed_tables_are_found};
+use catalog::{Catalog, Column, IndexColumn, Table, is_reserved, listed_tables_are_found};
 use query_names::{collation_named, find_table, missing};
 use sql_syntax::{IndexColumn as Written, IndexDefinition};
 use sqlval::{Collation, Fault, Many, Misuse, Name, Object, R};
@@ -28,7 +29,8 @@ pub struct BoundIndex<'a> {
 
 /// The place of a column in a table that is known by this name. (`NoSuch`.)
 fn place_in(alloc: Global, as_name: &Name, table: &Table, name: &Name) -> R<usize>
-    ensures place { is_twice_named table.now.columns ≡ false → Names (place_of (source_seen as_name.now table.now) name.now) result }
+    ensures place { is_twice_named table.now.columns ≡ false
+        → Names (place_of (source_seen as_name.now table.now) name.now) result }
     ensures not_disk { IfErr result (λ fault. IsNotDiskFault fault) }
 {
     match table.place_of(name.as_str()) {
@@ -37,14 +39,24 @@ fn place_in(alloc: Global, as_name: &Name, table: &Table, name: &Name) -> R<usiz
     }
 }
 
-/// The collation that is written, or that of a column without one. (`NoSuch`.)
-fn collation_of(alloc: Global, written: &Option<Name>) -> R<Collation>
-    ensures collation { Names (collation_written written.now) result }
+/// The collation of the column at a place, BINARY past the last.
+fn collation_at(columns: &[Column], place: usize) -> Collation
+    ensures { result ≡ meant.collation_at (map as_column columns.now) place }
+{
+    match columns.get(place) {
+        Some(column) => column.collation,
+        None => Collation::Binary,
+    }
+}
+
+/// The collation that is written, or that of the table's column at the place. (`NoSuch`.)
+fn collation_of(alloc: Global, table: &Table, place: usize, written: &Option<Name>) -> R<Collation>
+    ensures collation { Names (collation_written table.now.columns place written.now) result }
     ensures not_disk { IfErr result (λ fault. IsNotDiskFault fault) }
 {
     match written {
         Some(name) => collation_named(alloc, name),
-        None => Ok(Collation::Binary),
+        None => Ok(collation_at(table.columns.as_slice(), place)),
     }
 }
 
@@ -55,7 +67,7 @@ fn index_column(alloc: Global, as_name: &Name, table: &Table, written: &Written)
     ensures not_disk { IfErr result (λ fault. IsNotDiskFault fault) }
 {
     let place = place_in(alloc, as_name, table, &written.name)?;
-    let collation = collation_of(alloc, &written.collation)?;
+    let collation = collation_of(alloc, table, place, &written.collation)?;
     Ok(IndexColumn { place, collation })
 }
 
@@ -67,7 +79,8 @@ fn index_columns(
     written: &[Written],
 ) -> R<Vec<IndexColumn>>
     ensures columns { is_twice_named table.now.columns ≡ false
-        → NamesBy (λ columns. map key_of columns.items) (known_all (map (resolve_index_column as_name.now (plain_table table.now [])) written.now)) result }
+        → NamesBy (λ columns. map key_of columns.items)
+        (known_all (map (resolve_index_column as_name.now (plain_table table.now [])) written.now)) result }
     ensures not_disk { IfErr result (λ fault. IsNotDiskFault fault) }
 {
     let mut columns = Vec::new(alloc);
@@ -115,7 +128,8 @@ pub fn bind_index<'a>(
 ) -> R<BoundIndex<'a>>
     ensures made { AreOnce (tables_of catalog.now)
         → IfOk result (λ made. IsIndexOn (tables_of catalog.now) definition.now made.table.now made.columns) }
-    ensures refused { AreOnce (tables_of catalog.now) → IfErr result (λ fault. (fault ≡ Fault.Memory)
+    ensures refused { AreOnce (tables_of catalog.now)
+        → IfErr result (λ fault. (fault ≡ Fault.Memory)
         ⊎ IsIndexRefusal (tables_of catalog.now) definition.now (refusal_of fault)) }
     ensures not_disk { IfErr result (λ fault. IsNotDiskFault fault) }
 {

@@ -147,7 +147,8 @@ fn marked_two(
     left: &Term,
     right: &Term,
 ) -> R<Term>
-    ensures { IsOrMemory (λ copy. copy ≡ form.Two operator (keyed keys.now left.now) (keyed keys.now right.now)) result }
+    ensures { IsOrMemory (λ copy. copy ≡ form.Two operator (keyed keys.now left.now)
+        (keyed keys.now right.now)) result }
 {
     let left = marked_boxed(alloc, keys, left)?;
     let right = marked_boxed(alloc, keys, right)?;
@@ -173,7 +174,8 @@ fn marked_in(
     list: &[Term],
 ) -> R<Term>
     ensures { IsOrMemory
-        (λ copy. copy ≡ form.In is_negated (keyed keys.now operand.now) (keyed_all keys.now (terms list.now))) result }
+        (λ copy. copy ≡ form.In is_negated (keyed keys.now operand.now)
+        (keyed_all keys.now (terms list.now))) result }
 {
     let operand = marked_boxed(alloc, keys, operand)?;
     let list = marked_all(alloc, keys, list)?;
@@ -191,7 +193,8 @@ fn marked_between(
     high: &Term,
 ) -> R<Term>
     ensures { IsOrMemory (λ copy. copy
-        ≡ form.Between is_negated (keyed keys.now operand.now) (keyed keys.now low.now) (keyed keys.now high.now)) result }
+        ≡ form.Between is_negated (keyed keys.now operand.now) (keyed keys.now low.now)
+        (keyed keys.now high.now)) result }
 {
     let operand = marked_boxed(alloc, keys, operand)?;
     let low = marked_boxed(alloc, keys, low)?;

@@ -165,7 +165,8 @@ fn bind_clauses(
 pub fn bind_reading(alloc: Global, catalog: &Catalog, query: &Query) -> R<BoundReading>
     ensures named { (look : Lookup) → Knows look (tables_of catalog.now)
         → NamesBy (λ bound. bound.reading) (resolve_query look [] query.now) result }
-    ensures placed { IfOk result (λ bound. ArePlaced (tables_of catalog.now) bound.reading.sources bound.tables) }
+    ensures placed { IfOk result (λ bound. ArePlaced
+        (tables_of catalog.now) bound.reading.sources bound.tables) }
     ensures closed { IfOk result (λ bound. bound.reading.is_open ≡ false) }
     ensures not_disk { IfErr result (λ fault. IsNotDiskFault fault) }
 {

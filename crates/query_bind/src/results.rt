@@ -61,7 +61,8 @@ fn push_all(alloc: Global, found: &mut Vec<(Term, ScopeColumn)>, scope: &[ScopeS
 /// Whether a source is the query's own, of this name.
 fn is_named(name: &Name, source: &ScopeSource) -> bool
     ensures own { result ≡ is_own (Some name.now) source.now }
-    ensures star { result ≡ (is_same_name (spelled.folded name.now) source.now.name && not source.now.needs_name) }
+    ensures star { result ≡ (is_same_name (spelled.folded name.now) source.now.name && not
+        source.now.needs_name) }
 {
     !source.needs_name && name.is_same(source.name.as_str())
 }
@@ -127,7 +128,8 @@ fn push_term(
     as_name: &Option<Name>,
     term: Term,
 ) -> R<()>
-    ensures pushed { OnOk result (found.new.items ≡ found.old.items ++ result_column tree.now as_name.now term ∷ []) }
+    ensures pushed { OnOk result (found.new.items
+        ≡ found.old.items ++ result_column tree.now as_name.now term ∷ []) }
     ensures refused { IfErr result (λ fault. fault ≡ Fault.Memory) }
 {
     let column = ScopeColumn {
@@ -141,7 +143,8 @@ fn push_term(
 
 /// Adds the results of `*`.
 fn push_star(alloc: Global, found: &mut Vec<(Term, ScopeColumn)>, scope: &[ScopeSource]) -> R<()>
-    ensures { NamesBy (λ done. found.new.items) (onto_list found.old.items (resolve_item scope.now ResultItem.All)) result }
+    ensures { NamesBy (λ done. found.new.items)
+        (onto_list found.old.items (resolve_item scope.now ResultItem.All)) result }
 {
     if !has_own(scope) {
         return Err(Fault::Misuse(Misuse::Star));
@@ -176,7 +179,8 @@ fn push_item(
     item: &ResultItem,
 ) -> R<()>
     ensures { IsOutside scope.now
-        → NamesBy (λ done. found.new.items) (onto_list found.old.items (resolve_item scope.now item.now)) result }
+        → NamesBy (λ done. found.new.items) (onto_list found.old.items
+        (resolve_item scope.now item.now)) result }
 {
     match item {
         ResultItem::All => push_star(alloc, found, scope),

@@ -15,7 +15,7 @@ use crate::copying::folded;
 use catalog::{Catalog, Column, Table};
 use query_names::{BoundSource, Condition, ScopeColumn, ScopeSource, bind_term, find_table};
 use sql_syntax::{Expr, FromClause, Join, JoinKind, Source};
-use sqlval::{Collation, Fault, Many, Name, R};
+use sqlval::{Fault, Many, Name, R};
 use std::alloc::Global;
 
 /// The sources of FROM: what expressions see, each with its condition, and where their trees begin.
@@ -33,7 +33,7 @@ fn column_of(alloc: Global, column: &Column) -> R<ScopeColumn>
     Ok(ScopeColumn {
         name: Some(folded(alloc, &column.name)?),
         affinity: Some(column.affinity),
-        collation: Collation::Binary,
+        collation: column.collation,
     })
 }
 
@@ -101,8 +101,10 @@ fn join_table(
     table: &Table,
     condition: Condition,
 ) -> R<()>
-    ensures joined { OnOk result (found.new.joined.items ≡ found.old.joined.items ++ (spelled.folded name.now, condition) ∷ []) }
-    ensures placed { OnOk result (found.new.tables.items ≡ found.old.tables.items ++ place_seen table.now ∷ []) }
+    ensures joined { OnOk result (found.new.joined.items ≡ found.old.joined.items ++
+        (spelled.folded name.now, condition) ∷ []) }
+    ensures placed { OnOk result (found.new.tables.items
+        ≡ found.old.tables.items ++ place_seen table.now ∷ []) }
     ensures kept { found.new.scope.items ≡ found.old.scope.items }
     ensures refused { IfErr result (λ fault. fault ≡ Fault.Memory) }
 {
@@ -124,9 +126,11 @@ fn add_source(
     source: &Source,
     condition: &Option<Expr>,
 ) -> R<()>
-    ensures named { AreTables found.old.scope.items → NamesBy (λ done. (found.new.scope.items, found.new.joined.items))
+    ensures named { AreTables found.old.scope.items
+        → NamesBy (λ done. (found.new.scope.items, found.new.joined.items))
         (onto_source found.old.joined.items
-        (resolve_source (look_among (tables_of catalog.now)) found.old.scope.items kind source.now condition.now)) result }
+        (resolve_source (look_among (tables_of catalog.now)) found.old.scope.items kind source.now
+        condition.now)) result }
     ensures seen { AreTables found.old.scope.items → OnOk result (AreTables found.new.scope.items) }
     ensures placed { ArePlaced (tables_of catalog.now) found.old.joined.items found.old.tables.items
         → OnOk result (ArePlaced (tables_of catalog.now) found.new.joined.items found.new.tables.items) }
@@ -140,7 +144,8 @@ fn add_source(
 
 /// The sources after the first, each after those before it.
 fn add_joins(alloc: Global, catalog: &Catalog, found: &mut Sources, joins: &[Join]) -> R<()>
-    ensures named { AreTables found.old.scope.items → NamesBy (λ done. (found.new.scope.items, found.new.joined.items))
+    ensures named { AreTables found.old.scope.items
+        → NamesBy (λ done. (found.new.scope.items, found.new.joined.items))
         (onto_sources found.old.joined.items
         (resolve_sources (look_among (tables_of catalog.now)) found.old.scope.items joins.now)) result }
     ensures seen { AreTables found.old.scope.items → OnOk result (AreTables found.new.scope.items) }
@@ -165,7 +170,8 @@ pub fn bind_sources(alloc: Global, catalog: &Catalog, from: &Option<FromClause>)
     ensures named { NamesBy (λ found. (found.scope.items, found.joined.items))
         (resolve_sources (look_among (tables_of catalog.now)) [] (sources_from from.now)) result }
     ensures seen { IfOk result (λ found. AreTables found.scope.items) }
-    ensures placed { IfOk result (λ found. ArePlaced (tables_of catalog.now) found.joined.items found.tables.items) }
+    ensures placed { IfOk result (λ found. ArePlaced
+        (tables_of catalog.now) found.joined.items found.tables.items) }
 {
     let mut found = Sources {
         scope: Vec::new(alloc),

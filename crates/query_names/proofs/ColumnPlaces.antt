@@ -9,7 +9,7 @@ use Rattle.std.proofs.lemmas.Slice.Eq.{bytes_eq-Decides}
 use Rattle.std.specs.Char.{to_ascii_lowercase}
 use Rattle.sqlval.specs.Names.{folded, is_same_name}
 use Rattle.sqlval.specs.Refusals.{NoSuch}
-use Rattle.catalog.specs.Listed.{is_column, plain_column, place_named}
+use Rattle.catalog.specs.Listed.{is_column, as_column, place_named}
 use Rattle.catalog.specs.declared.tables.Column.{Column}
 use Rattle.catalog.specs.declared.tables.Table.{Table}
 use Rattle.query_names.specs.Bound.{is_twice_named, source_seen}
@@ -63,7 +63,7 @@ abbrev pub column_names : List Column → List (List ℕ)
 column_names cs = map (λ c. c.name) cs
 
 abbrev pub seen : List Column → List ScopeColumn
-seen cs = table_scope (record { columns = map plain_column cs; rowid_column = None; checks = []; rows = [] })
+seen cs = table_scope (record { columns = map as_column cs; rowid_column = None; checks = []; rows = [] })
 
 -- the places of a name, counted from i
 abbrev placed_from : ℕ → List ℕ → List ScopeColumn → List ℕ

@@ -1,20 +1,14 @@
--- What CREATE TABLE makes of a definition without rules, and what refuses it.
-use Rattle.std.proofs.Common.{◌≡◌, refl, sym, ap, subst, ◌∙◌, ◌⊎◌, inl, inr, ℕ, suc, Bool, true, false, ◌&&◌, ◌||◌, ◌==◌, cond, List, [], ◌∷◌, ◌++◌, length, map, Option, Some, None, arith}
+-- What CREATE TABLE makes of a definition without keys and CHECKs, and what refuses it.
+use Rattle.std.proofs.Common.{◌≡◌, refl, sym, ap, subst, ◌∙◌, ◌⊎◌, inl, inr, ℕ, suc, Bool, true, false, ◌&&◌, ◌==◌, cond, List, [], ◌∷◌, ◌++◌, length, map, Option, Some, None, arith}
 use Rattle.std.proofs.lemmas.Bool.{false≢true}
 use Rattle.std.proofs.lemmas.Bool.Decides.{nat_tests}
 use Rattle.std.proofs.lemmas.List.Elements.{Contains-append_left, Contains-append_right}
-use Rattle.std.specs.Prelude.{flat_map, if◌then◌else◌, is_none, is_some, unwrap_or}
-use Rattle.std.specs.List.{Contains, find, last_or, list_all, list_any}
+use Rattle.std.specs.Prelude.{flat_map, if◌then◌else◌, is_some}
+use Rattle.std.specs.List.{Contains, find, list_all}
 use Rattle.std.specs.FinMap.Entries.{put}
-use Rattle.sqlval.specs.Affinity.{declared_affinity}
 use Rattle.sqlval.specs.Lists.{any_twice}
-use Rattle.sqlval.specs.Names.{folded, is_same_name}
-use Rattle.sqlval.specs.Refusals.{Refusal, Exists, Misuse, Unsupported}
-use Rattle.sqlval.specs.declared.affinity.Affinity.{Affinity}
-use Rattle.sqlval.specs.declared.affinity.Affinity.TheVariants as kind
-use Rattle.sqlval.specs.declared.collation.Collation.TheVariants.{Binary}
-use Rattle.sqlval.specs.declared.value.Value.{Value}
-use Rattle.sqlval.specs.declared.value.Value.TheVariants.{Null}
+use Rattle.sqlval.specs.Names.{is_same_name}
+use Rattle.sqlval.specs.Refusals.{Refusal, Exists, Misuse}
 use Rattle.sql_syntax.specs.declared.create.ColumnDefinition.{ColumnDefinition}
 use Rattle.sql_syntax.specs.declared.create.ColumnRule.{ColumnRule}
 use Rattle.sql_syntax.specs.declared.create.ColumnRule.TheVariants as column
@@ -22,14 +16,14 @@ use Rattle.sql_syntax.specs.declared.create.TableDefinition.{TableDefinition}
 use Rattle.catalog.specs.Database.{Database, Name, Object, ATable, TableColumn, name_order, object, with_object}
 use Rattle.catalog.proofs.Found.{names_listed}
 use Rattle.catalog.specs.Laws.{NamesListed}
-use Rattle.catalog.specs.Listed.{defined, described, has_doubled, is_real, is_reserved, is_table, plain_column, plain_table, type_text}
+use Rattle.catalog.specs.Listed.{as_column, is_reserved, is_table, plain_table}
 use Rattle.catalog.specs.declared.tables.Column.{Column}
 use Rattle.catalog.specs.declared.tables.Table.{Table}
 use Rattle.query_names.specs.Bound.{is_twice_named}
-use Rattle.query_names.specs.Creating.{HasColumnsOf, KeepsNamesOnce, MakesListedTable, RefusesTableAsDefined, has_no_rules}
-use Rattle.query_names.specs.Checked.{Checked, Meant, good, bad, meant, faults, also, both, known_all, known_map, ◌and_then◌, unless}
+use Rattle.query_names.specs.Creating.{HasColumnsOf, KeepsNamesOnce, MakesListedTable, RefusesTableAsDefined, defined, described, has_doubled, has_plain_rules, is_plain_rule}
+use Rattle.query_names.specs.Checked.{Checked, Meant, good, meant, faults, also, both, known_all, known_map, ◌and_then◌, unless}
 use Rattle.query_names.specs.Schema.{automatic, create_table}
-use Rattle.query_names.specs.Tables.{checks_of, column_of, keys_of, table_made, without_rows}
+use Rattle.query_names.specs.Tables.{checks_of, column_check, column_key, column_of, keys_of, table_made, without_rows}
 
 -- ---- tests
 
@@ -76,54 +70,71 @@ no_parts f xs h = ap (flat_map f) h
 
 -- ---- the columns
 
-known_affinity : (c : ColumnDefinition) (column : Column) → c.rules ≡ [] → described column ≡ defined c → column_of c ≡ good (plain_column column)
-known_affinity c column rules same = let e : declared_affinity (type_text c) ≡ Some column.affinity = sym (ap (λ x. x.1) same) in let n : column.name ≡ c.name = ap (λ x. x.0) same in
-    rw (e, rules) (ap (λ name. good (record { name = folded name; affinity = column.affinity; collation = Binary; is_filled = false; default = Null })) (sym n))
-
 heads : {A B : Type 0} (f : A → B) (x : A) (y : B) (xs : List A) (ys : List B) → f x ∷ map f xs ≡ y ∷ ys → (f x ≡ y) × (map f xs ≡ ys)
 heads f x y xs ys h = (cc, cc)
 
-pub known_columns : (cs : List ColumnDefinition) (columns : List Column) → list_all (λ c. length c.rules == 0) cs ≡ true → map described columns ≡ map defined cs
-    → known_all (map column_of cs) ≡ good (map plain_column columns)
-known_columns [] [] plain same = refl
-known_columns [] (column ∷ columns) plain same = absurd cc
-known_columns (c ∷ cs) [] plain same = absurd cc
-known_columns (c ∷ cs) (column ∷ columns) plain same =
-    let rules = both_true (length c.rules == 0) (list_all (λ c. length c.rules == 0) cs) plain in
+pub known_columns : (cs : List ColumnDefinition) (columns : List Column) → map described columns ≡ map defined cs → known_all (map column_of cs) ≡ good (map as_column columns)
+known_columns [] [] same = refl
+known_columns [] (column ∷ columns) same = absurd cc
+known_columns (c ∷ cs) [] same = absurd cc
+known_columns (c ∷ cs) (column ∷ columns) same =
     let parts = heads described column (defined c) columns (map defined cs) same in
-    both_good (λ (x : TableColumn) xs. x ∷ xs) (column_of c) (known_all (map column_of cs)) (plain_column column) (map plain_column columns)
-    (known_affinity c column (no_items c.rules rules.0) parts.0) (known_columns cs columns rules.1 parts.1)
+    both_good (λ (x : TableColumn) xs. x ∷ xs) (column_of c) (known_all (map column_of cs)) (as_column column) (map as_column columns)
+    (sym (ap (λ x. x.1) parts.0)) (known_columns cs columns parts.1)
 
--- ---- no rules
+-- ---- neither keys nor CHECKs
 
-no_rules_among : {A : Type 0} (f : ColumnDefinition → ColumnRule → List A) (cs : List ColumnDefinition) → list_all (λ c. length c.rules == 0) cs ≡ true → flat_map (λ c. flat_map (f c) c.rules) cs ≡ []
-no_rules_among f [] plain = refl
-no_rules_among f (c ∷ cs) plain =
-    let rules = both_true (length c.rules == 0) (list_all (λ c. length c.rules == 0) cs) plain in
-    no_join (flat_map (f c) c.rules) (flat_map (λ c. flat_map (f c) c.rules) cs) (no_parts (f c) c.rules (no_items c.rules rules.0)) (no_rules_among f cs rules.1)
+nothing_of : {A : Type 0} (f : ColumnRule → List A) (rs : List ColumnRule) → ((r : ColumnRule) → is_plain_rule r ≡ true → f r ≡ []) → list_all is_plain_rule rs ≡ true → flat_map f rs ≡ []
+nothing_of f [] none plain = refl
+nothing_of f (r ∷ rs) none plain =
+    let each = both_true (is_plain_rule r) (list_all is_plain_rule rs) plain in
+    no_join (f r) (flat_map f rs) (none r each.0) (nothing_of f rs none each.1)
 
-module _ (d : TableDefinition) (plain : has_no_rules d ≡ true) where
+nothing_among : {A : Type 0} (f : ColumnDefinition → ColumnRule → List A) (cs : List ColumnDefinition) → ((c : ColumnDefinition) (r : ColumnRule) → is_plain_rule r ≡ true → f c r ≡ [])
+    → list_all (λ c. list_all is_plain_rule c.rules) cs ≡ true → flat_map (λ c. flat_map (f c) c.rules) cs ≡ []
+nothing_among f [] none plain = refl
+nothing_among f (c ∷ cs) none plain =
+    let each = both_true (list_all is_plain_rule c.rules) (list_all (λ c. list_all is_plain_rule c.rules) cs) plain in
+    no_join (flat_map (f c) c.rules) (flat_map (λ c. flat_map (f c) c.rules) cs) (nothing_of (f c) c.rules (none c) each.0) (nothing_among f cs none each.1)
+
+no_key : (n : Name) (r : ColumnRule) → is_plain_rule r ≡ true → column_key n r ≡ []
+no_key n column.PrimaryKey h = absurd (false≢true h)
+no_key n column.Unique h = absurd (false≢true h)
+no_key n column.NotNull h = refl
+no_key n (column.Default v) h = refl
+no_key n (column.Collate k) h = refl
+no_key n (column.Check e) h = absurd (false≢true h)
+
+no_check : (r : ColumnRule) → is_plain_rule r ≡ true → column_check r ≡ []
+no_check column.PrimaryKey h = absurd (false≢true h)
+no_check column.Unique h = absurd (false≢true h)
+no_check column.NotNull h = refl
+no_check (column.Default v) h = refl
+no_check (column.Collate k) h = refl
+no_check (column.Check e) h = absurd (false≢true h)
+
+module _ (d : TableDefinition) (plain : has_plain_rules d ≡ true) where
   no_table_rules : d.rules ≡ []
-  no_table_rules = no_items d.rules (both_true (length d.rules == 0) (list_all (λ c. length c.rules == 0) d.columns) plain).0
+  no_table_rules = no_items d.rules (both_true (length d.rules == 0) (list_all (λ c. list_all is_plain_rule c.rules) d.columns) plain).0
 
-  no_column_rules : list_all (λ c. length c.rules == 0) d.columns ≡ true
-  no_column_rules = (both_true (length d.rules == 0) (list_all (λ c. length c.rules == 0) d.columns) plain).1
+  plain_columns : list_all (λ c. list_all is_plain_rule c.rules) d.columns ≡ true
+  plain_columns = (both_true (length d.rules == 0) (list_all (λ c. list_all is_plain_rule c.rules) d.columns) plain).1
 
   no_keys : keys_of d ≡ []
-  no_keys = no_join _ _ (no_rules_among _ d.columns no_column_rules) (no_parts _ d.rules no_table_rules)
+  no_keys = no_join _ _ (nothing_among (λ c. column_key c.name) d.columns (λ c. no_key c.name) plain_columns) (no_parts _ d.rules no_table_rules)
 
   no_checks : checks_of d ≡ []
-  no_checks = no_join _ _ (no_rules_among _ d.columns no_column_rules) (no_parts _ d.rules no_table_rules)
+  no_checks = no_join _ _ (nothing_among (λ c. column_check) d.columns (λ c. no_check) plain_columns) (no_parts _ d.rules no_table_rules)
 
   pub listed_made : (t : Table) → has_doubled d.columns ≡ false → HasColumnsOf d t → table_made d ≡ good (plain_table t [], [])
   listed_made t once same =
       unless_false (has_doubled d.columns) Misuse _ once
       ∙ unless_false _ Misuse _ (none_twice _ (keys_of d) no_keys)
       ∙ unless_false _ Misuse _ (none_twice _ (keys_of d) no_keys)
-      ∙ then_good (known_all (map column_of d.columns)) (map plain_column t.columns) _ (known_columns d.columns t.columns no_column_rules same)
+      ∙ then_good (known_all (map column_of d.columns)) (map as_column t.columns) _ (known_columns d.columns t.columns same)
       ∙ then_good _ [] _ (none_known _ (checks_of d) no_checks)
       ∙ then_good _ [] _ (none_known _ (keys_of d) no_keys)
-      ∙ ap (λ es. good (without_rows (map plain_column t.columns) None es, [])) no_checks
+      ∙ ap (λ es. good (without_rows (map as_column t.columns) None es, [])) no_checks
 
 -- ---- the database
 
@@ -187,39 +198,6 @@ both_second f (Meant x rs) (Meant y ss) r h = record { among = Contains-append_r
 map_has : {A B : Type 0} (f : A → B) (k : Checked A) (r : Refusal) → Has k r → Has (known_map f k) r
 map_has f (Meant x rs) r h = record { among = h.among }
 
-none_is : {A : Type 0} (o : Option A) → is_none o ≡ true → o ≡ None
-none_is None h = refl
-none_is (Some x) h = absurd (false≢true h)
-
--- the parts of a column that its rules make
-abbrev last_given : {A : Type 0} → (ColumnRule → Option A) → A → List ColumnRule → A
-last_given f a [] = a
-last_given f a (r ∷ rs) = last_given f (unwrap_or (f r) a) rs
-
-abbrev given_default : ColumnRule → Option Value
-given_default (column.Default v) = Some v
-given_default _ = None
-
-abbrev is_filling : ColumnRule → Bool
-is_filling column.NotNull = true
-is_filling _ = false
-
--- of its affinity, whatever its rules
-real_affinity : {A B : Type 0} (f : Affinity → A → B) (a : Affinity) (l : Checked A) → Has (both f (bad a Unsupported) l) Unsupported
-real_affinity f a (Meant y ss) = record { among = (0, omega arith, refl) }
-
-real_column : (c : ColumnDefinition) → is_real c ≡ true → Has (column_of c) Unsupported
-real_column c h = let e : declared_affinity (type_text c) ≡ None = none_is (declared_affinity (type_text c)) h in
-    rw (e) (real_affinity (λ a ks. record { name = folded c.name; affinity = a; collation = unwrap_or (last_or None ks) Binary; is_filled = list_any is_filling c.rules; default = last_given given_default Null c.rules }) kind.Blob _)
-
-real_among : (cs : List ColumnDefinition) → list_any is_real cs ≡ true → Has (known_all (map column_of cs)) Unsupported
-real_among [] h = absurd (false≢true h)
-real_among (c ∷ cs) h = by_test (real_among cs) (is_real c) refl h
-  where
-    by_test : (list_any is_real cs ≡ true → Has (known_all (map column_of cs)) Unsupported) → (b : Bool) → is_real c ≡ b → (b || list_any is_real cs) ≡ true → Has (known_all (map column_of (c ∷ cs))) Unsupported
-    by_test rest true e h = both_first (λ (x : TableColumn) xs. x ∷ xs) (column_of c) (known_all (map column_of cs)) Unsupported (real_column c e)
-    by_test rest false e h = both_second (λ (x : TableColumn) xs. x ∷ xs) (column_of c) (known_all (map column_of cs)) Unsupported (rest h)
-
 module _ (db : Database) (d : TableDefinition) where
   -- the new object, and with the test whether another has its name
   abbrev placed : Checked Database
@@ -237,10 +215,10 @@ module _ (db : Database) (d : TableDefinition) where
   doubled_refused : has_doubled d.columns ≡ true → Has (create_table db d) Misuse
   doubled_refused h = then_has (table_made d) _ Misuse (unless_has (has_doubled d.columns) Misuse _ h)
 
-  reals_refused : list_any is_real d.columns ≡ true → Has (create_table db d) Unsupported
-  reals_refused h = then_has (table_made d) _ Unsupported
-      (unless_later (has_doubled d.columns) Misuse Unsupported _ (unless_later _ Misuse Unsupported _ (unless_later _ Misuse Unsupported _
-      (then_has (known_all (map column_of d.columns)) _ Unsupported (real_among d.columns h)))))
+  column_refused : (r : Refusal) → Contains (faults (known_all (map column_of d.columns))) r → Has (create_table db d) r
+  column_refused r h = then_has (table_made d) _ r
+      (unless_later (has_doubled d.columns) Misuse r _ (unless_later _ Misuse r _ (unless_later _ Misuse r _
+      (then_has (known_all (map column_of d.columns)) _ r (record { among = h })))))
 
   refused_so : (r s : Refusal) → r ≡ s → Has (create_table db d) s → Contains (faults (create_table db d)) r
   refused_so r s e h = subst (Contains (faults (create_table db d))) (sym e) h.among
@@ -250,7 +228,7 @@ refuses_by names rows_at tables db d r lists (inl (e, h)) = refused_so db d r Mi
 refuses_by names rows_at tables db d r lists (inr (inl (e, h))) =
     let (o, is) = something (object db d.name) (names rows_at tables db d.name lists ∙ h) in refused_so db d r Exists e (taken_refused db d o is)
 refuses_by names rows_at tables db d r lists (inr (inr (inl (e, h)))) = refused_so db d r Misuse e (doubled_refused db d h)
-refuses_by names rows_at tables db d r lists (inr (inr (inr (e, h)))) = refused_so db d r Unsupported e (reals_refused db d h)
+refuses_by names rows_at tables db d r lists (inr (inr (inr h))) = (column_refused db d r h).among
 
 pub makes_table : MakesListedTable
 makes_table = makes_by names_listed
@@ -273,29 +251,34 @@ at_end p (y ∷ xs) x t h = by_test (at_end p xs x t) (p y) h
     by_test rest true h = inl h
     by_test rest false h = rest h
 
-names_of : (cs : List ColumnDefinition) (columns : List Column) → map described columns ≡ map defined cs → map (λ c. c.name) columns ≡ map (λ c. c.name) cs
-names_of [] [] same = refl
-names_of [] (column ∷ columns) same = absurd cc
-names_of (c ∷ cs) [] same = absurd cc
-names_of (c ∷ cs) (column ∷ columns) same =
+pub named_columns : (cs : List ColumnDefinition) (columns : List Column) → map described columns ≡ map defined cs → map (λ c. c.name) columns ≡ map (λ c. c.name) cs
+named_columns [] [] same = refl
+named_columns [] (column ∷ columns) same = absurd cc
+named_columns (c ∷ cs) [] same = absurd cc
+named_columns (c ∷ cs) (column ∷ columns) same =
     let parts = heads described column (defined c) columns (map defined cs) same in
     let h : column.name ≡ c.name = ap (λ x. x.0) parts.0 in
-    let k = names_of cs columns parts.1 in
+    let k = named_columns cs columns parts.1 in
     cc
 
 pub keeps_once : KeepsNamesOnce
 keeps_once tables d t each once same name u found = elim (at_end (is_table name) tables t u found) [
   | inl h ↦ each name u h
-  | inr e ↦ subst (λ u. is_twice_named u.columns ≡ false) e (ap (any_twice is_same_name) (names_of d.columns t.columns same) ∙ once)
+  | inr e ↦ subst (λ u. is_twice_named u.columns ≡ false) e (ap (any_twice is_same_name) (named_columns d.columns t.columns same) ∙ once)
 ]
 
 -- ---- definitions that aren't refused
 
--- the name may be given, no two columns have one name, and none is of reals
+-- the name may be given, no two columns have one name, and no column is refused
 pub record IsAccepted (d : TableDefinition) : Type 0 where
   pub free : is_reserved d.name ≡ false
   pub once : has_doubled d.columns ≡ false
-  pub known : list_any is_real d.columns ≡ false
+  pub known : faults (known_all (map column_of d.columns)) ≡ []
+
+-- a list without items, if there is no item in another that each of its own is in
+none_in : (rs : List Refusal) (k : Checked Database) → faults k ≡ [] → ((r : Refusal) → Contains rs r → Has k r) → rs ≡ []
+none_in [] k none each = refl
+none_in (r ∷ rs) k none each = (let among = subst (λ ss. Contains ss r) none (each r (0, omega arith, refl)).among in absurd (omega (arith, among.1)))
 
 not_so : {A : Type 0} (k : Checked A) (r : Refusal) (b : Bool) → faults k ≡ [] → (b ≡ true → Has k r) → b ≡ false
 not_so k r true none has = (let among = subst (λ rs. Contains rs r) none (has refl).among in absurd (omega (arith, among.1)))
@@ -305,5 +288,5 @@ pub accepted : (db : Database) (d : TableDefinition) → faults (create_table db
 accepted db d none = record {
   free = not_so (create_table db d) Misuse (is_reserved d.name) none (reserved_refused db d);
   once = not_so (create_table db d) Misuse (has_doubled d.columns) none (doubled_refused db d);
-  known = not_so (create_table db d) Unsupported (list_any is_real d.columns) none (reals_refused db d);
+  known = none_in (faults (known_all (map column_of d.columns))) (create_table db d) none (column_refused db d);
 }

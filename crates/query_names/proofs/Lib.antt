@@ -15,4 +15,6 @@ pub mod Trees
 mod ViewRows
 pub mod Written
 mod Plain
+mod DefinedColumns
+mod DefinedRules
 pub mod QuietValues

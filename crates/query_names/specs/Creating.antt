@@ -1,20 +1,46 @@
--- CREATE TABLE of a definition that is a name and columns alone: the table that it makes, and what refuses it.
+-- CREATE TABLE of a definition without keys and CHECKs: the table that it makes, and what refuses it.
 use Rattle.std.specs.Prelude.{◌≡◌, ◌⊎◌, ℕ, ℤ, Bool, true, false, ◌&&◌, ◌==◌, List, [], ◌∷◌, ◌++◌, length, map}
-use Rattle.std.specs.List.{Contains, list_all, list_any}
-use Rattle.sqlval.specs.Refusals.{Refusal, Exists, Misuse, Unsupported}
+use Rattle.std.specs.List.{Contains, list_all}
+use Rattle.sqlval.specs.Lists.{any_twice}
+use Rattle.sqlval.specs.Names.{is_same_name}
+use Rattle.sqlval.specs.Refusals.{Refusal, Exists, Misuse}
 use Rattle.sqlval.specs.declared.value.Value.{Value}
+use Rattle.sql_syntax.specs.declared.create.ColumnDefinition.{ColumnDefinition}
+use Rattle.sql_syntax.specs.declared.create.ColumnRule.{ColumnRule}
+use Rattle.sql_syntax.specs.declared.create.ColumnRule.TheVariants as column
 use Rattle.sql_syntax.specs.declared.create.NewObject.TheVariants as new
 use Rattle.sql_syntax.specs.declared.create.TableDefinition.{TableDefinition}
-use Rattle.catalog.specs.Database.{Database, ATable, with_object}
-use Rattle.catalog.specs.Listed.{Lists, defined, described, has_doubled, is_name_of, is_real, is_reserved, plain_table}
+use Rattle.catalog.specs.Database.{Database, Name, ATable, TableColumn, with_object}
+use Rattle.catalog.specs.Listed.{Lists, as_column, is_name_of, is_reserved, plain_table}
+use Rattle.catalog.specs.declared.tables.Column.{Column}
 use Rattle.catalog.specs.declared.tables.Table.{Table}
 use Rattle.query_names.specs.Bound.{AreOnce}
-use Rattle.query_names.specs.Checked.{good, faults}
+use Rattle.query_names.specs.Checked.{Checked, good, faults, known_all}
 use Rattle.query_names.specs.Schema.{create}
+use Rattle.query_names.specs.Tables.{column_of}
 
--- neither the table nor one of its columns has a rule
-abbrev pub has_no_rules : TableDefinition → Bool
-has_no_rules d = length d.rules == 0 && list_all (λ c. length c.rules == 0) d.columns
+-- NOT NULL, DEFAULT or COLLATE
+abbrev pub is_plain_rule : ColumnRule → Bool
+is_plain_rule column.NotNull = true
+is_plain_rule (column.Default v) = true
+is_plain_rule (column.Collate n) = true
+is_plain_rule _ = false
+
+-- neither the table nor one of its columns has a key or a CHECK
+abbrev pub has_plain_rules : TableDefinition → Bool
+has_plain_rules d = length d.rules == 0 && list_all (λ c. list_all is_plain_rule c.rules) d.columns
+
+-- two of the columns have one name
+abbrev pub has_doubled : List ColumnDefinition → Bool
+has_doubled cs = any_twice is_same_name (map (λ c. c.name) cs)
+
+-- the name that a definition gives its column, and what else it makes of it
+abbrev pub defined : ColumnDefinition → Name × Checked TableColumn
+defined c = (c.name, column_of c)
+
+-- the same of a column that is listed
+abbrev pub described : Column → Name × Checked TableColumn
+described c = (c.name, good (as_column c))
 
 -- nothing is in the definition's way: its name may be given, none of the tables and of their indexes has it, and no two columns have one
 -- name
@@ -23,24 +49,24 @@ pub record IsNewBeside (tables : List Table) (d : TableDefinition) : Type 0 wher
   pub new : is_name_of tables d.name ≡ false
   pub once : has_doubled d.columns ≡ false
 
--- the table has the definition's columns, each with its name and its affinity
+-- the table has the definition's columns, each under its name
 abbrev pub HasColumnsOf : TableDefinition → Table → Type 0
 HasColumnsOf d t = map described t.columns ≡ map defined d.columns
 
 -- Why a definition is refused beside these tables: its name is reserved, a table or an index has it, two columns have one name, or a
--- column's type is that of reals.
+-- column is refused.
 abbrev pub IsCreateRefusal : List Table → TableDefinition → Refusal → Type 0
 IsCreateRefusal tables d r =
     (r ≡ Misuse) × (is_reserved d.name ≡ true)
     ⊎ (((r ≡ Exists) × (is_name_of tables d.name ≡ true))
     ⊎ ((r ≡ Misuse) × (has_doubled d.columns ≡ true)
-    ⊎ (r ≡ Unsupported) × (list_any is_real d.columns ≡ true)))
+    ⊎ Contains (faults (known_all (map column_of d.columns))) r))
 
--- A table with the columns of a definition without rules, where nothing is in its way, is the one that CREATE TABLE makes:
+-- A table with the columns of a definition without keys and CHECKs, where nothing is in its way, is the one that CREATE TABLE makes:
 -- under its name, without rows, and not refused.
 abbrev pub MakesListedTable : Type 0
 MakesListedTable = (rows_at : ℕ → List (ℤ × List Value)) (tables : List Table) (db : Database) (d : TableDefinition) (t : Table)
-    → Lists rows_at tables db → has_no_rules d ≡ true → IsNewBeside tables d → HasColumnsOf d t
+    → Lists rows_at tables db → has_plain_rules d ≡ true → IsNewBeside tables d → HasColumnsOf d t
     → create db (new.Table d) ≡ good (with_object db d.name (ATable (plain_table t [])))
 
 -- Why a definition is refused beside the listed tables is among the refusals of its CREATE TABLE.

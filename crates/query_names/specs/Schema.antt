@@ -17,7 +17,7 @@ use Rattle.sql_syntax.specs.declared.create.TriggerTime.TheVariants.{InsteadOf}
 use Rattle.sql_syntax.specs.declared.create.ViewDefinition.{ViewDefinition}
 use Rattle.sql_syntax.specs.declared.statement.ObjectKind.{ObjectKind}
 use Rattle.sql_syntax.specs.declared.statement.ObjectKind.TheVariants as kind
-use Rattle.catalog.specs.Database.{Name, Database, object, with_object, Object, ATable, AnIndex, AView, ATrigger, Table, Index, name_order}
+use Rattle.catalog.specs.Database.{Name, Database, object, with_object, Object, ATable, AnIndex, AView, ATrigger, Table, name_order}
 use Rattle.catalog.specs.Listed.{is_reserved}
 use Rattle.query_names.specs.Expressions.{resolve_collation}
 use Rattle.query_names.specs.Checked.{Checked, good, bad, known_map, known_all, ◌and_then◌, unless}

@@ -29,34 +29,35 @@ use Rattle.query_names.specs.declared.scope.ScopeSource.{ScopeSource}
 -- ---- columns
 
 -- the last of the values that the rules give
-abbrev last_of : {A : Type 0} → (ColumnRule → Option A) → A → List ColumnRule → A
+abbrev pub last_of : {A : Type 0} → (ColumnRule → Option A) → A → List ColumnRule → A
 last_of f a [] = a
 last_of f a (r ∷ rs) = last_of f (unwrap_or (f r) a) rs
 
-abbrev default_of : ColumnRule → Option Value
+abbrev pub default_of : ColumnRule → Option Value
 default_of (column.Default v) = Some v
 default_of _ = None
 
-abbrev collation_in : ColumnRule → Option Name
+abbrev pub collation_in : ColumnRule → Option Name
 collation_in (column.Collate n) = Some n
 collation_in _ = None
 
-abbrev is_not_null : ColumnRule → Bool
+abbrev pub is_not_null : ColumnRule → Bool
 is_not_null column.NotNull = true
 is_not_null _ = false
 
 -- a type of REAL affinity isn't supported
-abbrev affinity_known : Option Affinity → Checked Affinity
+abbrev pub affinity_known : Option Affinity → Checked Affinity
 affinity_known None = bad kind.Blob Unsupported
 affinity_known (Some a) = good a
 
--- each collation that is written must be one; of several the last counts, as of several DEFAULTs
+-- each collation that is written must be one, and of several the last counts; BINARY where none is
+abbrev pub collation_of : List ColumnRule → Checked Collation
+collation_of rules = known_map (λ ks. unwrap_or (last_or None ks) Binary) (known_all (map resolve_collation (filter_map collation_in rules)))
+
+-- of several DEFAULTs too the last counts
 abbrev pub column_of : ColumnDefinition → Checked TableColumn
-column_of c = both (λ a ks. record { name = folded c.name; affinity = a; collation = last ks; is_filled = list_any is_not_null c.rules; default = last_of default_of Null c.rules })
-    (affinity_known (declared_affinity (type_text c))) (known_all (map resolve_collation (filter_map collation_in c.rules)))
-  where
-    last : List Collation → Collation
-    last ks = unwrap_or (last_or None ks) Binary
+column_of c = both (λ a k. record { name = folded c.name; affinity = a; collation = k; is_filled = list_any is_not_null c.rules; default = last_of default_of Null c.rules })
+    (affinity_known (declared_affinity (type_text c))) (collation_of c.rules)
 
 -- ---- keys and CHECKs
 
@@ -64,7 +65,7 @@ column_of c = both (λ a ks. record { name = folded c.name; affinity = a; collat
 abbrev pub WrittenKey : Type 0
 WrittenKey = Bool × List Name
 
-abbrev column_key : Name → ColumnRule → List WrittenKey
+abbrev pub column_key : Name → ColumnRule → List WrittenKey
 column_key n column.PrimaryKey = (true, n ∷ []) ∷ []
 column_key n column.Unique = (false, n ∷ []) ∷ []
 column_key n _ = []
@@ -78,7 +79,7 @@ table_key _ = []
 abbrev pub keys_of : TableDefinition → List WrittenKey
 keys_of d = flat_map (λ c. flat_map (column_key c.name) c.rules) d.columns ++ flat_map table_key d.rules
 
-abbrev column_check : ColumnRule → List Tree
+abbrev pub column_check : ColumnRule → List Tree
 column_check (column.Check e) = e ∷ []
 column_check _ = []
 

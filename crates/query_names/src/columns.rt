@@ -112,7 +112,8 @@ fn rowid_of(number: usize) -> Term
 
 /// The columns of the name.
 fn push_columns(found: &mut Vec<Term>, number: usize, columns: &[ScopeColumn], name: &Name) -> R<()>
-    ensures pushed { OnOk result (found.new.items ≡ found.old.items ++ named_from number 0 name.now columns.now) }
+    ensures pushed { OnOk result (found.new.items
+        ≡ found.old.items ++ named_from number 0 name.now columns.now) }
     ensures refused { IfErr result (λ fault. fault ≡ Fault.Memory) }
 {
     'columns: for place in 0..columns.len() {

@@ -94,7 +94,8 @@ fn bind_one(
     operator: OneSided,
     operand: &Expr,
 ) -> R<Term>
-    ensures { IsOutside scope.now → Names (known_map (term.One operator) (resolve totals scope.now operand.now)) result }
+    ensures { IsOutside scope.now → Names (known_map (term.One operator)
+        (resolve totals scope.now operand.now)) result }
 {
     let operand = bind_boxed(alloc, totals, scope, operand)?;
     Ok(Term {
@@ -113,7 +114,8 @@ fn bind_two(
     left: &Expr,
     right: &Expr,
 ) -> R<Term>
-    ensures { IsOutside scope.now → Names (resolve totals scope.now (tree.Binary operator left.now right.now)) result }
+    ensures { IsOutside scope.now → Names (resolve totals scope.now
+        (tree.Binary operator left.now right.now)) result }
 {
     let left = bind_boxed(alloc, totals, scope, left)?;
     let right = bind_boxed(alloc, totals, scope, right)?;
@@ -132,7 +134,8 @@ fn bind_collated(
     operand: &Expr,
     name: &Name,
 ) -> R<Term>
-    ensures { IsOutside scope.now → Names (resolve totals scope.now (tree.Collate operand.now name.now)) result }
+    ensures { IsOutside scope.now → Names (resolve totals scope.now
+        (tree.Collate operand.now name.now)) result }
 {
     let collation = collation_named(alloc, name)?;
     let operand = bind_boxed(alloc, totals, scope, operand)?;
@@ -195,7 +198,8 @@ fn bind_call(
     name: &Name,
     list: &[Expr],
 ) -> R<Term>
-    ensures { IsOutside scope.now → Names (resolve totals scope.now (tree.Call name.now (trees list.now))) result }
+    ensures { IsOutside scope.now → Names (resolve totals scope.now
+        (tree.Call name.now (trees list.now))) result }
 {
     let called = function_named(name);
     let arguments = bind_all(alloc, may_hold_totals(totals, called), scope, list)?;

@@ -82,7 +82,8 @@ pub fn call_of(
     arguments: Vec<Term>,
 ) -> R<Term>
     ensures { Names
-        (known_map (λ call. call (terms arguments.items)) (meant.called totals called (length arguments.items))) result }
+        (known_map (λ call. call (terms arguments.items))
+        (meant.called totals called (length arguments.items))) result }
 {
     match called {
         Some(called) => known_call(alloc, totals, called, arguments),
@@ -93,7 +94,8 @@ pub fn call_of(
 /// A call of a function that there is.
 fn known_call(alloc: Global, totals: bool, called: Called, arguments: Vec<Term>) -> R<Term>
     ensures { Names
-        (known_map (λ call. call (terms arguments.items)) (meant.called totals (Some called) (length arguments.items))) result }
+        (known_map (λ call. call (terms arguments.items))
+        (meant.called totals (Some called) (length arguments.items))) result }
 {
     match called {
         Called::OfFunction(function, count, or_more) => {

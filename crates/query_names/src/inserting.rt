@@ -34,7 +34,8 @@ fn place_in(names: &[Name], column: &str) -> Option<usize>
 
 /// The first name of a list that no column of the table has.
 fn unknown_in<'n>(table: &Table, names: &'n [Name]) -> Option<&'n Name>
-    ensures { option_map (λ name. name.now) result ≡ find (λ name. is_none (place_named name table.now.columns)) names.now }
+    ensures { option_map (λ name. name.now) result ≡ find
+        (λ name. is_none (place_named name table.now.columns)) names.now }
 {
     names
         .iter()
@@ -65,7 +66,8 @@ fn has_doubled(names: &[Name]) -> bool
 /// Each name of the list is one of the table's columns, and stands there once.
 fn check_names(alloc: Global, table: &Table, names: &[Name]) -> R<()>
     ensures listed { OnOk result (AreColumns table.now.columns (Some names.now)) }
-    ensures refused { IfErr result (λ fault. (fault ≡ Fault.Memory) ⊎ IsListRefusal table.now.columns (Some names.now) (refusal_of fault)) }
+    ensures refused { IfErr result (λ fault. (fault ≡ Fault.Memory)
+        ⊎ IsListRefusal table.now.columns (Some names.now) (refusal_of fault)) }
     ensures not_disk { IfErr result (λ fault. IsNotDiskFault fault) }
 {
     if let Some(name) = unknown_in(table, names) {
@@ -79,7 +81,8 @@ fn check_names(alloc: Global, table: &Table, names: &[Name]) -> R<()>
 
 fn check_list(alloc: Global, table: &Table, list: &Option<Many<Name>>) -> R<()>
     ensures listed { OnOk result (AreColumns table.now.columns list.now) }
-    ensures refused { IfErr result (λ fault. (fault ≡ Fault.Memory) ⊎ IsListRefusal table.now.columns list.now (refusal_of fault)) }
+    ensures refused { IfErr result (λ fault. (fault ≡ Fault.Memory)
+        ⊎ IsListRefusal table.now.columns list.now (refusal_of fault)) }
     ensures not_disk { IfErr result (λ fault. IsNotDiskFault fault) }
 {
     match list {
@@ -150,8 +153,10 @@ pub struct Target<'a> {
 
 /// Looks up the table of an INSERT and its columns. (`NoSuch`, and `Misuse` for a column that is named twice.)
 pub fn bind_target<'a>(alloc: Global, insert: &Insert, catalog: &'a Catalog) -> R<Target<'a>>
-    ensures table { IfOk result (λ target. table_named insert.now.table (tables_of catalog.now) ≡ Some target.table.now) }
-    ensures places { IfOk result (λ target. target.places.items ≡ places_in target.table.now.columns insert.now.columns) }
+    ensures table { IfOk result (λ target. table_named insert.now.table (tables_of catalog.now)
+        ≡ Some target.table.now) }
+    ensures places { IfOk result (λ target. target.places.items
+        ≡ places_in target.table.now.columns insert.now.columns) }
     ensures count { IfOk result (λ target. target.count ≡ count_wanted insert.now.columns target.table.now) }
     ensures listed { IfOk result (λ target. AreColumns target.table.now.columns insert.now.columns) }
     ensures refused { IfErr result (λ fault. IsTargetFault (tables_of catalog.now) insert.now fault) }

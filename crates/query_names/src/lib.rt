@@ -3,6 +3,7 @@
 #![tactic(auto)]
 
 mod columns;
+mod definitions;
 mod expressions;
 mod forms;
 mod functions;
@@ -17,6 +18,7 @@ ghost use Rattle.query_names.specs.Creating.{KeepsNamesOnce, MakesListedTable, R
 ghost use Rattle.query_names.specs.Laws.{CalmIsNotRefused, KnowsListed};
 
 use catalog::listed_tables_are_found;
+pub use definitions::{bind_columns, has_plain_rules};
 pub use expressions::bind_term;
 pub use functions::collation_named;
 pub use inserting::{BoundInsert, Target, bind_target};
@@ -43,7 +45,7 @@ pub fn listed_tables_are_known()
     listed_tables_are_found();
 }
 
-/// A CREATE TABLE of a definition without rules, beside listed tables, makes the table of the definition's columns, or is
+/// A CREATE TABLE of a definition without keys and CHECKs, beside listed tables, makes the table of the definition's columns, or is
 /// refused for each cause that there is.
 pub fn tables_are_created_as_defined()
     ensures makes { MakesListedTable }

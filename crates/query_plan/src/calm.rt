@@ -135,7 +135,8 @@ fn both_are_calm(alloc: Global, left: &Term, right: &Term) -> R<bool>
 
 /// Whether BETWEEN can't be refused. (`Memory`.)
 fn is_calm_between(alloc: Global, operand: &Term, low: &Term, high: &Term) -> R<bool>
-    ensures found { IfOk result (λ b. b ≡ (calm.are_calm_sides operand.now low.now && calm.are_calm_sides operand.now high.now)) }
+    ensures found { IfOk result (λ b. b ≡ (calm.are_calm_sides operand.now low.now &&
+        calm.are_calm_sides operand.now high.now)) }
     ensures refused { IfErr result (λ fault. fault ≡ Fault.Memory) }
 {
     if !are_calm_sides(alloc, operand, low)? {

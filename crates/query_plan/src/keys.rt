@@ -149,7 +149,8 @@ fn key_in_between(
     wanted: Wanted,
     by: Comparison,
 ) -> R<Option<Value>>
-    ensures found { IfOk result (λ key. key ≡ asking.key_in wanted by (tree.Between false operand.now low.now high.now)) }
+    ensures found { IfOk result (λ key. key ≡ asking.key_in wanted by
+        (tree.Between false operand.now low.now high.now)) }
     ensures refused { IfErr result (λ fault. fault ≡ Fault.Memory) }
 {
     match compared_key(alloc, Comparison::GreaterOrEqual, operand, low, wanted, by)? {
@@ -167,7 +168,8 @@ fn key_in_either(
     wanted: Wanted,
     by: Comparison,
 ) -> R<Option<Value>>
-    ensures found { IfOk result (λ key. key ≡ option_or (asking.key_in wanted by left.now) (asking.key_in wanted by right.now)) }
+    ensures found { IfOk result (λ key. key ≡ option_or (asking.key_in wanted by left.now)
+        (asking.key_in wanted by right.now)) }
     ensures refused { IfErr result (λ fault. fault ≡ Fault.Memory) }
 {
     match key_in(alloc, left, wanted, by)? {

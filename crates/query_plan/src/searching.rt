@@ -77,7 +77,8 @@ fn more_asked(found: Candidate, other: Candidate) -> Candidate
 
 /// What a condition asks of the index that it asks the most of; the first of several. (`Memory`.)
 fn most_asked(alloc: Global, condition: &Term, source: usize, indexes: &[Index]) -> R<Candidate>
-    ensures found { IfOk result (λ found. found ≡ asking.most_asked source condition.now 0 asking.asks_nothing indexes.now) }
+    ensures found { IfOk result (λ found. found
+        ≡ asking.most_asked source condition.now 0 asking.asks_nothing indexes.now) }
     ensures refused { IfErr result (λ fault. fault ≡ Fault.Memory) }
 {
     let mut found = Candidate {

@@ -40,7 +40,8 @@ fn asked_of(left: &Term, right: &Term, source: usize) -> Option<u64>
 /// The rowid that is asked for by one of the parts that AND joins.
 #[cycle(asked)]
 fn asked_in(condition: &Term, source: usize) -> Option<u64>
-    ensures found { IfSome result (λ rowid. list_any (is_rowid source rowid) (calm.parts condition.now) ≡ true) }
+    ensures found { IfSome result (λ rowid. list_any (is_rowid source rowid)
+        (calm.parts condition.now) ≡ true) }
     ensures none { IfNone result (list_any (calm.finds source no_index) (calm.parts condition.now) ≡ false) }
 {
     match &condition.node {

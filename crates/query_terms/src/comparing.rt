@@ -108,7 +108,8 @@ fn both_converted<'a>(
     left: Field<'a>,
     right: Field<'a>,
 ) -> R<Sides<'a>>
-    ensures { AnswersBy pair (meant.both_converted manner.left manner.right (value_of left.entry) (value_of right.entry)) result }
+    ensures { AnswersBy pair (meant.both_converted manner.left manner.right (value_of left.entry)
+        (value_of right.entry)) result }
 {
     let first = convert(alloc, conversion(manner.left, manner.right), left)?;
     beside(
@@ -125,7 +126,8 @@ pub fn compare_by(
     left: Field<'_>,
     right: Field<'_>,
 ) -> R<Value>
-    ensures { Answers (meant.compare comparison manner.collation manner.left manner.right (value_of left.entry) (value_of right.entry)) result }
+    ensures { Answers (meant.compare comparison manner.collation manner.left manner.right
+        (value_of left.entry) (value_of right.entry)) result }
 {
     let sides = both_converted(alloc, manner, left, right)?;
     let first = sides.left.as_field();
@@ -136,7 +138,8 @@ pub fn compare_by(
 
 /// Whether two values are one.
 pub fn are_same(alloc: Global, manner: Manner, left: Field<'_>, right: Field<'_>) -> R<bool>
-    ensures { Answers (meant.same manner.collation manner.left manner.right (value_of left.entry) (value_of right.entry)) result }
+    ensures { Answers (meant.same manner.collation manner.left manner.right (value_of left.entry)
+        (value_of right.entry)) result }
 {
     let sides = both_converted(alloc, manner, left, right)?;
     let first = sides.left.as_field();

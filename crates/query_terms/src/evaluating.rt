@@ -96,7 +96,8 @@ fn minus<'a>(alloc: Global, operand: &'a Term, env: &Env<'a>) -> R<Value>
 /// The values of two operands; the left one is evaluated first.
 #[cycle(evaluate)]
 fn both<'a>(alloc: Global, left: &'a Term, right: &'a Term, env: &Env<'a>) -> R<Sides<'a>>
-    ensures { AnswersBy pair (pair_of (meant.value left.now (seen env.now)) (meant.value right.now (seen env.now))) result }
+    ensures { AnswersBy pair (pair_of (meant.value left.now (seen env.now))
+        (meant.value right.now (seen env.now))) result }
 {
     let first = evaluate(alloc, left, env)?;
     beside(first, evaluate(alloc, right, env))
@@ -137,7 +138,8 @@ fn joined<'a>(
     env: &Env<'a>,
 ) -> R<Option<bool>>
     ensures { AnswersBy meant.of_truth
-        (meant.value (tree.Two (if is_or then TwoSided.Or else TwoSided.And) left.now right.now) (seen env.now)) result }
+        (meant.value (tree.Two (if is_or then TwoSided.Or else TwoSided.And) left.now right.now)
+        (seen env.now)) result }
 {
     let first = holds(alloc, left, env)?;
     if first == Some(is_or) {
@@ -161,7 +163,8 @@ fn identity<'a>(
     env: &Env<'a>,
 ) -> R<Value>
     ensures { Answers
-        (meant.value (tree.Two (if is_not then TwoSided.IsNot else TwoSided.Is) left.now right.now) (seen env.now)) result }
+        (meant.value (tree.Two (if is_not then TwoSided.IsNot else TwoSided.Is) left.now right.now)
+        (seen env.now)) result }
 {
     let manner = manner_of_two(left, right);
     of_sameness(
@@ -180,7 +183,8 @@ fn side<'a>(
     term: &'a Term,
     env: &Env<'a>,
 ) -> R<Option<bool>>
-    ensures { Answers (compared_to comparison manner (value_of value.entry) (meant.value term.now (seen env.now))) result }
+    ensures { Answers (compared_to comparison manner (value_of value.entry)
+        (meant.value term.now (seen env.now))) result }
 {
     stands(alloc, comparison, manner, value, evaluate(alloc, term, env))
 }
@@ -197,7 +201,8 @@ fn equals<'a>(
 ) -> R<Option<bool>>
     requires { manner ≡ alone operand.now }
     ensures { Answers
-        (compared_to Comparison.Equal (alone operand.now) (value_of value.entry) (meant.value term.now (seen env.now))) result }
+        (compared_to Comparison.Equal (alone operand.now) (value_of value.entry)
+        (meant.value term.now (seen env.now))) result }
 {
     side(alloc, Comparison::Equal, manner, value, term, env)
 }
@@ -255,8 +260,10 @@ fn within<'a>(
     env: &Env<'a>,
 ) -> R<Option<bool>>
     ensures { Answers (both_sides
-        (compared_to Comparison.GreaterOrEqual (manner_of operand.now low.now) (value_of value.entry) (meant.value low.now (seen env.now)))
-        (compared_to Comparison.LessOrEqual (manner_of operand.now high.now) (value_of value.entry) (meant.value high.now (seen env.now))))
+        (compared_to Comparison.GreaterOrEqual (manner_of operand.now low.now)
+        (value_of value.entry) (meant.value low.now (seen env.now)))
+        (compared_to Comparison.LessOrEqual (manner_of operand.now high.now) (value_of value.entry)
+        (meant.value high.now (seen env.now))))
         result }
 {
     let from = manner_of_two(operand, low);

@@ -72,7 +72,8 @@ fn number_of(is_true: bool) -> i64
 #[cycle(integer)]
 #[tactic(auto, using(crate::proofs::IntegerValues::both_calculated))]
 fn calculated(operator: Arithmetic, left: &Term, right: &Term, env: &Env<'_>) -> Option<i64>
-    ensures { IfSome result (λ number. meant.value (tree.Two (operator_of.Calculate operator) left.now right.now) (seen env.now) ≡ Ok (the.Int number)) }
+    ensures { IfSome result (λ number. meant.value
+        (tree.Two (operator_of.Calculate operator) left.now right.now) (seen env.now) ≡ Ok (the.Int number)) }
 {
     let x = integer(left, env)?;
     let y = integer(right, env)?;
@@ -83,7 +84,8 @@ fn calculated(operator: Arithmetic, left: &Term, right: &Term, env: &Env<'_>) ->
 #[cycle(integer)]
 #[tactic(auto, using(crate::proofs::IntegerValues::both_compared))]
 fn compared(operator: Comparison, left: &Term, right: &Term, env: &Env<'_>) -> Option<i64>
-    ensures { IfSome result (λ number. meant.value (tree.Two (operator_of.Compare operator) left.now right.now) (seen env.now) ≡ Ok (the.Int number)) }
+    ensures { IfSome result (λ number. meant.value
+        (tree.Two (operator_of.Compare operator) left.now right.now) (seen env.now) ≡ Ok (the.Int number)) }
 {
     if is_text(affinity(left)) || is_text(affinity(right)) {
         return None;

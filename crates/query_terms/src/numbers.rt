@@ -53,7 +53,8 @@ pub fn remainder(x: i64, y: i64) -> i128
 /// What a division gives, NULL where it is by 0.
 #[tactic(auto, using(crate::proofs::Division::divided, crate::proofs::Division::remains))]
 fn divided(is_remainder: bool, x: i64, y: i64) -> R<Value>
-    ensures { Answers (arithmetic (if is_remainder then Arithmetic.Remainder else Arithmetic.Divide) x y) result }
+    ensures { Answers (arithmetic (if is_remainder then Arithmetic.Remainder else Arithmetic.Divide)
+        x y) result }
 {
     if y == 0 {
         return Ok(Value::Null);

@@ -36,14 +36,16 @@ pub fn of_sameness(is_not: bool, found: R<bool>) -> R<Value>
 
 /// 1, 0 or NULL.
 pub fn of_holding(found: R<Option<bool>>) -> R<Value>
-    ensures { (answer : Answer Stored) → AnswersBy meant.of_truth answer found → Answers answer result }
+    ensures { (answer : Answer Stored) → AnswersBy meant.of_truth answer found
+        → Answers answer result }
 {
     Ok(of_truth(found?))
 }
 
 /// 1, 0 or NULL, under NOT where it is written.
 pub fn turned_holding(is_negated: bool, found: R<Option<bool>>) -> R<Value>
-    ensures of_value { (answer : Answer Stored) → AnswersBy meant.of_truth answer found → Answers (answer then meant.turned is_negated) result }
+    ensures of_value { (answer : Answer Stored) → AnswersBy meant.of_truth answer found
+        → Answers (answer then meant.turned is_negated) result }
     ensures of_truth { (answer : Answer (Option Bool)) → Answers answer found
         → Answers (answer then λ t. meant.turned is_negated (meant.of_truth t)) result }
 {
@@ -52,7 +54,8 @@ pub fn turned_holding(is_negated: bool, found: R<Option<bool>>) -> R<Value>
 
 /// The truth of a value.
 pub fn truth_of(operand: R<Datum<'_>>) -> R<Option<bool>>
-    ensures { (answer : Answer Stored) → AnswersBy datum answer operand.entry → Answers (answer then meant.truth) result }
+    ensures { (answer : Answer Stored) → AnswersBy datum answer operand.entry
+        → Answers (answer then meant.truth) result }
 {
     let value = operand?;
     let found = truth(value.as_field());
@@ -111,7 +114,8 @@ pub fn compared_of(
     sides: R<Sides<'_>>,
 ) -> R<Value>
     ensures { (answer : Answer (Stored × Stored)) → AnswersBy pair answer sides.entry
-        → Answers (answer then λ p. meant.compare comparison manner.collation manner.left manner.right p.0 p.1) result }
+        → Answers (answer then λ p. meant.compare comparison manner.collation manner.left
+        manner.right p.0 p.1) result }
 {
     let sides = sides?;
     let left = sides.left.as_field();
@@ -174,7 +178,8 @@ fn applied(alloc: Global, single: Single, value: Field<'_>) -> R<Value>
 
 /// What is made of an operand, or of the argument of a function.
 pub fn applied_of(alloc: Global, single: Single, operand: R<Datum<'_>>) -> R<Value>
-    ensures { (answer : Answer Stored) → AnswersBy datum answer operand.entry → Answers (answer then made_of single) result }
+    ensures { (answer : Answer Stored) → AnswersBy datum answer operand.entry
+        → Answers (answer then made_of single) result }
 {
     let value = operand?;
     let found = applied(alloc, single, value.as_field());
@@ -189,7 +194,8 @@ pub fn aggregated_of(
     collation: Collation,
     values: R<Vec<Datum<'_>>>,
 ) -> R<Value>
-    ensures { (answer : Answer (List Stored)) → AnswersBy (λ found. map datum found.items) answer values.entry
+    ensures { (answer : Answer (List Stored))
+        → AnswersBy (λ found. map datum found.items) answer values.entry
         → Answers (answer then meant.aggregated aggregate collation) result }
 {
     let values = values?;

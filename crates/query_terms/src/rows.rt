@@ -52,7 +52,8 @@ impl SourceRow {
 
     /// The row of the record in these bytes, of which it keeps a copy. (See `record::value_at`.)
     pub fn new(alloc: Global, rowid: Option<i64>, bytes: &[u8]) -> Result<SourceRow, AllocError>
-        ensures { IfOk result (λ row. row ≡ record { rowid = rowid_value rowid; values = values_in bytes.now }) }
+        ensures { IfOk result (λ row. row ≡ record
+            { rowid = rowid_value rowid; values = values_in bytes.now }) }
     {
         Ok(SourceRow {
             rowid,
@@ -142,7 +143,11 @@ impl<'a> Env<'a> {
 
     /// One row of the group by itself.
     pub fn row_of_group(&self, picked: &'a [usize]) -> Env<'a>
-        ensures { seen result ≡ record { rows = picked_rows self.now.sources.now picked.now; group = []; keys = [] } }
+        ensures { seen result ≡ record {
+          rows = picked_rows self.now.sources.now picked.now;
+          group = [];
+          keys = [];
+        } }
     {
         Env {
             sources: self.sources,

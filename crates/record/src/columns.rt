@@ -33,7 +33,8 @@ fn first_value<'a>(types: &'a [u8], bodies: &'a [u8]) -> Field<'a>
 
 /// The value at a place, NULL where there is none, or none that can be read.
 fn nth_value<'a>(types: &'a [u8], bodies: &'a [u8], index: usize) -> Field<'a>
-    ensures { value_of result ≡ unwrap_or (slice_get (values_from (length types.now) types.now bodies.now) index) Null }
+    ensures { value_of result ≡ unwrap_or (slice_get
+        (values_from (length types.now) types.now bodies.now) index) Null }
 {
     let mut types_left = types;
     let mut bodies_left = bodies;

@@ -75,7 +75,8 @@ pub fn read_field<'a>(
     types: &'a [u8],
     bodies: &'a [u8],
 ) -> Result<(Field<'a>, &'a [u8], &'a [u8]), Wrong>
-    ensures { Reads (λ found. (value_of found.0, found.1.now, found.2.now)) result (column_at types.now bodies.now) }
+    ensures { Reads (λ found. (value_of found.0, found.1.now, found.2.now)) result
+        (column_at types.now bodies.now) }
 {
     let Some((serial, types)) = get_varint(types) else {
         return Err(Wrong::Broken);

@@ -33,7 +33,8 @@ pub(crate) fn split(bytes: &[u8]) -> Result<(&[u8], &[u8]), Wrong>
 /// The fields of these types, which take all of the bodies.
 #[tactic(auto, unfolding(crate::specs::Reading::columns_at))]
 fn fields<'a>(alloc: Global, types: &'a [u8], bodies: &'a [u8]) -> R<SmallVec<Field<'a>, 8>>
-    ensures { Gives (λ found. map value_of found.items) result (answer (columns_at (length types.now) types.now bodies.now)) }
+    ensures { Gives (λ found. map value_of found.items) result
+        (answer (columns_at (length types.now) types.now bodies.now)) }
 {
     let mut found = SmallVec::new(alloc);
     let mut types_left = types;
@@ -73,7 +74,8 @@ impl<'a> Record<'a> {
         // What is read is a record of these values.
         ensures found { IfOk result (λ row. IsRecord bytes.now row) }
         // A record of values is read as these, unless memory runs out.
-        ensures only { (values : List Value) → IsRecord bytes.now values → Gives (λ row. row) result (Ok values) }
+        ensures only { (values : List Value) → IsRecord bytes.now values
+            → Gives (λ row. row) result (Ok values) }
         // Which fault it is.
         ensures exact { Gives (λ row. row) result (answer (record_at bytes.now)) }
     {

@@ -9,7 +9,8 @@ use std::alloc::AllocError;
 /// not the shortest alone. A signed number is spelled as its 64 bits: callers cast.
 pub fn get_varint(bytes: &[u8]) -> Option<(u64, &[u8])>
     // What is read is a spelling of the number,
-    ensures found { IfSome result (λ found. (text : List ℕ) × (bytes.now ≡ text ++ found.1.now) × IsVarint text found.0) }
+    ensures found { IfSome result (λ found. (text : List ℕ) × (bytes.now ≡ text ++ found.1.now)
+        × IsVarint text found.0) }
     // and each spelling is read, whatever follows it.
     ensures only { (text rest : List ℕ) (n : ℕ) → IsVarint text n → bytes.now ≡ text ++ rest
         → IsSomeAnd result (λ found. (found.0 ≡ n) × (found.1.now ≡ rest)) }
@@ -86,7 +87,8 @@ fn put_high(out: &mut Vec<u8>, n: u64, count: u32) -> Result<(), AllocError>
 
 /// Writes a number at the end, in as few bytes as it takes.
 pub fn put_varint(out: &mut Vec<u8>, n: u64) -> Result<(), AllocError>
-    ensures shortest { OnOk result ((text : List ℕ) × (out.new.items ≡ out.old.items ++ text) × IsShortestVarint text n) }
+    ensures shortest { OnOk result ((text : List ℕ) × (out.new.items ≡ out.old.items ++ text)
+        × IsShortestVarint text n) }
     ensures exact { OnOk result (out.new.items ≡ out.old.items ++ varint n) }
 {
     write(out, n)

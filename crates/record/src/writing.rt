@@ -173,7 +173,8 @@ pub fn encode(alloc: Global, values: &[Value]) -> R<Vec<u8>>
     requires { AreStorable values.now }
     ensures is { IfOk result (λ bytes. IsRecord bytes.items values.now) }
     // No record of these values is shorter.
-    ensures shortest { IfOk result (λ bytes. (other : List ℕ) → IsBytes other → IsRecord other values.now
+    ensures shortest { IfOk result (λ bytes. (other : List ℕ) → IsBytes other
+        → IsRecord other values.now
         → length bytes.items ≤ length other) }
     ensures exact { IfOk result (λ bytes. bytes.items ≡ record_of values.now) }
     ensures memory { IfErr result (λ fault. fault ≡ Fault.Memory) }

@@ -7,7 +7,7 @@ use Rattle.sqlval.specs.declared.value.Value.{Value}
 use Rattle.record.specs.Writing.{AreStorable}
 use Rattle.tree_leaf.specs.Leaf.{Entry}
 use Rattle.tree_page.specs.Cells.{Pairwise}
-use Rattle.catalog.specs.declared.tables.Column.{Column}
+use Rattle.catalog.specs.declared.tables.Table.{Table}
 use Rattle.row_scan.specs.Rows.{TableRow, IsRow}
 use Rattle.row_change.specs.Inserting.{row_added, rows_added, rowid_after, last_rowid, AllStorable}
 use Rattle.row_change.specs.NewRows.{IsWritten}
@@ -17,25 +17,25 @@ use Rattle.row_change.proofs.StoredRows.{long_values, no_rows, row_parts, rows_p
 -- ---- rows
 
 -- the added rows rise after the others
-pub rise_on : (columns : List Column) (places : List (Option ℕ)) (given : List (List Value)) (rows added : List TableRow) (last : Option ℤ) → last_rowid rows ≡ last → Rises rows → rows_added columns places last given ≡ Ok added → Rises (rows ++ added)
-rise_on columns places [] rows added last is rises e = subst (λ more. Rises (rows ++ more)) (no_rows added e) (subst Rises (sym (append-nil rows)) rises)
-rise_on columns places (g ∷ given) rows added last is rises e =
-    let parts = rows_parts columns places last g given added e in
-    let below = rows_below parts.row.0 rows rises (ap rowid_after is ∙ (row_parts columns places last g parts.row parts.first_is).1) in
-    let further = rise_on columns places given (rows ++ parts.row ∷ []) parts.more (Some parts.row.0) (last_of_more rows parts.row) (rises_on parts.row.0 parts.row.1 rows rises below) parts.more_is in
+pub rise_on : (table : Table) (places : List (Option ℕ)) (given : List (List Value)) (rows added : List TableRow) (last : Option ℤ) → last_rowid rows ≡ last → Rises rows → rows_added table places last given ≡ Ok added → Rises (rows ++ added)
+rise_on table places [] rows added last is rises e = subst (λ more. Rises (rows ++ more)) (no_rows added e) (subst Rises (sym (append-nil rows)) rises)
+rise_on table places (g ∷ given) rows added last is rises e =
+    let parts = rows_parts table places last g given added e in
+    let below = rows_below parts.row.0 rows rises (ap rowid_after is ∙ (row_parts table places last g parts.row parts.first_is).1) in
+    let further = rise_on table places given (rows ++ parts.row ∷ []) parts.more (Some parts.row.0) (last_of_more rows parts.row) (rises_on parts.row.0 parts.row.1 rows rises below) parts.more_is in
     subst (λ more. Rises (rows ++ more)) parts.are (subst Rises (append_assoc rows (parts.row ∷ []) parts.more) further)
 
 -- their entries are those of rows
-pub are_rows : (columns : List Column) (places : List (Option ℕ)) (given : List (List Value)) (last : Option ℤ) (added : List TableRow) (entries : List Entry) → rows_added columns places last given ≡ Ok added → Pairwise IsWritten added entries
-    → Pairwise (IsRow (length columns)) entries added
-are_rows columns places [] last [] [] e all = tt
-are_rows columns places [] last [] (entry ∷ entries) e all = absurd all
-are_rows columns places [] last (row ∷ added) entries e all = absurd cc
-are_rows columns places (g ∷ given) last [] entries e all = let parts = rows_parts columns places last g given [] e in let h = parts.are in absurd cc
-are_rows columns places (g ∷ given) last (row ∷ added) [] e all = absurd all
-are_rows columns places (g ∷ given) last (row ∷ added) (entry ∷ entries) e all =
-    let parts = rows_parts columns places last g given (row ∷ added) e in
-    (one parts.row parts.more parts.first_is parts.are, are_rows columns places given (Some row.0) added entries (subst (λ r. rows_added columns places (Some r.0) given ≡ Ok added) (head_is parts.row parts.more parts.are) (parts.more_is ∙ ap (λ (rs : List TableRow). Ok rs) (tail_is parts.row parts.more parts.are))) all.1)
+pub are_rows : (table : Table) (places : List (Option ℕ)) (given : List (List Value)) (last : Option ℤ) (added : List TableRow) (entries : List Entry) → rows_added table places last given ≡ Ok added → Pairwise IsWritten added entries
+    → Pairwise (IsRow (length table.columns)) entries added
+are_rows table places [] last [] [] e all = tt
+are_rows table places [] last [] (entry ∷ entries) e all = absurd all
+are_rows table places [] last (row ∷ added) entries e all = absurd cc
+are_rows table places (g ∷ given) last [] entries e all = let parts = rows_parts table places last g given [] e in let h = parts.are in absurd cc
+are_rows table places (g ∷ given) last (row ∷ added) [] e all = absurd all
+are_rows table places (g ∷ given) last (row ∷ added) (entry ∷ entries) e all =
+    let parts = rows_parts table places last g given (row ∷ added) e in
+    (one parts.row parts.more parts.first_is parts.are, are_rows table places given (Some row.0) added entries (subst (λ r. rows_added table places (Some r.0) given ≡ Ok added) (head_is parts.row parts.more parts.are) (parts.more_is ∙ ap (λ (rs : List TableRow). Ok rs) (tail_is parts.row parts.more parts.are))) all.1)
   where
     head_is : (r : TableRow) (rs : List TableRow) → r ∷ rs ≡ row ∷ added → r ≡ row
     head_is r rs h = cc
@@ -43,11 +43,11 @@ are_rows columns places (g ∷ given) last (row ∷ added) (entry ∷ entries) e
     tail_is : (r : TableRow) (rs : List TableRow) → r ∷ rs ≡ row ∷ added → rs ≡ added
     tail_is r rs h = cc
 
-    one : (r : TableRow) (rs : List TableRow) → row_added columns places last g ≡ Ok r → r ∷ rs ≡ row ∷ added → IsRow (length columns) entry row
+    one : (r : TableRow) (rs : List TableRow) → row_added table places last g ≡ Ok r → r ∷ rs ≡ row ∷ added → IsRow (length table.columns) entry row
     one r rs is h = record {
       rowid = ap (λ x. x.rowid) all.0.is;
       values = all.0.values;
-      full = long_values columns places g row.1 ((row_parts columns places last g row (subst (λ x. row_added columns places last g ≡ Ok x) (head_is r rs h) is)).0);
+      full = long_values table.columns places g row.1 ((row_parts table places last g row (subst (λ x. row_added table places last g ≡ Ok x) (head_is r rs h) is)).0);
     }
 
 pub pairwise_append : {A B : Type 0} (P : A → B → Type 0) (xs xs' : List A) (ys ys' : List B) → Pairwise P xs ys → Pairwise P xs' ys' → Pairwise P (xs ++ xs') (ys ++ ys')

@@ -14,9 +14,8 @@ use Rattle.sqlval.specs.Refusals.{RowidFull}
 use Rattle.sqlval.specs.declared.value.Value.{Value}
 use Rattle.tree_leaf.specs.Leaf.{Entry}
 use Rattle.tree_page.specs.Cells.{Pairwise}
-use Rattle.catalog.specs.Listed.{plain_column, plain_table}
-use Rattle.catalog.specs.Rows.{are_rows, is_row, is_value}
-use Rattle.catalog.specs.declared.tables.Column.{Column}
+use Rattle.catalog.specs.Listed.{as_column, plain_table}
+use Rattle.catalog.specs.Rows.{is_row, is_value}
 use Rattle.catalog.specs.declared.tables.Table.{Table}
 use Rattle.row_scan.specs.Rows.{TableRow}
 use Rattle.row_scan.proofs.RowOrder.{both_true}
@@ -60,7 +59,7 @@ last_word : (t : Table) (held rows : List TableRow) → list_all (is_row (plain_
 last_word t held [] fit = tt
 last_word t held (row ∷ rows) fit =
     let parts = both (is_row (plain_table t held) row) (list_all (is_row (plain_table t held)) rows) fit in
-    word_or row.0 (last_rowid rows) (values_first (is_word row.0) (length row.1 == length (map plain_column t.columns)) (list_all is_value row.1) parts.0) (last_word t held rows parts.1)
+    word_or row.0 (last_rowid rows) (values_first (is_word row.0) (length row.1 == length (map as_column t.columns)) (list_all is_value row.1) parts.0) (last_word t held rows parts.1)
   where
     word_or : (n : ℤ) (last : Option ℤ) → is_word n ≡ true → IsWordOr last → is_word (unwrap_or last n) ≡ true
     word_or n None word more = word
@@ -73,25 +72,25 @@ all_behind f (row ∷ rows) more e k =
     both_true (f row) (list_all f (rows ++ more)) parts.0 (all_behind f rows more parts.1 k)
 
 module _ (t : Table) (held : List TableRow) (places : List (Option ℕ)) where
-  added_fit : (given : List (List Value)) (last : Option ℤ) (added : List TableRow) (entries : List Entry) → IsWordOr last → rows_added t.columns places last given ≡ Ok added → Pairwise IsWritten added entries
+  added_fit : (given : List (List Value)) (last : Option ℤ) (added : List TableRow) (entries : List Entry) → IsWordOr last → rows_added t places last given ≡ Ok added → Pairwise IsWritten added entries
       → list_all (is_row (plain_table t held)) added ≡ true
   added_fit [] last added entries word e all = ap (list_all (is_row (plain_table t held))) (sym (no_rows added e))
-  added_fit (g ∷ given) last [] entries word e all = (let parts = rows_parts t.columns places last g given [] e in let h = parts.are in absurd cc)
+  added_fit (g ∷ given) last [] entries word e all = (let parts = rows_parts t places last g given [] e in let h = parts.are in absurd cc)
   added_fit (g ∷ given) last (row ∷ added) [] word e all = absurd all
   added_fit (g ∷ given) last (row ∷ added) (entry ∷ entries) word e all =
-      let parts = rows_parts t.columns places last g given (row ∷ added) e in
+      let parts = rows_parts t places last g given (row ∷ added) e in
       let same = head_is parts.row parts.more parts.are in
-      let first : row_added t.columns places last g ≡ Ok row = subst (λ r. row_added t.columns places last g ≡ Ok r) same parts.first_is in
-      let rest : rows_added t.columns places (Some row.0) given ≡ Ok added =
-      subst (λ r. rows_added t.columns places (Some r.0) given ≡ Ok added) same (parts.more_is ∙ ap (λ (rs : List TableRow). Ok rs) (tail_is parts.row parts.more parts.are)) in
-      let made = row_parts t.columns places last g row first in
+      let first : row_added t places last g ≡ Ok row = subst (λ r. row_added t places last g ≡ Ok r) same parts.first_is in
+      let rest : rows_added t places (Some row.0) given ≡ Ok added =
+      subst (λ r. rows_added t places (Some r.0) given ≡ Ok added) same (parts.more_is ∙ ap (λ (rs : List TableRow). Ok rs) (tail_is parts.row parts.more parts.are)) in
+      let made = row_parts t places last g row first in
       let here : is_word row.0 ≡ true = word_after last row.0 word made.1 in
       let long : length row.1 ≡ length t.columns = long_values t.columns places g row.1 made.0 in
       both_true (is_row (plain_table t held) row) (list_all (is_row (plain_table t held)) added)
-      (both_true (is_word row.0 && length row.1 == length (map plain_column t.columns) && list_all is_value row.1) true
-      (both_true (is_word row.0 && length row.1 == length (map plain_column t.columns)) (list_all is_value row.1)
-      (both_true (is_word row.0) (length row.1 == length (map plain_column t.columns)) here
-      (eq-eqb (length row.1) (length (map plain_column t.columns)) (long ∙ sym (length-map t.columns plain_column)))) all.0.fit) refl)
+      (both_true (is_word row.0 && length row.1 == length (map as_column t.columns) && list_all is_value row.1) true
+      (both_true (is_word row.0 && length row.1 == length (map as_column t.columns)) (list_all is_value row.1)
+      (both_true (is_word row.0) (length row.1 == length (map as_column t.columns)) here
+      (eq-eqb (length row.1) (length (map as_column t.columns)) (long ∙ sym (length-map t.columns as_column)))) all.0.fit) refl)
       (added_fit given (Some row.0) added entries here rest all.1)
     where
       head_is : (r : TableRow) (rs : List TableRow) → r ∷ rs ≡ row ∷ added → r ≡ row
@@ -114,15 +113,10 @@ pub rises_rising : (rows : List TableRow) → Rises rows → is_rising int_cmp (
 rises_rising [] rises = refl
 rises_rising (row ∷ rows) rises = climb_rising row.0 rows rises
 
-fits_with : (t : Table) (places : List (Option ℕ)) (given : List (List Value)) (rows added : List TableRow) (entries : List Entry) → rows_added t.columns places (last_rowid rows) given ≡ Ok added → Pairwise IsWritten added entries
-    → are_rows (plain_table t rows) ≡ true → are_rows (plain_table t (rows ++ added)) ≡ true
-fits_with t places given rows added entries e all fit =
+pub fit_after : (t : Table) (places : List (Option ℕ)) (given : List (List Value)) (rows added : List TableRow) (entries : List Entry) → rows_added t places (last_rowid rows) given ≡ Ok added → Pairwise IsWritten added entries
+    → FitAfter t rows added
+fit_after t places given rows added entries e all fit =
     let parts = both (is_rising int_cmp (map (λ row. row.0) rows)) (list_all (is_row (plain_table t rows)) rows) fit in
     both_true (is_rising int_cmp (map (λ row. row.0) (rows ++ added))) (list_all (is_row (plain_table t rows)) (rows ++ added))
-    (rises_rising (rows ++ added) (rise_on t.columns places given rows added (last_rowid rows) refl (fit_rows_rise (plain_table t rows) fit) e))
+    (rises_rising (rows ++ added) (rise_on t places given rows added (last_rowid rows) refl (fit_rows_rise (plain_table t rows) fit) e))
     (all_behind (is_row (plain_table t rows)) rows added parts.1 (added_fit t rows places given (last_rowid rows) added entries (last_word t rows rows parts.1) e all))
-
-pub fit_after : (columns : List Column) (places : List (Option ℕ)) (given : List (List Value)) (rows added : List TableRow) (entries : List Entry) → rows_added columns places (last_rowid rows) given ≡ Ok added → Pairwise IsWritten added entries
-    → FitAfter columns rows added
-fit_after columns places given rows added entries e all t same fit =
-    fits_with t places given rows added entries (subst (λ (cs : List Column). rows_added cs places (last_rowid rows) given ≡ Ok added) (sym same) e) all fit

@@ -1,5 +1,5 @@
 -- An INSERT of rows into a listed table, row by row.
-use Rattle.std.proofs.Common.{◌≡◌, refl, sym, ap, ◌∙◌, ℕ, suc, ◌<◌, ◌≤◌, ℤ, Bool, true, false, ◌&&◌, ◌||◌, if◌then◌else◌, not, cond, List, [], ◌∷◌, ◌++◌, Option, Some, None, Ok, Err, map, length, slice_index_or, append_assoc, arith}
+use Rattle.std.proofs.Common.{◌≡◌, refl, sym, ap, ◌∙◌, ℕ, suc, ◌≤◌, ℤ, Bool, true, false, ◌&&◌, ◌||◌, if◌then◌else◌, not, cond, List, [], ◌∷◌, ◌++◌, Option, Some, None, Ok, Err, map, length, append_assoc, arith}
 use Rattle.std.specs.Prelude.{zip, All}
 use Rattle.std.specs.Cmp.{tied_itself}
 use Rattle.std.specs.FinMap.Entries.{put, find-put, by_order}
@@ -13,48 +13,22 @@ use Rattle.sqlval.specs.Names.{folded, is_same_name}
 use Rattle.std.proofs.lemmas.List.{append-nil}
 use Rattle.sqlval.specs.Refusals.{Answer, ◌then◌, NoSuch, fold_answer}
 use Rattle.sqlval.specs.declared.value.Value.{Value}
-use Rattle.sqlval.specs.declared.value.Value.TheVariants.{Null}
 use Rattle.catalog.specs.Database as database
-use Rattle.query_names.specs.Keys.{clash, is_null}
+use Rattle.query_names.specs.Keys.{clash}
 use Rattle.catalog.specs.Database.{Name, Database, Object, Index, TableColumn, ATable, AnIndex, AView, ATrigger, object, with_object, name_order, indexes_of}
 use Rattle.catalog.specs.Laws.{KeepsOnlyPlain}
-use Rattle.catalog.specs.Listed.{plain_table, plain_column, has_only_plain}
-use Rattle.catalog.specs.declared.tables.Column.{Column}
+use Rattle.catalog.specs.Listed.{plain_table, as_column, has_only_plain}
 use Rattle.catalog.specs.declared.tables.Table.{Table}
 use Rattle.row_scan.specs.Rows.{TableRow}
 use Rattle.row_change.specs.Agreement.{IsStill, IsSetFor, InsertsRows}
-use Rattle.row_change.specs.Constraints.{is_unique_in, table_of, with_affinity, default_values, set_values, stored, next_rowid}
-use Rattle.row_change.specs.Inserting.{given_at, values_given, row_stored, rowid_after, row_added, rows_added, last_rowid}
+use Rattle.row_change.specs.Constraints.{is_unique_in, not_null_holds, table_of, with_affinity, default_values, set_values, stored, next_rowid}
+use Rattle.row_change.specs.Demands.{demanded}
+use Rattle.row_change.specs.Inserting.{row_stored, rowid_after, row_added, rows_added, last_rowid}
 use Rattle.row_change.specs.RowChanges.{Fire, insert_row}
 use Rattle.row_change.proofs.Rising.{Rises, AreBelow, fit_rows_rise, greatest_is_last, next_for, next_is, rows_below, rises_on, last_of_more, not_found, put_behind}
 use Rattle.row_change.proofs.StoredRows.{row_parts}
 
--- ---- the values that are set
-
-given_at_each : (columns : List Column) (places : List (Option ℕ)) (given values : List Value) → length values ≡ length columns
-    → ((k : ℕ) → k < length columns → slice_index_or values k Null ≡ given_at given (slice_index_or places k None)) → values ≡ values_given columns places given
-given_at_each [] places given [] long each = refl
-given_at_each [] places given (v ∷ values) long each = absurd (omega (arith, long))
-given_at_each (c ∷ columns) places given [] long each = absurd (omega (arith, long))
-given_at_each (c ∷ columns) [] given (v ∷ values) long each =
-    let head : v ≡ Null = each 0 (omega arith) in
-    let rest : values ≡ values_given columns [] given = given_at_each columns [] given values (omega (arith, long)) (λ k lt. each (suc k) (omega (arith, lt))) in
-    cc
-given_at_each (c ∷ columns) (p ∷ places) given (v ∷ values) long each =
-    let head : v ≡ given_at given p = each 0 (omega arith) in
-    let rest : values ≡ values_given columns places given = given_at_each columns places given values (omega (arith, long)) (λ k lt. each (suc k) (omega (arith, lt))) in
-    cc
-
--- ---- a table without constraints
-
-abbrev pub not_null_holds : List TableColumn → List Value → Bool
-not_null_holds (c ∷ cs) (v ∷ vs) = not (c.is_filled && is_null v) && not_null_holds cs vs
-not_null_holds _ _ = true
-
-pub all_filled : (columns : List Column) (values : List Value) → not_null_holds (map plain_column columns) values ≡ true
-all_filled [] values = refl
-all_filled (c ∷ columns) [] = refl
-all_filled (c ∷ columns) (v ∷ values) = all_filled columns values
+-- ---- a table without keys
 
 -- an index that isn't UNIQUE keeps no rows apart
 first_false : (a b c : Bool) → a ≡ false → (a && b && c) ≡ false
@@ -97,11 +71,15 @@ tables_kept keeps db name table only = keeps db name (ATable table) only refl
 next_of : (table : Table) (rows : List TableRow) → Rises rows → next_rowid (plain_table table rows) ≡ rowid_after (last_rowid rows)
 next_of table rows rises = ap next_for (greatest_is_last rows rises) ∙ next_is (last_rowid rows)
 
--- the row is stored after the others
+-- where the table demands no other, the row is stored after the others
 stored_behind : (db : Database) (name : Name) (table : Table) (rows : List TableRow) (rowid : ℤ) (values : List Value) → has_only_plain db ≡ true → AreBelow rowid rows
-    → stored db name (plain_table table rows) rowid values ≡ Ok (with_object db name (ATable (plain_table table (rows ++ (rowid, values) ∷ []))))
-stored_behind db name table rows rowid values only below =
-    simp (all_filled, not_found rowid rows below, none_unique db name values (plain_table table rows) only, put_behind rowid values rows below)
+    → stored db name (plain_table table rows) rowid values ≡ (demanded table (rowid, values) then λ row. Ok (with_object db name (ATable (plain_table table (rows ++ row ∷ [])))))
+stored_behind db name table rows rowid values only below = by (not_null_holds (map as_column table.columns) values) refl
+  where
+    by : (b : Bool) → not_null_holds (map as_column table.columns) values ≡ b
+        → stored db name (plain_table table rows) rowid values ≡ (demanded table (rowid, values) then λ row. Ok (with_object db name (ATable (plain_table table (rows ++ row ∷ [])))))
+    by true h = simp (h, not_found rowid rows below, none_unique db name values (plain_table table rows) only, put_behind rowid values rows below)
+    by false h = rw (h) refl
 
 -- ---- the database
 
@@ -129,23 +107,32 @@ module _ (fire : Fire) (name : Name) (places : List ℕ) (table : Table) (by_col
   with_rows db rows = with_object db name (ATable (plain_table table rows))
 
   abbrev added_to : List TableRow → List Value → Answer TableRow
-  added_to rows given = row_added table.columns by_column (last_rowid rows) given
+  added_to rows given = row_added table by_column (last_rowid rows) given
 
   row_changes : (db : Database) (rows : List TableRow) (given : List Value) → has_only_plain db ≡ true → table_of db name ≡ Ok (plain_table table rows) → Rises rows → IsSetFor table by_column places given
       → insert_row fire name places db given ≡ (added_to rows given then λ row. Ok (with_rows db (rows ++ row ∷ [])))
   row_changes db rows given only is rises set = by_values (row_stored table.columns by_column given) refl
     where
-      stored_is : with_affinity (map plain_column table.columns) (set_values (default_values (plain_table table [])) (zip places given)) ≡ row_stored table.columns by_column given
-      stored_is = ap (with_affinity (map plain_column table.columns)) (given_at_each table.columns by_column given (set_values (default_values (plain_table table [])) (zip places given)) set.full set.each)
+      stored_is : with_affinity (map as_column table.columns) (set_values (default_values (plain_table table [])) (zip places given)) ≡ row_stored table.columns by_column given
+      stored_is = ap (with_affinity (map as_column table.columns)) set
+
+      by_demands : (values : List Value) (rowid : ℤ) → row_stored table.columns by_column given ≡ Ok values → rowid_after (last_rowid rows) ≡ Ok rowid → AreBelow rowid rows → (d : Answer TableRow) → demanded table (rowid, values) ≡ d
+          → insert_row fire name places db given ≡ (added_to rows given then λ row. Ok (with_rows db (rows ++ row ∷ [])))
+      by_demands values rowid e h below (Ok row) k =
+          let next : next_rowid (plain_table table rows) ≡ Ok rowid = next_of table rows rises ∙ h in
+          let put_is : stored db name (plain_table table rows) rowid values ≡ Ok (with_rows db (rows ++ row ∷ [])) =
+          stored_behind db name table rows rowid values only below ∙ ap (λ (d : Answer TableRow). d then λ row. Ok (with_rows db (rows ++ row ∷ []))) k in
+          let later : has_only_plain (with_rows db (rows ++ row ∷ [])) ≡ true = keeps db name (plain_table table (rows ++ row ∷ [])) only in
+          rw (is, stored_is, e, still, is, next, put_is, still, h, k) refl
+      by_demands values rowid e h below (Err r) k =
+          let next : next_rowid (plain_table table rows) ≡ Ok rowid = next_of table rows rises ∙ h in
+          let put_is : stored db name (plain_table table rows) rowid values ≡ Err r =
+          stored_behind db name table rows rowid values only below ∙ ap (λ (d : Answer TableRow). d then λ row. Ok (with_rows db (rows ++ row ∷ []))) k in
+          rw (is, stored_is, e, still, is, next, put_is, h, k) refl
 
       by_rowid : (values : List Value) → row_stored table.columns by_column given ≡ Ok values → (r : Answer ℤ) → rowid_after (last_rowid rows) ≡ r
           → insert_row fire name places db given ≡ (added_to rows given then λ row. Ok (with_rows db (rows ++ row ∷ [])))
-      by_rowid values e (Ok rowid) h =
-          let below : AreBelow rowid rows = rows_below rowid rows rises h in
-          let next : next_rowid (plain_table table rows) ≡ Ok rowid = next_of table rows rises ∙ h in
-          let put_is : stored db name (plain_table table rows) rowid values ≡ Ok (with_rows db (rows ++ (rowid, values) ∷ [])) = stored_behind db name table rows rowid values only below in
-          let later : has_only_plain (with_rows db (rows ++ (rowid, values) ∷ [])) ≡ true = keeps db name (plain_table table (rows ++ (rowid, values) ∷ [])) only in
-          rw (is, stored_is, e, still, is, next, put_is, still, h) refl
+      by_rowid values e (Ok rowid) h = by_demands values rowid e h (rows_below rowid rows rises h) (demanded table (rowid, values)) refl
       by_rowid values e (Err r) h =
           let next : next_rowid (plain_table table rows) ≡ Err r = next_of table rows rises ∙ h in
           rw (is, stored_is, e, still, is, next, h) refl
@@ -155,11 +142,11 @@ module _ (fire : Fire) (name : Name) (places : List ℕ) (table : Table) (by_col
       by_values (Err r) e = rw (is, stored_is, e) refl
 
   row_rises : (rows : List TableRow) (given : List Value) (row : TableRow) → Rises rows → added_to rows given ≡ Ok row → Rises (rows ++ row ∷ [])
-  row_rises rows given row rises e = rises_on row.0 row.1 rows rises (rows_below row.0 rows rises (row_parts table.columns by_column (last_rowid rows) given row e).1)
+  row_rises rows given row rises e = rises_on row.0 row.1 rows rises (rows_below row.0 rows rises (row_parts table by_column (last_rowid rows) given row e).1)
 
   -- what is left where the rows given are these
   abbrev changed : Database → List TableRow → List (List Value) → Answer Database
-  changed db rows given = rows_added table.columns by_column (last_rowid rows) given then λ added. Ok (with_rows db (rows ++ added))
+  changed db rows given = rows_added table by_column (last_rowid rows) given then λ added. Ok (with_rows db (rows ++ added))
 
   joined : (db : Database) (rows : List TableRow) (row : TableRow) (answer : Answer (List TableRow))
       → (answer then λ added. Ok (with_rows (with_rows db (rows ++ row ∷ [])) ((rows ++ row ∷ []) ++ added))) ≡ ((answer then λ added. Ok (row ∷ added)) then λ added. Ok (with_rows db (rows ++ added)))
@@ -178,12 +165,12 @@ module _ (fire : Fire) (name : Name) (places : List ℕ) (table : Table) (by_col
       by (Ok row) e =
           ap (λ (a : Answer Database). a then λ b. fold_answer (insert_row fire name places) b rest) (first ∙ ap (λ (a : Answer TableRow). a then λ row. Ok (with_rows db (rows ++ row ∷ []))) e)
           ∙ (others row e
-          ∙ (ap (λ last. rows_added table.columns by_column last rest then λ added. Ok (with_rows (with_rows db (rows ++ row ∷ [])) ((rows ++ row ∷ []) ++ added))) (last_of_more rows row)
-          ∙ (joined db rows row (rows_added table.columns by_column (Some row.0) rest)
-          ∙ sym (ap (λ (a : Answer TableRow). (a then λ row. rows_added table.columns by_column (Some row.0) rest then λ added. Ok (row ∷ added)) then λ added. Ok (with_rows db (rows ++ added))) e))))
+          ∙ (ap (λ last. rows_added table by_column last rest then λ added. Ok (with_rows (with_rows db (rows ++ row ∷ [])) ((rows ++ row ∷ []) ++ added))) (last_of_more rows row)
+          ∙ (joined db rows row (rows_added table by_column (Some row.0) rest)
+          ∙ sym (ap (λ (a : Answer TableRow). (a then λ row. rows_added table by_column (Some row.0) rest then λ added. Ok (row ∷ added)) then λ added. Ok (with_rows db (rows ++ added))) e))))
       by (Err r) e =
           ap (λ (a : Answer Database). a then λ b. fold_answer (insert_row fire name places) b rest) (first ∙ ap (λ (a : Answer TableRow). a then λ row. Ok (with_rows db (rows ++ row ∷ []))) e)
-          ∙ sym (ap (λ (a : Answer TableRow). (a then λ row. rows_added table.columns by_column (Some row.0) rest then λ added. Ok (row ∷ added)) then λ added. Ok (with_rows db (rows ++ added))) e)
+          ∙ sym (ap (λ (a : Answer TableRow). (a then λ row. rows_added table by_column (Some row.0) rest then λ added. Ok (row ∷ added)) then λ added. Ok (with_rows db (rows ++ added))) e)
 
   -- row by row, where the table already is in the database
   folds : (given : List (List Value)) (db : Database) (rows : List TableRow) → has_only_plain db ≡ true → table_of db name ≡ Ok (plain_table table rows) → Rises rows → All (IsSetFor table by_column places) given

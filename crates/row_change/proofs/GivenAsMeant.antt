@@ -9,7 +9,7 @@ use Rattle.sql_syntax.specs.declared.change.Change.TheVariants as change
 use Rattle.sql_syntax.specs.declared.change.Insert.{Insert}
 use Rattle.sql_syntax.specs.declared.change.InsertSource.{InsertSource}
 use Rattle.catalog.specs.Database.{Name, Database}
-use Rattle.catalog.specs.Listed.{plain_column}
+use Rattle.catalog.specs.Listed.{as_column}
 use Rattle.catalog.specs.declared.tables.Column.{Column}
 use Rattle.catalog.specs.declared.tables.Table.{Table}
 use Rattle.query_names.specs.Bound.{columns_seen, count_wanted, is_twice_named, source_seen}
@@ -21,7 +21,7 @@ use Rattle.query_names.specs.declared.scope.ScopeSource.{ScopeSource}
 use Rattle.query_names.specs.Views.{look_up}
 use Rattle.row_change.specs.Binding.{row_with}
 use Rattle.row_change.specs.Changes.{Given, Inserts, Resolved, no_outer, resolve_change, resolve_given}
-use Rattle.row_change.specs.Inserting.{given_at}
+use Rattle.row_change.specs.Inserting.{values_given}
 use Rattle.query_names.proofs.ColumnPlaces.{column_place}
 use Rattle.row_change.proofs.PlacesByName.{list_places, listed_row, own_row, unknown_list, doubled_list}
 
@@ -60,7 +60,7 @@ abbrev insertion : Name → Option (List Name) → InsertSource → Insert
 insertion n columns source = record { table = n; columns = columns; source = source }
 
 abbrev seen : List Column → List ScopeColumn
-seen cs = table_scope (record { columns = map plain_column cs; rowid_column = None; checks = []; rows = [] })
+seen cs = table_scope (record { columns = map as_column cs; rowid_column = None; checks = []; rows = [] })
 
 seen_count : (cs : List Column) → length (seen cs) ≡ length cs
 seen_count [] = refl
@@ -127,7 +127,7 @@ module _ (db : Database) (n : Name) (source : InsertSource) (t : Table) (found :
 
   -- the values by their places
   pub row_placed : (columns : Option (List Name)) → AreColumns t.columns columns → (vs : List Value) → length vs ≡ count_wanted columns t
-      → row_with t (value_places t columns) vs ≡ map (given_at vs) (places_in t.columns columns)
+      → row_with t (value_places t columns) vs ≡ values_given t.columns (places_in t.columns columns) vs
   row_placed None l vs k = own_row t vs k
   row_placed (Some ns) l vs k = listed_row t ns vs once l.0 l.1 k
 

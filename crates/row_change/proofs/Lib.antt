@@ -1,5 +1,6 @@
 mod Chosen
 mod Deletions
+mod Demanded
 mod FitRows
 mod Folding
 mod IntoTrees

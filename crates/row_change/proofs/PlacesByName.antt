@@ -5,15 +5,15 @@ use Rattle.std.specs.List.{list_any, position_from, range_with_len, AllByRecursi
 use Rattle.std.specs.Str.{bytes_eq}
 use Rattle.std.proofs.lemmas.Bool.{false≢true}
 use Rattle.std.proofs.lemmas.Bool.Decides.{nat_tests}
-use Rattle.std.proofs.lemmas.List.{ext_get_or, get_or-map, get_or-set_same, get_or-set_other, length-map, length-set}
+use Rattle.std.proofs.lemmas.List.{ext_get_or, get_or-map, get_or-set_same, get_or-set_other, length-set}
 use Rattle.std.proofs.lemmas.List.Elements.{Contains-append_right}
-use Rattle.std.proofs.lemmas.List.FromFn.{length-map-range_with_len, length-range_with_len, get_or-map-range_with_len}
+use Rattle.std.proofs.lemmas.List.FromFn.{length-range_with_len, get_or-map-range_with_len}
 use Rattle.sqlval.specs.Names.{folded, is_same_name}
 use Rattle.sqlval.specs.Refusals.{Refusal, NoSuch, Misuse}
 use Rattle.sqlval.specs.declared.value.Value.{Value}
 use Rattle.sqlval.specs.declared.value.Value.TheVariants.{Null}
 use Rattle.catalog.specs.Database.{TableColumn}
-use Rattle.catalog.specs.Listed.{is_column, plain_column, place_named}
+use Rattle.catalog.specs.Listed.{is_column, as_column, place_named}
 use Rattle.catalog.specs.declared.tables.Column.{Column}
 use Rattle.catalog.specs.declared.tables.Table.{Table}
 use Rattle.query_names.specs.Bound.{is_twice_named, source_seen}
@@ -22,7 +22,7 @@ use Rattle.query_names.specs.Checked.{Checked, Meant, good, faults, both, known_
 use Rattle.query_names.specs.Scopes.{place_of, resolve_places, is_doubled}
 use Rattle.row_change.specs.Binding.{row_with}
 use Rattle.row_change.specs.Constraints.{set_values}
-use Rattle.row_change.specs.Inserting.{given_at}
+use Rattle.row_change.specs.Inserting.{values_given}
 use Rattle.query_names.proofs.ColumnPlaces.{column_names, column_place, no_place, one_place, or_left, or_right, or_true, same_by, same_is, same_turned}
 
 module _ (as_name : List ℕ) (t : Table) (once : is_twice_named t.columns ≡ false) where
@@ -137,10 +137,6 @@ abbrev picked : List Value → Value → Option ℕ → Value
 picked vs d None = d
 picked vs d (Some j) = get_or vs j Null
 
-picked_given : (vs : List Value) (o : Option ℕ) → picked vs Null o ≡ given_at vs o
-picked_given vs None = refl
-picked_given vs (Some j) = refl
-
 picked_later : (v : Value) (vs : List Value) (d : Value) (o : Option ℕ) → picked (v ∷ vs) d (option_map suc o) ≡ picked vs d o
 picked_later v vs d None = refl
 picked_later v vs d (Some j) = refl
@@ -174,17 +170,26 @@ module _ {X : Type 0} (test : X → Bool) (place : X → ℕ) (k : ℕ) where
   written (x ∷ xs) (v ∷ vs) ds l a h lt =
       written xs vs (set ds (place x) v) (omega (arith, l)) a.1 h.1 (omega (arith, lt, length-set ds (place x) v)) ∙ step x xs v vs ds a.0 h.0 lt (test x) refl
 
-abbrev nulls : List Column → List Value
-nulls cs = map (λ (c : TableColumn). c.default) (map plain_column cs)
+abbrev defaults : List Column → List Value
+defaults cs = map (λ (c : TableColumn). c.default) (map as_column cs)
 
-nulls_at : (cs : List Column) (k : ℕ) → get_or (nulls cs) k Null ≡ Null
-nulls_at [] k = refl
-nulls_at (c ∷ cs) zero = refl
-nulls_at (c ∷ cs) (suc k) = nulls_at cs k
+defaults_count : (cs : List Column) → length (defaults cs) ≡ length cs
+defaults_count [] = refl
+defaults_count (c ∷ cs) = ap suc (defaults_count cs)
 
-nulls_count : (cs : List Column) → length (nulls cs) ≡ length cs
-nulls_count [] = refl
-nulls_count (c ∷ cs) = ap suc (nulls_count cs)
+-- each value is the one given, or else the default
+given_each : (cs : List Column) (places : List (Option ℕ)) (vs : List Value) (k : ℕ) → k < length cs → get_or (values_given cs places vs) k Null ≡ picked vs (get_or (defaults cs) k Null) (get_or places k None)
+given_each [] places vs k lt = absurd (omega (arith, lt))
+given_each (c ∷ cs) [] vs zero lt = refl
+given_each (c ∷ cs) [] vs (suc k) lt = given_each cs [] vs k (omega (arith, lt))
+given_each (c ∷ cs) (None ∷ ps) vs zero lt = refl
+given_each (c ∷ cs) (Some j ∷ ps) vs zero lt = refl
+given_each (c ∷ cs) (p ∷ ps) vs (suc k) lt = given_each cs ps vs k (omega (arith, lt))
+
+given_count : (cs : List Column) (places : List (Option ℕ)) (vs : List Value) → length (values_given cs places vs) ≡ length cs
+given_count [] places vs = refl
+given_count (c ∷ cs) [] vs = ap suc (given_count cs [] vs)
+given_count (c ∷ cs) (p ∷ ps) vs = ap suc (given_count cs ps vs)
 
 same_count : (ds : List Value) (ps : List (ℕ × Value)) → length (set_values ds ps) ≡ length ds
 same_count ds [] = refl
@@ -192,19 +197,18 @@ same_count ds (p ∷ ps) = same_count (set ds p.0 p.1) ps ∙ length-set ds p.0 
 
 -- the values at the places of their columns are the columns' values
 module _ {X : Type 0} (t : Table) (place : X → ℕ) (xs : List X) (places : List (Option ℕ)) where
-  row_given : (vs : List Value) → length vs ≡ length xs → length places ≡ length t.columns
+  row_given : (vs : List Value) → length vs ≡ length xs
       → ((k : ℕ) → k < length t.columns → (test : X → Bool) × AllByRecursion (λ x. (place x == k) ≡ test x) xs × IsSingleLeaf test xs × (get_or places k None ≡ position_from test 0 xs))
-      → row_with t (map place xs) vs ≡ map (given_at vs) places
-  row_given vs l count f =
-      ext_get_or Null (row_with t (map place xs) vs) (map (given_at vs) places) (long ∙ sym (length-map places (given_at vs) ∙ count))
-      (λ k lt. let g = f k (omega (arith, lt, long)) in
-      written g.0 place k xs vs (nulls t.columns) l g.1 g.2 (omega (arith, lt, long, nulls_count t.columns))
-      ∙ (ap (λ d. picked vs d (position_from g.0 0 xs)) (nulls_at t.columns k)
-      ∙ (picked_given vs (position_from g.0 0 xs)
-      ∙ (ap (given_at vs) (sym g.3) ∙ sym (get_or-map (given_at vs) places k None Null (omega (arith, lt, long, count)))))))
+      → row_with t (map place xs) vs ≡ values_given t.columns places vs
+  row_given vs l f =
+      ext_get_or Null (row_with t (map place xs) vs) (values_given t.columns places vs) (long ∙ sym (given_count t.columns places vs))
+      (λ k lt. let within : k < length t.columns = omega (arith, lt, long) in
+      let g = f k within in
+      written g.0 place k xs vs (defaults t.columns) l g.1 g.2 (omega (arith, within, defaults_count t.columns))
+      ∙ (ap (picked vs (get_or (defaults t.columns) k Null)) (sym g.3) ∙ sym (given_each t.columns places vs k within)))
     where
       long : length (row_with t (map place xs) vs) ≡ length t.columns
-      long = same_count (nulls t.columns) (zip (map place xs) vs) ∙ nulls_count t.columns
+      long = same_count (defaults t.columns) (zip (map place xs) vs) ∙ defaults_count t.columns
 
 -- ---- without a list of columns
 
@@ -229,10 +233,10 @@ all_same f [] = tt
 all_same f (x ∷ xs) = (refl, all_same f xs)
 
 pub own_row : (t : Table) (vs : List Value) → length vs ≡ length t.columns
-    → row_with t (map (λ p. p) (range_with_len 0 (length t.columns))) vs ≡ map (given_at vs) (places_in t.columns None)
+    → row_with t (map (λ p. p) (range_with_len 0 (length t.columns))) vs ≡ values_given t.columns (places_in t.columns None) vs
 own_row t vs l =
     let n = length t.columns in
-    row_given t (λ p. p) (range_with_len 0 n) (map Some (range_with_len 0 n)) vs (l ∙ sym (length-range_with_len 0 n)) (length-map-range_with_len Some 0 n)
+    row_given t (λ p. p) (range_with_len 0 n) (map Some (range_with_len 0 n)) vs (l ∙ sym (length-range_with_len 0 n))
     (λ k lt. (
       λ p. p == k,
       all_same (λ p. p == k) (range_with_len 0 n),
@@ -273,9 +277,9 @@ column_in [] k lt = absurd (omega (arith, lt))
 column_in (c ∷ cs) k lt = c
 
 pub listed_row : (t : Table) (ns : List (List ℕ)) (vs : List Value) → is_twice_named t.columns ≡ false → has_unknown t.columns ns ≡ false → is_doubled ns ≡ false → length vs ≡ length ns
-    → row_with t (map (column_place t.columns) ns) vs ≡ map (given_at vs) (places_in t.columns (Some ns))
+    → row_with t (map (column_place t.columns) ns) vs ≡ values_given t.columns (places_in t.columns (Some ns)) vs
 listed_row t ns vs once h two l =
-    row_given t (column_place t.columns) ns (places_in t.columns (Some ns)) vs l (length-map t.columns (λ c. position_from (λ name. is_same_name name c.name) 0 ns))
+    row_given t (column_place t.columns) ns (places_in t.columns (Some ns)) vs l
     (λ k lt. (
       λ name. is_same_name name (get_or t.columns k (column_in t.columns k lt)).name,
       names_agree t k (column_in t.columns k lt) ns once lt h,

@@ -2,6 +2,7 @@
 use Rattle.std.proofs.Common.{◌≡◌, refl, sym, ap, subst, ◌∙◌, inl, inr, ◌⊎◌, ◌<ℤ◌, ℕ, ℤ, Bool, List, [], ◌∷◌, ◌++◌, length, Option, Some, Ok, Err, map, IsTrue}
 use Rattle.std.specs.Global.{Vec}
 use Rattle.std.specs.Prelude.{Result, MatchResult, IsErrAnd, ⊤}
+use Rattle.sqlval.specs.Refusals.{refusal_of}
 use Rattle.sqlval.specs.declared.fault.Fault.{Fault}
 use Rattle.sqlval.specs.declared.fault.Fault.TheVariants as f
 use Rattle.sqlval.specs.declared.value.Value.{Value}
@@ -11,11 +12,12 @@ use Rattle.pages.specs.Map.{PageMap}
 use Rattle.tree_page.specs.Cells.{Pairwise}
 use Rattle.tree_table.specs.Calls.{BecomesRows, FindsLast, Stands}
 use Rattle.tree_table.specs.Rows as tree
-use Rattle.catalog.specs.declared.tables.Column.{Column}
+use Rattle.catalog.specs.declared.tables.Table.{Table}
 use Rattle.catalog.specs.declared.tables.TableRow as stored
+use Rattle.query_terms.specs.Outcome.{IsRefusedBy}
 use Rattle.row_scan.specs.Rows.{IsRow, TableRow}
 use Rattle.row_scan.proofs.TreeOrder.{tree_rises}
-use Rattle.row_change.specs.Inserting.{AllStorable, IsRefusedAs, last_rowid, row_added, rowid_after, rows_added}
+use Rattle.row_change.specs.Inserting.{AllStorable, last_rowid, row_added, rowid_after, rows_added}
 use Rattle.row_change.specs.NewRows.{IsWritten, row_of}
 use Rattle.row_change.specs.Putting.{AreUnder, ComeAfter, PutsAfter}
 use Rattle.row_change.specs.Trees.{ArePutIn, IsPutRefusal, PutsRows, TellsAdded}
@@ -53,21 +55,21 @@ under_all rowid (entry ∷ entries) [] each below = absurd each
 under_all rowid (entry ∷ entries) (row ∷ rows) each below = (subst (λ (n : ℤ). n <ℤ rowid) (sym each.0) below.0, under_all rowid entries rows each.1 below.1)
 
 -- the entries of the rows that are added come after those of the rows
-come_after : (columns : List Column) (places : List (Option ℕ)) (given : List (List Value)) (rows added : List TableRow) (last : Option ℤ) (entries more : List Entry) → Pairwise IsAt entries rows → last_rowid rows ≡ last → Rises rows
-    → rows_added columns places last given ≡ Ok added → Pairwise IsWritten added more → ComeAfter entries more
-come_after columns places given rows added last entries [] each is rises e all = tt
-come_after columns places given rows [] last entries (entry ∷ more) each is rises e all = absurd all
-come_after columns places [] rows (row ∷ added) last entries (entry ∷ more) each is rises e all = (let h = no_rows (row ∷ added) e in absurd cc)
-come_after columns places (g ∷ given) rows (row ∷ added) last entries (entry ∷ more) each is rises e all =
-    let parts = rows_parts columns places last g given (row ∷ added) e in
+come_after : (table : Table) (places : List (Option ℕ)) (given : List (List Value)) (rows added : List TableRow) (last : Option ℤ) (entries more : List Entry) → Pairwise IsAt entries rows → last_rowid rows ≡ last → Rises rows
+    → rows_added table places last given ≡ Ok added → Pairwise IsWritten added more → ComeAfter entries more
+come_after table places given rows added last entries [] each is rises e all = tt
+come_after table places given rows [] last entries (entry ∷ more) each is rises e all = absurd all
+come_after table places [] rows (row ∷ added) last entries (entry ∷ more) each is rises e all = (let h = no_rows (row ∷ added) e in absurd cc)
+come_after table places (g ∷ given) rows (row ∷ added) last entries (entry ∷ more) each is rises e all =
+    let parts = rows_parts table places last g given (row ∷ added) e in
     let same = head_is parts.row parts.more parts.are in
-    let first : row_added columns places last g ≡ Ok row = subst (λ r. row_added columns places last g ≡ Ok r) same parts.first_is in
-    let rest : rows_added columns places (Some row.0) given ≡ Ok added =
-    subst (λ r. rows_added columns places (Some r.0) given ≡ Ok added) same (parts.more_is ∙ ap (λ (rs : List TableRow). Ok rs) (tail_is parts.row parts.more parts.are)) in
-    let below = rows_below row.0 rows rises (ap rowid_after is ∙ (row_parts columns places last g row first).1) in
+    let first : row_added table places last g ≡ Ok row = subst (λ r. row_added table places last g ≡ Ok r) same parts.first_is in
+    let rest : rows_added table places (Some row.0) given ≡ Ok added =
+    subst (λ r. rows_added table places (Some r.0) given ≡ Ok added) same (parts.more_is ∙ ap (λ (rs : List TableRow). Ok rs) (tail_is parts.row parts.more parts.are)) in
+    let below = rows_below row.0 rows rises (ap rowid_after is ∙ (row_parts table places last g row first).1) in
     let at : IsAt entry row = ap (λ (x : Entry). x.rowid) all.0.is in (
       subst (λ (n : ℤ). AreUnder n entries) (sym at) (under_all row.0 entries rows each below),
-      come_after columns places given (rows ++ row ∷ []) added (Some row.0) (entries ++ entry ∷ []) more (pairwise_push IsAt entries rows entry row each at) (last_of_more rows row) (rises_on row.0 row.1 rows rises below) rest
+      come_after table places given (rows ++ row ∷ []) added (Some row.0) (entries ++ entry ∷ []) more (pairwise_push IsAt entries rows entry row each at) (last_of_more rows row) (rises_on row.0 row.1 rows rises below) rest
           all.1,
     )
   where
@@ -79,75 +81,75 @@ come_after columns places (g ∷ given) rows (row ∷ added) last entries (entry
 
 -- ---- what the calls answer
 
-module _ (old new : PageMap) (size root : ℕ) (columns : List Column) (places : List (Option ℕ)) (given : List (List Value)) where
+module _ (old new : PageMap) (size root : ℕ) (table : Table) (places : List (Option ℕ)) (given : List (List Value)) where
   refused : {X : Type 0} (fault : Fault) (result : Result X Fault) → IsErrAnd result (λ e. e ≡ fault)
-      → ((rows : List TableRow) (entries : List Entry) (used free : List ℕ) (is : Stands old size root entries used free) → Pairwise (IsRow (length columns)) entries rows → IsPutRefusal columns places given rows fault)
-      → PutsRows old new size root columns places given result
+      → ((rows : List TableRow) (entries : List Entry) (used free : List ℕ) (is : Stands old size root entries used free) → Pairwise (IsRow (length table.columns)) entries rows → IsPutRefusal table places given rows fault)
+      → PutsRows old new size root table places given result
   refused fault (Ok x) same why = absurd same
-  refused fault (Err e) same why = λ rows entries used free is each. subst (λ (g : Fault). IsPutRefusal columns places given rows g) (sym same) (why rows entries used free is each)
+  refused fault (Err e) same why = λ rows entries used free is each. subst (λ (g : Fault). IsPutRefusal table places given rows g) (sym same) (why rows entries used free is each)
 
-  pub no_last : {X : Type 0} (fault : Fault) (result : Result X Fault) → IsErrAnd result (λ e. e ≡ fault) → FindsLast old size root (Err fault) → PutsRows old new size root columns places given result
+  pub no_last : {X : Type 0} (fault : Fault) (result : Result X Fault) → IsErrAnd result (λ e. e ≡ fault) → FindsLast old size root (Err fault) → PutsRows old new size root table places given result
   no_last fault result same finds = refused fault result same (λ rows entries used free is each. inl (inl (finds entries used is.free_are.whole is.tree)))
 
   module _ (last : Option ℤ) (finds : FindsLast old size root (Ok last)) where
-    last_is : (rows : List TableRow) (entries : List Entry) (used free : List ℕ) → Stands old size root entries used free → Pairwise (IsRow (length columns)) entries rows → last ≡ last_rowid rows
-    last_is rows entries used free is each = finds entries used is.free_are.whole is.tree ∙ last_same (length columns) entries rows each
+    last_is : (rows : List TableRow) (entries : List Entry) (used free : List ℕ) → Stands old size root entries used free → Pairwise (IsRow (length table.columns)) entries rows → last ≡ last_rowid rows
+    last_is rows entries used free is each = finds entries used is.free_are.whole is.tree ∙ last_same (length table.columns) entries rows each
 
-    pub not_added : {X : Type 0} (fault : Fault) (result : Result X Fault) → IsErrAnd result (λ e. e ≡ fault) → (fault ≡ f.Memory) ⊎ IsRefusedAs (rows_added columns places last given) fault → PutsRows old new size root columns places given result
+    pub not_added : {X : Type 0} (fault : Fault) (result : Result X Fault) → IsErrAnd result (λ e. e ≡ fault) → IsRefusedBy (rows_added table places last given) fault → PutsRows old new size root table places given result
     not_added fault result same why = refused fault result same (λ rows entries used free is each. by rows why (last_is rows entries used free is each))
       where
-        by : (rows : List TableRow) → (fault ≡ f.Memory) ⊎ IsRefusedAs (rows_added columns places last given) fault → last ≡ last_rowid rows → IsPutRefusal columns places given rows fault
+        by : (rows : List TableRow) → IsRefusedBy (rows_added table places last given) fault → last ≡ last_rowid rows → IsPutRefusal table places given rows fault
         by rows (inl memory) at = inl (inl (inl memory))
-        by rows (inr why) at = inr (inl (subst (λ (l : Option ℤ). IsRefusedAs (rows_added columns places l given) fault) at why))
+        by rows (inr why) at = inr (inl (subst (λ (l : Option ℤ). rows_added table places l given ≡ Err (refusal_of fault)) at why))
 
     -- the rows that are answered
-    pub told_added : (them : Vec stored.TableRow) → rows_added columns places last given ≡ Ok (map row_of them.items) → TellsAdded old size root columns places given (Ok them)
+    pub told_added : (them : Vec stored.TableRow) → rows_added table places last given ≡ Ok (map row_of them.items) → TellsAdded old size root table places given (Ok them)
     told_added them answer rows whole has =
-        subst (λ (l : Option ℤ). rows_added columns places l given ≡ Ok (map row_of them.items))
-        (finds has.entries has.used whole has.tree ∙ last_same (length columns) has.entries rows has.each) answer
+        subst (λ (l : Option ℤ). rows_added table places l given ≡ Ok (map row_of them.items))
+        (finds has.entries has.used whole has.tree ∙ last_same (length table.columns) has.entries rows has.each) answer
 
-    module _ (added : List TableRow) (answer : rows_added columns places last given ≡ Ok added) where
-      answer_is : (rows : List TableRow) → last ≡ last_rowid rows → rows_added columns places (last_rowid rows) given ≡ Ok added
-      answer_is rows at = subst (λ (l : Option ℤ). rows_added columns places l given ≡ Ok added) at answer
+    module _ (added : List TableRow) (answer : rows_added table places last given ≡ Ok added) where
+      answer_is : (rows : List TableRow) → last ≡ last_rowid rows → rows_added table places (last_rowid rows) given ≡ Ok added
+      answer_is rows at = subst (λ (l : Option ℤ). rows_added table places l given ≡ Ok added) at answer
 
-      pub not_stored : {X : Type 0} (fault : Fault) (result : Result X Fault) → IsErrAnd result (λ e. e ≡ fault) → (fault ≡ f.Memory) ⊎ ((fault ≡ f.TooLong) × (AllStorable added → ⊥)) → PutsRows old new size root columns places given result
+      pub not_stored : {X : Type 0} (fault : Fault) (result : Result X Fault) → IsErrAnd result (λ e. e ≡ fault) → (fault ≡ f.Memory) ⊎ ((fault ≡ f.TooLong) × (AllStorable added → ⊥)) → PutsRows old new size root table places given result
       not_stored fault result same why = refused fault result same (λ rows entries used free is each. by rows why (last_is rows entries used free is each))
         where
-          by : (rows : List TableRow) → (fault ≡ f.Memory) ⊎ ((fault ≡ f.TooLong) × (AllStorable added → ⊥)) → last ≡ last_rowid rows → IsPutRefusal columns places given rows fault
+          by : (rows : List TableRow) → (fault ≡ f.Memory) ⊎ ((fault ≡ f.TooLong) × (AllStorable added → ⊥)) → last ≡ last_rowid rows → IsPutRefusal table places given rows fault
           by rows (inl memory) at = inl (inl (inl memory))
           by rows (inr long) at = inr (inr (record { is = long.0; added = added; answer = answer_is rows at; long = long.1 }))
 
-      pub rows_put : (more : List Entry) (result : Result ⊤ Fault) → Pairwise IsWritten added more → PutsAfter old new size root more result → PutsRows old new size root columns places given result
+      pub rows_put : (more : List Entry) (result : Result ⊤ Fault) → Pairwise IsWritten added more → PutsAfter old new size root more result → PutsRows old new size root table places given result
       rows_put more result written puts rows entries used free is each = by result (puts entries used free is comes)
         where
           at : last ≡ last_rowid rows
           at = last_is rows entries used free is each
 
           rises : Rises rows
-          rises = rows_rise (length columns) entries rows (tree_rises old size root entries used is.tree) each
+          rises = rows_rise (length table.columns) entries rows (tree_rises old size root entries used is.tree) each
 
           comes : ComeAfter entries more
-          comes = come_after columns places given rows added last entries more (at_each (length columns) entries rows each) (sym at) rises answer written
+          comes = come_after table places given rows added last entries more (at_each (length table.columns) entries rows each) (sym at) rises answer written
 
           by : (r : Result ⊤ Fault) → MatchResult r (λ done. BecomesRows old new size root (entries ++ more) used free) IsOutsideOrFull
-              → MatchResult r (λ done. ArePutIn old new size root columns places given rows used free) (IsPutRefusal columns places given rows)
+              → MatchResult r (λ done. ArePutIn old new size root table places given rows used free) (IsPutRefusal table places given rows)
           by (Ok done) becomes = record {
             added = added;
             answer = answer_is rows at;
             entries = entries ++ more;
             becomes = becomes;
-            each = pairwise_append (IsRow (length columns)) entries more rows added each (are_rows columns places given last added more answer written);
-            fit = fit_after columns places given rows added more (answer_is rows at) written;
+            each = pairwise_append (IsRow (length table.columns)) entries more rows added each (are_rows table places given last added more answer written);
+            fit = fit_after table places given rows added more (answer_is rows at) written;
           }
           by (Err fault) cannot = inl cannot
 
   -- a call that passes it on
-  pub passed_on : {X : Type 0} (fault : Fault) (result : Result X Fault) → IsErrAnd result (λ e. e ≡ fault) → PutsRows {X = ⊤} old new size root columns places given (Err fault)
-      → PutsRows old new size root columns places given result
+  pub passed_on : {X : Type 0} (fault : Fault) (result : Result X Fault) → IsErrAnd result (λ e. e ≡ fault) → PutsRows {X = ⊤} old new size root table places given (Err fault)
+      → PutsRows old new size root table places given result
   passed_on fault (Ok x) same puts = absurd same
-  passed_on fault (Err e) same puts = λ rows entries used free is each. subst (λ (g : Fault). IsPutRefusal columns places given rows g) (sym same) (puts rows entries used free is each)
+  passed_on fault (Err e) same puts = λ rows entries used free is each. subst (λ (g : Fault). IsPutRefusal table places given rows g) (sym same) (puts rows entries used free is each)
 
-  pub none_told : (fault : Fault) (result : Result (Vec stored.TableRow) Fault) → IsErrAnd result (λ e. e ≡ fault) → TellsAdded old size root columns places given result
+  pub none_told : (fault : Fault) (result : Result (Vec stored.TableRow) Fault) → IsErrAnd result (λ e. e ≡ fault) → TellsAdded old size root table places given result
   none_told fault (Ok x) same = absurd same
   none_told fault (Err e) same = λ rows whole has. tt
 

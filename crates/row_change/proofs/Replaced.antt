@@ -20,9 +20,8 @@ use Rattle.tree_table.specs.Rows.{payload_at, with_row, with_change, with_change
 use Rattle.tree_table.specs.declared.changing.RowChange.{RowChange}
 use Rattle.tree_table.proofs.Orders.{less_not, not_less, same_or_other, lt_le}
 use Rattle.catalog.specs.Database.{TableColumn}
-use Rattle.catalog.specs.Listed.{plain_column, plain_table}
+use Rattle.catalog.specs.Listed.{as_column, plain_table}
 use Rattle.catalog.specs.Rows.{is_row, is_value}
-use Rattle.catalog.specs.declared.tables.Column.{Column}
 use Rattle.catalog.specs.declared.tables.Table.{Table}
 use Rattle.query_names.specs.Readings.{env_of, values}
 use Rattle.query_terms.specs.Terms.{Term}
@@ -30,10 +29,12 @@ use Rattle.row_scan.specs.Rows.{IsRow, TableRow}
 use Rattle.row_scan.specs.Sources.{as_source}
 use Rattle.row_scan.proofs.RowOrder.{both_true}
 use Rattle.row_change.specs.Constraints.{set_values, with_affinity}
+use Rattle.row_change.specs.Demands.{demanded}
 use Rattle.row_change.specs.NewRows.{IsReplacement, IsWritten, entry_left}
 use Rattle.record.specs.Writing.{AreStorable}
 use Rattle.row_change.specs.Setting.{row_set, rows_meant_set, values_set}
 use Rattle.row_change.specs.Updating.{FitNow, ReplacesRows, with_all_replaced}
+use Rattle.row_change.proofs.Demanded.{is_demanded}
 use Rattle.row_change.proofs.Rising.{Climbs, Rises, both, further}
 
 -- ---- the call
@@ -65,17 +66,11 @@ as_replaced old new size root changes result all makes rows used free is = by re
 
 -- ---- the parts of an answer
 
-abbrev given_row : TableRow → Answer TableRow
-given_row row = Ok row
-
 abbrev given_rows : List TableRow → Answer (List TableRow)
 given_rows rows = Ok rows
 
 abbrev given_values : List Value → Answer (List Value)
 given_values values = Ok values
-
-same_row : (a b : TableRow) → given_row a ≡ given_row b → a ≡ b
-same_row a b e = cc
 
 same_rows : (a b : List TableRow) → given_rows a ≡ given_rows b → a ≡ b
 same_rows a b e = cc
@@ -113,23 +108,25 @@ long_stored (c ∷ columns) [] stored long e = absurd (omega (arith, long))
 long_stored (c ∷ columns) (v ∷ values) stored long e =
     long_list (converted c.affinity v) (with_affinity columns values) (length columns) stored e (λ ws h. long_stored columns values ws (omega (arith, long)) h)
 
-module _ (columns : List Column) (sets : List (ℕ × Term)) where
-  long_set : (row : TableRow) (stored : List Value) → length row.1 ≡ length columns → values_set columns sets (as_source row) ≡ Ok stored → length stored ≡ length columns
+module _ (table : Table) (sets : List (ℕ × Term)) where
+  long_set : (row : TableRow) (stored : List Value) → length row.1 ≡ length table.columns → values_set table.columns sets (as_source row) ≡ Ok stored → length stored ≡ length table.columns
   long_set row stored long e = by (values (env_of (as_source row ∷ [])) (map (λ s. s.1) sets)) e
     where
-      by : (a : Answer (List Value)) → ((a then λ given. given_values (set_values row.1 (zip (map (λ s. s.0) sets) given))) then λ vs. with_affinity (map plain_column columns) vs) ≡ Ok stored → length stored ≡ length columns
+      by : (a : Answer (List Value)) → ((a then λ given. given_values (set_values row.1 (zip (map (λ s. s.0) sets) given))) then λ vs. with_affinity (map as_column table.columns) vs) ≡ Ok stored → length stored ≡ length table.columns
       by (Ok given) h =
           let ps = zip (map (λ s. s.0) sets) given in
-          let as_many = length-map columns plain_column in
-          long_stored (map plain_column columns) (set_values row.1 ps) stored (as_long row.1 ps ∙ (long ∙ sym as_many)) h ∙ as_many
+          let as_many = length-map table.columns as_column in
+          long_stored (map as_column table.columns) (set_values row.1 ps) stored (as_long row.1 ps ∙ (long ∙ sym as_many)) h ∙ as_many
       by (Err r) h = absurd cc
 
   -- what a row becomes keeps its rowid
-  set_parts : (row now : TableRow) → row_set columns sets row ≡ Ok now → (now.0 ≡ row.0) × (values_set columns sets (as_source row) ≡ Ok now.1)
-  set_parts row now e = by (values_set columns sets (as_source row)) e
+  pub set_parts : (row now : TableRow) → row_set table sets row ≡ Ok now → (now.0 ≡ row.0) × (values_set table.columns sets (as_source row) ≡ Ok now.1)
+  set_parts row now e = by (values_set table.columns sets (as_source row)) e
     where
-      by : (a : Answer (List Value)) → (a then λ values. given_row (row.0, values)) ≡ Ok now → (now.0 ≡ row.0) × (a ≡ Ok now.1)
-      by (Ok values) h = (ap (λ (r : TableRow). r.0) (sym (same_row (row.0, values) now h)), ap (λ (r : TableRow). Ok r.1) (same_row (row.0, values) now h))
+      by : (a : Answer (List Value)) → (a then λ values. demanded table (row.0, values)) ≡ Ok now → (now.0 ≡ row.0) × (a ≡ Ok now.1)
+      by (Ok values) h =
+          let same : (row.0, values) ≡ now = is_demanded table (row.0, values) now h in
+          (ap (λ (r : TableRow). r.0) (sym same), ap (λ (r : TableRow). Ok r.1) same)
       by (Err r) h = absurd cc
 
 -- ---- a row among others
@@ -209,84 +206,84 @@ all_with P x xs first rest (suc k) d lt = rest k d (omega (arith, lt))
 abbrev pub CanStore : TableRow → Type 0
 CanStore row = AreStorable row.1
 
-module _ (columns : List Column) (sets : List (ℕ × Term)) (is_meant : TableRow → Bool) where
+module _ (table : Table) (sets : List (ℕ × Term)) (is_meant : TableRow → Bool) where
   -- what the rows that are meant become
   abbrev pub made : List TableRow → Answer (List TableRow)
-  made rows = all_answers (map (row_set columns sets) (filter is_meant rows))
+  made rows = all_answers (map (row_set table sets) (filter is_meant rows))
 
   -- one is meant, or it is not
-  made_one : (r : TableRow) (rows : List TableRow) → is_meant r ≡ true → made (r ∷ rows) ≡ (row_set columns sets r then λ x. made rows then λ xs. Ok (x ∷ xs))
-  made_one r rows it = ap (λ (b : Bool). all_answers (map (row_set columns sets) (cond b (r ∷ filter is_meant rows) (filter is_meant rows)))) it
+  made_one : (r : TableRow) (rows : List TableRow) → is_meant r ≡ true → made (r ∷ rows) ≡ (row_set table sets r then λ x. made rows then λ xs. Ok (x ∷ xs))
+  made_one r rows it = ap (λ (b : Bool). all_answers (map (row_set table sets) (cond b (r ∷ filter is_meant rows) (filter is_meant rows)))) it
 
   made_none : (r : TableRow) (rows : List TableRow) → is_meant r ≡ false → made (r ∷ rows) ≡ made rows
-  made_none r rows it = ap (λ (b : Bool). all_answers (map (row_set columns sets) (cond b (r ∷ filter is_meant rows) (filter is_meant rows)))) it
+  made_none r rows it = ap (λ (b : Bool). all_answers (map (row_set table sets) (cond b (r ∷ filter is_meant rows) (filter is_meant rows)))) it
 
   set_one : (r : TableRow) (rows : List TableRow) → is_meant r ≡ true
-      → rows_meant_set columns sets is_meant (r ∷ rows) ≡ (row_set columns sets r then λ x. rows_meant_set columns sets is_meant rows then λ xs. Ok (x ∷ xs))
-  set_one r rows it = ap (λ (b : Bool). (if b then row_set columns sets r else Ok r) then λ x. rows_meant_set columns sets is_meant rows then λ xs. Ok (x ∷ xs)) it
+      → rows_meant_set table sets is_meant (r ∷ rows) ≡ (row_set table sets r then λ x. rows_meant_set table sets is_meant rows then λ xs. Ok (x ∷ xs))
+  set_one r rows it = ap (λ (b : Bool). (if b then row_set table sets r else Ok r) then λ x. rows_meant_set table sets is_meant rows then λ xs. Ok (x ∷ xs)) it
 
-  set_none : (r : TableRow) (rows : List TableRow) → is_meant r ≡ false → rows_meant_set columns sets is_meant (r ∷ rows) ≡ (rows_meant_set columns sets is_meant rows then λ xs. Ok (r ∷ xs))
-  set_none r rows it = ap (λ (b : Bool). (if b then row_set columns sets r else Ok r) then λ x. rows_meant_set columns sets is_meant rows then λ xs. Ok (x ∷ xs)) it
+  set_none : (r : TableRow) (rows : List TableRow) → is_meant r ≡ false → rows_meant_set table sets is_meant (r ∷ rows) ≡ (rows_meant_set table sets is_meant rows then λ xs. Ok (r ∷ xs))
+  set_none r rows it = ap (λ (b : Bool). (if b then row_set table sets r else Ok r) then λ x. rows_meant_set table sets is_meant rows then λ xs. Ok (x ∷ xs)) it
 
   -- where the rows become these, their records leave the tree with all rows
   pub record AreSet (rows new : List TableRow) (entries more : List Entry) : Type 0 where
     pub now : List TableRow
-    pub answer : rows_meant_set columns sets is_meant rows ≡ Ok now
-    pub each : Pairwise (IsRow (length columns)) (with_all_replaced more entries) now
+    pub answer : rows_meant_set table sets is_meant rows ≡ Ok now
+    pub each : Pairwise (IsRow (length table.columns)) (with_all_replaced more entries) now
     pub ids : map (λ row. row.0) now ≡ map (λ row. row.0) rows
-    pub fit : (t : Table) (held : List TableRow) → t.columns ≡ columns → list_all (is_row (plain_table t held)) rows ≡ true → list_all (is_row (plain_table t held)) now ≡ true
+    pub fit : (held : List TableRow) → list_all (is_row (plain_table table held)) rows ≡ true → list_all (is_row (plain_table table held)) now ≡ true
     pub storable : All CanStore now → All CanStore new
     pub over : (low : ℤ) → Climbs low rows → AreOver low more
 
   none_set : AreSet [] [] [] []
-  none_set = record { now = []; answer = refl; each = tt; ids = refl; fit = λ t held same all. refl; storable = λ all k d lt. absurd (omega (arith, lt)); over = λ low climb. tt }
+  none_set = record { now = []; answer = refl; each = tt; ids = refl; fit = λ held all. refl; storable = λ all k d lt. absurd (omega (arith, lt)); over = λ low climb. tt }
 
-  one_stays : (r : TableRow) (rows new : List TableRow) (entry : Entry) (entries more : List Entry) → is_meant r ≡ false → IsRow (length columns) entry r → Climbs r.0 rows → AreSet rows new entries more
+  one_stays : (r : TableRow) (rows new : List TableRow) (entry : Entry) (entries more : List Entry) → is_meant r ≡ false → IsRow (length table.columns) entry r → Climbs r.0 rows → AreSet rows new entries more
       → AreSet (r ∷ rows) new (entry ∷ entries) more
   one_stays r rows new entry entries more it is climb set = record {
     now = r ∷ set.now;
     answer = set_none r rows it ∙ ap (λ (a : Answer (List TableRow)). a then λ xs. Ok (r ∷ xs)) set.answer;
-    each = subst (λ (all : List Entry). Pairwise (IsRow (length columns)) all (r ∷ set.now)) (sym (stay_before more entry entries (subst (λ (n : ℤ). AreOver n more) (sym is.rowid) (set.over r.0 climb)))) (is, set.each);
+    each = subst (λ (all : List Entry). Pairwise (IsRow (length table.columns)) all (r ∷ set.now)) (sym (stay_before more entry entries (subst (λ (n : ℤ). AreOver n more) (sym is.rowid) (set.over r.0 climb)))) (is, set.each);
     ids = ap (λ (ids : List ℤ). r.0 ∷ ids) set.ids;
-    fit = λ t held same all.
-        (let parts = both (is_row (plain_table t held) r) (list_all (is_row (plain_table t held)) rows) all in
-        both_true (is_row (plain_table t held) r) (list_all (is_row (plain_table t held)) set.now) parts.0 (set.fit t held same parts.1));
+    fit = λ held all.
+        (let parts = both (is_row (plain_table table held) r) (list_all (is_row (plain_table table held)) rows) all in
+        both_true (is_row (plain_table table held) r) (list_all (is_row (plain_table table held)) set.now) parts.0 (set.fit held parts.1));
     storable = λ all. set.storable (rest_of_all CanStore r set.now all);
     over = λ low climbs. set.over low (lower low r.0 rows climbs.0 climbs.1);
   }
 
   -- the row that it becomes fits as it did
-  still_fits : (t : Table) (held : List TableRow) (r x : TableRow) → t.columns ≡ columns → is_row (plain_table t held) r ≡ true → x.0 ≡ r.0 → length x.1 ≡ length columns → list_all is_value x.1 ≡ true
-      → is_row (plain_table t held) x ≡ true
-  still_fits t held r x same was id long fit =
-      both_true (is_word x.0 && length x.1 == length (map plain_column t.columns) && list_all is_value x.1) true
-      (both_true (is_word x.0 && length x.1 == length (map plain_column t.columns)) (list_all is_value x.1)
-      (both_true (is_word x.0) (length x.1 == length (map plain_column t.columns)) (ap is_word id ∙ word (is_word r.0) (length r.1 == length (map plain_column t.columns)) (list_all is_value r.1) was)
-      (eq-eqb (length x.1) (length (map plain_column t.columns)) (long ∙ (ap length (sym same) ∙ sym (length-map t.columns plain_column))))) fit) refl
+  still_fits : (held : List TableRow) (r x : TableRow) → is_row (plain_table table held) r ≡ true → x.0 ≡ r.0 → length x.1 ≡ length table.columns → list_all is_value x.1 ≡ true
+      → is_row (plain_table table held) x ≡ true
+  still_fits held r x was id long fit =
+      both_true (is_word x.0 && length x.1 == length (map as_column table.columns) && list_all is_value x.1) true
+      (both_true (is_word x.0 && length x.1 == length (map as_column table.columns)) (list_all is_value x.1)
+      (both_true (is_word x.0) (length x.1 == length (map as_column table.columns)) (ap is_word id ∙ word (is_word r.0) (length r.1 == length (map as_column table.columns)) (list_all is_value r.1) was)
+      (eq-eqb (length x.1) (length (map as_column table.columns)) (long ∙ sym (length-map table.columns as_column)))) fit) refl
     where
       word : (a b c : Bool) → (a && b && c && true) ≡ true → a ≡ true
       word true b c e = refl
       word false b c e = absurd (false≢true e)
 
-  one_set : (r x : TableRow) (rows new : List TableRow) (entry m : Entry) (entries more : List Entry) → is_meant r ≡ true → IsRow (length columns) entry r → Climbs r.0 rows → row_set columns sets r ≡ Ok x → IsWritten x m
+  one_set : (r x : TableRow) (rows new : List TableRow) (entry m : Entry) (entries more : List Entry) → is_meant r ≡ true → IsRow (length table.columns) entry r → Climbs r.0 rows → row_set table sets r ≡ Ok x → IsWritten x m
       → AreSet rows new entries more → AreSet (r ∷ rows) (x ∷ new) (entry ∷ entries) (m ∷ more)
   one_set r x rows new entry m entries more it is climb e written set = record {
     now = x ∷ set.now;
     answer = set_one r rows it
-        ∙ (ap (λ (a : Answer TableRow). a then λ x. rows_meant_set columns sets is_meant rows then λ xs. Ok (x ∷ xs)) e ∙ ap (λ (a : Answer (List TableRow)). a then λ xs. Ok (x ∷ xs)) set.answer);
-    each = subst (λ (all : List Entry). Pairwise (IsRow (length columns)) all (x ∷ set.now))
+        ∙ (ap (λ (a : Answer TableRow). a then λ x. rows_meant_set table sets is_meant rows then λ xs. Ok (x ∷ xs)) e ∙ ap (λ (a : Answer (List TableRow)). a then λ xs. Ok (x ∷ xs)) set.answer);
+    each = subst (λ (all : List Entry). Pairwise (IsRow (length table.columns)) all (x ∷ set.now))
         (sym (ap (with_all_replaced more) (in_place m entry entries (is.rowid ∙ sym at)) ∙ stay_before more m entries (subst (λ (n : ℤ). AreOver n more) (sym at) (set.over r.0 climb))))
         (record { rowid = m_is; values = written.values; full = long }, set.each);
     ids = let h = parts.0 in let k = set.ids in cc;
-    fit = λ t held same all.
-        (let halves = both (is_row (plain_table t held) r) (list_all (is_row (plain_table t held)) rows) all in
-        both_true (is_row (plain_table t held) x) (list_all (is_row (plain_table t held)) set.now) (still_fits t held r x same halves.0 parts.0 long written.fit) (set.fit t held same halves.1));
+    fit = λ held all.
+        (let halves = both (is_row (plain_table table held) r) (list_all (is_row (plain_table table held)) rows) all in
+        both_true (is_row (plain_table table held) x) (list_all (is_row (plain_table table held)) set.now) (still_fits held r x halves.0 parts.0 long written.fit) (set.fit held halves.1));
     storable = λ all. all_with CanStore x new (first_of_all CanStore x set.now all) (set.storable (rest_of_all CanStore x set.now all));
     over = λ low climbs. (subst (λ (n : ℤ). low <ℤ n) (sym at) climbs.0, set.over low (lower low r.0 rows climbs.0 climbs.1));
   }
     where
-      parts : (x.0 ≡ r.0) × (values_set columns sets (as_source r) ≡ Ok x.1)
-      parts = set_parts columns sets r x e
+      parts : (x.0 ≡ r.0) × (values_set table.columns sets (as_source r) ≡ Ok x.1)
+      parts = set_parts table sets r x e
 
       m_is : m.rowid ≡ x.0
       m_is = ap (λ (n : Entry). n.rowid) written.is
@@ -294,10 +291,10 @@ module _ (columns : List Column) (sets : List (ℕ × Term)) (is_meant : TableRo
       at : m.rowid ≡ r.0
       at = m_is ∙ parts.0
 
-      long : length x.1 ≡ length columns
-      long = long_set columns sets r x.1 is.full parts.1
+      long : length x.1 ≡ length table.columns
+      long = long_set table sets r x.1 is.full parts.1
 
-  pub are_set : (rows new : List TableRow) (entries more : List Entry) → Pairwise (IsRow (length columns)) entries rows → Rises rows → made rows ≡ Ok new → Pairwise IsWritten new more → AreSet rows new entries more
+  pub are_set : (rows new : List TableRow) (entries more : List Entry) → Pairwise (IsRow (length table.columns)) entries rows → Rises rows → made rows ≡ Ok new → Pairwise IsWritten new more → AreSet rows new entries more
   are_set [] [] [] [] each rises e all = none_set
   are_set [] [] [] (m ∷ more) each rises e all = absurd all
   are_set [] (x ∷ new) [] more each rises e all = absurd cc
@@ -305,7 +302,7 @@ module _ (columns : List Column) (sets : List (ℕ × Term)) (is_meant : TableRo
   are_set (r ∷ rows) new [] more each rises e all = absurd each
   are_set (r ∷ rows) new (entry ∷ entries) more each rises e all = by (λ new more. are_set rows new entries more each.1 (rest_rises r rows rises)) (is_meant r) refl
     where
-      written : (x : TableRow) (xs new : List TableRow) (more : List Entry) → x ∷ xs ≡ new → Pairwise IsWritten new more → row_set columns sets r ≡ Ok x → is_meant r ≡ true
+      written : (x : TableRow) (xs new : List TableRow) (more : List Entry) → x ∷ xs ≡ new → Pairwise IsWritten new more → row_set table sets r ≡ Ok x → is_meant r ≡ true
           → ((more : List Entry) → Pairwise IsWritten xs more → AreSet rows xs entries more) → AreSet (r ∷ rows) new (entry ∷ entries) more
       written x xs [] more same all is it on = absurd cc
       written x xs (y ∷ new) [] same all is it on = absurd all
@@ -323,12 +320,12 @@ module _ (columns : List Column) (sets : List (ℕ × Term)) (is_meant : TableRo
 
       by : ((new : List TableRow) (more : List Entry) → made rows ≡ Ok new → Pairwise IsWritten new more → AreSet rows new entries more) → (b : Bool) → is_meant r ≡ b → AreSet (r ∷ rows) new (entry ∷ entries) more
       by on true it =
-          let parts = parts_of (row_set columns sets r) (made rows) new (sym (made_one r rows it) ∙ e) in
+          let parts = parts_of (row_set table sets r) (made rows) new (sym (made_one r rows it) ∙ e) in
           written parts.row parts.more new more parts.are all parts.first_is it (λ more all. on parts.more more parts.more_is all)
       by on false it = one_stays r rows new entry entries more it each.0 rises (on new more (sym (made_none r rows it) ∙ e) all)
 
   -- where they are refused, so is the whole
-  pub set_refused : (rows : List TableRow) (why : Refusal) → made rows ≡ Err why → rows_meant_set columns sets is_meant rows ≡ Err why
+  pub set_refused : (rows : List TableRow) (why : Refusal) → made rows ≡ Err why → rows_meant_set table sets is_meant rows ≡ Err why
   set_refused [] why e = absurd cc
   set_refused (r ∷ rows) why e = by (set_refused rows why) (is_meant r) refl
     where
@@ -340,14 +337,14 @@ module _ (columns : List Column) (sets : List (ℕ × Term)) (is_meant : TableRo
           same_refusal s h = h
       first_or_rest (Err s) b c on h = h
 
-      by : (made rows ≡ Err why → rows_meant_set columns sets is_meant rows ≡ Err why) → (b : Bool) → is_meant r ≡ b → rows_meant_set columns sets is_meant (r ∷ rows) ≡ Err why
-      by on true it = set_one r rows it ∙ first_or_rest (row_set columns sets r) (made rows) (rows_meant_set columns sets is_meant rows) on (sym (made_one r rows it) ∙ e)
+      by : (made rows ≡ Err why → rows_meant_set table sets is_meant rows ≡ Err why) → (b : Bool) → is_meant r ≡ b → rows_meant_set table sets is_meant (r ∷ rows) ≡ Err why
+      by on true it = set_one r rows it ∙ first_or_rest (row_set table sets r) (made rows) (rows_meant_set table sets is_meant rows) on (sym (made_one r rows it) ∙ e)
       by on false it = set_none r rows it ∙ ap (λ (d : Answer (List TableRow)). d then λ xs. Ok (r ∷ xs)) (on (sym (made_none r rows it) ∙ e))
 
   -- where the rows become these, all rows become others that can be stored only if these can
   pub record AreChanged (rows new : List TableRow) : Type 0 where
     pub now : List TableRow
-    pub answer : rows_meant_set columns sets is_meant rows ≡ Ok now
+    pub answer : rows_meant_set table sets is_meant rows ≡ Ok now
     pub storable : All CanStore now → All CanStore new
 
   pub are_changed : (rows new : List TableRow) → made rows ≡ Ok new → AreChanged rows new
@@ -355,17 +352,17 @@ module _ (columns : List Column) (sets : List (ℕ × Term)) (is_meant : TableRo
   are_changed [] (x ∷ new) e = absurd cc
   are_changed (r ∷ rows) new e = by (are_changed rows) (is_meant r) refl
     where
-      with_one : (x : TableRow) (xs : List TableRow) → row_set columns sets r ≡ Ok x → is_meant r ≡ true → AreChanged rows xs → AreChanged (r ∷ rows) (x ∷ xs)
+      with_one : (x : TableRow) (xs : List TableRow) → row_set table sets r ≡ Ok x → is_meant r ≡ true → AreChanged rows xs → AreChanged (r ∷ rows) (x ∷ xs)
       with_one x xs is it rest = record {
         now = x ∷ rest.now;
         answer = set_one r rows it
-            ∙ (ap (λ (a : Answer TableRow). a then λ x. rows_meant_set columns sets is_meant rows then λ xs. Ok (x ∷ xs)) is ∙ ap (λ (a : Answer (List TableRow)). a then λ xs. Ok (x ∷ xs)) rest.answer);
+            ∙ (ap (λ (a : Answer TableRow). a then λ x. rows_meant_set table sets is_meant rows then λ xs. Ok (x ∷ xs)) is ∙ ap (λ (a : Answer (List TableRow)). a then λ xs. Ok (x ∷ xs)) rest.answer);
         storable = λ all. all_with CanStore x xs (first_of_all CanStore x rest.now all) (rest.storable (rest_of_all CanStore x rest.now all));
       }
 
       by : ((new : List TableRow) → made rows ≡ Ok new → AreChanged rows new) → (b : Bool) → is_meant r ≡ b → AreChanged (r ∷ rows) new
       by on true it =
-          let parts = parts_of (row_set columns sets r) (made rows) new (sym (made_one r rows it) ∙ e) in
+          let parts = parts_of (row_set table sets r) (made rows) new (sym (made_one r rows it) ∙ e) in
           subst (λ (all : List TableRow). AreChanged (r ∷ rows) all) parts.are (with_one parts.row parts.more parts.first_is it (on parts.more parts.more_is))
       by on false it =
           let rest = on new (sym (made_none r rows it) ∙ e) in
@@ -376,7 +373,7 @@ module _ (columns : List Column) (sets : List (ℕ × Term)) (is_meant : TableRo
           }
 
   -- where a table may hold the rows, it may hold what they become
-  pub fit_now : (rows new : List TableRow) (entries more : List Entry) (set : AreSet rows new entries more) → FitNow columns rows set.now
-  fit_now rows new entries more set t same fit =
-      let parts = both (is_rising int_cmp (map (λ row. row.0) rows)) (list_all (is_row (plain_table t rows)) rows) fit in
-      both_true (is_rising int_cmp (map (λ row. row.0) set.now)) (list_all (is_row (plain_table t rows)) set.now) (ap (is_rising int_cmp) set.ids ∙ parts.0) (set.fit t rows same parts.1)
+  pub fit_now : (rows new : List TableRow) (entries more : List Entry) (set : AreSet rows new entries more) → FitNow table rows set.now
+  fit_now rows new entries more set fit =
+      let parts = both (is_rising int_cmp (map (λ row. row.0) rows)) (list_all (is_row (plain_table table rows)) rows) fit in
+      both_true (is_rising int_cmp (map (λ row. row.0) set.now)) (list_all (is_row (plain_table table rows)) set.now) (ap (is_rising int_cmp) set.ids ∙ parts.0) (set.fit rows parts.1)

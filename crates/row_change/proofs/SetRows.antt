@@ -8,8 +8,9 @@ use Rattle.sqlval.specs.Refusals.{Answer, ◌then◌, all_answers}
 use Rattle.sqlval.specs.declared.fault.Fault.{Fault}
 use Rattle.sqlval.specs.declared.value.Value.{Value}
 use Rattle.catalog.specs.Database.{TableColumn}
-use Rattle.catalog.specs.Listed.{plain_column}
+use Rattle.catalog.specs.Listed.{as_column}
 use Rattle.catalog.specs.declared.tables.Column.{Column}
+use Rattle.catalog.specs.declared.tables.Table.{Table}
 use Rattle.query_names.specs.Readings.{env_of, holds, values}
 use Rattle.query_terms.specs.Outcome.{AnswersBy, IsRefusedBy}
 use Rattle.query_terms.specs.Rows.{row_at}
@@ -20,7 +21,8 @@ use Rattle.query_terms.proofs.Quiet.{IsQuiet, each, memory_is_quiet, next, of_co
 use Rattle.query_names.proofs.QuietValues.{of_holds, of_values}
 use Rattle.row_scan.specs.Rows.{TableRow}
 use Rattle.row_change.specs.Constraints.{set_values, with_affinity}
-use Rattle.row_change.specs.Setting.{is_meant_for, rows_changed, rows_meant, set_over, source_set, values_set}
+use Rattle.row_change.specs.Setting.{is_meant_for, rowid_number, rows_changed, rows_meant, set_over, source_set, values_set}
+use Rattle.row_change.proofs.Demanded.{of_demanded}
 
 -- ---- values
 
@@ -29,16 +31,16 @@ no_values [] = refl
 no_values (c ∷ columns) = refl
 
 -- past the columns or the values there is nothing to store
-none_left : (columns : List Column) (values : List Value) (i : ℕ) → min (length columns) (length values) ≤ i → with_affinity (map plain_column (drop i columns)) (drop i values) ≡ Ok []
+none_left : (columns : List Column) (values : List Value) (i : ℕ) → min (length columns) (length values) ≤ i → with_affinity (map as_column (drop i columns)) (drop i values) ≡ Ok []
 none_left [] values zero le = refl
 none_left [] values (suc i) le = refl
 none_left (c ∷ columns) [] zero le = refl
-none_left (c ∷ columns) [] (suc i) le = no_values (map plain_column (drop i columns))
+none_left (c ∷ columns) [] (suc i) le = no_values (map as_column (drop i columns))
 none_left (c ∷ columns) (v ∷ values) zero le = absurd (omega (arith, le))
 none_left (c ∷ columns) (v ∷ values) (suc i) le = none_left columns values i (omega (arith, le))
 
 pub all_stored : (columns : List Column) (values new : List Value) (i : ℕ) (all : Answer (List Value)) → min (length columns) (length values) ≤ i
-    → with_front new (with_affinity (map plain_column (drop i columns)) (drop i values)) ≡ all → all ≡ Ok new
+    → with_front new (with_affinity (map as_column (drop i columns)) (drop i values)) ≡ all → all ≡ Ok new
 all_stored columns values new i all le so_far =
     sym so_far ∙ (ap (with_front new) (none_left columns values i le) ∙ ap (λ (vs : List Value). Ok vs) (append-nil new))
 
@@ -80,13 +82,13 @@ pub map_twice : {A B C : Type 0} (g : B → C) (f : A → B) (xs : List A) → m
 map_twice g f [] = refl
 map_twice g f (x ∷ xs) = ap (λ ys. g (f x) ∷ ys) (map_twice g f xs)
 
-pub all_changed : {X : Type 0} (view : X → List TableRow) (columns : List Column) (sets : List (ℕ × Term)) (c : Option Term) (rows : List Row) (places seen : List ℕ) (result : Result X Fault) → rows_meant c [] rows ≡ Ok (map (row_at rows) places) → seen ≡ places
-    → AnswersBy view (all_answers (map (λ place. source_set columns sets (row_at rows place)) seen)) result → AnswersBy view (rows_changed columns sets c rows) result
-all_changed view columns sets c rows places seen result meant same answers =
+pub all_changed : {X : Type 0} (view : X → List TableRow) (table : Table) (sets : List (ℕ × Term)) (c : Option Term) (rows : List Row) (places seen : List ℕ) (result : Result X Fault) → rows_meant c [] rows ≡ Ok (map (row_at rows) places) → seen ≡ places
+    → AnswersBy view (all_answers (map (λ place. source_set table sets (row_at rows place)) seen)) result → AnswersBy view (rows_changed table sets c rows) result
+all_changed view table sets c rows places seen result meant same answers =
     subst (λ (a : Answer (List TableRow)). AnswersBy view a result)
-    (ap (λ (ps : List ℕ). all_answers (map (λ place. source_set columns sets (row_at rows place)) ps)) same
-    ∙ (ap all_answers (map_twice (source_set columns sets) (row_at rows) places)
-    ∙ sym (ap (λ (a : Answer (List Row)). a then λ them. all_answers (map (source_set columns sets) them)) meant)))
+    (ap (λ (ps : List ℕ). all_answers (map (λ place. source_set table sets (row_at rows place)) ps)) same
+    ∙ (ap all_answers (map_twice (source_set table sets) (row_at rows) places)
+    ∙ sym (ap (λ (a : Answer (List Row)). a then λ them. all_answers (map (source_set table sets) them)) meant)))
     answers
 
 -- ---- no disk refuses
@@ -114,10 +116,11 @@ of_over sets seen before = by (values seen (map (λ s. s.1) sets)) (of_values se
     by (Ok given) h = tt
     by (Err r) h = h
 
-of_set : (columns : List Column) (sets : List (ℕ × Term)) (row : Row) → IsQuiet (source_set columns sets row)
-of_set columns sets row =
-    next (values_set columns sets row) _
-    (next (set_over sets (env_of (row ∷ [])) row.values) (with_affinity (map plain_column columns)) (of_over sets (env_of (row ∷ [])) row.values) (λ values. of_stored (map plain_column columns) values)) (λ values. tt)
+of_set : (table : Table) (sets : List (ℕ × Term)) (row : Row) → IsQuiet (source_set table sets row)
+of_set table sets row =
+    next (values_set table.columns sets row) _
+    (next (set_over sets (env_of (row ∷ [])) row.values) (with_affinity (map as_column table.columns)) (of_over sets (env_of (row ∷ [])) row.values) (λ values. of_stored (map as_column table.columns) values))
+    (λ values. of_demanded table (rowid_number row.rowid, values))
 
 quietly : {A : Type 0} (a : Answer A) (f : Fault) → IsQuiet a → IsRefusedBy a f → IsNotDiskFault f
 quietly a f quiet (inl memory) = memory_is_quiet f memory
@@ -127,8 +130,8 @@ pub not_meant : {X : Type 0} (result : Result X Fault) (c : Option Term) (rows :
 not_meant (Ok x) c rows f same why = absurd same
 not_meant (Err e) c rows f same why = subst IsNotDiskFault (sym same) (quietly (rows_meant c [] rows) f (of_meant c [] rows) why)
 
-pub not_changed : {X : Type 0} (view : X → List TableRow) (result : Result X Fault) (columns : List Column) (sets : List (ℕ × Term)) (rows : List Row) (places : List ℕ)
-    → AnswersBy view (all_answers (map (λ place. source_set columns sets (row_at rows place)) places)) result → IfErr result (λ fault. IsNotDiskFault fault)
-not_changed view (Ok x) columns sets rows places answers = tt
-not_changed view (Err e) columns sets rows places answers =
-    quietly (all_answers (map (λ place. source_set columns sets (row_at rows place)) places)) e (each (λ place. source_set columns sets (row_at rows place)) (λ place. of_set columns sets (row_at rows place)) places) answers
+pub not_changed : {X : Type 0} (view : X → List TableRow) (result : Result X Fault) (table : Table) (sets : List (ℕ × Term)) (rows : List Row) (places : List ℕ)
+    → AnswersBy view (all_answers (map (λ place. source_set table sets (row_at rows place)) places)) result → IfErr result (λ fault. IsNotDiskFault fault)
+not_changed view (Ok x) table sets rows places answers = tt
+not_changed view (Err e) table sets rows places answers =
+    quietly (all_answers (map (λ place. source_set table sets (row_at rows place)) places)) e (each (λ place. source_set table sets (row_at rows place)) (λ place. of_set table sets (row_at rows place)) places) answers

@@ -11,7 +11,7 @@ use Rattle.pages.specs.Calls.{IsOutsideOrFull}
 use Rattle.pages.specs.Map.{PageMap}
 use Rattle.tree_page.specs.Cells.{Pairwise}
 use Rattle.tree_table.specs.Calls.{BecomesRows}
-use Rattle.catalog.specs.declared.tables.Column.{Column}
+use Rattle.catalog.specs.declared.tables.Table.{Table}
 use Rattle.catalog.specs.declared.tables.TableRow as stored
 use Rattle.query_terms.specs.Outcome.{IsRefusedBy}
 use Rattle.query_terms.specs.Terms.{Term}
@@ -41,9 +41,9 @@ meant_by (Some c) = is_chosen c
 abbrev given_rows : List Row → Answer (List Row)
 given_rows rows = Ok rows
 
-pub set_as : (columns : List Column) (sets : List (ℕ × Term)) (c : Option Term) (rows : List TableRow) → rows_set columns sets c rows ≡ (asked c rows then λ ts. rows_meant_set columns sets (meant_by c) rows)
-set_as columns sets None rows = refl
-set_as columns sets (Some c) rows = refl
+pub set_as : (table : Table) (sets : List (ℕ × Term)) (c : Option Term) (rows : List TableRow) → rows_set table sets c rows ≡ (asked c rows then λ ts. rows_meant_set table sets (meant_by c) rows)
+set_as table sets None rows = refl
+set_as table sets (Some c) rows = refl
 
 abbrev is_true : Answer (Option Bool) → Bool
 is_true test = elim test [ Ok (Some true) ↦ true | _ ↦ false ]
@@ -86,39 +86,39 @@ meant_as_chosen (Some c) rows = meant_as (Some c) [] rows ∙ by (all_answers (m
     by (Ok ts) = refl
     by (Err r) = refl
 
-module _ (columns : List Column) (sets : List (ℕ × Term)) (c : Option Term) where
+module _ (table : Table) (sets : List (ℕ × Term)) (c : Option Term) where
   abbrev changes : List Row → Answer (List TableRow)
-  changes them = all_answers (map (source_set columns sets) them)
+  changes them = all_answers (map (source_set table sets) them)
 
-  changed_as : (rows : List TableRow) → rows_changed columns sets c (map as_source rows) ≡ (asked c rows then λ ts. made columns sets (meant_by c) rows)
+  changed_as : (rows : List TableRow) → rows_changed table sets c (map as_source rows) ≡ (asked c rows then λ ts. made table sets (meant_by c) rows)
   changed_as rows =
       ap (λ (a : Answer (List Row)). a then changes) (meant_as c [] rows)
       ∙ by (asked c rows)
     where
-      by : (a : Answer (List (Option Bool))) → ((a then λ ts. given_rows (map as_source (filter (meant_by c) rows))) then changes) ≡ (a then λ ts. made columns sets (meant_by c) rows)
-      by (Ok ts) = ap all_answers (sym (map_twice (source_set columns sets) as_source (filter (meant_by c) rows)))
+      by : (a : Answer (List (Option Bool))) → ((a then λ ts. given_rows (map as_source (filter (meant_by c) rows))) then changes) ≡ (a then λ ts. made table sets (meant_by c) rows)
+      by (Ok ts) = ap all_answers (sym (map_twice (source_set table sets) as_source (filter (meant_by c) rows)))
       by (Err r) = refl
 
-  pub changed_known : (rows new : List TableRow) → rows_changed columns sets c (map as_source rows) ≡ Ok new
-      → (made columns sets (meant_by c) rows ≡ Ok new) × (rows_set columns sets c rows ≡ rows_meant_set columns sets (meant_by c) rows)
-  changed_known rows new e = (let both = by (asked c rows) (sym (changed_as rows) ∙ e) in (both.0, set_as columns sets c rows ∙ both.1))
+  pub changed_known : (rows new : List TableRow) → rows_changed table sets c (map as_source rows) ≡ Ok new
+      → (made table sets (meant_by c) rows ≡ Ok new) × (rows_set table sets c rows ≡ rows_meant_set table sets (meant_by c) rows)
+  changed_known rows new e = (let both = by (asked c rows) (sym (changed_as rows) ∙ e) in (both.0, set_as table sets c rows ∙ both.1))
     where
-      by : (a : Answer (List (Option Bool))) → (a then λ ts. made columns sets (meant_by c) rows) ≡ Ok new
-          → (made columns sets (meant_by c) rows ≡ Ok new) × ((a then λ ts. rows_meant_set columns sets (meant_by c) rows) ≡ rows_meant_set columns sets (meant_by c) rows)
+      by : (a : Answer (List (Option Bool))) → (a then λ ts. made table sets (meant_by c) rows) ≡ Ok new
+          → (made table sets (meant_by c) rows ≡ Ok new) × ((a then λ ts. rows_meant_set table sets (meant_by c) rows) ≡ rows_meant_set table sets (meant_by c) rows)
       by (Ok ts) h = (h, refl)
       by (Err r) h = absurd cc
 
-  pub changed_refused : (rows : List TableRow) (why : Refusal) → rows_changed columns sets c (map as_source rows) ≡ Err why → rows_set columns sets c rows ≡ Err why
-  changed_refused rows why e = set_as columns sets c rows ∙ by (asked c rows) (sym (changed_as rows) ∙ e)
+  pub changed_refused : (rows : List TableRow) (why : Refusal) → rows_changed table sets c (map as_source rows) ≡ Err why → rows_set table sets c rows ≡ Err why
+  changed_refused rows why e = set_as table sets c rows ∙ by (asked c rows) (sym (changed_as rows) ∙ e)
     where
-      by : (a : Answer (List (Option Bool))) → (a then λ ts. made columns sets (meant_by c) rows) ≡ Err why → (a then λ ts. rows_meant_set columns sets (meant_by c) rows) ≡ Err why
-      by (Ok ts) h = set_refused columns sets (meant_by c) rows why h
+      by : (a : Answer (List (Option Bool))) → (a then λ ts. made table sets (meant_by c) rows) ≡ Err why → (a then λ ts. rows_meant_set table sets (meant_by c) rows) ≡ Err why
+      by (Ok ts) h = set_refused table sets (meant_by c) rows why h
       by (Err r) h = h
 
   -- what the rows become of which it's enough to read some
-  enough_changed : (found : List Row) (rows : List TableRow) → AreEnough c found rows → rows_changed columns sets c found ≡ rows_changed columns sets c (map as_source rows)
+  enough_changed : (found : List Row) (rows : List TableRow) → AreEnough c found rows → rows_changed table sets c found ≡ rows_changed table sets c (map as_source rows)
   enough_changed found rows enough =
-      ap (rows_changed columns sets c) enough.are
+      ap (rows_changed table sets c) enough.are
       ∙ ap (λ (a : Answer (List Row)). a then changes)
       (meant_as_chosen c enough.some ∙ (ap (λ (a : Answer (List TableRow)). a then as_sources) enough.same ∙ sym (meant_as_chosen c rows)))
 
@@ -126,64 +126,64 @@ module _ (columns : List Column) (sets : List (ℕ × Term)) (c : Option Term) w
 
   module _ (old new : PageMap) (size root : ℕ) (found : List Row) where
     refused : {X : Type 0} (fault : Fault) (result : Result X Fault) → IsErrAnd result (λ e. e ≡ fault)
-        → ((rows : List TableRow) → AreEnough c found rows → IsSetRefusal columns sets c rows fault)
-        → SetsRows old new size root columns sets c found result
+        → ((rows : List TableRow) → AreEnough c found rows → IsSetRefusal table sets c rows fault)
+        → SetsRows old new size root table sets c found result
     refused fault (Ok x) same why = absurd same
-    refused fault (Err e) same why = λ rows entries used free is each enough. subst (λ (g : Fault). IsSetRefusal columns sets c rows g) (sym same) (why rows enough)
+    refused fault (Err e) same why = λ rows entries used free is each enough. subst (λ (g : Fault). IsSetRefusal table sets c rows g) (sym same) (why rows enough)
 
     -- a call that passes it on
-    pub passed_on : {X : Type 0} (fault : Fault) (result : Result X Fault) → IsErrAnd result (λ e. e ≡ fault) → SetsRows {X = ⊤} old new size root columns sets c found (Err fault)
-        → SetsRows old new size root columns sets c found result
+    pub passed_on : {X : Type 0} (fault : Fault) (result : Result X Fault) → IsErrAnd result (λ e. e ≡ fault) → SetsRows {X = ⊤} old new size root table sets c found (Err fault)
+        → SetsRows old new size root table sets c found result
     passed_on fault (Ok x) same sets_so = absurd same
-    passed_on fault (Err e) same sets_so = λ rows entries used free is each enough. subst (λ (g : Fault). IsSetRefusal columns sets c rows g) (sym same) (sets_so rows entries used free is each enough)
+    passed_on fault (Err e) same sets_so = λ rows entries used free is each enough. subst (λ (g : Fault). IsSetRefusal table sets c rows g) (sym same) (sets_so rows entries used free is each enough)
 
-    pub none_changed : {X : Type 0} (fault : Fault) (result : Result X Fault) → IsErrAnd result (λ e. e ≡ fault) → IsRefusedBy (rows_changed columns sets c found) fault → SetsRows old new size root columns sets c found result
+    pub none_changed : {X : Type 0} (fault : Fault) (result : Result X Fault) → IsErrAnd result (λ e. e ≡ fault) → IsRefusedBy (rows_changed table sets c found) fault → SetsRows old new size root table sets c found result
     none_changed fault result same why = refused fault result same (λ rows enough. by rows enough why)
       where
-        by : (rows : List TableRow) → AreEnough c found rows → IsRefusedBy (rows_changed columns sets c found) fault → IsSetRefusal columns sets c rows fault
+        by : (rows : List TableRow) → AreEnough c found rows → IsRefusedBy (rows_changed table sets c found) fault → IsSetRefusal table sets c rows fault
         by rows enough (inl memory) = inl (inl (inl memory))
         by rows enough (inr e) = inr (inl (changed_refused rows (refusal_of fault) (sym (enough_changed found rows enough) ∙ e)))
 
-    module _ (changed : List TableRow) (answer : rows_changed columns sets c found ≡ Ok changed) where
-      known : (rows : List TableRow) → AreEnough c found rows → (made columns sets (meant_by c) rows ≡ Ok changed) × (rows_set columns sets c rows ≡ rows_meant_set columns sets (meant_by c) rows)
+    module _ (changed : List TableRow) (answer : rows_changed table sets c found ≡ Ok changed) where
+      known : (rows : List TableRow) → AreEnough c found rows → (made table sets (meant_by c) rows ≡ Ok changed) × (rows_set table sets c rows ≡ rows_meant_set table sets (meant_by c) rows)
       known rows enough = changed_known rows changed (sym (enough_changed found rows enough) ∙ answer)
 
-      pub none_stored : {X : Type 0} (fault : Fault) (result : Result X Fault) → IsErrAnd result (λ e. e ≡ fault) → (fault ≡ f.Memory) ⊎ ((fault ≡ f.TooLong) × (AllStorable changed → ⊥)) → SetsRows old new size root columns sets c found result
+      pub none_stored : {X : Type 0} (fault : Fault) (result : Result X Fault) → IsErrAnd result (λ e. e ≡ fault) → (fault ≡ f.Memory) ⊎ ((fault ≡ f.TooLong) × (AllStorable changed → ⊥)) → SetsRows old new size root table sets c found result
       none_stored fault result same why = refused fault result same (λ rows enough. by rows enough why)
         where
-          by : (rows : List TableRow) → AreEnough c found rows → (fault ≡ f.Memory) ⊎ ((fault ≡ f.TooLong) × (AllStorable changed → ⊥)) → IsSetRefusal columns sets c rows fault
+          by : (rows : List TableRow) → AreEnough c found rows → (fault ≡ f.Memory) ⊎ ((fault ≡ f.TooLong) × (AllStorable changed → ⊥)) → IsSetRefusal table sets c rows fault
           by rows enough (inl memory) = inl (inl (inl memory))
           by rows enough (inr (long, cannot)) =
               let is = known rows enough in
-              let set = are_changed columns sets (meant_by c) rows changed is.0 in
+              let set = are_changed table sets (meant_by c) rows changed is.0 in
               inr (inr (record { is = long; now = set.now; answer = is.1 ∙ set.answer; long = λ all. cannot (set.storable all) }))
 
-      pub rows_replaced : (more : List Entry) (result : Result ⊤ Fault) → Pairwise IsWritten changed more → ReplacesRows old new size root (with_all_replaced more) result → SetsRows old new size root columns sets c found result
+      pub rows_replaced : (more : List Entry) (result : Result ⊤ Fault) → Pairwise IsWritten changed more → ReplacesRows old new size root (with_all_replaced more) result → SetsRows old new size root table sets c found result
       rows_replaced more result written replaces rows entries used free is each enough = by result (replaces entries used free is)
         where
           rises : Rises rows
-          rises = rows_rise (length columns) entries rows (tree_rises old size root entries used is.tree) each
+          rises = rows_rise (length table.columns) entries rows (tree_rises old size root entries used is.tree) each
 
           by : (r : Result ⊤ Fault) → MatchResult r (λ done. BecomesRows old new size root (with_all_replaced more entries) used free) IsOutsideOrFull
-              → MatchResult r (λ done. AreSetIn old new size root columns sets c rows used free) (IsSetRefusal columns sets c rows)
+              → MatchResult r (λ done. AreSetIn old new size root table sets c rows used free) (IsSetRefusal table sets c rows)
           by (Ok done) becomes =
               let are = known rows enough in
-              let set = are_set columns sets (meant_by c) rows changed entries more each rises are.0 written in
+              let set = are_set table sets (meant_by c) rows changed entries more each rises are.0 written in
               record {
                 now = set.now;
                 answer = are.1 ∙ set.answer;
                 entries = with_all_replaced more entries;
                 becomes = becomes;
                 each = set.each;
-                fit = fit_now columns sets (meant_by c) rows changed entries more set;
+                fit = fit_now table sets (meant_by c) rows changed entries more set;
               }
           by (Err fault) cannot = inl cannot
 
   -- the rows that are answered
   module _ (found : List Row) where
-    pub none_told : (fault : Fault) (result : Result (Vec stored.TableRow) Fault) → IsErrAnd result (λ e. e ≡ fault) → TellsChanged columns sets c found result
+    pub none_told : (fault : Fault) (result : Result (Vec stored.TableRow) Fault) → IsErrAnd result (λ e. e ≡ fault) → TellsChanged table sets c found result
     none_told fault (Ok x) same = absurd same
     none_told fault (Err e) same = λ rows enough. tt
 
-    pub told_changed : (them : Vec stored.TableRow) → rows_changed columns sets c found ≡ Ok (map row_of them.items) → TellsChanged columns sets c found (Ok them)
+    pub told_changed : (them : Vec stored.TableRow) → rows_changed table sets c found ≡ Ok (map row_of them.items) → TellsChanged table sets c found (Ok them)
     told_changed them answer rows enough = sym (enough_changed found rows enough) ∙ answer

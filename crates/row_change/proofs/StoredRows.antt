@@ -12,9 +12,12 @@ use Rattle.sqlval.specs.declared.fault.Fault.TheVariants as f
 use Rattle.sqlval.specs.declared.value.Value.{Value}
 use Rattle.sqlval.specs.declared.value.Value.TheVariants.{Null}
 use Rattle.catalog.specs.declared.tables.Column.{Column}
+use Rattle.catalog.specs.declared.tables.Table.{Table}
 use Rattle.row_scan.specs.Rows.{TableRow}
 use Rattle.query_terms.specs.Laws.{ConvertsAsRelated, RefusesReals}
-use Rattle.row_change.specs.Inserting.{given_at, row_stored, rowid_after, row_added, rows_added}
+use Rattle.row_change.specs.Demands.{demanded}
+use Rattle.row_change.specs.Inserting.{given_for, row_stored, rowid_after, row_added, rows_added}
+use Rattle.row_change.proofs.Demanded.{is_demanded}
 
 -- ---- one value
 
@@ -49,7 +52,7 @@ value_refused affinity old (Err fault) refuses h wants = why_of affinity old fau
 
 -- the column at a place stores this value
 abbrev pub Stores : List Column → List (Option ℕ) → List Value → ℕ → Column → Value → Type 0
-Stores columns places given i column value = converted (slice_index_or columns i column).affinity (given_at given (slice_index_or places i None)) ≡ Ok value
+Stores columns places given i column value = converted (slice_index_or columns i column).affinity (given_for (slice_index_or columns i column) given (slice_index_or places i None)) ≡ Ok value
 
 pub all_stored : (columns : List Column) (places : List (Option ℕ)) (given values : List Value) → length values ≡ length columns
     → ((i : ℕ) (c : Column) → i < length columns → Stores columns places given i c (slice_index_or values i Null)) → row_stored columns places given ≡ Ok values
@@ -61,7 +64,7 @@ all_stored (c ∷ columns) (p ∷ places) given (v ∷ values) long each = rw (e
 
 pub one_refused : (columns : List Column) (places : List (Option ℕ)) (given values : List Value) (r : Refusal) (c : Column) → length values < length columns
     → ((i : ℕ) (c : Column) → i < length values → Stores columns places given i c (slice_index_or values i Null))
-    → converted (slice_index_or columns (length values) c).affinity (given_at given (slice_index_or places (length values) None)) ≡ Err r → row_stored columns places given ≡ Err r
+    → converted (slice_index_or columns (length values) c).affinity (given_for (slice_index_or columns (length values) c) given (slice_index_or places (length values) None)) ≡ Err r → row_stored columns places given ≡ Err r
 one_refused [] places given values r c lt each e = absurd (omega (arith, lt))
 one_refused (d ∷ columns) [] given [] r c lt each e = rw e refl
 one_refused (d ∷ columns) (p ∷ places) given [] r c lt each e = rw e refl
@@ -71,15 +74,15 @@ one_refused (d ∷ columns) (p ∷ places) given (v ∷ values) r c lt each e = 
 -- a column's refusal is that of the row
 pub column_refused : (columns : List Column) (places : List (Option ℕ)) (given values : List Value) (index : ℕ) (column : Column) (place : Option ℕ) (fault : Fault) → length values ≡ index
     → ((i : ℕ) (c : Column) → i < index → Stores columns places given i c (slice_index_or values i Null)) → index < length columns → column ≡ slice_index_or columns index column → place ≡ slice_index_or places index None
-    → (fault ≡ f.Memory) ⊎ ((fault ≡ f.RealRefused) × (converted column.affinity (given_at given place) ≡ Err RealRefused)) → (fault ≡ f.Memory) ⊎ ((fault ≡ f.RealRefused) × (row_stored columns places given ≡ Err RealRefused))
+    → (fault ≡ f.Memory) ⊎ ((fault ≡ f.RealRefused) × (converted column.affinity (given_for column given place) ≡ Err RealRefused)) → (fault ≡ f.Memory) ⊎ ((fault ≡ f.RealRefused) × (row_stored columns places given ≡ Err RealRefused))
 column_refused columns places given values index column place fault long each lt is place_is (inl e) = inl e
 column_refused columns places given values index column place fault long each lt is place_is (inr (e, h)) =
-    let here : converted (slice_index_or columns index column).affinity (given_at given (slice_index_or places index None)) ≡ Err RealRefused =
-    subst (λ (x : Column). converted x.affinity (given_at given (slice_index_or places index None)) ≡ Err RealRefused) is (subst (λ p. converted column.affinity (given_at given p) ≡ Err RealRefused) place_is h) in
+    let here : converted (slice_index_or columns index column).affinity (given_for (slice_index_or columns index column) given (slice_index_or places index None)) ≡ Err RealRefused =
+    subst (λ (x : Column). converted x.affinity (given_for x given (slice_index_or places index None)) ≡ Err RealRefused) is (subst (λ p. converted column.affinity (given_for column given p) ≡ Err RealRefused) place_is h) in
     inr (
       e,
       one_refused columns places given values RealRefused column (omega (arith, long, lt)) (λ i c less. each i c (omega (arith, long, less)))
-          (subst (λ k. converted (slice_index_or columns k column).affinity (given_at given (slice_index_or places k None)) ≡ Err RealRefused) (sym long) here),
+          (subst (λ k. converted (slice_index_or columns k column).affinity (given_for (slice_index_or columns k column) given (slice_index_or places k None)) ≡ Err RealRefused) (sym long) here),
     )
 
 -- ---- row by row
@@ -92,35 +95,29 @@ one_in_front : (rows : List TableRow) (row : TableRow) (answer : Answer (List Ta
 one_in_front rows row (Ok more) = ap (λ (xs : List TableRow). Ok xs) (sym (append_assoc rows (row ∷ []) more))
 one_in_front rows row (Err r) = refl
 
-pub row_after : (columns : List Column) (places : List (Option ℕ)) (last : Option ℤ) (given : List Value) (rest : List (List Value)) (rows : List TableRow) (row : TableRow) → row_added columns places last given ≡ Ok row
-    → after_rows rows (rows_added columns places last (given ∷ rest)) ≡ after_rows (rows ++ row ∷ []) (rows_added columns places (Some row.0) rest)
-row_after columns places last given rest rows row e =
-    ap (λ (a : Answer TableRow). after_rows rows (a then λ row. rows_added columns places (Some row.0) rest then λ added. Ok (row ∷ added))) e
-    ∙ one_in_front rows row (rows_added columns places (Some row.0) rest)
+pub row_after : (table : Table) (places : List (Option ℕ)) (last : Option ℤ) (given : List Value) (rest : List (List Value)) (rows : List TableRow) (row : TableRow) → row_added table places last given ≡ Ok row
+    → after_rows rows (rows_added table places last (given ∷ rest)) ≡ after_rows (rows ++ row ∷ []) (rows_added table places (Some row.0) rest)
+row_after table places last given rest rows row e =
+    ap (λ (a : Answer TableRow). after_rows rows (a then λ row. rows_added table places (Some row.0) rest then λ added. Ok (row ∷ added))) e
+    ∙ one_in_front rows row (rows_added table places (Some row.0) rest)
 
 -- one row on, the rows so far and those after them are still those of all
-pub rows_go_on : {R N : Type 0} (columns : List Column) (places : List (Option ℕ)) (g : R → List Value) (h : N → TableRow) (rows : List R) (i : ℕ) (row : R) (done : List N) (new : N) (before after : Option ℤ) (all : Answer (List TableRow))
-    → i < length rows → row ≡ slice_index_or rows i row → row_added columns places before (g row) ≡ Ok (h new) → after ≡ Some (h new).0
-    → after_rows (map h done) (rows_added columns places before (map g (drop i rows))) ≡ all → after_rows (map h (done ++ new ∷ [])) (rows_added columns places after (map g (drop (i + 1) rows))) ≡ all
-rows_go_on columns places g h rows i row done new before after all lt is one after_is so_far =
-    ap (λ rs. after_rows rs (rows_added columns places after (map g (drop (i + 1) rows)))) (map_push h done new)
-    ∙ (ap (λ last. after_rows (map h done ++ h new ∷ []) (rows_added columns places last (map g (drop (i + 1) rows)))) after_is
-    ∙ (sym (row_after columns places before (g row) (map g (drop (i + 1) rows)) (map h done) (h new) one)
-    ∙ (ap (λ rs. after_rows (map h done) (rows_added columns places before (map g rs))) (sym (drop_more rows i row lt ∙ ap (λ r. r ∷ drop (i + 1) rows) (sym is))) ∙ so_far)))
+pub rows_go_on : {R N : Type 0} (table : Table) (places : List (Option ℕ)) (g : R → List Value) (h : N → TableRow) (rows : List R) (i : ℕ) (row : R) (done : List N) (new : N) (before after : Option ℤ) (all : Answer (List TableRow))
+    → i < length rows → row ≡ slice_index_or rows i row → row_added table places before (g row) ≡ Ok (h new) → after ≡ Some (h new).0
+    → after_rows (map h done) (rows_added table places before (map g (drop i rows))) ≡ all → after_rows (map h (done ++ new ∷ [])) (rows_added table places after (map g (drop (i + 1) rows))) ≡ all
+rows_go_on table places g h rows i row done new before after all lt is one after_is so_far =
+    ap (λ rs. after_rows rs (rows_added table places after (map g (drop (i + 1) rows)))) (map_push h done new)
+    ∙ (ap (λ last. after_rows (map h done ++ h new ∷ []) (rows_added table places last (map g (drop (i + 1) rows)))) after_is
+    ∙ (sym (row_after table places before (g row) (map g (drop (i + 1) rows)) (map h done) (h new) one)
+    ∙ (ap (λ rs. after_rows (map h done) (rows_added table places before (map g rs))) (sym (drop_more rows i row lt ∙ ap (λ r. r ∷ drop (i + 1) rows) (sym is))) ∙ so_far)))
 
 -- ---- the parts of an answer
-
-abbrev given_row : TableRow → Answer TableRow
-given_row row = Ok row
 
 abbrev given_rows : List TableRow → Answer (List TableRow)
 given_rows rows = Ok rows
 
 abbrev given_values : List Value → Answer (List Value)
 given_values values = Ok values
-
-same_row : (a b : TableRow) → given_row a ≡ given_row b → a ≡ b
-same_row a b e = cc
 
 pub same_rows : (a b : List TableRow) → given_rows a ≡ given_rows b → a ≡ b
 same_rows a b e = cc
@@ -129,33 +126,35 @@ same_values : (a b : List Value) → given_values a ≡ given_values b → a ≡
 same_values a b e = cc
 
 -- what a row is made of
-pub row_parts : (columns : List Column) (places : List (Option ℕ)) (last : Option ℤ) (given : List Value) (row : TableRow) → row_added columns places last given ≡ Ok row
-    → (row_stored columns places given ≡ Ok row.1) × (rowid_after last ≡ Ok row.0)
-row_parts columns places last given row e = by (row_stored columns places given) (rowid_after last) e
+pub row_parts : (table : Table) (places : List (Option ℕ)) (last : Option ℤ) (given : List Value) (row : TableRow) → row_added table places last given ≡ Ok row
+    → (row_stored table.columns places given ≡ Ok row.1) × (rowid_after last ≡ Ok row.0)
+row_parts table places last given row e = by (row_stored table.columns places given) (rowid_after last) e
   where
-    by : (a : Answer (List Value)) (b : Answer ℤ) → (a then λ values. b then λ rowid. Ok (rowid, values)) ≡ Ok row → (a ≡ Ok row.1) × (b ≡ Ok row.0)
-    by (Ok values) (Ok rowid) h = (ap (λ (r : TableRow). Ok r.1) (same_row (rowid, values) row h), ap (λ (r : TableRow). Ok r.0) (same_row (rowid, values) row h))
+    by : (a : Answer (List Value)) (b : Answer ℤ) → (a then λ values. b then λ rowid. demanded table (rowid, values)) ≡ Ok row → (a ≡ Ok row.1) × (b ≡ Ok row.0)
+    by (Ok values) (Ok rowid) h =
+        let same : (rowid, values) ≡ row = is_demanded table (rowid, values) row h in
+        (ap (λ (r : TableRow). Ok r.1) same, ap (λ (r : TableRow). Ok r.0) same)
     by (Ok values) (Err r) h = absurd cc
     by (Err r) b h = absurd cc
 
 -- the first row and those after it
-pub record Parts (columns : List Column) (places : List (Option ℕ)) (last : Option ℤ) (given : List Value) (rest : List (List Value)) (rows : List TableRow) : Type 0 where
+pub record Parts (table : Table) (places : List (Option ℕ)) (last : Option ℤ) (given : List Value) (rest : List (List Value)) (rows : List TableRow) : Type 0 where
   pub row : TableRow
   pub more : List TableRow
-  pub first_is : row_added columns places last given ≡ Ok row
-  pub more_is : rows_added columns places (Some row.0) rest ≡ Ok more
+  pub first_is : row_added table places last given ≡ Ok row
+  pub more_is : rows_added table places (Some row.0) rest ≡ Ok more
   pub are : row ∷ more ≡ rows
 
-pub rows_parts : (columns : List Column) (places : List (Option ℕ)) (last : Option ℤ) (given : List Value) (rest : List (List Value)) (rows : List TableRow) → rows_added columns places last (given ∷ rest) ≡ Ok rows
-    → Parts columns places last given rest rows
-rows_parts columns places last given rest rows e = by (row_added columns places last given) refl e
+pub rows_parts : (table : Table) (places : List (Option ℕ)) (last : Option ℤ) (given : List Value) (rest : List (List Value)) (rows : List TableRow) → rows_added table places last (given ∷ rest) ≡ Ok rows
+    → Parts table places last given rest rows
+rows_parts table places last given rest rows e = by (row_added table places last given) refl e
   where
-    by_more : (row : TableRow) → row_added columns places last given ≡ Ok row → (b : Answer (List TableRow)) → rows_added columns places (Some row.0) rest ≡ b → (b then λ added. Ok (row ∷ added)) ≡ Ok rows → Parts columns places last given rest rows
+    by_more : (row : TableRow) → row_added table places last given ≡ Ok row → (b : Answer (List TableRow)) → rows_added table places (Some row.0) rest ≡ b → (b then λ added. Ok (row ∷ added)) ≡ Ok rows → Parts table places last given rest rows
     by_more row is (Ok more) more_is h = record { row = row; more = more; first_is = is; more_is = more_is; are = same_rows (row ∷ more) rows h }
     by_more row is (Err r) more_is h = absurd cc
 
-    by : (a : Answer TableRow) → row_added columns places last given ≡ a → (a then λ row. rows_added columns places (Some row.0) rest then λ added. Ok (row ∷ added)) ≡ Ok rows → Parts columns places last given rest rows
-    by (Ok row) is h = by_more row is (rows_added columns places (Some row.0) rest) refl h
+    by : (a : Answer TableRow) → row_added table places last given ≡ a → (a then λ row. rows_added table places (Some row.0) rest then λ added. Ok (row ∷ added)) ≡ Ok rows → Parts table places last given rest rows
+    by (Ok row) is h = by_more row is (rows_added table places (Some row.0) rest) refl h
     by (Err r) is h = absurd cc
 
 pub no_rows : (rows : List TableRow) → given_rows [] ≡ Ok rows → [] ≡ rows
@@ -170,5 +169,5 @@ long_list (Err r) b n values e long = absurd cc
 
 pub long_values : (columns : List Column) (places : List (Option ℕ)) (given values : List Value) → row_stored columns places given ≡ Ok values → length values ≡ length columns
 long_values [] places given values e = ap length (sym (same_values [] values e))
-long_values (c ∷ columns) [] given values e = long_list (converted c.affinity Null) (row_stored columns [] given) (length columns) values e (long_values columns [] given)
-long_values (c ∷ columns) (p ∷ places) given values e = long_list (converted c.affinity (given_at given p)) (row_stored columns places given) (length columns) values e (long_values columns places given)
+long_values (c ∷ columns) [] given values e = long_list (converted c.affinity c.default) (row_stored columns [] given) (length columns) values e (long_values columns [] given)
+long_values (c ∷ columns) (p ∷ places) given values e = long_list (converted c.affinity (given_for c given p)) (row_stored columns places given) (length columns) values e (long_values columns places given)

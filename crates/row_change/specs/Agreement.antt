@@ -1,18 +1,17 @@
 -- What the rows of a tree and the definition of a table's rows agree in.
-use Rattle.std.specs.Prelude.{◌≡◌, ◌≤◌, ◌<◌, ℕ, Bool, true, not, filter, List, [], ◌++◌, map, length, slice_index_or, Option, None, Ok, All, zip}
+use Rattle.std.specs.Prelude.{◌≡◌, ◌≤◌, ℕ, Bool, true, not, filter, List, [], ◌++◌, map, length, Option, Ok, All}
 use Rattle.sqlval.specs.Refusals.{◌then◌, fold_answer}
 use Rattle.sqlval.specs.declared.value.Value.{Value}
-use Rattle.sqlval.specs.declared.value.Value.TheVariants.{Null}
 use Rattle.sql_syntax.specs.declared.create.TriggerTime.{TriggerTime}
 use Rattle.catalog.specs.Database.{Name, Database, ATable, with_object}
 use Rattle.catalog.specs.Listed.{plain_table, has_only_plain}
 use Rattle.catalog.specs.Named.{IsNamed}
-use Rattle.catalog.specs.declared.tables.Column.{Column}
 use Rattle.catalog.specs.declared.tables.Table.{Table}
 use Rattle.catalog.specs.Rows.{are_rows}
 use Rattle.row_scan.specs.Rows.{TableRow}
-use Rattle.row_change.specs.Constraints.{table_of, default_values, set_values}
-use Rattle.row_change.specs.Inserting.{given_at, last_rowid, rows_added}
+use Rattle.row_change.specs.Binding.{row_with}
+use Rattle.row_change.specs.Constraints.{table_of}
+use Rattle.row_change.specs.Inserting.{last_rowid, rows_added, values_given}
 use Rattle.row_change.specs.RowChanges.{Fire, Firing, delete_row, insert_row, update_row}
 use Rattle.row_change.specs.Changes.{no_outer}
 use Rattle.row_change.specs.Setting.{rows_meant_set}
@@ -22,14 +21,9 @@ use Rattle.query_terms.specs.Terms.{Term}
 abbrev pub IsStill : Fire → Type 0
 IsStill fire = (time : TriggerTime) (firing : Firing) (db : Database) → has_only_plain db ≡ true → fire time firing db ≡ Ok db
 
--- the values are those given for the columns, at their places
-pub record AreGivenFor (columns : List Column) (places : List (Option ℕ)) (given values : List Value) : Type 0 where
-  pub full : length values ≡ length columns
-  pub each : (k : ℕ) → k < length columns → slice_index_or values k Null ≡ given_at given (slice_index_or places k None)
-
--- Set at their places among a table's columns, the values of a row given are those given for the columns.
+-- Set at their places among a table's defaults, the values of a row given are those of its columns.
 abbrev pub IsSetFor : Table → List (Option ℕ) → List ℕ → List Value → Type 0
-IsSetFor table by_column places given = AreGivenFor table.columns by_column given (set_values (default_values (plain_table table [])) (zip places given))
+IsSetFor table by_column places given = row_with table places given ≡ values_given table.columns by_column given
 
 -- An INSERT of rows into a listed table, where nothing is set off, leaves it with those that the rows become after its own, or
 -- is refused as these are.
@@ -38,7 +32,7 @@ InsertsRows = (fire : Fire) (name : Name) (places : List ℕ) (db : Database) (t
     → IsStill fire → has_only_plain db ≡ true → table_of db name ≡ Ok (plain_table table rows) → are_rows (plain_table table rows) ≡ true
     → All (IsSetFor table by_column places) given → 1 ≤ length given
     → fold_answer (insert_row fire name places) db given
-    ≡ (rows_added table.columns by_column (last_rowid rows) given then λ added. Ok (with_object db name (ATable (plain_table table (rows ++ added)))))
+    ≡ (rows_added table by_column (last_rowid rows) given then λ added. Ok (with_object db name (ATable (plain_table table (rows ++ added)))))
 
 -- A DELETE of all rows of a listed table, where nothing is set off, leaves it without rows.
 abbrev pub DeletesRows : Type 0
@@ -59,4 +53,4 @@ abbrev pub UpdatesSome : Type 0
 UpdatesSome = (fire : Fire) (name : Name) (db : Database) (table : Table) (rows : List TableRow) (sets : List (ℕ × Term)) (set : List Name) (is_meant : TableRow → Bool)
     → IsStill fire → has_only_plain db ≡ true → IsNamed db → table_of db name ≡ Ok (plain_table table rows) → are_rows (plain_table table rows) ≡ true
     → fold_answer (update_row fire no_outer name sets set) db (map (λ row. row.0) (filter is_meant rows))
-    ≡ (rows_meant_set table.columns sets is_meant rows then λ now. Ok (with_object db name (ATable (plain_table table now))))
+    ≡ (rows_meant_set table sets is_meant rows then λ now. Ok (with_object db name (ATable (plain_table table now))))

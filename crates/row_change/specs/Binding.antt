@@ -5,6 +5,6 @@ use Rattle.catalog.specs.Listed.{plain_table}
 use Rattle.catalog.specs.declared.tables.Table.{Table}
 use Rattle.row_change.specs.Constraints.{default_values, set_values}
 
--- a new row of the table with these values at the columns of their places, and NULL elsewhere
+-- a new row of the table with these values at the columns of their places, and their defaults elsewhere
 abbrev pub row_with : Table → List ℕ → List Value → List Value
 row_with t at vs = set_values (default_values (plain_table t [])) (zip at vs)

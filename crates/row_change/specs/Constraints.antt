@@ -55,7 +55,7 @@ abbrev pub with_rowid : Table → ℤ → List Value → List Value
 with_rowid t id vs = elim t.rowid_column [ None ↦ vs | Some i ↦ slice_set vs i (Int id) ]
 
 -- no NULL in a column that refuses it
-abbrev not_null_holds : List TableColumn → List Value → Bool
+abbrev pub not_null_holds : List TableColumn → List Value → Bool
 not_null_holds (c ∷ cs) (v ∷ vs) = not (c.is_filled && is_null v) && not_null_holds cs vs
 not_null_holds _ _ = true
 

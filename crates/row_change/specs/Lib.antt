@@ -3,6 +3,7 @@ pub mod Binding
 pub mod Changes
 pub mod Choosing
 pub mod Constraints
+pub mod Demands
 pub mod Inserting
 pub mod NewRows
 pub mod Putting

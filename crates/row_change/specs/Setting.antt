@@ -1,17 +1,19 @@
--- What UPDATE makes of the rows of a table without constraints (SQL As Understood By SQLite, "UPDATE").
+-- What UPDATE makes of the rows of a table (SQL As Understood By SQLite, "UPDATE").
 use Rattle.std.specs.Prelude.{ℕ, ℤ, pos, Bool, true, false, List, [], ◌∷◌, ◌++◌, map, zip, Option, Some, None, Ok, if◌then◌else◌, unwrap_or}
 use Rattle.sqlval.specs.Refusals.{Answer, ◌then◌, all_answers}
 use Rattle.sqlval.specs.declared.value.Value.{Value}
 use Rattle.sqlval.specs.declared.value.Value.TheVariants.{Int}
 use Rattle.query_names.specs.Readings.{env_of, holds, values}
-use Rattle.catalog.specs.Listed.{plain_column}
+use Rattle.catalog.specs.Listed.{as_column}
 use Rattle.catalog.specs.declared.tables.Column.{Column}
+use Rattle.catalog.specs.declared.tables.Table.{Table}
 use Rattle.query_terms.specs.Terms.{Term}
 use Rattle.query_terms.specs.Values.{Environment, Row}
 use Rattle.row_scan.specs.Rows.{TableRow}
 use Rattle.row_scan.specs.Sources.{as_source}
 use Rattle.row_change.specs.Choosing.{is_chosen, tested}
 use Rattle.row_change.specs.Constraints.{set_values, with_affinity}
+use Rattle.row_change.specs.Demands.{demanded}
 
 -- The values of a row with those of SET's expressions at their places, which are asked of the row as it was.
 abbrev pub set_over : List (ℕ × Term) → Environment → List Value → Answer (List Value)
@@ -19,22 +21,22 @@ set_over sets seen before = values seen (map (λ s. s.1) sets) then λ given. Ok
 
 -- and as the columns store them
 abbrev pub values_set : List Column → List (ℕ × Term) → Row → Answer (List Value)
-values_set columns sets row = set_over sets (env_of (row ∷ [])) row.values then λ values. with_affinity (map plain_column columns) values
+values_set columns sets row = set_over sets (env_of (row ∷ [])) row.values then λ values. with_affinity (map as_column columns) values
 
--- what the row becomes by SET; it keeps its rowid
-abbrev pub row_set : List Column → List (ℕ × Term) → TableRow → Answer TableRow
-row_set columns sets row = values_set columns sets (as_source row) then λ values. Ok (row.0, values)
+-- what the row becomes by SET, as the table demands it; it keeps its rowid
+abbrev pub row_set : Table → List (ℕ × Term) → TableRow → Answer TableRow
+row_set table sets row = values_set table.columns sets (as_source row) then λ values. demanded table (row.0, values)
 
 -- the rows that are meant become what SET makes of them, and the others stay; or the first refusal
-abbrev pub rows_meant_set : List Column → List (ℕ × Term) → (TableRow → Bool) → List TableRow → Answer (List TableRow)
-rows_meant_set columns sets is_meant rows = all_answers (map (λ row. if is_meant row then row_set columns sets row else Ok row) rows)
+abbrev pub rows_meant_set : Table → List (ℕ × Term) → (TableRow → Bool) → List TableRow → Answer (List TableRow)
+rows_meant_set table sets is_meant rows = all_answers (map (λ row. if is_meant row then row_set table sets row else Ok row) rows)
 
 -- The rows for which the condition is true, or all where there is none, become what SET makes of them. The condition is asked of all
 -- rows before the first is set.
-abbrev pub rows_set : List Column → List (ℕ × Term) → Option Term → List TableRow → Answer (List TableRow)
-rows_set columns sets None rows = rows_meant_set columns sets (λ row. true) rows
-rows_set columns sets (Some condition) rows =
-    all_answers (map (tested condition) rows) then λ tests. rows_meant_set columns sets (is_chosen condition) rows
+abbrev pub rows_set : Table → List (ℕ × Term) → Option Term → List TableRow → Answer (List TableRow)
+rows_set table sets None rows = rows_meant_set table sets (λ row. true) rows
+rows_set table sets (Some condition) rows =
+    all_answers (map (tested condition) rows) then λ tests. rows_meant_set table sets (is_chosen condition) rows
 
 -- ---- of a source's rows
 
@@ -54,9 +56,9 @@ abbrev pub rowid_number : Value → ℤ
 rowid_number value = elim value [ Int rowid ↦ rowid | _ ↦ pos 0 ]
 
 -- what a source's row becomes by SET
-abbrev pub source_set : List Column → List (ℕ × Term) → Row → Answer TableRow
-source_set columns sets row = values_set columns sets row then λ values. Ok (rowid_number row.rowid, values)
+abbrev pub source_set : Table → List (ℕ × Term) → Row → Answer TableRow
+source_set table sets row = values_set table.columns sets row then λ values. demanded table (rowid_number row.rowid, values)
 
 -- what the rows that are meant become
-abbrev pub rows_changed : List Column → List (ℕ × Term) → Option Term → List Row → Answer (List TableRow)
-rows_changed columns sets condition rows = rows_meant condition [] rows then λ them. all_answers (map (source_set columns sets) them)
+abbrev pub rows_changed : Table → List (ℕ × Term) → Option Term → List Row → Answer (List TableRow)
+rows_changed table sets condition rows = rows_meant condition [] rows then λ them. all_answers (map (source_set table sets) them)

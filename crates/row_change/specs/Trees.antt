@@ -1,6 +1,7 @@
--- What INSERT does to the tree of a table without constraints (SQL As Understood By SQLite, "INSERT").
-use Rattle.std.specs.Prelude.{◌≡◌, ◌⊎◌, ◌++◌, ℕ, true, List, length, Option, Ok, Result, IfOk, MatchResult, map}
+-- What INSERT does to the tree of a table (SQL As Understood By SQLite, "INSERT").
+use Rattle.std.specs.Prelude.{◌≡◌, ◌⊎◌, ◌++◌, ℕ, true, List, length, Option, Ok, Err, Result, IfOk, MatchResult, map}
 use Rattle.std.specs.Global.{Vec}
+use Rattle.sqlval.specs.Refusals.{refusal_of}
 use Rattle.sqlval.specs.declared.fault.Fault.{Fault}
 use Rattle.sqlval.specs.declared.fault.Fault.TheVariants as fault
 use Rattle.sqlval.specs.declared.value.Value.{Value}
@@ -11,48 +12,47 @@ use Rattle.tree_page.specs.Cells.{Pairwise}
 use Rattle.tree_table.specs.Calls.{Stands, BecomesRows}
 use Rattle.catalog.specs.Listed.{plain_table}
 use Rattle.catalog.specs.Rows.{are_rows}
-use Rattle.catalog.specs.declared.tables.Column.{Column}
 use Rattle.catalog.specs.declared.tables.Table.{Table}
 use Rattle.catalog.specs.declared.tables.TableRow as stored
 use Rattle.row_scan.specs.Rows.{IsRow, TableRow}
 use Rattle.row_scan.specs.Trees.{HasRows}
-use Rattle.row_change.specs.Inserting.{AllStorable, IsRefusedAs, last_rowid, rows_added}
+use Rattle.row_change.specs.Inserting.{AllStorable, last_rowid, rows_added}
 use Rattle.row_change.specs.NewRows.{row_of}
 
--- where a table of these columns may hold the rows, it may hold them with the others after them
-abbrev pub FitAfter : List Column → List TableRow → List TableRow → Type 0
-FitAfter columns rows added = (table : Table) → table.columns ≡ columns → are_rows (plain_table table rows) ≡ true → are_rows (plain_table table (rows ++ added)) ≡ true
+-- where the table may hold the rows, it may hold them with the others after them
+abbrev pub FitAfter : Table → List TableRow → List TableRow → Type 0
+FitAfter table rows added = are_rows (plain_table table rows) ≡ true → are_rows (plain_table table (rows ++ added)) ≡ true
 
 -- The rows that the rows given become were put into the tree, after its own.
-pub record ArePutIn (old new : PageMap) (size root : ℕ) (columns : List Column) (places : List (Option ℕ)) (given : List (List Value)) (rows : List TableRow) (used free : List ℕ) : Type 0 where
+pub record ArePutIn (old new : PageMap) (size root : ℕ) (table : Table) (places : List (Option ℕ)) (given : List (List Value)) (rows : List TableRow) (used free : List ℕ) : Type 0 where
   pub added : List TableRow
-  pub answer : rows_added columns places (last_rowid rows) given ≡ Ok added
+  pub answer : rows_added table places (last_rowid rows) given ≡ Ok added
   pub entries : List Entry
   pub becomes : BecomesRows old new size root entries used free
-  pub each : Pairwise (IsRow (length columns)) entries (rows ++ added)
-  pub fit : FitAfter columns rows added
+  pub each : Pairwise (IsRow (length table.columns)) entries (rows ++ added)
+  pub fit : FitAfter table rows added
 
 -- no record can hold one of the rows that these become
-pub record AreTooLong (columns : List Column) (places : List (Option ℕ)) (given : List (List Value)) (rows : List TableRow) (f : Fault) : Type 0 where
+pub record AreTooLong (table : Table) (places : List (Option ℕ)) (given : List (List Value)) (rows : List TableRow) (f : Fault) : Type 0 where
   pub is : f ≡ fault.TooLong
   pub added : List TableRow
-  pub answer : rows_added columns places (last_rowid rows) given ≡ Ok added
+  pub answer : rows_added table places (last_rowid rows) given ≡ Ok added
   pub long : AllStorable added → ⊥
 
 -- Why rows aren't put in: memory was short, a disk's call failed, or there are as many pages as there may be; what they become is refused;
 -- or no record can hold one.
-abbrev pub IsPutRefusal : List Column → List (Option ℕ) → List (List Value) → List TableRow → Fault → Type 0
-IsPutRefusal columns places given rows f =
-    IsOutsideOrFull f ⊎ (IsRefusedAs (rows_added columns places (last_rowid rows) given) f ⊎ AreTooLong columns places given rows f)
+abbrev pub IsPutRefusal : Table → List (Option ℕ) → List (List Value) → List TableRow → Fault → Type 0
+IsPutRefusal table places given rows f =
+    IsOutsideOrFull f ⊎ ((rows_added table places (last_rowid rows) given ≡ Err (refusal_of f)) ⊎ AreTooLong table places given rows f)
 
 -- Where a tree has rows of a table, those that the rows given become are put into it, or the call is refused.
-abbrev pub PutsRows : {X : Type 0} → PageMap → PageMap → ℕ → ℕ → List Column → List (Option ℕ) → List (List Value) → Result X Fault → Type 0
-PutsRows old new size root columns places given result = (rows : List TableRow) (entries : List Entry) (used free : List ℕ)
-    → Stands old size root entries used free → Pairwise (IsRow (length columns)) entries rows
-    → MatchResult result (λ done. ArePutIn old new size root columns places given rows used free)
-    (IsPutRefusal columns places given rows)
+abbrev pub PutsRows : {X : Type 0} → PageMap → PageMap → ℕ → ℕ → Table → List (Option ℕ) → List (List Value) → Result X Fault → Type 0
+PutsRows old new size root table places given result = (rows : List TableRow) (entries : List Entry) (used free : List ℕ)
+    → Stands old size root entries used free → Pairwise (IsRow (length table.columns)) entries rows
+    → MatchResult result (λ done. ArePutIn old new size root table places given rows used free)
+    (IsPutRefusal table places given rows)
 
 -- Of a tree that has rows of a table, the rows that are answered are those that the rows given become after them.
-abbrev pub TellsAdded : PageMap → ℕ → ℕ → List Column → List (Option ℕ) → List (List Value) → Result (Vec stored.TableRow) Fault → Type 0
-TellsAdded pages size root columns places given result = (rows : List TableRow) → AreWhole size pages → HasRows pages size root (length columns) rows
-    → IfOk result (λ added. rows_added columns places (last_rowid rows) given ≡ Ok (map row_of added.items))
+abbrev pub TellsAdded : PageMap → ℕ → ℕ → Table → List (Option ℕ) → List (List Value) → Result (Vec stored.TableRow) Fault → Type 0
+TellsAdded pages size root table places given result = (rows : List TableRow) → AreWhole size pages → HasRows pages size root (length table.columns) rows
+    → IfOk result (λ added. rows_added table places (last_rowid rows) given ≡ Ok (map row_of added.items))

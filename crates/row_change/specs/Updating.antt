@@ -1,4 +1,4 @@
--- What UPDATE does to the tree of a table without constraints (SQL As Understood By SQLite, "UPDATE").
+-- What UPDATE does to the tree of a table (SQL As Understood By SQLite, "UPDATE").
 use Rattle.std.specs.Prelude.{◌≡◌, ◌⊎◌, ℕ, true, List, [], ◌∷◌, length, Option, Ok, Err, Result, IfOk, MatchResult, ⊤, map}
 use Rattle.std.specs.Global.{Vec}
 use Rattle.sqlval.specs.Refusals.{refusal_of}
@@ -12,7 +12,6 @@ use Rattle.tree_table.specs.Calls.{Stands, BecomesRows}
 use Rattle.tree_table.specs.Rows.{with_replaced}
 use Rattle.catalog.specs.Listed.{plain_table}
 use Rattle.catalog.specs.Rows.{are_rows}
-use Rattle.catalog.specs.declared.tables.Column.{Column}
 use Rattle.catalog.specs.declared.tables.Table.{Table}
 use Rattle.catalog.specs.declared.tables.TableRow as stored
 use Rattle.query_terms.specs.Terms.{Term}
@@ -35,40 +34,40 @@ abbrev pub ReplacesRows : PageMap → PageMap → ℕ → ℕ → (List Entry �
 ReplacesRows old new size root edit result = (rows : List Entry) (used free : List ℕ) → Stands old size root rows used free
     → MatchResult result (λ done. BecomesRows old new size root (edit rows) used free) IsOutsideOrFull
 
--- where a table of these columns may hold the rows, it may hold what became of them
-abbrev pub FitNow : List Column → List TableRow → List TableRow → Type 0
-FitNow columns rows now = (table : Table) → table.columns ≡ columns → are_rows (plain_table table rows) ≡ true → are_rows (plain_table table now) ≡ true
+-- where the table may hold the rows, it may hold what became of them
+abbrev pub FitNow : Table → List TableRow → List TableRow → Type 0
+FitNow table rows now = are_rows (plain_table table rows) ≡ true → are_rows (plain_table table now) ≡ true
 
 -- The tree has the rows that SET leaves.
-pub record AreSetIn (old new : PageMap) (size root : ℕ) (columns : List Column) (sets : List (ℕ × Term)) (condition : Option Term) (rows : List TableRow) (used free : List ℕ) : Type 0 where
+pub record AreSetIn (old new : PageMap) (size root : ℕ) (table : Table) (sets : List (ℕ × Term)) (condition : Option Term) (rows : List TableRow) (used free : List ℕ) : Type 0 where
   pub now : List TableRow
-  pub answer : rows_set columns sets condition rows ≡ Ok now
+  pub answer : rows_set table sets condition rows ≡ Ok now
   pub entries : List Entry
   pub becomes : BecomesRows old new size root entries used free
-  pub each : Pairwise (IsRow (length columns)) entries now
-  pub fit : FitNow columns rows now
+  pub each : Pairwise (IsRow (length table.columns)) entries now
+  pub fit : FitNow table rows now
 
 -- no record can hold one of the rows that SET leaves
-pub record SetTooLong (columns : List Column) (sets : List (ℕ × Term)) (condition : Option Term) (rows : List TableRow) (f : Fault) : Type 0 where
+pub record SetTooLong (table : Table) (sets : List (ℕ × Term)) (condition : Option Term) (rows : List TableRow) (f : Fault) : Type 0 where
   pub is : f ≡ fault.TooLong
   pub now : List TableRow
-  pub answer : rows_set columns sets condition rows ≡ Ok now
+  pub answer : rows_set table sets condition rows ≡ Ok now
   pub long : AllStorable now → ⊥
 
 -- Why rows aren't set: memory was short, a disk's call failed, or there are as many pages as there may be; the condition or an
 -- expression is refused for a row, or a value is; or no record can hold a row.
-abbrev pub IsSetRefusal : List Column → List (ℕ × Term) → Option Term → List TableRow → Fault → Type 0
-IsSetRefusal columns sets condition rows f =
-    IsOutsideOrFull f ⊎ ((rows_set columns sets condition rows ≡ Err (refusal_of f)) ⊎ SetTooLong columns sets condition rows f)
+abbrev pub IsSetRefusal : Table → List (ℕ × Term) → Option Term → List TableRow → Fault → Type 0
+IsSetRefusal table sets condition rows f =
+    IsOutsideOrFull f ⊎ ((rows_set table sets condition rows ≡ Err (refusal_of f)) ⊎ SetTooLong table sets condition rows f)
 
 -- Where a tree has rows of a table, of which these are enough for the condition, those for which it is true, or all, become what SET makes of
 -- them, or the call is refused.
-abbrev pub SetsRows : {X : Type 0} → PageMap → PageMap → ℕ → ℕ → List Column → List (ℕ × Term) → Option Term → List Row → Result X Fault → Type 0
-SetsRows old new size root columns sets condition given result = (rows : List TableRow) (entries : List Entry) (used free : List ℕ)
-    → Stands old size root entries used free → Pairwise (IsRow (length columns)) entries rows → AreEnough condition given rows
-    → MatchResult result (λ done. AreSetIn old new size root columns sets condition rows used free) (IsSetRefusal columns sets condition rows)
+abbrev pub SetsRows : {X : Type 0} → PageMap → PageMap → ℕ → ℕ → Table → List (ℕ × Term) → Option Term → List Row → Result X Fault → Type 0
+SetsRows old new size root table sets condition given result = (rows : List TableRow) (entries : List Entry) (used free : List ℕ)
+    → Stands old size root entries used free → Pairwise (IsRow (length table.columns)) entries rows → AreEnough condition given rows
+    → MatchResult result (λ done. AreSetIn old new size root table sets condition rows used free) (IsSetRefusal table sets condition rows)
 
 -- Of rows of which these are enough for the condition, the rows that are answered are what those that are meant become.
-abbrev pub TellsChanged : List Column → List (ℕ × Term) → Option Term → List Row → Result (Vec stored.TableRow) Fault → Type 0
-TellsChanged columns sets condition given result = (rows : List TableRow) → AreEnough condition given rows
-    → IfOk result (λ new. rows_changed columns sets condition (map as_source rows) ≡ Ok (map row_of new.items))
+abbrev pub TellsChanged : Table → List (ℕ × Term) → Option Term → List Row → Result (Vec stored.TableRow) Fault → Type 0
+TellsChanged table sets condition given result = (rows : List TableRow) → AreEnough condition given rows
+    → IfOk result (λ new. rows_changed table sets condition (map as_source rows) ≡ Ok (map row_of new.items))

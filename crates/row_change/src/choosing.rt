@@ -91,7 +91,8 @@ fn rowids_where(alloc: Global, rows: &Many<SourceRow>, condition: &Term) -> R<Ve
 /// The rowids of a table's rows for which a condition is true, in order. (What the condition refuses for a row, in order.)
 pub fn chosen_rowids(alloc: Global, rows: &Many<SourceRow>, condition: &Term) -> R<Vec<i64>>
     ensures chosen { (table : List TableRow) → rows.now ≡ map as_source table
-        → AnswersBy (λ rowids. rowids.items) (chosen condition.now table then λ them. Ok (map (λ row. row.0) them)) result }
+        → AnswersBy (λ rowids. rowids.items) (chosen condition.now table
+        then λ them. Ok (map (λ row. row.0) them)) result }
     ensures not_disk { IfErr result (λ fault. IsNotDiskFault fault) }
 {
     rowids_where(alloc, rows, condition)

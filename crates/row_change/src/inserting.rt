@@ -3,30 +3,34 @@
 ghost use Rattle.std.specs.Prelude.{◌≡◌, ◌⊎◌, map, slice_index_or, None, Some, Ok, Err, true, IfOk, IfErr, OnOk};
 ghost use Rattle.std.specs.List.{AllByRecursion, list_all};
 ghost use Rattle.sqlval.specs.Conversion.{converted};
+ghost use Rattle.sqlval.specs.Faults.{IsNotDiskFault};
 ghost use Rattle.sqlval.specs.Refusals as refusal;
 ghost use Rattle.record.specs.Record.{IsRecord};
 ghost use Rattle.record.specs.Writing.{AreStorable, IsBytes, record_of};
 ghost use Rattle.tree_page.specs.Cells.{Pairwise};
 ghost use Rattle.catalog.specs.Rows.{is_value};
+ghost use Rattle.query_terms.specs.Outcome.{AnswersBy};
 ghost use Rattle.row_change.specs.Agreement.{InsertsRows};
-ghost use Rattle.row_change.specs.Inserting.{AllStorable, IsRefusedAs, given_at, row_added, row_stored, rows_added};
+ghost use Rattle.row_change.specs.Inserting.{AllStorable, given_for, row_added, row_stored, rows_added};
 ghost use Rattle.row_change.specs.NewRows.{IsReplacement, IsWritten, entry_in, entry_left, row_of};
 
-use catalog::{Column, TableRow, other_rows_are_listed};
+use crate::demands::check_row;
+use catalog::{Column, Table, TableRow, other_rows_are_listed};
 use query_terms::conversion_is_one;
 use record::{encode, is_storable};
 use sqlval::{Fault, R, Row, Value, apply};
 use std::alloc::Global;
 use tree_table::{RowChange, next_rowid};
 
-/// The value given for a column, at its place: NULL where it has none.
-fn value_given(alloc: Global, given: &[Value], place: Option<usize>) -> R<Value>
-    ensures value { IfOk result (λ value. value ≡ given_at given.now place) }
+/// The value of a column in a new row: the one given for it, at its place, or its default where it has none. (`Memory`.)
+fn value_for(alloc: Global, column: &Column, given: &[Value], place: Option<usize>) -> R<Value>
+    ensures value { IfOk result (λ value. value ≡ given_for column.now given.now place) }
     ensures memory { IfErr result (λ fault. fault ≡ Fault.Memory) }
 {
     match place {
         Some(place) if place < given.len() => Ok(given[place].copy(alloc)?),
-        _ => Ok(Value::Null),
+        Some(_) => Ok(Value::Null),
+        None => Ok(column.default.copy(alloc)?),
     }
 }
 
@@ -41,23 +45,25 @@ fn place_of(places: &[Option<usize>], index: usize) -> Option<usize>
     }
 }
 
-/// What a column stores of the value given for it.
+/// What a column stores of its value in a new row. (`RealRefused`, `Memory`.)
 pub(crate) fn stored_value(
     alloc: Global,
     column: &Column,
     place: Option<usize>,
     given: &[Value],
 ) -> R<Value>
-    ensures stored { IfOk result (λ value. converted column.now.affinity (given_at given.now place) ≡ Ok value) }
+    ensures stored { IfOk result (λ value. converted column.now.affinity
+        (given_for column.now given.now place) ≡ Ok value) }
     ensures refused { IfErr result (λ fault. (fault ≡ Fault.Memory)
-        ⊎ ((fault ≡ Fault.RealRefused) × (converted column.now.affinity (given_at given.now place) ≡ Err refusal.RealRefused))) }
+        ⊎ ((fault ≡ Fault.RealRefused) × (converted column.now.affinity
+        (given_for column.now given.now place) ≡ Err refusal.RealRefused))) }
 {
     conversion_is_one();
-    let value = value_given(alloc, given, place)?;
+    let value = value_for(alloc, column, given, place)?;
     apply(alloc, column.affinity, value)
 }
 
-/// The values of a new row, each as its column stores it: NULL where none is given.
+/// The values of a new row, each as its column stores it: the default where none is given. (`RealRefused`, `Memory`.)
 fn stored_values(
     alloc: Global,
     columns: &[Column],
@@ -66,7 +72,8 @@ fn stored_values(
 ) -> R<Vec<Value>>
     ensures stored { IfOk result (λ values. row_stored columns.now places.now given.now ≡ Ok values.items) }
     ensures refused { IfErr result (λ fault. (fault ≡ Fault.Memory)
-        ⊎ ((fault ≡ Fault.RealRefused) × (row_stored columns.now places.now given.now ≡ Err refusal.RealRefused))) }
+        ⊎ ((fault ≡ Fault.RealRefused) × (row_stored columns.now places.now given.now
+        ≡ Err refusal.RealRefused))) }
 {
     let mut values = Vec::new(alloc);
     'columns: for index in 0..columns.len() {
@@ -76,20 +83,23 @@ fn stored_values(
     Ok(values)
 }
 
-/// Builds the row to insert after `last`: converts each value to its column's affinity, then takes the next rowid.
+/// Builds the row to insert after `last`: converts each value to its column's affinity, takes the next rowid, and looks at what the table
+/// demands. (`RealRefused`, `RowidFull`, and what `check_row` refuses, in this order.)
 fn new_row(
     alloc: Global,
-    columns: &[Column],
+    table: &Table,
     places: &[Option<usize>],
     given: &[Value],
     last: Option<i64>,
 ) -> R<TableRow>
-    ensures added { IfOk result (λ row. row_added columns.now places.now last given.now ≡ Ok (row_of row)) }
-    ensures refused { IfErr result (λ fault. (fault ≡ Fault.Memory) ⊎ IsRefusedAs (row_added columns.now places.now last given.now) fault) }
+    ensures added { AnswersBy row_of (row_added table.now places.now last given.now) result }
+    ensures not_disk { IfErr result (λ fault. IsNotDiskFault fault) }
 {
-    let values = stored_values(alloc, columns, places, given)?;
+    let values = stored_values(alloc, table.columns.as_slice(), places, given)?;
     let rowid = next_rowid(last)?;
-    Ok(TableRow { rowid, values })
+    let row = TableRow { rowid, values };
+    check_row(table, &row)?;
+    Ok(row)
 }
 
 /// The last rowid, once this row is added.
@@ -99,22 +109,22 @@ fn last_after(row: &TableRow) -> Option<i64>
     Some(row.rowid)
 }
 
-/// Builds the rows to insert, in order.
+/// Builds the rows to insert. (What `new_row` refuses, in order.)
 pub(crate) fn new_rows(
     alloc: Global,
-    columns: &[Column],
+    table: &Table,
     places: &[Option<usize>],
     rows: &[Row],
     last: Option<i64>,
 ) -> R<Vec<TableRow>>
-    ensures added { IfOk result (λ added. rows_added columns.now places.now last (map (λ row. row.items) rows.now) ≡ Ok (map row_of added.items)) }
-    ensures refused { IfErr result (λ fault. (fault ≡ Fault.Memory)
-        ⊎ IsRefusedAs (rows_added columns.now places.now last (map (λ row. row.items) rows.now)) fault) }
+    ensures added { AnswersBy (λ added. map row_of added.items)
+        (rows_added table.now places.now last (map (λ row. row.items) rows.now)) result }
+    ensures not_disk { IfErr result (λ fault. IsNotDiskFault fault) }
 {
     let mut added = Vec::new(alloc);
     let mut before = last;
     'rows: for row in rows {
-        let new = new_row(alloc, columns, places, row, before)?;
+        let new = new_row(alloc, table, places, row, before)?;
         before = last_after(&new);
         added.push(new)?;
     }
@@ -165,7 +175,8 @@ fn record_for(alloc: Global, row: &TableRow) -> R<RowRecord>
 
 /// The records of the new rows.
 pub(crate) fn records_of(alloc: Global, rows: &[TableRow]) -> R<Vec<RowRecord>>
-    ensures written { IfOk result (λ records. Pairwise IsWritten (map row_of rows.now) (map entry_in records.items)) }
+    ensures written { IfOk result (λ records. Pairwise IsWritten (map row_of rows.now)
+        (map entry_in records.items)) }
     ensures refused { IfErr result (λ fault. (fault ≡ Fault.Memory)
         ⊎ ((fault ≡ Fault.TooLong) × (AllStorable (map row_of rows.now) → ⊥))) }
 {
@@ -190,7 +201,8 @@ fn change_for(alloc: Global, row: &TableRow) -> R<RowChange>
 
 /// The changes of rows to these, with their records.
 pub(crate) fn changes_of(alloc: Global, rows: &[TableRow]) -> R<Vec<RowChange>>
-    ensures made { IfOk result (λ changes. Pairwise IsWritten (map row_of rows.now) (map entry_left changes.items)) }
+    ensures made { IfOk result (λ changes. Pairwise IsWritten (map row_of rows.now)
+        (map entry_left changes.items)) }
     ensures some { IfOk result (λ changes. AllByRecursion IsReplacement changes.items) }
     ensures refused { IfErr result (λ fault. (fault ≡ Fault.Memory)
         ⊎ ((fault ≡ Fault.TooLong) × (AllStorable (map row_of rows.now) → ⊥))) }

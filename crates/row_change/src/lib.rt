@@ -4,6 +4,7 @@
 
 mod choosing;
 mod deleting;
+mod demands;
 mod inserting;
 mod meaning;
 mod putting;

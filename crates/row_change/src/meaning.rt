@@ -27,7 +27,8 @@ fn copy_at(alloc: Global, rows: &Many<SourceRow>, place: usize) -> R<TableRow>
 
 /// Copies of the rows at these places. (`Memory`.)
 fn copies_at(alloc: Global, rows: &Many<SourceRow>, places: &[usize]) -> R<Vec<TableRow>>
-    ensures copied { IfOk result (λ them. map row_of them.items ≡ map (λ place. as_row (row_at rows.now place)) places.now) }
+    ensures copied { IfOk result (λ them. map row_of them.items ≡ map
+        (λ place. as_row (row_at rows.now place)) places.now) }
     ensures refused { IfErr result (λ fault. fault ≡ Fault.Memory) }
 {
     let mut them = Vec::with_capacity(alloc, places.len())?;

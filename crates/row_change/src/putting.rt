@@ -17,7 +17,8 @@ use tree_table::{insert, last};
 /// Puts a record into a tree whose rowids are all less. (What `insert` refuses; `Damaged(Order, root)` if there is a row of its rowid.)
 fn put_record<P: WritePages>(alloc: Global, pages: &mut P, root: u32, row: &RowRecord) -> R<()>
     ensures put { IsTrue (P.Pages.tells (P.Pages.below pages.old))
-        → PutsLast (P.Pages.map pages.old) (P.Pages.map pages.new) (P.Pages.limits (P.Pages.below pages.old)).page
+        → PutsLast (P.Pages.map pages.old) (P.Pages.map pages.new)
+        (P.Pages.limits (P.Pages.below pages.old)).page
         root (entry_in row.now) result }
     ensures kept { P.Pages.below pages.new ≡ P.Pages.below pages.old }
     ensures causes { Causes result (P.Pages.failures pages.old) (P.Pages.failures pages.new)
@@ -37,7 +38,8 @@ fn put_records<P: WritePages>(
     records: &[RowRecord],
 ) -> R<()>
     ensures put { IsTrue (P.Pages.tells (P.Pages.below pages.old))
-        → PutsAfter (P.Pages.map pages.old) (P.Pages.map pages.new) (P.Pages.limits (P.Pages.below pages.old)).page
+        → PutsAfter (P.Pages.map pages.old) (P.Pages.map pages.new)
+        (P.Pages.limits (P.Pages.below pages.old)).page
         root (map entry_in records.now) result }
     ensures kept { P.Pages.below pages.new ≡ P.Pages.below pages.old }
     ensures causes { Causes result (P.Pages.failures pages.old) (P.Pages.failures pages.new)
@@ -49,20 +51,22 @@ fn put_records<P: WritePages>(
     Ok(())
 }
 
-/// Puts the rows of an INSERT into the tree of their table, after its own, and answers them. Row by row, a real is `RealRefused`, and a row
-/// after the greatest rowid of all is `RowidFull`; only then a row that no record can hold is `TooLong`. (`Memory`, `Io`, `Full`.)
+/// Puts the rows of an INSERT into the tree of their table, after its own, and answers them. Row by row, a real is `RealRefused`, a row
+/// after the greatest rowid of all is `RowidFull`, and NULL in a column that refuses it is `NotNull`; only then a row that no record can hold
+/// is `TooLong`. (`Memory`, `Io`, `Full`.)
 pub fn put_new_rows<P: WritePages>(
     alloc: Global,
     pages: &mut P,
     insert: BoundInsert<'_>,
 ) -> R<Vec<TableRow>>
     ensures put { IsTrue (P.Pages.tells (P.Pages.below pages.old))
-        → PutsRows (P.Pages.map pages.old) (P.Pages.map pages.new) (P.Pages.limits (P.Pages.below pages.old)).page
-        insert.entry.table.now.root insert.entry.table.now.columns insert.entry.places.items
+        → PutsRows (P.Pages.map pages.old) (P.Pages.map pages.new)
+        (P.Pages.limits (P.Pages.below pages.old)).page
+        insert.entry.table.now.root insert.entry.table.now insert.entry.places.items
         (map (λ row. row.items) insert.entry.rows.items) result }
     ensures rows { IsTrue (P.Pages.tells (P.Pages.below pages.old))
         → TellsAdded (P.Pages.map pages.old) (P.Pages.limits (P.Pages.below pages.old)).page
-        insert.entry.table.now.root insert.entry.table.now.columns insert.entry.places.items
+        insert.entry.table.now.root insert.entry.table.now insert.entry.places.items
         (map (λ row. row.items) insert.entry.rows.items) result }
     ensures kept { P.Pages.below pages.new ≡ P.Pages.below pages.old }
     ensures causes { Causes result (P.Pages.failures pages.old) (P.Pages.failures pages.new)
@@ -74,7 +78,7 @@ pub fn put_new_rows<P: WritePages>(
         rows,
     } = insert;
     let last = last(pages, table.root)?;
-    let added = new_rows(alloc, table.columns.as_slice(), &places, &rows, last)?;
+    let added = new_rows(alloc, table, &places, &rows, last)?;
     let records = records_of(alloc, &added)?;
     put_records(alloc, pages, table.root, &records)?;
     Ok(added)

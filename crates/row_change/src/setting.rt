@@ -3,7 +3,7 @@
 ghost use Rattle.std.specs.Prelude.{◌≡◌, ◌++◌, ◌∷◌, [], IfErr, IfOk, OnOk, map, slice_set, if◌then◌else◌};
 ghost use Rattle.sqlval.specs.Faults.{IsNotDiskFault};
 ghost use Rattle.sqlval.specs.Refusals.{all_answers};
-ghost use Rattle.catalog.specs.Listed.{plain_column};
+ghost use Rattle.catalog.specs.Listed.{as_column};
 ghost use Rattle.query_names.specs.Readings.{env_of};
 ghost use Rattle.query_terms.specs.Outcome.{AnswersBy};
 ghost use Rattle.query_terms.specs.Rows.{picked_rows, row_at, seen};
@@ -11,8 +11,9 @@ ghost use Rattle.row_change.specs.Constraints.{with_affinity};
 ghost use Rattle.row_change.specs.NewRows.{row_of};
 ghost use Rattle.row_change.specs.Setting.{is_meant_for, rowid_number, rows_changed, rows_meant, set_over, source_set};
 
+use crate::demands::check_row;
 use crate::inserting::stored_value;
-use catalog::{Column, TableRow};
+use catalog::{Column, Table, TableRow};
 use query_terms::{Env, SourceRow, Term, evaluate, holds};
 use sqlval::{Fault, Many, R, Value};
 use std::alloc::Global;
@@ -49,7 +50,8 @@ fn is_meant(
 
 /// Adds a place, if the row there is meant. (`Memory`.)
 fn push_if(places: &mut Vec<usize>, place: usize, is_meant: bool) -> R<()>
-    ensures pushed { OnOk result (places.new.items ≡ (if is_meant then places.old.items ++ place ∷ [] else places.old.items)) }
+    ensures pushed { OnOk result (places.new.items
+        ≡ (if is_meant then places.old.items ++ place ∷ [] else places.old.items)) }
     ensures refused { IfErr result (λ fault. fault ≡ Fault.Memory) }
 {
     if is_meant {
@@ -64,7 +66,8 @@ pub(crate) fn places_meant(
     rows: &Many<SourceRow>,
     condition: &Option<Term>,
 ) -> R<Vec<usize>>
-    ensures { AnswersBy (λ places. map (row_at rows.now) places.items) (rows_meant condition.now [] rows.now) result }
+    ensures { AnswersBy (λ places. map (row_at rows.now) places.items)
+        (rows_meant condition.now [] rows.now) result }
 {
     let mut places = Vec::new(alloc);
     'rows: for index in 0..rows.len() {
@@ -116,7 +119,8 @@ fn set_at(values: &mut Vec<Value>, place: usize, value: Value)
 
 /// Puts the values of SET's expressions at their places, one after another. (What the expressions refuse, in order.)
 fn set_each(alloc: Global, values: &mut Vec<Value>, sets: &[(usize, Term)], env: Env<'_>) -> R<()>
-    ensures { AnswersBy (λ done. values.new.items) (set_over sets.now (seen env.entry) values.old.items) result }
+    ensures { AnswersBy (λ done. values.new.items)
+        (set_over sets.now (seen env.entry) values.old.items) result }
 {
     'sets: for (place, term) in sets {
         let value = evaluate(alloc, term, env)?.into_value(alloc)?;
@@ -127,7 +131,7 @@ fn set_each(alloc: Global, values: &mut Vec<Value>, sets: &[(usize, Term)], env:
 
 /// The values as their columns store them. (What `stored_value` refuses, in order.)
 fn stored(alloc: Global, columns: &[Column], values: &[Value]) -> R<Vec<Value>>
-    ensures { AnswersBy (λ new. new.items) (with_affinity (map plain_column columns.now) values.now) result }
+    ensures { AnswersBy (λ new. new.items) (with_affinity (map as_column columns.now) values.now) result }
 {
     let mut new = Vec::new(alloc);
     let most = columns.len().min(values.len());
@@ -137,41 +141,41 @@ fn stored(alloc: Global, columns: &[Column], values: &[Value]) -> R<Vec<Value>>
     Ok(new)
 }
 
-/// What the row at a place becomes by SET. (What SET's expressions refuse, and then what `stored` does.)
+/// What the row at a place becomes by SET. (What SET's expressions refuse, and then what `stored` and `check_row` do.)
 fn changed_row(
     alloc: Global,
-    columns: &[Column],
+    table: &Table,
     sets: &[(usize, Term)],
     rows: &Many<SourceRow>,
     place: usize,
 ) -> R<TableRow>
-    ensures { AnswersBy row_of (source_set columns.now sets.now (row_at rows.now place)) result }
+    ensures { AnswersBy row_of (source_set table.now sets.now (row_at rows.now place)) result }
 {
     let mut values = values_at(alloc, rows, place)?;
     let picked = [place];
     let env = env_at(rows, picked.as_slice());
     set_each(alloc, &mut values, sets, env)?;
-    let values = stored(alloc, columns, &values)?;
-    Ok(TableRow {
-        rowid: rowid_at(rows, place),
-        values,
-    })
+    let values = stored(alloc, table.columns.as_slice(), &values)?;
+    let rowid = rowid_at(rows, place);
+    let row = TableRow { rowid, values };
+    check_row(table, &row)?;
+    Ok(row)
 }
 
 /// What the rows at these places become by SET. (What `changed_row` refuses, in order.)
 fn changed_at(
     alloc: Global,
-    columns: &[Column],
+    table: &Table,
     sets: &[(usize, Term)],
     rows: &Many<SourceRow>,
     places: &[usize],
 ) -> R<Vec<TableRow>>
     ensures { AnswersBy (λ new. map row_of new.items)
-        (all_answers (map (λ place. source_set columns.now sets.now (row_at rows.now place)) places.now)) result }
+        (all_answers (map (λ place. source_set table.now sets.now (row_at rows.now place)) places.now)) result }
 {
     let mut new = Vec::new(alloc);
     'places: for place in places {
-        new.push(changed_row(alloc, columns, sets, rows, *place)?)?;
+        new.push(changed_row(alloc, table, sets, rows, *place)?)?;
     }
     Ok(new)
 }
@@ -179,14 +183,15 @@ fn changed_at(
 /// What the rows that are meant become by SET. (What the condition refuses for a row, and then what `changed_row` does.)
 pub(crate) fn changed_rows(
     alloc: Global,
-    columns: &[Column],
+    table: &Table,
     sets: &[(usize, Term)],
     rows: &Many<SourceRow>,
     condition: &Option<Term>,
 ) -> R<Vec<TableRow>>
-    ensures changed { AnswersBy (λ new. map row_of new.items) (rows_changed columns.now sets.now condition.now rows.now) result }
+    ensures changed { AnswersBy (λ new. map row_of new.items)
+        (rows_changed table.now sets.now condition.now rows.now) result }
     ensures not_disk { IfErr result (λ fault. IsNotDiskFault fault) }
 {
     let places = places_meant(alloc, rows, condition)?;
-    changed_at(alloc, columns, sets, rows, &places)
+    changed_at(alloc, table, sets, rows, &places)
 }

@@ -27,7 +27,8 @@ fn removal(rowid: &i64) -> RowChange
 
 /// The removals of the rows of these rowids.
 fn removals(alloc: Global, rowids: &[i64]) -> R<Vec<RowChange>>
-    ensures made { (rows : List Entry) → IfOk result (λ changes. with_changes changes.items rows ≡ without_rows rowids.now rows) }
+    ensures made { (rows : List Entry) → IfOk result
+        (λ changes. with_changes changes.items rows ≡ without_rows rowids.now rows) }
     ensures refused { IfErr result (λ fault. fault ≡ Fault.Memory) }
 {
     let mut changes = Vec::with_capacity(alloc, rowids.len())?;
@@ -47,7 +48,8 @@ pub fn take_rows<P: WritePages>(
     rows: &Many<SourceRow>,
 ) -> R<()>
     ensures taken { IsTrue (P.Pages.tells (P.Pages.below pages.old))
-        → TakesRows (P.Pages.map pages.old) (P.Pages.map pages.new) (P.Pages.limits (P.Pages.below pages.old)).page
+        → TakesRows (P.Pages.map pages.old) (P.Pages.map pages.new)
+        (P.Pages.limits (P.Pages.below pages.old)).page
         table condition.now rows.now result }
     ensures kept { P.Pages.below pages.new ≡ P.Pages.below pages.old }
     ensures causes { Causes result (P.Pages.failures pages.old) (P.Pages.failures pages.new)

@@ -24,8 +24,8 @@ pub fn update_sets_its_rows()
 
 /// Sets values in the rows of a table's tree for which a condition is true, or in all where there is none, and answers what these rows have
 /// become. The rows given are enough of the table's for the condition. They are chosen before the first is set. (What the condition, SET's
-/// expressions and `change_rows` refuse, a real, and `TooLong` for a row that no record can hold; only what `change_rows` refuses leaves rows
-/// that are set.)
+/// expressions and `change_rows` refuse, a real, `NotNull` for NULL in a column that refuses it, and `TooLong` for a row that no record can
+/// hold; only what `change_rows` refuses leaves rows that are set.)
 pub fn set_new_rows<P: WritePages>(
     alloc: Global,
     pages: &mut P,
@@ -35,14 +35,15 @@ pub fn set_new_rows<P: WritePages>(
     rows: &Many<SourceRow>,
 ) -> R<Vec<TableRow>>
     ensures set { IsTrue (P.Pages.tells (P.Pages.below pages.old))
-        → SetsRows (P.Pages.map pages.old) (P.Pages.map pages.new) (P.Pages.limits (P.Pages.below pages.old)).page
-        table.now.root table.now.columns sets.now condition.now rows.now result }
-    ensures rows { TellsChanged table.now.columns sets.now condition.now rows.now result }
+        → SetsRows (P.Pages.map pages.old) (P.Pages.map pages.new)
+        (P.Pages.limits (P.Pages.below pages.old)).page
+        table.now.root table.now sets.now condition.now rows.now result }
+    ensures rows { TellsChanged table.now sets.now condition.now rows.now result }
     ensures kept { P.Pages.below pages.new ≡ P.Pages.below pages.old }
     ensures causes { Causes result (P.Pages.failures pages.old) (P.Pages.failures pages.new)
         (P.Pages.count pages.new ≡ (P.Pages.limits (P.Pages.below pages.new)).most) }
 {
-    let new = changed_rows(alloc, table.columns.as_slice(), sets, rows, condition)?;
+    let new = changed_rows(alloc, table, sets, rows, condition)?;
     let changes = changes_of(alloc, &new)?;
     change_rows(alloc, pages, table.root, &changes)?;
     Ok(new)

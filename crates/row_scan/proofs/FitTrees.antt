@@ -14,6 +14,7 @@ use Rattle.sqlval.specs.Faults.{IsOutside}
 use Rattle.sqlval.specs.Gives.{Refuses}
 use Rattle.sqlval.specs.Lists.{is_rising}
 use Rattle.sqlval.specs.declared.affinity.Affinity.TheVariants as to
+use Rattle.sqlval.specs.declared.collation.Collation.TheVariants.{Binary}
 use Rattle.sqlval.specs.declared.fault.Fault.{Fault}
 use Rattle.sqlval.specs.declared.fault.Fault.TheVariants.{Memory}
 use Rattle.sqlval.specs.declared.value.Value.{Value}
@@ -27,7 +28,7 @@ use Rattle.tree_page.specs.Cells.{Pairwise}
 use Rattle.tree_table.specs.Rows.{rows_from}
 use Rattle.tree_table.specs.Scanning.{BeginsAll, GivesBatch}
 use Rattle.tree_table.specs.Tree.{IsTableTree}
-use Rattle.catalog.specs.Listed.{plain_column, plain_table}
+use Rattle.catalog.specs.Listed.{as_column, plain_table}
 use Rattle.catalog.specs.Rows.{is_row, is_value}
 use Rattle.catalog.specs.declared.tables.Column.{Column}
 use Rattle.catalog.specs.declared.tables.Table.{Table}
@@ -127,10 +128,10 @@ each_fit t held width [] (row ∷ rows) same each = absurd each
 each_fit t held width (entry ∷ entries) [] same each = absurd each
 each_fit t held width (entry ∷ entries) (row ∷ rows) same each =
     both_true (is_row (plain_table t held) row) (list_all (is_row (plain_table t held)) rows)
-    (both_true (is_word row.0 && length row.1 == length (map plain_column t.columns) && list_all is_value row.1) true
-    (both_true (is_word row.0 && length row.1 == length (map plain_column t.columns)) (list_all is_value row.1)
-    (both_true (is_word row.0) (length row.1 == length (map plain_column t.columns)) each.0.word
-    (eq-eqb (length row.1) (length (map plain_column t.columns)) (each.0.is.full ∙ same ∙ sym (length-map t.columns plain_column)))) each.0.values) refl)
+    (both_true (is_word row.0 && length row.1 == length (map as_column t.columns) && list_all is_value row.1) true
+    (both_true (is_word row.0 && length row.1 == length (map as_column t.columns)) (list_all is_value row.1)
+    (both_true (is_word row.0) (length row.1 == length (map as_column t.columns)) each.0.word
+    (eq-eqb (length row.1) (length (map as_column t.columns)) (each.0.is.full ∙ same ∙ sym (length-map t.columns as_column)))) each.0.values) refl)
     (each_fit t held width entries rows same each.1)
 
 -- the entries of a tree that are fit rows
@@ -145,7 +146,7 @@ holds_fit pages size root width entries used tree have =
     }
 
 abbrev column : Column
-column = record { name = []; affinity = to.Blob }
+column = record { name = []; affinity = to.Blob; collation = Binary; is_filled = false; default = Null }
 
 -- a table of so many columns
 abbrev some_table : ℕ → Table
@@ -168,7 +169,7 @@ fit_each t held width (entry ∷ entries) [] each fit = absurd each
 fit_each t held width (entry ∷ entries) (row ∷ rows) each fit =
     let one = first_of (is_row (plain_table t held) row) (list_all (is_row (plain_table t held)) rows) fit in
     let a = is_word row.0 in
-    let b = length row.1 == length (map plain_column t.columns) in
+    let b = length row.1 == length (map as_column t.columns) in
     let c = list_all is_value row.1 in (
       record { is = each.0; word = word_first a b c one; values = values_last a b c one },
       fit_each t held width entries rows each.1 (second_of (is_row (plain_table t held) row) (list_all (is_row (plain_table t held)) rows) fit),

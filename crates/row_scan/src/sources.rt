@@ -59,7 +59,8 @@ pub fn source_rows_at<P: Pages>(
     rowid: i64,
 ) -> R<Many<SourceRow>>
     ensures loaded { IsTrue (P.Pages.tells (P.Pages.below pages.old))
-        → LoadsRowsAt (P.Pages.map pages.old) (P.Pages.limits (P.Pages.below pages.old)).page table rowid result }
+        → LoadsRowsAt (P.Pages.map pages.old)
+        (P.Pages.limits (P.Pages.below pages.old)).page table rowid result }
     ensures stays { Stays P.Pages.below P.Pages.map P.Pages.count P.Pages.failures result pages.old pages.new }
 {
     records_hold_their_values();
@@ -110,7 +111,8 @@ pub fn next_source_rows<P: Pages>(
     rows: Many<SourceRow>,
 ) -> R<Many<SourceRow>>
     ensures given { IsTrue (P.Pages.tells (P.Pages.below pages.old))
-        → GivesRows (P.Pages.map pages.old) (P.Pages.limits (P.Pages.below pages.old)).page cursor.old.root cursor.old.next cursor.new.next result }
+        → GivesRows (P.Pages.map pages.old) (P.Pages.limits (P.Pages.below pages.old)).page
+        cursor.old.root cursor.old.next cursor.new.next result }
     ensures forward { IfOk result (λ rows. IsForward cursor.old.next cursor.new.next) }
     ensures root { cursor.new.root ≡ cursor.old.root }
     ensures stays { Stays P.Pages.below P.Pages.map P.Pages.count P.Pages.failures result pages.old pages.new }

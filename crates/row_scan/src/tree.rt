@@ -53,7 +53,8 @@ fn can_all_be_stored(values: &Record<'_>) -> bool
 /// of more than 1,000,000.)
 fn check_row(alloc: Global, row: BatchEntry<'_>, width: usize) -> R<()>
     ensures found { OnOk result ((read : TableRow) × IsFitRow width (entry_in row.entry) read) }
-    ensures only { (read : TableRow) → IsFitRow width (entry_in row.entry) read → IfErr result (λ fault. fault ≡ Fault.Memory) }
+    ensures only { (read : TableRow) → IsFitRow width (entry_in row.entry) read
+        → IfErr result (λ fault. fault ≡ Fault.Memory) }
     ensures not_disk { IfErr result (λ fault. IsNotDiskFault fault) }
 {
     let source = source_of(alloc, row, width)?;
@@ -66,8 +67,10 @@ fn check_row(alloc: Global, row: BatchEntry<'_>, width: usize) -> R<()>
 
 /// Checks each row of a batch. (As `check_row`.)
 fn check_batch(alloc: Global, batch: &Batch, width: usize) -> R<()>
-    ensures found { OnOk result ((rows : List TableRow) × Pairwise (IsFitRow width) batch.now rows) }
-    ensures only { (rows : List TableRow) → Pairwise (IsFitRow width) batch.now rows → IfErr result (λ fault. fault ≡ Fault.Memory) }
+    ensures found { OnOk result ((rows : List TableRow)
+        × Pairwise (IsFitRow width) batch.now rows) }
+    ensures only { (rows : List TableRow) → Pairwise (IsFitRow width) batch.now rows
+        → IfErr result (λ fault. fault ≡ Fault.Memory) }
     ensures not_disk { IfErr result (λ fault. IsNotDiskFault fault) }
 {
     'rows: for index in 0..batch.len() {
@@ -80,9 +83,11 @@ fn check_batch(alloc: Global, batch: &Batch, width: usize) -> R<()>
 /// refuse.)
 pub fn check_tree_rows<P: Pages>(alloc: Global, pages: &mut P, table: BoundSource) -> R<()>
     ensures found { IsTrue (P.Pages.tells (P.Pages.below pages.old))
-        → FindsFit (P.Pages.map pages.old) (P.Pages.limits (P.Pages.below pages.old)).page table.root table.width result }
+        → FindsFit (P.Pages.map pages.old) (P.Pages.limits (P.Pages.below pages.old)).page
+        table.root table.width result }
     ensures only { IsTrue (P.Pages.tells (P.Pages.below pages.old))
-        → PassesFit (P.Pages.map pages.old) (P.Pages.limits (P.Pages.below pages.old)).page table.root table.width result }
+        → PassesFit (P.Pages.map pages.old) (P.Pages.limits (P.Pages.below pages.old)).page
+        table.root table.width result }
     ensures stays { Stays P.Pages.below P.Pages.map P.Pages.count P.Pages.failures result pages.old pages.new }
 {
     let mut batch = Batch::new(alloc);

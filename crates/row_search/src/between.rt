@@ -50,7 +50,8 @@ pub(crate) fn rows_between<P: Pages>(
     high: i64,
 ) -> R<Many<SourceRow>>
     ensures loaded { IsTrue (P.Pages.tells (P.Pages.below pages.old))
-        → LoadsBetween (P.Pages.map pages.old) (P.Pages.limits (P.Pages.below pages.old)).page table low high result }
+        → LoadsBetween (P.Pages.map pages.old)
+        (P.Pages.limits (P.Pages.below pages.old)).page table low high result }
     ensures stays { Stays P.Pages.below P.Pages.map P.Pages.count P.Pages.failures result pages.old pages.new }
 {
     rows_are_held();

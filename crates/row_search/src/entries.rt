@@ -60,7 +60,8 @@ fn value_at<'a>(entry: &Record<'a>, place: usize) -> Field<'a>
 /// Whether the value after a key's lies in a range, if there is one.
 fn goes_on_in(key: Key<'_>, range: Option<&Range>, entry: &Record<'_>) -> bool
     ensures { result
-        ≡ finding.goes_on_in key.entry.columns.now key.entry.values.now (option_map (λ r. r.now) range.entry) entry.now }
+        ≡ finding.goes_on_in key.entry.columns.now key.entry.values.now
+        (option_map (λ r. r.now) range.entry) entry.now }
 {
     let Some(range) = range else {
         return true;
@@ -76,7 +77,8 @@ fn goes_on_in(key: Key<'_>, range: Option<&Range>, entry: &Record<'_>) -> bool
 /// Whether an entry begins with a key, and its next value lies in a range, if there is one.
 fn is_sought(key: Key<'_>, range: Option<&Range>, entry: &Record<'_>) -> bool
     ensures { result
-        ≡ finding.is_sought key.entry.columns.now key.entry.values.now (option_map (λ r. r.now) range.entry) entry.now }
+        ≡ finding.is_sought key.entry.columns.now key.entry.values.now
+        (option_map (λ r. r.now) range.entry) entry.now }
 {
     compare_entry(key, entry).is_eq() && goes_on_in(key, range, entry)
 }
@@ -92,7 +94,8 @@ fn sought_rowid(
 ) -> R<Option<i64>>
     ensures only { (entry : Entry) → IsRecord bytes.now entry → EndsWithRowid entry
         → IsOrMemory (λ found. found
-        ≡ passing_rowid (finding.is_sought key.entry.columns.now key.entry.values.now (option_map (λ r. r.now) range.entry)) entry) result }
+        ≡ passing_rowid (finding.is_sought key.entry.columns.now key.entry.values.now
+        (option_map (λ r. r.now) range.entry)) entry) result }
     ensures not_disk { IfErr result IsNotDiskFault }
 {
     let entry = Record::over(alloc, bytes)?;
@@ -115,11 +118,13 @@ fn add_rowids(
     records: &[Vec<u8>],
     rowids: &mut Vec<i64>,
 ) -> R<bool>
-    ensures only { (given : List Entry) → Pairwise IsRecord (map (λ bytes. bytes.items) records.now) given → AllByRecursion EndsWithRowid given
+    ensures only { (given : List Entry) → Pairwise IsRecord
+        (map (λ bytes. bytes.items) records.now) given → AllByRecursion EndsWithRowid given
         → IsOrMemory (λ all. AddsFirst
         (finding.is_sought key.entry.columns.now key.entry.values.now (option_map (λ r. r.now) range.entry))
         given rowids.old.items rowids.new.items all) result }
-    ensures grown { IfOk result (λ all. IsTrue all → length rowids.new.items ≡ length rowids.old.items + length records.now) }
+    ensures grown { IfOk result (λ all. IsTrue all
+        → length rowids.new.items ≡ length rowids.old.items + length records.now) }
     ensures not_disk { IfErr result IsNotDiskFault }
 {
     'records: for record in records {
@@ -143,7 +148,8 @@ fn add_sought<P: Pages>(
 ) -> R<()>
     ensures added { IsTrue (P.Pages.tells (P.Pages.below pages.old))
         → AddsRowids (P.Pages.map pages.old) (P.Pages.limits (P.Pages.below pages.old)).page
-        root key.entry.columns.now key.entry.values.now (option_map (λ r. r.now) range.entry) rowids.old.items rowids.new.items result }
+        root key.entry.columns.now key.entry.values.now
+        (option_map (λ r. r.now) range.entry) rowids.old.items rowids.new.items result }
     ensures stays { Stays P.Pages.below P.Pages.map P.Pages.count P.Pages.failures result pages.old pages.new }
 {
     let mut cursor = seek(alloc, root, key.values, range)?;

@@ -26,8 +26,10 @@ pub fn found_rows<P: Pages>(
     indexes: &[Index],
     search: Search,
 ) -> R<Many<SourceRow>>
-    ensures found { (n : ℕ) (condition : Asked) → IsTrue (P.Pages.tells (P.Pages.below pages.old)) → IsSought indexes.now n condition search
-        → FindsSought (P.Pages.map pages.old) (P.Pages.limits (P.Pages.below pages.old)).page table indexes.now search result }
+    ensures found { (n : ℕ) (condition : Asked) → IsTrue (P.Pages.tells (P.Pages.below pages.old))
+        → IsSought indexes.now n condition search
+        → FindsSought (P.Pages.map pages.old)
+        (P.Pages.limits (P.Pages.below pages.old)).page table indexes.now search result }
     ensures stays { Stays P.Pages.below P.Pages.map P.Pages.count P.Pages.failures result pages.old pages.new }
 {
     match search {
@@ -54,7 +56,8 @@ fn needed_by<P: Pages>(
     condition: &Term,
 ) -> R<Many<SourceRow>>
     ensures loaded { IsTrue (P.Pages.tells (P.Pages.below pages.old))
-        → FindsNeeded (P.Pages.map pages.old) (P.Pages.limits (P.Pages.below pages.old)).page table indexes.now (Some condition.now) result }
+        → FindsNeeded (P.Pages.map pages.old)
+        (P.Pages.limits (P.Pages.below pages.old)).page table indexes.now (Some condition.now) result }
     ensures stays { Stays P.Pages.below P.Pages.map P.Pages.count P.Pages.failures result pages.old pages.new }
 {
     match search_for(alloc, condition, 0, indexes)? {
@@ -73,7 +76,8 @@ pub fn needed_rows<P: Pages>(
     condition: &Option<Term>,
 ) -> R<Many<SourceRow>>
     ensures loaded { IsTrue (P.Pages.tells (P.Pages.below pages.old))
-        → FindsNeeded (P.Pages.map pages.old) (P.Pages.limits (P.Pages.below pages.old)).page table indexes.now condition.now result }
+        → FindsNeeded (P.Pages.map pages.old)
+        (P.Pages.limits (P.Pages.below pages.old)).page table indexes.now condition.now result }
     ensures stays { Stays P.Pages.below P.Pages.map P.Pages.count P.Pages.failures result pages.old pages.new }
 {
     match condition {

@@ -20,7 +20,8 @@ fn add_row<P: Pages>(
     rows: &mut Vec<SourceRow>,
 ) -> R<()>
     ensures added { IsTrue (P.Pages.tells (P.Pages.below pages.old))
-        → AddsRowsAt (P.Pages.map pages.old) (P.Pages.limits (P.Pages.below pages.old)).page table rowid rows.old.items rows.new.items result }
+        → AddsRowsAt (P.Pages.map pages.old) (P.Pages.limits (P.Pages.below pages.old)).page table
+        rowid rows.old.items rows.new.items result }
     ensures stays { Stays P.Pages.below P.Pages.map P.Pages.count P.Pages.failures result pages.old pages.new }
 {
     let found = source_rows_at(alloc, pages, table, rowid)?;
@@ -37,7 +38,8 @@ pub(crate) fn rows_of<P: Pages>(
     rowids: &[i64],
 ) -> R<Many<SourceRow>>
     ensures loaded { IsTrue (P.Pages.tells (P.Pages.below pages.old))
-        → LoadsRowsOf (P.Pages.map pages.old) (P.Pages.limits (P.Pages.below pages.old)).page table rowids.now result }
+        → LoadsRowsOf (P.Pages.map pages.old)
+        (P.Pages.limits (P.Pages.below pages.old)).page table rowids.now result }
     ensures stays { Stays P.Pages.below P.Pages.map P.Pages.count P.Pages.failures result pages.old pages.new }
 {
     let mut rows = Vec::with_capacity(alloc, rowids.len())?;

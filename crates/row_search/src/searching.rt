@@ -49,7 +49,8 @@ pub(crate) fn rows_by_key<P: Pages>(
     key: Many<Value>,
 ) -> R<Many<SourceRow>>
     ensures loaded { IsTrue (P.Pages.tells (P.Pages.below pages.old))
-        → LoadsKeyed (P.Pages.map pages.old) (P.Pages.limits (P.Pages.below pages.old)).page table index.now.root index.now.columns key result }
+        → LoadsKeyed (P.Pages.map pages.old) (P.Pages.limits (P.Pages.below pages.old)).page table
+        index.now.root index.now.columns key result }
     ensures stays { Stays P.Pages.below P.Pages.map P.Pages.count P.Pages.failures result pages.old pages.new }
 {
     sought_rows(alloc, pages, table, index, key.as_slice(), None)

@@ -19,7 +19,8 @@ impl<D: Disk + Drop> Connections<D> {
     fn turn_to(&mut self, connection: u32) -> R<()>
         ensures turned { OnOk result (Switches connection self.old self.new) }
         ensures free { OnOk result (first_refusal (has_failed_in self.old) connection ≡ Ok tt) }
-        ensures refused { IfErr result (λ fault. (first_refusal (has_failed_in self.old) connection ≡ Err fault) × (self.new ≡ self.old)) }
+        ensures refused { IfErr result (λ fault.
+            (first_refusal (has_failed_in self.old) connection ≡ Err fault) × (self.new ≡ self.old)) }
     {
         self.check(connection)?;
         self.switch(connection);

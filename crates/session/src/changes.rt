@@ -31,8 +31,10 @@ fn change_pages<D: Disk + Drop>(
 ) -> R<Option<Catalog>>
     ensures cause { HasCause true result log.old log.new }
     ensures reads { Tells log.old → ShowTheSame log.old log.new }
-    ensures applies { (db : Database) → WhereSupported (written write.entry) (CanChange (listing log.old catalog.now) writer.old db
-        → MakesCatalog (written write.entry) (listing log.old catalog.now) writer.old db result log.new writer.new) }
+    ensures applies { (db : Database) → WhereSupported (written write.entry)
+        (CanChange (listing log.old catalog.now) writer.old db
+        → MakesCatalog (written write.entry) (listing log.old catalog.now) writer.old db result
+        log.new writer.new) }
     ensures listed { IfOk result (λ next. is_some next ≡ changes_objects write.entry) }
     ensures marks { marks_of writer.new ≡ marks_of writer.old }
     ensures stands { IsOverTheSame writer.old writer.new }
@@ -58,10 +60,13 @@ pub fn apply<D: Disk + Drop>(
 ) -> R<()>
     ensures cause { HasCause true result log.old log.new }
     ensures reads { Tells log.old → ShowTheSame log.old log.new }
-    ensures applies { (db : Database) → WhereSupported (written write.entry) (CanChange (listing log.old catalog.old) writer.old db
-        → ChangesPages (written write.entry) (listing log.old catalog.old) writer.old db result (listing log.new catalog.new) writer.new) }
+    ensures applies { (db : Database) → WhereSupported (written write.entry)
+        (CanChange (listing log.old catalog.old) writer.old db
+        → ChangesPages (written write.entry) (listing log.old catalog.old) writer.old db result
+        (listing log.new catalog.new) writer.new) }
     // The commit is to count the schema cookie up.
-    ensures noted { changes_objects write.entry ≡ true → OnOk result (IsTrue (makes_objects writer.new)) }
+    ensures noted { changes_objects write.entry ≡ true
+        → OnOk result (IsTrue (makes_objects writer.new)) }
     ensures marks { marks_of writer.new ≡ marks_of writer.old }
     ensures stands { IsOverTheSame writer.old writer.new }
 {

@@ -49,7 +49,8 @@ impl<D: Disk + Drop> Connections<D> {
     pub(crate) fn write_changes(&mut self, writer: &mut Writer) -> R<()>
         ensures cause { HasCauseIn true result self.old self.new }
         ensures rest { KeepsAllButFiles self.old self.new }
-        ensures writes { (db was : Database) → has_failed_in self.old ≡ false → CanApply self.old writer.old db
+        ensures writes { (db was : Database) → has_failed_in self.old ≡ false
+            → CanApply self.old writer.old db
             → ShowsDatabase (newest_view (files_of self.old)) (committed_in self.old.catalog) was
             → WritesChanges self.old writer.old db result (files_of self.new) writer.new }
     {
@@ -67,7 +68,8 @@ impl<D: Disk + Drop> Connections<D> {
     pub(crate) fn commit_writer(&mut self, writer: &mut Writer) -> R<()>
         ensures cause { HasCauseIn true result self.old self.new }
         ensures marks { MarksFailure result self.old self.new }
-        ensures commits { (db was : Database) → has_failed_in self.old ≡ false → CanApply self.old writer.old db
+        ensures commits { (db was : Database) → has_failed_in self.old ≡ false
+            → CanApply self.old writer.old db
             → ShowsDatabase (newest_view (files_of self.old)) (committed_in self.old.catalog) was
             → CommitsThen self.old writer.old db result self.new writer.new }
     {
@@ -99,7 +101,8 @@ impl<D: Disk + Drop> Connections<D> {
         ensures marks { MarksFailure result self.old self.new }
         ensures refused { IfErr result (IsRefusedHere self.old statement.Commit) }
         // A step of COMMIT, and of a RELEASE that comes to the same.
-        ensures step { (s : Statement) → CommitsBy self.old s → StepsOn self.old s (done_reply result) self.new }
+        ensures step { (s : Statement) → CommitsBy self.old s
+            → StepsOn self.old s (done_reply result) self.new }
     {
         match mem::replace(&mut self.transaction, Transaction::Idle) {
             Transaction::Idle => Err(Fault::NoTransaction),
@@ -124,8 +127,10 @@ impl<D: Disk + Drop> Connections<D> {
         ensures cause { HasCauseIn false result self.old self.new }
         ensures marks { MarksFailure result self.old self.new }
         ensures refused { IfErr result (IsRefusedHere self.old (statement.Checkpoint mode)) }
-        ensures copied { CopiesAnswered self.old.parked.items (files_of self.old) (statement.Checkpoint mode) (rows_reply result) (files_of self.new) }
-        ensures early { KeepsDisksWhereShort (statement.Checkpoint mode) (files_of self.old) result (files_of self.new) }
+        ensures copied { CopiesAnswered self.old.parked.items (files_of self.old)
+            (statement.Checkpoint mode) (rows_reply result) (files_of self.new) }
+        ensures early { KeepsDisksWhereShort (statement.Checkpoint mode) (files_of self.old) result
+            (files_of self.new) }
         ensures step { StepsOn self.old (statement.Checkpoint mode) (rows_reply result) self.new }
     {
         if !self.is_idle() {

@@ -19,7 +19,7 @@ mod writes;
 
 ghost use Rattle.session.specs.Laws.{LeavesOthers, RefusalsAddNothing};
 
-pub use forms::{is_supported, is_table_supported};
+pub use forms::is_supported;
 pub use laws::stored_files_hold;
 pub use seats::Seats;
 pub use transactions::Connections;

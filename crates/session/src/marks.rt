@@ -12,7 +12,8 @@ use sqlval::{Name, R};
 
 /// Sets marks. (`Memory` alone.)
 pub fn mark_times(writer: &mut Writer, times: usize) -> R<()>
-    ensures marked { OnOk result (marks_of writer.new ≡ marks_of writer.old ++ replicate times (now_of writer.old)) }
+    ensures marked { OnOk result (marks_of writer.new ≡ marks_of writer.old ++ replicate times
+        (now_of writer.old)) }
     ensures same { now_of writer.new ≡ now_of writer.old }
     ensures stands { IsOverTheSame writer.old writer.new }
     ensures refused { IfErr result (λ fault. fault ≡ Memory) }

@@ -52,7 +52,8 @@ impl<D: Disk + Drop> Connections<D> {
         ensures cause { HasCauseIn false result self.old self.new }
         ensures reads { ReadsFiles self.old self.new }
         ensures step { HasRoom self.old.catalog → is_reading reading ≡ true
-            → StepsOn (with_transaction self.old reading) (statement.Savepoint name) (done_reply result) self.new }
+            → StepsOn (with_transaction self.old reading) (statement.Savepoint name)
+            (done_reply result) self.new }
     {
         self.transaction = reading;
         self.catalog.save(name)
@@ -63,7 +64,8 @@ impl<D: Disk + Drop> Connections<D> {
         ensures cause { HasCauseIn false result self.old self.new }
         ensures reads { ReadsFiles self.old self.new }
         ensures step { HasRoom self.old.catalog
-            → StepsOn (with_transaction self.old (transaction.Writing writer)) (statement.Savepoint name) (done_reply result) self.new }
+            → StepsOn (with_transaction self.old (transaction.Writing writer))
+            (statement.Savepoint name) (done_reply result) self.new }
     {
         let mut writer = writer;
         let result = save_marked(&mut self.catalog, &mut writer, name);

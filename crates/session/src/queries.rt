@@ -99,7 +99,8 @@ impl<D: Disk + Drop> Connections<D> {
     pub(crate) fn select_seen(&mut self, query: &Query) -> R<Rows>
         ensures cause { HasCauseIn false result self.old self.new }
         ensures reads { ReadsFiles self.old self.new }
-        ensures step { SeesNewest self.old → StepsOn self.old (statement.Select query.now) (rows_reply result) self.new }
+        ensures step { SeesNewest self.old → StepsOn self.old (statement.Select query.now)
+            (rows_reply result) self.new }
     {
         let rows = self.read(query)?;
         self.begin_reading();

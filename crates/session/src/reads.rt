@@ -42,7 +42,8 @@ fn read_snapshot<D: Disk + Drop>(
 ) -> R<Rows>
     ensures cause { HasCause false result log.old log.new }
     ensures same { Tells log.old → ShowTheSame log.old log.new }
-    ensures answered { (db : Database) → Tells log.old → seen_by snapshot ≤ (state_of log.old).frames
+    ensures answered { (db : Database) → Tells log.old
+        → seen_by snapshot ≤ (state_of log.old).frames
         → ShowsDatabase (view_at log.old snapshot) (tables_of catalog.now) db
         → AnswersRead (λ rows. map values_of rows.items) (read_on db query.now) result }
 {

@@ -87,7 +87,8 @@ impl SavedCatalogs {
     /// The tables are those at the first savepoint again; the savepoints stay.
     fn forget_changes(&mut self)
         ensures items { self.new.savepoints.items ≡ map unchanged self.old.savepoints.items }
-        ensures rest { (self.new.committed ≡ self.old.committed) × (self.new.changed ≡ self.old.changed) × (self.new.began ≡ self.old.began) }
+        ensures rest { (self.new.committed ≡ self.old.committed)
+            × (self.new.changed ≡ self.old.changed) × (self.new.began ≡ self.old.began) }
     {
         'savepoints: for savepoint in self.savepoints.iter_mut() {
             savepoint.changed = None;
@@ -144,7 +145,8 @@ impl SavedCatalogs {
     /// The place of the newest savepoint of a name.
     pub fn place_of(&self, name: &str) -> Option<usize>
         ensures found { IfSome result (λ place. IsNewestNamed name.now (names_in self.now) place) }
-        ensures none { IfNone result (list_any (λ other. is_same_name other name.now) (names_in self.now) ≡ false) }
+        ensures none { IfNone result (list_any (λ other. is_same_name other name.now)
+            (names_in self.now) ≡ false) }
     {
         let mut place = self.savepoints.len();
         'places: while place > 0 {
@@ -180,7 +182,8 @@ impl SavedCatalogs {
 
     /// Goes back to a savepoint, which stays; those made after it are gone.
     pub fn back_to(&mut self, place: usize)
-        ensures { place < length (savepoints_in self.old).points → GoesBackTo place self.old self.new }
+        ensures { place < length (savepoints_in self.old).points
+            → GoesBackTo place self.old self.new }
     {
         if place >= self.savepoints.len() {
             return;

@@ -35,7 +35,8 @@ impl Transaction {
 
     /// Goes back to a mark of its writer, where it has written; the mark stays.
     pub fn back_to(&mut self, place: usize)
-        ensures { OnWriter (λ old new. place < length (marks_of old) → GoesBackToMark place old new) self.old self.new }
+        ensures { OnWriter (λ old new. place < length (marks_of old) → GoesBackToMark place old new)
+            self.old self.new }
     {
         if let Transaction::Writing(writer) = self {
             go_back(writer, place);
@@ -44,7 +45,8 @@ impl Transaction {
 
     /// Lets go of a mark of its writer and of those set after it, where it has written.
     pub fn release(&mut self, place: usize)
-        ensures { OnWriter (λ old new. place < length (marks_of old) → ReleasesMarks place old new) self.old self.new }
+        ensures { OnWriter (λ old new. place < length (marks_of old) → ReleasesMarks place old new)
+            self.old self.new }
     {
         if let Transaction::Writing(writer) = self {
             let_go(writer, place);
@@ -113,7 +115,8 @@ pub fn trade(
     transaction: &mut Transaction,
     catalog: &mut SavedCatalogs,
 )
-    ensures { Trades place seats.old.items (record { transaction = transaction.old; catalog = catalog.old }) seats.new.items
+    ensures { Trades place seats.old.items (record
+        { transaction = transaction.old; catalog = catalog.old }) seats.new.items
         (record { transaction = transaction.new; catalog = catalog.new }) }
 {
     if place < seats.len() {

@@ -70,7 +70,8 @@ impl<D: Disk + Drop> Connections<D> {
         ensures whole { IsFalse (has_failed_in result) }
         // Where the files hold a database and the catalog lists its tables, the connections represent its machine.
         ensures shown { (db : Database) → Tells log → IsSettled log → AreFresh seats
-            → ShowsDatabase (newest_view log) (tables_of (catalog_in seats)) db → RepresentsRunning result (fresh db) }
+            → ShowsDatabase (newest_view log) (tables_of (catalog_in seats)) db
+            → RepresentsRunning result (fresh db) }
     {
         let Seats {
             newest,
@@ -135,7 +136,8 @@ impl<D: Disk + Drop> Connections<D> {
         // `check` is the test.
         requires free { first_refusal (has_failed_in self.old) connection ≡ Ok tt }
         // A form that isn't supported yet is refused as such, and changes nothing.
-        ensures unsupported { IsFalse (forms.is_supported statement.now) → AnswersUnsupported result × (self.new ≡ self.old) }
+        ensures unsupported { IsFalse (forms.is_supported statement.now) → AnswersUnsupported result
+            × (self.new ≡ self.old) }
         ensures cause { HasCauseIn (may_be_full statement.now) result self.old self.new }
         ensures marks { MarksFailure result self.old self.new }
         // Memory is short only where it is taken, and a COMMIT is refused as `Full` only past the limits.
@@ -143,7 +145,8 @@ impl<D: Disk + Drop> Connections<D> {
         // A checkpoint takes its memory before it changes a file.
         ensures early { KeepsDisksWhereShort statement.now (files_of self.old) result (files_of self.new) }
         // The reply is a step of each machine that was represented, and the machine after it is represented then. (A CREATE carries its own text.)
-        ensures step { KeepsItsText statement.now → Steps self.old connection statement.now (rows_reply result) self.new }
+        ensures step { KeepsItsText statement.now
+            → Steps self.old connection statement.now (rows_reply result) self.new }
     {
         if !is_supported(statement) {
             return unsupported_form();
@@ -208,9 +211,11 @@ impl<D: Disk + Drop> Connections<D> {
         ensures cause { HasCauseIn (may_be_full statement.now) result self.old self.new }
         ensures marks { MarksFailure result self.old self.new }
         ensures refused { IfErr result (IsRefusedHere self.old statement.now) }
-        ensures copied { CopiesAnswered self.old.parked.items (files_of self.old) statement.now (rows_reply result) (files_of self.new) }
+        ensures copied { CopiesAnswered self.old.parked.items (files_of self.old) statement.now
+            (rows_reply result) (files_of self.new) }
         ensures early { KeepsDisksWhereShort statement.now (files_of self.old) result (files_of self.new) }
-        ensures step { WhereSupported statement.now (StepsOn self.old statement.now (rows_reply result) self.new) }
+        ensures step { WhereSupported statement.now
+            (StepsOn self.old statement.now (rows_reply result) self.new) }
     {
         match statement {
             Statement::Select(query) => return self.select(query),
@@ -263,7 +268,8 @@ impl<D: Disk + Drop> Connections<D> {
         ensures reads { ReadsFiles self.old self.new }
         ensures done { result ≡ Ok tt }
         ensures begun { self.new ≡ with_transaction self.old transaction.Begun }
-        ensures step { is_idle self.old.transaction ≡ true → StepsOn self.old (statement.Begin Deferred) (done_reply result) self.new }
+        ensures step { is_idle self.old.transaction ≡ true
+            → StepsOn self.old (statement.Begin Deferred) (done_reply result) self.new }
     {
         self.transaction = Transaction::Begun;
         Ok(())
@@ -273,7 +279,8 @@ impl<D: Disk + Drop> Connections<D> {
     pub(crate) fn begin_immediate_here(&mut self) -> R<()>
         ensures cause { HasCauseIn false result self.old self.new }
         ensures reads { ReadsFiles self.old self.new }
-        ensures step { is_idle self.old.transaction ≡ true → StepsOn self.old (statement.Begin Immediate) (done_reply result) self.new }
+        ensures step { is_idle self.old.transaction ≡ true
+            → StepsOn self.old (statement.Begin Immediate) (done_reply result) self.new }
     {
         if self.is_busy() {
             return Err(Fault::Busy);

@@ -32,7 +32,8 @@ impl<D: Disk + Drop> Connections<D> {
     pub(crate) fn write(&mut self, write: Write<'_>) -> R<()>
         ensures cause { HasCauseIn true result self.old self.new }
         ensures marks { MarksFailure result self.old self.new }
-        ensures step { WhereSupported (written write.entry) (StepsOn self.old (written write.entry) (done_reply result) self.new) }
+        ensures step { WhereSupported (written write.entry)
+            (StepsOn self.old (written write.entry) (done_reply result) self.new) }
     {
         match mem::replace(&mut self.transaction, Transaction::Idle) {
             Transaction::Idle => self.autocommit(write),
@@ -46,7 +47,8 @@ impl<D: Disk + Drop> Connections<D> {
         ensures cause { HasCauseIn true result self.old self.new }
         ensures reads { ReadsFiles self.old self.new }
         ensures step { WhereSupported (written write.entry)
-            (StepsOn (with_transaction self.old (transaction.Writing writer)) (written write.entry) (done_reply result) self.new) }
+            (StepsOn (with_transaction self.old (transaction.Writing writer)) (written write.entry)
+            (done_reply result) self.new) }
     {
         let mut writer = writer;
         let result = self.apply_marked(&mut writer, write);
@@ -107,7 +109,8 @@ impl<D: Disk + Drop> Connections<D> {
     pub(crate) fn write_alone(&mut self, write: Write<'_>) -> R<()>
         ensures cause { HasCauseIn true result self.old self.new }
         ensures marks { MarksFailure result self.old self.new }
-        ensures step { WhereSupported (written write.entry) (is_idle self.old.transaction ≡ true → MayWrite self.old
+        ensures step { WhereSupported (written write.entry)
+            (is_idle self.old.transaction ≡ true → MayWrite self.old
             → StepsOn self.old (written write.entry) (done_reply result) self.new) }
     {
         let newest = self.log.begin();
@@ -120,7 +123,8 @@ impl<D: Disk + Drop> Connections<D> {
     pub(crate) fn commit_autocommit(&mut self, writer: Writer) -> R<()>
         ensures cause { HasCauseIn true result self.old self.new }
         ensures marks { MarksFailure result self.old self.new }
-        ensures ends { (db was : Database) → has_failed_in self.old ≡ false → CanApply self.old writer db
+        ensures ends { (db was : Database) → has_failed_in self.old ≡ false
+            → CanApply self.old writer db
             → ShowsDatabase (newest_view (files_of self.old)) (committed_in self.old.catalog) was
             → EndsAlone self.old writer db result self.new }
     {
@@ -138,7 +142,8 @@ impl<D: Disk + Drop> Connections<D> {
     pub(crate) fn start_writing(&mut self, write: Write<'_>) -> R<()>
         ensures cause { HasCauseIn true result self.old self.new }
         ensures reads { ReadsFiles self.old self.new }
-        ensures step { WhereSupported (written write.entry) (is_reading self.old.transaction ≡ true → MayWrite self.old
+        ensures step { WhereSupported (written write.entry)
+            (is_reading self.old.transaction ≡ true → MayWrite self.old
             → StepsOn self.old (written write.entry) (done_reply result) self.new) }
     {
         let snapshot = self.snapshot();

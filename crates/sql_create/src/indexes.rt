@@ -74,7 +74,8 @@ fn few_columns<'a>(
     spelled: SourceTokens<'_>,
     tokens: Rest<'a>,
 ) -> Read<'a, Many<IndexColumn>>
-    ensures { ReadsBy spelled.now tokens.now result (readers.limited few (readers.listed spec.index_column_from)) }
+    ensures { ReadsBy spelled.now tokens.now result
+        (readers.limited few (readers.listed spec.index_column_from)) }
 {
     let (columns, rest) = index_columns(alloc, spelled, tokens)?;
     within(columns.len(), MAX_COLUMNS)?;

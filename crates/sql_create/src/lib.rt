@@ -1,6 +1,7 @@
 //! Tables and indexes, from tokens to their trees.
 #![tactic(auto)]
 
+mod columns;
 mod indexes;
 mod laws;
 mod tables;

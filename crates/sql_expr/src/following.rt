@@ -102,7 +102,8 @@ pub fn is_prefixed(rank: u8, tokens: Rest<'_>) -> bool
 #[tactic(auto, unfolding(crate::specs::Reading::tail))]
 fn turn_of_is<'a>(tokens: Rest<'a>) -> (Turn, Rest<'a>)
     ensures { (whole : List Spelling) (inner : ℕ → List Symbol → spec.Read Deep) (room rank : ℕ) (left : Deep)
-        → spec.tail inner room rank left (word w.Is ∷ seen whole tokens.now) ≡ by_turn inner room rank left result.0 (seen whole result.1.now) }
+        → spec.tail inner room rank left (word w.Is ∷ seen whole tokens.now)
+        ≡ by_turn inner room rank left result.0 (seen whole result.1.now) }
 {
     match tokens {
         [keyword!(Not), rest @ ..] => (Turn::Binary(Operator::IsNot), rest),
@@ -114,7 +115,8 @@ fn turn_of_is<'a>(tokens: Rest<'a>) -> (Turn, Rest<'a>)
 #[tactic(auto, unfolding(crate::specs::Reading::tail))]
 fn turn_of_not<'a>(tokens: Rest<'a>) -> (Turn, Rest<'a>)
     ensures { (whole : List Spelling) (inner : ℕ → List Symbol → spec.Read Deep) (room rank : ℕ) (left : Deep)
-        → spec.tail inner room rank left (word w.Not ∷ seen whole tokens.now) ≡ by_turn inner room rank left result.0 (seen whole result.1.now) }
+        → spec.tail inner room rank left (word w.Not ∷ seen whole tokens.now)
+        ≡ by_turn inner room rank left result.0 (seen whole result.1.now) }
 {
     match tokens {
         [keyword!(Between), rest @ ..] => (Turn::Between(true), rest),
@@ -127,7 +129,8 @@ fn turn_of_not<'a>(tokens: Rest<'a>) -> (Turn, Rest<'a>)
 #[tactic(auto, unfolding(crate::specs::Reading::tail))]
 pub fn turn_of<'a>(tokens: Rest<'a>) -> (Turn, Rest<'a>)
     ensures { (whole : List Spelling) (inner : ℕ → List Symbol → spec.Read Deep) (room rank : ℕ) (left : Deep)
-        → spec.tail inner room rank left (seen whole tokens.now) ≡ by_turn inner room rank left result.0 (seen whole result.1.now) }
+        → spec.tail inner room rank left (seen whole tokens.now)
+        ≡ by_turn inner room rank left result.0 (seen whole result.1.now) }
 {
     match tokens {
         [keyword!(Collate), rest @ ..] => (Turn::Collate, rest),

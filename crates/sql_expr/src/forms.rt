@@ -70,7 +70,9 @@ pub fn over<'a>(room: usize, node: Node, depth: usize, rest: Rest<'a>) -> Read<'
 
 /// An expression in memory of its own, with the tokens after it.
 pub fn all_in_box<'a>(alloc: Global, found: Read<'a, Deep>) -> Read<'a, Boxed>
-    ensures { (whole : List Spelling) (read : spec.Read spec.Deep) → Gives (λ x. (x.0, seen whole x.1.now)) found.entry read → Gives (λ x. (deep_of x.0, seen whole x.1.now)) result read }
+    ensures { (whole : List Spelling) (read : spec.Read spec.Deep)
+        → Gives (λ x. (x.0, seen whole x.1.now)) found.entry read
+        → Gives (λ x. (deep_of x.0, seen whole x.1.now)) result read }
 {
     let (found, rest) = found?;
     Ok((in_box(alloc, found)?, rest))
@@ -79,7 +81,9 @@ pub fn all_in_box<'a>(alloc: Global, found: Read<'a, Deep>) -> Read<'a, Boxed>
 /// A minus, or else NOT, over its operand.
 #[tactic(auto, unfolding(crate::specs::Reading::over))]
 pub fn wrapped<'a>(room: usize, kind: Kind, inner: Boxed, rest: Rest<'a>) -> Read<'a, Deep>
-    ensures { (whole : List Spelling) (text : List ℕ) → ReadsBy whole rest.now result (spec.over room (spec.wrap (meant kind text) inner.tree.value) inner.depth) }
+    ensures { (whole : List Spelling) (text : List ℕ)
+        → ReadsBy whole rest.now result (spec.over room
+        (spec.wrap (meant kind text) inner.tree.value) inner.depth) }
 {
     match kind {
         Kind::Minus => over(room, Node::Negated(inner.tree), inner.depth, rest),
@@ -89,8 +93,11 @@ pub fn wrapped<'a>(room: usize, kind: Kind, inner: Boxed, rest: Rest<'a>) -> Rea
 
 /// An operator between two operands.
 pub fn binary<'a>(room: usize, op: Operator, left: Boxed, right: Read<'a, Boxed>) -> Read<'a, Deep>
-    ensures { (whole : List Spelling) (read : spec.Read spec.Deep) → Gives (λ x. (deep_of x.0, seen whole x.1.now)) right.entry read
-        → Gives (λ x. (x.0, seen whole x.1.now)) result (and_then read (λ e ts. spec.over room (tree.Binary op left.tree.value e.tree) (max left.depth e.depth) ts)) }
+    ensures { (whole : List Spelling) (read : spec.Read spec.Deep)
+        → Gives (λ x. (deep_of x.0, seen whole x.1.now)) right.entry read
+        → Gives (λ x. (x.0, seen whole x.1.now)) result
+        (and_then read (λ e ts. spec.over room (tree.Binary op left.tree.value e.tree)
+        (max left.depth e.depth) ts)) }
 {
     let (right, rest) = right?;
     let depth = left.depth.max(right.depth);
@@ -105,8 +112,12 @@ pub fn range<'a>(
     low: Boxed,
     high: Read<'a, Boxed>,
 ) -> Read<'a, Deep>
-    ensures { (whole : List Spelling) (read : spec.Read spec.Deep) → Gives (λ x. (deep_of x.0, seen whole x.1.now)) high.entry read
-        → Gives (λ x. (x.0, seen whole x.1.now)) result (and_then read (λ e ts. spec.over room (tree.Between is_negated left.tree.value low.tree.value e.tree) (max left.depth (max low.depth e.depth)) ts)) }
+    ensures { (whole : List Spelling) (read : spec.Read spec.Deep)
+        → Gives (λ x. (deep_of x.0, seen whole x.1.now)) high.entry read
+        → Gives (λ x. (x.0, seen whole x.1.now)) result
+        (and_then read (λ e ts. spec.over room
+        (tree.Between is_negated left.tree.value low.tree.value e.tree)
+        (max left.depth (max low.depth e.depth)) ts)) }
 {
     let (high, rest) = high?;
     let depth = left.depth.max(low.depth.max(high.depth));
@@ -116,7 +127,8 @@ pub fn range<'a>(
 
 /// An expression in parentheses, up to the closing one.
 pub fn parenthesized<'a>(room: usize, inner: Read<'a, Boxed>) -> Read<'a, Deep>
-    ensures { (whole : List Spelling) (read : spec.Read spec.Deep) → Gives (λ x. (deep_of x.0, seen whole x.1.now)) inner.entry read
+    ensures { (whole : List Spelling) (read : spec.Read spec.Deep)
+        → Gives (λ x. (deep_of x.0, seen whole x.1.now)) inner.entry read
         → Gives (λ x. (x.0, seen whole x.1.now)) result (and_then read (closing room)) }
 {
     let (inner, rest) = inner?;
@@ -126,7 +138,8 @@ pub fn parenthesized<'a>(room: usize, inner: Read<'a, Boxed>) -> Read<'a, Deep>
 
 /// Expressions up to a closing parenthesis.
 pub fn closed<'a>(found: Read<'a, Deeps>) -> Read<'a, Deeps>
-    ensures { (whole : List Spelling) (read : spec.Read spec.Deeps) → Gives (λ x. (seen_all x.0, seen whole x.1.now)) found.entry read
+    ensures { (whole : List Spelling) (read : spec.Read spec.Deeps)
+        → Gives (λ x. (seen_all x.0, seen whole x.1.now)) found.entry read
         → Gives (λ x. (seen_all x.0, seen whole x.1.now)) result (and_then read all_closed) }
 {
     let (found, rest) = found?;
@@ -142,8 +155,11 @@ pub fn membership<'a>(
     left: Boxed,
     list: Read<'a, Deeps>,
 ) -> Read<'a, Deep>
-    ensures { (whole : List Spelling) (read : spec.Read spec.Deeps) → Gives (λ x. (seen_all x.0, seen whole x.1.now)) list.entry read
-        → Gives (λ x. (x.0, seen whole x.1.now)) result (and_then read (λ es ts. spec.over room (tree.In is_negated left.tree.value (tree.trees es.trees)) (max left.depth es.depth) ts)) }
+    ensures { (whole : List Spelling) (read : spec.Read spec.Deeps)
+        → Gives (λ x. (seen_all x.0, seen whole x.1.now)) list.entry read
+        → Gives (λ x. (x.0, seen whole x.1.now)) result
+        (and_then read (λ es ts. spec.over room
+        (tree.In is_negated left.tree.value (tree.trees es.trees)) (max left.depth es.depth) ts)) }
 {
     let (list, rest) = list?;
     let depth = left.depth.max(list.depth);
@@ -208,7 +224,8 @@ pub fn literal<'a>(
     tokens: Rest<'a>,
 ) -> Read<'a, Deep>
     ensures { Gives (λ x. (x.0, seen spelled.now x.1.now)) result
-        (spec.by_literal (spec.literal (meant token.kind (spelling_at spelled.now token.place))) (seen spelled.now rest.now) (seen spelled.now tokens.now)) }
+        (spec.by_literal (spec.literal (meant token.kind (spelling_at spelled.now token.place)))
+        (seen spelled.now rest.now) (seen spelled.now tokens.now)) }
 {
     let node = match token.kind {
         Kind::Word(Keyword::Null) => Node::Null,

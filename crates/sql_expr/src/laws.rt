@@ -15,7 +15,8 @@ ghost use Rattle.sql_expr.specs.Reading as spec;
 
 /// Tokens are one expression at most, also where others follow.
 pub fn one_tree()
-    ensures whole { (ts : List Symbol) (a b : Tree) → grammar.IsExpression ts a → grammar.IsExpression ts b → a ≡ b }
+    ensures whole { (ts : List Symbol) (a b : Tree) → grammar.IsExpression ts a
+        → grammar.IsExpression ts b → a ≡ b }
     ensures first { Single grammar.IsExpression EndsExpression }
     ensures list { Single grammar.AreExpressions EndsList }
 {}
@@ -33,16 +34,21 @@ pub fn exact_reading()
 
 /// A token of the lexer means one piece, the one that the rules take it for.
 pub fn one_meaning()
-    ensures some { (m : Bool) (kind : Kind) (z : List ℕ) (next : ℕ) → Spells m kind z next → Means kind z (meant kind z) }
+    ensures some { (m : Bool) (kind : Kind) (z : List ℕ) (next : ℕ) → Spells m kind z next
+        → Means kind z (meant kind z) }
     ensures one { (kind : Kind) (z : List ℕ) (p : Symbol) → Means kind z p → p ≡ meant kind z }
 {}
 
 /// The parts that may be left out, and lists of names, are read exactly too.
 pub fn exact_parts()
     ensures names { Exact spec.names_from grammar.IsNames unlimited (λ rest. ends_list rest ≡ true) }
-    ensures maybe_name { Exact spec.maybe_name_from (grammar.Optional grammar.IsName) unlimited (λ rest. lacks_name rest ≡ true) }
-    ensures maybe_name_row { Exact spec.maybe_name_row_from (grammar.Optional (grammar.Enclosed grammar.IsNames)) unlimited
+    ensures maybe_name { Exact spec.maybe_name_from (grammar.Optional grammar.IsName) unlimited
+        (λ rest. lacks_name rest ≡ true) }
+    ensures maybe_name_row { Exact spec.maybe_name_row_from
+        (grammar.Optional (grammar.Enclosed grammar.IsNames)) unlimited
         (λ rest. lacks_paren rest ≡ true) }
     ensures maybe_after { (keyword : Reserved)
-        → Exact (spec.maybe_after_from keyword) (grammar.Optional (grammar.Preceded (word keyword) grammar.IsExpression)) (if_given is_shallow) (EndsAfter keyword) }
+        → Exact (spec.maybe_after_from keyword)
+        (grammar.Optional (grammar.Preceded (word keyword) grammar.IsExpression))
+        (if_given is_shallow) (EndsAfter keyword) }
 {}

@@ -52,13 +52,16 @@ pub struct Deeps {
 /// An expression, which ends where nothing goes on with it. One deeper than 100 is `TooLong`.
 pub fn expression<'a>(alloc: Global, spelled: SourceTokens<'_>, tokens: Rest<'a>) -> Read<'a, Expr>
     // What is read is an expression within the limit, and what is left follows it.
-    ensures found { IfOk result (λ x. Used IsExpression is_shallow (seen spelled.now tokens.now) (x.0, seen spelled.now x.1.now)) }
+    ensures found { IfOk result (λ x. Used IsExpression is_shallow (seen spelled.now tokens.now)
+        (x.0, seen spelled.now x.1.now)) }
     // An expression within the limit is read, unless memory runs out.
-    ensures only { (us : List Symbol) (e : Tree) (rest : List Symbol) → IsExpression us e → deep e ≤ 100 → EndsExpression rest
+    ensures only { (us : List Symbol) (e : Tree) (rest : List Symbol) → IsExpression us e
+        → deep e ≤ 100 → EndsExpression rest
         → seen spelled.now tokens.now ≡ us ++ rest
         → Gives {Y = Tree × List Symbol} (λ x. (x.0, seen spelled.now x.1.now)) result (Ok (e, rest)) }
     // An expression past the limit is refused for that.
-    ensures late { (us : List Symbol) (e : Tree) (rest : List Symbol) → IsExpression us e → 100 < deep e → EndsExpression rest
+    ensures late { (us : List Symbol) (e : Tree) (rest : List Symbol) → IsExpression us e
+        → 100 < deep e → EndsExpression rest
         → seen spelled.now tokens.now ≡ us ++ rest
         → Gives {Y = Tree × List Symbol} (λ x. (x.0, seen spelled.now x.1.now)) result (Err TooLong) }
     // Which refusal it is, and what else is read.
@@ -158,7 +161,8 @@ fn nested<'a>(
 ) -> Read<'a, Boxed>
     requires some { 0 < room }
     requires rank { rank ≤ 10 }
-    ensures { Gives (λ x. (deep_of x.0, seen spelled.now x.1.now)) result (level_at (room - 1) rank (seen spelled.now tokens.now)) }
+    ensures { Gives (λ x. (deep_of x.0, seen spelled.now x.1.now)) result
+        (level_at (room - 1) rank (seen spelled.now tokens.now)) }
 {
     all_in_box(alloc, level(alloc, spelled, room - 1, rank, tokens))
 }
@@ -279,7 +283,8 @@ fn operand<'a>(
 ) -> Read<'a, Deep>
     requires some { 0 < room }
     requires rank { rank < 10 }
-    ensures { ReadsBy spelled.now tokens.now result (spec.operand (level_at (room - 1)) room rank op (deep_of left)) }
+    ensures { ReadsBy spelled.now tokens.now result
+        (spec.operand (level_at (room - 1)) room rank op (deep_of left)) }
 {
     binary(room, op, left, nested(alloc, spelled, room, rank, tokens))
 }
@@ -297,7 +302,8 @@ fn between<'a>(
 ) -> Read<'a, Deep>
     requires some { 0 < room }
     requires rank { rank < 10 }
-    ensures { ReadsBy spelled.now tokens.now result (spec.between (level_at (room - 1)) room rank is_negated (deep_of left)) }
+    ensures { ReadsBy spelled.now tokens.now result
+        (spec.between (level_at (room - 1)) room rank is_negated (deep_of left)) }
 {
     let (low, rest) = nested(alloc, spelled, room, rank, tokens)?;
     let rest = word(Keyword::And, rest)?;
@@ -321,7 +327,8 @@ fn among<'a>(
     tokens: Rest<'a>,
 ) -> Read<'a, Deep>
     requires some { 0 < room }
-    ensures { ReadsBy spelled.now tokens.now result (spec.among (level_at (room - 1)) room is_negated (deep_of left)) }
+    ensures { ReadsBy spelled.now tokens.now result
+        (spec.among (level_at (room - 1)) room is_negated (deep_of left)) }
 {
     let rest = mark(Kind::LeftParen, tokens)?;
     membership(room, is_negated, left, items(alloc, spelled, room, rest))
@@ -337,7 +344,8 @@ fn items<'a>(
     tokens: Rest<'a>,
 ) -> Read<'a, Deeps>
     requires some { 0 < room }
-    ensures { Gives (λ x. (seen_all x.0, seen spelled.now x.1.now)) result (spec.items (level_at (room - 1)) room (seen spelled.now tokens.now)) }
+    ensures { Gives (λ x. (seen_all x.0, seen spelled.now x.1.now)) result
+        (spec.items (level_at (room - 1)) room (seen spelled.now tokens.now)) }
 {
     closed(items_from(alloc, spelled, room, tokens))
 }
@@ -352,7 +360,8 @@ fn items_from<'a>(
     tokens: Rest<'a>,
 ) -> Read<'a, Deeps>
     requires some { 0 < room }
-    ensures { Gives (λ x. (seen_all x.0, seen spelled.now x.1.now)) result (spec.items_from (level_at (room - 1)) room (seen spelled.now tokens.now)) }
+    ensures { Gives (λ x. (seen_all x.0, seen spelled.now x.1.now)) result
+        (spec.items_from (level_at (room - 1)) room (seen spelled.now tokens.now)) }
 {
     let mut trees = Vec::new(alloc);
     let mut depth = 0;

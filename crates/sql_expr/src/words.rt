@@ -15,7 +15,8 @@ use sql_lexer::{Keyword, Kind};
 /// The tokens after a word, where it comes next.
 #[tactic(auto, unfolding(crate::specs::Reading::after_word))]
 pub fn after_word<'a>(keyword: Keyword, tokens: Rest<'a>) -> Option<Rest<'a>>
-    ensures { (whole : List Spelling) → option_map (λ rest. seen whole rest.now) result ≡ spec.after_word keyword (seen whole tokens.now) }
+    ensures { (whole : List Spelling) → option_map (λ rest. seen whole rest.now) result
+        ≡ spec.after_word keyword (seen whole tokens.now) }
 {
     match tokens {
         [token, rest @ ..] => match token.kind {
@@ -29,7 +30,8 @@ pub fn after_word<'a>(keyword: Keyword, tokens: Rest<'a>) -> Option<Rest<'a>>
 /// The tokens after a word that has to come next.
 #[tactic(auto, unfolding(crate::specs::Reading::word_from))]
 pub fn word<'a>(keyword: Keyword, tokens: Rest<'a>) -> Result<Rest<'a>, Refusal>
-    ensures { (whole : List Spelling) → Gives (λ rest. seen whole rest.now) result (spec.word_from keyword (seen whole tokens.now)) }
+    ensures { (whole : List Spelling) → Gives (λ rest. seen whole rest.now) result
+        (spec.word_from keyword (seen whole tokens.now)) }
 {
     after_word(keyword, tokens).ok_or(unexpected(tokens))
 }
@@ -37,7 +39,8 @@ pub fn word<'a>(keyword: Keyword, tokens: Rest<'a>) -> Result<Rest<'a>, Refusal>
 /// The tokens after a word that may come next.
 #[tactic(auto, unfolding(crate::specs::Reading::optional_from))]
 pub fn optional<'a>(keyword: Keyword, tokens: Rest<'a>) -> Rest<'a>
-    ensures { (whole : List Spelling) → seen whole result.now ≡ spec.optional_from keyword (seen whole tokens.now) }
+    ensures { (whole : List Spelling) → seen whole result.now ≡ spec.optional_from keyword
+        (seen whole tokens.now) }
 {
     after_word(keyword, tokens).unwrap_or(tokens)
 }
@@ -55,7 +58,8 @@ fn is_plain(kind: Kind) -> bool
 /// The tokens after a mark that has to come next.
 #[tactic(auto, unfolding(crate::specs::Reading::mark_from))]
 pub fn mark<'a>(kind: Kind, tokens: Rest<'a>) -> Result<Rest<'a>, Refusal>
-    ensures { (whole : List Spelling) → Gives (λ rest. seen whole rest.now) result (spec.mark_from kind (seen whole tokens.now)) }
+    ensures { (whole : List Spelling) → Gives (λ rest. seen whole rest.now) result
+        (spec.mark_from kind (seen whole tokens.now)) }
 {
     match tokens {
         [token, rest @ ..] if is_plain(token.kind) && token.kind == kind => Ok(rest),
@@ -66,7 +70,8 @@ pub fn mark<'a>(kind: Kind, tokens: Rest<'a>) -> Result<Rest<'a>, Refusal>
 /// The tokens after a comma, where it comes next.
 #[tactic(auto, unfolding(crate::specs::Reading::after_comma))]
 pub fn after_comma<'a>(tokens: Rest<'a>) -> Option<Rest<'a>>
-    ensures { (whole : List Spelling) → option_map (λ rest. seen whole rest.now) result ≡ spec.after_comma (seen whole tokens.now) }
+    ensures { (whole : List Spelling) → option_map (λ rest. seen whole rest.now) result
+        ≡ spec.after_comma (seen whole tokens.now) }
 {
     match tokens {
         [kind!(Comma), rest @ ..] => Some(rest),
@@ -77,7 +82,8 @@ pub fn after_comma<'a>(tokens: Rest<'a>) -> Option<Rest<'a>>
 /// The tokens after an open parenthesis, where it comes next.
 #[tactic(auto, unfolding(crate::specs::Reading::after_paren))]
 pub fn after_paren<'a>(tokens: Rest<'a>) -> Option<Rest<'a>>
-    ensures { (whole : List Spelling) → option_map (λ rest. seen whole rest.now) result ≡ spec.after_paren (seen whole tokens.now) }
+    ensures { (whole : List Spelling) → option_map (λ rest. seen whole rest.now) result
+        ≡ spec.after_paren (seen whole tokens.now) }
 {
     match tokens {
         [kind!(LeftParen), rest @ ..] => Some(rest),

@@ -18,7 +18,8 @@ const LEAST: u64 = 1 << 63;
 fn run(class: Class, text: &[u8]) -> usize
     ensures value { result ≡ prefix_len (bytes.is_in class) text.now }
     ensures within { result ≤ length text.now }
-    ensures moves { 0 < length text.now → bytes.is_in class (slice_index text.now 0) ≡ true → 0 < result }
+    ensures moves { 0 < length text.now → bytes.is_in class (slice_index text.now 0) ≡ true
+        → 0 < result }
     ensures stops { result < length text.now → bytes.is_in class (slice_index text.now result) ≡ false }
 {
     let mut end = 0;
@@ -84,7 +85,8 @@ fn word(text: &[u8]) -> (Kind, usize)
 
 /// The value of decimal digits, where it has 64 bits.
 fn value(digits: &[u8]) -> Option<u64>
-    ensures { MatchOption result (2 ^ 64 ≤ spec.number_from 0 digits.now) (λ n. n ≡ spec.number_from 0 digits.now) }
+    ensures { MatchOption result (2 ^ 64 ≤ spec.number_from 0 digits.now)
+        (λ n. n ≡ spec.number_from 0 digits.now) }
 {
     let mut value: u64 = 0;
     'digits: for digit in digits {

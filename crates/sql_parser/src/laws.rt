@@ -13,13 +13,16 @@ ghost use Rattle.sql_syntax.specs.declared.statement.Statement.TheVariants as st
 
 /// A text is one statement at most, also past the limits, and none that is supported where it is one that isn't.
 pub fn one_tree()
-    ensures one { (text : List ℕ) (a b : Parsed) → IsStatementText text a → IsStatementText text b → a ≡ b }
-    ensures served { (text : List ℕ) (a : Parsed) → IsStatementText text a → IsUnsupportedText text → ⊥ }
+    ensures one { (text : List ℕ) (a b : Parsed) → IsStatementText text a → IsStatementText text b
+        → a ≡ b }
+    ensures served { (text : List ℕ) (a : Parsed) → IsStatementText text a → IsUnsupportedText text
+        → ⊥ }
 {}
 
 /// The text that a CREATE keeps is that CREATE.
 pub fn kept_text_is_the_same()
-    ensures { (text : List ℕ) (c : NewCreate) → IsStatementText text (statement.Create c) → IsStatementText c.sql (statement.Create c) }
+    ensures { (text : List ℕ) (c : NewCreate) → IsStatementText text (statement.Create c)
+        → IsStatementText c.sql (statement.Create c) }
 {}
 
 /// The views that are read, and all else that CREATE makes, are those of the grammar within the limits, each as its one

@@ -26,12 +26,15 @@ pub fn parse(alloc: Global, text: &str) -> R<Statement>
     // memory runs out.
     ensures exact { Gives (λ s. s) result (parsed_by text.now (lex.tokens text.now)) }
     // What is answered is the statement that the text is in the grammar, within the limits, of which the text's length is one.
-    ensures found { IfOk result (λ s. IsStatementText text.now s × (is_statement_within s ≡ true) × (length text.now ≤ 65536)) }
+    ensures found { IfOk result (λ s. IsStatementText text.now s × (is_statement_within s ≡ true)
+        × (length text.now ≤ 65536)) }
     // A text that is a statement within the limits is answered as that, unless memory runs out.
-    ensures only { (s : Parsed) → IsStatementText text.now s → is_statement_within s ≡ true → length text.now ≤ 65536
+    ensures only { (s : Parsed) → IsStatementText text.now s → is_statement_within s ≡ true
+        → length text.now ≤ 65536
         → Gives (λ s. s) result (Ok s) }
     // One past the limits is refused for that.
-    ensures late { (s : Parsed) → IsStatementText text.now s → is_statement_within s ≡ false → Gives (λ s. s) result (Err Fault.TooLong) }
+    ensures late { (s : Parsed) → IsStatementText text.now s → is_statement_within s ≡ false
+        → Gives (λ s. s) result (Err Fault.TooLong) }
     // So is one that isn't supported.
     ensures unsupported { IsUnsupportedText text.now → length text.now ≤ 65536
         → Gives (λ s. s) result (Err (Fault.Unsupported Feature.Statement)) }

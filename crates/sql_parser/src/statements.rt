@@ -112,7 +112,8 @@ fn create<'a>(
     tokens: Rest<'a>,
 ) -> Read<'a, Statement>
     requires { Stand 0 text.now spelled.now }
-    ensures { ReadsBy spelled.now tokens.now result (readers.made (spec.created (sql_of text.now spelled.now)) object_from) }
+    ensures { ReadsBy spelled.now tokens.now result
+        (readers.made (spec.created (sql_of text.now spelled.now)) object_from) }
 {
     let sql = body_text(alloc, text, spelled)?;
     let (object, rest) = new_object(alloc, spelled, tokens)?;

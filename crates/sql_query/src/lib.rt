@@ -2,6 +2,7 @@
 #![tactic(auto)]
 
 mod changes;
+mod joins;
 mod laws;
 mod queries;
 

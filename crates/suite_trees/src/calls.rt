@@ -13,7 +13,7 @@ use tree_table::{RowChange, change_rows, get, insert, new_tree, remove};
 const ROWS: i64 = 12;
 
 /// The pages of a database without tables, of 512 bytes each: page 1 with an empty leaf after the header.
-fn new_pages(alloc: Global) -> R<MemPages> {
+pub(crate) fn new_pages(alloc: Global) -> R<MemPages> {
     let mut pages = MemPages::new(alloc, 512, 65536);
     pages.grow()?;
     let mut first = Vec::new(alloc);

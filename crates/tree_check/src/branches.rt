@@ -29,7 +29,8 @@ pub struct Kids {
 
 /// The children of an interior page with their keys, except for the last. (`Memory`)
 fn keys_of(alloc: Global, page: &TreePage<'_>) -> R<Vec<Key>>
-    ensures keys { (kids : List (ℕ × ℤ)) (last : ℕ) → IsNode page.now.bytes page.now.start (Keys kids last)
+    ensures keys { (kids : List (ℕ × ℤ)) (last : ℕ)
+        → IsNode page.now.bytes page.now.start (Keys kids last)
         → MatchResult result (λ keys. keys_in keys.items ≡ kids) (λ fault. fault ≡ Fault.Memory) }
     ensures not_disk { IfErr result IsNotDiskFault }
 {
@@ -43,7 +44,8 @@ fn keys_of(alloc: Global, page: &TreePage<'_>) -> R<Vec<Key>>
 /// The children of an interior page of these bytes. (`Memory`; `Damaged` for one that is no interior page of a table's tree.)
 fn kids_in(alloc: Global, bytes: &[u8], number: u32, taken: &mut Vec<bool>) -> R<Kids>
     ensures found { IfOk result (IsBranchOf bytes.now (counting.start_of number)) }
-    ensures only { (kids : List (ℕ × ℤ)) (last : ℕ) → IsNode bytes.now (counting.start_of number) (Keys kids last)
+    ensures only { (kids : List (ℕ × ℤ)) (last : ℕ)
+        → IsNode bytes.now (counting.start_of number) (Keys kids last)
         → IfErr result (λ fault. fault ≡ Fault.Memory) }
     ensures not_disk { IfErr result IsNotDiskFault }
 {
@@ -71,7 +73,8 @@ pub(crate) fn read_kids<P: Pages>(
     taken: &mut Vec<bool>,
 ) -> R<Kids>
     ensures read { (map : PageMap) (size : ℕ)
-        → AreTold P.Pages.below P.Pages.tells P.Pages.limits P.Pages.map pages.old map size → AreWhole size map
+        → AreTold P.Pages.below P.Pages.tells P.Pages.limits P.Pages.map pages.old map size
+        → AreWhole size map
         → ReadsBranch map page result }
     ensures stays { Stays P.Pages.below P.Pages.map P.Pages.count P.Pages.failures result pages.old pages.new }
 {
@@ -84,7 +87,8 @@ pub(crate) fn read_kids<P: Pages>(
 
 /// The first child of a page of these bytes, or None for a leaf. (`Damaged` for one that is no page of a tree.)
 fn left_in(bytes: &[u8], number: u32) -> R<Option<u32>>
-    ensures only { (node : Node) → IsNode bytes.now (counting.start_of number) node → result ≡ Ok (first_child node) }
+    ensures only { (node : Node) → IsNode bytes.now (counting.start_of number) node
+        → result ≡ Ok (first_child node) }
     ensures not_disk { IfErr result IsNotDiskFault }
 {
     let page = TreePage::over(bytes, start_of(number))?;
@@ -101,7 +105,8 @@ fn left_in(bytes: &[u8], number: u32) -> R<Option<u32>>
 /// The first child of a page, or None for a leaf. (What `load` refuses; `Damaged` for a page that is none of a tree.)
 fn left_child<P: Pages>(pages: &mut P, page: u32) -> R<Option<u32>>
     ensures found { (map : PageMap) (size : ℕ)
-        → AreTold P.Pages.below P.Pages.tells P.Pages.limits P.Pages.map pages.old map size → AreWhole size map
+        → AreTold P.Pages.below P.Pages.tells P.Pages.limits P.Pages.map pages.old map size
+        → AreWhole size map
         → FindsLeft map page result }
     ensures stays { Stays P.Pages.below P.Pages.map P.Pages.count P.Pages.failures result pages.old pages.new }
 {
@@ -117,7 +122,8 @@ fn left_child<P: Pages>(pages: &mut P, page: u32) -> R<Option<u32>>
 pub(crate) fn depth_of<P: Pages>(pages: &mut P, root: u32) -> R<u32>
     ensures few { IfOk result (λ depth. depth < 20) }
     ensures found { (map : PageMap) (size : ℕ)
-        → AreTold P.Pages.below P.Pages.tells P.Pages.limits P.Pages.map pages.old map size → AreWhole size map
+        → AreTold P.Pages.below P.Pages.tells P.Pages.limits P.Pages.map pages.old map size
+        → AreWhole size map
         → FindsDepth map root result }
     ensures stays { Stays P.Pages.below P.Pages.map P.Pages.count P.Pages.failures result pages.old pages.new }
 {

@@ -51,7 +51,8 @@ pub(crate) fn add_tail(tails: &mut Vec<Tail>, usable: u64, most: u64, payload: L
 /// page)` for page 1.)
 fn check_link<P: Pages>(pages: &mut P, page: u32, marks: &mut Vec<bool>) -> R<u32>
     ensures checked { (map : PageMap) (size : ℕ)
-        → AreTold P.Pages.below P.Pages.tells P.Pages.limits P.Pages.map pages.old map size → CanMark map size marks.old.items
+        → AreTold P.Pages.below P.Pages.tells P.Pages.limits P.Pages.map pages.old map size
+        → CanMark map size marks.old.items
         → ChecksLink map size page marks.old.items marks.new.items result }
     ensures long { length marks.new.items ≡ length marks.old.items }
     ensures stays { Stays P.Pages.below P.Pages.map P.Pages.count P.Pages.failures result pages.old pages.new }
@@ -71,7 +72,8 @@ fn check_link<P: Pages>(pages: &mut P, page: u32, marks: &mut Vec<bool>) -> R<u3
 /// refuses; `Damaged(Cell, page)` for a page after the end.)
 fn check_chain<P: Pages>(pages: &mut P, tail: Tail, marks: &mut Vec<bool>) -> R<()>
     ensures checked { (map : PageMap) (size : ℕ)
-        → AreTold P.Pages.below P.Pages.tells P.Pages.limits P.Pages.map pages.old map size → CanMark map size marks.old.items
+        → AreTold P.Pages.below P.Pages.tells P.Pages.limits P.Pages.map pages.old map size
+        → CanMark map size marks.old.items
         → Checks (IsTailOn map size tail) (λ chain. chain.pages) marks.old.items marks.new.items result }
     ensures long { length marks.new.items ≡ length marks.old.items }
     ensures stays { Stays P.Pages.below P.Pages.map P.Pages.count P.Pages.failures result pages.old pages.new }
@@ -93,8 +95,10 @@ fn check_chain<P: Pages>(pages: &mut P, tail: Tail, marks: &mut Vec<bool>) -> R<
 /// Checks the chains of these tails, and marks their pages. (What `check_chain` refuses.)
 pub(crate) fn check_tails<P: Pages>(pages: &mut P, tails: &[Tail], marks: &mut Vec<bool>) -> R<()>
     ensures checked { (map : PageMap) (size : ℕ)
-        → AreTold P.Pages.below P.Pages.tells P.Pages.limits P.Pages.map pages.old map size → CanMark map size marks.old.items
-        → Checks (Pairwise (IsTailOn map size) tails.now) (flat_map (λ chain. chain.pages)) marks.old.items marks.new.items result }
+        → AreTold P.Pages.below P.Pages.tells P.Pages.limits P.Pages.map pages.old map size
+        → CanMark map size marks.old.items
+        → Checks (Pairwise (IsTailOn map size) tails.now)
+        (flat_map (λ chain. chain.pages)) marks.old.items marks.new.items result }
     ensures long { length marks.new.items ≡ length marks.old.items }
     ensures stays { Stays P.Pages.below P.Pages.map P.Pages.count P.Pages.failures result pages.old pages.new }
 {

@@ -42,7 +42,8 @@ fn check_leaf<P: Pages>(
     marks: &mut Vec<bool>,
 ) -> R<()>
     ensures checked { (map : PageMap) (size : ℕ)
-        → AreTold P.Pages.below P.Pages.tells P.Pages.limits P.Pages.map pages.old map size → CanMark map size marks.old.items
+        → AreTold P.Pages.below P.Pages.tells P.Pages.limits P.Pages.map pages.old map size
+        → CanMark map size marks.old.items
         → Checks (IsSubtree map size page 0 low high) (pages_of 0) marks.old.items marks.new.items result }
     ensures long { length marks.new.items ≡ length marks.old.items }
     ensures stays { Stays P.Pages.below P.Pages.map P.Pages.count P.Pages.failures result pages.old pages.new }
@@ -66,7 +67,8 @@ fn check_kids<P: Pages>(
     marks: &mut Vec<bool>,
 ) -> R<()>
     ensures checked { (map : PageMap) (size : ℕ)
-        → AreTold P.Pages.below P.Pages.tells P.Pages.limits P.Pages.map pages.old map size → CanMark map size marks.old.items
+        → AreTold P.Pages.below P.Pages.tells P.Pages.limits P.Pages.map pages.old map size
+        → CanMark map size marks.old.items
         → Checks (AreSubtrees map size (keys_in kids.now) last depth low high) (pages_beside depth)
         marks.old.items marks.new.items result }
     ensures long { length marks.new.items ≡ length marks.old.items }
@@ -97,8 +99,10 @@ fn check_below<P: Pages>(
     marks: &mut Vec<bool>,
 ) -> R<()>
     ensures checked { (map : PageMap) (size : ℕ)
-        → AreTold P.Pages.below P.Pages.tells P.Pages.limits P.Pages.map pages.old map size → CanMark map size marks.old.items
-        → Checks (IsSubtree map size page depth low high) (pages_of depth) marks.old.items marks.new.items result }
+        → AreTold P.Pages.below P.Pages.tells P.Pages.limits P.Pages.map pages.old map size
+        → CanMark map size marks.old.items
+        → Checks (IsSubtree map size page depth low high)
+        (pages_of depth) marks.old.items marks.new.items result }
     ensures long { length marks.new.items ≡ length marks.old.items }
     ensures stays { Stays P.Pages.below P.Pages.map P.Pages.count P.Pages.failures result pages.old pages.new }
 {
@@ -130,7 +134,8 @@ pub fn check_tree<P: Pages>(alloc: Global, pages: &mut P, root: u32, marks: &mut
         marks.old.items marks.new.items) }
     ensures only { IsTrue (P.Pages.tells (P.Pages.below pages.old))
         → CanMark (P.Pages.map pages.old) (P.Pages.limits (P.Pages.below pages.old)).page marks.old.items
-        → IsUnmarked (P.Pages.map pages.old) (P.Pages.limits (P.Pages.below pages.old)).page root marks.old.items
+        → IsUnmarked (P.Pages.map pages.old) (P.Pages.limits (P.Pages.below pages.old)).page root
+        marks.old.items
         → IfErr result IsOutside }
     ensures same { IsTrue (P.Pages.tells (P.Pages.below pages.old))
         → CanMark (P.Pages.map pages.old) (P.Pages.limits (P.Pages.below pages.old)).page marks.old.items

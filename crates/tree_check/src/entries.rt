@@ -36,9 +36,11 @@ fn check_payload<P: Pages>(
     marks: &mut Vec<bool>,
 ) -> R<Vec<u8>>
     ensures checked { (map : PageMap) (size : ℕ)
-        → AreTold P.Pages.below P.Pages.tells P.Pages.limits P.Pages.map pages.old map size → CanMark map size marks.old.items
+        → AreTold P.Pages.below P.Pages.tells P.Pages.limits P.Pages.map pages.old map size
+        → CanMark map size marks.old.items
         → length local.entry.bytes.now ≡ held_size size (index_most size) local.entry.size
-        → ChecksPayload (λ payload. payload.items) map size (local_of local.entry) marks.old.items marks.new.items result }
+        → ChecksPayload (λ payload. payload.items) map size
+        (local_of local.entry) marks.old.items marks.new.items result }
     ensures long { length marks.new.items ≡ length marks.old.items }
     ensures stays { Stays P.Pages.below P.Pages.map P.Pages.count P.Pages.failures result pages.old pages.new }
 {
@@ -54,7 +56,8 @@ fn check_payload<P: Pages>(
 
 /// Whether an entry has a value for each column and a rowid, and comes after the last one.
 fn is_next(columns: &[Collation], last: &[Value], entry: &Record<'_>) -> bool
-    ensures { (IsTrue result → IsNext columns.now last.now entry.now) × (IsNext columns.now last.now entry.now → IsTrue result) }
+    ensures { (IsTrue result → IsNext columns.now last.now entry.now)
+        × (IsNext columns.now last.now entry.now → IsTrue result) }
 {
     if entry.len() != columns.len() + 1 {
         return false;
@@ -76,8 +79,10 @@ fn next_values(
     last: &[Value],
     payload: &[u8],
 ) -> R<Many<Value>>
-    ensures found { IfOk result (λ entry. IsRecord payload.now entry × IsNext columns.now last.now entry) }
-    ensures only { (entry : List ValueIs) → IsRecord payload.now entry → IsNext columns.now last.now entry
+    ensures found { IfOk result (λ entry. IsRecord payload.now entry
+        × IsNext columns.now last.now entry) }
+    ensures only { (entry : List ValueIs) → IsRecord payload.now entry
+        → IsNext columns.now last.now entry
         → IfErr result (λ fault. fault ≡ Fault.Memory) }
     ensures not_disk { IfErr result IsNotDiskFault }
 {
@@ -101,9 +106,11 @@ pub(crate) fn check_entry<P: Pages>(
     marks: &mut Vec<bool>,
 ) -> R<()>
     ensures checked { (map : PageMap) (size : ℕ)
-        → AreTold P.Pages.below P.Pages.tells P.Pages.limits P.Pages.map pages.old map size → CanMark map size marks.old.items
+        → AreTold P.Pages.below P.Pages.tells P.Pages.limits P.Pages.map pages.old map size
+        → CanMark map size marks.old.items
         → length local.entry.bytes.now ≡ held_size size (index_most size) local.entry.size
-        → ChecksOrdered (IsHeldAs map size (local_of local.entry)) chain_of entry_in columns.now last.old last.new
+        → ChecksOrdered (IsHeldAs map size (local_of local.entry)) chain_of entry_in columns.now
+        last.old last.new
         marks.old.items marks.new.items result }
     ensures long { length marks.new.items ≡ length marks.old.items }
     ensures stays { Stays P.Pages.below P.Pages.map P.Pages.count P.Pages.failures result pages.old pages.new }
@@ -130,8 +137,10 @@ pub(crate) fn check_entries<P: Pages>(
     marks: &mut Vec<bool>,
 ) -> R<()>
     ensures checked { (map : PageMap) (size : ℕ)
-        → AreTold P.Pages.below P.Pages.tells P.Pages.limits P.Pages.map pages.old map size → CanMark map size marks.old.items
-        → (said : List LocalIs) → IsNode bytes.now (counting.start_of page) (Entries said) → length bytes.now ≡ size
+        → AreTold P.Pages.below P.Pages.tells P.Pages.limits P.Pages.map pages.old map size
+        → CanMark map size marks.old.items
+        → (said : List LocalIs) → IsNode bytes.now (counting.start_of page) (Entries said)
+        → length bytes.now ≡ size
         → ChecksOrdered (Pairwise (IsHeldAs map size) said) chains_of entries_in columns.now last.old last.new
         marks.old.items marks.new.items result }
     ensures long { length marks.new.items ≡ length marks.old.items }

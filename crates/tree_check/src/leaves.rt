@@ -32,9 +32,11 @@ fn tails_of(
     low: i128,
     high: i128,
 ) -> R<Vec<Tail>>
-    ensures found { (said : List (ℤ × LocalIs)) → IsNode page.now.bytes page.now.start (Rows said) → length page.now.bytes ≡ usable
+    ensures found { (said : List (ℤ × LocalIs)) → IsNode page.now.bytes page.now.start (Rows said)
+        → length page.now.bytes ≡ usable
         → IfOk result (λ tails. RisesAs low said high × AreTails usable said tails.items) }
-    ensures only { (said : List (ℤ × LocalIs)) → IsNode page.now.bytes page.now.start (Rows said) → length page.now.bytes ≡ usable
+    ensures only { (said : List (ℤ × LocalIs)) → IsNode page.now.bytes page.now.start (Rows said)
+        → length page.now.bytes ≡ usable
         → RisesAs low said high → IfErr result (λ fault. fault ≡ Fault.Memory) }
     ensures not_disk { IfErr result IsNotDiskFault }
 {
@@ -66,8 +68,10 @@ fn leaf_in(
     high: i128,
     taken: &mut Vec<bool>,
 ) -> R<Vec<Tail>>
-    ensures found { IfOk result (λ tails. IsLeafWith bytes.now (counting.start_of number) low high tails.items) }
-    ensures only { (said : List (ℤ × LocalIs)) → IsNode bytes.now (counting.start_of number) (Rows said) → RisesAs low said high
+    ensures found { IfOk result (λ tails. IsLeafWith bytes.now
+        (counting.start_of number) low high tails.items) }
+    ensures only { (said : List (ℤ × LocalIs))
+        → IsNode bytes.now (counting.start_of number) (Rows said) → RisesAs low said high
         → IfErr result (λ fault. fault ≡ Fault.Memory) }
     ensures not_disk { IfErr result IsNotDiskFault }
 {
@@ -93,7 +97,8 @@ pub(crate) fn read_leaf<P: Pages>(
     taken: &mut Vec<bool>,
 ) -> R<Vec<Tail>>
     ensures read { (map : PageMap) (size : ℕ)
-        → AreTold P.Pages.below P.Pages.tells P.Pages.limits P.Pages.map pages.old map size → AreWhole size map
+        → AreTold P.Pages.below P.Pages.tells P.Pages.limits P.Pages.map pages.old map size
+        → AreWhole size map
         → ReadsLeaf (λ tails. tails.items) map page low high result }
     ensures stays { Stays P.Pages.below P.Pages.map P.Pages.count P.Pages.failures result pages.old pages.new }
 {

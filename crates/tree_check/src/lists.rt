@@ -29,7 +29,8 @@ pub struct Listed {
 /// What a trunk page of these bytes tells; None if it has no room for so many pages, or doesn't list fewer than `left`.
 fn listed_in(bytes: &[u8], left: u32) -> Option<Listed>
     ensures found { IfSome result (TellsList bytes.now left) }
-    ensures only { (n : ℕ) → n < 2 ^ 32 → to_be_bytes w32 n ≡ take 4 (drop 4 bytes.now) → n + 2 ≤ length bytes.now / 4 → n < left
+    ensures only { (n : ℕ) → n < 2 ^ 32 → to_be_bytes w32 n ≡ take 4 (drop 4 bytes.now)
+        → n + 2 ≤ length bytes.now / 4 → n < left
         → IfNone result ⊥ }
 {
     let next = number_at(bytes, 0)?;
@@ -43,7 +44,8 @@ fn listed_in(bytes: &[u8], left: u32) -> Option<Listed>
 /// Marks the pages that a trunk page of these bytes lists. (What `mark` refuses; `Damaged(Freelist, 0)` if the bytes end before.)
 fn mark_leaves(bytes: &[u8], len: u32, marks: &mut Vec<bool>) -> R<()>
     ensures checked { (map : PageMap) → length marks.old.items ≡ suc (length map)
-        → Checks (AreListed map (drop 8 bytes.now) len) (λ leaves. leaves) marks.old.items marks.new.items result }
+        → Checks (AreListed map (drop 8 bytes.now) len)
+        (λ leaves. leaves) marks.old.items marks.new.items result }
     ensures long { length marks.new.items ≡ length marks.old.items }
     ensures not_disk { IfErr result IsNotDiskFault }
 {
@@ -60,7 +62,8 @@ fn mark_leaves(bytes: &[u8], len: u32, marks: &mut Vec<bool>) -> R<()>
 /// refuse; `Damaged(Freelist, trunk)` for another page.)
 fn check_trunk<P: Pages>(pages: &mut P, trunk: u32, left: u32, marks: &mut Vec<bool>) -> R<Listed>
     ensures checked { (map : PageMap) (size : ℕ)
-        → AreTold P.Pages.below P.Pages.tells P.Pages.limits P.Pages.map pages.old map size → CanMark map size marks.old.items
+        → AreTold P.Pages.below P.Pages.tells P.Pages.limits P.Pages.map pages.old map size
+        → CanMark map size marks.old.items
         → ChecksTrunk map size trunk left marks.old.items marks.new.items result }
     ensures long { length marks.new.items ≡ length marks.old.items }
     ensures stays { Stays P.Pages.below P.Pages.map P.Pages.count P.Pages.failures result pages.old pages.new }
@@ -78,7 +81,8 @@ fn check_trunk<P: Pages>(pages: &mut P, trunk: u32, left: u32, marks: &mut Vec<b
 /// refuses; `Damaged(Freelist, trunk)` for a trunk page after these.)
 fn check_trunks<P: Pages>(pages: &mut P, first: u32, count: u32, marks: &mut Vec<bool>) -> R<()>
     ensures checked { (map : PageMap) (size : ℕ)
-        → AreTold P.Pages.below P.Pages.tells P.Pages.limits P.Pages.map pages.old map size → CanMark map size marks.old.items
+        → AreTold P.Pages.below P.Pages.tells P.Pages.limits P.Pages.map pages.old map size
+        → CanMark map size marks.old.items
         → Checks (IsFreelist map size first count) pages_of marks.old.items marks.new.items result }
     ensures long { length marks.new.items ≡ length marks.old.items }
     ensures stays { Stays P.Pages.below P.Pages.map P.Pages.count P.Pages.failures result pages.old pages.new }
@@ -107,15 +111,18 @@ pub fn check_freelist<P: Pages>(
 ) -> R<()>
     ensures found { IsTrue (P.Pages.tells (P.Pages.below pages.old))
         → CanMark (P.Pages.map pages.old) (P.Pages.limits (P.Pages.below pages.old)).page marks.old.items
-        → OnOk result (IsCheckedList (P.Pages.map pages.old) (P.Pages.limits (P.Pages.below pages.old)).page first count
+        → OnOk result (IsCheckedList (P.Pages.map pages.old)
+        (P.Pages.limits (P.Pages.below pages.old)).page first count
         marks.old.items marks.new.items) }
     ensures only { IsTrue (P.Pages.tells (P.Pages.below pages.old))
         → CanMark (P.Pages.map pages.old) (P.Pages.limits (P.Pages.below pages.old)).page marks.old.items
-        → IsUnmarkedList (P.Pages.map pages.old) (P.Pages.limits (P.Pages.below pages.old)).page first count marks.old.items
+        → IsUnmarkedList (P.Pages.map pages.old)
+        (P.Pages.limits (P.Pages.below pages.old)).page first count marks.old.items
         → IfErr result IsOutside }
     ensures same { IsTrue (P.Pages.tells (P.Pages.below pages.old))
         → CanMark (P.Pages.map pages.old) (P.Pages.limits (P.Pages.below pages.old)).page marks.old.items
-        → OnOk result (MarksList (P.Pages.map pages.old) (P.Pages.limits (P.Pages.below pages.old)).page first count
+        → OnOk result (MarksList (P.Pages.map pages.old)
+        (P.Pages.limits (P.Pages.below pages.old)).page first count
         marks.old.items marks.new.items) }
     ensures long { length marks.new.items ≡ length marks.old.items }
     ensures stays { Stays P.Pages.below P.Pages.map P.Pages.count P.Pages.failures result pages.old pages.new }
@@ -132,7 +139,8 @@ fn are_all(marks: &[bool]) -> bool
 
 /// Whether each page is marked, from page 1 on.
 pub fn are_all_marked(marks: &[bool]) -> bool
-    ensures exact { IsTrue result ↔ ((n : ℕ) → 1 ≤ n → n < length marks.now → mark_of n marks.now ≡ 1) }
+    ensures exact { IsTrue result ↔ ((n : ℕ) → 1 ≤ n → n < length marks.now
+        → mark_of n marks.now ≡ 1) }
 {
     match marks {
         [] => true,

@@ -30,8 +30,10 @@ fn copy_of(
     kind: Kind,
     taken: &mut Vec<bool>,
 ) -> R<Vec<u8>>
-    ensures found { IfOk result (λ copy. (copy.items ≡ bytes.now) × SaysKind bytes.now (counting.start_of number) kind) }
-    ensures only { (node : Node) → IsNode bytes.now (counting.start_of number) node → type_of kind ≡ code_of node
+    ensures found { IfOk result (λ copy. (copy.items ≡ bytes.now)
+        × SaysKind bytes.now (counting.start_of number) kind) }
+    ensures only { (node : Node) → IsNode bytes.now (counting.start_of number) node
+        → type_of kind ≡ code_of node
         → IfErr result (λ fault. fault ≡ Fault.Memory) }
     ensures not_disk { IfErr result IsNotDiskFault }
 {
@@ -52,7 +54,8 @@ fn copy_page<P: Pages>(
     taken: &mut Vec<bool>,
 ) -> R<Vec<u8>>
     ensures read { (map : PageMap) (size : ℕ)
-        → AreTold P.Pages.below P.Pages.tells P.Pages.limits P.Pages.map pages.old map size → AreWhole size map
+        → AreTold P.Pages.below P.Pages.tells P.Pages.limits P.Pages.map pages.old map size
+        → AreWhole size map
         → ReadsKind (λ copy. copy.items) map page kind result }
     ensures stays { Stays P.Pages.below P.Pages.map P.Pages.count P.Pages.failures result pages.old pages.new }
 {
@@ -74,8 +77,10 @@ fn check_end<P: Pages>(
     marks: &mut Vec<bool>,
 ) -> R<()>
     ensures checked { (map : PageMap) (size : ℕ)
-        → AreTold P.Pages.below P.Pages.tells P.Pages.limits P.Pages.map pages.old map size → CanMark map size marks.old.items
-        → ChecksOrdered (IsIndexSubtree map size page 0) (pages_of 0) (entries_of 0) columns.now last.old last.new
+        → AreTold P.Pages.below P.Pages.tells P.Pages.limits P.Pages.map pages.old map size
+        → CanMark map size marks.old.items
+        → ChecksOrdered (IsIndexSubtree map size page 0) (pages_of 0)
+        (entries_of 0) columns.now last.old last.new
         marks.old.items marks.new.items result }
     ensures long { length marks.new.items ≡ length marks.old.items }
     ensures stays { Stays P.Pages.below P.Pages.map P.Pages.count P.Pages.failures result pages.old pages.new }
@@ -100,9 +105,12 @@ fn check_along<P: Pages>(
     marks: &mut Vec<bool>,
 ) -> R<()>
     ensures checked { (map : PageMap) (size : ℕ)
-        → AreTold P.Pages.below P.Pages.tells P.Pages.limits P.Pages.map pages.old map size → CanMark map size marks.old.items
-        → (said : List (ℕ × LocalIs)) (end : ℕ) → IsNode bytes.now (counting.start_of page) (Between said end) → length bytes.now ≡ size
-        → ChecksOrdered (AreIndexSubtrees map size said end depth) (pages_along depth) (entries_along depth) columns.now
+        → AreTold P.Pages.below P.Pages.tells P.Pages.limits P.Pages.map pages.old map size
+        → CanMark map size marks.old.items
+        → (said : List (ℕ × LocalIs)) (end : ℕ)
+        → IsNode bytes.now (counting.start_of page) (Between said end) → length bytes.now ≡ size
+        → ChecksOrdered (AreIndexSubtrees map size said end depth) (pages_along depth)
+        (entries_along depth) columns.now
         last.old last.new marks.old.items marks.new.items result }
     ensures long { length marks.new.items ≡ length marks.old.items }
     ensures stays { Stays P.Pages.below P.Pages.map P.Pages.count P.Pages.failures result pages.old pages.new }
@@ -133,8 +141,10 @@ fn check_under<P: Pages>(
     marks: &mut Vec<bool>,
 ) -> R<()>
     ensures checked { (map : PageMap) (size : ℕ)
-        → AreTold P.Pages.below P.Pages.tells P.Pages.limits P.Pages.map pages.old map size → CanMark map size marks.old.items
-        → ChecksOrdered (IsIndexSubtree map size page depth) (pages_of depth) (entries_of depth) columns.now last.old last.new
+        → AreTold P.Pages.below P.Pages.tells P.Pages.limits P.Pages.map pages.old map size
+        → CanMark map size marks.old.items
+        → ChecksOrdered (IsIndexSubtree map size page depth) (pages_of depth)
+        (entries_of depth) columns.now last.old last.new
         marks.old.items marks.new.items result }
     ensures long { length marks.new.items ≡ length marks.old.items }
     ensures stays { Stays P.Pages.below P.Pages.map P.Pages.count P.Pages.failures result pages.old pages.new }
@@ -170,15 +180,18 @@ pub fn check_index_tree<P: Pages>(
 ) -> R<()>
     ensures found { IsTrue (P.Pages.tells (P.Pages.below pages.old))
         → CanMark (P.Pages.map pages.old) (P.Pages.limits (P.Pages.below pages.old)).page marks.old.items
-        → OnOk result (IsCheckedIndex (P.Pages.map pages.old) (P.Pages.limits (P.Pages.below pages.old)).page root columns.now
+        → OnOk result (IsCheckedIndex (P.Pages.map pages.old)
+        (P.Pages.limits (P.Pages.below pages.old)).page root columns.now
         marks.old.items marks.new.items) }
     ensures only { IsTrue (P.Pages.tells (P.Pages.below pages.old))
         → CanMark (P.Pages.map pages.old) (P.Pages.limits (P.Pages.below pages.old)).page marks.old.items
-        → IsUnmarkedIndex (P.Pages.map pages.old) (P.Pages.limits (P.Pages.below pages.old)).page root columns.now marks.old.items
+        → IsUnmarkedIndex (P.Pages.map pages.old)
+        (P.Pages.limits (P.Pages.below pages.old)).page root columns.now marks.old.items
         → IfErr result IsOutside }
     ensures same { IsTrue (P.Pages.tells (P.Pages.below pages.old))
         → CanMark (P.Pages.map pages.old) (P.Pages.limits (P.Pages.below pages.old)).page marks.old.items
-        → OnOk result (MarksIndex (P.Pages.map pages.old) (P.Pages.limits (P.Pages.below pages.old)).page root columns.now
+        → OnOk result (MarksIndex (P.Pages.map pages.old)
+        (P.Pages.limits (P.Pages.below pages.old)).page root columns.now
         marks.old.items marks.new.items) }
     ensures long { length marks.new.items ≡ length marks.old.items }
     ensures stays { Stays P.Pages.below P.Pages.map P.Pages.count P.Pages.failures result pages.old pages.new }

@@ -4,7 +4,7 @@ use Rattle.std.specs.declared.cmp.Ordering.{Ordering}
 use Rattle.std.specs.declared.cmp.Ordering.TheVariants.{Less, Equal, Greater}
 use Rattle.std.specs.List.{AllByRecursion}
 use Rattle.std.specs.Ordering.{is_lt, is_eq, is_gt, ordering_then, ordering_reverse}
-use Rattle.sqlval.specs.Lists.{SortKey, keys_cmp, is_rising}
+use Rattle.sqlval.specs.Lists.{SortKey, key_cmp, keys_cmp, is_rising}
 use Rattle.sqlval.specs.Order.{order}
 use Rattle.sqlval.specs.declared.collation.Collation.{Collation}
 use Rattle.sqlval.specs.declared.collation.Collation.TheVariants.{Binary}
@@ -12,7 +12,7 @@ use Rattle.sqlval.specs.declared.value.Value.{Value}
 use Rattle.sqlval.proofs.Ordering.{total}
 use Rattle.tree_store.specs.Sides.{each_of}
 use Rattle.tree_index.specs.Comparing.{ComeFirst, front_count, is_less}
-use Rattle.tree_index.specs.Entries.{Entry, keys_of, rising_key, entry_cmp, AreEntries, has_entry, with_entry}
+use Rattle.tree_index.specs.Entries.{Entry, keys_of, rising_key, entry_cmp, AreEntries, has_entry, key_in, put_before, with_entry, LeadsTo}
 use Rattle.tree_index.specs.Growing.{IsEqualAt}
 use Rattle.tree_index.specs.Tree.{Held}
 use Rattle.tree_index.proofs.Orders.{greater, not_less, after_one, count_more, count_none}
@@ -93,20 +93,21 @@ module _ (columns : List Collation) (x : Entry) where
 
   -- ---- the entries with it
 
-  placed_more : (xs ys : List Entry) → More xs → with_entry columns x (xs ++ ys) ≡ xs ++ with_entry columns x ys
-  placed_more [] ys all = refl
-  placed_more (e ∷ xs) ys all = ap (λ (b : Bool). if b then e ∷ with_entry columns x (xs ++ ys) else x ∷ e ∷ (xs ++ ys)) all.0 ∙ ap (λ (zs : List Entry). e ∷ zs) (placed_more xs ys all.1)
+  module _ (y : Entry) where
+    placed_more : (xs ys : List Entry) → More xs → put_before columns x y (xs ++ ys) ≡ xs ++ put_before columns x y ys
+    placed_more [] ys all = refl
+    placed_more (e ∷ xs) ys all = ap (λ (b : Bool). if b then e ∷ put_before columns x y (xs ++ ys) else y ∷ e ∷ (xs ++ ys)) all.0 ∙ ap (λ (zs : List Entry). e ∷ zs) (placed_more xs ys all.1)
 
-  placed_fewer : (xs ys : List Entry) → Fewer ys → with_entry columns x (xs ++ ys) ≡ with_entry columns x xs ++ ys
-  placed_fewer [] [] all = refl
-  placed_fewer [] (e ∷ ys) all = ap (λ (b : Bool). if b then e ∷ with_entry columns x ys else x ∷ e ∷ ys) (lt_not_gt (cmp x e) all.0)
-  placed_fewer (e ∷ xs) ys all = ap (λ (zs : List Entry). if is_gt (cmp x e) then e ∷ zs else x ∷ e ∷ (xs ++ ys)) (placed_fewer xs ys all) ∙ either (is_gt (cmp x e)) where
-    either : (b : Bool) → (if b then e ∷ (with_entry columns x xs ++ ys) else x ∷ e ∷ (xs ++ ys)) ≡ (if b then e ∷ with_entry columns x xs else x ∷ e ∷ xs) ++ ys
-    either true = refl
-    either false = refl
+    placed_fewer : (xs ys : List Entry) → Fewer ys → put_before columns x y (xs ++ ys) ≡ put_before columns x y xs ++ ys
+    placed_fewer [] [] all = refl
+    placed_fewer [] (e ∷ ys) all = ap (λ (b : Bool). if b then e ∷ put_before columns x y ys else y ∷ e ∷ ys) (lt_not_gt (cmp x e) all.0)
+    placed_fewer (e ∷ xs) ys all = ap (λ (zs : List Entry). if is_gt (cmp x e) then e ∷ zs else y ∷ e ∷ (xs ++ ys)) (placed_fewer xs ys all) ∙ either (is_gt (cmp x e)) where
+      either : (b : Bool) → (if b then e ∷ (put_before columns x y xs ++ ys) else y ∷ e ∷ (xs ++ ys)) ≡ (if b then e ∷ put_before columns x y xs else y ∷ e ∷ xs) ++ ys
+      either true = refl
+      either false = refl
 
-  pub with_within : (left mid right : List Entry) → More left → Fewer right → with_entry columns x (left ++ (mid ++ right)) ≡ left ++ (with_entry columns x mid ++ right)
-  with_within left mid right more fewer = placed_more left (mid ++ right) more ∙ ap (λ (zs : List Entry). left ++ zs) (placed_fewer mid right fewer)
+    pub with_within : (left mid right : List Entry) → More left → Fewer right → put_before columns x y (left ++ (mid ++ right)) ≡ left ++ (put_before columns x y mid ++ right)
+    with_within left mid right more fewer = placed_more left (mid ++ right) more ∙ ap (λ (zs : List Entry). left ++ zs) (placed_fewer mid right fewer)
 
   -- ---- on a leaf
 
@@ -116,13 +117,13 @@ module _ (columns : List Collation) (x : Entry) where
   abbrev values : List Held → List Entry
   values held = map (λ h. h.entry) held
 
-  -- it is put at its place
-  pub put_at : (held : List Held) → with_entry columns x (values held) ≡ take (front_count Test held) (values held) ++ (x ∷ drop (front_count Test held) (values held))
-  put_at [] = refl
-  put_at (h ∷ held) = by (is_gt (cmp x h.entry)) (put_at held) where
-    by : (b : Bool) → with_entry columns x (values held) ≡ take (front_count Test held) (values held) ++ (x ∷ drop (front_count Test held) (values held))
-        → (if b then h.entry ∷ with_entry columns x (values held) else x ∷ h.entry ∷ values held)
-        ≡ take (if b then suc (front_count Test held) else 0) (h.entry ∷ values held) ++ (x ∷ drop (if b then suc (front_count Test held) else 0) (h.entry ∷ values held))
+  -- an entry is put at its place
+  pub put_at : (y : Entry) (held : List Held) → put_before columns x y (values held) ≡ take (front_count Test held) (values held) ++ (y ∷ drop (front_count Test held) (values held))
+  put_at y [] = refl
+  put_at y (h ∷ held) = by (is_gt (cmp x h.entry)) (put_at y held) where
+    by : (b : Bool) → put_before columns x y (values held) ≡ take (front_count Test held) (values held) ++ (y ∷ drop (front_count Test held) (values held))
+        → (if b then h.entry ∷ put_before columns x y (values held) else y ∷ h.entry ∷ values held)
+        ≡ take (if b then suc (front_count Test held) else 0) (h.entry ∷ values held) ++ (y ∷ drop (if b then suc (front_count Test held) else 0) (h.entry ∷ values held))
     by true rest = ap (λ (zs : List Entry). h.entry ∷ zs) rest
     by false rest = refl
 
@@ -149,6 +150,44 @@ module _ (columns : List Collation) (x : Entry) where
     or_true : (b : Bool) → b || true ≡ true
     or_true true = refl
     or_true false = refl
+
+-- ---- keys that lead to an entry's place
+
+-- an entry leads to its own place
+pub leads_itself : (columns : List Collation) (x : Entry) → LeadsTo columns x x
+leads_itself columns x entries none = (none, same entries) where
+  same : (entries : List Entry) → put_before columns x x entries ≡ with_entry columns x entries
+  same [] = refl
+  same (e ∷ entries) = ap (λ (zs : List Entry). if is_gt (entry_cmp columns x e) then e ∷ zs else x ∷ e ∷ entries) (same entries)
+
+-- Where the first values of an entry decide, the entry compares as they do.
+pub first_decide : (ks : List SortKey) (n : ℕ) (x e : List Value) → is_eq (keys_cmp ks (take n x) e) ≡ false → keys_cmp ks x e ≡ keys_cmp ks (take n x) e
+first_decide [] n x e differs = absurd (true_false differs)
+first_decide (k ∷ ks) zero x e differs = absurd (true_false differs)
+first_decide (k ∷ ks) (suc n) [] e differs = refl
+first_decide (k ∷ ks) (suc n) (v ∷ x) [] differs = absurd (true_false differs)
+first_decide (k ∷ ks) (suc n) (v ∷ x) (w ∷ e) differs = by (key_cmp k v w) differs (first_decide ks n x e) where
+  by : (o : Ordering) → is_eq (ordering_then o (keys_cmp ks (take n x) e)) ≡ false → (is_eq (keys_cmp ks (take n x) e) ≡ false → keys_cmp ks x e ≡ keys_cmp ks (take n x) e)
+      → ordering_then o (keys_cmp ks x e) ≡ ordering_then o (keys_cmp ks (take n x) e)
+  by Less d rest = refl
+  by Equal d rest = rest d
+  by Greater d rest = refl
+
+-- So do the values of its columns, without the rowid.
+pub leads_first : (columns : List Collation) (x : Entry) → LeadsTo columns (key_in columns x) x
+leads_first columns x [] none = (refl, refl)
+leads_first columns x (e ∷ entries) none =
+    let tests = parted (is_eq (entry_cmp columns (key_in columns x) e)) (has_entry columns (key_in columns x) entries) none in
+    let same = first_decide (keys_of columns) (length columns) x e tests.0 in
+    let rest = leads_first columns x entries tests.1 in (
+      ap (λ (o : Ordering). is_eq o || has_entry columns x entries) same ∙ ap (λ (b : Bool). b || has_entry columns x entries) tests.0 ∙ rest.0,
+      ap (λ (zs : List Entry). if is_gt (entry_cmp columns (key_in columns x) e) then e ∷ zs else x ∷ e ∷ entries) rest.1
+          ∙ ap (λ (o : Ordering). if is_gt o then e ∷ with_entry columns x entries else x ∷ e ∷ entries) (sym same),
+    )
+  where
+    parted : (a b : Bool) → a || b ≡ false → (a ≡ false) × (b ≡ false)
+    parted false b d = (refl, d)
+    parted true b d = absurd (true_false d)
 
 -- ---- entries that rise still do
 

@@ -4,14 +4,14 @@ pub mod LastEntries
 mod Fillings
 mod Readings
 mod Comparisons
-mod Orders
+pub mod Orders
 mod Halving
 mod Shares
 mod Subtrees
 mod Givings
 mod Clearing
 mod Emptied
-mod Inserts
+pub mod Inserts
 mod Sums
 mod Rows
 mod Branches

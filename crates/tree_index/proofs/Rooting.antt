@@ -28,8 +28,9 @@ use Rattle.tree_store.specs.Sides.{children, each_of}
 use Rattle.tree_store.specs.Staying.{AreKept}
 use Rattle.tree_store.specs.Storing.{CanRoot, IsRewritten, IsLifted, IsRooted, cells_over}
 use Rattle.tree_store.proofs.PutPages.{put_there}
-use Rattle.tree_index.specs.Calls.{Stands, BecomesEntries, IsInserted, IsInsertRefusal}
-use Rattle.tree_index.specs.Entries.{Entry, AreEntries, has_entry, with_entry}
+use Rattle.tree_index.specs.Calls.{Stands, BecomesEntries, IsInsertedBy, IsInsertRefusal}
+use Rattle.sqlval.specs.declared.value.Value.{Value}
+use Rattle.tree_index.specs.Entries.{Entry, AreEntries, has_entry, put_before, with_entry, LeadsTo}
 use Rattle.tree_index.specs.Flattening.{StoresTop}
 use Rattle.tree_index.specs.Freeing.{all_of, below_of, StandsUnder}
 use Rattle.tree_index.specs.Growing.{IsTop, IsDivider, IsPlanned, IsPut, IsUnder, IsChanged, Changes, entries_in}
@@ -214,48 +215,50 @@ module _ (old : PageMap) (size root : ℕ) (columns : List Collation) (entries :
 
   -- ---- what the calls answer
 
-  module _ (x : Entry) (payload : List ℕ) (record_is : IsRecord payload x) (long : length x ≡ length columns + 1) where
-    changed : (new : PageMap) (change : Change) → Changes old new size root 19 columns x payload (Ok change) → IsChanged old new size root 19 columns x depth tree free change
-    changed new change changes = changes depth tree free root_under record_is
+  module _ (x : List Value) (y : Entry) (leads : LeadsTo columns x y) (payload : List ℕ) (record_is : IsRecord payload y) (long : length y ≡ length columns + 1) where
+    changed : (new : PageMap) (change : Change) → Changes old new size root 19 columns x payload (Ok change) → IsChanged old new size root 19 columns x y depth tree free change
+    changed new change changes = changes y depth tree free root_under record_is
 
     pub change_refused : (new : PageMap) (fault : Fault) → Changes old new size root 19 columns x payload (Err fault) → IsOutsideOrFull fault
-    change_refused new fault changes = changes depth tree free root_under record_is
+    change_refused new fault changes = changes y depth tree free root_under record_is
 
     none : has_entry columns x (entries_of depth tree) ≡ false → has_entry columns x entries ≡ false
     none e = sym (ap (has_entry columns x) is.tree.entries_are) ∙ e
 
-    sorted_now : has_entry columns x (entries_of depth tree) ≡ false → AreEntries columns (with_entry columns x (entries_of depth tree))
-    sorted_now e = still_rise columns x (entries_of depth tree) root_under.sorted e long
+    -- the key's place is the entry's
+    placed : has_entry columns x (entries_of depth tree) ≡ false → put_before columns x y (entries_of depth tree) ≡ with_entry columns y entries
+    placed e = (leads (entries_of depth tree) e).1 ∙ ap (with_entry columns y) is.tree.entries_are
 
-    pub inserted_there : (new : PageMap) → Changes old new size root 19 columns x payload (Ok There) → IsInserted old new size root columns x entries used free false
+    sorted_now : has_entry columns x (entries_of depth tree) ≡ false → AreEntries columns (put_before columns x y (entries_of depth tree))
+    sorted_now e =
+        let led = leads (entries_of depth tree) e in
+        subst (AreEntries columns) (sym led.1) (still_rise columns y (entries_of depth tree) root_under.sorted led.0 long)
+
+    pub inserted_there : (new : PageMap) → Changes old new size root 19 columns x payload (Ok There) → IsInsertedBy old new size root columns x y entries used free false
     inserted_there new changes = (let c = changed new There changes in (sym (ap (has_entry columns x) is.tree.entries_are) ∙ c.0, c.1))
 
-    pub inserted_same : (new : PageMap) → Changes old new size root 19 columns x payload (Ok Same) → IsInserted old new size root columns x entries used free true
+    pub inserted_same : (new : PageMap) → Changes old new size root 19 columns x payload (Ok Same) → IsInsertedBy old new size root columns x y entries used free true
     inserted_same new changes =
         let c = changed new Same changes in (
           none c.0,
-          subst (λ (es : List Entry). BecomesEntries old new size root columns (with_entry columns x es) used free) is.tree.entries_are
-              (put_becomes new depth (with_entry columns x (entries_of depth tree)) is.tree.shallow (sorted_now c.0) c.1),
+          subst (λ (es : List Entry). BecomesEntries old new size root columns es used free) (placed c.0)
+              (put_becomes new depth (put_before columns x y (entries_of depth tree)) is.tree.shallow (sorted_now c.0) c.1),
         )
 
     module _ (mid : PageMap) (packed : Packed) (deep : Bool) (changes : Changes old mid size root 19 columns x payload (Ok (Spread packed deep))) where
-      spread : IsChanged old mid size root 19 columns x depth tree free (Spread packed deep)
+      spread : IsChanged old mid size root 19 columns x y depth tree free (Spread packed deep)
       spread = changed mid (Spread packed deep) changes
 
       -- packed pages that are stored as the top
-      pub inserted_spread : (new : PageMap) (result : Result ⊤ Fault) → StoresTop mid new size root packed deep result → MatchResult result (λ done. IsInserted old new size root columns x entries used free true) IsOutsideOrFull
-      inserted_spread new result stores = by result (stores old columns entries (with_entry columns x (entries_of depth tree)) used free is (sorted_now spread.0) spread.1 spread.2)
+      pub inserted_spread : (new : PageMap) (result : Result ⊤ Fault) → StoresTop mid new size root packed deep result → MatchResult result (λ done. IsInsertedBy old new size root columns x y entries used free true) IsOutsideOrFull
+      inserted_spread new result stores = by result (stores old columns entries (put_before columns x y (entries_of depth tree)) used free is (sorted_now spread.0) spread.1 spread.2)
         where
-          by : (result : Result ⊤ Fault) → MatchResult result (λ done. BecomesEntries old new size root columns (with_entry columns x (entries_of depth tree)) used free) IsOutsideOrFull
-              → MatchResult result (λ done. IsInserted old new size root columns x entries used free true) IsOutsideOrFull
-          by (Ok done) now = (none spread.0, subst (λ (es : List Entry). BecomesEntries old new size root columns (with_entry columns x es) used free) is.tree.entries_are now)
+          by : (result : Result ⊤ Fault) → MatchResult result (λ done. BecomesEntries old new size root columns (put_before columns x y (entries_of depth tree)) used free) IsOutsideOrFull
+              → MatchResult result (λ done. IsInsertedBy old new size root columns x y entries used free true) IsOutsideOrFull
+          by (Ok done) now = (none spread.0, subst (λ (es : List Entry). BecomesEntries old new size root columns es used free) (placed spread.0) now)
           by (Err fault) refused = refused
 
 -- ---- exits
-
-pub insert_err : {T : Type 0} (I : T → Type 0) (result : Result T Fault) (fault : Fault) (x : Entry) → IsErrAnd result (λ e. e ≡ fault) → IsOutsideOrFull fault → MatchResult result I (IsInsertRefusal x)
-insert_err I (Ok y) fault x is refused = absurd is
-insert_err I (Err e) fault x is refused = inl (subst IsOutsideOrFull (sym is) refused)
 
 -- a record wasn't made
 pub encode_err : {T : Type 0} (I : T → Type 0) (result : Result T Fault) (fault : Fault) (x : Entry) → IsErrAnd result (λ e. e ≡ fault) → (fault ≡ Memory) ⊎ ((fault ≡ TooLong) × (AreStorable x → ⊥))
@@ -263,6 +266,11 @@ pub encode_err : {T : Type 0} (I : T → Type 0) (result : Result T Fault) (faul
 encode_err I (Ok y) fault x is refused = absurd is
 encode_err I (Err e) fault x is (inl memory) = inl (inl (inl (is ∙ memory)))
 encode_err I (Err e) fault x is (inr large) = inr (is ∙ large.0, large.1)
+
+-- what was put by its key
+pub put_or : (I : Bool → Type 0) (result : Result Bool Fault) (x : Entry) → MatchResult result I IsOutsideOrFull → MatchResult result I (IsInsertRefusal x)
+put_or I (Ok b) x put = put
+put_or I (Err fault) x refused = inl refused
 
 pub none_left : {A : Type 0} (xs : List A) → length xs ≡ 0 → xs ≡ []
 none_left [] none = refl

@@ -20,7 +20,8 @@ use Rattle.tree_store.specs.Sides.{children}
 use Rattle.tree_store.specs.Storing.{IsStored, Stores, cells_of}
 use Rattle.tree_store.specs.declared.storing.Fan.{Fan}
 use Rattle.tree_index.specs.Comparing.{ComeFirst, front_count, is_less, child_at}
-use Rattle.tree_index.specs.Entries.{Entry, has_entry, with_entry}
+use Rattle.sqlval.specs.declared.value.Value.{Value}
+use Rattle.tree_index.specs.Entries.{Entry, has_entry, put_before}
 use Rattle.tree_index.specs.Growing.{IsEqualAt, IsStep, StepsFrom, IsUnder, IsChanged, Changes, IsDeep, IsPlanned, IsWayTo, PlansLeaf, Widens, Fans, entries_put}
 use Rattle.tree_index.specs.Tree.{Held, IsKidAs, Tree, top, entries_of, pages_of}
 use Rattle.tree_index.specs.declared.growing.Change.{Change}
@@ -47,8 +48,8 @@ full_or fault (inr full) = inr full.0
 
 -- ---- a child that changed
 
-module _ (old : PageMap) (size number ways : ℕ) (columns : List Collation) (x : Entry) (payload : List ℕ) (depth : ℕ) (t : Tree (suc depth)) (free : List ℕ)
-    (under : IsUnder old size number (suc ways) columns (suc depth) t free) (record_is : IsRecord payload x) (place child : ℕ) (way : IsWayTo columns x depth t place child) where
+module _ (old : PageMap) (size number ways : ℕ) (columns : List Collation) (x : List Value) (y : Entry) (payload : List ℕ) (depth : ℕ) (t : Tree (suc depth)) (free : List ℕ)
+    (under : IsUnder old size number (suc ways) columns (suc depth) t free) (record_is : IsRecord payload y) (place child : ℕ) (way : IsWayTo columns x depth t place child) where
   other : IsEqualAt columns x (entries_between t.kids) (front_count (is_less columns x) (entries_between t.kids)) → ⊥
   other equal = way.other (subst (λ (n : ℕ). IsEqualAt columns x (entries_between t.kids) n) (sym way.place_is) equal)
 
@@ -62,28 +63,28 @@ module _ (old : PageMap) (size number ways : ℕ) (columns : List Collation) (x 
   under_now : IsUnder old size (top depth at_kid) ways columns depth at_kid free
   under_now = under_child old size number ways columns x depth t free under other
 
-  child_changed : (mid : PageMap) (change : Change) → Changes old mid size child ways columns x payload (Ok change) → IsChanged old mid size (top depth at_kid) ways columns x depth at_kid free change
-  child_changed mid change changes = subst (λ (n : ℕ). Changes old mid size n ways columns x payload (Ok change)) child_same changes depth at_kid free under_now record_is
+  child_changed : (mid : PageMap) (change : Change) → Changes old mid size child ways columns x payload (Ok change) → IsChanged old mid size (top depth at_kid) ways columns x y depth at_kid free change
+  child_changed mid change changes = subst (λ (n : ℕ). Changes old mid size n ways columns x payload (Ok change)) child_same changes y depth at_kid free under_now record_is
 
   pub child_refused : (mid : PageMap) (fault : Fault) → Changes old mid size child ways columns x payload (Err fault) → IsOutsideOrFull fault
-  child_refused mid fault changes = subst (λ (n : ℕ). Changes old mid size n ways columns x payload (Err fault)) child_same changes depth at_kid free under_now record_is
+  child_refused mid fault changes = subst (λ (n : ℕ). Changes old mid size n ways columns x payload (Err fault)) child_same changes y depth at_kid free under_now record_is
 
   same : has_entry columns x (entries_of (suc depth) t) ≡ has_entry columns x (entries_of depth at_kid)
   same = has_same old size number ways columns x depth t free under other
 
   -- where the entry is there, or the child stays, the page stays
-  pub above_there : (mid : PageMap) → Changes old mid size child ways columns x payload (Ok There) → IsChanged old mid size number (suc ways) columns x (suc depth) t free There
+  pub above_there : (mid : PageMap) → Changes old mid size child ways columns x payload (Ok There) → IsChanged old mid size number (suc ways) columns x y (suc depth) t free There
   above_there mid changes = (let is = child_changed mid There changes in (same ∙ is.0, is.1))
 
-  pub above_same : (mid : PageMap) → Changes old mid size child ways columns x payload (Ok Same) → IsChanged old mid size number (suc ways) columns x (suc depth) t free Same
-  above_same mid changes = (let is = child_changed mid Same changes in (same ∙ is.0, put_above old size number ways columns x depth t free under other (with_entry columns x) (with_within columns x) mid is.1))
+  pub above_same : (mid : PageMap) → Changes old mid size child ways columns x payload (Ok Same) → IsChanged old mid size number (suc ways) columns x y (suc depth) t free Same
+  above_same mid changes = (let is = child_changed mid Same changes in (same ∙ is.0, put_above old size number ways columns x depth t free under other (put_before columns x y) (with_within columns x y) mid is.1))
 
   module _ (mid : PageMap) (packed : Packed) (deep : Bool) (changes : Changes old mid size child ways columns x payload (Ok (Spread packed deep))) where
-    spread : IsChanged old mid size (top depth at_kid) ways columns x depth at_kid free (Spread packed deep)
+    spread : IsChanged old mid size (top depth at_kid) ways columns x y depth at_kid free (Spread packed deep)
     spread = child_changed mid (Spread packed deep) changes
 
     abbrev all : List Entry
-    all = with_entry columns x (entries_of depth at_kid)
+    all = put_before columns x y (entries_of depth at_kid)
 
     absent : has_entry columns x (entries_of (suc depth) t) ≡ false
     absent = same ∙ spread.0
@@ -109,14 +110,14 @@ module _ (old : PageMap) (size number ways : ℕ) (columns : List Collation) (x 
       g = grown old mid size (top depth at_kid) ways depth at_kid free under_now.stands all packed spread.2 new fan (store_or new (Ok fan) stores)
 
       -- one page took the child's place
-      pub widened_same : cells_of fan ≡ [] → IsChanged old new size number (suc ways) columns x (suc depth) t free Same
-      widened_same none = (absent, put_above old size number ways columns x depth t free under other (with_entry columns x) (with_within columns x) new (grown_alone old size number ways columns x depth t free under other (with_entry columns x) new fan g none))
+      pub widened_same : cells_of fan ≡ [] → IsChanged old new size number (suc ways) columns x y (suc depth) t free Same
+      widened_same none = (absent, put_above old size number ways columns x depth t free under other (put_before columns x y) (with_within columns x y) new (grown_alone old size number ways columns x depth t free under other (put_before columns x y) new fan g none))
 
       page_says : Says new number (Between (under.stands.lies.0).said (top depth t.last))
-      page_says = page_at_mid old size number ways columns x depth t free under other (with_entry columns x) new fan g
+      page_says = page_at_mid old size number ways columns x depth t free under other (put_before columns x y) new fan g
 
       long : length (page_at new number) ≡ size
-      long = long_mid old size number ways columns x depth t free under other (with_entry columns x) new fan g
+      long = long_mid old size number ways columns x depth t free under other (put_before columns x y) new fan g
 
       pub page_there : IsThere new size number
       page_there = record { has = page_says.has; whole = long }
@@ -138,7 +139,7 @@ module _ (old : PageMap) (size number ways : ℕ) (columns : List Collation) (x 
 
       -- several did
       pub widened_spread : (page : List ℕ) (result : Result Packed Fault) → page ≡ page_at new number → Fans page place fan result
-          → MatchResult result (λ p. IsChanged old new size number (suc ways) columns x (suc depth) t free (Spread p deep)) (λ fault. fault ≡ Memory)
+          → MatchResult result (λ p. IsChanged old new size number (suc ways) columns x y (suc depth) t free (Spread p deep)) (λ fault. fault ≡ Memory)
       widened_spread page result page_is fans = by result
           (subst (λ (n : ℕ). Fans (page_at new number) n fan result) way.place_is (subst (λ (p : List ℕ). Fans p place fan result) page_is fans))
         where
@@ -146,11 +147,11 @@ module _ (old : PageMap) (size number ways : ℕ) (columns : List Collation) (x 
           cells = subst (λ (n : ℕ). Pairwise (IsBetweenCell n) (cells_of fan) g.news) (sym long) g.cells
 
           by : (result : Result Packed Fault) → Fans (page_at new number) (front_count (is_less columns x) (entries_between t.kids)) fan result
-              → MatchResult result (λ p. IsChanged old new size number (suc ways) columns x (suc depth) t free (Spread p deep)) (λ fault. fault ≡ Memory)
+              → MatchResult result (λ p. IsChanged old new size number (suc ways) columns x y (suc depth) t free (Spread p deep)) (λ fault. fault ≡ Memory)
           by (Ok p) fans = (
             absent,
             deeper ways depth deep spread.1,
-            plan_above old size number ways columns x depth t free under other (with_entry columns x) new fan g (with_within columns x) p
+            plan_above old size number ways columns x depth t free under other (put_before columns x y) new fan g (with_within columns x y) p
                 (fans (under.stands.lies.0).said g.news (top depth t.last) node (usual (page_at new number) size (large_size size under.sized) long) within g.near cells g.few),
           )
           by (Err fault) fans = fans (under.stands.lies.0).said g.news (top depth t.last) node (usual (page_at new number) size (large_size size under.sized) long) within g.near cells g.few
@@ -182,7 +183,7 @@ some_none a e = cc
 pub some_is : (a b : ℕ) → Some a ≡ Some b → a ≡ b
 some_is a b e = cc
 
-module _ (old : PageMap) (size number ways : ℕ) (columns : List Collation) (x : Entry) where
+module _ (old : PageMap) (size number ways : ℕ) (columns : List Collation) (x : List Value) where
   abbrev top_node : (depth : ℕ) (t : Tree depth) (free : List ℕ) → IsUnder old size number ways columns depth t free → Node
   top_node depth t free under = (told old size number depth t under.stands.top_is under.stands.lies).node
 
@@ -203,10 +204,10 @@ module _ (old : PageMap) (size number ways : ℕ) (columns : List Collation) (x 
   step_found place zero t free under steps = leaf_there columns x t.entries place (stepped zero t free under (Ok (Found place)) steps).1
   step_found place (suc depth) t free under steps = between_there (entries_of depth) columns x t.kids t.last place (stepped (suc depth) t free under (Ok (Found place)) steps).1
 
-  pub step_here : (new : PageMap) (place : ℕ) (payload : List ℕ) (depth : ℕ) (t : Tree depth) (free : List ℕ) → IsUnder old size number ways columns depth t free → IsRecord payload x
-      → StepsFrom old size number columns x (Ok (Here place)) → (result : Result Packed Fault) → PlansLeaf old new size number place x payload result
-      → MatchResult result (λ packed. IsChanged old new size number ways columns x depth t free (Spread packed (nat_eq ways 0))) IsOutsideOrFull
-  step_here new place payload zero t free under record_is steps result plans = by result (plans ways t free under.stands under.sized record_is (omega (arith, is.0, count_within (is_less columns x) t.entries)))
+  pub step_here : (new : PageMap) (place : ℕ) (y : Entry) (payload : List ℕ) (depth : ℕ) (t : Tree depth) (free : List ℕ) → IsUnder old size number ways columns depth t free → IsRecord payload y
+      → StepsFrom old size number columns x (Ok (Here place)) → (result : Result Packed Fault) → PlansLeaf old new size number place payload result
+      → MatchResult result (λ packed. IsChanged old new size number ways columns x y depth t free (Spread packed (nat_eq ways 0))) IsOutsideOrFull
+  step_here new place y payload zero t free under record_is steps result plans = by result (plans y ways t free under.stands under.sized record_is (omega (arith, is.0, count_within (is_less columns x) t.entries)))
     where
       is : IsStep columns x (top_node zero t free under) (entries_at zero t) (Here place)
       is = stepped zero t free under (Ok (Here place)) steps
@@ -214,14 +215,14 @@ module _ (old : PageMap) (size number ways : ℕ) (columns : List Collation) (x 
       absent : has_entry columns x (entries_of zero t) ≡ false
       absent = leaf_absent columns x t.entries (not_less_first columns x (entries_of zero t) under.sorted) (λ equal. is.1 (subst (λ (n : ℕ). IsEqualAt columns x t.entries n) (sym is.0) equal))
 
-      put : entries_put place x t ≡ with_entry columns x (entries_of zero t)
-      put = ap (λ (n : ℕ). entries_put n x t) is.0 ∙ sym (put_at columns x t.entries)
+      put : entries_put place y t ≡ put_before columns x y (entries_of zero t)
+      put = ap (λ (n : ℕ). entries_put n y t) is.0 ∙ sym (put_at columns x y t.entries)
 
-      by : (result : Result Packed Fault) → MatchResult result (IsPlanned old new size zero (entries_put place x t) (below_of zero t) free) IsOutsideOrFull
-          → MatchResult result (λ packed. IsChanged old new size number ways columns x zero t free (Spread packed (nat_eq ways 0))) IsOutsideOrFull
+      by : (result : Result Packed Fault) → MatchResult result (IsPlanned old new size zero (entries_put place y t) (below_of zero t) free) IsOutsideOrFull
+          → MatchResult result (λ packed. IsChanged old new size number ways columns x y zero t free (Spread packed (nat_eq ways 0))) IsOutsideOrFull
       by (Ok packed) plan = (absent, deep_leaf ways, subst (λ (es : List Entry). IsPlanned old new size zero es (below_of zero t) free packed) put plan)
       by (Err fault) refused = refused
-  step_here new place payload (suc depth) t free under record_is steps result plans = absurd (some_none _ (stepped (suc depth) t free under (Ok (Here place)) steps).2)
+  step_here new place y payload (suc depth) t free under record_is steps result plans = absurd (some_none _ (stepped (suc depth) t free under (Ok (Here place)) steps).2)
 
   pub down_deep : (place child depth : ℕ) (t : Tree depth) (free : List ℕ) → IsUnder old size number ways columns depth t free → StepsFrom old size number columns x (Ok (Down place child)) → ways ≡ 0 → ⊥
   down_deep place child zero t free under steps none = none_some _ (stepped zero t free under (Ok (Down place child)) steps).2
@@ -235,7 +236,7 @@ kids_alike page m size place (it ∷ said) [] last pair = absurd pair
 kids_alike page m size zero (it ∷ said) (kid ∷ kids) last pair = pair.0.0
 kids_alike page m size (suc place) (it ∷ said) (kid ∷ kids) last pair = kids_alike page m size place said kids last pair.1
 
-module _ (old : PageMap) (size number fewer : ℕ) (columns : List Collation) (x : Entry) (payload : List ℕ) (record_is : IsRecord payload x) (place child : ℕ)
+module _ (old : PageMap) (size number fewer : ℕ) (columns : List Collation) (x : List Value) (y : Entry) (payload : List ℕ) (record_is : IsRecord payload y) (place child : ℕ)
     (steps : StepsFrom old size number columns x (Ok (Down place child))) where
   way_to : (depth : ℕ) (t : Tree (suc depth)) (free : List ℕ) → IsUnder old size number (suc fewer) columns (suc depth) t free → IsWayTo columns x depth t place child
   way_to depth t free under =
@@ -249,22 +250,22 @@ module _ (old : PageMap) (size number fewer : ℕ) (columns : List Collation) (x
   -- what becomes of the child decides
   pub down : (mid : PageMap) (depth : ℕ) (t : Tree depth) (free : List ℕ) → IsUnder old size number (suc fewer) columns depth t free → (result : Result Change Fault)
       → Changes old mid size child fewer columns x payload result
-      → MatchResult result (λ change. ((packed : Packed) (deep : Bool) → change ≡ Spread packed deep → ⊥) → IsChanged old mid size number (suc fewer) columns x depth t free change) IsOutsideOrFull
+      → MatchResult result (λ change. ((packed : Packed) (deep : Bool) → change ≡ Spread packed deep → ⊥) → IsChanged old mid size number (suc fewer) columns x y depth t free change) IsOutsideOrFull
   down mid zero t free under result changes = absurd (none_some _ (stepped old size number (suc fewer) columns x zero t free under (Ok (Down place child)) steps).2)
   down mid (suc depth) t free under result changes = by result changes
     where
       by : (result : Result Change Fault) → Changes old mid size child fewer columns x payload result
-          → MatchResult result (λ change. ((packed : Packed) (deep : Bool) → change ≡ Spread packed deep → ⊥) → IsChanged old mid size number (suc fewer) columns x (suc depth) t free change) IsOutsideOrFull
-      by (Ok There) changes = λ not. above_there old size number fewer columns x payload depth t free under record_is place child (way_to depth t free under) mid changes
-      by (Ok Same) changes = λ not. above_same old size number fewer columns x payload depth t free under record_is place child (way_to depth t free under) mid changes
+          → MatchResult result (λ change. ((packed : Packed) (deep : Bool) → change ≡ Spread packed deep → ⊥) → IsChanged old mid size number (suc fewer) columns x y (suc depth) t free change) IsOutsideOrFull
+      by (Ok There) changes = λ not. above_there old size number fewer columns x y payload depth t free under record_is place child (way_to depth t free under) mid changes
+      by (Ok Same) changes = λ not. above_same old size number fewer columns x y payload depth t free under record_is place child (way_to depth t free under) mid changes
       by (Ok (Spread packed deep)) changes = λ not. absurd (not packed deep refl)
-      by (Err fault) changes = child_refused old size number fewer columns x payload depth t free under record_is place child (way_to depth t free under) mid fault changes
+      by (Err fault) changes = child_refused old size number fewer columns x y payload depth t free under record_is place child (way_to depth t free under) mid fault changes
 
   pub down_spread : (mid new : PageMap) (depth : ℕ) (t : Tree depth) (free : List ℕ) → IsUnder old size number (suc fewer) columns depth t free → (packed : Packed) (deep : Bool)
       → Changes old mid size child fewer columns x payload (Ok (Spread packed deep)) → (result : Result Change Fault) → Widens mid new size number place child packed deep result
-      → MatchResult result (IsChanged old new size number (suc fewer) columns x depth t free) IsOutsideOrFull
+      → MatchResult result (IsChanged old new size number (suc fewer) columns x y depth t free) IsOutsideOrFull
   down_spread mid new zero t free under packed deep changes result widens = absurd (none_some _ (stepped old size number (suc fewer) columns x zero t free under (Ok (Down place child)) steps).2)
-  down_spread mid new (suc depth) t free under packed deep changes result widens = widens old fewer columns x payload depth t free under record_is (way_to depth t free under) changes
+  down_spread mid new (suc depth) t free under packed deep changes result widens = widens old fewer columns x y payload depth t free under record_is (way_to depth t free under) changes
 
 -- ---- exits
 
@@ -273,9 +274,9 @@ pub planned_since : (old mid new : PageMap) (size depth : ℕ) (entries : List E
 planned_since old mid new size depth entries used free result same is =
     subst (λ (m : PageMap). MatchResult result (IsPlanned old m size depth entries used free) IsOutsideOrFull) (sym same) is
 
-pub changed_since : (old mid new : PageMap) (size number ways : ℕ) (columns : List Collation) (x : Entry) (depth : ℕ) (t : Tree depth) (free : List ℕ) (change : Change) → new ≡ mid
-    → IsChanged old mid size number ways columns x depth t free change → IsChanged old new size number ways columns x depth t free change
-changed_since old mid new size number ways columns x depth t free change same is = subst (λ (m : PageMap). IsChanged old m size number ways columns x depth t free change) (sym same) is
+pub changed_since : (old mid new : PageMap) (size number ways : ℕ) (columns : List Collation) (x : List Value) (y : Entry) (depth : ℕ) (t : Tree depth) (free : List ℕ) (change : Change) → new ≡ mid
+    → IsChanged old mid size number ways columns x y depth t free change → IsChanged old new size number ways columns x y depth t free change
+changed_since old mid new size number ways columns x y depth t free change same is = subst (λ (m : PageMap). IsChanged old m size number ways columns x y depth t free change) (sym same) is
 
 -- a fan without cells
 pub no_cells : (fan : Fan) → length fan.cells.items ≡ 0 → cells_of fan ≡ []
@@ -292,11 +293,11 @@ pub not_same : (packed : Packed) (deep : Bool) → Same ≡ Spread packed deep �
 not_same packed deep e = cc
 
 -- another name for how many pages may follow
-pub changed_ways : (old new : PageMap) (size number ways other : ℕ) (columns : List Collation) (x : Entry) (depth : ℕ) (t : Tree depth) (free : List ℕ) (change : Change) → ways ≡ other
-    → IsChanged old new size number ways columns x depth t free change → IsChanged old new size number other columns x depth t free change
-changed_ways old new size number ways other columns x depth t free change same is = subst (λ (n : ℕ). IsChanged old new size number n columns x depth t free change) same is
+pub changed_ways : (old new : PageMap) (size number ways other : ℕ) (columns : List Collation) (x : List Value) (y : Entry) (depth : ℕ) (t : Tree depth) (free : List ℕ) (change : Change) → ways ≡ other
+    → IsChanged old new size number ways columns x y depth t free change → IsChanged old new size number other columns x y depth t free change
+changed_ways old new size number ways other columns x y depth t free change same is = subst (λ (n : ℕ). IsChanged old new size number n columns x y depth t free change) same is
 
-pub changed_or_ways : (old new : PageMap) (size number ways other : ℕ) (columns : List Collation) (x : Entry) (depth : ℕ) (t : Tree depth) (free : List ℕ) (result : Result Change Fault) → ways ≡ other
-    → MatchResult result (IsChanged old new size number ways columns x depth t free) IsOutsideOrFull → MatchResult result (IsChanged old new size number other columns x depth t free) IsOutsideOrFull
-changed_or_ways old new size number ways other columns x depth t free result same is =
-    subst (λ (n : ℕ). MatchResult result (IsChanged old new size number n columns x depth t free) IsOutsideOrFull) same is
+pub changed_or_ways : (old new : PageMap) (size number ways other : ℕ) (columns : List Collation) (x : List Value) (y : Entry) (depth : ℕ) (t : Tree depth) (free : List ℕ) (result : Result Change Fault) → ways ≡ other
+    → MatchResult result (IsChanged old new size number ways columns x y depth t free) IsOutsideOrFull → MatchResult result (IsChanged old new size number other columns x y depth t free) IsOutsideOrFull
+changed_or_ways old new size number ways other columns x y depth t free result same is =
+    subst (λ (n : ℕ). MatchResult result (IsChanged old new size number n columns x y depth t free) IsOutsideOrFull) same is

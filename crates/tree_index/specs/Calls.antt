@@ -5,12 +5,14 @@ use Rattle.sqlval.specs.PageSizes.{IsPageSize}
 use Rattle.sqlval.specs.declared.collation.Collation.{Collation}
 use Rattle.sqlval.specs.declared.fault.Fault.{Fault}
 use Rattle.sqlval.specs.declared.fault.Fault.TheVariants.{TooLong}
+use Rattle.record.specs.Record.{IsRecord}
 use Rattle.record.specs.Writing.{AreStorable}
 use Rattle.pages.specs.Calls.{IsOutsideOrFull}
 use Rattle.pages.specs.Counting.{occurs, Moves}
 use Rattle.pages.specs.Map.{PageMap}
 use Rattle.freelist.specs.Calls.{AreFree, KeepsHeader}
-use Rattle.tree_index.specs.Entries.{Entry, has_entry, with_entry, without_entry}
+use Rattle.sqlval.specs.declared.value.Value.{Value}
+use Rattle.tree_index.specs.Entries.{Entry, has_entry, key_in, with_entry, without_entry, LeadsTo}
 use Rattle.tree_index.specs.Tree.{IsIndexTree}
 
 -- a tree of these entries, and free pages beside it, none of them in it; page 1 isn't one of its pages
@@ -80,17 +82,40 @@ pub record BecomesEntries (old new : PageMap) (size root : ℕ) (columns : List 
 abbrev pub IsInsertRefusal : Entry → Fault → Type 0
 IsInsertRefusal entry fault = IsOutsideOrFull fault ⊎ ((fault ≡ TooLong) × (AreStorable entry → ⊥))
 
+-- the entry was put in, where none equals the key; or one does, and nothing changed
+abbrev pub IsInsertedBy : PageMap → PageMap → ℕ → ℕ → List Collation → List Value → Entry → List Entry → List ℕ → List ℕ → Bool → Type 0
+IsInsertedBy old new size root columns key entry entries used free true =
+    (has_entry columns key entries ≡ false) × BecomesEntries old new size root columns (with_entry columns entry entries) used free
+IsInsertedBy old new size root columns key entry entries used free false = (has_entry columns key entries ≡ true) × (new ≡ old)
+
 -- the entry was put in; or it is there and nothing changed
 abbrev pub IsInserted : PageMap → PageMap → ℕ → ℕ → List Collation → Entry → List Entry → List ℕ → List ℕ → Bool → Type 0
-IsInserted old new size root columns entry entries used free true =
-    (has_entry columns entry entries ≡ false) × BecomesEntries old new size root columns (with_entry columns entry entries) used free
-IsInserted old new size root columns entry entries used free false = (has_entry columns entry entries ≡ true) × (new ≡ old)
+IsInserted old new size root columns entry = IsInsertedBy old new size root columns entry entry
+
+-- the entry was put in, and no other begins with the values of its columns; or one does, and nothing changed
+abbrev pub IsInsertedAlone : PageMap → PageMap → ℕ → ℕ → List Collation → Entry → List Entry → List ℕ → List ℕ → Bool → Type 0
+IsInsertedAlone old new size root columns entry = IsInsertedBy old new size root columns (key_in columns entry) entry
+
+-- Where a tree stands, the entry of a payload is put at the place to which the key leads; or memory was short, a disk's call failed, or
+-- there are as many pages as there may be.
+abbrev pub PutsEntry : PageMap → PageMap → ℕ → ℕ → List Collation → List Value → List ℕ → Result Bool Fault → Type 0
+PutsEntry old new size root columns key payload result =
+    (entry : Entry) (entries : List Entry) (used free : List ℕ) → Stands old size root columns entries used free → LeadsTo columns key entry
+    → IsRecord payload entry → length entry ≡ length columns + 1
+    → MatchResult result (IsInsertedBy old new size root columns key entry entries used free) IsOutsideOrFull
 
 -- Where a tree stands, an entry of its columns and a rowid is put into it; or the call is refused.
 abbrev pub InsertsEntry : PageMap → PageMap → ℕ → ℕ → List Collation → Entry → Result Bool Fault → Type 0
 InsertsEntry old new size root columns entry result =
     (entries : List Entry) (used free : List ℕ) → Stands old size root columns entries used free → length entry ≡ length columns + 1
     → MatchResult result (IsInserted old new size root columns entry entries used free) (IsInsertRefusal entry)
+
+-- Where a tree stands, an entry of its columns and a rowid is put into it, unless one is there that begins with the values of these
+-- columns; or the call is refused.
+abbrev pub InsertsAlone : PageMap → PageMap → ℕ → ℕ → List Collation → Entry → Result Bool Fault → Type 0
+InsertsAlone old new size root columns entry result =
+    (entries : List Entry) (used free : List ℕ) → Stands old size root columns entries used free → length entry ≡ length columns + 1
+    → MatchResult result (IsInsertedAlone old new size root columns entry entries used free) (IsInsertRefusal entry)
 
 -- ---- an entry that is taken out
 

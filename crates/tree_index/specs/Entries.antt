@@ -1,5 +1,5 @@
 -- The entries of an index and their order (Database File Format, "Representation Of SQL Indices").
-use Rattle.std.specs.Prelude.{◌≡◌, ◌+◌, Bool, true, false, not, List, [], ◌∷◌, ◌++◌, map, length, filter, if◌then◌else◌}
+use Rattle.std.specs.Prelude.{◌≡◌, ◌+◌, Bool, true, false, not, List, [], ◌∷◌, ◌++◌, map, length, take, filter, if◌then◌else◌}
 use Rattle.std.specs.declared.cmp.Ordering.{Ordering}
 use Rattle.std.specs.Ordering.{is_gt, is_lt, is_eq}
 use Rattle.std.specs.List.{AllByRecursion, list_any}
@@ -36,6 +36,20 @@ has_entry columns entry entries = list_any (λ other. is_eq (entry_cmp columns e
 -- the entries with this one, before the first that isn't less
 abbrev pub with_entry : List Collation → Entry → List Entry → List Entry
 with_entry columns entry entries = placed (entry_cmp columns) entry entries
+
+-- the values of the columns, without the rowid
+abbrev pub key_in : List Collation → Entry → List Value
+key_in columns entry = take (length columns) entry
+
+-- the entries with this one, before the first that isn't less than a key
+abbrev pub put_before : List Collation → List Value → Entry → List Entry → List Entry
+put_before columns key entry [] = entry ∷ []
+put_before columns key entry (other ∷ entries) = if is_gt (entry_cmp columns key other) then (other ∷ put_before columns key entry entries) else (entry ∷ other ∷ entries)
+
+-- where no entry equals the key, the place of the key is that of the entry
+abbrev pub LeadsTo : List Collation → List Value → Entry → Type 0
+LeadsTo columns key entry = (entries : List Entry) → has_entry columns key entries ≡ false
+    → (has_entry columns entry entries ≡ false) × (put_before columns key entry entries ≡ with_entry columns entry entries)
 
 -- the entries without those that the order can't tell from this one
 abbrev pub without_entry : List Collation → Entry → List Entry → List Entry

@@ -8,6 +8,7 @@ use Rattle.sqlval.specs.PageSizes.{IsPageSize}
 use Rattle.sqlval.specs.declared.collation.Collation.{Collation}
 use Rattle.sqlval.specs.declared.fault.Fault.{Fault}
 use Rattle.sqlval.specs.declared.fault.Fault.TheVariants.{Memory}
+use Rattle.sqlval.specs.declared.value.Value.{Value}
 use Rattle.record.specs.Record.{IsRecord}
 use Rattle.pages.specs.Calls.{IsOutsideOrFull}
 use Rattle.pages.specs.Counting.{Moves}
@@ -23,7 +24,7 @@ use Rattle.tree_store.specs.Sides.{Side, Each, behind, children, each_of}
 use Rattle.tree_store.specs.Storing.{cells_of}
 use Rattle.tree_store.specs.declared.storing.Fan.{Fan}
 use Rattle.tree_index.specs.Comparing.{HasEntries, ComeFirst, child_at, child_of, front_count, is_less}
-use Rattle.tree_index.specs.Entries.{Entry, entry_cmp, AreEntries, has_entry, with_entry}
+use Rattle.tree_index.specs.Entries.{Entry, entry_cmp, AreEntries, has_entry, put_before}
 use Rattle.tree_index.specs.Freeing.{StandsUnder, all_of, below_of}
 use Rattle.tree_index.specs.Tree.{Held, IsHeldAs, IsKidAs, Leaf, Tree, top, entries_of, pages_of, Lies}
 use Rattle.tree_index.specs.declared.growing.Change.{Change}
@@ -36,11 +37,11 @@ use Rattle.tree_pack.specs.Parts.{total}
 -- ---- the way down
 
 -- the entry at a place equals this one
-abbrev pub IsEqualAt : List Collation → Entry → List Held → ℕ → Type 0
+abbrev pub IsEqualAt : List Collation → List Value → List Held → ℕ → Type 0
 IsEqualAt columns entry entries place = (place < length entries) × ((d : Held) → is_eq (entry_cmp columns entry (slice_index_or entries place d).entry) ≡ true)
 
 -- The way to an entry goes on so: it ends where it is, or at its place on a leaf; else it goes on to the child at its place.
-abbrev pub IsStep : List Collation → Entry → Node → List Held → Step → Type 0
+abbrev pub IsStep : List Collation → List Value → Node → List Held → Step → Type 0
 IsStep columns entry node entries (Found place) =
     (place ≡ front_count (is_less columns entry) entries) × IsEqualAt columns entry entries place
 IsStep columns entry node entries (Here place) =
@@ -49,13 +50,13 @@ IsStep columns entry node entries (Down place child) =
     (place ≡ front_count (is_less columns entry) entries) × (IsEqualAt columns entry entries place → ⊥) × (child_of place node ≡ Some child)
 
 -- whether the entry at a place equals this one was found; or memory was short, or a disk's call failed
-abbrev pub FindsEqual : PageMap → ℕ → ℕ → ℕ → List Collation → Entry → Result Bool Fault → Type 0
+abbrev pub FindsEqual : PageMap → ℕ → ℕ → ℕ → List Collation → List Value → Result Bool Fault → Type 0
 FindsEqual pages size number place columns entry result = (node : Node) (entries : List Held) → AreWhole size pages
     → HasEntries pages size number node entries
     → MatchResult result (λ same. (same ≡ true → IsEqualAt columns entry entries place) × (same ≡ false → IsEqualAt columns entry entries place → ⊥)) IsOutside
 
 -- where the entries that are less come first, it was found how the way goes on; or memory was short, or a disk's call failed
-abbrev pub StepsFrom : PageMap → ℕ → ℕ → List Collation → Entry → Result Step Fault → Type 0
+abbrev pub StepsFrom : PageMap → ℕ → ℕ → List Collation → List Value → Result Step Fault → Type 0
 StepsFrom pages size number columns entry result = (node : Node) (entries : List Held) → AreWhole size pages
     → HasEntries pages size number node entries → ComeFirst (is_less columns entry) entries
     → MatchResult result (IsStep columns entry node entries) IsOutside
@@ -151,44 +152,44 @@ pub record IsDeep (ways depth : ℕ) (deep : Bool) : Type 0 where
   pub full : deep ≡ true → ways ≤ depth
   pub short : deep ≡ false → depth < ways
 
--- what became of a page: the entry is there, and nothing changed; or it isn't, and the tree under the page has it now; or packed pages
--- have to take its place
-abbrev pub IsChanged : PageMap → PageMap → ℕ → ℕ → ℕ → List Collation → Entry → (depth : ℕ) → Tree depth → List ℕ → Change → Type 0
-IsChanged old new size number ways columns entry depth t free There = (has_entry columns entry (entries_of depth t) ≡ true) × (new ≡ old)
-IsChanged old new size number ways columns entry depth t free Same =
-    (has_entry columns entry (entries_of depth t) ≡ false)
-    × IsPut old new size number depth (with_entry columns entry (entries_of depth t)) (pages_of depth t) free
-IsChanged old new size number ways columns entry depth t free (Spread packed deep) =
-    (has_entry columns entry (entries_of depth t) ≡ false) × IsDeep ways depth deep
-    × IsPlanned old new size depth (with_entry columns entry (entries_of depth t)) (below_of depth t) free packed
+-- what became of a page: an entry that equals the key is there, and nothing changed; or none is, and the tree under the page has the new
+-- entry now; or packed pages have to take its place
+abbrev pub IsChanged : PageMap → PageMap → ℕ → ℕ → ℕ → List Collation → List Value → Entry → (depth : ℕ) → Tree depth → List ℕ → Change → Type 0
+IsChanged old new size number ways columns key entry depth t free There = (has_entry columns key (entries_of depth t) ≡ true) × (new ≡ old)
+IsChanged old new size number ways columns key entry depth t free Same =
+    (has_entry columns key (entries_of depth t) ≡ false)
+    × IsPut old new size number depth (put_before columns key entry (entries_of depth t)) (pages_of depth t) free
+IsChanged old new size number ways columns key entry depth t free (Spread packed deep) =
+    (has_entry columns key (entries_of depth t) ≡ false) × IsDeep ways depth deep
+    × IsPlanned old new size depth (put_before columns key entry (entries_of depth t)) (below_of depth t) free packed
 
 -- where a tree stands under a page, this becomes of it; or memory was short, a disk's call failed, or there are as many pages as
 -- there may be
-abbrev pub Changes : PageMap → PageMap → ℕ → ℕ → ℕ → List Collation → Entry → List ℕ → Result Change Fault → Type 0
-Changes old new size number ways columns entry payload result = (depth : ℕ) (t : Tree depth) (free : List ℕ)
+abbrev pub Changes : PageMap → PageMap → ℕ → ℕ → ℕ → List Collation → List Value → List ℕ → Result Change Fault → Type 0
+Changes old new size number ways columns key payload result = (entry : Entry) (depth : ℕ) (t : Tree depth) (free : List ℕ)
     → IsUnder old size number ways columns depth t free → IsRecord payload entry
-    → MatchResult result (IsChanged old new size number ways columns entry depth t free) IsOutsideOrFull
+    → MatchResult result (IsChanged old new size number ways columns key entry depth t free) IsOutsideOrFull
 
 -- the entries of a leaf with one more at a place
 abbrev pub entries_put : ℕ → Entry → Leaf → List Entry
 entries_put place entry t = take place (entries_of zero t) ++ (entry ∷ drop place (entries_of zero t))
 
 -- the way to an entry goes on to the child at a place of a page
-pub record IsWayTo (columns : List Collation) (entry : Entry) (depth : ℕ) (t : Tree (suc depth)) (place child : ℕ) : Type 0 where
+pub record IsWayTo (columns : List Collation) (entry : List Value) (depth : ℕ) (t : Tree (suc depth)) (place child : ℕ) : Type 0 where
   pub place_is : place ≡ front_count (is_less columns entry) (map (λ kid. kid.1) t.kids)
   pub other : IsEqualAt columns entry (map (λ kid. kid.1) t.kids) place → ⊥
   pub child_is : child ≡ child_at place (children (top depth) t.kids) (top depth t.last)
 
 -- where a leaf hasn't the entry, and the place is that of it, packed pages have to take its place
-abbrev pub PlansLeaf : PageMap → PageMap → ℕ → ℕ → ℕ → Entry → List ℕ → Result Packed Fault → Type 0
-PlansLeaf old new size number place entry payload result = (ways : ℕ) (t : Leaf) (free : List ℕ) → StandsUnder old size number ways zero t free
+abbrev pub PlansLeaf : PageMap → PageMap → ℕ → ℕ → ℕ → List ℕ → Result Packed Fault → Type 0
+PlansLeaf old new size number place payload result = (entry : Entry) (ways : ℕ) (t : Leaf) (free : List ℕ) → StandsUnder old size number ways zero t free
     → IsPageSize size → IsRecord payload entry → place ≤ length t.entries
     → MatchResult result (IsPlanned old new size zero (entries_put place entry t) (below_of zero t) free) IsOutsideOrFull
 
 -- where packed pages have to take the place of a child, this becomes of the page above
 abbrev pub Widens : PageMap → PageMap → ℕ → ℕ → ℕ → ℕ → Packed → Bool → Result Change Fault → Type 0
 Widens mid new size number place child packed deep result =
-    (old : PageMap) (ways : ℕ) (columns : List Collation) (entry : Entry) (payload : List ℕ) (depth : ℕ) (t : Tree (suc depth)) (free : List ℕ)
-    → IsUnder old size number (suc ways) columns (suc depth) t free → IsRecord payload entry → IsWayTo columns entry depth t place child
-    → Changes old mid size child ways columns entry payload (Ok (Spread packed deep))
-    → MatchResult result (IsChanged old new size number (suc ways) columns entry (suc depth) t free) IsOutsideOrFull
+    (old : PageMap) (ways : ℕ) (columns : List Collation) (key : List Value) (entry : Entry) (payload : List ℕ) (depth : ℕ) (t : Tree (suc depth)) (free : List ℕ)
+    → IsUnder old size number (suc ways) columns (suc depth) t free → IsRecord payload entry → IsWayTo columns key depth t place child
+    → Changes old mid size child ways columns key payload (Ok (Spread packed deep))
+    → MatchResult result (IsChanged old new size number (suc ways) columns key entry (suc depth) t free) IsOutsideOrFull

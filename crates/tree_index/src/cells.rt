@@ -42,7 +42,8 @@ pub fn most_in(page_size: usize) -> usize
 /// What the cell at a place has of its entry, on a page of these bytes. (`Damaged` for one that is no page of an index, or has no such
 /// cell.)
 pub(crate) fn local_in(bytes: &[u8], number: u32, place: usize) -> R<Local<'_>>
-    ensures only { (node : Node) (d : LocalIs) → IsNode bytes.now (counting.start_of number) node → IsOfIndex node
+    ensures only { (node : Node) (d : LocalIs) → IsNode bytes.now (counting.start_of number) node
+        → IsOfIndex node
         → place < length (locals_of node) → Answers local_of result (slice_index_or (locals_of node) place d) }
     ensures not_disk { IfErr result IsNotDiskFault }
 {
@@ -56,7 +57,8 @@ pub(crate) fn local_in(bytes: &[u8], number: u32, place: usize) -> R<Local<'_>>
 
 /// How many cells the page of these bytes has. (`Damaged` for one that is no page of a tree.)
 fn len_in(bytes: &[u8], number: u32) -> R<usize>
-    ensures only { (node : Node) → IsNode bytes.now (counting.start_of number) node → result ≡ Ok (count_of node) }
+    ensures only { (node : Node) → IsNode bytes.now (counting.start_of number) node
+        → result ≡ Ok (count_of node) }
     ensures not_disk { IfErr result IsNotDiskFault }
 {
     Ok(TreePage::over(bytes, start_of(number))?.len())
@@ -64,7 +66,8 @@ fn len_in(bytes: &[u8], number: u32) -> R<usize>
 
 /// The child at a place of an interior page; the last one stands after all cells. (`Damaged(Cell, 0)` as for `between`.)
 fn child_at(page: &TreePage<'_>, place: usize) -> R<Option<u32>>
-    ensures only { (node : Node) → IsNode page.now.bytes page.now.start node → IsBetween node → result ≡ Ok (child_for place node) }
+    ensures only { (node : Node) → IsNode page.now.bytes page.now.start node → IsBetween node
+        → result ≡ Ok (child_for place node) }
     ensures not_disk { IfErr result IsNotDiskFault }
 {
     if place < page.len() {
@@ -75,7 +78,8 @@ fn child_at(page: &TreePage<'_>, place: usize) -> R<Option<u32>>
 
 /// The child at a place of a page of these bytes, or None on a leaf. (`Damaged` for one that is no page of an index.)
 fn child_in(bytes: &[u8], number: u32, place: usize) -> R<Option<u32>>
-    ensures only { (node : Node) → IsNode bytes.now (counting.start_of number) node → IsOfIndex node → result ≡ Ok (child_for place node) }
+    ensures only { (node : Node) → IsNode bytes.now (counting.start_of number) node → IsOfIndex node
+        → result ≡ Ok (child_for place node) }
     ensures not_disk { IfErr result IsNotDiskFault }
 {
     let page = TreePage::over(bytes, start_of(number))?;
@@ -102,7 +106,8 @@ pub(crate) fn len_of<P: Pages>(pages: &mut P, number: u32) -> R<usize>
 /// The child at a place of a page, or None on a leaf. (What `load` refuses; `Damaged` for one that is no page of an index.)
 pub(crate) fn child_of<P: Pages>(pages: &mut P, number: u32, place: usize) -> R<Option<u32>>
     ensures found { IsTrue (P.Pages.tells (P.Pages.below pages.old))
-        → FindsChild (P.Pages.map pages.old) (P.Pages.limits (P.Pages.below pages.old)).page number place result }
+        → FindsChild (P.Pages.map pages.old) (P.Pages.limits (P.Pages.below pages.old)).page number
+        place result }
     ensures stays { Stays P.Pages.below P.Pages.map P.Pages.count P.Pages.failures result pages.old pages.new }
 {
     pages.load(number)?;

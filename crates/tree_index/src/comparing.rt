@@ -80,7 +80,9 @@ pub fn order<P: Pages>(
     scratch: &mut Vec<u8>,
 ) -> R<Ordering>
     ensures found { IsTrue (P.Pages.tells (P.Pages.below pages.old))
-        → ComparesEntry (P.Pages.map pages.old) (P.Pages.limits (P.Pages.below pages.old)).page number place key.entry.columns.now key.entry.values.now result }
+        → ComparesEntry (P.Pages.map pages.old)
+        (P.Pages.limits (P.Pages.below pages.old)).page number place key.entry.columns.now
+        key.entry.values.now result }
     ensures stays { Stays P.Pages.below P.Pages.map P.Pages.count P.Pages.failures result pages.old pages.new }
 {
     pages.load(number)?;

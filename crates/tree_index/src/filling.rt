@@ -41,7 +41,8 @@ fn cells_for<P: WritePages>(
     entries: &[Many<Value>],
 ) -> R<Vec<Vec<u8>>>
     ensures made { IsTrue (P.Pages.tells (P.Pages.below pages.old))
-        → MakesCells (λ cells. map (λ cell. cell.items) cells.items) (P.Pages.map pages.old) (P.Pages.map pages.new)
+        → MakesCells (λ cells. map (λ cell. cell.items) cells.items) (P.Pages.map pages.old)
+        (P.Pages.map pages.new)
         (P.Pages.limits (P.Pages.below pages.old)).page entries.now result }
     ensures kept { P.Pages.below pages.new ≡ P.Pages.below pages.old }
     ensures causes { Causes result (P.Pages.failures pages.old) (P.Pages.failures pages.new)
@@ -57,7 +58,8 @@ fn cells_for<P: WritePages>(
 /// Puts cells of entries on as many leaves as they need, below a root that has none yet. (`Memory`; what `store` and `build_over` refuse.)
 fn plant<P: WritePages>(alloc: Global, pages: &mut P, root: u32, cells: &[Vec<u8>]) -> R<()>
     ensures planted { IsTrue (P.Pages.tells (P.Pages.below pages.old))
-        → PlantsLeaves (P.Pages.map pages.old) (P.Pages.map pages.new) (P.Pages.limits (P.Pages.below pages.old)).page root
+        → PlantsLeaves (P.Pages.map pages.old) (P.Pages.map pages.new)
+        (P.Pages.limits (P.Pages.below pages.old)).page root
         (map (λ cell. cell.items) cells.now) result }
     ensures kept { P.Pages.below pages.new ≡ P.Pages.below pages.old }
     ensures causes { Causes result (P.Pages.failures pages.old) (P.Pages.failures pages.new)
@@ -84,7 +86,8 @@ fn plant<P: WritePages>(alloc: Global, pages: &mut P, root: u32, cells: &[Vec<u8
 /// refuse, and `TooLong` if no record can hold an entry. Pages that were taken before stay so.)
 pub fn fill_tree<P: WritePages>(alloc: Global, pages: &mut P, entries: &[Many<Value>]) -> R<u32>
     ensures filled { IsTrue (P.Pages.tells (P.Pages.below pages.old))
-        → FillsTree (P.Pages.map pages.old) (P.Pages.map pages.new) (P.Pages.limits (P.Pages.below pages.old)).page entries.now result }
+        → FillsTree (P.Pages.map pages.old) (P.Pages.map pages.new)
+        (P.Pages.limits (P.Pages.below pages.old)).page entries.now result }
     ensures kept { P.Pages.below pages.new ≡ P.Pages.below pages.old }
     ensures causes { Causes result (P.Pages.failures pages.old) (P.Pages.failures pages.new)
         (P.Pages.count pages.new ≡ (P.Pages.limits (P.Pages.below pages.new)).most) }

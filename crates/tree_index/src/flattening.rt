@@ -29,7 +29,8 @@ pub(crate) const LEVELS: u32 = 15;
 /// Puts copies of a page's cells after others. (`Memory`; `Damaged(Cell, 0)` if the page ends before a cell.)
 fn copy_cells(alloc: Global, page: &TreePage<'_>, out: &mut Vec<Vec<u8>>) -> R<()>
     ensures copied { (node : Node) (is : IsNode page.now.bytes page.now.start node)
-        → MatchResult result (λ done. map (λ cell. cell.items) out.new.items ≡ map (λ cell. cell.items) out.old.items ++ is.cells)
+        → MatchResult result (λ done. map (λ cell. cell.items) out.new.items ≡ map
+        (λ cell. cell.items) out.old.items ++ is.cells)
         (λ fault. fault ≡ Fault.Memory) }
     ensures not_disk { IfErr result IsNotDiskFault }
 {
@@ -74,7 +75,8 @@ fn read_cells<P: Pages>(alloc: Global, pages: &mut P, number: u32, out: &mut Vec
 
 /// The number of the page that a cell leads to. (`Damaged(Cell, 0)` if the cell is too short.)
 fn number_in(cell: &[u8]) -> R<u32>
-    ensures only { (size : ℕ) (kid : ℕ × Local) → IsBetweenCell size cell.now kid → result ≡ Ok kid.0 }
+    ensures only { (size : ℕ) (kid : ℕ × Local) → IsBetweenCell size cell.now kid
+        → result ≡ Ok kid.0 }
     ensures not_disk { IfErr result IsNotDiskFault }
 {
     let [a, b, c, d, ..] = cell else {
@@ -106,7 +108,8 @@ fn read_kids<P: Pages>(
     out: &mut Vec<Vec<u8>>,
 ) -> R<()>
     ensures read { IsTrue (P.Pages.tells (P.Pages.below pages.old))
-        → ReadsKids (P.Pages.map pages.old) (P.Pages.limits (P.Pages.below pages.old)).page (map (λ cell. cell.items) cells.now)
+        → ReadsKids (P.Pages.map pages.old) (P.Pages.limits (P.Pages.below pages.old)).page
+        (map (λ cell. cell.items) cells.now)
         (map (λ cell. cell.items) out.old.items) (map (λ cell. cell.items) out.new.items) result }
     ensures stays { Stays P.Pages.below P.Pages.map P.Pages.count P.Pages.failures result pages.old pages.new }
 {
@@ -148,7 +151,8 @@ fn numbers_of(alloc: Global, fan: &Fan) -> R<Vec<u32>>
 /// The children of all pages of a fan, which are given back. (What `fan_below` and `give` refuse.)
 fn opened<P: WritePages>(alloc: Global, pages: &mut P, fan: &Fan) -> R<Fan>
     ensures opened { IsTrue (P.Pages.tells (P.Pages.below pages.old))
-        → Opens (P.Pages.map pages.old) (P.Pages.map pages.new) (P.Pages.limits (P.Pages.below pages.old)).page fan.now result }
+        → Opens (P.Pages.map pages.old) (P.Pages.map pages.new)
+        (P.Pages.limits (P.Pages.below pages.old)).page fan.now result }
     ensures kept { P.Pages.below pages.new ≡ P.Pages.below pages.old }
     ensures causes { Causes result (P.Pages.failures pages.old) (P.Pages.failures pages.new) ⊥ }
 {
@@ -162,7 +166,8 @@ fn opened<P: WritePages>(alloc: Global, pages: &mut P, fan: &Fan) -> R<Fan>
 /// (`Damaged(Depth, ..)` if there are more; what `opened` refuses.)
 fn leaves_below<P: WritePages>(alloc: Global, pages: &mut P, fan: Fan, ways: u32) -> R<Fan>
     ensures found { IsTrue (P.Pages.tells (P.Pages.below pages.old))
-        → FindsLeaves (P.Pages.map pages.old) (P.Pages.map pages.new) (P.Pages.limits (P.Pages.below pages.old)).page fan ways result }
+        → FindsLeaves (P.Pages.map pages.old) (P.Pages.map pages.new)
+        (P.Pages.limits (P.Pages.below pages.old)).page fan ways result }
     ensures kept { P.Pages.below pages.new ≡ P.Pages.below pages.old }
     ensures causes { Causes result (P.Pages.failures pages.old) (P.Pages.failures pages.new) ⊥ }
 {
@@ -181,7 +186,8 @@ fn leaves_below<P: WritePages>(alloc: Global, pages: &mut P, fan: Fan, ways: u32
 /// The pages above those of a fan, as full as may be, as a fan. (`Memory`; what `store` refuses.)
 fn gathered<P: WritePages>(alloc: Global, pages: &mut P, fan: &Fan) -> R<Fan>
     ensures gathered { IsTrue (P.Pages.tells (P.Pages.below pages.old))
-        → Gathers (P.Pages.map pages.old) (P.Pages.map pages.new) (P.Pages.limits (P.Pages.below pages.old)).page fan.now result }
+        → Gathers (P.Pages.map pages.old) (P.Pages.map pages.new)
+        (P.Pages.limits (P.Pages.below pages.old)).page fan.now result }
     ensures kept { P.Pages.below pages.new ≡ P.Pages.below pages.old }
     ensures causes { Causes result (P.Pages.failures pages.old) (P.Pages.failures pages.new)
         (P.Pages.count pages.new ≡ (P.Pages.limits (P.Pages.below pages.new)).most) }
@@ -201,7 +207,8 @@ fn gathered<P: WritePages>(alloc: Global, pages: &mut P, fan: &Fan) -> R<Fan>
 
 /// Whether the cells of a fan fit a root. (`Memory`.)
 fn fits_root(alloc: Global, page_size: usize, root: u32, fan: &Fan) -> R<bool>
-    ensures fits { IfOk result (λ fit. IsTrue fit ↔ Fits page_size (counting.start_of root) 4 (cells_of fan.now)) }
+    ensures fits { IfOk result (λ fit. IsTrue fit ↔ Fits page_size (counting.start_of root) 4
+        (cells_of fan.now)) }
     ensures refused { IfErr result (λ fault. fault ≡ Fault.Memory) }
 {
     let cells = cells_in(alloc, fan.cells.as_slice())?;
@@ -219,7 +226,8 @@ pub(crate) fn build_over<P: WritePages>(
     levels: u32,
 ) -> R<()>
     ensures built { IsTrue (P.Pages.tells (P.Pages.below pages.old))
-        → BuildsOver (P.Pages.map pages.old) (P.Pages.map pages.new) (P.Pages.limits (P.Pages.below pages.old)).page root fan.now levels result }
+        → BuildsOver (P.Pages.map pages.old) (P.Pages.map pages.new)
+        (P.Pages.limits (P.Pages.below pages.old)).page root fan.now levels result }
     ensures kept { P.Pages.below pages.new ≡ P.Pages.below pages.old }
     ensures causes { Causes result (P.Pages.failures pages.old) (P.Pages.failures pages.new)
         (P.Pages.count pages.new ≡ (P.Pages.limits (P.Pages.below pages.new)).most) }
@@ -240,7 +248,8 @@ pub(crate) fn build_over<P: WritePages>(
 /// above them. (What `leaves_below` and `build_over` refuse.)
 fn flatten<P: WritePages>(alloc: Global, pages: &mut P, root: u32) -> R<()>
     ensures flattened { IsTrue (P.Pages.tells (P.Pages.below pages.old))
-        → Flattens (P.Pages.map pages.old) (P.Pages.map pages.new) (P.Pages.limits (P.Pages.below pages.old)).page root result }
+        → Flattens (P.Pages.map pages.old) (P.Pages.map pages.new)
+        (P.Pages.limits (P.Pages.below pages.old)).page root result }
     ensures kept { P.Pages.below pages.new ≡ P.Pages.below pages.old }
     ensures causes { Causes result (P.Pages.failures pages.old) (P.Pages.failures pages.new)
         (P.Pages.count pages.new ≡ (P.Pages.limits (P.Pages.below pages.new)).most) }
@@ -261,7 +270,8 @@ pub(crate) fn store_top<P: WritePages>(
     deep: bool,
 ) -> R<()>
     ensures stored { IsTrue (P.Pages.tells (P.Pages.below pages.old))
-        → StoresTop (P.Pages.map pages.old) (P.Pages.map pages.new) (P.Pages.limits (P.Pages.below pages.old)).page root packed.now deep result }
+        → StoresTop (P.Pages.map pages.old) (P.Pages.map pages.new)
+        (P.Pages.limits (P.Pages.below pages.old)).page root packed.now deep result }
     ensures kept { P.Pages.below pages.new ≡ P.Pages.below pages.old }
     ensures causes { Causes result (P.Pages.failures pages.old) (P.Pages.failures pages.new)
         (P.Pages.count pages.new ≡ (P.Pages.limits (P.Pages.below pages.new)).most) }

@@ -35,7 +35,8 @@ fn empty(alloc: Global, page_size: usize) -> R<Vec<u8>>
 /// `take` refuses. A page that was taken before stays so.)
 pub fn new_tree<P: WritePages>(alloc: Global, pages: &mut P) -> R<u32>
     ensures made { IsTrue (P.Pages.tells (P.Pages.below pages.old))
-        → MakesTree (P.Pages.map pages.old) (P.Pages.map pages.new) (P.Pages.limits (P.Pages.below pages.old)).page result }
+        → MakesTree (P.Pages.map pages.old) (P.Pages.map pages.new)
+        (P.Pages.limits (P.Pages.below pages.old)).page result }
     ensures kept { P.Pages.below pages.new ≡ P.Pages.below pages.old }
     ensures causes { Causes result (P.Pages.failures pages.old) (P.Pages.failures pages.new)
         (P.Pages.count pages.new ≡ (P.Pages.limits (P.Pages.below pages.new)).most) }
@@ -55,7 +56,8 @@ pub(crate) fn free_entry<P: WritePages>(
     place: usize,
 ) -> R<()>
     ensures freed { IsTrue (P.Pages.tells (P.Pages.below pages.old))
-        → FreesEntry (P.Pages.map pages.old) (P.Pages.map pages.new) (P.Pages.limits (P.Pages.below pages.old)).page number place result }
+        → FreesEntry (P.Pages.map pages.old) (P.Pages.map pages.new)
+        (P.Pages.limits (P.Pages.below pages.old)).page number place result }
     ensures kept { P.Pages.below pages.new ≡ P.Pages.below pages.old }
     ensures causes { Causes result (P.Pages.failures pages.old) (P.Pages.failures pages.new) ⊥ }
 {
@@ -77,7 +79,8 @@ pub(crate) fn free_entry<P: WritePages>(
 /// Gives the pages back over which the entries of a page go on. (What `free_entry` refuses.)
 fn free_entries<P: WritePages>(alloc: Global, pages: &mut P, number: u32, len: usize) -> R<()>
     ensures freed { IsTrue (P.Pages.tells (P.Pages.below pages.old))
-        → FreesEntries (P.Pages.map pages.old) (P.Pages.map pages.new) (P.Pages.limits (P.Pages.below pages.old)).page number len result }
+        → FreesEntries (P.Pages.map pages.old) (P.Pages.map pages.new)
+        (P.Pages.limits (P.Pages.below pages.old)).page number len result }
     ensures kept { P.Pages.below pages.new ≡ P.Pages.below pages.old }
     ensures causes { Causes result (P.Pages.failures pages.old) (P.Pages.failures pages.new) ⊥ }
 {
@@ -99,7 +102,8 @@ fn free_kids<P: WritePages>(
 ) -> R<()>
     requires { 1 ≤ ways }
     ensures freed { IsTrue (P.Pages.tells (P.Pages.below pages.old))
-        → FreesKids (P.Pages.map pages.old) (P.Pages.map pages.new) (P.Pages.limits (P.Pages.below pages.old)).page number count ways result }
+        → FreesKids (P.Pages.map pages.old) (P.Pages.map pages.new)
+        (P.Pages.limits (P.Pages.below pages.old)).page number count ways result }
     ensures kept { P.Pages.below pages.new ≡ P.Pages.below pages.old }
     ensures causes { Causes result (P.Pages.failures pages.old) (P.Pages.failures pages.new) ⊥ }
 {
@@ -118,7 +122,8 @@ fn free_kids<P: WritePages>(
 #[cycle(freeing)]
 fn free_below<P: WritePages>(alloc: Global, pages: &mut P, number: u32, ways: u32) -> R<()>
     ensures freed { IsTrue (P.Pages.tells (P.Pages.below pages.old))
-        → FreesBelow (P.Pages.map pages.old) (P.Pages.map pages.new) (P.Pages.limits (P.Pages.below pages.old)).page number ways result }
+        → FreesBelow (P.Pages.map pages.old) (P.Pages.map pages.new)
+        (P.Pages.limits (P.Pages.below pages.old)).page number ways result }
     ensures kept { P.Pages.below pages.new ≡ P.Pages.below pages.old }
     ensures causes { Causes result (P.Pages.failures pages.old) (P.Pages.failures pages.new) ⊥ }
 {
@@ -138,7 +143,8 @@ fn free_below<P: WritePages>(alloc: Global, pages: &mut P, number: u32, ways: u3
 /// Pages that were given back before stay so.)
 pub fn free_tree<P: WritePages>(alloc: Global, pages: &mut P, root: u32) -> R<()>
     ensures freed { IsTrue (P.Pages.tells (P.Pages.below pages.old))
-        → FreesTree (P.Pages.map pages.old) (P.Pages.map pages.new) (P.Pages.limits (P.Pages.below pages.old)).page root result }
+        → FreesTree (P.Pages.map pages.old) (P.Pages.map pages.new)
+        (P.Pages.limits (P.Pages.below pages.old)).page root result }
     ensures kept { P.Pages.below pages.new ≡ P.Pages.below pages.old }
     ensures causes { Causes result (P.Pages.failures pages.old) (P.Pages.failures pages.new) ⊥ }
 {
@@ -150,7 +156,8 @@ pub fn free_tree<P: WritePages>(alloc: Global, pages: &mut P, root: u32) -> R<()
 /// Pages that were given back before stay so.)
 pub fn clear<P: WritePages>(alloc: Global, pages: &mut P, root: u32) -> R<()>
     ensures cleared { IsTrue (P.Pages.tells (P.Pages.below pages.old))
-        → ClearsTree (P.Pages.map pages.old) (P.Pages.map pages.new) (P.Pages.limits (P.Pages.below pages.old)).page root result }
+        → ClearsTree (P.Pages.map pages.old) (P.Pages.map pages.new)
+        (P.Pages.limits (P.Pages.below pages.old)).page root result }
     ensures kept { P.Pages.below pages.new ≡ P.Pages.below pages.old }
     ensures causes { Causes result (P.Pages.failures pages.old) (P.Pages.failures pages.new) ⊥ }
 {

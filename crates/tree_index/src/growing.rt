@@ -46,8 +46,9 @@ fn packed_leaf<P: WritePages>(
     new: New<'_>,
 ) -> R<Packed>
     ensures planned { IsTrue (P.Pages.tells (P.Pages.below pages.old))
-        → PlansLeaf (P.Pages.map pages.old) (P.Pages.map pages.new) (P.Pages.limits (P.Pages.below pages.old)).page number place
-        new.entry.key.values.now new.entry.payload.now result }
+        → PlansLeaf (P.Pages.map pages.old) (P.Pages.map pages.new)
+        (P.Pages.limits (P.Pages.below pages.old)).page number place
+        new.entry.payload.now result }
     ensures kept { P.Pages.below pages.new ≡ P.Pages.below pages.old }
     ensures causes { Causes result (P.Pages.failures pages.old) (P.Pages.failures pages.new)
         (P.Pages.count pages.new ≡ (P.Pages.limits (P.Pages.below pages.new)).most) }
@@ -74,7 +75,8 @@ pub(crate) fn parent_cell(alloc: Global, cell: &[u8], child: u32) -> R<Vec<u8>>
 
 /// The bytes of cells, without copies.
 pub(crate) fn cells_in<'a>(alloc: Global, cells: &'a [Vec<u8>]) -> R<Vec<&'a [u8]>>
-    ensures cells { IfOk result (λ lent. map (λ cell. cell.now) lent.items ≡ map (λ cell. cell.items) cells.now) }
+    ensures cells { IfOk result (λ lent. map (λ cell. cell.now) lent.items ≡ map
+        (λ cell. cell.items) cells.now) }
     ensures refused { IfErr result (λ fault. fault ≡ Fault.Memory) }
 {
     let mut lent = Vec::with_capacity(alloc, cells.len())?;
@@ -119,7 +121,8 @@ fn widened<P: WritePages>(
     deep: bool,
 ) -> R<Change>
     ensures widened { IsTrue (P.Pages.tells (P.Pages.below pages.old))
-        → Widens (P.Pages.map pages.old) (P.Pages.map pages.new) (P.Pages.limits (P.Pages.below pages.old)).page number place child packed.now deep result }
+        → Widens (P.Pages.map pages.old) (P.Pages.map pages.new)
+        (P.Pages.limits (P.Pages.below pages.old)).page number place child packed.now deep result }
     ensures kept { P.Pages.below pages.new ≡ P.Pages.below pages.old }
     ensures causes { Causes result (P.Pages.failures pages.old) (P.Pages.failures pages.new)
         (P.Pages.count pages.new ≡ (P.Pages.limits (P.Pages.below pages.new)).most) }
@@ -144,7 +147,8 @@ pub(crate) fn packed_below<P: WritePages>(
     scratch: &mut Vec<u8>,
 ) -> R<Change>
     ensures changes { IsTrue (P.Pages.tells (P.Pages.below pages.old))
-        → Changes (P.Pages.map pages.old) (P.Pages.map pages.new) (P.Pages.limits (P.Pages.below pages.old)).page number ways
+        → Changes (P.Pages.map pages.old) (P.Pages.map pages.new)
+        (P.Pages.limits (P.Pages.below pages.old)).page number ways
         new.entry.key.columns.now new.entry.key.values.now new.entry.payload.now result }
     ensures kept { P.Pages.below pages.new ≡ P.Pages.below pages.old }
     ensures causes { Causes result (P.Pages.failures pages.old) (P.Pages.failures pages.new)

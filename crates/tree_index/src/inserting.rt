@@ -2,7 +2,8 @@
 
 ghost use Rattle.std.specs.Prelude.{◌≡◌, IsTrue};
 ghost use Rattle.pages.specs.Calls.{Causes};
-ghost use Rattle.tree_index.specs.Calls.{InsertsEntry};
+ghost use Rattle.tree_index.specs.Calls.{InsertsAlone, InsertsEntry, PutsEntry};
+ghost use Rattle.tree_index.specs.Entries.{key_in};
 
 use crate::comparing::Key;
 use crate::flattening::store_top;
@@ -13,30 +14,18 @@ use record::encode_row;
 use sqlval::{Collation, R, Value};
 use std::alloc::Global;
 
-/// Puts an entry into the tree under this root, which keeps its number. Answers `false` if the entry is there: then nothing changes.
-/// A tree whose ways would have more than 20 pages is built anew. (`TooLong` if no record can hold the entry; what the calls of pages
-/// refuse; `Damaged` for pages that are none of an index's tree.)
-pub fn insert<P: WritePages>(
-    alloc: Global,
-    pages: &mut P,
-    root: u32,
-    columns: &[Collation],
-    entry: &[Value],
-) -> R<bool>
-    ensures inserted { IsTrue (P.Pages.tells (P.Pages.below pages.old))
-        → InsertsEntry (P.Pages.map pages.old) (P.Pages.map pages.new) (P.Pages.limits (P.Pages.below pages.old)).page root columns.now entry.now result }
+/// Puts an entry into the tree under this root, which keeps its number. Answers `false` if there is one that equals the key: then nothing
+/// changes. A tree whose ways would have more than 20 pages is built anew. (What the calls of pages refuse; `Damaged` for pages that are none
+/// of an index's tree.)
+fn put_new<P: WritePages>(alloc: Global, pages: &mut P, root: u32, new: New<'_>) -> R<bool>
+    ensures put { IsTrue (P.Pages.tells (P.Pages.below pages.old))
+        → PutsEntry (P.Pages.map pages.old) (P.Pages.map pages.new)
+        (P.Pages.limits (P.Pages.below pages.old)).page root
+        new.entry.key.columns.now new.entry.key.values.now new.entry.payload.now result }
     ensures kept { P.Pages.below pages.new ≡ P.Pages.below pages.old }
     ensures causes { Causes result (P.Pages.failures pages.old) (P.Pages.failures pages.new)
         (P.Pages.count pages.new ≡ (P.Pages.limits (P.Pages.below pages.new)).most) }
 {
-    let payload = encode_row(alloc, entry)?;
-    let new = New {
-        key: Key {
-            columns,
-            values: entry,
-        },
-        payload: payload.as_slice(),
-    };
     let mut scratch = Vec::new(alloc);
     match packed_below(alloc, pages, root, WAYS, new, &mut scratch)? {
         Change::There => Ok(false),
@@ -46,4 +35,61 @@ pub fn insert<P: WritePages>(
             Ok(true)
         }
     }
+}
+
+/// Puts an entry into the tree under this root. Answers `false` if the entry is there: then nothing changes. (`TooLong` if no record can hold
+/// the entry; what `put_new` refuses.)
+pub fn insert<P: WritePages>(
+    alloc: Global,
+    pages: &mut P,
+    root: u32,
+    columns: &[Collation],
+    entry: &[Value],
+) -> R<bool>
+    ensures inserted { IsTrue (P.Pages.tells (P.Pages.below pages.old))
+        → InsertsEntry (P.Pages.map pages.old) (P.Pages.map pages.new)
+        (P.Pages.limits (P.Pages.below pages.old)).page root columns.now entry.now result }
+    ensures kept { P.Pages.below pages.new ≡ P.Pages.below pages.old }
+    ensures causes { Causes result (P.Pages.failures pages.old) (P.Pages.failures pages.new)
+        (P.Pages.count pages.new ≡ (P.Pages.limits (P.Pages.below pages.new)).most) }
+{
+    let payload = encode_row(alloc, entry)?;
+    let key = Key {
+        columns,
+        values: entry,
+    };
+    let payload = payload.as_slice();
+    put_new(alloc, pages, root, New { key, payload })
+}
+
+/// The values of an entry's columns, without the rowid.
+fn values_in<'a>(columns: &[Collation], entry: &'a [Value]) -> &'a [Value]
+    ensures { result.now ≡ key_in columns.now entry.now }
+{
+    &entry[..columns.len().min(entry.len())]
+}
+
+/// Puts an entry into the tree under this root, unless one is there that has the values of its columns, whatever its rowid: then it answers
+/// `false`, and nothing changes. The tree is gone down once. (As `insert`.)
+pub fn insert_alone<P: WritePages>(
+    alloc: Global,
+    pages: &mut P,
+    root: u32,
+    columns: &[Collation],
+    entry: &[Value],
+) -> R<bool>
+    ensures inserted { IsTrue (P.Pages.tells (P.Pages.below pages.old))
+        → InsertsAlone (P.Pages.map pages.old) (P.Pages.map pages.new)
+        (P.Pages.limits (P.Pages.below pages.old)).page root columns.now entry.now result }
+    ensures kept { P.Pages.below pages.new ≡ P.Pages.below pages.old }
+    ensures causes { Causes result (P.Pages.failures pages.old) (P.Pages.failures pages.new)
+        (P.Pages.count pages.new ≡ (P.Pages.limits (P.Pages.below pages.new)).most) }
+{
+    let payload = encode_row(alloc, entry)?;
+    let key = Key {
+        columns,
+        values: values_in(columns, entry),
+    };
+    let payload = payload.as_slice();
+    put_new(alloc, pages, root, New { key, payload })
 }

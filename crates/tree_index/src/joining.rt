@@ -65,7 +65,8 @@ fn merged_around<P: Pages>(
     ensures merged { IsTrue (P.Pages.tells (P.Pages.below pages.old))
         → IsThere (P.Pages.map pages.old) (P.Pages.limits (P.Pages.below pages.old)).page left
         → IsThere (P.Pages.map pages.old) (P.Pages.limits (P.Pages.below pages.old)).page right
-        → Merges (page_at (P.Pages.map pages.old) left) (cell.now ∷ []) (page_at (P.Pages.map pages.old) right) result }
+        → Merges (page_at (P.Pages.map pages.old) left) (cell.now ∷ [])
+        (page_at (P.Pages.map pages.old) right) result }
     ensures stays { Stays P.Pages.below P.Pages.map P.Pages.count P.Pages.failures result pages.old pages.new }
 {
     pages.load(left)?;
@@ -78,7 +79,8 @@ fn merged_around<P: Pages>(
 /// and the first child of the second. (What `load`, `fanned` and `join` refuse.)
 fn seamed<P: Pages>(alloc: Global, pages: &mut P, left: u32, fan: &Fan, right: u32) -> R<Packed>
     ensures seams { IsTrue (P.Pages.tells (P.Pages.below pages.old))
-        → Seams (P.Pages.map pages.old) (P.Pages.limits (P.Pages.below pages.old)).page left fan.now right result }
+        → Seams (P.Pages.map pages.old) (P.Pages.limits (P.Pages.below pages.old)).page left fan.now
+        right result }
     ensures stays { Stays P.Pages.below P.Pages.map P.Pages.count P.Pages.failures result pages.old pages.new }
 {
     pages.load(right)?;
@@ -106,7 +108,8 @@ pub(crate) fn united<P: WritePages>(
     depth: u32,
 ) -> R<Packed>
     ensures united { IsTrue (P.Pages.tells (P.Pages.below pages.old))
-        → Unites (P.Pages.map pages.old) (P.Pages.map pages.new) (P.Pages.limits (P.Pages.below pages.old)).page left right depth result }
+        → Unites (P.Pages.map pages.old) (P.Pages.map pages.new)
+        (P.Pages.limits (P.Pages.below pages.old)).page left right depth result }
     ensures kept { P.Pages.below pages.new ≡ P.Pages.below pages.old }
     ensures causes { Causes result (P.Pages.failures pages.old) (P.Pages.failures pages.new)
         (P.Pages.count pages.new ≡ (P.Pages.limits (P.Pages.below pages.new)).most) }
@@ -124,7 +127,8 @@ pub(crate) fn united<P: WritePages>(
 /// The cell of the entry at a place of a page, as a leaf would have it. (`Memory`; what `load` refuses; `Damaged` if there is none.)
 fn entry_at<P: Pages>(alloc: Global, pages: &mut P, number: u32, place: usize) -> R<Vec<u8>>
     ensures given { IsTrue (P.Pages.tells (P.Pages.below pages.old))
-        → GivesEntry (P.Pages.map pages.old) (P.Pages.limits (P.Pages.below pages.old)).page number place result }
+        → GivesEntry (P.Pages.map pages.old) (P.Pages.limits (P.Pages.below pages.old)).page number
+        place result }
     ensures stays { Stays P.Pages.below P.Pages.map P.Pages.count P.Pages.failures result pages.old pages.new }
 {
     pages.load(number)?;
@@ -155,7 +159,8 @@ fn bound<P: Pages>(
     depth: u32,
 ) -> R<Packed>
     ensures bound { IsTrue (P.Pages.tells (P.Pages.below pages.old))
-        → Binds (P.Pages.map pages.old) (P.Pages.limits (P.Pages.below pages.old)).page left entry.now right depth result }
+        → Binds (P.Pages.map pages.old) (P.Pages.limits (P.Pages.below pages.old)).page left
+        entry.now right depth result }
     ensures stays { Stays P.Pages.below P.Pages.map P.Pages.count P.Pages.failures result pages.old pages.new }
 {
     if depth == 0 {
@@ -188,7 +193,8 @@ fn spread_two<P: WritePages>(
     packed: &Packed,
 ) -> R<Packed>
     ensures spread { IsTrue (P.Pages.tells (P.Pages.below pages.old))
-        → SpreadsTwo (P.Pages.map pages.old) (P.Pages.map pages.new) (P.Pages.limits (P.Pages.below pages.old)).page number place left right packed.now result }
+        → SpreadsTwo (P.Pages.map pages.old) (P.Pages.map pages.new)
+        (P.Pages.limits (P.Pages.below pages.old)).page number place left right packed.now result }
     ensures kept { P.Pages.below pages.new ≡ P.Pages.below pages.old }
     ensures causes { Causes result (P.Pages.failures pages.old) (P.Pages.failures pages.new)
         (P.Pages.count pages.new ≡ (P.Pages.limits (P.Pages.below pages.new)).most) }
@@ -208,7 +214,8 @@ pub(crate) fn joined<P: WritePages>(
     depth: u32,
 ) -> R<Packed>
     ensures joined { IsTrue (P.Pages.tells (P.Pages.below pages.old))
-        → JoinsAt (P.Pages.map pages.old) (P.Pages.map pages.new) (P.Pages.limits (P.Pages.below pages.old)).page number place depth result }
+        → JoinsAt (P.Pages.map pages.old) (P.Pages.map pages.new)
+        (P.Pages.limits (P.Pages.below pages.old)).page number place depth result }
     ensures kept { P.Pages.below pages.new ≡ P.Pages.below pages.old }
     ensures causes { Causes result (P.Pages.failures pages.old) (P.Pages.failures pages.new)
         (P.Pages.count pages.new ≡ (P.Pages.limits (P.Pages.below pages.new)).most) }
@@ -230,7 +237,8 @@ pub(crate) fn parted<P: WritePages>(
     depth: u32,
 ) -> R<Packed>
     ensures parted { IsTrue (P.Pages.tells (P.Pages.below pages.old))
-        → PartsAt (P.Pages.map pages.old) (P.Pages.map pages.new) (P.Pages.limits (P.Pages.below pages.old)).page number place depth result }
+        → PartsAt (P.Pages.map pages.old) (P.Pages.map pages.new)
+        (P.Pages.limits (P.Pages.below pages.old)).page number place depth result }
     ensures kept { P.Pages.below pages.new ≡ P.Pages.below pages.old }
     ensures causes { Causes result (P.Pages.failures pages.old) (P.Pages.failures pages.new)
         (P.Pages.count pages.new ≡ (P.Pages.limits (P.Pages.below pages.new)).most) }

@@ -20,7 +20,7 @@ pub use cells::most_in;
 pub use comparing::{Key, compare_entry, order};
 pub use filling::fill_tree;
 pub use freeing::{clear, free_tree, new_tree};
-pub use inserting::insert;
+pub use inserting::{insert, insert_alone};
 pub use laws::index_trees_stay;
 pub use removing::remove;
 pub use scanning::Cursor;

@@ -30,7 +30,8 @@ fn lone_child(packed: &Packed) -> Option<u32>
 /// Gives a page the bytes of another, which is given back. (`Memory`, what `load`, `put` and `give` refuse.)
 fn take_over<P: WritePages>(alloc: Global, pages: &mut P, number: u32, child: u32) -> R<()>
     ensures taken { IsTrue (P.Pages.tells (P.Pages.below pages.old))
-        → TakesOver (P.Pages.map pages.old) (P.Pages.map pages.new) (P.Pages.limits (P.Pages.below pages.old)).page number child result }
+        → TakesOver (P.Pages.map pages.old) (P.Pages.map pages.new)
+        (P.Pages.limits (P.Pages.below pages.old)).page number child result }
     ensures kept { P.Pages.below pages.new ≡ P.Pages.below pages.old }
     ensures causes { Causes result (P.Pages.failures pages.old) (P.Pages.failures pages.new) ⊥ }
 {
@@ -50,7 +51,8 @@ pub(crate) fn settle<P: WritePages>(
     deep: bool,
 ) -> R<()>
     ensures settled { IsTrue (P.Pages.tells (P.Pages.below pages.old))
-        → StoresTop (P.Pages.map pages.old) (P.Pages.map pages.new) (P.Pages.limits (P.Pages.below pages.old)).page root packed.now deep result }
+        → StoresTop (P.Pages.map pages.old) (P.Pages.map pages.new)
+        (P.Pages.limits (P.Pages.below pages.old)).page root packed.now deep result }
     ensures kept { P.Pages.below pages.new ≡ P.Pages.below pages.old }
     ensures causes { Causes result (P.Pages.failures pages.old) (P.Pages.failures pages.new)
         (P.Pages.count pages.new ≡ (P.Pages.limits (P.Pages.below pages.new)).most) }

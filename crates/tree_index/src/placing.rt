@@ -40,7 +40,8 @@ pub(crate) fn place_of<P: Pages>(
     scratch: &mut Vec<u8>,
 ) -> R<usize>
     ensures found { IsTrue (P.Pages.tells (P.Pages.below pages.old))
-        → FindsPlace (P.Pages.map pages.old) (P.Pages.limits (P.Pages.below pages.old)).page number after key.entry.columns.now key.entry.values.now result }
+        → FindsPlace (P.Pages.map pages.old) (P.Pages.limits (P.Pages.below pages.old)).page number
+        after key.entry.columns.now key.entry.values.now result }
     ensures stays { Stays P.Pages.below P.Pages.map P.Pages.count P.Pages.failures result pages.old pages.new }
 {
     let mut low = 0;
@@ -66,7 +67,8 @@ fn is_equal_at<P: Pages>(
     scratch: &mut Vec<u8>,
 ) -> R<bool>
     ensures found { IsTrue (P.Pages.tells (P.Pages.below pages.old))
-        → FindsEqual (P.Pages.map pages.old) (P.Pages.limits (P.Pages.below pages.old)).page number place key.entry.columns.now key.entry.values.now result }
+        → FindsEqual (P.Pages.map pages.old) (P.Pages.limits (P.Pages.below pages.old)).page number
+        place key.entry.columns.now key.entry.values.now result }
     ensures stays { Stays P.Pages.below P.Pages.map P.Pages.count P.Pages.failures result pages.old pages.new }
 {
     if place >= len_of(pages, number)? {
@@ -83,7 +85,8 @@ pub(crate) fn step_from<P: Pages>(
     scratch: &mut Vec<u8>,
 ) -> R<Step>
     ensures found { IsTrue (P.Pages.tells (P.Pages.below pages.old))
-        → StepsFrom (P.Pages.map pages.old) (P.Pages.limits (P.Pages.below pages.old)).page number key.entry.columns.now key.entry.values.now result }
+        → StepsFrom (P.Pages.map pages.old) (P.Pages.limits (P.Pages.below pages.old)).page number
+        key.entry.columns.now key.entry.values.now result }
     ensures stays { Stays P.Pages.below P.Pages.map P.Pages.count P.Pages.failures result pages.old pages.new }
 {
     let place = place_of(pages, number, key, false, scratch)?;

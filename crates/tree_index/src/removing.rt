@@ -35,7 +35,8 @@ pub(crate) enum Loss {
 /// How many pages stand below a page on a way from it. (`Damaged(Depth, number)` if there are more than `ways`; what `child_of` refuses.)
 fn depth_below<P: Pages>(pages: &mut P, number: u32, ways: u32) -> R<u32>
     ensures found { IsTrue (P.Pages.tells (P.Pages.below pages.old))
-        → FindsDepth (P.Pages.map pages.old) (P.Pages.limits (P.Pages.below pages.old)).page number ways result }
+        → FindsDepth (P.Pages.map pages.old) (P.Pages.limits (P.Pages.below pages.old)).page number
+        ways result }
     ensures stays { Stays P.Pages.below P.Pages.map P.Pages.count P.Pages.failures result pages.old pages.new }
     ensures within { IfOk result (λ depth. depth ≤ ways) }
 {
@@ -51,7 +52,8 @@ fn depth_below<P: Pages>(pages: &mut P, number: u32, ways: u32) -> R<u32>
 /// The page that a leaf gives way to when the entry at a place of it is taken out. Its overflow pages are given back, the page isn't stored.
 fn cut_leaf<P: WritePages>(alloc: Global, pages: &mut P, number: u32, place: usize) -> R<Packed>
     ensures cut { IsTrue (P.Pages.tells (P.Pages.below pages.old))
-        → CutsLeaf (P.Pages.map pages.old) (P.Pages.map pages.new) (P.Pages.limits (P.Pages.below pages.old)).page number place result }
+        → CutsLeaf (P.Pages.map pages.old) (P.Pages.map pages.new)
+        (P.Pages.limits (P.Pages.below pages.old)).page number place result }
     ensures kept { P.Pages.below pages.new ≡ P.Pages.below pages.old }
     ensures causes { Causes result (P.Pages.failures pages.old) (P.Pages.failures pages.new) ⊥ }
 {
@@ -69,7 +71,8 @@ fn taken_out<P: WritePages>(
     depth: u32,
 ) -> R<Packed>
     ensures taken { IsTrue (P.Pages.tells (P.Pages.below pages.old))
-        → TakesAt (P.Pages.map pages.old) (P.Pages.map pages.new) (P.Pages.limits (P.Pages.below pages.old)).page number place depth result }
+        → TakesAt (P.Pages.map pages.old) (P.Pages.map pages.new)
+        (P.Pages.limits (P.Pages.below pages.old)).page number place depth result }
     ensures kept { P.Pages.below pages.new ≡ P.Pages.below pages.old }
     ensures causes { Causes result (P.Pages.failures pages.old) (P.Pages.failures pages.new)
         (P.Pages.count pages.new ≡ (P.Pages.limits (P.Pages.below pages.new)).most) }
@@ -83,7 +86,8 @@ fn taken_out<P: WritePages>(
 /// Whether packed pages are one page without cells.
 fn is_bare(packed: &Packed) -> bool
     ensures alone { IsTrue result → length packed.now.pieces.items ≡ 0 }
-    ensures empty { (node : Node) → IsNode packed.now.last.items 0 node → IsTrue result → count_of node ≡ 0 }
+    ensures empty { (node : Node) → IsNode packed.now.last.items 0 node → IsTrue result
+        → count_of node ≡ 0 }
 {
     let Ok(page) = TreePage::over(packed.last.as_slice(), 0) else {
         return false;
@@ -114,7 +118,8 @@ fn narrowed<P: WritePages>(
     depth: u32,
 ) -> R<Loss>
     ensures narrowed { IsTrue (P.Pages.tells (P.Pages.below pages.old))
-        → Narrows (P.Pages.map pages.old) (P.Pages.map pages.new) (P.Pages.limits (P.Pages.below pages.old)).page number place child packed.now depth result }
+        → Narrows (P.Pages.map pages.old) (P.Pages.map pages.new)
+        (P.Pages.limits (P.Pages.below pages.old)).page number place child packed.now depth result }
     ensures kept { P.Pages.below pages.new ≡ P.Pages.below pages.old }
     ensures causes { Causes result (P.Pages.failures pages.old) (P.Pages.failures pages.new)
         (P.Pages.count pages.new ≡ (P.Pages.limits (P.Pages.below pages.new)).most) }
@@ -147,7 +152,8 @@ fn removed_below<P: WritePages>(
     scratch: &mut Vec<u8>,
 ) -> R<Loss>
     ensures lessens { IsTrue (P.Pages.tells (P.Pages.below pages.old))
-        → Lessens (P.Pages.map pages.old) (P.Pages.map pages.new) (P.Pages.limits (P.Pages.below pages.old)).page number depth
+        → Lessens (P.Pages.map pages.old) (P.Pages.map pages.new)
+        (P.Pages.limits (P.Pages.below pages.old)).page number depth
         key.entry.columns.now key.entry.values.now result }
     ensures kept { P.Pages.below pages.new ≡ P.Pages.below pages.old }
     ensures causes { Causes result (P.Pages.failures pages.old) (P.Pages.failures pages.new)
@@ -183,7 +189,8 @@ pub fn remove<P: WritePages>(
     entry: &[Value],
 ) -> R<bool>
     ensures removed { IsTrue (P.Pages.tells (P.Pages.below pages.old))
-        → RemovesEntry (P.Pages.map pages.old) (P.Pages.map pages.new) (P.Pages.limits (P.Pages.below pages.old)).page root columns.now entry.now result }
+        → RemovesEntry (P.Pages.map pages.old) (P.Pages.map pages.new)
+        (P.Pages.limits (P.Pages.below pages.old)).page root columns.now entry.now result }
     ensures kept { P.Pages.below pages.new ≡ P.Pages.below pages.old }
     ensures causes { Causes result (P.Pages.failures pages.old) (P.Pages.failures pages.new)
         (P.Pages.count pages.new ≡ (P.Pages.limits (P.Pages.below pages.new)).most) }

@@ -23,7 +23,8 @@ use tree_overflow::read_payload;
 /// has no such entry.)
 fn read_entry<P: Pages>(pages: &mut P, number: u32, place: usize, out: &mut Vec<u8>) -> R<()>
     ensures read { IsTrue (P.Pages.tells (P.Pages.below pages.old))
-        → ReadsEntry (P.Pages.map pages.old) (P.Pages.limits (P.Pages.below pages.old)).page number place out.old.items out.new.items result }
+        → ReadsEntry (P.Pages.map pages.old) (P.Pages.limits (P.Pages.below pages.old)).page number
+        place out.old.items out.new.items result }
     ensures stays { Stays P.Pages.below P.Pages.map P.Pages.count P.Pages.failures result pages.old pages.new }
 {
     pages.load(number)?;
@@ -65,7 +66,8 @@ fn copy_entries<P: Pages>(
     batch: &mut Vec<Vec<u8>>,
 ) -> R<bool>
     ensures copied { IsTrue (P.Pages.tells (P.Pages.below pages.old))
-        → CopiesEntries (P.Pages.map pages.old) (P.Pages.limits (P.Pages.below pages.old)).page number place most
+        → CopiesEntries (P.Pages.map pages.old)
+        (P.Pages.limits (P.Pages.below pages.old)).page number place most
         (map (λ bytes. bytes.items) batch.old.items) (map (λ bytes. bytes.items) batch.new.items) result }
     ensures stays { Stays P.Pages.below P.Pages.map P.Pages.count P.Pages.failures result pages.old pages.new }
 {
@@ -93,7 +95,8 @@ fn batch_below<P: Pages>(
 ) -> R<bool>
     ensures given { IsTrue (P.Pages.tells (P.Pages.below pages.old))
         → GivesBelow (P.Pages.map pages.old) (P.Pages.limits (P.Pages.below pages.old)).page number ways after
-        key.entry.columns.now key.entry.values.now (map (λ bytes. bytes.items) batch.old.items) (map (λ bytes. bytes.items) batch.new.items) result }
+        key.entry.columns.now key.entry.values.now (map (λ bytes. bytes.items) batch.old.items)
+        (map (λ bytes. bytes.items) batch.new.items) result }
     ensures stays { Stays P.Pages.below P.Pages.map P.Pages.count P.Pages.failures result pages.old pages.new }
 {
     let place = place_of(pages, number, key, after, scratch)?;
@@ -129,7 +132,8 @@ fn values_of(alloc: Global, record: &Record<'_>) -> R<Vec<Value>>
 
 /// The values of the record of these bytes. (`Memory`, and what `Record::over` refuses.)
 fn values_in(alloc: Global, bytes: &[u8]) -> R<Vec<Value>>
-    ensures only { (entry : List ValueIs) → IsRecord bytes.now entry → IsOrMemory (λ values. values.items ≡ entry) result }
+    ensures only { (entry : List ValueIs) → IsRecord bytes.now entry
+        → IsOrMemory (λ values. values.items ≡ entry) result }
     ensures not_disk { IfErr result IsNotDiskFault }
 {
     let record = Record::over(alloc, bytes)?;
@@ -138,7 +142,8 @@ fn values_in(alloc: Global, bytes: &[u8]) -> R<Vec<Value>>
 
 /// The values of the last of these records. (`Memory`, and what `Record::over` refuses; `Damaged(Record, 0)` if there is none.)
 fn last_values(alloc: Global, batch: &[Vec<u8>]) -> R<Vec<Value>>
-    ensures only { (front : List (List ℕ)) (last : List ℕ) (entry : List ValueIs) → map (λ bytes. bytes.items) batch.now ≡ front ++ last ∷ []
+    ensures only { (front : List (List ℕ)) (last : List ℕ) (entry : List ValueIs)
+        → map (λ bytes. bytes.items) batch.now ≡ front ++ last ∷ []
         → IsRecord last entry → IsOrMemory (λ values. values.items ≡ entry) result }
     ensures not_disk { IfErr result IsNotDiskFault }
 {
@@ -173,7 +178,8 @@ impl Cursor {
     /// The place before the entries from a key on. Those that begin with the key come first.
     pub fn seek(root: u32, key: Vec<Value>) -> Cursor
         ensures root { result.root ≡ root }
-        ensures from { (columns : List CollationIs) (entries : List Entry) → coming result.ended result.after columns result.key.items entries
+        ensures from { (columns : List CollationIs) (entries : List Entry)
+            → coming result.ended result.after columns result.key.items entries
             ≡ entries_from false columns key.items entries }
     {
         Cursor::new(root, key, false)
@@ -182,7 +188,8 @@ impl Cursor {
     /// The place before the entries from a key on; or, if `after`, before the greater ones, past those that begin with the key.
     pub fn new(root: u32, key: Vec<Value>, after: bool) -> Cursor
         ensures root { result.root ≡ root }
-        ensures from { (columns : List CollationIs) (entries : List Entry) → coming result.ended result.after columns result.key.items entries
+        ensures from { (columns : List CollationIs) (entries : List Entry)
+            → coming result.ended result.after columns result.key.items entries
             ≡ entries_from after columns key.items entries }
     {
         Cursor {
@@ -203,11 +210,14 @@ impl Cursor {
         batch: &mut Vec<Vec<u8>>,
     ) -> R<()>
         ensures given { IsTrue (P.Pages.tells (P.Pages.below pages.old))
-            → GivesBatch (P.Pages.map pages.old) (P.Pages.limits (P.Pages.below pages.old)).page self.old.root columns.now
-            (coming self.old.ended self.old.after columns.now self.old.key.items) (coming self.new.ended self.new.after columns.now self.new.key.items)
+            → GivesBatch (P.Pages.map pages.old)
+            (P.Pages.limits (P.Pages.below pages.old)).page self.old.root columns.now
+            (coming self.old.ended self.old.after columns.now self.old.key.items)
+            (coming self.new.ended self.new.after columns.now self.new.key.items)
             self.new.ended (map (λ bytes. bytes.items) batch.new.items) result }
         ensures root { self.new.root ≡ self.old.root }
-        ensures stays { Stays P.Pages.below P.Pages.map P.Pages.count P.Pages.failures result pages.old pages.new }
+        ensures stays { Stays P.Pages.below P.Pages.map P.Pages.count P.Pages.failures result
+            pages.old pages.new }
     {
         batch.clear();
         if self.ended {

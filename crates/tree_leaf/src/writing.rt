@@ -66,7 +66,8 @@ fn content_start(page_size: usize, start: usize, cells: &[Cell<'_>]) -> Option<u
 fn put_pointers(out: &mut Vec<u8>, end: usize, cells: &[Cell<'_>]) -> Result<(), AllocError>
     requires room { sum_by cell_size (map entry_of cells.now) ≤ end }
     requires addressed { end ≤ 65536 }
-    ensures pointers { OnOk result (out.new.items ≡ out.old.items ++ flat_map pointer (spans_below end (map entry_of cells.now))) }
+    ensures pointers { OnOk result (out.new.items ≡ out.old.items ++ flat_map pointer
+        (spans_below end (map entry_of cells.now))) }
     ensures numbered { OnOk result (AllByRecursion IsNumbered (map entry_of cells.now)) }
 {
     let mut offset = end;
@@ -82,7 +83,8 @@ fn put_pointers(out: &mut Vec<u8>, end: usize, cells: &[Cell<'_>]) -> Result<(),
 /// Writes the header of a leaf with `count` cells, of which the last begins at `content`.
 fn put_header(out: &mut Vec<u8>, count: usize, content: usize) -> Result<(), AllocError>
     requires { count < 2 ^ 16 }
-    ensures { OnOk result (out.new.items ≡ out.old.items ++ leaf_header (0 ∷ 0 ∷ []) count (content_bytes content) 0) }
+    ensures { OnOk result (out.new.items ≡ out.old.items ++ leaf_header (0 ∷ 0 ∷ []) count
+        (content_bytes content) 0) }
 {
     let [high, low] = (count as u16).to_be_bytes();
     let [content_high, content_low] = ((content % 65536) as u16).to_be_bytes();
@@ -91,7 +93,8 @@ fn put_header(out: &mut Vec<u8>, count: usize, content: usize) -> Result<(), All
 
 /// Writes the cells, the last one first.
 fn put_cells(out: &mut Vec<u8>, cells: &[Cell<'_>]) -> Result<(), AllocError>
-    ensures { OnOk result (out.new.items ≡ out.old.items ++ flat_map cell_text (reverse (map entry_of cells.now))) }
+    ensures { OnOk result (out.new.items ≡ out.old.items ++ flat_map cell_text
+        (reverse (map entry_of cells.now))) }
 {
     let mut left = cells;
     'cells: while let Some(cell) = left.last() {
@@ -134,7 +137,8 @@ pub fn build(alloc: Global, front: &[u8], page_size: usize, cells: &[Cell<'_>]) 
     ensures exact { IfOk result (λ page. page.items ≡ leaf_of front.now page_size (map entry_of cells.now)) }
     ensures fits { OnOk result (Fits page_size (length front.now) (map entry_of cells.now)) }
     ensures refused { IfErr result (λ fault. (fault ≡ Fault.Memory)
-        ⊎ ((fault ≡ Fault.TooLong) × (Fits page_size (length front.now) (map entry_of cells.now) → ⊥))) }
+        ⊎ ((fault ≡ Fault.TooLong) × (Fits page_size (length front.now) (map entry_of cells.now)
+        → ⊥))) }
 {
     let Some(content) = content_start(page_size, front.len(), cells) else {
         return Err(Fault::TooLong);

@@ -30,7 +30,8 @@ fn next_link<P: Pages>(pages: &mut P, page: u32) -> R<u32>
 /// Gives the pages of a chain back on which so many bytes lie, from this one on.
 fn free_links<P: WritePages>(alloc: Global, pages: &mut P, first: u32, size: u64) -> R<()>
     ensures freed { IsTrue (P.Pages.tells (P.Pages.below pages.old))
-        → FreesChain (P.Pages.map pages.old) (P.Pages.map pages.new) (P.Pages.limits (P.Pages.below pages.old)).page first size result }
+        → FreesChain (P.Pages.map pages.old) (P.Pages.map pages.new)
+        (P.Pages.limits (P.Pages.below pages.old)).page first size result }
     ensures kept { P.Pages.below pages.new ≡ P.Pages.below pages.old }
     ensures counted { P.Pages.count pages.new ≡ P.Pages.count pages.old }
     ensures causes { Causes result (P.Pages.failures pages.old) (P.Pages.failures pages.new) ⊥ }
@@ -61,7 +62,8 @@ pub fn free_chain<P: WritePages>(
     held: &[u8],
 ) -> R<()>
     ensures freed { IsTrue (P.Pages.tells (P.Pages.below pages.old))
-        → Frees (P.Pages.map pages.old) (P.Pages.map pages.new) (P.Pages.limits (P.Pages.below pages.old)).page most held.now size result }
+        → Frees (P.Pages.map pages.old) (P.Pages.map pages.new)
+        (P.Pages.limits (P.Pages.below pages.old)).page most held.now size result }
     ensures kept { P.Pages.below pages.new ≡ P.Pages.below pages.old }
     ensures counted { P.Pages.count pages.new ≡ P.Pages.count pages.old }
     ensures causes { Causes result (P.Pages.failures pages.old) (P.Pages.failures pages.new) ⊥ }

@@ -12,7 +12,8 @@ use sqlval::{Damage, Fault, R};
 
 /// The number in the first four bytes; None if there are fewer.
 pub fn number_in(bytes: &[u8]) -> Option<u32>
-    ensures { (n : ℕ) (rest : List ℕ) → n < 2 ^ 32 → bytes.now ≡ to_be_bytes w32 n ++ rest → result ≡ Some n }
+    ensures { (n : ℕ) (rest : List ℕ) → n < 2 ^ 32 → bytes.now ≡ to_be_bytes w32 n ++ rest
+        → result ≡ Some n }
 {
     if bytes.len() < 4 {
         return None;
@@ -36,7 +37,8 @@ fn link_in(page: &[u8], left: u64) -> Option<(u32, &[u8])>
 /// page, or 0 at the end.
 fn read_link<P: Pages>(pages: &mut P, page: u32, left: u64, out: &mut Vec<u8>) -> R<u32>
     ensures linked { IsTrue (P.Pages.tells (P.Pages.below pages.old))
-        → ReadsLink (P.Pages.map pages.old) (P.Pages.limits (P.Pages.below pages.old)).page page left out.old.items out.new.items result }
+        → ReadsLink (P.Pages.map pages.old) (P.Pages.limits (P.Pages.below pages.old)).page page
+        left out.old.items out.new.items result }
     ensures stays { Stays P.Pages.below P.Pages.map P.Pages.count P.Pages.failures result pages.old pages.new }
 {
     pages.load(page)?;
@@ -50,7 +52,8 @@ fn read_link<P: Pages>(pages: &mut P, page: u32, left: u64, out: &mut Vec<u8>) -
 /// Puts so many bytes behind others, which lie on a chain of overflow pages from this one on.
 fn read_chain<P: Pages>(pages: &mut P, first: u32, size: u64, out: &mut Vec<u8>) -> R<()>
     ensures read { IsTrue (P.Pages.tells (P.Pages.below pages.old))
-        → ReadsChain (P.Pages.map pages.old) (P.Pages.limits (P.Pages.below pages.old)).page first size out.old.items out.new.items result }
+        → ReadsChain (P.Pages.map pages.old) (P.Pages.limits (P.Pages.below pages.old)).page first
+        size out.old.items out.new.items result }
     ensures stays { Stays P.Pages.below P.Pages.map P.Pages.count P.Pages.failures result pages.old pages.new }
 {
     // No page is so short that an overflow page has no room.
@@ -76,7 +79,8 @@ pub fn read_payload<P: Pages>(
     out: &mut Vec<u8>,
 ) -> R<()>
     ensures read { IsTrue (P.Pages.tells (P.Pages.below pages.old))
-        → Reads (P.Pages.map pages.old) (P.Pages.limits (P.Pages.below pages.old)).page most held.now size out.old.items out.new.items result }
+        → Reads (P.Pages.map pages.old) (P.Pages.limits (P.Pages.below pages.old)).page most
+        held.now size out.old.items out.new.items result }
     ensures stays { Stays P.Pages.below P.Pages.map P.Pages.count P.Pages.failures result pages.old pages.new }
 {
     let local = local_len(pages.page_size() as u64, most as u64, size).min(size);

@@ -33,7 +33,8 @@ fn put_link<P: WritePages>(
     bytes: &[u8],
 ) -> R<()>
     ensures put { IsTrue (P.Pages.tells (P.Pages.below pages.old))
-        → PutsLink (P.Pages.map pages.old) (P.Pages.map pages.new) (P.Pages.limits (P.Pages.below pages.old)).page
+        → PutsLink (P.Pages.map pages.old) (P.Pages.map pages.new)
+        (P.Pages.limits (P.Pages.below pages.old)).page
         link.old page next bytes.now result }
     ensures kept { P.Pages.below pages.new ≡ P.Pages.below pages.old }
     ensures same { length link.new ≡ length link.old }
@@ -47,7 +48,8 @@ fn put_link<P: WritePages>(
 /// page is taken before the one before it is written.
 fn lay_chain<P: WritePages>(alloc: Global, pages: &mut P, first: u32, bytes: &[u8]) -> R<()>
     ensures laid { IsTrue (P.Pages.tells (P.Pages.below pages.old))
-        → Lays (P.Pages.map pages.old) (P.Pages.map pages.new) (P.Pages.limits (P.Pages.below pages.old)).page first bytes.now result }
+        → Lays (P.Pages.map pages.old) (P.Pages.map pages.new)
+        (P.Pages.limits (P.Pages.below pages.old)).page first bytes.now result }
     ensures kept { P.Pages.below pages.new ≡ P.Pages.below pages.old }
     ensures causes { Causes result (P.Pages.failures pages.old) (P.Pages.failures pages.new)
         (P.Pages.count pages.new ≡ (P.Pages.limits (P.Pages.below pages.new)).most) }
@@ -70,7 +72,8 @@ fn lay_chain<P: WritePages>(alloc: Global, pages: &mut P, first: u32, bytes: &[u
 /// Writes bytes on a chain of overflow pages, and answers its first page.
 fn write_chain<P: WritePages>(alloc: Global, pages: &mut P, bytes: &[u8]) -> R<u32>
     ensures laid { IsTrue (P.Pages.tells (P.Pages.below pages.old))
-        → LaysAnew (P.Pages.map pages.old) (P.Pages.map pages.new) (P.Pages.limits (P.Pages.below pages.old)).page bytes.now result }
+        → LaysAnew (P.Pages.map pages.old) (P.Pages.map pages.new)
+        (P.Pages.limits (P.Pages.below pages.old)).page bytes.now result }
     ensures kept { P.Pages.below pages.new ≡ P.Pages.below pages.old }
     ensures causes { Causes result (P.Pages.failures pages.old) (P.Pages.failures pages.new)
         (P.Pages.count pages.new ≡ (P.Pages.limits (P.Pages.below pages.new)).most) }
@@ -91,7 +94,8 @@ pub fn write_payload<P: WritePages>(
     payload: &[u8],
 ) -> R<Vec<u8>>
     ensures written { IsTrue (P.Pages.tells (P.Pages.below pages.old))
-        → Writes (λ held. held.items) (P.Pages.map pages.old) (P.Pages.map pages.new) (P.Pages.limits (P.Pages.below pages.old)).page
+        → Writes (λ held. held.items) (P.Pages.map pages.old) (P.Pages.map pages.new)
+        (P.Pages.limits (P.Pages.below pages.old)).page
         most payload.now result }
     ensures kept { P.Pages.below pages.new ≡ P.Pages.below pages.old }
     ensures causes { Causes result (P.Pages.failures pages.old) (P.Pages.failures pages.new)

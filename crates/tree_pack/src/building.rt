@@ -72,7 +72,8 @@ pub fn fits(page_size: usize, start: usize, kind: Kind, cells: &[&[u8]]) -> bool
 /// Writes the header of a page with `count` cells, of which the last begins at `content`.
 fn put_header(out: &mut Vec<u8>, kind: Kind, count: usize, content: usize) -> Result<(), AllocError>
     requires { (count < 2 ^ 16) × (content < 2 ^ 16) }
-    ensures { OnOk result (out.new.items ≡ out.old.items ++ page_header (type_of kind) (0 ∷ 0 ∷ []) count (to_be_bytes w16 content) 0) }
+    ensures { OnOk result (out.new.items ≡ out.old.items ++ page_header (type_of kind)
+        (0 ∷ 0 ∷ []) count (to_be_bytes w16 content) 0) }
 {
     let [high, low] = (count as u16).to_be_bytes();
     let [content_high, content_low] = (content as u16).to_be_bytes();
@@ -92,7 +93,8 @@ fn put_header(out: &mut Vec<u8>, kind: Kind, count: usize, content: usize) -> Re
 fn put_pointers(out: &mut Vec<u8>, end: usize, cells: &[&[u8]]) -> Result<(), AllocError>
     requires room { total (map length (map (λ cell. cell.now) cells.now)) ≤ end }
     requires addressed { end < 2 ^ 16 }
-    ensures { OnOk result (out.new.items ≡ out.old.items ++ flat_map pointer (spans_below end (map (λ cell. cell.now) cells.now))) }
+    ensures { OnOk result (out.new.items ≡ out.old.items ++ flat_map pointer
+        (spans_below end (map (λ cell. cell.now) cells.now))) }
 {
     let mut offset = end;
     let mut left = cells;
@@ -106,7 +108,8 @@ fn put_pointers(out: &mut Vec<u8>, end: usize, cells: &[&[u8]]) -> Result<(), Al
 
 /// Writes the cells, the last one first.
 fn put_cells(out: &mut Vec<u8>, cells: &[&[u8]]) -> Result<(), AllocError>
-    ensures { OnOk result (out.new.items ≡ out.old.items ++ flat_map (λ cell. cell) (reverse (map (λ cell. cell.now) cells.now))) }
+    ensures { OnOk result (out.new.items ≡ out.old.items ++ flat_map (λ cell. cell)
+        (reverse (map (λ cell. cell.now) cells.now))) }
 {
     let mut left = cells;
     'cells: while let Some(cell) = left.last() {
@@ -127,7 +130,8 @@ pub(crate) fn write(
     cells: &[&[u8]],
 ) -> Result<Vec<u8>, AllocError>
     requires { Fits page_size (length front.now) (length right.now) (map (λ cell. cell.now) cells.now) }
-    ensures { IfOk result (λ page. page.items ≡ page_of front.now page_size kind right.now (map (λ cell. cell.now) cells.now)) }
+    ensures { IfOk result (λ page. page.items ≡ page_of front.now page_size kind right.now
+        (map (λ cell. cell.now) cells.now)) }
 {
     let content = page_size - (room_of(cells, page_size) - 2 * cells.len());
     let mut out = Vec::with_capacity(alloc, page_size)?;
@@ -150,8 +154,10 @@ pub fn build(
     right: Option<u32>,
     cells: &[&[u8]],
 ) -> R<Vec<u8>>
-    requires { Fits page_size (length front.now) (length (right_bytes right)) (map (λ cell. cell.now) cells.now) }
-    ensures is { IfOk result (λ page. IsTreePage (type_of kind) page.items (length front.now) (right_bytes right)
+    requires { Fits page_size (length front.now) (length (right_bytes right))
+        (map (λ cell. cell.now) cells.now) }
+    ensures is { IfOk result (λ page. IsTreePage (type_of kind) page.items (length front.now)
+        (right_bytes right)
         (map (λ cell. cell.now) cells.now)) }
     ensures exact { IfOk result (λ page. page.items ≡ page_of front.now page_size kind (right_bytes right)
         (map (λ cell. cell.now) cells.now)) }

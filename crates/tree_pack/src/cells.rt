@@ -15,7 +15,8 @@ use std::alloc::Global;
 pub fn row_cell(alloc: Global, rowid: i64, size: u64, held: &[u8]) -> R<Vec<u8>>
     ensures is { (usable : ℕ) → length held.now ≡ held_size usable (table_most usable) size
         → IfOk result (λ cell. IsRowCell usable cell.items (rowid, record { size = size; bytes = held.now })) }
-    ensures exact { IfOk result (λ cell. cell.items ≡ varint size ++ (varint (cast_unsigned w64 rowid) ++ held.now)) }
+    ensures exact { IfOk result (λ cell. cell.items ≡ varint size ++
+        (varint (cast_unsigned w64 rowid) ++ held.now)) }
     ensures refused { IfErr result (λ fault. fault ≡ Fault.Memory) }
 {
     let rowid = rowid.cast_unsigned();
@@ -56,7 +57,8 @@ pub fn entry_cell(alloc: Global, size: u64, held: &[u8]) -> R<Vec<u8>>
 /// The cell of a child of an index's interior page: its page's number, and the cell of the entry after it. (`Memory` alone.)
 pub fn between_cell(alloc: Global, child: u32, size: u64, held: &[u8]) -> R<Vec<u8>>
     ensures is { (usable : ℕ) → length held.now ≡ held_size usable (index_most usable) size
-        → IfOk result (λ cell. IsBetweenCell usable cell.items (child, record { size = size; bytes = held.now })) }
+        → IfOk result (λ cell. IsBetweenCell usable cell.items
+        (child, record { size = size; bytes = held.now })) }
     ensures exact { IfOk result (λ cell. cell.items ≡ to_be_bytes w32 child ++ (varint size ++ held.now)) }
     ensures refused { IfErr result (λ fault. fault ≡ Fault.Memory) }
 {

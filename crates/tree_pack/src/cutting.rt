@@ -39,7 +39,8 @@ fn cut_on(
 ) -> Result<Vec<usize>, AllocError>
     requires one { up ≤ 1 }
     requires room { room < 2 ^ 16 }
-    ensures { IfOk result (λ counts. AreParts up room goal counts.items (map cell_room (map (λ cell. cell.now) cells.now))) }
+    ensures { IfOk result (λ counts. AreParts up room goal counts.items
+        (map cell_room (map (λ cell. cell.now) cells.now))) }
 {
     let mut counts = Vec::new(alloc);
     let mut left = cells;
@@ -67,7 +68,8 @@ pub(crate) fn cut(
 ) -> Result<Vec<usize>, AllocError>
     requires one { up ≤ 1 }
     requires room { room < 2 ^ 16 }
-    ensures { IfOk result (λ counts. IsCut up room rises (map cell_room (map (λ cell. cell.now) cells.now)) counts.items) }
+    ensures { IfOk result (λ counts. IsCut up room rises
+        (map cell_room (map (λ cell. cell.now) cells.now)) counts.items) }
 {
     let sum = room_of(cells, 2 * room + 2);
     if sum <= room {

@@ -13,10 +13,13 @@ use tree_page::TreePage;
 
 /// Appends the cells of a page from one place up to another. (`Memory`; `Damaged(Cell, 0)` if the page has no such cells.)
 fn append_cells<'a>(out: &mut Vec<&'a [u8]>, page: &TreePage<'a>, from: usize, to: usize) -> R<()>
-    ensures put { (node : Node) (is : IsNode page.now.bytes page.now.start node) → from ≤ to → to ≤ length is.cells
-        → MatchResult result (λ _. map (λ cell. cell.now) out.new.items ≡ map (λ cell. cell.now) out.old.items ++ take (to - from) (drop from is.cells))
+    ensures put { (node : Node) (is : IsNode page.now.bytes page.now.start node) → from ≤ to
+        → to ≤ length is.cells
+        → MatchResult result (λ _. map (λ cell. cell.now) out.new.items ≡ map
+        (λ cell. cell.now) out.old.items ++ take (to - from) (drop from is.cells))
         (λ fault. fault ≡ Fault.Memory) }
-    ensures refused { IfErr result (λ fault. (fault ≡ Fault.Memory) ⊎ (fault ≡ Fault.Damaged Damage.Cell 0)) }
+    ensures refused { IfErr result (λ fault. (fault ≡ Fault.Memory)
+        ⊎ (fault ≡ Fault.Damaged Damage.Cell 0)) }
 {
     let mut index = from;
     'cells: while index < to {
@@ -35,11 +38,14 @@ fn cells_around<'a>(
     right: &TreePage<'a>,
     from: usize,
 ) -> R<Vec<&'a [u8]>>
-    ensures around { (a b : Node) (is_a : IsNode left.now.bytes left.now.start a) (is_b : IsNode right.now.bytes right.now.start b)
+    ensures around { (a b : Node) (is_a : IsNode left.now.bytes left.now.start a)
+        (is_b : IsNode right.now.bytes right.now.start b)
         → to ≤ length is_a.cells → from ≤ length is_b.cells
-        → MatchResult result (λ all. map (λ cell. cell.now) all.items ≡ take to is_a.cells ++ (map (λ cell. cell.now) between.now ++ drop from is_b.cells))
+        → MatchResult result (λ all. map (λ cell. cell.now) all.items ≡ take to is_a.cells ++
+        (map (λ cell. cell.now) between.now ++ drop from is_b.cells))
         (λ fault. fault ≡ Fault.Memory) }
-    ensures refused { IfErr result (λ fault. (fault ≡ Fault.Memory) ⊎ (fault ≡ Fault.Damaged Damage.Cell 0)) }
+    ensures refused { IfErr result (λ fault. (fault ≡ Fault.Memory)
+        ⊎ (fault ≡ Fault.Damaged Damage.Cell 0)) }
 {
     let mut all = Vec::new(alloc);
     append_cells(&mut all, left, 0, to)?;
@@ -79,7 +85,8 @@ pub fn splice<'a>(
     cells: &[&'a [u8]],
     right: Option<u32>,
 ) -> R<Packed>
-    ensures spliced { Splices page.now start from count (map (λ cell. cell.now) cells.now) (right_bytes right) result }
+    ensures spliced { Splices page.now start from count (map (λ cell. cell.now) cells.now)
+        (right_bytes right) result }
     ensures refused { IfErr result (λ fault. (fault ≡ Fault.Memory)
         ⊎ ((fault ≡ Fault.Damaged Damage.Cell 0) ⊎ (fault ≡ Fault.Damaged Damage.Page 0))) }
 {

@@ -56,7 +56,8 @@ fn most_len(kind: Kind, page_size: usize) -> usize
 
 /// Whether no cell takes more room than `most`.
 fn are_within(most: usize, cells: &[&[u8]]) -> bool
-    ensures { IsTrue result ↔ AllByRecursion (λ cell. cell_room cell ≤ most) (map (λ cell. cell.now) cells.now) }
+    ensures { IsTrue result ↔ AllByRecursion (λ cell. cell_room cell ≤ most)
+        (map (λ cell. cell.now) cells.now) }
 {
     let mut left = cells;
     'cells: while let [cell, after @ ..] = left {
@@ -113,7 +114,8 @@ fn last_key<'a>(cells: &[&'a [u8]]) -> &'a [u8]
 
 /// The end of the cell that the page above gets for a page with these cells, which has others after it.
 fn divider_of<'a>(kind: Kind, part: &[&'a [u8]], after: &[&'a [u8]]) -> &'a [u8]
-    ensures { result.now ≡ divider_of kind (map (λ cell. cell.now) part.now) (map (λ cell. cell.now) after.now) }
+    ensures { result.now ≡ divider_of kind (map (λ cell. cell.now) part.now)
+        (map (λ cell. cell.now) after.now) }
 {
     if kind == Kind::TableLeaf {
         return last_key(part);
@@ -134,8 +136,10 @@ fn write_piece(
 ) -> Result<Piece, AllocError>
     requires { Fits page_size 0 (right_room kind) (map (λ cell. cell.now) part.now) }
     ensures page { IfOk result (λ piece. piece.page.items ≡ page_of [] page_size kind
-        (take (right_room kind) (first_cell (map (λ cell. cell.now) after.now))) (map (λ cell. cell.now) part.now)) }
-    ensures divider { IfOk result (λ piece. piece.divider.items ≡ divider_of kind (map (λ cell. cell.now) part.now)
+        (take (right_room kind) (first_cell (map (λ cell. cell.now) after.now)))
+        (map (λ cell. cell.now) part.now)) }
+    ensures divider { IfOk result (λ piece. piece.divider.items ≡ divider_of kind
+        (map (λ cell. cell.now) part.now)
         (map (λ cell. cell.now) after.now)) }
 {
     let page = write(alloc, &[], page_size, kind, child_before(kind, after), part)?;
@@ -155,8 +159,10 @@ fn write_parts(
     requires header { (page_size < 2 ^ 16) × (8 + right_room kind ≤ page_size) }
     requires right { length right.now ≡ right_room kind }
     requires parts { PartsFit kind page_size counts.now (map (λ cell. cell.now) cells.now) }
-    ensures images { IfOk result (λ packed. images packed ≡ pages_of kind page_size right.now counts.now (map (λ cell. cell.now) cells.now)) }
-    ensures dividers { IfOk result (λ packed. divider_bytes packed ≡ dividing kind counts.now (map (λ cell. cell.now) cells.now)) }
+    ensures images { IfOk result (λ packed. images packed
+        ≡ pages_of kind page_size right.now counts.now (map (λ cell. cell.now) cells.now)) }
+    ensures dividers { IfOk result (λ packed. divider_bytes packed ≡ dividing kind counts.now
+        (map (λ cell. cell.now) cells.now)) }
 {
     let mut pieces = Vec::new(alloc);
     let mut start = 0;
@@ -185,7 +191,8 @@ fn spread_small(
     requires right { length right.now ≡ right_room kind }
     requires can { CanPack page_size (length front.now) kind (map (λ cell. cell.now) cells.now) }
     ensures { (node : Node) → AreOf kind page_size right.now (map (λ cell. cell.now) cells.now) node
-        → IfOk result (λ packed. Packs kind page_size front.now rises (map (λ cell. cell.now) cells.now) node packed) }
+        → IfOk result (λ packed. Packs kind page_size front.now rises
+        (map (λ cell. cell.now) cells.now) node packed) }
 {
     let room = page_size - front.len() - 8 - right.len();
     let counts = cut(alloc, cells, room, up_len(kind), rises)?;
@@ -210,10 +217,13 @@ fn spread(
     rises: bool,
 ) -> R<Packed>
     ensures packed { (node : Node) → AreOf kind page_size right.now (map (λ cell. cell.now) cells.now) node
-        → IfOk result (λ packed. Packs kind page_size front.now rises (map (λ cell. cell.now) cells.now) node packed) }
-    ensures only { length right.now ≡ right_room kind → CanPack page_size (length front.now) kind (map (λ cell. cell.now) cells.now)
+        → IfOk result (λ packed. Packs kind page_size front.now rises
+        (map (λ cell. cell.now) cells.now) node packed) }
+    ensures only { length right.now ≡ right_room kind
+        → CanPack page_size (length front.now) kind (map (λ cell. cell.now) cells.now)
         → IfErr result (λ fault. fault ≡ Fault.Memory) }
-    ensures refused { IfErr result (λ fault. (fault ≡ Fault.Memory) ⊎ (fault ≡ Fault.Damaged Damage.Cell 0)) }
+    ensures refused { IfErr result (λ fault. (fault ≡ Fault.Memory)
+        ⊎ (fault ≡ Fault.Damaged Damage.Cell 0)) }
 {
     if right.len() != right_len(kind) || !can_pack(page_size, front.len(), kind, cells) {
         return Err(Fault::Damaged(Damage::Cell, 0));
@@ -235,11 +245,16 @@ pub fn pack(
     cells: &[&[u8]],
     rises: bool,
 ) -> R<Packed>
-    ensures packed { (node : Node) → AreOf kind page_size (right_bytes right) (map (λ cell. cell.now) cells.now) node
-        → IfOk result (λ packed. Packs kind page_size front.now rises (map (λ cell. cell.now) cells.now) node packed) }
-    ensures only { (node : Node) → AreOf kind page_size (right_bytes right) (map (λ cell. cell.now) cells.now) node
-        → CanPack page_size (length front.now) kind (map (λ cell. cell.now) cells.now) → IfErr result (λ fault. fault ≡ Fault.Memory) }
-    ensures refused { IfErr result (λ fault. (fault ≡ Fault.Memory) ⊎ (fault ≡ Fault.Damaged Damage.Cell 0)) }
+    ensures packed { (node : Node) → AreOf kind page_size (right_bytes right)
+        (map (λ cell. cell.now) cells.now) node
+        → IfOk result (λ packed. Packs kind page_size front.now rises
+        (map (λ cell. cell.now) cells.now) node packed) }
+    ensures only { (node : Node) → AreOf kind page_size (right_bytes right)
+        (map (λ cell. cell.now) cells.now) node
+        → CanPack page_size (length front.now) kind (map (λ cell. cell.now) cells.now)
+        → IfErr result (λ fault. fault ≡ Fault.Memory) }
+    ensures refused { IfErr result (λ fault. (fault ≡ Fault.Memory)
+        ⊎ (fault ≡ Fault.Damaged Damage.Cell 0)) }
 {
     match right {
         Some(child) => spread(

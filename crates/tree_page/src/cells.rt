@@ -54,7 +54,8 @@ fn held_len(usable: u64, most: u64, size: u64) -> u64
 fn read_local(usable: u64, most: u64, size: u64, bytes: &[u8]) -> Option<(Local<'_>, &[u8])>
     requires short { usable < 2 ^ 63 }
     requires within { most ≤ usable }
-    ensures { option_map (λ found. (local_of found.0, found.1.now)) result ≡ leading_local usable most size bytes.now }
+    ensures { option_map (λ found. (local_of found.0, found.1.now)) result
+        ≡ leading_local usable most size bytes.now }
 {
     let held = held_len(usable, most, size);
     if (bytes.len() as u64) < held {
@@ -102,7 +103,8 @@ fn read_entry(usable: u64, bytes: &[u8]) -> Option<(Local<'_>, &[u8])>
 #[tactic(auto, unfolding(crate::specs::Bytes::leading_between))]
 fn read_between(usable: u64, bytes: &[u8]) -> Option<(Between<'_>, &[u8])>
     requires { usable < 2 ^ 63 }
-    ensures { option_map (λ found. (between_of found.0, found.1.now)) result ≡ leading_between usable bytes.now }
+    ensures { option_map (λ found. (between_of found.0, found.1.now)) result
+        ≡ leading_between usable bytes.now }
 {
     let (child, rest) = read_page(bytes)?;
     let (entry, rest) = read_entry(usable, rest)?;
@@ -133,7 +135,8 @@ pub fn find_row(page: &[u8], start: usize, header: Header, index: usize) -> Opti
 
 /// A child and its key; None as for `find_row`.
 pub fn find_key(page: &[u8], start: usize, header: Header, index: usize) -> Option<Key>
-    ensures { option_map key_of result ≡ item_on (λ usable. leading_key) page.now start (header_parts header) index }
+    ensures { option_map key_of result ≡ item_on (λ usable. leading_key) page.now start
+        (header_parts header) index }
 {
     let tail = read_tail(page, start, header, index)?;
     Some(read_key(tail)?.0)
@@ -149,7 +152,8 @@ pub fn find_entry(page: &[u8], start: usize, header: Header, index: usize) -> Op
 
 /// A child and the entry after it; None as for `find_row`.
 pub fn find_between(page: &[u8], start: usize, header: Header, index: usize) -> Option<Between<'_>>
-    ensures { option_map between_of result ≡ item_on leading_between page.now start (header_parts header) index }
+    ensures { option_map between_of result ≡ item_on leading_between page.now start
+        (header_parts header) index }
 {
     let tail = read_tail(page, start, header, index)?;
     Some(read_between(page.len() as u64, tail)?.0)

@@ -26,7 +26,8 @@ fn claim(taken: &mut [bool], from: usize, to: usize) -> Option<()>
 /// Takes the bytes of each cell; None if one isn't there, or if one of its bytes is taken.
 fn claim_cells(page: &[u8], start: usize, header: Header, taken: &mut [bool]) -> Option<()>
     requires { length taken.old ≡ length page.now }
-    ensures { option_map (λ done. taken.new) result ≡ claimed_from page.now start (header_parts header) taken.old 0 header.len }
+    ensures { option_map (λ done. taken.new) result ≡ claimed_from page.now start
+        (header_parts header) taken.old 0 header.len }
 {
     'cells: for index in 0..usize::from(header.len) {
         let (from, to) = find_ends(page, start, header, index)?;
@@ -51,8 +52,10 @@ fn take_front(taken: &mut Vec<bool>, front: usize, len: usize) -> R<()>
 pub fn check_cells(page: &[u8], start: usize, header: Header, taken: &mut Vec<bool>) -> R<()>
     requires { header_on page.now start ≡ Some (header_parts header) }
     ensures found { OnOk result (IsSaid (record { bytes = page.now; start = start })) }
-    ensures only { (node : Node) → IsNode page.now start node → IfErr result (λ fault. fault ≡ Fault.Memory) }
-    ensures refused { IfErr result (λ fault. (fault ≡ Fault.Memory) ⊎ (fault ≡ Fault.Damaged Damage.Cell 0)) }
+    ensures only { (node : Node) → IsNode page.now start node
+        → IfErr result (λ fault. fault ≡ Fault.Memory) }
+    ensures refused { IfErr result (λ fault. (fault ≡ Fault.Memory)
+        ⊎ (fault ≡ Fault.Damaged Damage.Cell 0)) }
 {
     let len = page.len();
     take_front(taken, front_len(start, header), len)?;

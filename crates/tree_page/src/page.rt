@@ -52,36 +52,42 @@ impl<'a> TreePage<'a> {
     /// page that says nothing.)
     pub fn check(&self, taken: &mut Vec<bool>) -> R<()>
         ensures found { OnOk result (IsSaid self.now) }
-        ensures only { (node : Node) → IsNode self.now.bytes self.now.start node → IfErr result (λ fault. fault ≡ Fault.Memory) }
-        ensures refused { IfErr result (λ fault. (fault ≡ Fault.Memory) ⊎ (fault ≡ Fault.Damaged Damage.Cell 0)) }
+        ensures only { (node : Node) → IsNode self.now.bytes self.now.start node
+            → IfErr result (λ fault. fault ≡ Fault.Memory) }
+        ensures refused { IfErr result (λ fault. (fault ≡ Fault.Memory)
+            ⊎ (fault ≡ Fault.Damaged Damage.Cell 0)) }
     {
         check_cells(self.bytes, self.start, self.header, taken)
     }
 
     /// The kind of the page.
     pub fn kind(&self) -> Kind
-        ensures { (node : Node) → IsNode self.now.bytes self.now.start node → type_of result ≡ code_of node }
+        ensures { (node : Node) → IsNode self.now.bytes self.now.start node
+            → type_of result ≡ code_of node }
     {
         self.header.kind
     }
 
     /// How many cells the page has.
     pub fn len(&self) -> usize
-        ensures { (node : Node) → IsNode self.now.bytes self.now.start node → result ≡ count_of node }
+        ensures { (node : Node) → IsNode self.now.bytes self.now.start node
+            → result ≡ count_of node }
     {
         usize::from(self.header.len)
     }
 
     /// The last child of an interior page.
     pub fn last_child(&self) -> Option<u32>
-        ensures { (node : Node) → IsNode self.now.bytes self.now.start node → result ≡ last_of node }
+        ensures { (node : Node) → IsNode self.now.bytes self.now.start node
+            → result ≡ last_of node }
     {
         read_last(self.bytes, self.start, self.header.kind)
     }
 
     /// The bytes of a cell. (`Damaged(Cell, 0)` if the page ends before, or has no such cell.)
     pub fn cell(&self, index: usize) -> R<&'a [u8]>
-        ensures only { (node : Node) (is : IsNode self.now.bytes self.now.start node) → index < count_of node
+        ensures only { (node : Node) (is : IsNode self.now.bytes self.now.start node)
+            → index < count_of node
             → Answers (λ cell. cell.now) result (slice_index_or is.cells index []) }
         ensures refused { IfErr result (λ fault. fault ≡ Fault.Damaged Damage.Cell 0) }
     {
@@ -90,7 +96,8 @@ impl<'a> TreePage<'a> {
 
     /// A row of a table's leaf. (`Damaged(Cell, 0)` as for `cell`.)
     pub fn row(&self, index: usize) -> R<Row<'a>>
-        ensures only { (rows : List (ℤ × LocalIs)) (d : ℤ × LocalIs) → IsNode self.now.bytes self.now.start (Rows rows)
+        ensures only { (rows : List (ℤ × LocalIs)) (d : ℤ × LocalIs)
+            → IsNode self.now.bytes self.now.start (Rows rows)
             → index < length rows → Answers row_of result (slice_index_or rows index d) }
         ensures refused { IfErr result (λ fault. fault ≡ Fault.Damaged Damage.Cell 0) }
     {
@@ -99,7 +106,8 @@ impl<'a> TreePage<'a> {
 
     /// A child of a table's interior page, with its key. (`Damaged(Cell, 0)` as for `cell`.)
     pub fn key(&self, index: usize) -> R<Key>
-        ensures only { (kids : List (ℕ × ℤ)) (last : ℕ) (d : ℕ × ℤ) → IsNode self.now.bytes self.now.start (Keys kids last)
+        ensures only { (kids : List (ℕ × ℤ)) (last : ℕ) (d : ℕ × ℤ)
+            → IsNode self.now.bytes self.now.start (Keys kids last)
             → index < length kids → Answers key_of result (slice_index_or kids index d) }
         ensures refused { IfErr result (λ fault. fault ≡ Fault.Damaged Damage.Cell 0) }
     {
@@ -108,7 +116,8 @@ impl<'a> TreePage<'a> {
 
     /// An entry of an index's leaf. (`Damaged(Cell, 0)` as for `cell`.)
     pub fn entry(&self, index: usize) -> R<Local<'a>>
-        ensures only { (entries : List LocalIs) (d : LocalIs) → IsNode self.now.bytes self.now.start (Entries entries)
+        ensures only { (entries : List LocalIs) (d : LocalIs)
+            → IsNode self.now.bytes self.now.start (Entries entries)
             → index < length entries → Answers local_of result (slice_index_or entries index d) }
         ensures refused { IfErr result (λ fault. fault ≡ Fault.Damaged Damage.Cell 0) }
     {
@@ -144,7 +153,8 @@ impl<'a> TreePage<'a> {
 
     /// The first place on a page of a table whose rowid, or key, isn't less; by halving. (`Damaged(Cell, 0)` as for `cell`.)
     pub fn place(&self, rowid: i64) -> R<usize>
-        ensures only { (node : Node) (numbers : List ℤ) → IsNode self.now.bytes self.now.start node → numbers_of node ≡ Some numbers
+        ensures only { (node : Node) (numbers : List ℤ) → IsNode self.now.bytes self.now.start node
+            → numbers_of node ≡ Some numbers
             → NeverFall numbers → result ≡ Ok (below rowid numbers) }
         ensures refused { IfErr result (λ fault. fault ≡ Fault.Damaged Damage.Cell 0) }
     {

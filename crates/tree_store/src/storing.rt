@@ -30,7 +30,8 @@ pub struct Fan {
 /// Writes a page of a tree. Page 1 has to keep the database's header.
 pub fn put_node<P: WritePages>(pages: &mut P, number: u32, bytes: &[u8]) -> R<()>
     ensures rewritten { IsTrue (P.Pages.tells (P.Pages.below pages.old))
-        → Rewrites (P.Pages.map pages.old) (P.Pages.map pages.new) (P.Pages.limits (P.Pages.below pages.old)).page number bytes.now result }
+        → Rewrites (P.Pages.map pages.old) (P.Pages.map pages.new)
+        (P.Pages.limits (P.Pages.below pages.old)).page number bytes.now result }
     ensures kept { P.Pages.below pages.new ≡ P.Pages.below pages.old }
     ensures causes { Causes result (P.Pages.failures pages.old) (P.Pages.failures pages.new) ⊥ }
 {
@@ -61,7 +62,8 @@ fn take_behind<P: WritePages>(
 /// Gives pages back, in order. (What `give` refuses; pages that were given back before stay so.)
 pub fn give_all<P: WritePages>(alloc: Global, pages: &mut P, spare: &[u32]) -> R<()>
     ensures given { IsTrue (P.Pages.tells (P.Pages.below pages.old))
-        → GivesAll (P.Pages.map pages.old) (P.Pages.map pages.new) (P.Pages.limits (P.Pages.below pages.old)).page spare.now result }
+        → GivesAll (P.Pages.map pages.old) (P.Pages.map pages.new)
+        (P.Pages.limits (P.Pages.below pages.old)).page spare.now result }
     ensures kept { P.Pages.below pages.new ≡ P.Pages.below pages.old }
     ensures causes { Causes result (P.Pages.failures pages.old) (P.Pages.failures pages.new) ⊥ }
 {
@@ -76,7 +78,8 @@ pub fn give_all<P: WritePages>(alloc: Global, pages: &mut P, spare: &[u32]) -> R
 /// Writes packed pages on the pages of these numbers, in order. (`Damaged(Page, 0)` if there are fewer numbers, and what `put` refuses.)
 fn write_pages<P: WritePages>(pages: &mut P, fronts: &[u32], last: u32, packed: &Packed) -> R<()>
     ensures written { IsTrue (P.Pages.tells (P.Pages.below pages.old))
-        → WritesAll (P.Pages.map pages.old) (P.Pages.map pages.new) (P.Pages.limits (P.Pages.below pages.old)).page
+        → WritesAll (P.Pages.map pages.old) (P.Pages.map pages.new)
+        (P.Pages.limits (P.Pages.below pages.old)).page
         (fronts.now ++ last ∷ []) (images packed.now) result }
     ensures kept { P.Pages.below pages.new ≡ P.Pages.below pages.old }
     ensures causes { Causes result (P.Pages.failures pages.old) (P.Pages.failures pages.new) ⊥ }
@@ -129,7 +132,8 @@ fn fan_cells(alloc: Global, numbers: &[u32], pieces: &[Piece]) -> R<Vec<Vec<u8>>
 /// Page 1 can't be among them. (`Full` only if pages are taken.)
 pub fn store<P: WritePages>(alloc: Global, pages: &mut P, olds: &[u32], packed: &Packed) -> R<Fan>
     ensures stored { IsTrue (P.Pages.tells (P.Pages.below pages.old))
-        → Stores (P.Pages.map pages.old) (P.Pages.map pages.new) (P.Pages.limits (P.Pages.below pages.old)).page olds.now packed.now result }
+        → Stores (P.Pages.map pages.old) (P.Pages.map pages.new)
+        (P.Pages.limits (P.Pages.below pages.old)).page olds.now packed.now result }
     ensures kept { P.Pages.below pages.new ≡ P.Pages.below pages.old }
     ensures causes { Causes result (P.Pages.failures pages.old) (P.Pages.failures pages.new)
         (P.Pages.count pages.new ≡ (P.Pages.limits (P.Pages.below pages.new)).most) }
@@ -158,7 +162,8 @@ fn front_of<P: WritePages>(alloc: Global, pages: &mut P, number: u32) -> R<Vec<u
     ensures found { IsTrue (P.Pages.tells (P.Pages.below pages.old))
         → IsThere (P.Pages.map pages.old) (P.Pages.limits (P.Pages.below pages.old)).page number
         → start_of number ≤ (P.Pages.limits (P.Pages.below pages.old)).page
-        → MatchResult result (λ front. front.items ≡ take (start_of number) (page_at (P.Pages.map pages.old) number)) IsOutside }
+        → MatchResult result (λ front. front.items ≡ take (start_of number)
+        (page_at (P.Pages.map pages.old) number)) IsOutside }
     ensures long { IfOk result (λ front. length front.items ≡ start_of number) }
     ensures stays { Stays P.Pages.below P.Pages.map P.Pages.count P.Pages.failures result pages.old pages.new }
 {
@@ -182,7 +187,8 @@ fn is_interior(kind: Kind) -> bool
 
 /// The bytes of cells, without copies. (`Memory`.)
 fn lent(alloc: Global, cells: &[Vec<u8>]) -> R<Vec<&[u8]>>
-    ensures are { IfOk result (λ slices. map (λ slice. slice.now) slices.items ≡ map (λ cell. cell.items) cells.now) }
+    ensures are { IfOk result (λ slices. map (λ slice. slice.now) slices.items ≡ map
+        (λ cell. cell.items) cells.now) }
     ensures refused { IfErr result (λ fault. fault ≡ Fault.Memory) }
 {
     let mut slices = Vec::with_capacity(alloc, cells.len())?;
@@ -228,7 +234,8 @@ pub fn store_root<P: WritePages>(
     packed: &Packed,
 ) -> R<()>
     ensures rooted { IsTrue (P.Pages.tells (P.Pages.below pages.old))
-        → Roots (P.Pages.map pages.old) (P.Pages.map pages.new) (P.Pages.limits (P.Pages.below pages.old)).page root kind packed.now result }
+        → Roots (P.Pages.map pages.old) (P.Pages.map pages.new)
+        (P.Pages.limits (P.Pages.below pages.old)).page root kind packed.now result }
     ensures kept { P.Pages.below pages.new ≡ P.Pages.below pages.old }
     ensures causes { Causes result (P.Pages.failures pages.old) (P.Pages.failures pages.new)
         (P.Pages.count pages.new ≡ (P.Pages.limits (P.Pages.below pages.new)).most) }

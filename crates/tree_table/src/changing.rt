@@ -34,7 +34,8 @@ fn edit_run<P: WritePages>(
 ) -> R<(usize, bool)>
     requires { IsFirst rowid changes.now }
     ensures edited { IsTrue (P.Pages.tells (P.Pages.below pages.old))
-        → EditsRun (P.Pages.map pages.old) (P.Pages.map pages.new) (P.Pages.limits (P.Pages.below pages.old)).page root rowid changes.now result }
+        → EditsRun (P.Pages.map pages.old) (P.Pages.map pages.new)
+        (P.Pages.limits (P.Pages.below pages.old)).page root rowid changes.now result }
     ensures some { IfOk result (λ done. (0 < done.0) × (done.0 ≤ length changes.now)) }
     ensures kept { P.Pages.below pages.new ≡ P.Pages.below pages.old }
     ensures causes { Causes result (P.Pages.failures pages.old) (P.Pages.failures pages.new)
@@ -61,7 +62,8 @@ fn change_run<P: WritePages>(
 ) -> R<(usize, bool)>
     requires { IsFirst rowid changes.now }
     ensures changed { IsTrue (P.Pages.tells (P.Pages.below pages.old))
-        → RunsAt (P.Pages.map pages.old) (P.Pages.map pages.new) (P.Pages.limits (P.Pages.below pages.old)).page root rowid changes.now result }
+        → RunsAt (P.Pages.map pages.old) (P.Pages.map pages.new)
+        (P.Pages.limits (P.Pages.below pages.old)).page root rowid changes.now result }
     ensures some { IfOk result (λ done. (0 < done.0) × (done.0 ≤ length changes.now)) }
     ensures kept { P.Pages.below pages.new ≡ P.Pages.below pages.old }
     ensures causes { Causes result (P.Pages.failures pages.old) (P.Pages.failures pages.new)
@@ -80,7 +82,8 @@ fn change_run<P: WritePages>(
 /// the key between them may become longer; `Damaged` for pages that are none of a table's tree.)
 pub fn remove<P: WritePages>(alloc: Global, pages: &mut P, root: u32, rowid: i64) -> R<bool>
     ensures removed { IsTrue (P.Pages.tells (P.Pages.below pages.old))
-        → RemovesRow (P.Pages.map pages.old) (P.Pages.map pages.new) (P.Pages.limits (P.Pages.below pages.old)).page root rowid result }
+        → RemovesRow (P.Pages.map pages.old) (P.Pages.map pages.new)
+        (P.Pages.limits (P.Pages.below pages.old)).page root rowid result }
     ensures kept { P.Pages.below pages.new ≡ P.Pages.below pages.old }
     ensures causes { Causes result (P.Pages.failures pages.old) (P.Pages.failures pages.new)
         (P.Pages.count pages.new ≡ (P.Pages.limits (P.Pages.below pages.new)).most) }
@@ -103,7 +106,8 @@ pub fn change_rows<P: WritePages>(
     changes: &[RowChange],
 ) -> R<()>
     ensures changed { IsTrue (P.Pages.tells (P.Pages.below pages.old))
-        → ChangesRows (P.Pages.map pages.old) (P.Pages.map pages.new) (P.Pages.limits (P.Pages.below pages.old)).page root changes.now result }
+        → ChangesRows (P.Pages.map pages.old) (P.Pages.map pages.new)
+        (P.Pages.limits (P.Pages.below pages.old)).page root changes.now result }
     ensures kept { P.Pages.below pages.new ≡ P.Pages.below pages.old }
     ensures causes { Causes result (P.Pages.failures pages.old) (P.Pages.failures pages.new)
         (P.Pages.count pages.new ≡ (P.Pages.limits (P.Pages.below pages.new)).most) }

@@ -59,7 +59,8 @@ pub(crate) fn look(bytes: &[u8], start: usize, rowid: i64) -> R<Step>
 /// Where the way to a rowid goes on from a page. (`Damaged(Page, number)` or `Damaged(Cell, number)` for another page than a table's.)
 pub(crate) fn step_from<P: Pages>(pages: &mut P, number: u32, rowid: i64) -> R<Step>
     ensures found { IsTrue (P.Pages.tells (P.Pages.below pages.old))
-        → StepsFrom (P.Pages.map pages.old) (P.Pages.limits (P.Pages.below pages.old)).page number rowid result }
+        → StepsFrom (P.Pages.map pages.old) (P.Pages.limits (P.Pages.below pages.old)).page number
+        rowid result }
     ensures stays { Stays P.Pages.below P.Pages.map P.Pages.count P.Pages.failures result pages.old pages.new }
 {
     pages.load(number)?;

@@ -14,7 +14,8 @@ use sqlval::{Fault, R};
 /// `read_payload` refuse.)
 pub fn get<P: Pages>(pages: &mut P, root: u32, rowid: i64, out: &mut Vec<u8>) -> R<bool>
     ensures found { IsTrue (P.Pages.tells (P.Pages.below pages.old))
-        → FindsRow (P.Pages.map pages.old) (P.Pages.limits (P.Pages.below pages.old)).page root rowid out.old.items out.new.items result }
+        → FindsRow (P.Pages.map pages.old) (P.Pages.limits (P.Pages.below pages.old)).page root
+        rowid out.old.items out.new.items result }
     ensures stays { Stays P.Pages.below P.Pages.map P.Pages.count P.Pages.failures result pages.old pages.new }
 {
     let end = find_leaf(pages, root, rowid)?;
@@ -50,7 +51,8 @@ pub fn last<P: Pages>(pages: &mut P, root: u32) -> R<Option<i64>>
 /// The rowid of a new row after those up to `last`. `RowidFull` where that is the greatest of 64 bits.
 pub fn next_rowid(last: Option<i64>) -> R<i64>
     ensures next { IfOk result (λ rowid. MatchOption last (rowid ≡ pos 1) (λ before. rowid ≡ before +ℤ pos 1)) }
-    ensures full { IfErr result (λ fault. (fault ≡ Fault.RowidFull) × (last ≡ Some (pos 9223372036854775807))) }
+    ensures full { IfErr result (λ fault. (fault ≡ Fault.RowidFull)
+        × (last ≡ Some (pos 9223372036854775807))) }
 {
     match last {
         None => Ok(1),

@@ -32,7 +32,8 @@ pub enum Parts {
 /// `take` refuses. A page that was taken before stays so.)
 pub fn new_tree<P: WritePages>(alloc: Global, pages: &mut P) -> R<u32>
     ensures made { IsTrue (P.Pages.tells (P.Pages.below pages.old))
-        → MakesTree (P.Pages.map pages.old) (P.Pages.map pages.new) (P.Pages.limits (P.Pages.below pages.old)).page result }
+        → MakesTree (P.Pages.map pages.old) (P.Pages.map pages.new)
+        (P.Pages.limits (P.Pages.below pages.old)).page result }
     ensures kept { P.Pages.below pages.new ≡ P.Pages.below pages.old }
     ensures causes { Causes result (P.Pages.failures pages.old) (P.Pages.failures pages.new)
         (P.Pages.count pages.new ≡ (P.Pages.limits (P.Pages.below pages.new)).most) }
@@ -45,7 +46,8 @@ pub fn new_tree<P: WritePages>(alloc: Global, pages: &mut P) -> R<u32>
 
 /// The parts of a page of these bytes. (`Damaged` for one that is no page of a table.)
 fn parts_in(bytes: &[u8], number: u32) -> R<Parts>
-    ensures only { (node : Node) → IsNode bytes.now (counting.start_of number) node → IsOfTable node → result ≡ Ok (parts_for node) }
+    ensures only { (node : Node) → IsNode bytes.now (counting.start_of number) node → IsOfTable node
+        → result ≡ Ok (parts_for node) }
     ensures not_disk { IfErr result IsNotDiskFault }
 {
     let page = TreePage::over(bytes, start_of(number))?;
@@ -72,7 +74,8 @@ pub(crate) fn parts_of<P: Pages>(pages: &mut P, number: u32) -> R<Parts>
 
 /// The child at a place of an interior page of these bytes. (`Damaged` if there is none.)
 fn child_in(bytes: &[u8], number: u32, place: usize) -> R<u32>
-    ensures only { (kids : List (ℕ × ℤ)) (last : ℕ) → IsNode bytes.now (counting.start_of number) (Keys kids last)
+    ensures only { (kids : List (ℕ × ℤ)) (last : ℕ)
+        → IsNode bytes.now (counting.start_of number) (Keys kids last)
         → result ≡ Ok (stepping.child_at place kids last) }
     ensures not_disk { IfErr result IsNotDiskFault }
 {
@@ -83,7 +86,8 @@ fn child_in(bytes: &[u8], number: u32, place: usize) -> R<u32>
 /// The child at a place of an interior page. (What `load` refuses; `Damaged` if there is none.)
 pub(crate) fn child_of<P: Pages>(pages: &mut P, number: u32, place: usize) -> R<u32>
     ensures read { IsTrue (P.Pages.tells (P.Pages.below pages.old))
-        → ReadsChild (P.Pages.map pages.old) (P.Pages.limits (P.Pages.below pages.old)).page number place result }
+        → ReadsChild (P.Pages.map pages.old) (P.Pages.limits (P.Pages.below pages.old)).page number
+        place result }
     ensures stays { Stays P.Pages.below P.Pages.map P.Pages.count P.Pages.failures result pages.old pages.new }
 {
     pages.load(number)?;
@@ -102,7 +106,8 @@ pub(crate) fn free_row<P: WritePages>(
     place: usize,
 ) -> R<()>
     ensures freed { IsTrue (P.Pages.tells (P.Pages.below pages.old))
-        → FreesRow (P.Pages.map pages.old) (P.Pages.map pages.new) (P.Pages.limits (P.Pages.below pages.old)).page leaf place result }
+        → FreesRow (P.Pages.map pages.old) (P.Pages.map pages.new)
+        (P.Pages.limits (P.Pages.below pages.old)).page leaf place result }
     ensures kept { P.Pages.below pages.new ≡ P.Pages.below pages.old }
     ensures causes { Causes result (P.Pages.failures pages.old) (P.Pages.failures pages.new) ⊥ }
 {
@@ -124,7 +129,8 @@ pub(crate) fn free_row<P: WritePages>(
 /// Gives the pages back over which the rows of a leaf go on. (What `free_row` refuses.)
 fn free_rows<P: WritePages>(alloc: Global, pages: &mut P, leaf: u32, len: usize) -> R<()>
     ensures freed { IsTrue (P.Pages.tells (P.Pages.below pages.old))
-        → FreesRows (P.Pages.map pages.old) (P.Pages.map pages.new) (P.Pages.limits (P.Pages.below pages.old)).page leaf len result }
+        → FreesRows (P.Pages.map pages.old) (P.Pages.map pages.new)
+        (P.Pages.limits (P.Pages.below pages.old)).page leaf len result }
     ensures kept { P.Pages.below pages.new ≡ P.Pages.below pages.old }
     ensures causes { Causes result (P.Pages.failures pages.old) (P.Pages.failures pages.new) ⊥ }
 {
@@ -139,7 +145,8 @@ fn free_rows<P: WritePages>(alloc: Global, pages: &mut P, leaf: u32, len: usize)
 /// given back before stay so.)
 fn free_below<P: WritePages>(alloc: Global, pages: &mut P, number: u32, ways: u32) -> R<()>
     ensures freed { IsTrue (P.Pages.tells (P.Pages.below pages.old))
-        → FreesBelow (P.Pages.map pages.old) (P.Pages.map pages.new) (P.Pages.limits (P.Pages.below pages.old)).page number ways result }
+        → FreesBelow (P.Pages.map pages.old) (P.Pages.map pages.new)
+        (P.Pages.limits (P.Pages.below pages.old)).page number ways result }
     ensures kept { P.Pages.below pages.new ≡ P.Pages.below pages.old }
     ensures causes { Causes result (P.Pages.failures pages.old) (P.Pages.failures pages.new) ⊥ }
 {
@@ -162,7 +169,8 @@ fn free_below<P: WritePages>(alloc: Global, pages: &mut P, number: u32, ways: u3
 /// Pages that were given back before stay so.)
 pub fn free_tree<P: WritePages>(alloc: Global, pages: &mut P, root: u32) -> R<()>
     ensures freed { IsTrue (P.Pages.tells (P.Pages.below pages.old))
-        → FreesTree (P.Pages.map pages.old) (P.Pages.map pages.new) (P.Pages.limits (P.Pages.below pages.old)).page root result }
+        → FreesTree (P.Pages.map pages.old) (P.Pages.map pages.new)
+        (P.Pages.limits (P.Pages.below pages.old)).page root result }
     ensures kept { P.Pages.below pages.new ≡ P.Pages.below pages.old }
     ensures causes { Causes result (P.Pages.failures pages.old) (P.Pages.failures pages.new)
         (P.Pages.count pages.new ≡ (P.Pages.limits (P.Pages.below pages.new)).most) }
@@ -175,7 +183,8 @@ pub fn free_tree<P: WritePages>(alloc: Global, pages: &mut P, root: u32) -> R<()
 /// refuse. Pages that were given back before stay so.)
 pub fn clear<P: WritePages>(alloc: Global, pages: &mut P, root: u32) -> R<()>
     ensures cleared { IsTrue (P.Pages.tells (P.Pages.below pages.old))
-        → ClearsTree (P.Pages.map pages.old) (P.Pages.map pages.new) (P.Pages.limits (P.Pages.below pages.old)).page root result }
+        → ClearsTree (P.Pages.map pages.old) (P.Pages.map pages.new)
+        (P.Pages.limits (P.Pages.below pages.old)).page root result }
     ensures kept { P.Pages.below pages.new ≡ P.Pages.below pages.old }
     ensures causes { Causes result (P.Pages.failures pages.old) (P.Pages.failures pages.new)
         (P.Pages.count pages.new ≡ (P.Pages.limits (P.Pages.below pages.new)).most) }

@@ -38,7 +38,8 @@ fn packed_leaf<P: WritePages>(
     payload: &[u8],
 ) -> R<Packed>
     ensures planned { IsTrue (P.Pages.tells (P.Pages.below pages.old))
-        → PlansLeaf (P.Pages.map pages.old) (P.Pages.map pages.new) (P.Pages.limits (P.Pages.below pages.old)).page number place
+        → PlansLeaf (P.Pages.map pages.old) (P.Pages.map pages.new)
+        (P.Pages.limits (P.Pages.below pages.old)).page number place
         (record { rowid = rowid; payload = payload.now }) result }
     ensures kept { P.Pages.below pages.new ≡ P.Pages.below pages.old }
     ensures causes { Causes result (P.Pages.failures pages.old) (P.Pages.failures pages.new)
@@ -127,7 +128,8 @@ pub(crate) fn widened<P: WritePages>(
     deep: bool,
 ) -> R<Change>
     ensures widened { IsTrue (P.Pages.tells (P.Pages.below pages.old))
-        → Widens (P.Pages.map pages.old) (P.Pages.map pages.new) (P.Pages.limits (P.Pages.below pages.old)).page number place child packed.now deep result }
+        → Widens (P.Pages.map pages.old) (P.Pages.map pages.new)
+        (P.Pages.limits (P.Pages.below pages.old)).page number place child packed.now deep result }
     ensures kept { P.Pages.below pages.new ≡ P.Pages.below pages.old }
     ensures causes { Causes result (P.Pages.failures pages.old) (P.Pages.failures pages.new)
         (P.Pages.count pages.new ≡ (P.Pages.limits (P.Pages.below pages.new)).most) }
@@ -152,7 +154,8 @@ pub(crate) fn packed_below<P: WritePages>(
     payload: &[u8],
 ) -> R<Change>
     ensures changes { IsTrue (P.Pages.tells (P.Pages.below pages.old))
-        → Changes (P.Pages.map pages.old) (P.Pages.map pages.new) (P.Pages.limits (P.Pages.below pages.old)).page number ways
+        → Changes (P.Pages.map pages.old) (P.Pages.map pages.new)
+        (P.Pages.limits (P.Pages.below pages.old)).page number ways
         (record { rowid = rowid; payload = payload.now }) result }
     ensures kept { P.Pages.below pages.new ≡ P.Pages.below pages.old }
     ensures causes { Causes result (P.Pages.failures pages.old) (P.Pages.failures pages.new)

@@ -25,7 +25,8 @@ pub fn insert<P: WritePages>(
     payload: &[u8],
 ) -> R<bool>
     ensures inserted { IsTrue (P.Pages.tells (P.Pages.below pages.old))
-        → InsertsRow (P.Pages.map pages.old) (P.Pages.map pages.new) (P.Pages.limits (P.Pages.below pages.old)).page root
+        → InsertsRow (P.Pages.map pages.old) (P.Pages.map pages.new)
+        (P.Pages.limits (P.Pages.below pages.old)).page root
         (record { rowid = rowid; payload = payload.now }) result }
     ensures kept { P.Pages.below pages.new ≡ P.Pages.below pages.old }
     ensures causes { Causes result (P.Pages.failures pages.old) (P.Pages.failures pages.new)

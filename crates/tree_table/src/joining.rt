@@ -57,7 +57,8 @@ fn pair_in(alloc: Global, bytes: &[u8], start: usize, place: usize) -> R<Option<
 /// The same of an interior page by its number. (`Memory`, what `load` refuses; `Damaged` for another page.)
 fn pair_of<P: Pages>(alloc: Global, pages: &mut P, number: u32, place: usize) -> R<Option<Pair>>
     ensures found { IsTrue (P.Pages.tells (P.Pages.below pages.old))
-        → FindsPairOn (P.Pages.map pages.old) (P.Pages.limits (P.Pages.below pages.old)).page number place result }
+        → FindsPairOn (P.Pages.map pages.old)
+        (P.Pages.limits (P.Pages.below pages.old)).page number place result }
     ensures stays { Stays P.Pages.below P.Pages.map P.Pages.count P.Pages.failures result pages.old pages.new }
 {
     pages.load(number)?;
@@ -87,11 +88,13 @@ fn merged<P: Pages>(alloc: Global, pages: &mut P, pair: &Pair) -> R<Packed>
     ensures rows { IsTrue (P.Pages.tells (P.Pages.below pages.old))
         → IsThere (P.Pages.map pages.old) (P.Pages.limits (P.Pages.below pages.old)).page pair.now.left
         → IsThere (P.Pages.map pages.old) (P.Pages.limits (P.Pages.below pages.old)).page pair.now.right
-        → MergesRows (page_at (P.Pages.map pages.old) pair.now.left) (page_at (P.Pages.map pages.old) pair.now.right) result }
+        → MergesRows (page_at (P.Pages.map pages.old) pair.now.left)
+        (page_at (P.Pages.map pages.old) pair.now.right) result }
     ensures keys { IsTrue (P.Pages.tells (P.Pages.below pages.old))
         → IsThere (P.Pages.map pages.old) (P.Pages.limits (P.Pages.below pages.old)).page pair.now.left
         → IsThere (P.Pages.map pages.old) (P.Pages.limits (P.Pages.below pages.old)).page pair.now.right
-        → MergesKeys (page_at (P.Pages.map pages.old) pair.now.left) pair.now.cell.items (page_at (P.Pages.map pages.old) pair.now.right) result }
+        → MergesKeys (page_at (P.Pages.map pages.old) pair.now.left) pair.now.cell.items
+        (page_at (P.Pages.map pages.old) pair.now.right) result }
     ensures stays { Stays P.Pages.below P.Pages.map P.Pages.count P.Pages.failures result pages.old pages.new }
 {
     pages.load(pair.left)?;
@@ -119,7 +122,8 @@ pub(crate) fn joined<P: WritePages>(
     place: usize,
 ) -> R<Option<Packed>>
     ensures joined { IsTrue (P.Pages.tells (P.Pages.below pages.old))
-        → JoinsAt (P.Pages.map pages.old) (P.Pages.map pages.new) (P.Pages.limits (P.Pages.below pages.old)).page number place result }
+        → JoinsAt (P.Pages.map pages.old) (P.Pages.map pages.new)
+        (P.Pages.limits (P.Pages.below pages.old)).page number place result }
     ensures kept { P.Pages.below pages.new ≡ P.Pages.below pages.old }
     ensures causes { Causes result (P.Pages.failures pages.old) (P.Pages.failures pages.new)
         (P.Pages.count pages.new ≡ (P.Pages.limits (P.Pages.below pages.new)).most) }
@@ -137,7 +141,8 @@ pub(crate) fn joined<P: WritePages>(
 /// Whether packed pages are one page without cells, other than page 1.
 fn is_bare(packed: &Packed) -> bool
     ensures alone { IsTrue result → length packed.now.pieces.items ≡ 0 }
-    ensures empty { (node : Node) → IsNode packed.now.last.items 0 node → IsTrue result → count_of node ≡ 0 }
+    ensures empty { (node : Node) → IsNode packed.now.last.items 0 node → IsTrue result
+        → count_of node ≡ 0 }
 {
     let Ok(page) = TreePage::over(packed.last.as_slice(), 0) else {
         return false;
@@ -157,7 +162,8 @@ pub(crate) fn narrowed<P: WritePages>(
     deep: bool,
 ) -> R<Change>
     ensures widened { IsTrue (P.Pages.tells (P.Pages.below pages.old))
-        → Widens (P.Pages.map pages.old) (P.Pages.map pages.new) (P.Pages.limits (P.Pages.below pages.old)).page number place child packed.now deep result }
+        → Widens (P.Pages.map pages.old) (P.Pages.map pages.new)
+        (P.Pages.limits (P.Pages.below pages.old)).page number place child packed.now deep result }
     ensures kept { P.Pages.below pages.new ≡ P.Pages.below pages.old }
     ensures causes { Causes result (P.Pages.failures pages.old) (P.Pages.failures pages.new)
         (P.Pages.count pages.new ≡ (P.Pages.limits (P.Pages.below pages.new)).most) }

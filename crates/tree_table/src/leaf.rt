@@ -32,7 +32,8 @@ pub(crate) fn at_page(fault: Fault, number: u32) -> Fault
 
 /// Builds the page of a table without rows, other than page 1. A page without room for a header is `TooLong`.
 pub(crate) fn empty(alloc: Global, page_size: usize) -> R<Vec<u8>>
-    ensures leaf { IfOk result (λ page. IsTableLeaf page.items 0 [] × (length page.items ≡ page_size)) }
+    ensures leaf { IfOk result (λ page. IsTableLeaf page.items 0 []
+        × (length page.items ≡ page_size)) }
     ensures refused { IfErr result (λ fault. (fault ≡ Fault.Memory)
         ⊎ ((fault ≡ Fault.TooLong) × (Fits page_size 0 [] → ⊥))) }
 {
@@ -56,7 +57,8 @@ fn without_cells(alloc: Global, page: &[u8], start: usize) -> R<Vec<u8>>
 pub(crate) fn emptied(alloc: Global, page: &[u8], number: u32) -> R<Vec<u8>>
     ensures leaf { IfOk result (λ new. IsTableLeaf new.items (counting.start_of number) []) }
     ensures size { IfOk result (λ new. length new.items ≡ length page.now) }
-    ensures front { IfOk result (λ new. take (counting.start_of number) new.items ≡ take (counting.start_of number) page.now) }
+    ensures front { IfOk result (λ new. take (counting.start_of number) new.items ≡ take
+        (counting.start_of number) page.now) }
     ensures refused { IfErr result (λ fault. IsPageSize (length page.now) → fault ≡ Fault.Memory) }
     ensures not_disk { IfErr result IsNotDiskFault }
 {

@@ -45,7 +45,8 @@ fn lone_child<P: Pages>(pages: &mut P, number: u32) -> R<Option<u32>>
 /// Gives a page the bytes of another, which is given back. (`Memory`, what `load`, `put` and `give` refuse.)
 fn take_over<P: WritePages>(alloc: Global, pages: &mut P, number: u32, child: u32) -> R<()>
     ensures taken { IsTrue (P.Pages.tells (P.Pages.below pages.old))
-        → TakesOver (P.Pages.map pages.old) (P.Pages.map pages.new) (P.Pages.limits (P.Pages.below pages.old)).page number child result }
+        → TakesOver (P.Pages.map pages.old) (P.Pages.map pages.new)
+        (P.Pages.limits (P.Pages.below pages.old)).page number child result }
     ensures kept { P.Pages.below pages.new ≡ P.Pages.below pages.old }
     ensures causes { Causes result (P.Pages.failures pages.old) (P.Pages.failures pages.new) ⊥ }
 {
@@ -59,7 +60,8 @@ fn take_over<P: WritePages>(alloc: Global, pages: &mut P, number: u32, child: u3
 /// one child takes over those of its own one child.
 fn lower<P: WritePages>(alloc: Global, pages: &mut P, root: u32) -> R<()>
     ensures lowered { IsTrue (P.Pages.tells (P.Pages.below pages.old))
-        → LowersRoot (P.Pages.map pages.old) (P.Pages.map pages.new) (P.Pages.limits (P.Pages.below pages.old)).page root result }
+        → LowersRoot (P.Pages.map pages.old) (P.Pages.map pages.new)
+        (P.Pages.limits (P.Pages.below pages.old)).page root result }
     ensures kept { P.Pages.below pages.new ≡ P.Pages.below pages.old }
     ensures causes { Causes result (P.Pages.failures pages.old) (P.Pages.failures pages.new) ⊥ }
 {
@@ -78,7 +80,8 @@ fn lower<P: WritePages>(alloc: Global, pages: &mut P, root: u32) -> R<()>
 /// Leaves the root alone of a tree without rows, and lowers that of another. (What `last`, `clear` and `give` refuse.)
 pub(crate) fn settle<P: WritePages>(alloc: Global, pages: &mut P, root: u32) -> R<()>
     ensures settled { IsTrue (P.Pages.tells (P.Pages.below pages.old))
-        → SettlesRoot (P.Pages.map pages.old) (P.Pages.map pages.new) (P.Pages.limits (P.Pages.below pages.old)).page root result }
+        → SettlesRoot (P.Pages.map pages.old) (P.Pages.map pages.new)
+        (P.Pages.limits (P.Pages.below pages.old)).page root result }
     ensures kept { P.Pages.below pages.new ≡ P.Pages.below pages.old }
     ensures causes { Causes result (P.Pages.failures pages.old) (P.Pages.failures pages.new)
         (P.Pages.count pages.new ≡ (P.Pages.limits (P.Pages.below pages.new)).most) }
@@ -121,7 +124,8 @@ fn ends_bare<P: Pages>(pages: &mut P, root: u32) -> R<bool>
 /// room beside the database's header. (What `joined` and `put` refuse.)
 pub(crate) fn trim<P: WritePages>(alloc: Global, pages: &mut P, root: u32) -> R<()>
     ensures trimmed { IsTrue (P.Pages.tells (P.Pages.below pages.old))
-        → TrimsRoot (P.Pages.map pages.old) (P.Pages.map pages.new) (P.Pages.limits (P.Pages.below pages.old)).page root result }
+        → TrimsRoot (P.Pages.map pages.old) (P.Pages.map pages.new)
+        (P.Pages.limits (P.Pages.below pages.old)).page root result }
     ensures kept { P.Pages.below pages.new ≡ P.Pages.below pages.old }
     ensures causes { Causes result (P.Pages.failures pages.old) (P.Pages.failures pages.new)
         (P.Pages.count pages.new ≡ (P.Pages.limits (P.Pages.below pages.new)).most) }

@@ -17,7 +17,8 @@ use tree_page::{Row, TreePage};
 
 /// The row at a place of a leaf of these bytes. (`Damaged` for one that is no page of a tree, or has no such row.)
 pub(crate) fn row_in(bytes: &[u8], leaf: u32, place: usize) -> R<Row<'_>>
-    ensures only { (rows : List (ℤ × LocalIs)) (d : ℤ × LocalIs) → IsNode bytes.now (counting.start_of leaf) (Rows rows)
+    ensures only { (rows : List (ℤ × LocalIs)) (d : ℤ × LocalIs)
+        → IsNode bytes.now (counting.start_of leaf) (Rows rows)
         → place < length rows
         → Answers row_of result (slice_index_or rows place d) }
     ensures not_disk { IfErr result IsNotDiskFault }
@@ -27,7 +28,8 @@ pub(crate) fn row_in(bytes: &[u8], leaf: u32, place: usize) -> R<Row<'_>>
 
 /// How many rows the leaf of these bytes has. (`Damaged` for one that is no page of a tree.)
 fn count_in(bytes: &[u8], leaf: u32) -> R<usize>
-    ensures only { (rows : List (ℤ × LocalIs)) → IsNode bytes.now (counting.start_of leaf) (Rows rows) → result ≡ Ok (length rows) }
+    ensures only { (rows : List (ℤ × LocalIs))
+        → IsNode bytes.now (counting.start_of leaf) (Rows rows) → result ≡ Ok (length rows) }
     ensures not_disk { IfErr result IsNotDiskFault }
 {
     Ok(TreePage::over(bytes, start_of(leaf))?.len())
@@ -35,7 +37,8 @@ fn count_in(bytes: &[u8], leaf: u32) -> R<usize>
 
 /// The rowid of the last row of the leaf of these bytes, if it has rows. (`Damaged` for one that is no page of a tree.)
 fn last_in(bytes: &[u8], leaf: u32) -> R<Option<i64>>
-    ensures only { (rows : List (ℤ × LocalIs)) → IsNode bytes.now (counting.start_of leaf) (Rows rows)
+    ensures only { (rows : List (ℤ × LocalIs))
+        → IsNode bytes.now (counting.start_of leaf) (Rows rows)
         → result ≡ Ok (last_of_numbers (map (λ row. row.0) rows)) }
     ensures not_disk { IfErr result IsNotDiskFault }
 {
@@ -49,7 +52,8 @@ fn last_in(bytes: &[u8], leaf: u32) -> R<Option<i64>>
 
 /// Whether the row at a place of a leaf of these bytes has this rowid. (`Damaged` for one that is no page of a tree.)
 fn is_row_in(bytes: &[u8], leaf: u32, place: usize, rowid: i64) -> R<bool>
-    ensures only { (rows : List (ℤ × LocalIs)) → IsNode bytes.now (counting.start_of leaf) (Rows rows)
+    ensures only { (rows : List (ℤ × LocalIs))
+        → IsNode bytes.now (counting.start_of leaf) (Rows rows)
         → IsOkAnd result (IsRowAt (map (λ row. row.0) rows) place rowid) }
     ensures not_disk { IfErr result IsNotDiskFault }
 {
@@ -65,7 +69,8 @@ pub fn count_rows<P: Pages>(pages: &mut P, leaf: u32) -> R<usize>
     ensures counted { IsTrue (P.Pages.tells (P.Pages.below pages.old))
         → CountsRows (P.Pages.map pages.old) (P.Pages.limits (P.Pages.below pages.old)).page leaf result }
     // The leaf is loaded then.
-    ensures held { IsTrue (P.Pages.tells (P.Pages.below pages.old)) → OnOk result (P.Pages.held pages.new ≡ page_at (P.Pages.map pages.old) leaf) }
+    ensures held { IsTrue (P.Pages.tells (P.Pages.below pages.old))
+        → OnOk result (P.Pages.held pages.new ≡ page_at (P.Pages.map pages.old) leaf) }
     ensures stays { Stays P.Pages.below P.Pages.map P.Pages.count P.Pages.failures result pages.old pages.new }
 {
     pages.load(leaf)?;
@@ -91,7 +96,8 @@ pub fn last_row<P: Pages>(pages: &mut P, leaf: u32) -> R<Option<i64>>
 /// Whether the row at a place of a leaf has this rowid. (What `load` refuses; `Damaged` for one that is no page of a tree.)
 pub fn is_row_at<P: Pages>(pages: &mut P, leaf: u32, place: usize, rowid: i64) -> R<bool>
     ensures found { IsTrue (P.Pages.tells (P.Pages.below pages.old))
-        → FindsRowid (P.Pages.map pages.old) (P.Pages.limits (P.Pages.below pages.old)).page leaf place rowid result }
+        → FindsRowid (P.Pages.map pages.old) (P.Pages.limits (P.Pages.below pages.old)).page leaf
+        place rowid result }
     ensures stays { Stays P.Pages.below P.Pages.map P.Pages.count P.Pages.failures result pages.old pages.new }
 {
     pages.load(leaf)?;
@@ -105,7 +111,8 @@ pub fn is_row_at<P: Pages>(pages: &mut P, leaf: u32, place: usize, rowid: i64) -
 /// `read_payload` refuse; `Damaged` for a page that has no such row.)
 pub fn read_row<P: Pages>(pages: &mut P, leaf: u32, place: usize, out: &mut Vec<u8>) -> R<i64>
     ensures read { IsTrue (P.Pages.tells (P.Pages.below pages.old))
-        → ReadsRow (P.Pages.map pages.old) (P.Pages.limits (P.Pages.below pages.old)).page leaf place out.old.items out.new.items result }
+        → ReadsRow (P.Pages.map pages.old) (P.Pages.limits (P.Pages.below pages.old)).page leaf
+        place out.old.items out.new.items result }
     ensures stays { Stays P.Pages.below P.Pages.map P.Pages.count P.Pages.failures result pages.old pages.new }
 {
     pages.load(leaf)?;
@@ -129,8 +136,10 @@ pub fn read_row<P: Pages>(pages: &mut P, leaf: u32, place: usize, out: &mut Vec<
 /// Like `read_row`, with the leaf loaded afterwards.
 fn read_long_row<P: Pages>(pages: &mut P, leaf: u32, place: usize, out: &mut Vec<u8>) -> R<i64>
     ensures read { IsTrue (P.Pages.tells (P.Pages.below pages.old))
-        → ReadsRow (P.Pages.map pages.old) (P.Pages.limits (P.Pages.below pages.old)).page leaf place out.old.items out.new.items result }
-    ensures held { IsTrue (P.Pages.tells (P.Pages.below pages.old)) → OnOk result (P.Pages.held pages.new ≡ page_at (P.Pages.map pages.old) leaf) }
+        → ReadsRow (P.Pages.map pages.old) (P.Pages.limits (P.Pages.below pages.old)).page leaf
+        place out.old.items out.new.items result }
+    ensures held { IsTrue (P.Pages.tells (P.Pages.below pages.old))
+        → OnOk result (P.Pages.held pages.new ≡ page_at (P.Pages.map pages.old) leaf) }
     ensures stays { Stays P.Pages.below P.Pages.map P.Pages.count P.Pages.failures result pages.old pages.new }
 {
     let rowid = read_row(pages, leaf, place, out)?;
@@ -140,9 +149,12 @@ fn read_long_row<P: Pages>(pages: &mut P, leaf: u32, place: usize, out: &mut Vec
 
 /// Like `read_row`, of a leaf that was loaded last, as it is afterwards too: only a row with a chain loads pages.
 pub fn read_next_row<P: Pages>(pages: &mut P, leaf: u32, place: usize, out: &mut Vec<u8>) -> R<i64>
-    ensures read { IsTrue (P.Pages.tells (P.Pages.below pages.old)) → P.Pages.held pages.old ≡ page_at (P.Pages.map pages.old) leaf
-        → ReadsRow (P.Pages.map pages.old) (P.Pages.limits (P.Pages.below pages.old)).page leaf place out.old.items out.new.items result }
-    ensures held { IsTrue (P.Pages.tells (P.Pages.below pages.old)) → P.Pages.held pages.old ≡ page_at (P.Pages.map pages.old) leaf
+    ensures read { IsTrue (P.Pages.tells (P.Pages.below pages.old))
+        → P.Pages.held pages.old ≡ page_at (P.Pages.map pages.old) leaf
+        → ReadsRow (P.Pages.map pages.old) (P.Pages.limits (P.Pages.below pages.old)).page leaf
+        place out.old.items out.new.items result }
+    ensures held { IsTrue (P.Pages.tells (P.Pages.below pages.old))
+        → P.Pages.held pages.old ≡ page_at (P.Pages.map pages.old) leaf
         → OnOk result (P.Pages.held pages.new ≡ page_at (P.Pages.map pages.old) leaf) }
     ensures stays { Stays P.Pages.below P.Pages.map P.Pages.count P.Pages.failures result pages.old pages.new }
 {

@@ -61,7 +61,8 @@ fn run_in(
     changes: &[RowChange],
 ) -> R<Vec<usize>>
     ensures found { FindsRun bytes.now start place changes.now result }
-    ensures few { IfOk result (λ places. 0 < length changes.now → (0 < length places.items) × (length places.items ≤ length changes.now)) }
+    ensures few { IfOk result (λ places. 0 < length changes.now → (0 < length places.items)
+        × (length places.items ≤ length changes.now)) }
     ensures not_disk { IfErr result IsNotDiskFault }
 {
     let mut places = Vec::new(alloc);
@@ -85,7 +86,8 @@ fn run_in(
 /// Gives the pages back over which the rows at these places of a leaf go on. (What `free_row` refuses.)
 fn free_run<P: WritePages>(alloc: Global, pages: &mut P, leaf: u32, places: &[usize]) -> R<()>
     ensures freed { IsTrue (P.Pages.tells (P.Pages.below pages.old))
-        → FreesRun (P.Pages.map pages.old) (P.Pages.map pages.new) (P.Pages.limits (P.Pages.below pages.old)).page leaf places.now result }
+        → FreesRun (P.Pages.map pages.old) (P.Pages.map pages.new)
+        (P.Pages.limits (P.Pages.below pages.old)).page leaf places.now result }
     ensures kept { P.Pages.below pages.new ≡ P.Pages.below pages.old }
     ensures causes { Causes result (P.Pages.failures pages.old) (P.Pages.failures pages.new) ⊥ }
 {
@@ -98,7 +100,8 @@ fn free_run<P: WritePages>(alloc: Global, pages: &mut P, leaf: u32, places: &[us
 /// Writes a row's new payload, and answers its cell; nothing if the row is removed. (What `write_payload` refuses.)
 fn write_row<P: WritePages>(alloc: Global, pages: &mut P, change: &RowChange) -> R<Option<Vec<u8>>>
     ensures written { IsTrue (P.Pages.tells (P.Pages.below pages.old))
-        → WritesRow (P.Pages.map pages.old) (P.Pages.map pages.new) (P.Pages.limits (P.Pages.below pages.old)).page change.now result }
+        → WritesRow (P.Pages.map pages.old) (P.Pages.map pages.new)
+        (P.Pages.limits (P.Pages.below pages.old)).page change.now result }
     ensures kept { P.Pages.below pages.new ≡ P.Pages.below pages.old }
     ensures causes { Causes result (P.Pages.failures pages.old) (P.Pages.failures pages.new)
         (P.Pages.count pages.new ≡ (P.Pages.limits (P.Pages.below pages.new)).most) }
@@ -119,7 +122,8 @@ fn write_rows<P: WritePages>(
     changes: &[RowChange],
 ) -> R<Vec<Option<Vec<u8>>>>
     ensures written { IsTrue (P.Pages.tells (P.Pages.below pages.old))
-        → WritesRows (P.Pages.map pages.old) (P.Pages.map pages.new) (P.Pages.limits (P.Pages.below pages.old)).page changes.now result }
+        → WritesRows (P.Pages.map pages.old) (P.Pages.map pages.new)
+        (P.Pages.limits (P.Pages.below pages.old)).page changes.now result }
     ensures counted { IfOk result (λ cells. length cells.items ≡ length changes.now) }
     ensures kept { P.Pages.below pages.new ≡ P.Pages.below pages.old }
     ensures causes { Causes result (P.Pages.failures pages.old) (P.Pages.failures pages.new)
@@ -142,7 +146,8 @@ fn append_row<'a>(
     to: usize,
     cell: &'a Option<Vec<u8>>,
 ) -> R<()>
-    ensures put { AppendsRow page.now from to cell.now (map (λ cell. cell.now) out.old.items) (map (λ cell. cell.now) out.new.items) result }
+    ensures put { AppendsRow page.now from to cell.now (map (λ cell. cell.now) out.old.items)
+        (map (λ cell. cell.now) out.new.items) result }
     ensures not_disk { IfErr result IsNotDiskFault }
 {
     let mut index = from;
@@ -189,7 +194,8 @@ fn changed_leaf<P: WritePages>(
 ) -> R<(usize, Packed)>
     requires { 0 < length changes.now }
     ensures changed { IsTrue (P.Pages.tells (P.Pages.below pages.old))
-        → ChangesLeaf (P.Pages.map pages.old) (P.Pages.map pages.new) (P.Pages.limits (P.Pages.below pages.old)).page number place changes.now result }
+        → ChangesLeaf (P.Pages.map pages.old) (P.Pages.map pages.new)
+        (P.Pages.limits (P.Pages.below pages.old)).page number place changes.now result }
     ensures some { IfOk result (λ done. (0 < done.0) × (done.0 ≤ length changes.now)) }
     ensures kept { P.Pages.below pages.new ≡ P.Pages.below pages.old }
     ensures causes { Causes result (P.Pages.failures pages.old) (P.Pages.failures pages.new)
@@ -224,7 +230,8 @@ pub(crate) fn changed_below<P: WritePages>(
 ) -> R<(usize, Change)>
     requires { IsFirst rowid changes.now }
     ensures changed { IsTrue (P.Pages.tells (P.Pages.below pages.old))
-        → ChangesBelow (P.Pages.map pages.old) (P.Pages.map pages.new) (P.Pages.limits (P.Pages.below pages.old)).page number ways rowid changes.now result }
+        → ChangesBelow (P.Pages.map pages.old) (P.Pages.map pages.new)
+        (P.Pages.limits (P.Pages.below pages.old)).page number ways rowid changes.now result }
     ensures some { IfOk result (λ done. (0 < done.0) × (done.0 ≤ length changes.now)) }
     ensures kept { P.Pages.below pages.new ≡ P.Pages.below pages.old }
     ensures causes { Causes result (P.Pages.failures pages.old) (P.Pages.failures pages.new)

@@ -53,7 +53,11 @@ fn part(bytes: &[u8], start: usize, end: usize) -> &[u8]
 
 /// A row whose payload begins at a place of these bytes.
 fn entry_at(row: BatchRow, bytes: &[u8], start: usize) -> BatchEntry<'_>
-    ensures { entry_in result ≡ record { rowid = row.rowid; payload = take (row.end - start) (drop start bytes.now) } }
+    ensures { entry_in result ≡ record {
+      rowid = row.rowid;
+      payload = take (row.end - start)
+          (drop start bytes.now);
+    } }
 {
     BatchEntry {
         rowid: row.rowid,
@@ -138,8 +142,10 @@ impl Batch {
     /// Reads the rows of a leaf from a place on, in place of those that the batch has. (What `read_next_row` refuses.)
     fn fill<P: Pages>(&mut self, pages: &mut P, leaf: u32, place: usize) -> R<()>
         ensures copied { IsTrue (P.Pages.tells (P.Pages.below pages.old))
-            → CopiesRows (P.Pages.map pages.old) (P.Pages.limits (P.Pages.below pages.old)).page leaf place self.new result }
-        ensures stays { Stays P.Pages.below P.Pages.map P.Pages.count P.Pages.failures result pages.old pages.new }
+            → CopiesRows (P.Pages.map pages.old)
+            (P.Pages.limits (P.Pages.below pages.old)).page leaf place self.new result }
+        ensures stays { Stays P.Pages.below P.Pages.map P.Pages.count P.Pages.failures result
+            pages.old pages.new }
     {
         copy_rows(pages, leaf, place, &mut self.rows, &mut self.bytes)
     }
@@ -159,7 +165,8 @@ fn next_of(key: Option<i64>) -> Option<i64>
 /// after them begin. (What `find_leaf` and `read_next_row` refuse.)
 fn next_leaf<P: Pages>(pages: &mut P, root: u32, next: i64, batch: &mut Batch) -> R<Option<i64>>
     ensures given { IsTrue (P.Pages.tells (P.Pages.below pages.old))
-        → GivesLeaf (P.Pages.map pages.old) (P.Pages.limits (P.Pages.below pages.old)).page root next batch.new result }
+        → GivesLeaf (P.Pages.map pages.old) (P.Pages.limits (P.Pages.below pages.old)).page root
+        next batch.new result }
     ensures forward { IfOk result (IsForward (Some next)) }
     ensures stays { Stays P.Pages.below P.Pages.map P.Pages.count P.Pages.failures result pages.old pages.new }
 {
@@ -191,10 +198,13 @@ impl Cursor {
     /// for pages that aren't a table's tree, what `get` refuses.)
     pub fn next_batch<P: Pages>(&mut self, pages: &mut P, batch: &mut Batch) -> R<()>
         ensures given { IsTrue (P.Pages.tells (P.Pages.below pages.old))
-            → GivesBatch (P.Pages.map pages.old) (P.Pages.limits (P.Pages.below pages.old)).page self.old.root self.old.next self.new.next batch.new result }
+            → GivesBatch (P.Pages.map pages.old)
+            (P.Pages.limits (P.Pages.below pages.old)).page self.old.root self.old.next
+            self.new.next batch.new result }
         ensures forward { OnOk result (IsForward self.old.next self.new.next) }
         ensures root { self.new.root ≡ self.old.root }
-        ensures stays { Stays P.Pages.below P.Pages.map P.Pages.count P.Pages.failures result pages.old pages.new }
+        ensures stays { Stays P.Pages.below P.Pages.map P.Pages.count P.Pages.failures result
+            pages.old pages.new }
     {
         batch.clear();
         'leaves: while let Some(next) = self.next {

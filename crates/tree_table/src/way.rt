@@ -63,7 +63,8 @@ fn is_about(rowid: i64, way: Way) -> bool
 
 /// The key on the left of the child at a place, where `left` is that on the left of the page. (`Damaged(Cell, 0)`)
 fn left_of(page: &TreePage<'_>, left: Option<i64>, place: usize) -> R<Option<i64>>
-    ensures only { (kids : List (ℕ × ℤ)) (last : ℕ) (rowid : ℤ) → IsNode page.now.bytes page.now.start (Keys kids last)
+    ensures only { (kids : List (ℕ × ℤ)) (last : ℕ) (rowid : ℤ)
+        → IsNode page.now.bytes page.now.start (Keys kids last)
         → place ≡ below rowid (map (λ kid. kid.1) kids)
         → result ≡ Ok (left_for rowid left kids) }
     ensures not_disk { IfErr result IsNotDiskFault }
@@ -76,7 +77,8 @@ fn left_of(page: &TreePage<'_>, left: Option<i64>, place: usize) -> R<Option<i64
 
 /// The way on from an interior page to the child at a place. (`Damaged(Page, 0)` or `Damaged(Cell, 0)` if there is none.)
 fn way_down(page: &TreePage<'_>, way: Way, place: usize) -> R<Way>
-    ensures only { (kids : List (ℕ × ℤ)) (last : ℕ) (rowid : ℤ) → IsNode page.now.bytes page.now.start (Keys kids last)
+    ensures only { (kids : List (ℕ × ℤ)) (last : ℕ) (rowid : ℤ)
+        → IsNode page.now.bytes page.now.start (Keys kids last)
         → place ≡ below rowid (map (λ kid. kid.1) kids)
         → result ≡ Ok (way_for rowid way kids last) }
     ensures not_disk { IfErr result IsNotDiskFault }
@@ -101,7 +103,8 @@ fn way_down(page: &TreePage<'_>, way: Way, place: usize) -> R<Way>
 /// Where the way of a rowid goes on from a page of these bytes. (`Damaged` for one that is no page of a table; `Damaged(Order, 0)`
 /// if its keys don't rise.)
 fn step_in(bytes: &[u8], way: Way, rowid: i64) -> R<Step>
-    ensures only { (node : Node) (numbers : List ℤ) → IsNode bytes.now (counting.start_of way.page) node → numbers_of node ≡ Some numbers
+    ensures only { (node : Node) (numbers : List ℤ)
+        → IsNode bytes.now (counting.start_of way.page) node → numbers_of node ≡ Some numbers
         → NeverFall numbers
         → IsStepAbout rowid (step_for rowid way node) → result ≡ Ok (step_for rowid way node) }
     ensures about { IfOk result (IsStepAbout rowid) }

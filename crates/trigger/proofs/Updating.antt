@@ -71,6 +71,6 @@ update_sets sets_some db u table rows sets set None only named is fit bound =
 update_sets sets_some db u table rows sets set (Some w) only named is fit bound =
     chosen_go (programs 64) db u table rows sets set w is bound
     ∙ told_then (all_answers (map (tested w) rows)) (map as_source (filter (is_chosen w) rows)) (each_row (programs 64) (folded u.table) sets set db)
-    (rows_meant_set table.columns sets (is_chosen w) rows) (λ now. Ok (with_object db (folded u.table) (ATable (plain_table table now))))
+    (rows_meant_set table sets (is_chosen w) rows) (λ now. Ok (with_object db (folded u.table) (ATable (plain_table table now))))
     (ap (fold_answer (update_row (fired (programs 64) []) no_outer (folded u.table) sets set) db) (source_ids (filter (is_chosen w) rows))
     ∙ sets_some (fired (programs 64) []) (folded u.table) db table rows sets set (is_chosen w) (sets_nothing_off (programs 64) []) only named is fit)

@@ -53,7 +53,7 @@ InsertAddsRows = (db : Database) (i : Insert) (table : Table) (rows : List Table
     → resolve_change db no_outer (statement.Insert i) ≡ Meant (Inserts (folded i.table) places source) [] → given_rows db no_outer source ≡ Ok given
     → All (IsSetFor table by_column places) given → 1 ≤ length given
     → change db (statement.Insert i)
-    ≡ (rows_added table.columns by_column (last_rowid rows) given then λ added. Ok (with_object db (folded i.table) (ATable (plain_table table (rows ++ added)))))
+    ≡ (rows_added table by_column (last_rowid rows) given then λ added. Ok (with_object db (folded i.table) (ATable (plain_table table (rows ++ added)))))
 
 -- A DELETE whose table is known and that has no condition leaves the table without rows.
 abbrev pub DeleteTakesRows : Type 0
@@ -74,4 +74,4 @@ abbrev pub UpdateSetsRows : Type 0
 UpdateSetsRows = (db : Database) (u : Update) (table : Table) (rows : List TableRow) (sets : List (ℕ × Term)) (set : List Name) (condition : Option Term)
     → has_only_plain db ≡ true → IsNamed db → table_of db (folded u.table) ≡ Ok (plain_table table rows) → are_rows (plain_table table rows) ≡ true
     → resolve_change db no_outer (statement.Update u) ≡ Meant (Updates (folded u.table) sets set condition) []
-    → change db (statement.Update u) ≡ (rows_set table.columns sets condition rows then λ now. Ok (with_object db (folded u.table) (ATable (plain_table table now))))
+    → change db (statement.Update u) ≡ (rows_set table sets condition rows then λ now. Ok (with_object db (folded u.table) (ATable (plain_table table now))))

@@ -34,10 +34,13 @@ pub fn sync_log<D: Disk>(log: &mut D) -> R<()>
 /// Truncates a log to a length and syncs it, unless it is clean or no longer than that.
 pub fn truncate_tail<D: Disk>(log: &mut D, end: u64, is_clean: bool) -> R<()>
     requires { IsTrue (D.tells log.old) → end ≤ length (D.file log.old).content }
-    ensures cut { IsTrue (D.tells log.old) → OnOk result ((D.file log.new).content ≡ kept_at is_clean end (D.file log.old).content) }
-    ensures synced { IsTrue (D.tells log.old) → IsSynced (D.file log.old) → OnOk result (IsSynced (D.file log.new)) }
+    ensures cut { IsTrue (D.tells log.old) → OnOk result
+        ((D.file log.new).content ≡ kept_at is_clean end (D.file log.old).content) }
+    ensures synced { IsTrue (D.tells log.old) → IsSynced (D.file log.old)
+        → OnOk result (IsSynced (D.file log.new)) }
     ensures crash { IsTrue (D.tells log.old) → IsSynced (D.file log.old)
-        → Always (D.file log.old) (D.file log.new) (LeavesOneOf (D.file log.old).content (take end (D.file log.old).content)) }
+        → Always (D.file log.old) (D.file log.new)
+        (LeavesOneOf (D.file log.old).content (take end (D.file log.old).content)) }
     ensures left { LeavesContent D.tells D.file log.old log.new }
     ensures touches { TouchesDisk D.tells D.failures log.old log.new result }
 {
@@ -55,9 +58,11 @@ pub fn truncate_tail<D: Disk>(log: &mut D, end: u64, is_clean: bool) -> R<()>
 pub fn give_header<D: Disk>(log: &mut D, header: &LogHeader, is_begun: bool) -> R<()>
     requires { IsTrue (D.tells log.old) → IsFalse is_begun → length (D.file log.old).content ≡ 0 }
     ensures given { IsTrue (D.tells log.old)
-        → OnOk result ((D.file log.new).content ≡ front_at header.now is_begun (length (D.file log.old).content) (D.file log.old).content) }
+        → OnOk result ((D.file log.new).content ≡ front_at header.now is_begun
+        (length (D.file log.old).content) (D.file log.old).content) }
     ensures fits { IsFalse is_begun → HeaderFits header.now }
-    ensures synced { IsTrue (D.tells log.old) → IsSynced (D.file log.old) → OnOk result (IsSynced (D.file log.new)) }
+    ensures synced { IsTrue (D.tells log.old) → IsSynced (D.file log.old)
+        → OnOk result (IsSynced (D.file log.new)) }
     ensures crash { IsTrue (D.tells log.old) → IsSynced (D.file log.old)
         → Always (D.file log.old) (D.file log.new) (LeavesHeader header.now is_begun (D.file log.old).content) }
     ensures left { LeavesContent D.tells D.file log.old log.new }
@@ -73,10 +78,12 @@ pub fn give_header<D: Disk>(log: &mut D, header: &LogHeader, is_begun: bool) -> 
 /// Writes frames at a place of a log and syncs it.
 pub fn write_frames<D: Disk>(log: &mut D, at: u64, bytes: &[u8]) -> R<()>
     requires { IsTrue (D.tells log.old) → at ≤ length (D.file log.old).content }
-    ensures written { IsTrue (D.tells log.old) → OnOk result ((D.file log.new).content ≡ overwritten at bytes.now (D.file log.old).content) }
+    ensures written { IsTrue (D.tells log.old)
+        → OnOk result ((D.file log.new).content ≡ overwritten at bytes.now (D.file log.old).content) }
     ensures synced { IsTrue (D.tells log.old) → OnOk result (IsSynced (D.file log.new)) }
     ensures crash { IsTrue (D.tells log.old) → IsSynced (D.file log.old)
-        → Always (D.file log.old) (D.file log.new) (AreEither (D.file log.old).content (overwritten at bytes.now (D.file log.old).content)) }
+        → Always (D.file log.old) (D.file log.new)
+        (AreEither (D.file log.old).content (overwritten at bytes.now (D.file log.old).content)) }
     ensures left { LeavesContent D.tells D.file log.old log.new }
     ensures touches { TouchesDisk D.tells D.failures log.old log.new result }
 {
@@ -101,14 +108,17 @@ fn write_out<D: Disk>(
     bytes: &[u8],
 ) -> R<()>
     requires inside { IsTrue (D.tells log.old) → end ≤ length (D.file log.old).content }
-    requires clean { IsTrue (D.tells log.old) → IsTrue is_clean → IsFalse is_begun → length (D.file log.old).content ≡ 0 }
+    requires clean { IsTrue (D.tells log.old) → IsTrue is_clean → IsFalse is_begun
+        → length (D.file log.old).content ≡ 0 }
     requires none { IsFalse is_begun → end ≡ 0 }
     ensures written { IsTrue (D.tells log.old) → OnOk result ((D.file log.new).content
-        ≡ overwritten (place_at is_begun end) bytes.now (base_at header is_begun is_clean end (D.file log.old).content)) }
+        ≡ overwritten (place_at is_begun end) bytes.now
+        (base_at header is_begun is_clean end (D.file log.old).content)) }
     ensures fits { HeaderFits header }
     ensures synced { IsTrue (D.tells log.old) → OnOk result (IsSynced (D.file log.new)) }
     ensures crash { IsTrue (D.tells log.old) → IsSynced (D.file log.old)
-        → Always (D.file log.old) (D.file log.new) (LeavesWriting header is_begun is_clean end bytes.now (D.file log.old).content) }
+        → Always (D.file log.old) (D.file log.new)
+        (LeavesWriting header is_begun is_clean end bytes.now (D.file log.old).content) }
     ensures left { LeavesContent D.tells D.file log.old log.new }
     ensures touches { TouchesDisk D.tells D.failures log.old log.new result }
 {
@@ -127,15 +137,20 @@ impl<D: Disk> Log<D> {
         requires pages { ArePages 0 size (state_of self.old).page_size pages.now }
         requires some { 0 < length pages.now }
         ensures done { IsTrue (D.tells (log_of self.old))
-            → OnOk result (Commits (state_of self.old) (framed pages.now size) (D.file (log_of self.old)) (D.file (log_of self.new))) }
-        ensures known { IsStateCommitted false result (state_of self.old) (length pages.now) size (state_of self.new) }
+            → OnOk result (Commits (state_of self.old) (framed pages.now size)
+            (D.file (log_of self.old)) (D.file (log_of self.new))) }
+        ensures known { IsStateCommitted false result (state_of self.old) (length pages.now) size
+            (state_of self.new) }
         ensures crash { IsTrue (D.tells (log_of self.old))
-            → WritesCommit (state_of self.old) (framed pages.now size) (D.file (log_of self.old)) (D.file (log_of self.new)) }
+            → WritesCommit (state_of self.old) (framed pages.now size) (D.file (log_of self.old))
+            (D.file (log_of self.new)) }
         ensures refused { IfErr result (λ fault. IsCommitRefusal (state_of self.old).has_failed
             (ArePages 0 size (state_of self.old).page_size pages.now × (0 < length pages.now))
-            (IsWithin (state_of self.old) (length pages.now) size) (log_of self.old) (log_of self.new) (D.failures (log_of self.old))
+            (IsWithin (state_of self.old) (length pages.now) size) (log_of self.old)
+            (log_of self.new) (D.failures (log_of self.old))
             (D.failures (log_of self.new)) fault) }
-        ensures same { KeepsDisks D.tells D.failures (db_of self.old) (db_of self.new) (log_of self.old) (log_of self.new) }
+        ensures same { KeepsDisks D.tells D.failures (db_of self.old) (db_of self.new)
+            (log_of self.old) (log_of self.new) }
         ensures cause { HasCause true result self.old self.new }
     {
         self.state.check_limits(self.state.mark, pages.len(), size)?;
@@ -164,14 +179,18 @@ impl<D: Disk> Log<D> {
         requires some { 0 < length pages.now }
         ensures done { IsTrue (D.tells (log_of self.old))
             → OnOk result (CommitsAnew (state_of self.old) (framed pages.now size) (D.file (log_of self.new))) }
-        ensures known { IsStateCommitted true result (state_of self.old) (length pages.now) size (state_of self.new) }
+        ensures known { IsStateCommitted true result (state_of self.old) (length pages.now) size
+            (state_of self.new) }
         ensures crash { IsTrue (D.tells (log_of self.old))
-            → WritesAnew (state_of self.old) (framed pages.now size) (D.file (log_of self.old)) (D.file (log_of self.new)) }
+            → WritesAnew (state_of self.old) (framed pages.now size) (D.file (log_of self.old))
+            (D.file (log_of self.new)) }
         ensures refused { IfErr result (λ fault. IsCommitRefusal (state_of self.old).has_failed
             (ArePages 0 size (state_of self.old).page_size pages.now × (0 < length pages.now))
-            (IsWithin (restarted (state_of self.old)) (length pages.now) size) (log_of self.old) (log_of self.new)
+            (IsWithin (restarted (state_of self.old)) (length pages.now) size) (log_of self.old)
+            (log_of self.new)
             (D.failures (log_of self.old)) (D.failures (log_of self.new)) fault) }
-        ensures same { KeepsDisks D.tells D.failures (db_of self.old) (db_of self.new) (log_of self.old) (log_of self.new) }
+        ensures same { KeepsDisks D.tells D.failures (db_of self.old) (db_of self.new)
+            (log_of self.old) (log_of self.new) }
         ensures cause { HasCause true result self.old self.new }
     {
         self.state.check_limits(0, pages.len(), size)?;
@@ -203,16 +222,21 @@ impl<D: Disk> Log<D> {
         may_restart: bool,
     ) -> R<()>
         ensures done { IsTrue (D.tells (log_of self.old))
-            → OnOk result (CommitsOver (state_of self.old) may_restart (framed pages.now size) (D.file (log_of self.old)) (D.file (log_of self.new))) }
-        ensures known { IsStateCommitted may_restart result (state_of self.old) (length pages.now) size (state_of self.new) }
+            → OnOk result (CommitsOver (state_of self.old) may_restart (framed pages.now size)
+            (D.file (log_of self.old)) (D.file (log_of self.new))) }
+        ensures known { IsStateCommitted may_restart result (state_of self.old)
+            (length pages.now) size (state_of self.new) }
         // A crash leaves what was committed, or that and these frames; where the log begins anew, no frames or these alone.
         ensures crash { IsFalse (state_of self.old).has_failed → IsTrue (D.tells (log_of self.old))
-            → WritesOver (state_of self.old) may_restart (framed pages.now size) (D.file (log_of self.old)) (D.file (log_of self.new)) }
+            → WritesOver (state_of self.old) may_restart (framed pages.now size)
+            (D.file (log_of self.old)) (D.file (log_of self.new)) }
         ensures refused { IfErr result (λ fault. IsCommitRefusal (state_of self.old).has_failed
             (ArePages 0 size (state_of self.old).page_size pages.now × (0 < length pages.now))
-            (IsWithin (base_of (state_of self.old) may_restart) (length pages.now) size) (log_of self.old) (log_of self.new)
+            (IsWithin (base_of (state_of self.old) may_restart) (length pages.now) size)
+            (log_of self.old) (log_of self.new)
             (D.failures (log_of self.old)) (D.failures (log_of self.new)) fault) }
-        ensures same { KeepsDisks D.tells D.failures (db_of self.old) (db_of self.new) (log_of self.old) (log_of self.new) }
+        ensures same { KeepsDisks D.tells D.failures (db_of self.old) (db_of self.new)
+            (log_of self.old) (log_of self.new) }
         ensures cause { HasCause true result self.old self.new }
     {
         if self.state.is_failed {
@@ -233,13 +257,16 @@ impl<D: Disk> Log<D> {
         ensures known { IsStateCut result (state_of self.old) (state_of self.new) }
         ensures crash { IsFalse (state_of self.old).has_failed → IsTrue (D.tells (log_of self.old))
             → Always (D.file (log_of self.old)) (D.file (log_of self.new))
-            (LeavesCommits (state_of self.old).page_size (commits_of (state_of self.old) (D.file (log_of self.old)).content)) }
+            (LeavesCommits (state_of self.old).page_size
+            (commits_of (state_of self.old) (D.file (log_of self.old)).content)) }
         ensures left { IsFalse (state_of self.old).has_failed → IsTrue (D.tells (log_of self.old))
             → IsContentLeft (D.file (log_of self.new)) }
         ensures refused { MatchResult result (λ _. D.failures (log_of self.new) ≡ D.failures (log_of self.old))
-            (λ fault. IsCutRefusal (state_of self.old).has_failed (log_of self.old) (log_of self.new) (D.failures (log_of self.old))
+            (λ fault. IsCutRefusal (state_of self.old).has_failed (log_of self.old)
+            (log_of self.new) (D.failures (log_of self.old))
             (D.failures (log_of self.new)) fault) }
-        ensures same { KeepsDisks D.tells D.failures (db_of self.old) (db_of self.new) (log_of self.old) (log_of self.new) }
+        ensures same { KeepsDisks D.tells D.failures (db_of self.old) (db_of self.new)
+            (log_of self.old) (log_of self.new) }
     {
         if self.state.is_failed {
             return Err(Fault::Failed);

@@ -25,7 +25,8 @@ fn cut_file<D: Disk>(db: &mut D, is_all: bool, len: u64, end: u64) -> R<()>
     requires { IsTrue (D.tells db.old) → len ≡ length (D.file db.old).content }
     ensures cut { IsTrue (D.tells db.old) → OnOk result (CutsTo is_all end (D.file db.old) (D.file db.new)) }
     ensures failed { IsTrue (D.tells db.old) → OnErr result ((D.file db.new ≡ D.file db.old)
-        ⊎ ((IsTrue is_all) × (end ≤ length (D.file db.old).content) × FailsToCut end (D.file db.old) (D.file db.new))) }
+        ⊎ ((IsTrue is_all) × (end ≤ length (D.file db.old).content)
+        × FailsToCut end (D.file db.old) (D.file db.new))) }
     ensures touches { TouchesDisk D.tells D.failures db.old db.new result }
 {
     if !is_all || len <= end {
@@ -113,7 +114,8 @@ impl State {
     /// Whether a page has a frame up to a mark, or is in the database file.
     fn is_there(&self, mark: u32, number: u32) -> bool
         ensures there { IsTrue result → IsReached self.now mark number self.now.db_len }
-        ensures lacks { IsFalse result → FindsNone number mark self.now.index × (self.now.db_len < number * self.now.page_size) }
+        ensures lacks { IsFalse result → FindsNone number mark self.now.index
+            × (self.now.db_len < number * self.now.page_size) }
     {
         self.newest_frame(mark, number).is_some()
             || number as u64 * self.page_size as u64 <= self.db_len
@@ -144,17 +146,22 @@ impl State {
         requires number { (1 ≤ number) × (number ≤ 65536) }
         requires mark { (self.now.copied ≤ mark) × (mark ≤ self.now.mark) }
         requires size { length page.old ≡ self.now.page_size }
-        requires reaches { IsTrue (D.tells db.old) → ReachesPage self.now mark number (length (D.file db.old).content) }
+        requires reaches { IsTrue (D.tells db.old)
+            → ReachesPage self.now mark number (length (D.file db.old).content) }
         requires copied { IsTrue (D.tells db.old) → IsTrue (D.tells log.old)
             → HasCopiedPage self.now number (D.file db.old).content (D.file log.old).content }
-        requires stands { IsTrue (D.tells log.old) → LogStandsFor self.now (D.file log.old).content }
-        ensures copied { IsTrue (D.tells db.old) → OnOk result (CopiesPage (IsTrue (D.tells log.old)) self.now.page_size
+        requires stands { IsTrue (D.tells log.old)
+            → LogStandsFor self.now (D.file log.old).content }
+        ensures copied { IsTrue (D.tells db.old)
+            → OnOk result (CopiesPage (IsTrue (D.tells log.old)) self.now.page_size
             (frames_to self.now mark (D.file log.old).content) number (D.file db.old) (D.file db.new)) }
-        ensures failed { IsTrue (D.tells db.old) → OnErr result (FailsPage (IsTrue (D.tells log.old)) self.now.page_size
+        ensures failed { IsTrue (D.tells db.old)
+            → OnErr result (FailsPage (IsTrue (D.tells log.old)) self.now.page_size
             (frames_to self.now mark (D.file log.old).content) number (D.file db.old) (D.file db.new)) }
         ensures log { KeepsFile D.tells D.file log.old log.new }
         ensures tells { D.tells db.new ≡ D.tells db.old }
-        ensures causes { AreErrorCauses false result (D.failures db.old) (D.failures db.new) (D.failures log.old) (D.failures log.new) }
+        ensures causes { AreErrorCauses false result (D.failures db.old) (D.failures db.new)
+            (D.failures log.old) (D.failures log.new) }
         ensures io { IfErr result (λ fault. fault ≡ Fault.Io) }
     {
         let Some(frame) = self.uncopied_frame(mark, number) else {
@@ -177,18 +184,25 @@ impl State {
         requires few { size ≤ 65536 }
         requires mark { (self.now.copied ≤ mark) × (mark ≤ self.now.mark) }
         requires size { length page.old ≡ self.now.page_size }
-        requires there { IsTrue (D.tells db.old) → AreWhole self.now mark size (length (D.file db.old).content) }
+        requires there { IsTrue (D.tells db.old)
+            → AreWhole self.now mark size (length (D.file db.old).content) }
         requires copied { IsTrue (D.tells db.old) → IsTrue (D.tells log.old)
             → HasCopiedPages self.now size (D.file db.old).content (D.file log.old).content }
-        requires stands { IsTrue (D.tells log.old) → LogStandsFor self.now (D.file log.old).content }
-        ensures copied { IsTrue (D.tells db.old) → OnOk result (CopiesTo (IsTrue (D.tells log.old)) self.now.page_size
-            (frames_to self.now mark (D.file log.old).content) size (size + 1) (D.file db.old).content (D.file db.new).content) }
-        ensures crash { IsTrue (D.tells db.old) → Overwrites (IsTrue (D.tells log.old)) self.now.page_size
+        requires stands { IsTrue (D.tells log.old)
+            → LogStandsFor self.now (D.file log.old).content }
+        ensures copied { IsTrue (D.tells db.old)
+            → OnOk result (CopiesTo (IsTrue (D.tells log.old)) self.now.page_size
+            (frames_to self.now mark (D.file log.old).content) size (size + 1)
+            (D.file db.old).content (D.file db.new).content) }
+        ensures crash { IsTrue (D.tells db.old)
+            → Overwrites (IsTrue (D.tells log.old)) self.now.page_size
             (frames_to self.now mark (D.file log.old).content) (D.file db.old) (D.file db.new) }
         ensures left { IsTrue (D.tells db.old) → IsCurrent (D.file db.old)
             → MatchResult result (λ _. IsCurrent (D.file db.new)) (λ _. IsContentLeft (D.file db.new)) }
-        ensures kept { (D.tells db.new ≡ D.tells db.old) × KeepsFile D.tells D.file log.old log.new }
-        ensures causes { AreErrorCauses false result (D.failures db.old) (D.failures db.new) (D.failures log.old) (D.failures log.new) }
+        ensures kept { (D.tells db.new ≡ D.tells db.old)
+            × KeepsFile D.tells D.file log.old log.new }
+        ensures causes { AreErrorCauses false result (D.failures db.old) (D.failures db.new)
+            (D.failures log.old) (D.failures log.new) }
         ensures io { IfErr result (λ fault. fault ≡ Fault.Io) }
     {
         'pages: for i in 0..size {
@@ -210,16 +224,23 @@ impl State {
         requires copied { IsTrue (D.tells db.old) → IsTrue (D.tells log.old)
             → HasCopiedPages self.now self.now.copied_pages (D.file db.old).content (D.file log.old).content }
         requires long { IsTrue (D.tells db.old) → self.now.db_len ≡ length (D.file db.old).content }
-        requires there { AreReached self.now (seen_by target) (copied_size (state_in self.now) target) self.now.db_len }
-        requires stands { IsTrue (D.tells log.old) → LogStandsFor self.now (D.file log.old).content }
+        requires there { AreReached self.now (seen_by target)
+            (copied_size (state_in self.now) target) self.now.db_len }
+        requires stands { IsTrue (D.tells log.old)
+            → LogStandsFor self.now (D.file log.old).content }
         ensures done { IsTrue (D.tells db.old) → IsTrue (D.tells log.old)
-            → OnOk result (HasCopied (state_in self.now) target (D.file log.old).content (D.file db.old).content (D.file db.new).content) }
+            → OnOk result (HasCopied (state_in self.now) target (D.file log.old).content
+            (D.file db.old).content (D.file db.new).content) }
         ensures synced { IsTrue (D.tells db.old) → OnOk result (IsSynced (D.file db.new)
             × (length (D.file db.new).content ≡ copied_len (state_in self.now) target self.now.db_len)) }
-        ensures crash { IsTrue (D.tells db.old) → IsTrue (D.tells log.old) → IsSynced (D.file db.old)
-            → CopiesMeanwhile (state_in self.now) target (D.file log.old).content (D.file db.old) (D.file db.new) }
-        ensures kept { (D.tells db.new ≡ D.tells db.old) × KeepsFile D.tells D.file log.old log.new }
-        ensures causes { AreErrorCauses false result (D.failures db.old) (D.failures db.new) (D.failures log.old) (D.failures log.new) }
+        ensures crash { IsTrue (D.tells db.old) → IsTrue (D.tells log.old)
+            → IsSynced (D.file db.old)
+            → CopiesMeanwhile (state_in self.now) target (D.file log.old).content (D.file db.old)
+            (D.file db.new) }
+        ensures kept { (D.tells db.new ≡ D.tells db.old)
+            × KeepsFile D.tells D.file log.old log.new }
+        ensures causes { AreErrorCauses false result (D.failures db.old) (D.failures db.new)
+            (D.failures log.old) (D.failures log.new) }
         ensures io { IfErr result (λ fault. fault ≡ Fault.Io) }
     {
         let size = self.copied_size(target);
@@ -241,16 +262,21 @@ impl<D: Disk> Log<D> {
     /// written.)
     pub fn copy(&mut self, alloc: Global, target: Snapshot) -> R<()>
         ensures done { IsTrue (D.tells (db_of self.old)) → IsTrue (D.tells (log_of self.old))
-            → OnOk result (Copies (state_of self.old) target (D.file (log_of self.old)).content (D.file (db_of self.old)) (D.file (db_of self.new))) }
+            → OnOk result (Copies (state_of self.old) target (D.file (log_of self.old)).content
+            (D.file (db_of self.old)) (D.file (db_of self.new))) }
         ensures known { IsStateCopied result target (state_of self.old) (state_of self.new) }
         // At each moment a crash leaves a file that shows what it showed.
-        ensures crash { IsFalse (state_of self.old).has_failed → IsTrue (D.tells (db_of self.old)) → IsTrue (D.tells (log_of self.old))
+        ensures crash { IsFalse (state_of self.old).has_failed → IsTrue (D.tells (db_of self.old))
+            → IsTrue (D.tells (log_of self.old))
             → IsSynced (D.file (db_of self.old))
-            → CopiesMeanwhile (state_of self.old) target (D.file (log_of self.old)).content (D.file (db_of self.old)) (D.file (db_of self.new)) }
-        ensures kept { (D.tells (db_of self.new) ≡ D.tells (db_of self.old)) × KeepsFile D.tells D.file (log_of self.old) (log_of self.new) }
+            → CopiesMeanwhile (state_of self.old) target (D.file (log_of self.old)).content
+            (D.file (db_of self.old)) (D.file (db_of self.new)) }
+        ensures kept { (D.tells (db_of self.new) ≡ D.tells (db_of self.old))
+            × KeepsFile D.tells D.file (log_of self.old) (log_of self.new) }
         ensures refused { IfErr result (IsCopyRefusal (state_of self.old).has_failed
             (λ number. IsTrue (D.tells (db_of self.old)) → IsTrue (D.tells (log_of self.old))
-            → IsMissing (state_of self.old) target (D.file (db_of self.old)).content (D.file (log_of self.old)).content number)
+            → IsMissing (state_of self.old) target (D.file (db_of self.old)).content
+            (D.file (log_of self.old)).content number)
             ((db_of self.new ≡ db_of self.old) × (log_of self.new ≡ log_of self.old))) }
         ensures cause { HasCause false result self.old self.new }
     {
@@ -279,8 +305,10 @@ impl<D: Disk> Log<D> {
     /// Whether the log has frames and all of them are copied: then the database file alone has the pages of the newest commit.
     pub fn is_copied(&self) -> bool
         ensures is { result ≡ is_copied (state_of self.now) }
-        ensures alone { IsTrue result → IsFalse (state_of self.now).has_failed → IsTrue (D.tells (db_of self.now)) → IsTrue (D.tells (log_of self.now))
-            → StandsAlone (D.file (db_of self.now)).content (state_of self.now).page_size (commits_of (state_of self.now) (D.file (log_of self.now)).content) (state_of self.now).size }
+        ensures alone { IsTrue result → IsFalse (state_of self.now).has_failed
+            → IsTrue (D.tells (db_of self.now)) → IsTrue (D.tells (log_of self.now))
+            → StandsAlone (D.file (db_of self.now)).content (state_of self.now).page_size
+            (commits_of (state_of self.now) (D.file (log_of self.now)).content) (state_of self.now).size }
     {
         self.state.is_copied()
     }

@@ -115,14 +115,21 @@ impl<D: Disk> Log<D> {
     pub fn page(&mut self, snapshot: Snapshot, number: u32, out: &mut [u8]) -> R<()>
         ensures read { IsTrue (D.tells (db_of self.old)) → IsTrue (D.tells (log_of self.old))
             → seen_by snapshot ≤ (state_of self.old).frames
-            → OnOk result (IsPage (D.file (db_of self.old)).content (D.file (log_of self.old)).content (state_of self.old).page_size (header_of (state_of self.old)) (seen_by snapshot) number out.new) }
-        ensures kept { (state_of self.new ≡ state_of self.old) × KeepsFile D.tells D.file (db_of self.old) (db_of self.new)
+            → OnOk result (IsPage (D.file (db_of self.old)).content
+            (D.file (log_of self.old)).content (state_of self.old).page_size
+            (header_of (state_of self.old)) (seen_by snapshot) number out.new) }
+        ensures kept { (state_of self.new ≡ state_of self.old)
+            × KeepsFile D.tells D.file (db_of self.old) (db_of self.new)
             × KeepsFile D.tells D.file (log_of self.old) (log_of self.new) }
         ensures refused { IfErr result (IsPageRefusal (state_of self.old).has_failed number
-            (IsTrue (D.tells (db_of self.old)) × IsTrue (D.tells (log_of self.old)) × (seen_by snapshot ≤ (state_of self.old).frames)
-            × IsThere (D.file (db_of self.old)).content (D.file (log_of self.old)).content (state_of self.old).page_size (header_of (state_of self.old)) (seen_by snapshot) (size_of snapshot) number (length out.old))) }
+            (IsTrue (D.tells (db_of self.old)) × IsTrue (D.tells (log_of self.old))
+            × (seen_by snapshot ≤ (state_of self.old).frames)
+            × IsThere (D.file (db_of self.old)).content (D.file (log_of self.old)).content
+            (state_of self.old).page_size (header_of (state_of self.old)) (seen_by snapshot)
+            (size_of snapshot) number (length out.old))) }
         ensures cause { HasCause false result self.old self.new }
-        ensures within { OnOk result ((1 ≤ number) × (number ≤ size_of snapshot) × (length out.old ≡ (state_of self.old).page_size)) }
+        ensures within { OnOk result ((1 ≤ number) × (number ≤ size_of snapshot)
+            × (length out.old ≡ (state_of self.old).page_size)) }
     {
         if number == 0 || number > snapshot.size || out.len() != self.state.page_size as usize {
             return Err(Fault::Damaged(Damage::Size, number));

@@ -28,7 +28,8 @@ fn view_size(
 ) -> R<u32>
     requires { 0 < page_size }
     ensures size { IfOk result (λ size. IsViewSize frames.now counted_size db_len page_size size) }
-    ensures refused { IfErr result (λ fault. IsOpenRefusal ⊥ ((size : ℕ) → IsViewSize frames.now counted_size db_len page_size size
+    ensures refused { IfErr result (λ fault. IsOpenRefusal ⊥
+        ((size : ℕ) → IsViewSize frames.now counted_size db_len page_size size
         → IsSizeWithinLimits page_size size → ⊥) fault) }
 {
     if let Some(last) = frames.last() {
@@ -44,10 +45,12 @@ fn view_size(
 }
 
 fn header_of(scanned: &Scan, page_size: u32, salts: Salts) -> R<LogHeader>
-    ensures fresh { IsNone scanned.now.header → IfOk result (λ header. header ≡ fresh_header page_size salts) }
+    ensures fresh { IsNone scanned.now.header
+        → IfOk result (λ header. header ≡ fresh_header page_size salts) }
     ensures size { IfOk result (λ header. header.page_size ≡ page_size) }
     ensures found { IfOk result (λ header. IsHeaderOf scanned.now header) }
-    ensures refused { IfErr result (λ fault. IsOpenRefusal ⊥ (IsOfSize scanned.now.header page_size → ⊥) fault) }
+    ensures refused { IfErr result (λ fault. IsOpenRefusal ⊥
+        (IsOfSize scanned.now.header page_size → ⊥) fault) }
 {
     match scanned.header {
         Some(header) if header.page_size != page_size => Err(Fault::Damaged(Damage::Header, 0)),
@@ -75,7 +78,8 @@ fn sum_of(scanned: &Scan, header: &LogHeader) -> Sum
 fn sync_file<D: Disk>(file: &mut D) -> R<()>
     ensures kept { KeepsContent D.tells D.file D.failures file.old file.new }
     ensures synced { OnOk result (IsTrue (D.tells file.old) → IsSynced (D.file file.new)) }
-    ensures crash { IsTrue (D.tells file.old) → Always (D.file file.old) (D.file file.new) (LeavesOld (D.file file.old)) }
+    ensures crash { IsTrue (D.tells file.old)
+        → Always (D.file file.old) (D.file file.new) (LeavesOld (D.file file.old)) }
     ensures touches { TouchesDisk D.tells D.failures file.old file.new result }
 {
     file.sync()
@@ -88,11 +92,15 @@ fn sync_files<D: Disk>(db: &mut D, log: &mut D) -> R<()>
     ensures log { KeepsContent D.tells D.file D.failures log.old log.new }
     ensures synced { OnOk result ((IsTrue (D.tells db.old) → IsSynced (D.file db.new))
         × (IsTrue (D.tells log.old) → IsSynced (D.file log.new))) }
-    ensures db_crash { IsTrue (D.tells db.old) → Always (D.file db.old) (D.file db.new) (LeavesOld (D.file db.old)) }
-    ensures log_crash { IsTrue (D.tells log.old) → Always (D.file log.old) (D.file log.new) (LeavesOld (D.file log.old)) }
-    ensures none_failed { OnOk result ((D.failures db.new ≡ D.failures db.old) × (D.failures log.new ≡ D.failures log.old)) }
+    ensures db_crash { IsTrue (D.tells db.old)
+        → Always (D.file db.old) (D.file db.new) (LeavesOld (D.file db.old)) }
+    ensures log_crash { IsTrue (D.tells log.old)
+        → Always (D.file log.old) (D.file log.new) (LeavesOld (D.file log.old)) }
+    ensures none_failed { OnOk result ((D.failures db.new ≡ D.failures db.old)
+        × (D.failures log.new ≡ D.failures log.old)) }
     ensures refused { IfErr result (λ fault. (fault ≡ Fault.Io)
-        × (Rose (D.failures db.old) (D.failures db.new) ⊎ Rose (D.failures log.old) (D.failures log.new))) }
+        × (Rose (D.failures db.old) (D.failures db.new)
+        ⊎ Rose (D.failures log.old) (D.failures log.new))) }
 {
     sync_file(db)?;
     sync_file(log)
@@ -107,16 +115,21 @@ fn recover<D: Disk>(
     counted_size: Option<u32>,
     salts: Salts,
 ) -> R<State>
-    ensures db { IsTrue (D.tells db.new) → IfOk result (λ state. state.db_len ≡ length (D.file db.new).content) }
+    ensures db { IsTrue (D.tells db.new) → IfOk result
+        (λ state. state.db_len ≡ length (D.file db.new).content) }
     ensures log { IsTrue (D.tells log.new)
-        → IfOk result (λ state. LogStands state.header state.is_begun state.mark state.sum state.index (D.file log.new).content) }
-    ensures known { IfOk result (λ state. IsOpened page_size salts (state_in state) × IsFalse state.is_clean × (state.copied_pages ≡ 0)) }
+        → IfOk result (λ state. LogStands state.header state.is_begun state.mark state.sum
+        state.index (D.file log.new).content) }
+    ensures known { IfOk result (λ state. IsOpened page_size salts (state_in state)
+        × IsFalse state.is_clean × (state.copied_pages ≡ 0)) }
     ensures view { IsTrue (D.tells db.new) → IsTrue (D.tells log.new)
-        → IfOk result (λ state. IsStateOf counted_size (D.file db.new).content (D.file log.new).content (state_in state)) }
+        → IfOk result (λ state. IsStateOf counted_size (D.file db.new).content
+        (D.file log.new).content (state_in state)) }
     ensures refused { IfErr result (λ fault. IsOpenRefusal (Rose (D.failures db.old) (D.failures db.new)
         ⊎ Rose (D.failures log.old) (D.failures log.new)) (IsTrue (D.tells db.old) → IsTrue (D.tells log.old)
         → CanOpen page_size counted_size (D.file db.old).content (D.file log.old).content → ⊥) fault) }
-    ensures none_failed { OnOk result ((D.failures db.new ≡ D.failures db.old) × (D.failures log.new ≡ D.failures log.old)) }
+    ensures none_failed { OnOk result ((D.failures db.new ≡ D.failures db.old)
+        × (D.failures log.new ≡ D.failures log.old)) }
     ensures kept { KeepsFile D.tells D.file db.old db.new × KeepsFile D.tells D.file log.old log.new
         × (D.failures db.old ≤ D.failures db.new) × (D.failures log.old ≤ D.failures log.new) }
 {
@@ -152,9 +165,13 @@ pub fn sync_both<D: Disk>(db: D, log: D) -> Result<Synced<D>, Refused<D>>
     ensures kept { KeepsContent D.tells D.file D.failures db (db_synced result)
         × KeepsContent D.tells D.file D.failures log (log_synced result) }
     ensures crash { IsTrue (D.tells db) → IsTrue (D.tells log)
-        → Throughout (LeavesAsBefore (D.file db) (D.file log)) (D.file db) (D.file log) (D.file (db_synced result)) (D.file (log_synced result)) }
-    ensures refused { MatchResult result (λ files. (D.failures files.db ≡ D.failures db) × (D.failures files.log ≡ D.failures log))
-        (λ refused. (refused.fault ≡ Fault.Io) × (Rose (D.failures db) (D.failures refused.db) ⊎ Rose (D.failures log) (D.failures refused.log))) }
+        → Throughout (LeavesAsBefore (D.file db) (D.file log)) (D.file db) (D.file log)
+        (D.file (db_synced result)) (D.file (log_synced result)) }
+    ensures refused { MatchResult result (λ files. (D.failures files.db ≡ D.failures db)
+        × (D.failures files.log ≡ D.failures log))
+        (λ refused. (refused.fault ≡ Fault.Io)
+        × (Rose (D.failures db) (D.failures refused.db)
+        ⊎ Rose (D.failures log) (D.failures refused.log))) }
 {
     let mut db = db;
     let mut log = log;
@@ -180,15 +197,21 @@ impl<D: Disk> Log<D> {
         counted_size: Option<u32>,
         salts: Salts,
     ) -> Result<Log<D>, Refused<D>>
-        ensures kept { KeepsFile D.tells D.file files.db (db_in result) × KeepsFile D.tells D.file files.log (log_in result)
-            × (D.failures files.db ≤ D.failures (db_in result)) × (D.failures files.log ≤ D.failures (log_in result)) }
+        ensures kept { KeepsFile D.tells D.file files.db (db_in result)
+            × KeepsFile D.tells D.file files.log (log_in result)
+            × (D.failures files.db ≤ D.failures (db_in result))
+            × (D.failures files.log ≤ D.failures (log_in result)) }
         ensures known { IfOk result (λ opened. IsOpened page_size salts (state_of opened)) }
         ensures view { IfOk result (λ opened. IsTrue (D.tells files.db) → IsTrue (D.tells files.log)
-            → IsStateOf counted_size (D.file (db_of opened)).content (D.file (log_of opened)).content (state_of opened)) }
+            → IsStateOf counted_size (D.file (db_of opened)).content
+            (D.file (log_of opened)).content (state_of opened)) }
         ensures refused { MatchResult result (λ opened. (D.failures (db_of opened) ≡ D.failures files.db)
             × (D.failures (log_of opened) ≡ D.failures files.log))
-            (λ refused. IsOpenRefusal (Rose (D.failures files.db) (D.failures refused.db) ⊎ Rose (D.failures files.log) (D.failures refused.log))
-            (IsTrue (D.tells files.db) → IsTrue (D.tells files.log) → CanOpen page_size counted_size (D.file files.db).content (D.file files.log).content → ⊥) refused.fault) }
+            (λ refused. IsOpenRefusal (Rose (D.failures files.db) (D.failures refused.db)
+            ⊎ Rose (D.failures files.log) (D.failures refused.log))
+            (IsTrue (D.tells files.db) → IsTrue (D.tells files.log)
+            → CanOpen page_size counted_size (D.file files.db).content (D.file files.log).content
+            → ⊥) refused.fault) }
     {
         let Synced { db, log } = files;
         let mut db = db;

@@ -22,7 +22,8 @@ pub struct PageImage {
 /// (`Damaged(Page)` with the number of the first that isn't so, or 0 where there is none.)
 pub fn check_pages(pages: &[PageImage], size: u32, page_size: u32) -> R<()>
     ensures pages { OnOk result (ArePages 0 size page_size pages.now) }
-    ensures refused { IfErr result (λ fault. IsPagesRefusal (ArePages 0 size page_size pages.now × (0 < length pages.now)) fault) }
+    ensures refused { IfErr result (λ fault. IsPagesRefusal
+        (ArePages 0 size page_size pages.now × (0 < length pages.now)) fault) }
     ensures some { OnOk result (0 < length pages.now) }
 {
     if pages.is_empty() {
@@ -58,7 +59,8 @@ pub fn put_frames(
     pages: &[PageImage],
     size: u32,
 ) -> Result<Sum, AllocError>
-    ensures bytes { OnOk result (bytes.new.items ≡ bytes.old.items ++ written header.now before (framed pages.now size)) }
+    ensures bytes { OnOk result (bytes.new.items ≡ bytes.old.items ++ written header.now before
+        (framed pages.now size)) }
     ensures fits { OnOk result (0 < length pages.now → SaltsFit header.now.salts) }
     ensures sum { IfOk result (λ sum. sum ≡ sum_after header.now before (framed pages.now size)) }
 {

@@ -41,9 +41,11 @@ pub fn next_header(header: LogHeader) -> LogHeader
 /// Writes a header over that of a log, and syncs it.
 fn rewrite_header<D: Disk>(log: &mut D, header: &LogHeader) -> R<()>
     requires { IsTrue (D.tells log.old) → 32 ≤ length (D.file log.old).content }
-    ensures written { IsTrue (D.tells log.old) → OnOk result ((D.file log.new).content ≡ header_bytes header.now ++ drop 32 (D.file log.old).content) }
+    ensures written { IsTrue (D.tells log.old)
+        → OnOk result ((D.file log.new).content ≡ header_bytes header.now ++ drop 32 (D.file log.old).content) }
     ensures synced { IsTrue (D.tells log.old) → OnOk result (IsSynced (D.file log.new)) }
-    ensures crash { IsTrue (D.tells log.old) → IsSynced (D.file log.old) → Always (D.file log.old) (D.file log.new)
+    ensures crash { IsTrue (D.tells log.old) → IsSynced (D.file log.old)
+        → Always (D.file log.old) (D.file log.new)
         (LeavesOneOf (D.file log.old).content (header_bytes header.now ++ drop 32 (D.file log.old).content)) }
     ensures left { LeavesContent D.tells D.file log.old log.new }
     ensures touches { TouchesDisk D.tells D.failures log.old log.new result }
@@ -55,9 +57,12 @@ fn rewrite_header<D: Disk>(log: &mut D, header: &LogHeader) -> R<()>
 /// Gives a log another header and syncs it: over the old one, or, where its first salt is 0, after the log was cut to nothing.
 fn renew<D: Disk>(log: &mut D, header: &LogHeader) -> R<()>
     requires { IsTrue (D.tells log.old) → 32 ≤ length (D.file log.old).content }
-    ensures written { IsTrue (D.tells log.old) → OnOk result ((D.file log.new).content ≡ renewed header.now (D.file log.old).content) }
-    ensures synced { IsTrue (D.tells log.old) → IsSynced (D.file log.old) → OnOk result (IsSynced (D.file log.new)) }
-    ensures crash { IsTrue (D.tells log.old) → IsSynced (D.file log.old) → Always (D.file log.old) (D.file log.new)
+    ensures written { IsTrue (D.tells log.old)
+        → OnOk result ((D.file log.new).content ≡ renewed header.now (D.file log.old).content) }
+    ensures synced { IsTrue (D.tells log.old) → IsSynced (D.file log.old)
+        → OnOk result (IsSynced (D.file log.new)) }
+    ensures crash { IsTrue (D.tells log.old) → IsSynced (D.file log.old)
+        → Always (D.file log.old) (D.file log.new)
         (LeavesRenewed header.now (D.file log.old).content (D.file log.old).content (D.file log.old).content) }
     ensures left { LeavesContent D.tells D.file log.old log.new }
     ensures touches { TouchesDisk D.tells D.failures log.old log.new result }
@@ -74,10 +79,14 @@ fn clean_and_renew<D: Disk>(log: &mut D, header: &LogHeader, is_clean: bool, end
     requires long { 32 ≤ end }
     requires inside { IsTrue (D.tells log.old) → end ≤ length (D.file log.old).content }
     ensures written { IsTrue (D.tells log.old)
-        → OnOk result ((D.file log.new).content ≡ renewed header.now (kept_at is_clean end (D.file log.old).content)) }
-    ensures synced { IsTrue (D.tells log.old) → IsSynced (D.file log.old) → OnOk result (IsSynced (D.file log.new)) }
-    ensures crash { IsTrue (D.tells log.old) → IsSynced (D.file log.old) → Always (D.file log.old) (D.file log.new)
-        (LeavesRenewed header.now (D.file log.old).content (take end (D.file log.old).content) (kept_at is_clean end (D.file log.old).content)) }
+        → OnOk result ((D.file log.new).content ≡ renewed header.now
+        (kept_at is_clean end (D.file log.old).content)) }
+    ensures synced { IsTrue (D.tells log.old) → IsSynced (D.file log.old)
+        → OnOk result (IsSynced (D.file log.new)) }
+    ensures crash { IsTrue (D.tells log.old) → IsSynced (D.file log.old)
+        → Always (D.file log.old) (D.file log.new)
+        (LeavesRenewed header.now (D.file log.old).content (take end (D.file log.old).content)
+        (kept_at is_clean end (D.file log.old).content)) }
     ensures left { LeavesContent D.tells D.file log.old log.new }
     ensures touches { TouchesDisk D.tells D.failures log.old log.new result }
 {
@@ -96,9 +105,12 @@ pub fn write_anew<D: Disk>(
     requires long { 32 ≤ end }
     requires inside { IsTrue (D.tells log.old) → end ≤ length (D.file log.old).content }
     ensures written { IsTrue (D.tells log.old) → IsSynced (D.file log.old)
-        → OnOk result (IsRewritten header.now (kept_at is_clean end (D.file log.old).content) bytes.now (D.file log.new)) }
-    ensures crash { IsTrue (D.tells log.old) → IsSynced (D.file log.old) → Always (D.file log.old) (D.file log.new)
-        (LeavesRewriting header.now (D.file log.old).content (take end (D.file log.old).content) (kept_at is_clean end (D.file log.old).content) bytes.now) }
+        → OnOk result (IsRewritten header.now
+        (kept_at is_clean end (D.file log.old).content) bytes.now (D.file log.new)) }
+    ensures crash { IsTrue (D.tells log.old) → IsSynced (D.file log.old)
+        → Always (D.file log.old) (D.file log.new)
+        (LeavesRewriting header.now (D.file log.old).content (take end (D.file log.old).content)
+        (kept_at is_clean end (D.file log.old).content) bytes.now) }
     ensures left { LeavesContent D.tells D.file log.old log.new }
     ensures touches { TouchesDisk D.tells D.failures log.old log.new result }
 {
@@ -114,18 +126,22 @@ impl<D: Disk> Log<D> {
     /// `Failed`.)
     pub fn restart(&mut self) -> R<()>
         ensures done { IsTrue (D.tells (log_of self.old))
-            → OnOk result (IsRestarted (state_of self.old) (D.file (log_of self.old)) (D.file (log_of self.new))) }
+            → OnOk result (IsRestarted (state_of self.old) (D.file (log_of self.old))
+            (D.file (log_of self.new))) }
         ensures known { IsStateAnew result (state_of self.old) (state_of self.new) }
         // A crash leaves what was committed, or no frames.
         ensures crash { IsFalse (state_of self.old).has_failed → IsTrue (D.tells (log_of self.old))
             → Always (D.file (log_of self.old)) (D.file (log_of self.new))
-            (LeavesOrNone (state_of self.old).page_size (commits_of (state_of self.old) (D.file (log_of self.old)).content)) }
+            (LeavesOrNone (state_of self.old).page_size
+            (commits_of (state_of self.old) (D.file (log_of self.old)).content)) }
         ensures left { IsFalse (state_of self.old).has_failed → IsTrue (D.tells (log_of self.old))
             → IsContentLeft (D.file (log_of self.new)) }
         ensures refused { MatchResult result (λ _. D.failures (log_of self.new) ≡ D.failures (log_of self.old))
-            (λ fault. IsCutRefusal (state_of self.old).has_failed (log_of self.old) (log_of self.new) (D.failures (log_of self.old))
+            (λ fault. IsCutRefusal (state_of self.old).has_failed (log_of self.old)
+            (log_of self.new) (D.failures (log_of self.old))
             (D.failures (log_of self.new)) fault) }
-        ensures same { KeepsDisks D.tells D.failures (db_of self.old) (db_of self.new) (log_of self.old) (log_of self.new) }
+        ensures same { KeepsDisks D.tells D.failures (db_of self.old) (db_of self.new)
+            (log_of self.old) (log_of self.new) }
     {
         if self.state.is_failed {
             return Err(Fault::Failed);
@@ -147,18 +163,22 @@ impl<D: Disk> Log<D> {
     /// after which each call answers `Failed`; `Failed`.)
     pub fn truncate(&mut self) -> R<()>
         ensures done { IsTrue (D.tells (log_of self.old))
-            → OnOk result (IsTruncated (state_of self.old) (D.file (log_of self.old)) (D.file (log_of self.new))) }
+            → OnOk result (IsTruncated (state_of self.old) (D.file (log_of self.old))
+            (D.file (log_of self.new))) }
         ensures known { IsStateTruncated result (state_of self.old) (state_of self.new) }
         // A crash leaves what was committed, or no frames.
         ensures crash { IsFalse (state_of self.old).has_failed → IsTrue (D.tells (log_of self.old))
             → Always (D.file (log_of self.old)) (D.file (log_of self.new))
-            (LeavesOrNone (state_of self.old).page_size (commits_of (state_of self.old) (D.file (log_of self.old)).content)) }
+            (LeavesOrNone (state_of self.old).page_size
+            (commits_of (state_of self.old) (D.file (log_of self.old)).content)) }
         ensures left { IsFalse (state_of self.old).has_failed → IsTrue (D.tells (log_of self.old))
             → IsContentLeft (D.file (log_of self.new)) }
         ensures refused { MatchResult result (λ _. D.failures (log_of self.new) ≡ D.failures (log_of self.old))
-            (λ fault. IsCutRefusal (state_of self.old).has_failed (log_of self.old) (log_of self.new) (D.failures (log_of self.old))
+            (λ fault. IsCutRefusal (state_of self.old).has_failed (log_of self.old)
+            (log_of self.new) (D.failures (log_of self.old))
             (D.failures (log_of self.new)) fault) }
-        ensures same { KeepsDisks D.tells D.failures (db_of self.old) (db_of self.new) (log_of self.old) (log_of self.new) }
+        ensures same { KeepsDisks D.tells D.failures (db_of self.old) (db_of self.new)
+            (log_of self.old) (log_of self.new) }
     {
         if self.state.is_failed {
             return Err(Fault::Failed);

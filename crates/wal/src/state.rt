@@ -112,7 +112,8 @@ impl State {
         requires { mark ≤ 1000000 }
         ensures room { OnOk result (mark + frames ≤ 1000000) }
         ensures size { OnOk result (IsSizeWithinLimits self.now.page_size size) }
-        ensures refused { IfErr result (λ fault. (fault ≡ Fault.Full) × (IsWithinLimits mark self.now.page_size frames size → ⊥)) }
+        ensures refused { IfErr result (λ fault. (fault ≡ Fault.Full)
+            × (IsWithinLimits mark self.now.page_size frames size → ⊥)) }
     {
         if frames > MAX_FRAMES - mark as usize || !is_within_limits(size, self.page_size) {
             return Err(Fault::Full);

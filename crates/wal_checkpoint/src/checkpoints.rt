@@ -44,7 +44,8 @@ fn copy_seen<D: Disk + Drop>(alloc: Global, log: &mut Log<D>, target: Snapshot) 
 /// Copies the frames that a snapshot sees into the database file. (`Memory`, which changes nothing; `Io`, after which each call of the log
 /// answers `Failed`; what `Log::copy` refuses.)
 pub fn passive<D: Disk + Drop>(alloc: Global, log: &mut Log<D>, target: Snapshot) -> R<Counts>
-    ensures answer { IfOk result (λ counts. (counts ≡ counts_of false (state_of log.old) target) × (counts.copied ≤ counts.frames)) }
+    ensures answer { IfOk result (λ counts. (counts ≡ counts_of false (state_of log.old) target)
+        × (counts.copied ≤ counts.frames)) }
     ensures known { OnOk result ((state_of log.new ≡ after_copying (state_of log.old) target)
         × (D.tells (log_of log.new) ≡ D.tells (log_of log.old))) }
     ensures kept { (state_of log.new).header ≡ (state_of log.old).header }
@@ -72,7 +73,8 @@ fn is_all_copied<D: Disk + Drop>(log: &Log<D>) -> bool
 fn begin_anew<D: Disk + Drop>(log: &mut Log<D>) -> R<()>
     ensures done { MayEmpty log.old → OnOk result (Emptied log.old log.new) }
     ensures crash { MayEmpty log.old → EmptiedMeanwhile log.old log.new }
-    ensures anew { IsFalse (state_of log.old).has_failed → IsTrue (D.tells (log_of log.old)) → (state_of log.old).copied ≡ (state_of log.old).frames
+    ensures anew { IsFalse (state_of log.old).has_failed → IsTrue (D.tells (log_of log.old))
+        → (state_of log.old).copied ≡ (state_of log.old).frames
         → OnOk result ((state_of log.new).frames ≡ 0) }
     ensures refused { IfErr result (IsRefusedEmptying log.old) }
     ensures cause { HasCause false result log.old log.new }
@@ -87,7 +89,8 @@ fn begin_anew<D: Disk + Drop>(log: &mut Log<D>) -> R<()>
 fn cut_to_nothing<D: Disk + Drop>(log: &mut Log<D>) -> R<()>
     ensures done { MayEmpty log.old → OnOk result (Emptied log.old log.new) }
     ensures crash { MayEmpty log.old → EmptiedMeanwhile log.old log.new }
-    ensures anew { (state_of log.old).copied ≡ (state_of log.old).frames → OnOk result (((state_of log.new).frames ≡ 0)
+    ensures anew { (state_of log.old).copied ≡ (state_of log.old).frames
+        → OnOk result (((state_of log.new).frames ≡ 0)
         × (IsTrue (D.tells (log_of log.old)) → (D.file (log_of log.new)).content ≡ [])) }
     ensures refused { IfErr result (IsRefusedEmptying log.old) }
     ensures cause { HasCause false result log.old log.new }
@@ -105,8 +108,10 @@ pub fn restart<D: Disk + Drop>(
     target: Snapshot,
     is_alone: bool,
 ) -> R<Counts>
-    ensures answer { IfOk result (λ counts. (counts ≡ counts_of (not is_alone) (state_of log.old) target) × (counts.copied ≤ counts.frames)) }
-    ensures known { OnOk result (IsFalse is_alone → (state_of log.new ≡ after_copying (state_of log.old) target)
+    ensures answer { IfOk result (λ counts. (counts ≡ counts_of (not is_alone)
+        (state_of log.old) target) × (counts.copied ≤ counts.frames)) }
+    ensures known { OnOk result (IsFalse is_alone
+        → (state_of log.new ≡ after_copying (state_of log.old) target)
         × (D.tells (log_of log.new) ≡ D.tells (log_of log.old))) }
     ensures done { MayCopy log.old target → OnOk result (Checkpoints log.old target is_alone log.new) }
     ensures crash { MayCopy log.old target → Meanwhile log.old target log.new }
@@ -134,15 +139,19 @@ pub fn truncate<D: Disk + Drop>(
     is_alone: bool,
 ) -> R<Counts>
     ensures answer { IfOk result (λ counts.
-        (counts ≡ (if is_alone then no_counts else counts_of true (state_of log.old) target)) × (counts.copied ≤ counts.frames)) }
-    ensures known { OnOk result (IsFalse is_alone → (state_of log.new ≡ after_copying (state_of log.old) target)
+        (counts ≡ (if is_alone then no_counts else counts_of true (state_of log.old) target))
+        × (counts.copied ≤ counts.frames)) }
+    ensures known { OnOk result (IsFalse is_alone
+        → (state_of log.new ≡ after_copying (state_of log.old) target)
         × (D.tells (log_of log.new) ≡ D.tells (log_of log.old))) }
     ensures done { MayCopy log.old target → OnOk result (Checkpoints log.old target is_alone log.new) }
     ensures crash { MayCopy log.old target → Meanwhile log.old target log.new }
     ensures refused { IfErr result (IsRefusedCopying log.old target log.new) }
     ensures cause { HasCause false result log.old log.new }
-    ensures anew { (IsTrue is_alone → seen_by target ≡ (state_of log.old).frames) → OnOk result (IsTrue is_alone
-        → ((state_of log.new).frames ≡ 0) × (IsTrue (D.tells (log_of log.old)) → (D.file (log_of log.new)).content ≡ [])) }
+    ensures anew { (IsTrue is_alone → seen_by target ≡ (state_of log.old).frames)
+        → OnOk result (IsTrue is_alone
+        → ((state_of log.new).frames ≡ 0) × (IsTrue (D.tells (log_of log.old))
+        → (D.file (log_of log.new)).content ≡ [])) }
 {
     let counts = passive(alloc, log, target)?;
     if !is_alone {

@@ -61,7 +61,8 @@ impl FrameHeader {
     ) -> Result<Sum, AllocError>
         ensures sum { IfOk result (λ sum. sum ≡ frame_sum log.now.order before self.now page.now) }
         ensures fits { SaltsFit log.now.salts }
-        ensures bytes { IfOk result (λ sum. out.new.items ≡ out.old.items ++ frame_bytes log.now.salts sum self.now page.now) }
+        ensures bytes { IfOk result (λ sum. out.new.items
+            ≡ out.old.items ++ frame_bytes log.now.salts sum self.now page.now) }
     {
         let sum = self.sum(log.order, before, page);
         out.extend_from_slice(&self.head(log.salts, sum))?;

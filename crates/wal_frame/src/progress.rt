@@ -58,8 +58,10 @@ impl Progress {
     /// The committed part.
     pub fn finish(self, header: &LogHeader) -> Scan
         requires { IsMeasured header.now self }
-        ensures found { (log : List ℕ) → IsReadWhole header.now log self → IsScanOf header.now log result }
-        ensures header { (result.header ≡ Some header.now) × (length result.frames.items ≤ 1000000) }
+        ensures found { (log : List ℕ) → IsReadWhole header.now log self
+            → IsScanOf header.now log result }
+        ensures header { (result.header ≡ Some header.now)
+            × (length result.frames.items ≤ 1000000) }
     {
         let Progress {
             mut frames,

@@ -16,11 +16,13 @@ use std::alloc::Global;
 
 fn read_header<D: Disk>(disk: &mut D, len: u64) -> R<Option<LogHeader>>
     requires { IsTrue (D.tells disk.old) → len ≡ length (D.file disk.old).content }
-    ensures found { IsTrue (D.tells disk.old) → IfOk result (λ header. header_in (D.file disk.old).content ≡ Ok header) }
+    ensures found { IsTrue (D.tells disk.old)
+        → IfOk result (λ header. header_in (D.file disk.old).content ≡ Ok header) }
     ensures some { IfOk result (λ header. IsSome header → 32 ≤ len) }
     ensures kept { KeepsFile D.tells D.file disk.old disk.new }
     ensures refused { IfErr result (λ fault. IsRefusal (IsTrue (D.tells disk.old)
-        → header_in (D.file disk.old).content ≡ Err fault) ⊥ fault (D.failures disk.old) (D.failures disk.new)) }
+        → header_in (D.file disk.old).content ≡ Err fault) ⊥ fault (D.failures disk.old)
+        (D.failures disk.new)) }
     ensures counts { D.failures disk.old ≤ D.failures disk.new }
     ensures none_failed { OnOk result (D.failures disk.new ≡ D.failures disk.old) }
 {
@@ -36,7 +38,8 @@ fn read_header<D: Disk>(disk: &mut D, len: u64) -> R<Option<LogHeader>>
 fn read_accepted<D: Disk>(alloc: Global, disk: &mut D, header: &LogHeader, len: u64) -> R<Progress>
     requires told { IsTrue (D.tells disk.old) → len ≡ length (D.file disk.old).content }
     requires some { 32 ≤ len }
-    ensures found { IsTrue (D.tells disk.old) → IfOk result (λ progress. IsReadWhole header.now (D.file disk.old).content progress) }
+    ensures found { IsTrue (D.tells disk.old)
+        → IfOk result (λ progress. IsReadWhole header.now (D.file disk.old).content progress) }
     ensures measured { IfOk result (λ progress. IsMeasured header.now progress) }
     ensures kept { KeepsFile D.tells D.file disk.old disk.new }
     ensures refused { IfErr result (λ fault. IsRefusal ⊥ (IsTrue (D.tells disk.old)
@@ -65,8 +68,10 @@ fn read_accepted<D: Disk>(alloc: Global, disk: &mut D, header: &LogHeader, len: 
 fn read_frames<D: Disk>(alloc: Global, disk: &mut D, header: &LogHeader, len: u64) -> R<Scan>
     requires told { IsTrue (D.tells disk.old) → len ≡ length (D.file disk.old).content }
     requires some { 32 ≤ len }
-    ensures found { IsTrue (D.tells disk.old) → IfOk result (λ scan. IsScanOf header.now (D.file disk.old).content scan) }
-    ensures header { IfOk result (λ scan. (scan.header ≡ Some header.now) × (length scan.frames.items ≤ 1000000)) }
+    ensures found { IsTrue (D.tells disk.old)
+        → IfOk result (λ scan. IsScanOf header.now (D.file disk.old).content scan) }
+    ensures header { IfOk result (λ scan. (scan.header ≡ Some header.now)
+        × (length scan.frames.items ≤ 1000000)) }
     ensures kept { KeepsFile D.tells D.file disk.old disk.new }
     ensures refused { IfErr result (λ fault. IsRefusal ⊥ (IsTrue (D.tells disk.old)
         → HasTooMany header.now (D.file disk.old).content) fault (D.failures disk.old) (D.failures disk.new)) }
@@ -80,7 +85,8 @@ fn read_frames<D: Disk>(alloc: Global, disk: &mut D, header: &LogHeader, len: u6
 /// Reads a log, frame by frame, up to the first frame that isn't accepted. (`Memory`, `Io`, `Unsupported(LogFormat)`, and
 /// `Unsupported(Limit)` where more than 1,000,000 frames are committed.)
 pub fn scan<D: Disk>(alloc: Global, disk: &mut D) -> R<Scan>
-    ensures found { IsTrue (D.tells disk.old) → IfOk result (λ scan. IsScan (D.file disk.old).content scan) }
+    ensures found { IsTrue (D.tells disk.old)
+        → IfOk result (λ scan. IsScan (D.file disk.old).content scan) }
     ensures few { IfOk result (λ scan. length scan.frames.items ≤ 1000000) }
     ensures kept { KeepsFile D.tells D.file disk.old disk.new }
     ensures refused { IfErr result (λ fault. IsRefusal (IsTrue (D.tells disk.old)

@@ -56,7 +56,8 @@ impl Index {
     /// Adds a frame of a page, where there is room for it and the page has no greater frame; else nothing is added.
     pub fn add(&mut self, page: u32, frame: u32)
         ensures frames { AddsFrame page frame self.old self.new }
-        ensures added { 1 ≤ page → 0 < room_for self.old page → AreUpTo frame (frames_of self.old page) → HasFrame self.new page frame }
+        ensures added { 1 ≤ page → 0 < room_for self.old page
+            → AreUpTo frame (frames_of self.old page) → HasFrame self.new page frame }
         ensures kept { KeepsRoomBut page self.old self.new }
     {
         if page == 0 || page as usize > self.lists.len() {

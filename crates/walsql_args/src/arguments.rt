@@ -113,7 +113,8 @@ fn salts_of<'a>(digits: &'a str) -> Result<Salts, ArgsError<'a>>
 
 /// The page size that digits spell, or the default without digits.
 fn page_size_of(digits: Option<&str>) -> u32
-    ensures { MatchOption (option_map (λ text. text.now) digits.entry) (result ≡ 4096) (λ text. Counts text result) }
+    ensures { MatchOption (option_map (λ text. text.now) digits.entry) (result ≡ 4096)
+        (λ text. Counts text result) }
 {
     match digits {
         Some(digits) => digits.parse::<u32>().unwrap_or(DEFAULT_PAGE_SIZE),
@@ -125,7 +126,8 @@ fn page_size_of(digits: Option<&str>) -> u32
 fn salts_or_first<'a>(digits: Option<&'a str>) -> Result<Salts, ArgsError<'a>>
     ensures given { IfOk result (λ salts. MatchOption (option_map (λ text. text.now) digits.entry)
         (salts ≡ record { first = 1; second = 2 }) (λ text. SpellsSalts text salts)) }
-    ensures refused { IfErr result (λ refused. IsRefusalOf (option_map (λ text. text.now) digits.entry) refused) }
+    ensures refused { IfErr result (λ refused. IsRefusalOf
+        (option_map (λ text. text.now) digits.entry) refused) }
 {
     match digits {
         Some(digits) => salts_of(digits),
@@ -138,8 +140,10 @@ fn salts_or_first<'a>(digits: Option<&'a str>) -> Result<Salts, ArgsError<'a>>
 
 /// The options that the matches give.
 fn settings_of<'a>(matches: &ArgMatches<'a>) -> Result<StartOptions<'a>, ArgsError<'a>>
-    ensures given { IfOk result (λ options. AreSettings (first_value (found_of matches.now)) options.page_size options.salts options.name.now) }
-    ensures refused { IfErr result (λ refused. IsRefusalOf (first_value (found_of matches.now) (codes "salt")) refused) }
+    ensures given { IfOk result (λ options. AreSettings
+        (first_value (found_of matches.now)) options.page_size options.salts options.name.now) }
+    ensures refused { IfErr result (λ refused. IsRefusalOf
+        (first_value (found_of matches.now) (codes "salt")) refused) }
 {
     let salts = salts_or_first(matches.get_str("salt"))?;
     Ok(StartOptions {
@@ -159,7 +163,8 @@ pub fn settings<'a>(
         (value_in (map string_bytes arguments.entry.now)) options.page_size options.salts options.name.now) }
     // Of arguments that match the usage, only a `--salt` other than 16 hexadecimal digits is refused, or memory runs out.
     ensures refused { takes walsql (map string_bytes arguments.entry.now) ≡ true
-        → IfErr result (λ refused. IsRefusalOf (value_in (map string_bytes arguments.entry.now) (codes "salt")) refused) }
+        → IfErr result (λ refused. IsRefusalOf
+        (value_in (map string_bytes arguments.entry.now) (codes "salt")) refused) }
 {
     let matches = command(alloc)?.try_get_matches_from(arguments)?;
     settings_of(&matches)

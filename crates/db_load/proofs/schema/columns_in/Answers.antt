@@ -1,5 +1,6 @@
 use Rattle.std.proofs.Common.{sym, ◌∙◌}
-use Rattle.db_load.proofs.SchemaTables.{columns_are, columns_refused}
+use Rattle.db_pages.proofs.OneDatabase.{columns_are}
+use Rattle.db_load.proofs.SchemaTables.{columns_refused}
 use Rattle.db_load.proofs.schema.columns_in.Goals as goal
 
 pub returns-in-Ok-clause-tells : goal.returns-in-Ok-clause-tells

@@ -7,4 +7,4 @@ use Rattle.row_change.proofs.inserting.new_rows.Given as goal
 
 abbrev pub invariant-rows : goal.invariant-rows
 invariant-rows l =
-    after_rows (map row_of l.added.items) (rows_added l.columns l.places l.before (map (λ row. row.items) (drop l.row-index l.rows))) ≡ rows_added l.columns l.places l.fn.last (map (λ row. row.items) l.rows)
+    after_rows (map row_of l.added.items) (rows_added l.table l.places l.before (map (λ row. row.items) (drop l.row-index l.rows))) ≡ rows_added l.table l.places l.fn.last (map (λ row. row.items) l.rows)

@@ -2,7 +2,7 @@ use Rattle.std.proofs.Common.{◌≡◌, ◌⊎◌, rules, None, Ok, Err, slice_
 use Rattle.sqlval.specs.Conversion.{converted}
 use Rattle.sqlval.specs.Refusals as refusal
 use Rattle.sqlval.specs.declared.fault.Fault.TheVariants.{Memory, RealRefused}
-use Rattle.row_change.specs.Inserting.{given_at, row_stored}
+use Rattle.row_change.specs.Inserting.{given_for, row_stored}
 use Rattle.row_change.proofs.StoredRows.{Stores, all_stored, column_refused}
 use Rattle.row_change.proofs.StoredValues.{in_list, one_more}
 use Rattle.row_change.proofs.inserting.stored_values.Goals as goal
@@ -20,7 +20,7 @@ columns-preserved c =
     (one_more (Stores c.args.columns.now c.args.places.now c.args.given.now) c.columns.values.items c.in_ok-stored_value.field-0 c.columns.index
     c.columns.invariant.0 c.columns.invariant.1
     (λ column. in_list c.args.columns.now c.columns.index c.index-columns-index.result column _ (omega (arith, c.columns-test.true)) c.index-columns-index.is
-    (λ d. converted d.affinity (given_at c.args.given.now (slice_index_or c.args.places.now c.columns.index None)) ≡ Ok c.in_ok-stored_value.field-0) (rw (c.place_of-place.ensures) at c.in_ok-stored_value.ensures.stored)))
+    (λ d. converted d.affinity (given_for d c.args.given.now (slice_index_or c.args.places.now c.columns.index None)) ≡ Ok c.in_ok-stored_value.field-0) (rw (c.place_of-place.ensures) at c.in_ok-stored_value.ensures.stored)))
 
 pub returns-clause-stored : goal.returns-clause-stored
 returns-clause-stored c =

@@ -9,4 +9,4 @@ use Rattle.row_change.proofs.setting.changed_at.Given as goal
 
 abbrev pub invariant-places : goal.invariant-places
 invariant-places l =
-    left (λ place. source_set l.columns l.sets (row_at l.rows place)) (drop l.place-index l.places) (map row_of l.new.items) ≡ all_answers (map (λ place. source_set l.columns l.sets (row_at l.rows place)) l.places)
+    left (λ place. source_set l.table l.sets (row_at l.rows place)) (drop l.place-index l.places) (map row_of l.new.items) ≡ all_answers (map (λ place. source_set l.table l.sets (row_at l.rows place)) l.places)

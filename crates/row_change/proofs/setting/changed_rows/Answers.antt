@@ -8,8 +8,8 @@ returns-in_err-places-clause-not_disk c = not_meant c.from_residual.result c.arg
 
 pub returns-clause-changed : goal.returns-clause-changed
 returns-clause-changed c =
-    all_changed (λ new. map row_of new.items) c.args.columns.now c.args.sets.now c.args.condition.now c.args.rows.now c.in_ok-places.places.items c.deref.result.now c.changed_at.result
+    all_changed (λ new. map row_of new.items) c.args.table.now c.args.sets.now c.args.condition.now c.args.rows.now c.in_ok-places.places.items c.deref.result.now c.changed_at.result
     c.in_ok-places.ensures c.deref.ensures.value c.changed_at.ensures
 
 pub returns-clause-not_disk : goal.returns-clause-not_disk
-returns-clause-not_disk c = not_changed (λ new. map row_of new.items) c.changed_at.result c.args.columns.now c.args.sets.now c.args.rows.now c.deref.result.now c.changed_at.ensures
+returns-clause-not_disk c = not_changed (λ new. map row_of new.items) c.changed_at.result c.args.table.now c.args.sets.now c.args.rows.now c.deref.result.now c.changed_at.ensures

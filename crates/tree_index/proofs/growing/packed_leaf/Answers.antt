@@ -13,13 +13,12 @@ use Rattle.tree_index.proofs.Widening.{planned_since}
 use Rattle.tree_index.proofs.growing.packed_leaf.Goals as goal
 
 pub returns-in_err-load-clause-planned : goal.returns-in_err-load-clause-planned
-returns-in_err-load-clause-planned g c = λ told ways t free under sized record_is within.
+returns-in_err-load-clause-planned g c = λ told entry ways t free under sized record_is within.
     (let pages = g.P.Pages in
     let old = pages.map c.args.pages.now in
     let size = (pages.limits (pages.below c.args.pages.now)).page in
     let mid = pages.map c.write_payload.new.pages in
     let payload = c.args.new.payload.now in
-    let entry = c.args.new.key.values.now in
     let held = c.in_ok-held.held.items in
     let most : c.most_in-most.result ≡ index_most size = c.most_in-most.ensures ∙ ap index_most c.page_size.ensures in
     let w = subst (λ (n : ℕ). IsWritten old mid size n free payload held) most (c.in_ok-held.ensures.written told free under.free_are) in
@@ -32,13 +31,12 @@ returns-in_err-load-clause-planned g c = λ told ways t free under sized record_
     }))))
 
 pub returns-clause-planned : goal.returns-clause-planned
-returns-clause-planned g c = λ told ways t free under sized record_is within.
+returns-clause-planned g c = λ told entry ways t free under sized record_is within.
     (let pages = g.P.Pages in
     let old = pages.map c.args.pages.now in
     let size = (pages.limits (pages.below c.args.pages.now)).page in
     let mid = pages.map c.write_payload.new.pages in
     let payload = c.args.new.payload.now in
-    let entry = c.args.new.key.values.now in
     let held = c.in_ok-held.held.items in
     let most : c.most_in-most.result ≡ index_most size = c.most_in-most.ensures ∙ ap index_most c.page_size.ensures in
     let w = subst (λ (n : ℕ). IsWritten old mid size n free payload held) most (c.in_ok-held.ensures.written told free under.free_are) in
