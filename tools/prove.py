@@ -1,5 +1,5 @@
 #!/usr/bin/env python3
-"""Proves the libraries below a crate, side by side, those with the longest chain above them first, and a program over them.
+"""Proves the libraries below a crate, side by side, those with the longest chain above them first, and a program or a static library over them.
 
 usage: tools/prove.py NAME     says how far it is on standard error; each crate's log is crates/CRATE/out/build.log
 
@@ -69,6 +69,18 @@ def crates():
     return {it.name: it for it in sorted(found, key=lambda it: len(it.below()))}
 
 
+def is_made_by_ci(crate):
+    """Whether a library is one that `rt ci` made of the files that are there: it leaves no stamp."""
+    made, stamp = f"{crate.folder}/out/rlib", f"{crate.folder}/out/rlib/stamp"
+    files = [it for below in [*crate.below(), crate] for it in rt.rtlib.files_of(below.folder)]
+    return os.path.isdir(crate.rlib) and not os.path.exists(stamp) and all(os.path.getmtime(it) < os.path.getmtime(made) for it in files)
+
+
+def are_ready(libraries):
+    """Proves these libraries, except where all are those that `rt ci` has just made of the same files."""
+    return all(is_made_by_ci(it) for it in libraries) or prove(libraries)
+
+
 def prove(libraries):
     """Proves what isn't proved of these libraries, and returns whether all are."""
     left = [it for it in libraries if not it.is_built()]
@@ -117,9 +129,28 @@ def make(program):
     return not failed
 
 
+def archive(crate):
+    """Proves and compiles a static library over its libraries, which are proved, and returns its file, or None."""
+    made, stamp = f"{crate.folder}/out/lib{crate.name}.a", crate.stamp()
+    if is_of(made, stamp):
+        return made
+    say(f"the static library: {crate.name}")
+    os.makedirs(f"{crate.folder}/out", exist_ok=True)
+    with open(f"{crate.folder}/out/build.log", "w", errors="replace") as crate.out:
+        failed = crate.build_static(["--jobs", str(os.cpu_count())])
+    if failed:
+        say(f"{crate.name}: not built: see {crate.out.name}")
+        return None
+    with open(f"{made}.stamp", "w") as it:
+        it.write(stamp)
+    return made
+
+
 if __name__ == "__main__":
     if len(sys.argv) != 2 or sys.argv[1] not in crates():
         sys.exit(__doc__)
     wanted = crates()[sys.argv[1]]
+    if wanted.is_static:
+        sys.exit(not (are_ready(wanted.below()) and archive(wanted)))
     is_made = wanted.is_program and is_of(f"{wanted.folder}/out/{wanted.name}", wanted.stamp())
     sys.exit(not (is_made or prove(wanted.below()) and (not wanted.is_program or make(wanted))))

@@ -15,7 +15,7 @@ use Rattle.sqlval.specs.Lists.{any_twice}
 use Rattle.sqlval.specs.Names.{folded, is_same_name}
 use Rattle.sqlval.specs.declared.value.Value.{Value}
 use Rattle.catalog.specs.Database.{Name, Database, Object, ATable, AnIndex, AView, ATrigger, name_order}
-use Rattle.catalog.specs.Listed.{are_named_once, has_only_plain, index_objects, is_table, named_among, names_of, objects_of, plain_index, table_named, table_object, without_table}
+use Rattle.catalog.specs.Listed.{are_named_once, has_only_plain, index_objects, is_table, named_among, names_of, objects_of, as_index, table_named, table_object, without_table}
 use Rattle.catalog.specs.Named.{ListsOthers, goes_with_table, without_table_object}
 use Rattle.catalog.specs.declared.tables.Index.{Index as ListedIndex}
 use Rattle.catalog.specs.declared.tables.Table.{Table}
@@ -167,7 +167,7 @@ index_names [] = refl
 index_names (t ∷ ts) = of_indexes t.indexes (flat_map index_objects ts) (flat_map (λ (t : Table). map (λ (i : ListedIndex). i.name) t.indexes) ts) (index_names ts)
   where
     of_indexes : (is : List ListedIndex) (os : List (Name × Object)) (names : List Name) → map (λ (o : Name × Object). o.0) os ≡ names
-        → map (λ (o : Name × Object). o.0) (map (λ (i : ListedIndex). (i.name, AnIndex (plain_index t i))) is ++ os) ≡ map (λ (i : ListedIndex). i.name) is ++ names
+        → map (λ (o : Name × Object). o.0) (map (λ (i : ListedIndex). (i.name, AnIndex (as_index t i))) is ++ os) ≡ map (λ (i : ListedIndex). i.name) is ++ names
     of_indexes [] os names e = e
     of_indexes (i ∷ is) os names e = ap (λ ns. i.name ∷ ns) (of_indexes is os names e)
 
@@ -207,7 +207,7 @@ abbrev NoneNamed : Name → List ListedIndex → Type 0
 NoneNamed name is = AllByRecursion (λ i. is_same_name name i.name ≡ false) is
 
 abbrev index_object : Table → ListedIndex → Name × Object
-index_object t i = (i.name, AnIndex (plain_index t i))
+index_object t i = (i.name, AnIndex (as_index t i))
 
 either_way : (a b : Bool) → b ≡ true → (a || b) ≡ true
 either_way true b h = refl

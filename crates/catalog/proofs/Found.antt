@@ -7,7 +7,7 @@ use Rattle.sqlval.specs.Names.{is_same_name}
 use Rattle.sqlval.specs.declared.value.Value.{Value}
 use Rattle.catalog.specs.Database.{Name, Object, ATable, AnIndex, object}
 use Rattle.catalog.specs.Laws.{FindsListed, IsNoTable, NamesListed}
-use Rattle.catalog.specs.Listed.{has_index, has_table_name, index_objects, is_name_of, is_table, named_among, objects_of, plain_index, plain_table, table_named, table_object}
+use Rattle.catalog.specs.Listed.{has_index, has_table_name, index_objects, is_name_of, is_table, named_among, objects_of, as_index, with_rows, table_named, table_object}
 use Rattle.catalog.specs.declared.tables.Index.{Index as ListedIndex}
 use Rattle.catalog.specs.declared.tables.Table.{Table}
 
@@ -18,7 +18,7 @@ index_found name tables = named_among name (flat_map index_objects tables)
 -- a table that was found as an object, or else what is found behind the tables
 abbrev pub as_object : (ℕ → List (ℤ × List Value)) → Option Object → Option Table → Option Object
 as_object rows_at behind None = behind
-as_object rows_at behind (Some t) = Some (ATable (plain_table t (rows_at t.root)))
+as_object rows_at behind (Some t) = Some (ATable (with_rows t (rows_at t.root)))
 
 one_more : (name : Name) (o : Name × Object) (os : List (Name × Object)) (b : Bool) → is_same_name o.0 name ≡ b
     → named_among name (o ∷ os) ≡ cond b (Some o.1) (named_among name os)
@@ -33,7 +33,7 @@ found_first rows_at name (t ∷ ts) os =
     one_more name (table_object rows_at t) (map (table_object rows_at) ts ++ os) (is_table name t) refl ∙ by_test (found_first rows_at name ts os) (is_table name t)
   where
     by_test : named_among name (map (table_object rows_at) ts ++ os) ≡ as_object rows_at (named_among name os) (table_named name ts)
-        → (b : Bool) → cond b (Some (ATable (plain_table t (rows_at t.root)))) (named_among name (map (table_object rows_at) ts ++ os)) ≡ as_object rows_at (named_among name os) (cond b (Some t) (table_named name ts))
+        → (b : Bool) → cond b (Some (ATable (with_rows t (rows_at t.root)))) (named_among name (map (table_object rows_at) ts ++ os)) ≡ as_object rows_at (named_among name os) (cond b (Some t) (table_named name ts))
     by_test rest true = refl
     by_test rest false = rest
 
@@ -43,15 +43,15 @@ listed_as rows_at name tables = found_first rows_at name tables (flat_map index_
 
 -- where one of two lists has it, or else the other
 index_behind : (name : Name) (t : Table) (is : List ListedIndex) (os : List (Name × Object)) → IsNoTable (named_among name os)
-    → IsNoTable (named_among name (map (λ (i : ListedIndex). (i.name, AnIndex (plain_index t i))) is ++ os))
+    → IsNoTable (named_among name (map (λ (i : ListedIndex). (i.name, AnIndex (as_index t i))) is ++ os))
 index_behind name t [] os h = h
 index_behind name t (i ∷ is) os h =
-    subst IsNoTable (sym (one_more name (i.name, AnIndex (plain_index t i)) (map (λ (i : ListedIndex). (i.name, AnIndex (plain_index t i))) is ++ os) (is_same_name i.name name) refl))
+    subst IsNoTable (sym (one_more name (i.name, AnIndex (as_index t i)) (map (λ (i : ListedIndex). (i.name, AnIndex (as_index t i))) is ++ os) (is_same_name i.name name) refl))
     (by_test (index_behind name t is os h) (is_same_name i.name name))
   where
-    by_test : IsNoTable (named_among name (map (λ (i : ListedIndex). (i.name, AnIndex (plain_index t i))) is ++ os))
-        → (b : Bool) → IsNoTable (cond b (Some (AnIndex (plain_index t i))) (named_among name (map (λ (i : ListedIndex). (i.name, AnIndex (plain_index t i))) is ++ os)))
-    by_test rest true = inr (plain_index t i, refl, refl)
+    by_test : IsNoTable (named_among name (map (λ (i : ListedIndex). (i.name, AnIndex (as_index t i))) is ++ os))
+        → (b : Bool) → IsNoTable (cond b (Some (AnIndex (as_index t i))) (named_among name (map (λ (i : ListedIndex). (i.name, AnIndex (as_index t i))) is ++ os)))
+    by_test rest true = inr (as_index t i, refl, refl)
     by_test rest false = rest
 
 -- no table stands among the indexes
@@ -63,7 +63,7 @@ pub finds_listed : FindsListed
 finds_listed rows_at tables db name lists = by_case (table_named name tables) (lists name ∙ listed_as rows_at name tables)
   where
     by_case : (found : Option Table) → object db name ≡ as_object rows_at (index_found name tables) found
-        → MatchOption found (IsNoTable (object db name)) (λ t. object db name ≡ Some (ATable (plain_table t (rows_at t.root))))
+        → MatchOption found (IsNoTable (object db name)) (λ t. object db name ≡ Some (ATable (with_rows t (rows_at t.root))))
     by_case None e = subst IsNoTable (sym e) (no_table name tables)
     by_case (Some t) e = e
 
@@ -77,15 +77,15 @@ table_any name (t ∷ ts) = by_test (table_any name ts) (is_table name t)
     by_test rest true = refl
     by_test rest false = rest
 
-index_any : (name : Name) (t : Table) (is : List ListedIndex) (os : List (Name × Object)) → is_some (named_among name (map (λ (i : ListedIndex). (i.name, AnIndex (plain_index t i))) is ++ os))
+index_any : (name : Name) (t : Table) (is : List ListedIndex) (os : List (Name × Object)) → is_some (named_among name (map (λ (i : ListedIndex). (i.name, AnIndex (as_index t i))) is ++ os))
     ≡ (list_any (λ (i : ListedIndex). is_same_name i.name name) is || is_some (named_among name os))
 index_any name t [] os = refl
 index_any name t (i ∷ is) os =
-    ap is_some (one_more name (i.name, AnIndex (plain_index t i)) (map (λ (i : ListedIndex). (i.name, AnIndex (plain_index t i))) is ++ os) (is_same_name i.name name) refl)
+    ap is_some (one_more name (i.name, AnIndex (as_index t i)) (map (λ (i : ListedIndex). (i.name, AnIndex (as_index t i))) is ++ os) (is_same_name i.name name) refl)
     ∙ by_test (index_any name t is os) (is_same_name i.name name)
   where
-    by_test : is_some (named_among name (map (λ (i : ListedIndex). (i.name, AnIndex (plain_index t i))) is ++ os)) ≡ (list_any (λ (i : ListedIndex). is_same_name i.name name) is || is_some (named_among name os))
-        → (b : Bool) → is_some (cond b (Some (AnIndex (plain_index t i))) (named_among name (map (λ (i : ListedIndex). (i.name, AnIndex (plain_index t i))) is ++ os)))
+    by_test : is_some (named_among name (map (λ (i : ListedIndex). (i.name, AnIndex (as_index t i))) is ++ os)) ≡ (list_any (λ (i : ListedIndex). is_same_name i.name name) is || is_some (named_among name os))
+        → (b : Bool) → is_some (cond b (Some (AnIndex (as_index t i))) (named_among name (map (λ (i : ListedIndex). (i.name, AnIndex (as_index t i))) is ++ os)))
         ≡ ((b || list_any (λ (i : ListedIndex). is_same_name i.name name) is) || is_some (named_among name os))
     by_test rest true = refl
     by_test rest false = rest

@@ -17,7 +17,7 @@ use Rattle.sqlval.specs.Lists.{any_twice}
 use Rattle.sqlval.specs.Names.{folded, is_same_name}
 use Rattle.sqlval.specs.declared.value.Value.{Value}
 use Rattle.catalog.specs.Database.{Name, Object, AnIndex, name_order, object}
-use Rattle.catalog.specs.Listed.{has_index, index_objects, is_table, named_among, names_of, objects_of, plain_index, table_object, with_replaced}
+use Rattle.catalog.specs.Listed.{has_index, index_objects, is_table, named_among, names_of, objects_of, as_index, table_object, with_replaced}
 use Rattle.catalog.specs.NewIndexes.{ListsNewIndex, ListsOtherIndexes, with_index, without_index, without_object}
 use Rattle.catalog.specs.declared.tables.Index.{Index as ListedIndex}
 use Rattle.catalog.specs.declared.tables.Table.{Table}
@@ -153,13 +153,13 @@ same_tables rows_at [] t is after = refl
 same_tables rows_at (u ∷ before) t is after = ap (λ os. table_object rows_at u ∷ os) (same_tables rows_at before t is after)
 
 objects_more : (rows_at : ℕ → List (ℤ × List Value)) (before : List Table) (t : Table) (i : ListedIndex) (after : List Table)
-    → objects_of rows_at (before ++ with_index i t ∷ after) ≡ listed_before rows_at before t after ++ (i.name, AnIndex (plain_index t i)) ∷ flat_map index_objects after
+    → objects_of rows_at (before ++ with_index i t ∷ after) ≡ listed_before rows_at before t after ++ (i.name, AnIndex (as_index t i)) ∷ flat_map index_objects after
 objects_more rows_at before t i after =
-    let new : List (Name × Object) = (i.name, AnIndex (plain_index t i)) ∷ [] in
+    let new : List (Name × Object) = (i.name, AnIndex (as_index t i)) ∷ [] in
     objects_split rows_at before (with_index i t) after
     ∙ (ap (λ os. (os ++ (flat_map index_objects before ++ index_objects (with_index i t))) ++ flat_map index_objects after) (same_tables rows_at before t (t.indexes ++ i ∷ []) after)
     ∙ (ap (λ os. (map (table_object rows_at) (before ++ t ∷ after) ++ (flat_map index_objects before ++ os)) ++ flat_map index_objects after)
-    (map-append (λ (j : ListedIndex). (j.name, AnIndex (plain_index t j))) t.indexes (i ∷ []))
+    (map-append (λ (j : ListedIndex). (j.name, AnIndex (as_index t j))) t.indexes (i ∷ []))
     ∙ (ap (λ os. (map (table_object rows_at) (before ++ t ∷ after) ++ os) ++ flat_map index_objects after) (sym (append_assoc (flat_map index_objects before) (index_objects t) new))
     ∙ (ap (λ os. os ++ flat_map index_objects after) (sym (append_assoc (map (table_object rows_at) (before ++ t ∷ after)) (flat_map index_objects before ++ index_objects t) new))
     ∙ append_assoc (listed_before rows_at before t after) new (flat_map index_objects after)))))
@@ -167,12 +167,12 @@ objects_more rows_at before t i after =
 pub lists_new_index : ListsNewIndex
 lists_new_index rows_at tables db t i is found fresh = record {
   lists = λ q.
-      find-put name_order nat_list_cmp_total (folded q) (folded i.name) (AnIndex (plain_index t i)) db
-      ∙ (ap (λ b. cond b (Some (AnIndex (plain_index t i))) (object db q)) (same_test (folded q) (folded i.name))
-      ∙ (ap (cond (is_same_name i.name q) (Some (AnIndex (plain_index t i)))) (is.lists q ∙ ap (named_among q) objects_are)
+      find-put name_order nat_list_cmp_total (folded q) (folded i.name) (AnIndex (as_index t i)) db
+      ∙ (ap (λ b. cond b (Some (AnIndex (as_index t i))) (object db q)) (same_test (folded q) (folded i.name))
+      ∙ (ap (cond (is_same_name i.name q) (Some (AnIndex (as_index t i)))) (is.lists q ∙ ap (named_among q) objects_are)
       ∙ (sym (inserted q front new back (none_at q)) ∙ ap (named_among q) (sym objects_then))));
-  only = only_plain db i.name (AnIndex (plain_index t i)) is.only refl;
-  named = keeps_named db i.name (AnIndex (plain_index t i)) is.named;
+  only = only_plain db i.name (AnIndex (as_index t i)) is.only refl;
+  named = keeps_named db i.name (AnIndex (as_index t i)) is.named;
   once = ap not (ap (any_twice is_same_name) (sym (names_are rows_at (with_replaced (with_index i t) tables)) ∙ (ap (map (λ (o : Name × Object). o.0)) objects_then ∙ map-append (λ (o : Name × Object). o.0) front (new ∷ back)))
       ∙ once_inserted (map (λ (o : Name × Object). o.0) front) i.name (map (λ (o : Name × Object). o.0) back)
       (ap (any_twice is_same_name) (sym (map-append (λ (o : Name × Object). o.0) front back) ∙ (ap (map (λ (o : Name × Object). o.0)) (sym objects_are) ∙ names_are rows_at tables)) ∙ names_once)
@@ -192,7 +192,7 @@ lists_new_index rows_at tables db t i is found fresh = record {
     back = flat_map index_objects split.after
 
     new : Name × Object
-    new = (i.name, AnIndex (plain_index t i))
+    new = (i.name, AnIndex (as_index t i))
 
     objects_are : objects_of rows_at tables ≡ front ++ back
     objects_are = ap (objects_of rows_at) split.parts ∙ objects_split rows_at split.before t split.after
@@ -222,7 +222,7 @@ all_stay name (o ∷ os) none =
     ap (λ b. cond (not b) (o ∷ filter (stays name) os) (filter (stays name) os)) both.0 ∙ ap (λ xs. o ∷ xs) (all_stay name os both.1)
 
 abbrev index_object : Table → ListedIndex → Name × Object
-index_object t i = (i.name, AnIndex (plain_index t i))
+index_object t i = (i.name, AnIndex (as_index t i))
 
 turned : (a b : Name) → is_same_name a b ≡ is_same_name b a
 turned a b = by_test (is_same_name a b) refl

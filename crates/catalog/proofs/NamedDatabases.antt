@@ -21,7 +21,7 @@ use Rattle.sqlval.specs.Names.{folded, is_same_name}
 use Rattle.sqlval.specs.declared.value.Value.{Value}
 use Rattle.catalog.specs.Database.{Name, Database, Object, ATable, AnIndex, object, with_object, name_order}
 use Rattle.catalog.specs.Laws.{IsNoTable}
-use Rattle.catalog.specs.Listed.{Lists, has_only_plain, index_objects, is_plain_object, named_among, objects_of, plain_index, plain_table, table_named, table_object}
+use Rattle.catalog.specs.Listed.{Lists, has_only_plain, index_objects, is_plain_object, named_among, objects_of, as_index, with_rows, table_named, table_object}
 use Rattle.catalog.specs.Named.{IsInOrder, IsNamed, KeepsNamed, ListedDatabase, ListedNames, OneDatabase}
 use Rattle.catalog.specs.Rows.{are_rows, holds_rows}
 use Rattle.catalog.specs.declared.tables.Index.{Index as ListedIndex}
@@ -155,7 +155,7 @@ database_of (o ∷ os) plain =
     by_test name true = refl
     by_test name false = refl
 
-plain_indexes : (t : Table) (is : List ListedIndex) (os : List (Name × Object)) → ArePlain os → ArePlain (map (λ (i : ListedIndex). (i.name, AnIndex (plain_index t i))) is ++ os)
+plain_indexes : (t : Table) (is : List ListedIndex) (os : List (Name × Object)) → ArePlain os → ArePlain (map (λ (i : ListedIndex). (i.name, AnIndex (as_index t i))) is ++ os)
 plain_indexes t [] os plain = plain
 plain_indexes t (i ∷ is) os plain = (refl, plain_indexes t is os plain)
 
@@ -221,16 +221,16 @@ same_object : (some other : Object) → Some some ≡ Some other → some ≡ ot
 same_object some other e = cc
 
 -- the rows of a table that is found are such as it may hold, and no other object has rows
-rows_in : (rows_at : ℕ → List (ℤ × List Value)) (behind o : Object) (found : Option Table) → IsNoTable (Some behind) → ((t : Table) → found ≡ Some t → are_rows (plain_table t (rows_at t.root)) ≡ true)
+rows_in : (rows_at : ℕ → List (ℤ × List Value)) (behind o : Object) (found : Option Table) → IsNoTable (Some behind) → ((t : Table) → found ≡ Some t → are_rows (with_rows t (rows_at t.root)) ≡ true)
     → as_object rows_at (Some behind) found ≡ Some o → holds_rows o ≡ true
-rows_in rows_at behind o (Some t) index each h = ap holds_rows (sym (same_object (ATable (plain_table t (rows_at t.root))) o h)) ∙ each t refl
+rows_in rows_at behind o (Some t) index each h = ap holds_rows (sym (same_object (ATable (with_rows t (rows_at t.root))) o h)) ∙ each t refl
 rows_in rows_at behind o None (inl none) each h = absurd (some_is_none behind none)
 rows_in rows_at behind o None (inr (i, is, plain)) each h = ap holds_rows (sym (same_object behind o h) ∙ same_object behind (AnIndex i) is)
 
-rows_of_found : (rows_at : ℕ → List (ℤ × List Value)) (behind : Option Object) (o : Object) (found : Option Table) → IsNoTable behind → ((t : Table) → found ≡ Some t → are_rows (plain_table t (rows_at t.root)) ≡ true)
+rows_of_found : (rows_at : ℕ → List (ℤ × List Value)) (behind : Option Object) (o : Object) (found : Option Table) → IsNoTable behind → ((t : Table) → found ≡ Some t → are_rows (with_rows t (rows_at t.root)) ≡ true)
     → as_object rows_at behind found ≡ Some o → holds_rows o ≡ true
 rows_of_found rows_at (Some behind) o found index each h = rows_in rows_at behind o found index each h
-rows_of_found rows_at None o (Some t) index each h = ap holds_rows (sym (same_object (ATable (plain_table t (rows_at t.root))) o h)) ∙ each t refl
+rows_of_found rows_at None o (Some t) index each h = ap holds_rows (sym (same_object (ATable (with_rows t (rows_at t.root))) o h)) ∙ each t refl
 rows_of_found rows_at None o None index each h = absurd (some_is_none o (sym h))
 
 rows_by : (o : Object) (b : Bool) (found : Option Object) → (found ≡ Some o → holds_rows o ≡ true) → cond b found None ≡ Some o → holds_rows o ≡ true

@@ -1,11 +1,11 @@
 -- Databases whose names are in order and folded, and those that tables are listed of.
 use Rattle.std.specs.Prelude.{◌≡◌, ◌↔◌, ℕ, ℤ, Bool, true, not, ◌||◌, filter, is_some, List, map, Some}
-use Rattle.std.specs.List.{AllByRecursion, Contains}
+use Rattle.std.specs.List.{AllByRecursion, Contains, list_any}
 use Rattle.sqlval.specs.Lists.{is_rising}
 use Rattle.sqlval.specs.Names.{folded, is_same_name}
 use Rattle.sqlval.specs.declared.value.Value.{Value}
-use Rattle.catalog.specs.Database.{Name, Database, Object, AnIndex, name_order, object, with_object}
-use Rattle.catalog.specs.Listed.{Lists, are_named_once, has_only_plain, named_among, objects_of, plain_table, table_named, without_table}
+use Rattle.catalog.specs.Database.{Name, Database, Object, AnIndex, Index, indexes_of, name_order, object, with_object}
+use Rattle.catalog.specs.Listed.{Lists, are_named_once, as_index, has_only_plain, named_among, objects_of, with_rows, table_named, without_table}
 use Rattle.catalog.specs.Rows.{are_rows, is_in_order}
 use Rattle.catalog.specs.declared.tables.Table.{Table}
 
@@ -29,7 +29,7 @@ ListedDatabase = (rows_at : ℕ → List (ℤ × List Value)) (tables : List Tab
 -- a database of listed tables is in order where each table's rows are such as it may hold
 abbrev pub IsInOrder : Type 0
 IsInOrder = (rows_at : ℕ → List (ℤ × List Value)) (tables : List Table) (db : Database) → IsNamed db → Lists rows_at tables db
-    → ((name : Name) (t : Table) → table_named name tables ≡ Some t → are_rows (plain_table t (rows_at t.root)) ≡ true) → is_in_order db ≡ true
+    → ((name : Name) (t : Table) → table_named name tables ≡ Some t → are_rows (with_rows t (rows_at t.root)) ≡ true) → is_in_order db ≡ true
 
 -- a database of listed tables has their names and those of their indexes, folded, and no others
 abbrev pub ListedNames : Type 0
@@ -56,3 +56,8 @@ pub record IsOfTables (rows_at : ℕ → List (ℤ × List Value)) (tables : Lis
 abbrev pub ListsOthers : Type 0
 ListsOthers = (rows_at : ℕ → List (ℤ × List Value)) (tables : List Table) (db : Database) (name : Name) (t : Table) → IsOfTables rows_at tables db
     → table_named name tables ≡ Some t → IsOfTables rows_at (without_table name tables) (without_table_object name db)
+
+-- Where a table is listed, a test is true of one of the database's indexes on it exactly where it is true of one that is listed with it.
+abbrev pub ListsIndexes : Type 0
+ListsIndexes = (rows_at : ℕ → List (ℤ × List Value)) (tables : List Table) (db : Database) (name : Name) (t : Table) (test : Index → Bool) → IsOfTables rows_at tables db
+    → table_named name tables ≡ Some t → list_any (λ i. test i.1) (indexes_of db name) ≡ list_any (λ i. test (as_index t i)) t.indexes

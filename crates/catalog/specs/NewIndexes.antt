@@ -3,7 +3,7 @@ use Rattle.std.specs.Prelude.{◌≡◌, ℕ, ℤ, false, not, filter, List, [],
 use Rattle.sqlval.specs.Names.{is_same_name}
 use Rattle.sqlval.specs.declared.value.Value.{Value}
 use Rattle.catalog.specs.Database.{Name, Database, AnIndex, with_object}
-use Rattle.catalog.specs.Listed.{is_name_of, plain_index, table_named, table_with_index, with_replaced}
+use Rattle.catalog.specs.Listed.{is_name_of, as_index, table_named, table_with_index, with_replaced}
 use Rattle.catalog.specs.Named.{IsOfTables}
 use Rattle.catalog.specs.declared.tables.Index.{Index as ListedIndex}
 use Rattle.catalog.specs.declared.tables.Table.{Table}
@@ -24,7 +24,7 @@ without_object name db = filter (λ o. not (is_same_name name o.0)) db
 abbrev pub ListsNewIndex : Type 0
 ListsNewIndex = (rows_at : ℕ → List (ℤ × List Value)) (tables : List Table) (db : Database) (t : Table) (i : ListedIndex) → IsOfTables rows_at tables db
     → table_named t.name tables ≡ Some t → is_name_of tables i.name ≡ false
-    → IsOfTables rows_at (with_replaced (with_index i t) tables) (with_object db i.name (AnIndex (plain_index t i)))
+    → IsOfTables rows_at (with_replaced (with_index i t) tables) (with_object db i.name (AnIndex (as_index t i)))
 
 -- A database without one of the indexes is that of the tables with their other indexes.
 abbrev pub ListsOtherIndexes : Type 0

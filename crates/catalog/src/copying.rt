@@ -51,6 +51,7 @@ fn index_copy(alloc: Global, index: &Index) -> R<Index>
     Ok(Index {
         name: index.name.copy(alloc)?,
         columns: keys_copy(alloc, index.columns.as_slice())?,
+        is_unique: index.is_unique,
         root: index.root,
         rowid: index.rowid,
     })
@@ -88,6 +89,7 @@ fn copy_with(alloc: Global, table: &Table, indexes: Vec<Index>) -> R<Table>
     Ok(Table {
         name: table.name.copy(alloc)?,
         columns: columns_copy(alloc, table.columns.as_slice())?,
+        checks: table.checks.share()?,
         indexes: Many::from_vec(indexes),
         root: table.root,
         rowid: table.rowid,

@@ -6,7 +6,7 @@ use Rattle.pages.specs.Map.{PageMap}
 use Rattle.tree_page.specs.Cells.{Pairwise}
 use Rattle.db_layout.specs.Layout.{IsTree, Owner, used_by}
 use Rattle.db_layout.specs.Trees.{IsEntriesTree, IsRowsTree}
-use Rattle.catalog.specs.Listed.{plain_table}
+use Rattle.catalog.specs.Listed.{with_rows}
 use Rattle.catalog.specs.Rows.{are_rows}
 use Rattle.catalog.specs.declared.tables.Index.{Index}
 use Rattle.catalog.specs.declared.tables.Table.{Table}
@@ -29,7 +29,7 @@ pub record HaveSamePages (pages : PageMap) (size : ℕ) (tables : List Table) (h
 module _ (pages : PageMap) (size : ℕ) (rows_at : ℕ → List TableRow) where
   -- the tree of what is told
   abbrev IsTreeTold : Told → Owner → Type 0
-  IsTreeTold (TableTold t) owner = IsRowsTree t (rows_at t.root) owner × (are_rows (plain_table t (rows_at t.root)) ≡ true) × IsTree pages size owner
+  IsTreeTold (TableTold t) owner = IsRowsTree t (rows_at t.root) owner × (are_rows (with_rows t (rows_at t.root)) ≡ true) × IsTree pages size owner
   IsTreeTold (IndexTold t i) owner = IsEntriesTree (rows_at t.root) i owner × IsTree pages size owner
 
   indexes_told : (t : Table) (is : List Index) (owners : List Owner) → Pairwise (IsEntriesTree (rows_at t.root)) is owners → AllByRecursion (IsTree pages size) owners

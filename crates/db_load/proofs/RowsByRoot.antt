@@ -15,7 +15,7 @@ use Rattle.tree_table.specs.Tree as tree
 use Rattle.tree_table.specs.Tree.{IsTableTree, Tree, top}
 use Rattle.db_layout.specs.Layout.{HoldsUnder, IsTree, Owner, used_by}
 use Rattle.db_layout.specs.Trees.{AreTreesOf}
-use Rattle.catalog.specs.Listed.{as_column, plain_table}
+use Rattle.catalog.specs.Listed.{as_column, with_rows}
 use Rattle.catalog.specs.Rows.{are_rows, is_row, is_value}
 use Rattle.catalog.specs.declared.tables.Table.{Table}
 use Rattle.row_scan.specs.Rows.{TableRow}
@@ -28,17 +28,17 @@ use Rattle.db_load.proofs.TableChecks.{both_held}
 -- ---- rows that one table may hold are such as any of so many columns may
 
 -- the rows are those of one table as of another
-same_fit : (t u : Table) (held rows : List TableRow) → length t.columns ≡ length u.columns → list_all (is_row (plain_table t held)) rows ≡ list_all (is_row (plain_table u held)) rows
+same_fit : (t u : Table) (held rows : List TableRow) → length t.columns ≡ length u.columns → list_all (is_row (with_rows t held)) rows ≡ list_all (is_row (with_rows u held)) rows
 same_fit t u held [] same = refl
-same_fit t u held (row ∷ rows) same = ap (λ (b : Bool). b && list_all (is_row (plain_table t held)) rows) one ∙ ap (λ (b : Bool). is_row (plain_table u held) row && b) (same_fit t u held rows same)
+same_fit t u held (row ∷ rows) same = ap (λ (b : Bool). b && list_all (is_row (with_rows t held)) rows) one ∙ ap (λ (b : Bool). is_row (with_rows u held) row && b) (same_fit t u held rows same)
   where
-    wide : length (plain_table t held).columns ≡ length (plain_table u held).columns
+    wide : length (with_rows t held).columns ≡ length (with_rows u held).columns
     wide = length-map t.columns as_column ∙ (same ∙ sym (length-map u.columns as_column))
 
-    one : is_row (plain_table t held) row ≡ is_row (plain_table u held) row
+    one : is_row (with_rows t held) row ≡ is_row (with_rows u held) row
     one = ap (λ (n : ℕ). is_word row.0 && length row.1 == n && list_all is_value row.1 && true) wide
 
-pub fit_for_all : (t : Table) (rows : List TableRow) → are_rows (plain_table t rows) ≡ true → AreFitRows (length t.columns) rows
+pub fit_for_all : (t : Table) (rows : List TableRow) → are_rows (with_rows t rows) ≡ true → AreFitRows (length t.columns) rows
 fit_for_all t rows fit u same = sym (ap (λ (b : Bool). is_rising int_cmp (map (λ r. r.0) rows) && b) (same_fit t u rows rows same)) ∙ fit
 
 -- ---- where a table's tree begins
@@ -74,10 +74,10 @@ rows_in m size (t ∷ tables) [] each root = []
 rows_in m size (t ∷ tables) (trees ∷ held) each root = cond (root == t.root) each.0.rows (rows_in m size tables held each.1 root)
 
 -- a table's trees with these rows
-with_rows : (m : PageMap) (size : ℕ) (rows_at : ℕ → List TableRow) (t : Table) (trees : List Owner) (is : HasTrees m size t trees) → rows_at t.root ≡ is.rows → AreHeld rows_at t trees
-with_rows m size rows_at t trees is same = record {
+having_rows : (m : PageMap) (size : ℕ) (rows_at : ℕ → List TableRow) (t : Table) (trees : List Owner) (is : HasTrees m size t trees) → rows_at t.root ≡ is.rows → AreHeld rows_at t trees
+having_rows m size rows_at t trees is same = record {
   are = subst (λ (rows : List TableRow). AreTreesOf t rows trees) (sym same) is.are;
-  fit = subst (λ (rows : List TableRow). are_rows (plain_table t rows) ≡ true) (sym same) (is.fit t refl);
+  fit = subst (λ (rows : List TableRow). are_rows (with_rows t rows) ≡ true) (sym same) (is.fit t refl);
 }
 
 -- no other tree begins at a page that is used elsewhere
@@ -100,7 +100,7 @@ trees_with rows_at also n (t ∷ tables) (trees ∷ held) same apart each = (
   (let rows = same t.root apart.0 in
       record {
         are = subst (λ (them : List TableRow). AreTreesOf t them trees) (sym rows) each.0.are;
-        fit = subst (λ (them : List TableRow). are_rows (plain_table t them) ≡ true) (sym rows) each.0.fit;
+        fit = subst (λ (them : List TableRow). are_rows (with_rows t them) ≡ true) (sym rows) each.0.fit;
       }),
   trees_with rows_at also n tables held same apart.1 each.1,
 )
@@ -114,7 +114,7 @@ trees_in m size (t ∷ tables) [] each once = absurd each
 trees_in m size (t ∷ tables) (trees ∷ held) each once =
     let later = rows_in m size tables held each.1 in
     let some = uses_root m size t trees each.0 in (
-      with_rows m size (rows_in m size (t ∷ tables) (trees ∷ held) each) t trees each.0 (ap (λ (b : Bool). cond b each.0.rows (later t.root)) (itself t.root)),
+      having_rows m size (rows_in m size (t ∷ tables) (trees ∷ held) each) t trees each.0 (ap (λ (b : Bool). cond b each.0.rows (later t.root)) (itself t.root)),
       trees_with later (rows_in m size (t ∷ tables) (trees ∷ held) each) t.root tables held (λ root differ. ap (λ (b : Bool). cond b each.0.rows (later root)) (not_same root t.root differ))
           (apart_from m size t.root tables held each.1 (let b = both_held trees held t.root in let o = once t.root in omega (arith, b, o, some)))
           (trees_in m size tables held each.1 (λ n. let b = both_held trees held n in let o = once n in omega (arith, b, o))),

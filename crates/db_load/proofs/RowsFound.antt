@@ -58,7 +58,7 @@ bare_tells pages (TableTold t) row tells = record {
   sql = tells.sql;
   definition = tells.definition;
   creates = tells.creates;
-  makes = record { free = tells.makes.free; once = tells.makes.once; name_is = tells.makes.name_is; columns = tells.makes.columns };
+  makes = record { free = tells.makes.free; once = tells.makes.once; name_is = tells.makes.name_is; columns = tells.makes.columns; checks = tells.makes.checks };
   rowid_is = tells.rowid_is;
   row_is = tells.row_is;
 }
@@ -66,7 +66,7 @@ bare_tells pages (IndexTold t i) row tells = record {
   sql = tells.sql;
   definition = tells.definition;
   creates = tells.creates;
-  makes = record { free = tells.makes.free; once = tells.makes.once; name_is = tells.makes.name_is; on = tells.makes.on; columns = tells.makes.columns };
+  makes = record { free = tells.makes.free; once = tells.makes.once; name_is = tells.makes.name_is; on = tells.makes.on; unique = tells.makes.unique; columns = tells.makes.columns };
   rowid_is = tells.rowid_is;
   row_is = tells.row_is;
 }
@@ -76,7 +76,7 @@ tells_bare pages (TableTold t) row tells = record {
   sql = tells.sql;
   definition = tells.definition;
   creates = tells.creates;
-  makes = record { free = tells.makes.free; once = tells.makes.once; name_is = tells.makes.name_is; columns = tells.makes.columns };
+  makes = record { free = tells.makes.free; once = tells.makes.once; name_is = tells.makes.name_is; columns = tells.makes.columns; checks = tells.makes.checks };
   rowid_is = tells.rowid_is;
   row_is = tells.row_is;
 }
@@ -84,7 +84,7 @@ tells_bare pages (IndexTold t i) row tells = record {
   sql = tells.sql;
   definition = tells.definition;
   creates = tells.creates;
-  makes = record { free = tells.makes.free; once = tells.makes.once; name_is = tells.makes.name_is; on = tells.makes.on; columns = tells.makes.columns };
+  makes = record { free = tells.makes.free; once = tells.makes.once; name_is = tells.makes.name_is; on = tells.makes.on; unique = tells.makes.unique; columns = tells.makes.columns };
   rowid_is = tells.rowid_is;
   row_is = tells.row_is;
 }

@@ -28,8 +28,10 @@ use Rattle.catalog.specs.Listed.{is_name_of, tables_of}
 use Rattle.catalog.specs.declared.tables.Catalog.{Catalog}
 use Rattle.catalog.specs.declared.tables.Column.{Column}
 use Rattle.catalog.specs.declared.tables.Table.{Table}
-use Rattle.query_names.specs.Checked.{faults, known_all}
-use Rattle.query_names.specs.Creating.{defined, described, has_doubled}
+use Rattle.query_terms.specs.Terms.{Term}
+use Rattle.query_names.specs.Bound.{IsFaultOf}
+use Rattle.query_names.specs.Checked.{Checked, faults, good, known_all, meant}
+use Rattle.query_names.specs.Creating.{checks_known, defined, described, has_doubled}
 use Rattle.query_names.specs.Tables.{column_of}
 use Rattle.query_names.proofs.CreatedTables.{known_columns}
 use Rattle.db_pages.specs.Schema.{CreatesSupported, IndexTold, IsCreateOf, TableTold, Tells, Told, schema_row}
@@ -83,6 +85,14 @@ columns_refused ds ts f (inr (inl doubled)) once same = absurd (false≢true (sy
 columns_refused ds ts f (inr (inr among)) once same =
     none_among (refusal_of f) (subst (λ (rs : List Refusal). Contains rs (refusal_of f)) (ap (faults {A = List TableColumn}) (known_columns ds ts same)) among)
 
+-- nor CHECKs that are known
+pub checks_refused : (k : Checked (List Term)) (ts : List Term) (f : Fault) → IsFaultOf (faults k) f → k ≡ good ts → f ≡ fault.Memory
+checks_refused k ts f (inl memory) is = memory
+checks_refused k ts f (inr among) is = none_among (refusal_of f) (subst (λ (rs : List Refusal). Contains rs (refusal_of f)) (ap (faults {A = List Term}) is) among)
+
+pub checks_are : (k : Checked (List Term)) (found ts : List Term) → k ≡ good found → k ≡ good ts → found ≡ ts
+checks_are k found ts one other = ap (meant {A = List Term}) (sym one ∙ other)
+
 -- ---- results
 
 pub passed_on : {Y : Type 0} (P : Y → Type 0) (result : Result Y Fault) (f : Fault) → IsErrAnd result (λ e. e ≡ f) → f ≡ fault.Memory → IsOrMemory P result
@@ -120,13 +130,17 @@ module _ (table : Table) (row : SchemaRow) (tells : TellsTable table row) where
     subst (λ (x : TableDefinition). map described table.columns ≡ map defined x.columns) (sym same) tells.makes.columns,
   )
 
+  -- CHECKs over the same columns
+  pub checks_premise : (d : TableDefinition) (columns : List Column) → d ≡ tells.definition → columns ≡ table.columns → checks_known d columns ≡ good table.checks
+  checks_premise d columns same are = ap (λ (x : TableDefinition). checks_known x columns) same ∙ ap (checks_known tells.definition) are ∙ tells.makes.checks
+
   -- a table with the parts of the row
-  pub table_is : (d : TableDefinition) (found : Table) → d ≡ tells.definition → found.name ≡ d.name → found.columns ≡ table.columns → found.indexes ≡ [] → found.root ≡ row.root → found.rowid ≡ row.rowid → found ≡ bare table
-  table_is d found same name columns none root rowid =
+  pub table_is : (d : TableDefinition) (found : Table) → d ≡ tells.definition → found.name ≡ d.name → found.columns ≡ table.columns → found.checks ≡ table.checks → found.indexes ≡ [] → found.root ≡ row.root → found.rowid ≡ row.rowid → found ≡ bare table
+  table_is d found same name columns checks none root rowid =
       let n : found.name ≡ table.name = name ∙ (ap (λ (x : TableDefinition). x.name) same ∙ sym tells.makes.name_is) in
       let r : found.root ≡ table.root = root ∙ sym tells.root_is in
       let id : found.rowid ≡ table.rowid = rowid ∙ sym tells.rowid_is in
-      λ i. record { name = n i; columns = columns i; indexes = none i; root = r i; rowid = id i }
+      λ i. record { name = n i; columns = columns i; checks = checks i; indexes = none i; root = r i; rowid = id i }
 
 -- the table of a row is listed after the others
 pub table_listed : {Y : Type 0} (t found : Table) (old new : Catalog) (result : Result Y Fault) → found ≡ bare t → is_name_of (tables_of old) t.name ≡ false
@@ -207,7 +221,6 @@ said size (IndexTold t i) entry is = record {
       definition = is.definition;
       creates = subst (λ (b : List ℕ). CreatesSupported b (new.Index is.definition)) (sym parts.sql_is) is.creates;
       names = record {
-        plain = is_not is.definition.is_unique is.creates.1;
         name_is = is_named is.definition.name row.name.now (ap folded parts.name_is ∙ is.row_is.name_is);
         table_name_is = is_named is.definition.table row.table_name.now (ap folded parts.table_name_is ∙ is.row_is.table_name_is);
       };
@@ -217,10 +230,6 @@ said size (IndexTold t i) entry is = record {
     },
   );
 }
-  where
-    is_not : (b : Bool) → not b ≡ true → b ≡ false
-    is_not true h = absurd (false≢true h)
-    is_not false h = refl
 
 -- what is read of the record of a row
 pub read_as : (size : ℕ) (item : Told) (entry : Entry) (payload : List ℕ) → (s : HasSaid size item entry) → entry.payload ≡ payload

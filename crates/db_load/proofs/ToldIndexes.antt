@@ -92,8 +92,8 @@ not_refused ts t i d f can is (inr (inr (inr (inr (inr (u, named, has)))))) = no
 
 -- the index of a row is the one that the row tells
 pub is_grown : (ts : List Table) (t u : Table) (i found : Index) (row : SchemaRow) (d : IndexDefinition) (grown : Table) (can : CanGrow ts t i) (tells : TellsIndex t i row) → d ≡ tells.definition
-    → IsIndexOn ts d u found.columns → found.name ≡ d.name → found.root ≡ row.root → found.rowid ≡ row.rowid → grown ≡ with_index found u → IsGrown ts tells.definition.table t i grown
-is_grown ts t u i found row d grown can tells same on name root rowid by = record {
+    → IsIndexOn ts d u found.columns → found.name ≡ d.name → found.is_unique ≡ d.is_unique → found.root ≡ row.root → found.rowid ≡ row.rowid → grown ≡ with_index found u → IsGrown ts tells.definition.table t i grown
+is_grown ts t u i found row d grown can tells same on name unique root rowid by = record {
   other = u;
   listed = ap (λ (x : IndexDefinition). table_named x.table ts) (sym same) ∙ on.on;
   alike = alike;
@@ -110,9 +110,10 @@ is_grown ts t u i found row d grown can tells same on name root rowid by = recor
     index_is =
         let n : found.name ≡ i.name = name ∙ sym makes.name_is in
         let cs : found.columns ≡ i.columns = columns_same u t d found.columns i.columns alike on.known makes.columns in
+        let one : found.is_unique ≡ i.is_unique = unique ∙ sym makes.unique in
         let r : found.root ≡ i.root = root ∙ sym tells.root_is in
         let id : found.rowid ≡ i.rowid = rowid ∙ sym tells.rowid_is in
-        λ j. record { name = n j; columns = cs j; root = r j; rowid = id j }
+        λ j. record { name = n j; columns = cs j; is_unique = one j; root = r j; rowid = id j }
 
 -- the table that is found has the name
 pub named_so : (n : Name) (ts : List Table) (t : Table) → table_named n ts ≡ Some t → is_same_name t.name n ≡ true
@@ -123,12 +124,13 @@ named_so n (u ∷ us) t found = by_test (named_so n us t) (is_table n u) refl fo
     by_test later true e is = subst (λ (x : Table). is_same_name x.name n ≡ true) (some_is u t is) e
     by_test later false e is = later is
 
-pub makes_index : (ts : List Table) (t : Table) (i : Index) (d : IndexDefinition) → IsIndexOn ts d t i.columns → i.name ≡ d.name → IsIndexOf d t i
-makes_index ts t i d on name = record {
+pub makes_index : (ts : List Table) (t : Table) (i : Index) (d : IndexDefinition) → IsIndexOn ts d t i.columns → i.name ≡ d.name → i.is_unique ≡ d.is_unique → IsIndexOf d t i
+makes_index ts t i d on name unique = record {
   free = on.free;
   once = on.once;
   name_is = name;
   on = is_folded t.name d.table (named_so d.table ts t on.on);
+  unique = unique;
   columns = on.known;
 }
 
@@ -152,18 +154,18 @@ index_found row grown old new kind sound by now = record {
 -- ---- a copy
 
 pub grown_as_told : (ts : List Table) (t u : Table) (i found : Index) (row : SchemaRow) (d : IndexDefinition) (result : Result Table Fault) (can : CanGrow ts t i) (tells : TellsIndex t i row) → d ≡ tells.definition
-    → IsIndexOn ts d u found.columns → found.name ≡ d.name → found.root ≡ row.root → found.rowid ≡ row.rowid → IsOrMemory (λ copy. copy ≡ with_index found u) result
+    → IsIndexOn ts d u found.columns → found.name ≡ d.name → found.is_unique ≡ d.is_unique → found.root ≡ row.root → found.rowid ≡ row.rowid → IsOrMemory (λ copy. copy ≡ with_index found u) result
     → IsOrMemory (IsGrown ts tells.definition.table t i) result
-grown_as_told ts t u i found row d (Ok grown) can tells same on name root rowid by = is_grown ts t u i found row d grown can tells same on name root rowid by
-grown_as_told ts t u i found row d (Err f) can tells same on name root rowid by = by
+grown_as_told ts t u i found row d (Ok grown) can tells same on name unique root rowid by = is_grown ts t u i found row d grown can tells same on name unique root rowid by
+grown_as_told ts t u i found row d (Err f) can tells same on name unique root rowid by = by
 
 pub grown_found : (ts : List Table) (u : Table) (found : Index) (row : SchemaRow) (d : IndexDefinition) (result : Result Table Fault) → CreatesSupported row.sql.now (new.Index d) → IsOfIndexRow row d
-    → IsIndexOn ts d u found.columns → found.name ≡ d.name → found.root ≡ row.root → found.rowid ≡ row.rowid → IsOrMemory (λ copy. copy ≡ with_index found u) result → IfOk result (GrowsBy ts row)
-grown_found ts u found row d (Err f) creates names on name root rowid by = tt
-grown_found ts u found row d (Ok grown) creates names on name root rowid by = record {
+    → IsIndexOn ts d u found.columns → found.name ≡ d.name → found.is_unique ≡ d.is_unique → found.root ≡ row.root → found.rowid ≡ row.rowid → IsOrMemory (λ copy. copy ≡ with_index found u) result → IfOk result (GrowsBy ts row)
+grown_found ts u found row d (Err f) creates names on name unique root rowid by = tt
+grown_found ts u found row d (Ok grown) creates names on name unique root rowid by = record {
   table = u;
   index = found;
-  tells = record { definition = d; creates = creates; names = names; makes = makes_index ts u found d on name; root_is = root; rowid_is = rowid };
+  tells = record { definition = d; creates = creates; names = names; makes = makes_index ts u found d on name unique; root_is = root; rowid_is = rowid };
   listed = on.on;
   fresh = subst (λ (n : Name). is_name_of ts n ≡ false) (sym name) on.new;
   grown_is = by;

@@ -14,7 +14,7 @@ use Rattle.catalog.specs.Listed.{is_reserved, tables_of}
 use Rattle.catalog.specs.declared.tables.Catalog.{Catalog}
 use Rattle.catalog.specs.declared.tables.Index.{Index}
 use Rattle.catalog.specs.declared.tables.Table.{Table}
-use Rattle.query_names.specs.Creating.{has_plain_rules}
+use Rattle.query_names.specs.Creating.{has_no_keys}
 use Rattle.db_pages.specs.Schema.{CreatesSupported, IsIndexOf, IsTableOf, schema_row}
 use Rattle.db_pages.specs.Stored.{IsCounted, Stores}
 use Rattle.db_load.specs.declared.schema.SchemaRow.{SchemaRow}
@@ -59,7 +59,7 @@ bare table = record table { indexes = [] }
 
 -- The definition is supported, and its name isn't reserved. The row has that name twice.
 pub record IsOfRow (row : SchemaRow) (definition : TableDefinition) : Type 0 where
-  pub supported_forms : has_plain_rules definition ≡ true
+  pub supported_forms : has_no_keys definition ≡ true
   pub name_is : is_same_name definition.name row.name.now ≡ true
   pub table_name_is : is_same_name definition.name row.table_name.now ≡ true
   pub free : is_reserved definition.name ≡ false
@@ -73,9 +73,8 @@ pub record TellsTable (table : Table) (row : SchemaRow) : Type 0 where
   pub root_is : table.root ≡ row.root
   pub rowid_is : table.rowid ≡ row.rowid
 
--- The definition isn't UNIQUE. The row has its name and its table's.
+-- The row has the definition's name and its table's.
 pub record IsOfIndexRow (row : SchemaRow) (definition : IndexDefinition) : Type 0 where
-  pub plain : definition.is_unique ≡ false
   pub name_is : is_same_name definition.name row.name.now ≡ true
   pub table_name_is : is_same_name definition.table row.table_name.now ≡ true
 

@@ -50,15 +50,12 @@ fn index_definition_in(statement: &Statement) -> R<&IndexDefinition>
     index_in(created_by(statement)?)
 }
 
-/// Checks that the index isn't UNIQUE, and that the row has its name and its table's.
+/// Checks that the row has the name of the index and its table's.
 fn is_of_index_row(definition: &IndexDefinition, row: &SchemaRow<'_>) -> R<()>
     ensures tells { IsOfIndexRow row.now definition.now → result ≡ Ok tt }
     ensures found { OnOk result (IsOfIndexRow row.now definition.now) }
     ensures not_disk { IfErr result (λ fault. IsSchemaFault fault) }
 {
-    if definition.is_unique {
-        return Err(Fault::Unsupported(Feature::StatementForm));
-    }
     if !definition.name.is_same(row.name) {
         return Err(damaged());
     }
@@ -105,6 +102,7 @@ fn grown(alloc: Global, catalog: &Catalog, row: &SchemaRow<'_>, statement: &Stat
     let index = Index {
         name,
         columns: bound.columns,
+        is_unique: definition.is_unique,
         root: row.root,
         rowid: row.rowid,
     };

@@ -11,14 +11,16 @@ ghost use Rattle.sql_grammar.specs.Texts.{IsStatementText};
 ghost use Rattle.sql_syntax.specs.declared.create.Create.{Create as Made};
 ghost use Rattle.sqlval.specs.Faults.{IsOrMemory};
 ghost use Rattle.catalog.specs.Listed.{is_name_of, tables_of};
-ghost use Rattle.query_names.specs.Creating.{defined, described, has_doubled};
+ghost use Rattle.query_terms.specs.Terms.{Term};
+ghost use Rattle.query_names.specs.Checked.{good};
+ghost use Rattle.query_names.specs.Creating.{checks_known, defined, described, has_doubled};
 ghost use Rattle.db_pages.specs.Schema.{schema_row};
 ghost use Rattle.db_pages.specs.Schema as told;
 ghost use Rattle.db_load.specs.Loading.{AreRowValues, HasParts, IsOfRow, IsSchemaFault, TellsTable, bare, kind_text};
 ghost use Rattle.db_load.specs.Reading.{AreSound, FindsParts, ReadsTold};
 
-use catalog::{Catalog, Column, Table, is_reserved};
-use query_names::{bind_columns, has_plain_rules};
+use catalog::{Catalog, Checks, Column, Table, is_reserved};
+use query_names::{bind_checks, bind_columns, has_no_keys};
 use record::Record;
 use sql_parser::{parse, release};
 use sql_syntax::{Create, NewObject, Statement, TableDefinition};
@@ -206,13 +208,26 @@ fn columns_in(alloc: Global, definition: &TableDefinition) -> R<Many<Column>>
     }
 }
 
+/// The CHECKs that a definition gives its table, over these columns.
+fn checks_in(alloc: Global, definition: &TableDefinition, columns: &[Column]) -> R<Checks>
+    ensures tells { (checks : List Term) → checks_known definition.now columns.now ≡ good checks
+        → IsOrMemory (λ found. found ≡ checks) result }
+    ensures found { IfOk result (λ checks. checks_known definition.now columns.now ≡ good checks) }
+    ensures not_disk { IfErr result (λ fault. IsSchemaFault fault) }
+{
+    match bind_checks(alloc, definition, columns) {
+        Ok(checks) => Ok(checks),
+        Err(fault) => Err(outside(fault)),
+    }
+}
+
 /// Checks that the definition is supported and has the row's names, and that they may be given.
 fn is_of_row(definition: &TableDefinition, row: &SchemaRow<'_>) -> R<()>
     ensures tells { IsOfRow row.now definition.now → result ≡ Ok tt }
     ensures found { OnOk result (IsOfRow row.now definition.now) }
     ensures not_disk { IfErr result (λ fault. IsSchemaFault fault) }
 {
-    if !has_plain_rules(definition) {
+    if !has_no_keys(definition) {
         return Err(Fault::Unsupported(Feature::StatementForm));
     }
     if !definition.name.is_same(row.name) {
@@ -241,10 +256,12 @@ fn table_made(alloc: Global, row: &SchemaRow<'_>, statement: &Statement) -> R<Ta
     let definition = definition_in(statement)?;
     is_of_row(definition, row)?;
     let columns = columns_in(alloc, definition)?;
+    let checks = checks_in(alloc, definition, columns.as_slice())?;
     let name = definition.name.copy(alloc)?;
     Ok(Table {
         name,
         columns,
+        checks,
         indexes: Many::new(alloc),
         root: row.root,
         rowid: row.rowid,

@@ -7,7 +7,7 @@ use Rattle.sqlval.specs.declared.value.Value.{Value}
 use Rattle.tree_page.specs.Cells.{Pairwise}
 use Rattle.catalog.specs.Database as database
 use Rattle.catalog.specs.Database.{ATable, AnIndex, Name, Object}
-use Rattle.catalog.specs.Listed.{named_among, plain_index}
+use Rattle.catalog.specs.Listed.{named_among, as_index}
 use Rattle.db_pages.specs.Schema.{IndexTold, TableTold, Told}
 use Rattle.db_pages.proofs.NamedObjects.{one_among}
 use Rattle.db_pages.proofs.ToldObjects.{told_name, told_object, told_pair}
@@ -73,7 +73,7 @@ module _ (rows_at others_at : ℕ → List (ℤ × List Value)) where
   table_found name t (IndexTold v i ∷ told) (TableTold w ∷ others) alike found = absurd alike.0
   table_found name t (IndexTold v i ∷ told) (IndexTold w j ∷ others) alike found =
       picked name t (told_pair rows_at (IndexTold v i)) (told_pair others_at (IndexTold w j)) (map (told_pair rows_at) told) (map (told_pair others_at) others) alike.0
-      (λ h. no_table (plain_index v i) t h) (table_found name t told others alike.1) found
+      (λ h. no_table (as_index v i) t h) (table_found name t told others alike.1) found
 
   -- and a name finds the same in both
   pub same_found : (name : Name) (told others : List Told) → Pairwise AreAlike told others

@@ -18,7 +18,7 @@ use Rattle.sqlval.specs.Lists.{any_twice, placed, sorted}
 use Rattle.sqlval.specs.Names.{folded, is_same_name}
 use Rattle.sqlval.specs.declared.value.Value.{Value}
 use Rattle.catalog.specs.Database.{AnIndex, Database, Name, Object, name_order, object, with_object}
-use Rattle.catalog.specs.Listed.{are_named_once, index_objects, named_among, names_of, objects_of, plain_index, table_object}
+use Rattle.catalog.specs.Listed.{are_named_once, index_objects, named_among, names_of, objects_of, as_index, table_object}
 use Rattle.catalog.specs.Named.{IsNamed}
 use Rattle.catalog.specs.declared.tables.Index.{Index as ListedIndex}
 use Rattle.catalog.specs.declared.tables.Table.{Table}
@@ -175,7 +175,7 @@ names_sorted os db own named finds =
 
 -- ---- the objects of tables
 
-index_names : (t : Table) (is : List ListedIndex) → own_names (map (λ (i : ListedIndex). (i.name, AnIndex (plain_index t i))) is) ≡ map (λ (i : ListedIndex). i.name) is
+index_names : (t : Table) (is : List ListedIndex) → own_names (map (λ (i : ListedIndex). (i.name, AnIndex (as_index t i))) is) ≡ map (λ (i : ListedIndex). i.name) is
 index_names t [] = refl
 index_names t (i ∷ is) = ap (λ ns. i.name ∷ ns) (index_names t is)
 

@@ -1,9 +1,8 @@
 -- Pages store one database at most: each row of the schema table is one statement, and says one root.
-use Rattle.std.proofs.Common.{◌≡◌, ◌∙◌, refl, sym, ap, subst, ℕ, Bool, true, false, List, [], ◌∷◌, length, map, Some, None}
-use Rattle.std.specs.Prelude.{codes, not}
+use Rattle.std.proofs.Common.{◌≡◌, ◌∙◌, refl, sym, ap, subst, ℕ, List, [], ◌∷◌, length, map, Some, None}
+use Rattle.std.specs.Prelude.{codes}
 use Rattle.std.specs.FinMap.Entries.{find}
 use Rattle.std.specs.List.{AllByRecursion}
-use Rattle.std.proofs.lemmas.Bool.{false≢true}
 use Rattle.sqlval.specs.Names.{folded}
 use Rattle.record.specs.Record.{DetermineValues}
 use Rattle.tree_leaf.specs.Leaf.{Entry}
@@ -21,13 +20,14 @@ use Rattle.sql_syntax.specs.declared.statement.Statement.TheVariants as statemen
 use Rattle.sql_grammar.specs.Texts.{IsStatementText}
 use Rattle.catalog.specs.Database as database
 use Rattle.catalog.specs.Database.{ATable, Database, Name, TableColumn, name_order, object}
-use Rattle.catalog.specs.Listed.{as_column, plain_table}
+use Rattle.catalog.specs.Listed.{as_column, with_rows}
 use Rattle.catalog.specs.declared.tables.Column.{Column}
 use Rattle.catalog.specs.declared.tables.Index.{Index}
 use Rattle.catalog.specs.declared.tables.Table.{Table}
 use Rattle.catalog.proofs.NamedDatabases.{one_database}
 use Rattle.query_names.specs.Checked.{Checked, meant}
-use Rattle.query_names.specs.Creating.{defined, described}
+use Rattle.query_terms.specs.Terms.{Term}
+use Rattle.query_names.specs.Creating.{checks_known, defined, described}
 use Rattle.query_names.specs.Schema.{index_made}
 use Rattle.row_scan.specs.Rows.{IsRow, TableRow}
 use Rattle.row_scan.proofs.HeldRows.{same_rows}
@@ -92,12 +92,8 @@ columns_are (u ∷ us) (t ∷ ts) h =
     let rest = columns_are us ts (rest_of (described u) (described t) (map described us) (map described ts) h) in
     λ i. first i ∷ rest i
 
-abbrev plain_with : List Column → List TableRow → database.Table
-plain_with cs rows = record { columns = map as_column cs; rowid_column = None; checks = []; rows = rows }
-
-is_not : (b : Bool) → not b ≡ true → b ≡ false
-is_not true h = absurd (false≢true h)
-is_not false h = refl
+abbrev table_with : List Column → List Term → List TableRow → database.Table
+table_with cs checks rows = record { columns = map as_column cs; rowid_column = None; checks = checks; rows = rows }
 
 module _ (trees : OneTree) (texts : OneText) (values : DetermineValues) where
   -- one text makes one object
@@ -135,6 +131,11 @@ module _ (trees : OneTree) (texts : OneText) (values : DetermineValues) where
       one_columns : t.columns ≡ u.columns
       one_columns = columns_are t.columns u.columns (first.makes.columns ∙ ap (λ (d : TableDefinition). map defined d.columns) one_definition ∙ sym second.makes.columns)
 
+      one_checks : t.checks ≡ u.checks
+      one_checks = ap meant (sym first.makes.checks
+          ∙ (ap (λ (d : TableDefinition). checks_known d t.columns) one_definition ∙ ap (checks_known second.definition) one_columns)
+          ∙ second.makes.checks)
+
       rows_tree : (v : Table) (rows : List TableRow) (o : Owner) (is : IsRowsTree v rows o) → IsTree pages size o → IsTableTree pages size v.root is.entries o.used
       rows_tree v rows o is tree = subst (λ (root : ℕ). IsTableTree pages size root is.entries o.used) is.root_is (subst (HoldsUnder pages size o.root o.used) is.content_is tree)
 
@@ -148,7 +149,7 @@ module _ (trees : OneTree) (texts : OneText) (values : DetermineValues) where
           (subst (λ (cs : List Column). Pairwise (IsRow (length cs)) its.1.0.entries (other.rows_at u.root)) (sym one_columns) its.1.0.each)
 
       tables_alike : HasItsTree one.rows_at (TableTold t) → HasItsTree other.rows_at (TableTold u) → AreAlike one.rows_at other.rows_at (TableTold t) (TableTold u)
-      tables_alike mine its = (ap folded one_name, λ i. ATable (plain_with (one_columns i) (one_rows mine its i)))
+      tables_alike mine its = (ap folded one_name, λ i. ATable (table_with (one_columns i) (one_checks i) (one_rows mine its i)))
 
     -- ---- two indexes of one row
 
@@ -168,10 +169,10 @@ module _ (trees : OneTree) (texts : OneText) (values : DetermineValues) where
       indexes_alike : ((d : IndexDefinition) → (table : database.Table) → object a d.table ≡ Some (ATable table) → object b d.table ≡ Some (ATable table))
           → IsKept one.rows_at a (IndexTold t i) → IsKept other.rows_at b (IndexTold u j) → AreAlike one.rows_at other.rows_at (IndexTold t i) (IndexTold u j)
       indexes_alike tables mine its =
-          let on_a : object a first.definition.table ≡ Some (ATable (plain_table t (one.rows_at t.root))) = ap (λ n. find name_order n a) first.makes.on ∙ mine.1 in
-          let on_b : object b first.definition.table ≡ Some (ATable (plain_table t (one.rows_at t.root))) = tables first.definition (plain_table t (one.rows_at t.root)) on_a in
-          let made_a = index_is a first.definition t i (one.rows_at t.root) (is_not first.definition.is_unique first.creates.1) first.makes mine.1 in
-          let made_b = index_is b second.definition u j (other.rows_at u.root) (is_not second.definition.is_unique second.creates.1) second.makes its.1 in (
+          let on_a : object a first.definition.table ≡ Some (ATable (with_rows t (one.rows_at t.root))) = ap (λ n. find name_order n a) first.makes.on ∙ mine.1 in
+          let on_b : object b first.definition.table ≡ Some (ATable (with_rows t (one.rows_at t.root))) = tables first.definition (with_rows t (one.rows_at t.root)) on_a in
+          let made_a = index_is a first.definition t i (one.rows_at t.root) first.makes mine.1 in
+          let made_b = index_is b second.definition u j (other.rows_at u.root) second.makes its.1 in (
             index_names,
             ap meant (sym made_a ∙ ap (λ o. index_made o first.definition) (on_a ∙ sym on_b) ∙ ap (λ (d : IndexDefinition). index_made (object b d.table) d) one_index ∙ made_b),
           )

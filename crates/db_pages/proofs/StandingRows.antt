@@ -1,7 +1,5 @@
 -- The rows of page 1 are the rows of the schema table of the database that the told tables and indexes make.
-use Rattle.std.proofs.Common.{◌≡◌, ◌∙◌, inl, refl, sym, ap, ℕ, ℤ, Bool, true, false, List, [], ◌∷◌, map, codes, Some}
-use Rattle.std.specs.Prelude.{not}
-use Rattle.std.proofs.lemmas.Bool.{false≢true}
+use Rattle.std.proofs.Common.{◌≡◌, ◌∙◌, inl, refl, sym, ap, ℕ, ℤ, true, List, [], ◌∷◌, map, codes, Some}
 use Rattle.std.specs.FinMap.Entries.{find}
 use Rattle.std.specs.List.{AllByRecursion}
 use Rattle.tree_leaf.specs.Leaf.{Entry}
@@ -9,7 +7,7 @@ use Rattle.sqlval.specs.Names.{folded}
 use Rattle.sqlval.specs.declared.value.Value.{Value}
 use Rattle.tree_page.specs.Cells.{Pairwise}
 use Rattle.catalog.specs.Database.{ATable, AnIndex, Database, Name, name_order, object}
-use Rattle.catalog.specs.Listed.{has_only_plain, plain_index, plain_table}
+use Rattle.catalog.specs.Listed.{has_only_plain, as_index, with_rows}
 use Rattle.catalog.specs.declared.tables.Index.{Index}
 use Rattle.catalog.specs.declared.tables.Table.{Table}
 use Rattle.query_names.proofs.CreatedTables.{listed_made}
@@ -56,10 +54,6 @@ rows_named pages (one ∷ told) (row ∷ rows) tell =
 
 -- ---- what they say
 
-is_not : (b : Bool) → not b ≡ true → b ≡ false
-is_not true h = absurd (false≢true h)
-is_not false h = refl
-
 module _ (rows_at : ℕ → List (ℤ × List Value)) (db : Database) (only : has_only_plain db ≡ true) (pages : ℕ) where
   -- the object of the row's name is what the row tells
   pub object_found : (one : Told) (row : Entry) (tells : Tells pages one row) → IsKept rows_at db one → object db (row_told pages one row tells).name ≡ Some (told_object rows_at one)
@@ -67,9 +61,9 @@ module _ (rows_at : ℕ → List (ℤ × List Value)) (db : Database) (only : ha
   object_found (IndexTold t i) row tells kept = ap (λ (n : Name). find name_order n db) (name_told pages (IndexTold t i) row tells) ∙ kept.0
 
   -- the row's text makes the table
-  table_said : (t : Table) (row : Entry) (tells : IsTableRow pages t row) → listed.IsTableRow supported_language db (row_told pages (TableTold t) row tells) (plain_table t (rows_at t.root))
+  table_said : (t : Table) (row : Entry) (tells : IsTableRow pages t row) → listed.IsTableRow supported_language db (row_told pages (TableTold t) row tells) (with_rows t (rows_at t.root))
   table_said t row tells =
-      let made = listed_made tells.definition tells.creates.1 t tells.makes.once tells.makes.columns in
+      let made = listed_made tells.definition tells.creates.1 t tells.makes.once tells.makes.columns tells.makes.checks in
       record {
         definition = tells.definition;
         kind = refl;
@@ -77,7 +71,7 @@ module _ (rows_at : ℕ → List (ℤ × List Value)) (db : Database) (only : ha
           text = tells.sql;
           sql_is = refl;
           creates = tells.creates;
-          accepts = not_refused db tells.definition (plain_table t []) made tells.makes.free;
+          accepts = not_refused db tells.definition (with_rows t []) made tells.makes.free;
         };
         name = tells.row_is.name_is;
         table = tells.row_is.table_name_is;
@@ -88,9 +82,9 @@ module _ (rows_at : ℕ → List (ℤ × List Value)) (db : Database) (only : ha
 
   -- and the index
   index_said : (t : Table) (i : Index) (row : Entry) (tells : IsIndexRow pages t i row) → IsKept rows_at db (IndexTold t i)
-      → listed.IsIndexRow supported_language db (row_told pages (IndexTold t i) row tells) (plain_index t i)
+      → listed.IsIndexRow supported_language db (row_told pages (IndexTold t i) row tells) (as_index t i)
   index_said t i row tells kept =
-      let made = index_is db tells.definition t i (rows_at t.root) (is_not tells.definition.is_unique tells.creates.1) tells.makes kept.1 in
+      let made = index_is db tells.definition t i (rows_at t.root) tells.makes kept.1 in
       let here = ap (λ n. object db n) (sym tells.makes.name_is) ∙ kept.0 in
       let on = ap (λ n. find name_order n db) tells.makes.on ∙ kept.1 in
       record {
@@ -100,8 +94,8 @@ module _ (rows_at : ℕ → List (ℤ × List Value)) (db : Database) (only : ha
           text = tells.sql;
           sql_is = refl;
           creates = tells.creates;
-          accepts = index_not_refused db tells.definition (AnIndex (plain_index t i)) tells.makes.once tells.makes.free
-              (two_names db tells.definition.name tells.definition.table (plain_index t i) (plain_table t (rows_at t.root)) here on) made;
+          accepts = index_not_refused db tells.definition (AnIndex (as_index t i)) tells.makes.once tells.makes.free
+              (two_names db tells.definition.name tells.definition.table (as_index t i) (with_rows t (rows_at t.root)) here on) made;
         };
         name = tells.row_is.name_is;
         table = tells.row_is.table_name_is;
@@ -109,8 +103,8 @@ module _ (rows_at : ℕ → List (ℤ × List Value)) (db : Database) (only : ha
       }
 
   row_says : (one : Told) (row : Entry) (tells : Tells pages one row) → IsKept rows_at db one → IsSchemaRowOf supported_language db (row_told pages one row tells)
-  row_says (TableTold t) row tells kept = record { is = ATable (plain_table t (rows_at t.root)); found = object_found (TableTold t) row tells kept; says = table_said t row tells }
-  row_says (IndexTold t i) row tells kept = record { is = AnIndex (plain_index t i); found = object_found (IndexTold t i) row tells kept; says = inl (index_said t i row tells kept) }
+  row_says (TableTold t) row tells kept = record { is = ATable (with_rows t (rows_at t.root)); found = object_found (TableTold t) row tells kept; says = table_said t row tells }
+  row_says (IndexTold t i) row tells kept = record { is = AnIndex (as_index t i); found = object_found (IndexTold t i) row tells kept; says = inl (index_said t i row tells kept) }
 
   pub rows_say : (told : List Told) (rows : List Entry) (tell : Pairwise (Tells pages) told rows) → AllByRecursion (IsKept rows_at db) told
       → AllByRecursion (IsSchemaRowOf supported_language db) (rows_told pages told rows tell)

@@ -1,5 +1,5 @@
 -- What the CREATE of a listed table or index makes, and that nothing refuses it beside the other objects.
-use Rattle.std.proofs.Common.{◌≡◌, ◌∙◌, refl, sym, ap, ℕ, ℤ, Bool, true, false, ◌&&◌, ◌||◌, cond, List, [], ◌∷◌, map, Option, Some, None}
+use Rattle.std.proofs.Common.{◌≡◌, ◌∙◌, refl, sym, ap, ℕ, ℤ, Bool, true, false, ◌&&◌, cond, List, [], ◌∷◌, map, Option, Some, None}
 use Rattle.std.specs.Prelude.{is_some, not}
 use Rattle.std.specs.FinMap.Entries.{find}
 use Rattle.std.specs.Ordering.{eq_by_cmp}
@@ -14,7 +14,7 @@ use Rattle.sql_syntax.specs.declared.create.IndexDefinition.{IndexDefinition}
 use Rattle.sql_syntax.specs.declared.create.TableDefinition.{TableDefinition}
 use Rattle.catalog.specs.Database as database
 use Rattle.catalog.specs.Database.{ATable, AnIndex, AView, ATrigger, Database, Name, Object, name_order, object, with_object}
-use Rattle.catalog.specs.Listed.{has_only_plain, is_reserved, plain_index, plain_table}
+use Rattle.catalog.specs.Listed.{has_only_plain, is_reserved, as_index, with_rows}
 use Rattle.catalog.specs.declared.tables.Index.{Index}
 use Rattle.catalog.specs.declared.tables.Table.{Table}
 use Rattle.query_names.specs.Checked.{Checked, Meant, also, faults, good, known_map, ◌and_then◌, unless}
@@ -95,18 +95,18 @@ other_kept (e ∷ es) name q apart = by_test (other_kept es name q apart) (is_sa
 abbrev index_over : IndexDefinition → List (ℕ × Collation) → Object
 index_over d ks = AnIndex (record { table = folded d.table; is_unique = d.is_unique; is_automatic = false; columns = ks })
 
-abbrev plain_over : Name → Bool → List (ℕ × Collation) → Object
-plain_over table unique ks = AnIndex (record { table = table; is_unique = unique; is_automatic = false; columns = ks })
+abbrev index_with : Name → Bool → List (ℕ × Collation) → Object
+index_with table unique ks = AnIndex (record { table = table; is_unique = unique; is_automatic = false; columns = ks })
 
 -- its CREATE makes the index, whatever rows the table has
-pub index_is : (db : Database) (d : IndexDefinition) (t : Table) (i : Index) (rows : List (ℤ × List Value)) → d.is_unique ≡ false → IsIndexOf d t i
-    → object db t.name ≡ Some (ATable (plain_table t rows)) → index_made (object db d.table) d ≡ good (AnIndex (plain_index t i))
-index_is db d t i rows plain is on =
+pub index_is : (db : Database) (d : IndexDefinition) (t : Table) (i : Index) (rows : List (ℤ × List Value)) → IsIndexOf d t i
+    → object db t.name ≡ Some (ATable (with_rows t rows)) → index_made (object db d.table) d ≡ good (AnIndex (as_index t i))
+index_is db d t i rows is on =
     ap (λ n. index_made (find name_order n db) d) is.on
     ∙ ap (λ o. index_made o d) on
     ∙ ap (known_map (index_over d)) is.columns
-    ∙ ap (λ n. good (plain_over n d.is_unique (map key_of i.columns))) is.on
-    ∙ ap (λ b. good (plain_over (folded t.name) b (map key_of i.columns))) plain
+    ∙ ap (λ n. good (index_with n d.is_unique (map key_of i.columns))) is.on
+    ∙ ap (λ b. good (index_with (folded t.name) b (map key_of i.columns))) (sym is.unique)
 
 -- a definition whose name isn't reserved is refused by nothing there
 pub index_not_refused : (db : Database) (d : IndexDefinition) (made : Object) → is_doubled (names_in d.columns) ≡ false → is_reserved d.name ≡ false
@@ -136,12 +136,11 @@ pub no_automatic : (db : Database) (table : Name) → has_only_plain db ≡ true
 no_automatic [] table only = refl
 no_automatic ((name, ATable t) ∷ es) table only = no_automatic es table only
 no_automatic ((name, AnIndex i) ∷ es) table only =
-    by_test (plain i.is_unique i.is_automatic (has_only_plain es) only) (no_automatic es table (rest (i.is_unique || i.is_automatic) (has_only_plain es) only))
+    by_test (plain i.is_automatic (has_only_plain es) only) (no_automatic es table (rest i.is_automatic (has_only_plain es) only))
   where
-    plain : (a b c : Bool) → (not (a || b) && c) ≡ true → b ≡ false
-    plain true b c h = absurd (false≢true h)
-    plain false true c h = absurd (false≢true h)
-    plain false false c h = refl
+    plain : (b c : Bool) → (not b && c) ≡ true → b ≡ false
+    plain true c h = absurd (false≢true h)
+    plain false c h = refl
 
     rest : (b c : Bool) → (not b && c) ≡ true → c ≡ true
     rest true c h = absurd (false≢true h)

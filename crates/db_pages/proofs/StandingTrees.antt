@@ -18,7 +18,7 @@ use Rattle.tree_page.specs.Cells.{Pairwise}
 use Rattle.tree_table.specs.Tree.{IsTableTree}
 use Rattle.tree_index.specs.Tree.{IsIndexTree}
 use Rattle.catalog.specs.Database.{ATable, AnIndex, Database, Name, name_order, object}
-use Rattle.catalog.specs.Listed.{is_table, plain_index, plain_table, table_named}
+use Rattle.catalog.specs.Listed.{is_table, as_index, with_rows, table_named}
 use Rattle.catalog.specs.Rows.{are_rows}
 use Rattle.catalog.specs.declared.tables.Index.{Index}
 use Rattle.catalog.specs.declared.tables.Table.{Table}
@@ -64,7 +64,7 @@ all_whole pages size whole = all_of (λ page. length page ≡ size) pages (λ i 
     at_place i is = ap (λ (k : ℕ). length (get_or pages k [])) (omega arith) ∙ is
 
 -- rows of a table without a column for its rowid are stored as they are
-stored_rows : (t : Table) (more rows : List TableRow) (width : ℕ) (entries : List Entry) → Pairwise (IsRow width) entries rows → Pairwise (IsStoredRow (plain_table t more)) entries rows
+stored_rows : (t : Table) (more rows : List TableRow) (width : ℕ) (entries : List Entry) → Pairwise (IsRow width) entries rows → Pairwise (IsStoredRow (with_rows t more)) entries rows
 stored_rows t more [] width [] each = tt
 stored_rows t more (row ∷ rows) width [] each = absurd each
 stored_rows t more [] width (entry ∷ entries) each = absurd each
@@ -117,7 +117,7 @@ pairs_and P Q (x ∷ xs) (y ∷ ys) each all = ((each.0, all.0), pairs_and P Q x
 
 -- the rows of a listed table are such as it may hold
 pub found_fit : (rows_at : ℕ → List TableRow) (name : Name) (t : Table) (tables : List Table) (held : List (List Owner)) → Pairwise (AreHeld rows_at) tables held
-    → table_named name tables ≡ Some t → are_rows (plain_table t (rows_at t.root)) ≡ true
+    → table_named name tables ≡ Some t → are_rows (with_rows t (rows_at t.root)) ≡ true
 found_fit rows_at name t [] held each found = absurd cc
 found_fit rows_at name t (u ∷ tables) [] each found = absurd each
 found_fit rows_at name t (u ∷ tables) (trees ∷ held) each found = by_test (found_fit rows_at name t tables held each.1) (is_table name u) found
@@ -125,9 +125,9 @@ found_fit rows_at name t (u ∷ tables) (trees ∷ held) each found = by_test (f
     the_same : Some u ≡ Some t → u ≡ t
     the_same h = cc
 
-    by_test : (table_named name tables ≡ Some t → are_rows (plain_table t (rows_at t.root)) ≡ true) → (b : Bool) → cond b (Some u) (table_named name tables) ≡ Some t
-        → are_rows (plain_table t (rows_at t.root)) ≡ true
-    by_test rest true h = subst (λ (v : Table). are_rows (plain_table v (rows_at v.root)) ≡ true) (the_same h) each.0.fit
+    by_test : (table_named name tables ≡ Some t → are_rows (with_rows t (rows_at t.root)) ≡ true) → (b : Bool) → cond b (Some u) (table_named name tables) ≡ Some t
+        → are_rows (with_rows t (rows_at t.root)) ≡ true
+    by_test rest true h = subst (λ (v : Table). are_rows (with_rows v (rows_at v.root)) ≡ true) (the_same h) each.0.fit
     by_test rest false h = rest h
 
 -- ---- the parts of the file
@@ -143,7 +143,7 @@ module _ (pages : PageMap) (size : ℕ) (tables : List Table) (db : Database) (s
   }
 
   -- the tree of a table lists its rows
-  table_rows : (t : Table) (o : Owner) → IsRowsTree t (stored.rows_at t.root) o → IsTree pages size o → ListsRows pages size t.root (plain_table t (stored.rows_at t.root)) o.used
+  table_rows : (t : Table) (o : Owner) → IsRowsTree t (stored.rows_at t.root) o → IsTree pages size o → ListsRows pages size t.root (with_rows t (stored.rows_at t.root)) o.used
   table_rows t o is tree = record {
     entries = is.entries;
     tree = subst (λ (root : ℕ). IsTableTree pages size root is.entries o.used) is.root_is (subst (HoldsUnder pages size o.root o.used) is.content_is tree);
@@ -151,10 +151,10 @@ module _ (pages : PageMap) (size : ℕ) (tables : List Table) (db : Database) (s
   }
 
   -- the tree of an index lists the entries of its table's rows
-  index_entries : (t : Table) (i : Index) (o : Owner) → IsEntriesTree (stored.rows_at t.root) i o → IsTree pages size o → object db t.name ≡ Some (ATable (plain_table t (stored.rows_at t.root)))
-      → ListsEntries pages size i.root db (plain_index t i) o.used
+  index_entries : (t : Table) (i : Index) (o : Owner) → IsEntriesTree (stored.rows_at t.root) i o → IsTree pages size o → object db t.name ≡ Some (ATable (with_rows t (stored.rows_at t.root)))
+      → ListsEntries pages size i.root db (as_index t i) o.used
   index_entries t i o is tree on = record {
-    t = plain_table t (stored.rows_at t.root);
+    t = with_rows t (stored.rows_at t.root);
     on = ap (λ (n : Name). find name_order n db) (folded_twice t.name) ∙ on;
     tree = subst (λ (root : ℕ). IsIndexTree pages size root (collations (columns_of i)) (entries_of_rows (columns_of i) (stored.rows_at t.root)) o.used) is.root_is
         (subst (HoldsUnder pages size o.root o.used) is.content_is tree);
@@ -163,12 +163,12 @@ module _ (pages : PageMap) (size : ℕ) (tables : List Table) (db : Database) (s
   told_tree : (one : Told) (row : Entry) (o : Owner) (tells : Tells (length pages) one row) → IsKept stored.rows_at db one → IsTreeTold stored.rows_at one o × IsTree pages size o
       → HasTree pages size db (row_told (length pages) one row tells) o.used
   told_tree (TableTold t) row o tells kept tree = record {
-    is = ATable (plain_table t (stored.rows_at t.root));
+    is = ATable (with_rows t (stored.rows_at t.root));
     found = object_found stored.rows_at db stored.of_tables.only (length pages) (TableTold t) row tells kept;
     lists = table_rows t o tree.0 tree.1;
   }
   told_tree (IndexTold t i) row o tells kept tree = record {
-    is = AnIndex (plain_index t i);
+    is = AnIndex (as_index t i);
     found = object_found stored.rows_at db stored.of_tables.only (length pages) (IndexTold t i) row tells kept;
     lists = index_entries t i o tree.0 tree.1 kept.1;
   }

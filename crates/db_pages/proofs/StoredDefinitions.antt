@@ -16,11 +16,12 @@ use Rattle.sql_syntax.specs.declared.create.NewObject.TheVariants as new
 use Rattle.sql_syntax.specs.declared.create.TableDefinition.{TableDefinition}
 use Rattle.catalog.specs.Database as database
 use Rattle.catalog.specs.Database.{Name, Database, Object, AnIndex, Index, TableColumn, name_order}
-use Rattle.catalog.specs.Listed.{as_column, plain_table, type_text}
+use Rattle.catalog.specs.Listed.{as_column, with_rows, type_text}
 use Rattle.catalog.specs.declared.tables.Column.{Column}
 use Rattle.catalog.specs.declared.tables.Table.{Table}
+use Rattle.query_terms.specs.Terms.{Term}
 use Rattle.query_names.specs.Checked.{Checked, Meant, both, faults, good, known_all, meant}
-use Rattle.query_names.specs.Creating.{defined, described, has_plain_rules}
+use Rattle.query_names.specs.Creating.{checks_known, defined, described, has_no_keys}
 use Rattle.query_names.specs.Schema.{automatic}
 use Rattle.query_names.specs.Tables.{affinity_known, collation_of, column_of, default_of, is_not_null, last_of, table_made}
 use Rattle.query_names.proofs.CreatedTables.{IsAccepted, accepted, listed_made}
@@ -39,9 +40,16 @@ listed_as n c = record { name = n; affinity = c.affinity; collation = c.collatio
 abbrev pub column_for : ColumnDefinition → Column
 column_for c = listed_as c.name (meant (column_of c))
 
+-- what its CHECKs mean
+abbrev pub checks_for : TableDefinition → List Term
+checks_for d = meant (checks_known d (map column_for d.columns))
+
 -- the table of a definition, whose tree begins at this page, and whose row has this rowid
 abbrev pub table_of : TableDefinition → ℕ → ℤ → Table
-table_of d root rowid = record { name = d.name; columns = map column_for d.columns; indexes = []; root = root; rowid = rowid }
+table_of d root rowid = record { name = d.name; columns = map column_for d.columns; checks = checks_for d; indexes = []; root = root; rowid = rowid }
+
+not_bad : {A : Type 0} (k : Checked A) → faults k ≡ [] → k ≡ good (meant k)
+not_bad (Meant x rs) none = ap (λ ss. Meant x ss) none
 
 no_part : {A : Type 0} (xs ys : List A) → xs ++ ys ≡ [] → (xs ≡ []) × (ys ≡ [])
 no_part [] ys none = (refl, none)
@@ -65,6 +73,9 @@ described_so (c ∷ cs) known =
     ap (λ made. (c.name, made) ∷ map described (map column_for cs)) (column_so c (affinity_known (declared_affinity (type_text c))) (collation_of c.rules) parts.0)
     ∙ ap (λ ds. defined c ∷ ds) (described_so cs parts.1)
 
+checks_so : (d : TableDefinition) → IsAccepted d → checks_known d (map column_for d.columns) ≡ good (checks_for d)
+checks_so d is = not_bad (checks_known d (map column_for d.columns)) (is.checked (map column_for d.columns) (described_so d.columns is.known))
+
 -- ---- what its row says
 
 -- The row has the text of a CREATE TABLE that is supported and isn't refused; it makes this table, and no index.
@@ -78,17 +89,18 @@ pub record IsTold (row : SchemaRow) (t : database.Table) : Type 0 where
   pub creates : CreatesSupported sql (new.Table definition)
   pub accepts : IsAccepted definition
   pub described_is : map described (map column_for definition.columns) ≡ map defined definition.columns
-  pub made : (root : ℕ) (rowid : ℤ) → t ≡ plain_table (table_of definition root rowid) t.rows
+  pub checks_are : checks_known definition (map column_for definition.columns) ≡ good (checks_for definition)
+  pub made : (root : ℕ) (rowid : ℤ) → t ≡ with_rows (table_of definition root rowid) t.rows
 
 -- what a CREATE TABLE makes
 abbrev Made : Type 0
 Made = database.Table × List (List (ℕ × Collation))
 
 -- what the definition makes, both ways
-both_made : (d : TableDefinition) (t : database.Table) (keys : List (List (ℕ × Collation))) (root : ℕ) (rowid : ℤ) → has_plain_rules d ≡ true → IsAccepted d → table_made d ≡ good (record t { rows = [] }, keys)
-    → ◌≡◌ {A = Made} (plain_table (table_of d root rowid) [], []) (record t { rows = [] }, keys)
+both_made : (d : TableDefinition) (t : database.Table) (keys : List (List (ℕ × Collation))) (root : ℕ) (rowid : ℤ) → has_no_keys d ≡ true → IsAccepted d → table_made d ≡ good (record t { rows = [] }, keys)
+    → ◌≡◌ {A = Made} (with_rows (table_of d root rowid) [], []) (record t { rows = [] }, keys)
 both_made d t keys root rowid plain is made =
-    ap (meant {A = Made}) (sym (listed_made d plain (table_of d root rowid) is.once (described_so d.columns is.known)) ∙ made)
+    ap (meant {A = Made}) (sym (listed_made d plain (table_of d root rowid) is.once (described_so d.columns is.known) (checks_so d is)) ∙ made)
 
 pub told : (db : Database) (row : SchemaRow) (t : database.Table) → IsTableRow supported_language db row t → IsTold row t
 told db row t is =
@@ -103,6 +115,7 @@ told db row t is =
       creates = is.text.creates;
       accepts = accepts;
       described_is = described_so is.definition.columns accepts.known;
+      checks_are = checks_so is.definition accepts;
       made = λ root rowid. ap (λ (m : Made). record m.0 { rows = t.rows }) (sym (both_made is.definition t is.keys root rowid is.text.creates.1 accepts is.made));
     }
 

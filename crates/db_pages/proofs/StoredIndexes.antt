@@ -1,6 +1,5 @@
 -- The index that a row of the schema table tells.
-use Rattle.std.proofs.Common.{◌≡◌, refl, sym, ap, subst, ◌∙◌, ℕ, ℤ, Bool, true, false, not, List, [], ◌∷◌, ◌++◌, map, Option, Some, None}
-use Rattle.std.proofs.lemmas.Bool.{false≢true}
+use Rattle.std.proofs.Common.{◌≡◌, refl, sym, ap, subst, ◌∙◌, ℕ, ℤ, Bool, true, false, List, [], ◌∷◌, ◌++◌, map, Option, Some, None}
 use Rattle.std.specs.Prelude.{codes, filter_map, is_some}
 use Rattle.sqlval.specs.Names.{folded}
 use Rattle.sqlval.specs.Refusals.{Refusal, Exists, Misuse, NoSuch}
@@ -32,7 +31,7 @@ column_for key = record { place = key.0; collation = key.1 }
 
 -- the index of a definition, of these keys, whose tree begins at this page, and whose row has this rowid
 abbrev pub index_of : IndexDefinition → Keys → ℕ → ℤ → Index
-index_of d keys root rowid = record { name = d.name; columns = map column_for keys; root = root; rowid = rowid }
+index_of d keys root rowid = record { name = d.name; columns = map column_for keys; is_unique = d.is_unique; root = root; rowid = rowid }
 
 pub same_keys : (keys : Keys) → map key_of (map column_for keys) ≡ keys
 same_keys [] = refl
@@ -41,8 +40,8 @@ same_keys (key ∷ keys) = ap (λ ks. key ∷ ks) (same_keys keys)
 -- ---- what its row says
 
 -- an index on the table of a definition, of these keys
-abbrev pub plain_on : IndexDefinition → Keys → database.Index
-plain_on d keys = record { table = folded d.table; is_unique = false; is_automatic = false; columns = keys }
+abbrev pub index_on : IndexDefinition → Keys → database.Index
+index_on d keys = record { table = folded d.table; is_unique = d.is_unique; is_automatic = false; columns = keys }
 
 -- The row has the text of a CREATE INDEX that is supported and isn't refused; it makes this index, on a table of the database.
 pub record IsIndexTold (db : Database) (row : SchemaRow) (i : database.Index) : Type 0 where
@@ -58,7 +57,7 @@ pub record IsIndexTold (db : Database) (row : SchemaRow) (i : database.Index) : 
   pub t : database.Table
   pub on : object db definition.table ≡ Some (ATable t)
   pub known : known_all (map (resolve_index_column definition.table t) definition.columns) ≡ good i.columns
-  pub index_is : i ≡ plain_on definition i.columns
+  pub index_is : i ≡ index_on definition i.columns
 
 -- ---- definitions that aren't refused
 
@@ -117,10 +116,6 @@ made_of d i (Meant keys rs) e =
     value_of : Checked Object → Object
     value_of (Meant x rs) = x
 
-not_unique : (b : Bool) → not b ≡ true → b ≡ false
-not_unique true h = absurd (false≢true h)
-not_unique false h = refl
-
 pub index_told : (db : Database) (row : SchemaRow) (i : database.Index) → IsIndexRow supported_language db row i → IsIndexTold db row i
 index_told db row i is =
     let d = is.definition in
@@ -140,6 +135,5 @@ index_told db row i is =
       t = made.t;
       on = made.on;
       known = of.0;
-      index_is =
-          sym of.1 ∙ ap (λ (b : Bool). record { table = folded d.table; is_unique = b; is_automatic = false; columns = i.columns }) (not_unique d.is_unique is.text.creates.1);
+      index_is = sym of.1;
     }

@@ -15,7 +15,7 @@ use Rattle.tree_index.specs.Tree.{IsIndexTree}
 use Rattle.index_entries.specs.Entries.{Columns, collations, entries_of_rows}
 use Rattle.catalog.specs.Database as database
 use Rattle.catalog.specs.Database.{Name, Database, Object, ATable, AnIndex, AView, ATrigger, name_order, object}
-use Rattle.catalog.specs.Listed.{as_column, plain_table}
+use Rattle.catalog.specs.Listed.{as_column, with_rows}
 use Rattle.catalog.specs.Rows.{are_rows, holds_rows, is_in_order, is_row}
 use Rattle.catalog.specs.declared.tables.Index.{Index}
 use Rattle.catalog.specs.declared.tables.Table.{Table}
@@ -63,8 +63,8 @@ pub record IsListing (pages : PageMap) (size : ℕ) (db : Database) (l : Listing
   pub t : database.Table
   pub says : IsTold l.row t
   pub table_is : l.table ≡ table_of says.definition l.row.root l.table.rowid
-  pub found : object db l.row.name ≡ Some (ATable (plain_table l.table l.content))
-  pub fit : are_rows (plain_table l.table l.content) ≡ true
+  pub found : object db l.row.name ≡ Some (ATable (with_rows l.table l.content))
+  pub fit : are_rows (with_rows l.table l.content) ≡ true
   pub tree : IsTableTree pages size l.table.root l.entries l.used
   pub each : Pairwise (IsRow (length l.table.columns)) l.entries l.content
 
@@ -138,7 +138,7 @@ module _ (pages : PageMap) (size : ℕ) (db : Database) (in_order : is_in_order 
   abbrev pub its_listing : Listing
   its_listing = record { table = table_of says.definition row.root rowid; content = t.rows; entries = lists.entries; used = used; row = row }
 
-  made : t ≡ plain_table its_listing.table t.rows
+  made : t ≡ with_rows its_listing.table t.rows
   made = says.made row.root rowid
 
   fit_rows : are_rows t ≡ true

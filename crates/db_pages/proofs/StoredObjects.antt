@@ -10,7 +10,7 @@ use Rattle.sqlval.specs.Names.{folded, is_same_name}
 use Rattle.pages.specs.Map.{PageMap}
 use Rattle.catalog.specs.Database as database
 use Rattle.catalog.specs.Database.{Name, Database, Object, ATable, AnIndex, name_order, object}
-use Rattle.catalog.specs.Listed.{Lists, are_named_once, has_only_plain, index_objects, is_plain_object, named_among, names_of, plain_index, plain_table, table_named}
+use Rattle.catalog.specs.Listed.{Lists, are_named_once, has_only_plain, index_objects, is_plain_object, named_among, names_of, as_index, with_rows, table_named}
 use Rattle.catalog.specs.Named.{IsNamed, IsOfTables}
 use Rattle.catalog.specs.Rows.{holds_rows, is_in_order}
 use Rattle.catalog.specs.declared.tables.Index.{Index}
@@ -86,7 +86,7 @@ all_plain (e ∷ es) h = subst (λ b. (b && list_all (λ (o : Name × Object). i
 
 -- an index under its name
 abbrev object_of : List IndexListing → Listing → IndexListing → Name × Object
-object_of indexes l i = (i.index.name, AnIndex (plain_index (with_indexes indexes l) i.index))
+object_of indexes l i = (i.index.name, AnIndex (as_index (with_indexes indexes l) i.index))
 
 -- the database has the object under its name
 abbrev IsObject : Database → Name × Object → Type 0
@@ -106,17 +106,17 @@ found_object db name (x ∷ objects) o all found = by_test (found_object db name
 abbrev Others : Name → Name → Type 0
 Others name other = folded other ≡ folded name → ⊥
 
-none_of_table : (name : Name) (t : Table) (is : List Index) (os : List (Name × Object)) → named_among name (map (λ (i : Index). (i.name, AnIndex (plain_index t i))) is ++ os) ≡ None
+none_of_table : (name : Name) (t : Table) (is : List Index) (os : List (Name × Object)) → named_among name (map (λ (i : Index). (i.name, AnIndex (as_index t i))) is ++ os) ≡ None
     → AllByRecursion (Others name) (map (λ (i : Index). i.name) is) × (named_among name os ≡ None)
 none_of_table name t [] os none = (tt, none)
 none_of_table name t (i ∷ is) os none = by_test (none_of_table name t is os) (is_same_name i.name name) refl none
   where
-    by_test : (named_among name (map (λ (i : Index). (i.name, AnIndex (plain_index t i))) is ++ os) ≡ None → AllByRecursion (Others name) (map (λ (i : Index). i.name) is) × (named_among name os ≡ None))
+    by_test : (named_among name (map (λ (i : Index). (i.name, AnIndex (as_index t i))) is ++ os) ≡ None → AllByRecursion (Others name) (map (λ (i : Index). i.name) is) × (named_among name os ≡ None))
         → (b : Bool) → is_same_name i.name name ≡ b
-        → option_map (λ (y : Name × Object). y.1) (cond b (Some (i.name, AnIndex (plain_index t i)))
-        (list.find (λ (y : Name × Object). is_same_name y.0 name) (map (λ (i : Index). (i.name, AnIndex (plain_index t i))) is ++ os))) ≡ None
+        → option_map (λ (y : Name × Object). y.1) (cond b (Some (i.name, AnIndex (as_index t i)))
+        (list.find (λ (y : Name × Object). is_same_name y.0 name) (map (λ (i : Index). (i.name, AnIndex (as_index t i))) is ++ os))) ≡ None
         → AllByRecursion (Others name) (map (λ (i : Index). i.name) (i ∷ is)) × (named_among name os ≡ None)
-    by_test rest true is none = some_is_none (AnIndex (plain_index t i)) none
+    by_test rest true is none = some_is_none (AnIndex (as_index t i)) none
     by_test rest false is none = (let both = rest none in (((λ same. false≢true (sym is ∙ same_named i.name name same)), both.0), both.1))
 
 none_of_tables : (name : Name) (tables : List Table) → index_found name tables ≡ None → AllByRecursion (Others name) (flat_map (λ t. map (λ i. i.name) t.indexes) tables)
@@ -174,7 +174,7 @@ module _ (pages : PageMap) (size : ℕ) (db : Database) (items : List Item) (are
   -- ---- plain objects
 
   plain_item : (item : Item) → IsItem pages size db item → (o : Object) → find name_order (folded (row_of item).name) db ≡ Some o → IsPlain o
-  plain_item (TableItem l) is o found = subst IsPlain (same_some (ATable (plain_table l.table l.content)) o (sym is.found ∙ found)) refl
+  plain_item (TableItem l) is o found = subst IsPlain (same_some (ATable (with_rows l.table l.content)) o (sym is.found ∙ found)) refl
   plain_item (IndexItem l) is o found =
       subst IsPlain (same_some (AnIndex is.i) o (sym is.found ∙ found)) (subst (λ (i : database.Index). IsPlain (AnIndex i)) (sym is.says.index_is) refl)
 
@@ -196,9 +196,10 @@ module _ (pages : PageMap) (size : ℕ) (db : Database) (items : List Item) (are
   index_is l i table is on =
       ap (λ n. find name_order n db) (sym (index_row_named pages size db i is))
       ∙ (is.found ∙ (ap (λ (j : database.Index). Some (AnIndex j)) is.says.index_is
-      ∙ (ap (λ n. Some (AnIndex (record { table = n; is_unique = false; is_automatic = false; columns = is.i.columns }))) (sym (same_on l i table is on))
-      ∙ ap (λ columns. Some (AnIndex (record { table = folded l.table.name; is_unique = false; is_automatic = false; columns = columns })))
-      (sym (ap (λ (j : Index). columns_of j) is.index_is ∙ same_keys is.i.columns)))))
+      ∙ (ap (λ n. Some (AnIndex (record { table = n; is_unique = is.says.definition.is_unique; is_automatic = false; columns = is.i.columns }))) (sym (same_on l i table is on))
+      ∙ (ap (λ b. Some (AnIndex (record { table = folded l.table.name; is_unique = b; is_automatic = false; columns = is.i.columns }))) (sym (ap (λ (j : Index). j.is_unique) is.index_is))
+      ∙ ap (λ columns. Some (AnIndex (record { table = folded l.table.name; is_unique = i.index.is_unique; is_automatic = false; columns = columns })))
+      (sym (ap (λ (j : Index). columns_of j) is.index_is ∙ same_keys is.i.columns))))))
 
   -- all indexes are objects of the database
   indexes_are : AllByRecursion (IsObject db) (flat_map index_objects (tables_in items))
@@ -206,18 +207,18 @@ module _ (pages : PageMap) (size : ℕ) (db : Database) (items : List Item) (are
       all_parts (IsObject db) index_objects (tables_in items)
       (onto_map (λ t. AllByRecursion (IsObject db) (index_objects t)) (with_indexes indexes) tables
       (all_so (IsListing pages size db) (λ l. AllByRecursion (IsObject db) (index_objects (with_indexes indexes l)))
-      (λ l table. onto_map (IsObject db) (λ (i : Index). (i.name, AnIndex (plain_index (with_indexes indexes l) i))) (map (λ i. i.index) (theirs is_on indexes l))
-      (onto_map (λ (i : Index). IsObject db (i.name, AnIndex (plain_index (with_indexes indexes l) i))) (λ i. i.index) (theirs is_on indexes l)
+      (λ l table. onto_map (IsObject db) (λ (i : Index). (i.name, AnIndex (as_index (with_indexes indexes l) i))) (map (λ i. i.index) (theirs is_on indexes l))
+      (onto_map (λ (i : Index). IsObject db (i.name, AnIndex (as_index (with_indexes indexes l) i))) (λ i. i.index) (theirs is_on indexes l)
       (all_theirs (λ i. IsObject db (object_of indexes l i)) l indexes
       (all_so (IsIndexListing pages size db) (λ i. is_on l i ≡ true → IsObject db (object_of indexes l i)) (λ i is on. index_is l i table is on) indexes each_index))))
       tables each_table))
 
   -- a listed table is found in the database
-  found_listed : (name : Name) (t : Table) → IsFoundWith indexes (Stands pages size db tables) name t → object db name ≡ Some (ATable (plain_table t (content_at tables t.root)))
+  found_listed : (name : Name) (t : Table) → IsFoundWith indexes (Stands pages size db tables) name t → object db name ≡ Some (ATable (with_rows t (content_at tables t.root)))
   found_listed name t f =
       ap (λ n. find name_order n db) (sym (row_named pages size db f.l f.holds.is ∙ f.same))
-      ∙ (f.holds.is.found ∙ (ap (λ (rows : List TableRow). Some (ATable (plain_table f.l.table rows))) (sym f.holds.content_is)
-      ∙ ap (λ (u : Table). Some (ATable (plain_table u (content_at tables u.root)))) f.table_is))
+      ∙ (f.holds.is.found ∙ (ap (λ (rows : List TableRow). Some (ATable (with_rows f.l.table rows))) (sym f.holds.content_is)
+      ∙ ap (λ (u : Table). Some (ATable (with_rows u (content_at tables u.root)))) f.table_is))
 
   -- what neither a table nor an index has as its name is no name of the database
   abbrev own_name : Item → Name

@@ -12,12 +12,12 @@ use Rattle.pages.specs.Map.{PageMap, Has}
 use Rattle.tree_page.specs.Cells.{Pairwise}
 use Rattle.catalog.specs.Database as database
 use Rattle.catalog.specs.Database.{Name, Database, ATable, name_order, object}
-use Rattle.catalog.specs.Listed.{plain_table}
+use Rattle.catalog.specs.Listed.{with_rows}
 use Rattle.catalog.specs.declared.tables.Index.{Index}
 use Rattle.catalog.specs.declared.tables.Table.{Table}
 use Rattle.query_names.specs.Bound.{AreOnce, is_twice_named}
 use Rattle.query_names.specs.Checked.{good, known_all}
-use Rattle.query_names.specs.Creating.{HasColumnsOf}
+use Rattle.query_names.specs.Creating.{HasChecksOf, HasColumnsOf}
 use Rattle.query_names.specs.Schema.{resolve_index_column}
 use Rattle.query_names.proofs.CreatedTables.{keeps_once}
 use Rattle.query_bind.specs.Indexed.{key_of, keys_known}
@@ -63,6 +63,9 @@ same_table s t e = cc
 columns_so : (pages : PageMap) (size : ℕ) (db : Database) (l : Listing) → (is : IsListing pages size db l) → HasColumnsOf is.says.definition l.table
 columns_so pages size db l is = subst (HasColumnsOf is.says.definition) (sym is.table_is) is.says.described_is
 
+checks_so : (pages : PageMap) (size : ℕ) (db : Database) (l : Listing) → (is : IsListing pages size db l) → HasChecksOf is.says.definition l.table
+checks_so pages size db l is = subst (HasChecksOf is.says.definition) (sym is.table_is) is.says.checks_are
+
 module _ (pages : PageMap) (size : ℕ) (db : Database) (items : List Item) (are : AreObjects pages size db items) where
   has_root : (item : Item) → IsItem pages size db item → Has pages (root_of item)
   has_root item is = owner_root_there pages size (owner_of item) (tree_is pages size db item is)
@@ -94,6 +97,7 @@ module _ (pages : PageMap) (size : ℕ) (db : Database) (items : List Item) (are
       once = is.says.accepts.once;
       name_is = ap (λ (t : Table). t.name) is.table_is;
       columns = columns_so pages size db l is;
+      checks = checks_so pages size db l is;
     };
     rowid_is = at;
     row_is = has_row (TableItem l) entry (codes "table") is.says.sql is.says.definition.name is.says.definition.name is after read is.says.name_is is.says.table_is is.says.kind_is
@@ -104,8 +108,8 @@ module _ (pages : PageMap) (size : ℕ) (db : Database) (items : List Item) (are
   same_keys_known : (l : Listing) (i : IndexListing) → IsListing pages size db l → (is : IsIndexListing pages size db i) → folded l.table.name ≡ folded i.on
       → keys_known (with_indexes (indexes_among items) l) is.says.definition ≡ good (map key_of i.index.columns)
   same_keys_known l i table is on =
-      let found : is.says.t ≡ plain_table l.table l.content =
-      same_table is.says.t (plain_table l.table l.content)
+      let found : is.says.t ≡ with_rows l.table l.content =
+      same_table is.says.t (with_rows l.table l.content)
       (sym is.says.on ∙ (ap (λ n. find name_order n db) (sym (row_named pages size db l table ∙ (on ∙ ap folded is.on_is))) ∙ table.found)) in
       ap (λ (t : database.Table). known_all (map (resolve_index_column is.says.definition.table t) is.says.definition.columns)) (sym found)
       ∙ (is.says.known ∙ ap (λ (keys : Keys). good keys) (sym (ap (λ (j : Index). map key_of j.columns) is.index_is ∙ same_keys is.i.columns)))
@@ -121,6 +125,7 @@ module _ (pages : PageMap) (size : ℕ) (db : Database) (items : List Item) (are
       once = is.says.once;
       name_is = ap (λ (j : Index). j.name) is.index_is;
       on = ap folded (sym is.on_is) ∙ sym on;
+      unique = ap (λ (j : Index). j.is_unique) is.index_is;
       columns = same_keys_known l i table is on;
     };
     rowid_is = at;

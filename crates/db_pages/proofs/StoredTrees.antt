@@ -12,7 +12,7 @@ use Rattle.tree_page.specs.Cells.{Pairwise}
 use Rattle.index_entries.specs.Entries.{collations, entries_of_rows}
 use Rattle.catalog.specs.Database as database
 use Rattle.catalog.specs.Database.{Database, ATable, name_order, object}
-use Rattle.catalog.specs.Listed.{plain_table}
+use Rattle.catalog.specs.Listed.{with_rows}
 use Rattle.catalog.specs.Rows.{are_rows}
 use Rattle.row_scan.specs.Rows.{IsRow, TableRow}
 use Rattle.db_layout.specs.Layout.{IsTree, OfEntries, Owner, used_by}
@@ -68,8 +68,8 @@ module _ (pages : PageMap) (size : ℕ) (db : Database) (all : List Listing) (in
   -- an index's tree has the entries of its table's rows
   entries_so : (l : Listing) (i : IndexListing) → Stands pages size db all l → IsIndexListing pages size db i → is_on l i ≡ true → IsEntriesTree (rows_of l) i.index (index_tree i)
   entries_so l i stands is on =
-      let same : is.says.t ≡ plain_table l.table l.content =
-      same_table is.says.t (plain_table l.table l.content)
+      let same : is.says.t ≡ with_rows l.table l.content =
+      same_table is.says.t (with_rows l.table l.content)
       (sym is.says.on ∙ (ap (λ n. find name_order n db) (sym (row_named pages size db l stands.is ∙ (named_same l.table.name i.on on ∙ ap folded is.on_is))) ∙ stands.is.found)) in
       record {
         root_is = refl;
@@ -94,7 +94,7 @@ module _ (pages : PageMap) (size : ℕ) (db : Database) (all : List Listing) (in
       both_so l (theirs is_on indexes l) (all_theirs (λ i. IsEntriesTree (rows_of l) i.index (index_tree i)) l indexes
           (all_so (IsIndexListing pages size db) (λ i. is_on l i ≡ true → IsEntriesTree (rows_of l) i.index (index_tree i)) (λ i is on. entries_so l i stands is on) indexes each_index)),
     );
-    fit = subst (λ (rows : List TableRow). are_rows (plain_table l.table rows) ≡ true) (sym stands.content_is) stands.is.fit;
+    fit = subst (λ (rows : List TableRow). are_rows (with_rows l.table rows) ≡ true) (sym stands.content_is) stands.is.fit;
   }
 
   pub trees_so : (items : List Listing) → AllByRecursion (Stands pages size db all) items

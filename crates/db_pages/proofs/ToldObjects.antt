@@ -7,7 +7,7 @@ use Rattle.sqlval.specs.Lists.{sorted}
 use Rattle.sqlval.specs.Names.{folded}
 use Rattle.sqlval.specs.declared.value.Value.{Value}
 use Rattle.catalog.specs.Database.{ATable, AnIndex, Database, Name, Object, name_order, object}
-use Rattle.catalog.specs.Listed.{index_objects, named_among, objects_of, plain_index, plain_table, table_object}
+use Rattle.catalog.specs.Listed.{index_objects, named_among, objects_of, as_index, with_rows, table_object}
 use Rattle.catalog.specs.Named.{IsOfTables}
 use Rattle.catalog.specs.declared.tables.Index.{Index}
 use Rattle.catalog.specs.declared.tables.Table.{Table}
@@ -24,16 +24,16 @@ told_name (IndexTold t i) = i.name
 
 -- the object that it tells, where these are the rows under each root
 abbrev pub told_object : (ℕ → List (ℤ × List Value)) → Told → Object
-told_object rows_at (TableTold t) = ATable (plain_table t (rows_at t.root))
-told_object rows_at (IndexTold t i) = AnIndex (plain_index t i)
+told_object rows_at (TableTold t) = ATable (with_rows t (rows_at t.root))
+told_object rows_at (IndexTold t i) = AnIndex (as_index t i)
 
 abbrev pub told_pair : (ℕ → List (ℤ × List Value)) → Told → Name × Object
 told_pair rows_at told = (told_name told, told_object rows_at told)
 
 -- the database has it under its name, and the table that an index is on
 abbrev pub IsKept : (ℕ → List (ℤ × List Value)) → Database → Told → Type 0
-IsKept rows_at db (TableTold t) = object db t.name ≡ Some (ATable (plain_table t (rows_at t.root)))
-IsKept rows_at db (IndexTold t i) = (object db i.name ≡ Some (AnIndex (plain_index t i))) × (object db t.name ≡ Some (ATable (plain_table t (rows_at t.root))))
+IsKept rows_at db (TableTold t) = object db t.name ≡ Some (ATable (with_rows t (rows_at t.root)))
+IsKept rows_at db (IndexTold t i) = (object db i.name ≡ Some (AnIndex (as_index t i))) × (object db t.name ≡ Some (ATable (with_rows t (rows_at t.root))))
 
 -- ---- all tables and indexes are the objects, in another order
 
@@ -42,9 +42,9 @@ pairs_both rows_at [] ys = refl
 pairs_both rows_at (x ∷ xs) ys = ap (λ ls. told_pair rows_at x ∷ ls) (pairs_both rows_at xs ys)
 
 index_pairs : (rows_at : ℕ → List (ℤ × List Value)) (t : Table) (is : List Index)
-    → map (told_pair rows_at) (map (λ (i : Index). IndexTold t i) is) ≡ map (λ (i : Index). (i.name, AnIndex (plain_index t i))) is
+    → map (told_pair rows_at) (map (λ (i : Index). IndexTold t i) is) ≡ map (λ (i : Index). (i.name, AnIndex (as_index t i))) is
 index_pairs rows_at t [] = refl
-index_pairs rows_at t (i ∷ is) = ap (λ ls. (i.name, AnIndex (plain_index t i)) ∷ ls) (index_pairs rows_at t is)
+index_pairs rows_at t (i ∷ is) = ap (λ ls. (i.name, AnIndex (as_index t i)) ∷ ls) (index_pairs rows_at t is)
 
 pub told_objects : (rows_at : ℕ → List (ℤ × List Value)) (tables : List Table) → AreReordered (map (told_pair rows_at) (all_told tables)) (objects_of rows_at tables)
 told_objects rows_at [] = refl
@@ -98,7 +98,7 @@ all_then P Q each (x ∷ xs) all = (each x all.0, all_then P Q each xs all.1)
 abbrev IsFound : (ℕ → List (ℤ × List Value)) → Database → Told → Type 0
 IsFound rows_at db told = object db (told_name told) ≡ Some (told_object rows_at told)
 
-kept_indexes : (rows_at : ℕ → List (ℤ × List Value)) (db : Database) (t : Table) (is : List Index) → object db t.name ≡ Some (ATable (plain_table t (rows_at t.root)))
+kept_indexes : (rows_at : ℕ → List (ℤ × List Value)) (db : Database) (t : Table) (is : List Index) → object db t.name ≡ Some (ATable (with_rows t (rows_at t.root)))
     → AllByRecursion (IsFound rows_at db) (map (λ (i : Index). IndexTold t i) is) → AllByRecursion (IsKept rows_at db) (map (λ (i : Index). IndexTold t i) is)
 kept_indexes rows_at db t [] on found = tt
 kept_indexes rows_at db t (i ∷ is) on found = ((found.0, on), kept_indexes rows_at db t is on found.1)

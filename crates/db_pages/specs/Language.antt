@@ -1,5 +1,5 @@
 -- The texts of the schema: what is known of SQL where files are read (Database File Format, "Storage Of The SQL Database Schema").
-use Rattle.std.specs.Prelude.{◌≡◌, not, true, ℕ, List, [], filter}
+use Rattle.std.specs.Prelude.{◌≡◌, not, [], filter}
 use Rattle.sqlval.specs.Names.{is_same_name}
 use Rattle.sql_syntax.specs.declared.create.NewObject.{NewObject}
 use Rattle.sql_syntax.specs.declared.create.NewObject.TheVariants as object

@@ -1,6 +1,6 @@
 -- The rows of the schema table: each has the text of a CREATE TABLE or of a CREATE INDEX (Database File Format, "Storage Of The SQL
 -- Database Schema").
-use Rattle.std.specs.Prelude.{◌≡◌, ◌<◌, ◌≤◌, true, false, ℕ, ℤ, pos, codes, List, [], ◌∷◌, flat_map, length, map}
+use Rattle.std.specs.Prelude.{◌≡◌, ◌<◌, ◌≤◌, true, false, ℕ, pos, codes, List, [], ◌∷◌, flat_map, length, map}
 use Rattle.sqlval.specs.Names.{folded}
 use Rattle.sqlval.specs.declared.value.Value.{Value}
 use Rattle.sqlval.specs.declared.value.Value.TheVariants.{Int, Text}
@@ -19,7 +19,7 @@ use Rattle.catalog.specs.Listed.{is_reserved}
 use Rattle.catalog.specs.declared.tables.Index.{Index}
 use Rattle.catalog.specs.declared.tables.Table.{Table}
 use Rattle.query_names.specs.Checked.{good}
-use Rattle.query_names.specs.Creating.{HasColumnsOf, has_doubled}
+use Rattle.query_names.specs.Creating.{HasChecksOf, HasColumnsOf, has_doubled}
 use Rattle.query_names.specs.Scopes.{is_doubled}
 use Rattle.query_bind.specs.Indexed.{key_of, keys_known, names_in}
 use Rattle.db_pages.specs.Forms.{is_object_supported}
@@ -40,12 +40,13 @@ CreatesSupported text made = IsCreateOf text made × (is_object_supported made �
 
 -- ---- what they make
 
--- The table of a definition: its name may be given, and no two columns have one name.
+-- The table of a definition, with its columns and CHECKs: its name may be given, and no two columns have one name.
 pub record IsTableOf (d : TableDefinition) (table : Table) : Type 0 where
   pub free : is_reserved d.name ≡ false
   pub once : has_doubled d.columns ≡ false
   pub name_is : table.name ≡ d.name
   pub columns : HasColumnsOf d table
+  pub checks : HasChecksOf d table
 
 -- The index of a definition on this table: its name may be given, it names no column twice, and each is one of the table's.
 pub record IsIndexOf (d : IndexDefinition) (table : Table) (index : Index) : Type 0 where
@@ -53,6 +54,7 @@ pub record IsIndexOf (d : IndexDefinition) (table : Table) (index : Index) : Typ
   pub once : is_doubled (names_in d.columns) ≡ false
   pub name_is : index.name ≡ d.name
   pub on : folded d.table ≡ folded table.name
+  pub unique : index.is_unique ≡ d.is_unique
   pub columns : keys_known table d ≡ good (map key_of index.columns)
 
 -- ---- rows

@@ -8,7 +8,7 @@ use Rattle.tree_page.specs.Cells.{Pairwise}
 use Rattle.db_layout.specs.Layout.{AreShared, OfRows, Owner}
 use Rattle.db_layout.specs.Trees.{AreTreesOf}
 use Rattle.catalog.specs.Database.{Database}
-use Rattle.catalog.specs.Listed.{plain_table}
+use Rattle.catalog.specs.Listed.{with_rows}
 use Rattle.catalog.specs.Named.{IsOfTables}
 use Rattle.catalog.specs.Rows.{are_rows}
 use Rattle.catalog.specs.declared.tables.Table.{Table}
@@ -23,7 +23,7 @@ schema_tree rows used = record { root = 1; content = OfRows rows; used = used }
 -- These are the trees of the table and of its indexes. They hold its rows, which are such as it may hold, and their entries.
 pub record AreHeld (rows_at : ℕ → List TableRow) (table : Table) (trees : List Owner) : Type 0 where
   pub are : AreTreesOf table (rows_at table.root) trees
-  pub fit : are_rows (plain_table table (rows_at table.root)) ≡ true
+  pub fit : are_rows (with_rows table (rows_at table.root)) ≡ true
 
 -- the trees of all tables, one after another
 abbrev pub all_trees : List (List Owner) → List Owner

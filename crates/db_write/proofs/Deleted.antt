@@ -11,7 +11,7 @@ use Rattle.pages.specs.Map.{PageMap}
 use Rattle.tree_table.specs.Calls.{BecomesRows}
 use Rattle.tree_table.specs.Freeing.{ClearsTree}
 use Rattle.db_layout.specs.Layout.{Owner}
-use Rattle.catalog.specs.Listed.{plain_table}
+use Rattle.catalog.specs.Listed.{with_rows}
 use Rattle.catalog.specs.Rows.{are_rows}
 use Rattle.catalog.specs.declared.tables.Table.{Table}
 use Rattle.catalog.specs.declared.tables.TableRow as stored
@@ -119,15 +119,15 @@ module _ (old mid : PageMap) (size : ℕ) (table : Table) (c : Term) where
 
     -- rows are taken; then the indexes follow
     module _ (takes : TakesRows old mid size reading c found (Ok tt)) (schema : Owner) (before after : List Owner) (rows : List TableRow) (s : RowsStand old size schema before table rows after)
-        (enough : AreEnough (Some c) found rows) (fit : are_rows (plain_table table rows) ≡ true) where
+        (enough : AreEnough (Some c) found rows) (fit : are_rows (with_rows table rows) ≡ true) where
       taken : AreTakenOut old mid size reading c rows s.used s.free
       taken = takes rows s.entries s.used s.free s.stands s.each enough
 
       left_is : filter (stays c) rows ≡ taken.left
       left_is = filtered (stays c) rows taken.left (all_answers (map (tested c) rows)) taken.answer
 
-      fits : are_rows (plain_table table taken.left) ≡ true
-      fits = subst (λ (l : List TableRow). are_rows (plain_table table l) ≡ true) left_is (fit_still (stays c) table rows fit)
+      fits : are_rows (with_rows table taken.left) ≡ true
+      fits = subst (λ (l : List TableRow). are_rows (with_rows table l) ≡ true) left_is (fit_still (stays c) table rows fit)
 
       abbrev Before : List Owner
       Before = before ++ rows_tree table.root taken.entries taken.becomes.now_used ∷ []

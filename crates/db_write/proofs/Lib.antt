@@ -1,12 +1,17 @@
 mod Among
+mod Clashing
 mod Deleted
 mod Dropped
 mod Indexed
 mod Inserted
+mod InsertedRows
 pub mod Looping
 pub mod Needed
+mod OneRows
 mod Owned
 mod SetShuffles
 mod Shuffling
 mod Sides
+mod TurnedRows
 mod Updated
+mod Widths

@@ -14,7 +14,7 @@ use Rattle.pages.specs.Map.{PageMap}
 use Rattle.tree_page.specs.Cells.{Pairwise}
 use Rattle.tree_index.specs.Tree.{IsIndexTree}
 use Rattle.db_layout.specs.Layout.{HoldsUnder, IsTree, Owner}
-use Rattle.catalog.specs.Listed.{as_column, plain_table}
+use Rattle.catalog.specs.Listed.{as_column, with_rows}
 use Rattle.catalog.specs.Rows.{are_rows, is_row, is_value}
 use Rattle.catalog.specs.declared.tables.Index.{Index}
 use Rattle.catalog.specs.declared.tables.Table.{Table}
@@ -29,7 +29,8 @@ use Rattle.row_scan.specs.Rows.{TableRow}
 use Rattle.row_scan.specs.Sources.{as_source}
 use Rattle.row_search.specs.Found.{AreNeeded, FindsNeeded, HasEntriesOf, HasIndexed}
 use Rattle.row_change.specs.Choosing.{chosen, is_chosen, tested}
-use Rattle.row_change.specs.Meaning.{AreEnough, chosen_or_all}
+use Rattle.row_change.specs.Choosing.{chosen_or_all}
+use Rattle.row_change.specs.Meaning.{AreEnough}
 use Rattle.row_change.specs.NewRows.{row_of}
 use Rattle.index_entries.specs.Entries.{collations, entries_of_rows}
 use Rattle.db_layout.specs.Trees.{IsEntriesTree, columns_of}
@@ -165,7 +166,7 @@ rest_of P (x ∷ front) back all = rest_of P front back all.1
 
 -- ---- rowids of 64 bits
 
-word_of : (table : Table) (rows : List TableRow) (row : TableRow) → is_row (plain_table table rows) row ≡ true → is_word row.0 ≡ true
+word_of : (table : Table) (rows : List TableRow) (row : TableRow) → is_row (with_rows table rows) row ≡ true → is_word row.0 ≡ true
 word_of table rows row is =
     let long = length row.1 == length (map as_column table.columns) in
     let stored = list_all is_value row.1 in
@@ -175,9 +176,9 @@ words_of : (test : TableRow → Bool) → ((row : TableRow) → test row ≡ tru
 words_of test word [] all = tt
 words_of test word (row ∷ rows) all = (word row (left_of (test row) (list_all test rows) all), words_of test word rows (right_of (test row) (list_all test rows) all))
 
-pub are_words : (table : Table) (rows : List TableRow) → are_rows (plain_table table rows) ≡ true → AllByRecursion (λ (row : TableRow). is_word row.0 ≡ true) rows
+pub are_words : (table : Table) (rows : List TableRow) → are_rows (with_rows table rows) ≡ true → AllByRecursion (λ (row : TableRow). is_word row.0 ≡ true) rows
 are_words table rows fit =
-    words_of (is_row (plain_table table rows)) (word_of table rows) rows (right_of (is_rising int_cmp (map (λ r. r.0) rows)) (list_all (is_row (plain_table table rows)) rows) fit)
+    words_of (is_row (with_rows table rows)) (word_of table rows) rows (right_of (is_rising int_cmp (map (λ r. r.0) rows)) (list_all (is_row (with_rows table rows)) rows) fit)
 
 -- ---- what is read
 
@@ -185,7 +186,7 @@ module _ (pages : PageMap) (size : ℕ) (table : Table) where
   abbrev source : BoundSource
   source = record { root = table.root; width = length table.columns }
 
-  has_indexed : (schema : Owner) (before : List Owner) (rows : List TableRow) (after : List Owner) → RowsStand pages size schema before table rows after → are_rows (plain_table table rows) ≡ true
+  has_indexed : (schema : Owner) (before : List Owner) (rows : List TableRow) (after : List Owner) → RowsStand pages size schema before table rows after → are_rows (with_rows table rows) ≡ true
       → HasIndexed pages size source table.indexes rows
   has_indexed schema before rows after s fit = record {
     whole = s.stands.free_are.whole;

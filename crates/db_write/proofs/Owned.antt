@@ -10,7 +10,7 @@ use Rattle.pages.specs.Map.{PageMap}
 use Rattle.tree_page.specs.Cells.{Pairwise}
 use Rattle.tree_table.specs.Calls.{BecomesRows, Stands}
 use Rattle.db_layout.specs.Layout.{AreShared, OfEntries, Owner}
-use Rattle.catalog.specs.Listed.{plain_table}
+use Rattle.catalog.specs.Listed.{with_rows}
 use Rattle.catalog.specs.Rows.{are_rows, is_row}
 use Rattle.catalog.specs.declared.tables.Index.{Index}
 use Rattle.catalog.specs.declared.tables.Table.{Table}
@@ -23,8 +23,8 @@ use Rattle.db_write.specs.Turning.{HaveEntries, HaveNow}
 use Rattle.db_write.proofs.Among.{keeps_then, one_replaced, regrouped, rows_stand, rows_tree}
 
 -- rows that a table may hold have rowids of their own
-pub fit_apart : (table : Table) (rows : List TableRow) → are_rows (plain_table table rows) ≡ true → AreApart rows
-fit_apart table rows fit = are_apart rows (first (is_rising int_cmp (map (λ r. r.0) rows)) (list_all (is_row (plain_table table rows)) rows) fit)
+pub fit_apart : (table : Table) (rows : List TableRow) → are_rows (with_rows table rows) ≡ true → AreApart rows
+fit_apart table rows fit = are_apart rows (first (is_rising int_cmp (map (λ r. r.0) rows)) (list_all (is_row (with_rows table rows)) rows) fit)
   where
     first : (a b : Bool) → a && b ≡ true → a ≡ true
     first true b e = refl

@@ -6,8 +6,8 @@ use Rattle.query_terms.specs.Terms.{Term}
 use Rattle.row_scan.specs.Rows.{TableRow}
 use Rattle.row_scan.specs.Sources.{as_source}
 use Rattle.row_change.specs.Choosing.{is_chosen, tested}
-use Rattle.row_change.specs.Meaning.{chosen_or_all}
-use Rattle.row_change.specs.Setting.{row_set, rows_changed, rows_meant_set, rows_set}
+use Rattle.row_change.specs.Choosing.{chosen_or_all}
+use Rattle.row_change.specs.Setting.{row_set, rows_changed, rows_meant_set, rows_set, rows_set_each, rows_turned}
 use Rattle.index_entries.specs.Replacing.{rowids}
 use Rattle.row_change.proofs.Replaced.{made, set_parts}
 use Rattle.row_change.proofs.SetTrees.{changed_known, meant_by}
@@ -71,7 +71,7 @@ module _ (table : Table) (sets : List (ℕ × Term)) (is_meant : TableRow → Bo
 
 module _ (table : Table) (sets : List (ℕ × Term)) (c : Option Term) where
   -- what is answered, among the rows that SET leaves
-  pub changed_shuffle : (rows come now : List TableRow) → rows_changed table sets c (map as_source rows) ≡ Ok come → rows_set table sets c rows ≡ Ok now → Shuffles (filter (λ row. not (meant_by c row)) rows) come now
+  pub changed_shuffle : (rows come now : List TableRow) → rows_changed table sets c (map as_source rows) ≡ Ok come → rows_set_each table sets c rows ≡ Ok now → Shuffles (filter (λ row. not (meant_by c row)) rows) come now
   changed_shuffle rows come now e h =
       let known = changed_known table sets c rows come e in
       set_shuffles table sets (meant_by c) rows come now known.0 (sym known.1 ∙ h)
@@ -109,9 +109,4 @@ meant_are (Some c) rows gone e = by (all_answers (map (tested c) rows)) e
     by (Err r) h = absurd (not_given r gone h)
 
 pub meant_refused : (table : Table) (sets : List (ℕ × Term)) (c : Option Term) (rows : List TableRow) (r : Refusal) → chosen_or_all c rows ≡ Err r → rows_set table sets c rows ≡ Err r
-meant_refused table sets None rows r e = absurd (no_rows_refused rows r e)
-meant_refused table sets (Some c) rows r e = by (all_answers (map (tested c) rows)) e
-  where
-    by : (a : Answer (List (Option Bool))) → (a then λ tests. given_rows (filter (is_chosen c) rows)) ≡ Err r → (a then λ tests. rows_meant_set table sets (is_chosen c) rows) ≡ Err r
-    by (Ok tests) h = absurd (no_rows_refused (filter (is_chosen c) rows) r h)
-    by (Err s) h = ap (λ (x : Refusal). Err x) (same_refusal s r h)
+meant_refused table sets c rows r e = ap (λ (a : Answer (List TableRow)). a then λ olds. rows_turned table sets rows olds) e

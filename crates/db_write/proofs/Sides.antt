@@ -23,15 +23,29 @@ use Rattle.db_write.proofs.Among.{entries_stand, entries_tree, is_entries_tree, 
 -- ---- one index among others
 
 -- its tree has turned, and stands before those that are left
-record HasTurned (old new : PageMap) (size : ℕ) (schema : Owner) (before : List Owner) (index : Index) (rest : List Index) (from to : List TableRow) (after : List Owner) : Type 0 where
-  tree : Owner
-  is : IsEntriesTree to index tree
-  have : HaveEntries new size schema (before ++ tree ∷ []) rest from after
-  header : KeepsHeader old new
-  longer : length old ≤ length new
+pub record HasTurned (old new : PageMap) (size : ℕ) (schema : Owner) (before : List Owner) (index : Index) (rest : List Index) (from to : List TableRow) (after : List Owner) : Type 0 where
+  pub tree : Owner
+  pub is : IsEntriesTree to index tree
+  pub have : HaveEntries new size schema (before ++ tree ∷ []) rest from after
+  pub header : KeepsHeader old new
+  pub longer : length old ≤ length new
+
+-- where those that are left have turned too, all have
+pub now_all : (old mid new : PageMap) (size : ℕ) (schema : Owner) (before : List Owner) (index : Index) (rest : List Index) (from to : List TableRow) (after : List Owner)
+    (t : HasTurned old mid size schema before index rest from to after) → HaveNow mid new size schema (before ++ t.tree ∷ []) rest to after → HaveNow old new size schema before (index ∷ rest) to after
+now_all old mid new size schema before index rest from to after t now = record {
+  have = record {
+    mine = t.tree ∷ now.have.mine;
+    each = (t.is, now.have.each);
+    free = now.have.free;
+    shared = subst (λ (os : List Owner). AreShared new size (schema ∷ os) now.have.free) (regrouped before t.tree now.have.mine after) now.have.shared;
+  };
+  header = keeps_then old mid new t.header now.header;
+  longer = (let a = t.longer in let b = now.longer in omega (arith, a, b));
+}
 
 module _ (old mid : PageMap) (size : ℕ) (index : Index) (rest : List Index) (from to : List TableRow) (First : Fault → Type 0) where
-  turned : Turns old mid size index.root (columns_of index) from to First (Ok tt) → (schema : Owner) (before after : List Owner) → IsPageSize size → schema.root ≡ 1
+  pub turned : Turns old mid size index.root (columns_of index) from to First (Ok tt) → (schema : Owner) (before after : List Owner) → IsPageSize size → schema.root ≡ 1
       → HaveEntries old size schema before (index ∷ rest) from after → HasTurned old mid size schema before index rest from to after
   turned turns schema before after sized is_root have = by have.mine have.each have.shared
     where
@@ -72,16 +86,7 @@ module _ (old mid : PageMap) (size : ℕ) (index : Index) (rest : List Index) (f
       t = turned first schema before after sized is_root have
 
       by : (r : Result ⊤ Fault) → MatchResult r (λ done. HaveNow mid new size schema (before ++ t.tree ∷ []) rest to after) Why → MatchResult r (λ done. HaveNow old new size schema before (index ∷ rest) to after) Why
-      by (Ok done) now = record {
-        have = record {
-          mine = t.tree ∷ now.have.mine;
-          each = (t.is, now.have.each);
-          free = now.have.free;
-          shared = subst (λ (os : List Owner). AreShared new size (schema ∷ os) now.have.free) (regrouped before t.tree now.have.mine after) now.have.shared;
-        };
-        header = keeps_then old mid new t.header now.header;
-        longer = (let a = t.longer in let b = now.longer in omega (arith, a, b));
-      }
+      by (Ok done) now = now_all old mid new size schema before index rest from to after t now
       by (Err f) why = why
 
   turn_stop : (Why : Fault → Type 0) (fault : Fault) (result : Result ⊤ Fault) → IsErrAnd result (λ e. e ≡ fault) → Turns old mid size index.root (columns_of index) from to First (Err fault) → (First fault → Why fault)

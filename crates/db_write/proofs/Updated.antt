@@ -1,7 +1,8 @@
 -- What updating rows with their entries comes to.
-use Rattle.std.proofs.Common.{◌≡◌, ◌⊎◌, ◌∙◌, inl, inr, sym, ap, subst, ℕ, true, not, filter, List, [], ◌∷◌, ◌++◌, length, map, Option, Ok, Err}
+use Rattle.std.proofs.Common.{◌≡◌, ◌⊎◌, ◌∙◌, inl, inr, sym, ap, subst, ℕ, true, false, not, filter, List, [], ◌∷◌, ◌++◌, length, map, Option, Ok, Err, refl, arith}
 use Rattle.std.specs.Prelude.{Result, IsErrAnd, MatchResult, ⊤}
 use Rattle.std.specs.Global.{Vec}
+use Rattle.std.specs.List.{list_any}
 use Rattle.sqlval.specs.Faults.{IsOutside}
 use Rattle.sqlval.specs.PageSizes.{IsPageSize}
 use Rattle.sqlval.specs.Refusals.{refusal_of}
@@ -10,7 +11,7 @@ use Rattle.sqlval.specs.declared.fault.Fault.TheVariants.{TooLong}
 use Rattle.pages.specs.Calls.{IsOutsideOrFull}
 use Rattle.pages.specs.Map.{PageMap}
 use Rattle.db_layout.specs.Layout.{Owner}
-use Rattle.catalog.specs.Listed.{plain_table}
+use Rattle.catalog.specs.Listed.{with_rows}
 use Rattle.catalog.specs.Rows.{are_rows}
 use Rattle.catalog.specs.declared.tables.Index.{Index}
 use Rattle.catalog.specs.declared.tables.Table.{Table}
@@ -20,7 +21,9 @@ use Rattle.query_terms.specs.Terms.{Term}
 use Rattle.query_terms.specs.Values.{Row}
 use Rattle.record.specs.Writing.{AreStorable}
 use Rattle.row_scan.specs.Rows.{TableRow}
-use Rattle.row_change.specs.Meaning.{AreEnough, chosen_or_all}
+use Rattle.row_change.specs.Agreement.{SetsAsEach, has_unique}
+use Rattle.row_change.specs.Choosing.{chosen_or_all}
+use Rattle.row_change.specs.Meaning.{AreEnough}
 use Rattle.row_change.specs.Updating.{AreSetIn, IsSetRefusal, SetsRows, TellsChanged}
 use Rattle.row_change.proofs.SetTrees.{meant_by}
 use Rattle.index_entries.specs.Entries.{AreApart, indexed}
@@ -36,6 +39,7 @@ use Rattle.db_write.proofs.Owned.{RowsStand, fit_apart, indexes_stand, rows_amon
 use Rattle.db_write.proofs.SetShuffles.{changed_shuffle, meant_are, meant_refused, rowids_kept}
 use Rattle.db_write.proofs.Shuffling.{Shuffles, all_come, parted, shuffled_apart, shuffled_entries}
 use Rattle.db_write.proofs.Sides.{no_index}
+use Rattle.db_write.proofs.Widths.{wide_among}
 
 -- entries of all rows can be stored only if those of some can
 some_storable : {stay come now : List TableRow} (indexes : List Index) → Shuffles stay come now → AreEntriesStorable indexes now → AreEntriesStorable indexes come
@@ -60,25 +64,26 @@ module _ (old mid : PageMap) (size : ℕ) (table : Table) (c : Option Term) (set
         by rows (inl memory) = inl (inl (inl memory))
         by rows (inr e) = inr (inl (meant_refused table sets c rows (refusal_of fault) e))
 
+  -- without a UNIQUE index all rows are set at once
+  module _ (law : SetsAsEach) (plain : has_unique table ≡ false) (found : List Row) (loads : LoadsEnough old size table c (Ok found)) where
     -- no row is set
     pub none_set : (fault : Fault) (result : Result ⊤ Fault) → IsErrAnd result (λ e. e ≡ fault) → SetsRows {X = ⊤} old mid size table.root table sets c found (Err fault) → UpdatesInTrees old mid size table c sets result
     none_set fault (Ok done) same sets_so = absurd same
     none_set fault (Err e) same sets_so = λ schema before after rows sized is_root among fit. (
         let s = rows_among old size schema before table rows after among sized is_root in
-        subst (λ (f : Fault). IsRefusedUpdate table c sets rows f) (sym same) (by rows (sets_so rows s.entries s.used s.free s.stands s.each (loads schema before after rows sized is_root among fit))))
+        subst (λ (f : Fault). IsRefusedUpdate table c sets rows f) (sym same) (by rows fit (sets_so rows s.entries s.used s.free s.stands s.each (loads schema before after rows sized is_root among fit))))
       where
-        by : (rows : List TableRow) → IsSetRefusal table sets c rows fault → IsRefusedUpdate table c sets rows fault
-        by rows (inl outside) = inl outside
-        by rows (inr (inl e)) = inr (inl e)
-        by rows (inr (inr long)) = inr (inr (record { is = long.is; now = long.now; answer = long.answer; long = λ both. long.long both.0 }))
+        by : (rows : List TableRow) → are_rows (with_rows table rows) ≡ true → IsSetRefusal table sets c rows fault → IsRefusedUpdate table c sets rows fault
+        by rows fit (inl outside) = inl outside
+        by rows fit (inr e) = inr (inl (law table sets c rows plain fit ∙ e))
 
     -- rows are set; then the indexes follow
     module _ (sets_so : SetsRows {X = ⊤} old mid size table.root table sets c found (Ok tt)) (schema : Owner) (before after : List Owner) (rows : List TableRow) (s : RowsStand old size schema before table rows after)
-        (enough : AreEnough c found rows) (fit : are_rows (plain_table table rows) ≡ true) where
+        (enough : AreEnough c found rows) (fit : are_rows (with_rows table rows) ≡ true) where
       set : AreSetIn old mid size table.root table sets c rows s.used s.free
       set = sets_so rows s.entries s.used s.free s.stands s.each enough
 
-      fits : are_rows (plain_table table set.now) ≡ true
+      fits : are_rows (with_rows table set.now) ≡ true
       fits = set.fit fit
 
       abbrev Before : List Owner
@@ -90,7 +95,7 @@ module _ (old mid : PageMap) (size : ℕ) (table : Table) (c : Option Term) (set
       updated : (new : PageMap) → HaveNow mid new size schema Before table.indexes set.now after → AreUpdated old new size schema before table c sets rows after
       updated new have = record {
         now = set.now;
-        answer = set.answer;
+        answer = law table sets c rows plain fit ∙ set.answer;
         hold = record { holds = table_holds old mid size schema before table rows after s set.entries set.becomes new set.now set.each have; fit = fits };
       }
 
@@ -106,7 +111,7 @@ module _ (old mid : PageMap) (size : ℕ) (table : Table) (c : Option Term) (set
     module _ (gone come : Vec stored.TableRow) (means : MeansRows c found (Ok gone)) (sets_so : SetsRows {X = ⊤} old mid size table.root table sets c found (Ok tt))
         (tells : TellsChanged table sets c found (Ok come)) where
       module _ (new : PageMap) (schema : Owner) (before after : List Owner) (rows : List TableRow) (sized : IsPageSize size) (is_root : schema.root ≡ 1) (s : RowsStand old size schema before table rows after)
-          (enough : AreEnough c found rows) (fit : are_rows (plain_table table rows) ≡ true) where
+          (enough : AreEnough c found rows) (fit : are_rows (with_rows table rows) ≡ true) where
         abbrev stay : List TableRow
         stay = filter (λ row. not (meant_by c row)) rows
 
@@ -146,15 +151,18 @@ module _ (old mid : PageMap) (size : ℕ) (table : Table) (c : Option Term) (set
               longer = have.longer;
             })
             by (Err fault) (inl outside) = inl outside
-            by (Err fault) (inr long) = inr (inr (record {
-              is = long.0;
-              now = now;
-              answer = (set sets_so schema before after rows s enough fit).answer;
-              long = λ both. long.1 (some_storable table.indexes came both.1);
-            }))
+            by (Err fault) (inr long) = inr (inr (long.0, wide_among table now (fits sets_so schema before after rows s enough fit) (λ all. long.1 (some_storable table.indexes came all))))
 
       pub indexed_set : (new : PageMap) (result : Result ⊤ Fault) → ReplacesInIndexes mid new size table.indexes (map row_in gone.items) (map row_in come.items) result → UpdatesInTrees old new size table c sets result
       indexed_set new result replaces schema before after rows sized is_root among fit =
           let s = rows_among old size schema before table rows after among sized is_root in
           let enough = loads schema before after rows sized is_root among fit in
           replaced new schema before after rows sized is_root s enough fit result replaces
+
+-- a table without indexes has no UNIQUE one
+pub bare_plain : (table : Table) → length table.indexes ≡ 0 → has_unique table ≡ false
+bare_plain table bare = by table.indexes bare
+  where
+    by : (indexes : List Index) → length indexes ≡ 0 → list_any (λ i. i.is_unique) indexes ≡ false
+    by [] few = refl
+    by (index ∷ indexes) few = absurd (omega (arith, few))

@@ -1,3 +1,4 @@
 pub mod Turning
 pub mod Reading
 pub mod Changing
+pub mod OneRow

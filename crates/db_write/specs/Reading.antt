@@ -5,7 +5,7 @@ use Rattle.sqlval.specs.PageSizes.{IsPageSize}
 use Rattle.sqlval.specs.declared.fault.Fault.{Fault}
 use Rattle.pages.specs.Map.{PageMap}
 use Rattle.db_layout.specs.Layout.{Owner}
-use Rattle.catalog.specs.Listed.{plain_table}
+use Rattle.catalog.specs.Listed.{with_rows}
 use Rattle.catalog.specs.Rows.{are_rows}
 use Rattle.catalog.specs.declared.tables.Table.{Table}
 use Rattle.query_terms.specs.Terms.{Term}
@@ -18,5 +18,5 @@ use Rattle.db_layout.specs.Trees.{AreAmong}
 -- or a disk's call failed.
 abbrev pub LoadsEnough : PageMap → ℕ → Table → Option Term → Result (List Row) Fault → Type 0
 LoadsEnough pages size table condition result = (schema : Owner) (before after : List Owner) (rows : List TableRow) → IsPageSize size → schema.root ≡ 1
-    → AreAmong pages size schema before table rows after → are_rows (plain_table table rows) ≡ true
+    → AreAmong pages size schema before table rows after → are_rows (with_rows table rows) ≡ true
     → MatchResult result (λ found. AreEnough condition found rows) IsOutside

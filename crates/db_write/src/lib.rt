@@ -7,6 +7,7 @@ mod entries;
 mod inserting;
 mod making;
 mod reading;
+mod row_entries;
 mod updating;
 
 pub use deleting::delete_rows;

@@ -25,7 +25,7 @@ use Rattle.tree_table.proofs.LeafTrees.{root_there}
 use Rattle.db_layout.specs.Layout.{ReplacesTrees, TreesStand}
 use Rattle.catalog.specs.Database.{Database, Name, Object, ATable, with_object}
 use Rattle.catalog.specs.Laws.{KeepsOnlyPlain}
-use Rattle.catalog.specs.Listed.{Lists, has_index, has_table_name, is_name_of, is_table, named_among, names_of, objects_of, plain_table, table_named}
+use Rattle.catalog.specs.Listed.{Lists, has_index, has_table_name, is_name_of, is_table, named_among, names_of, objects_of, with_rows, table_named}
 use Rattle.catalog.specs.Named.{IsOfTables, KeepsNamed}
 use Rattle.catalog.specs.NewTables.{ListsNewTable}
 use Rattle.catalog.specs.UnusedRowids.{is_among}
@@ -34,7 +34,7 @@ use Rattle.catalog.specs.declared.tables.Index.{Index}
 use Rattle.catalog.specs.declared.tables.Table.{Table}
 use Rattle.catalog.proofs.Found.{names_found}
 use Rattle.query_names.specs.Checked.{Checked, Meant, faults}
-use Rattle.query_names.specs.Creating.{IsCreateRefusal, has_plain_rules}
+use Rattle.query_names.specs.Creating.{IsCreateRefusal, has_no_keys}
 use Rattle.query_names.specs.Schema.{create}
 use Rattle.query_names.proofs.CreatedTables.{makes_table, refuses_table}
 use Rattle.row_scan.specs.Rows.{TableRow}
@@ -66,11 +66,11 @@ refused_work : (k : Checked Database) (r : Refusal) → Contains (faults k) r �
 refused_work (Meant db []) r has = absurd (omega (arith, has.1))
 refused_work (Meant db (s ∷ rs)) r has = has
 
-pub reached : (sql : List ℕ) (db : Database) (rows_at : ℕ → List TableRow) (tables : List Table) (d : TableDefinition) (t : Table) → IsOfTables rows_at tables db → has_plain_rules d ≡ true → IsNewTable tables d t
-    → Reaches (change_made (creating sql d) db) (with_object db d.name (ATable (plain_table t [])))
+pub reached : (sql : List ℕ) (db : Database) (rows_at : ℕ → List TableRow) (tables : List Table) (d : TableDefinition) (t : Table) → IsOfTables rows_at tables db → has_no_keys d ≡ true → IsNewTable tables d t
+    → Reaches (change_made (creating sql d) db) (with_object db d.name (ATable (with_rows t [])))
 reached sql db rows_at tables d t of_tables plain new =
-    subst (λ (k : Checked Database). Reaches (of_known k) (with_object db d.name (ATable (plain_table t []))))
-    (sym (makes_table rows_at tables db d t of_tables.lists plain (record { free = new.makes.free; new = new.new; once = new.makes.once }) new.makes.columns)) refl
+    subst (λ (k : Checked Database). Reaches (of_known k) (with_object db d.name (ATable (with_rows t []))))
+    (sym (makes_table rows_at tables db d t of_tables.lists plain (record { free = new.makes.free; new = new.new; once = new.makes.once }) new.makes.columns new.makes.checks)) refl
 
 -- ---- names that none has
 
@@ -136,16 +136,18 @@ module _ (laws : Laws) (old : PageMap) (size : ℕ) (tables : List Table) (db : 
     schema_then = schema_stands mid size (rows_with held.rows_at root []) (t ∷ tables) held.schema then_trees laws.stand
 
     -- its row isn't added
-    pub refused_row : has_plain_rules d ≡ true → (f : Fault) → IsOutsideOrFull f ⊎ AreTooLong (schema_row (codes "table") d.name d.name root sql) f → IsChangeRefusal (creating sql d) db f
+    pub refused_row : has_no_keys d ≡ true → (f : Fault) → IsOutsideOrFull f ⊎ AreTooLong (schema_row (codes "table") d.name d.name root sql) f → IsChangeRefusal (creating sql d) db f
     refused_row plain f (inl full) = inl full
     refused_row plain f (inr (what, long)) = inr (inr (record {
       is = what;
-      made = with_object db d.name (ATable (plain_table t []));
-      reaches = reached sql db held.rows_at tables d t held.of_tables plain new_table;
-      why = inr (root, long);
+      why = inr (record {
+        made = with_object db d.name (ATable (with_rows t []));
+        reaches = reached sql db held.rows_at tables d t held.of_tables plain new_table;
+        long = (root, long);
+      });
     }))
 
-    module _ (plain : has_plain_rules d ≡ true) (text : IsCreateOf sql (object.Table d)) (new : PageMap) (unused : is_among t.rowid (rowids_of tables) ≡ false)
+    module _ (plain : has_no_keys d ≡ true) (text : IsCreateOf sql (object.Table d)) (new : PageMap) (unused : is_among t.rowid (rowids_of tables) ≡ false)
         (added : IsAdded mid new size (schema_row (codes "table") d.name d.name root sql) held.schema held.schema_used tree.now_free t.rowid) where
       longer : length mid ≤ length new
       longer = added.becomes.moves.longer
@@ -190,30 +192,30 @@ module _ (laws : Laws) (old : PageMap) (size : ℕ) (tables : List Table) (db : 
           let none = none_there old size held.rows_at tables held.schema trees laws.give_way mid root tree in
           absurd (omega (arith, at, none))
 
-      lists_more : Lists (rows_with held.rows_at root []) (t ∷ tables) (with_object db t.name (ATable (plain_table t [])))
-      lists_more = subst (λ (n : ℕ). Lists (rows_with held.rows_at n []) (t ∷ tables) (with_object db t.name (ATable (plain_table t [])))) root_is
+      lists_more : Lists (rows_with held.rows_at root []) (t ∷ tables) (with_object db t.name (ATable (with_rows t [])))
+      lists_more = subst (λ (n : ℕ). Lists (rows_with held.rows_at n []) (t ∷ tables) (with_object db t.name (ATable (with_rows t [])))) root_is
           (laws.lists held.rows_at [] tables db t held.of_tables.lists new_table.bare (no_table tables t.name new_name) unused_root)
 
-      of_more : IsOfTables (rows_with held.rows_at root []) (t ∷ tables) (with_object db t.name (ATable (plain_table t [])))
+      of_more : IsOfTables (rows_with held.rows_at root []) (t ∷ tables) (with_object db t.name (ATable (with_rows t [])))
       of_more = record {
         lists = lists_more;
-        only = laws.tables db t.name (ATable (plain_table t [])) held.of_tables.only refl;
-        named = laws.named db t.name (ATable (plain_table t [])) held.of_tables.named;
+        only = laws.tables db t.name (ATable (with_rows t [])) held.of_tables.only refl;
+        named = laws.named db t.name (ATable (with_rows t [])) held.of_tables.named;
         once = ap not (ap (any_twice is_same_name) (bare_names t tables new_table.bare)
             ∙ (ap (λ b. b || any_twice is_same_name (names_of tables)) (none_named held.rows_at tables t.name new_name) ∙ no_no (any_twice is_same_name (names_of tables)) held.of_tables.once));
       }
 
-      stores_more : Stores new size (t ∷ tables) (with_object db d.name (ATable (plain_table t [])))
+      stores_more : Stores new size (t ∷ tables) (with_object db d.name (ATable (with_rows t [])))
       stores_more =
-          subst (λ (n : Name). Stores new size (t ∷ tables) (with_object db n (ATable (plain_table t [])))) name_is
-          (stores_of new size (rows_with held.rows_at root []) (t ∷ tables) (with_row added.entry held.schema) (with_object db t.name (ATable (plain_table t [])))
+          subst (λ (n : Name). Stores new size (t ∷ tables) (with_object db n (ATable (with_rows t [])))) name_is
+          (stores_of new size (rows_with held.rows_at root []) (t ∷ tables) (with_row added.entry held.schema) (with_object db t.name (ATable (with_rows t [])))
           (with_schema mid size (rows_with held.rows_at root []) (t ∷ tables) held.schema then_trees laws.give_way new (with_row added.entry held.schema) added.becomes) of_more told)
 
-      pub creates : (listed : List Table) → listed ≡ t ∷ tables → has_plain_rules d ≡ true → IsMade (creating sql d) db new size listed
+      pub creates : (listed : List Table) → listed ≡ t ∷ tables → has_no_keys d ≡ true → IsMade (creating sql d) db new size listed
       creates listed same no_rules = record {
-        made = with_object db d.name (ATable (plain_table t []));
+        made = with_object db d.name (ATable (with_rows t []));
         reaches = reached sql db held.rows_at tables d t held.of_tables no_rules new_table;
-        stored = subst (λ ts. Stores new size ts (with_object db d.name (ATable (plain_table t [])))) (sym same) stores_more;
+        stored = subst (λ ts. Stores new size ts (with_object db d.name (ATable (with_rows t [])))) (sym same) stores_more;
       }
 
 -- ---- calls that pass a refusal on

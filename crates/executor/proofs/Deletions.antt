@@ -15,7 +15,7 @@ use Rattle.sqlval.specs.PageSizes.{IsPageSize}
 use Rattle.db_layout.specs.Trees.{AreAmong}
 use Rattle.catalog.specs.Database.{ATable, Database, Name, with_object}
 use Rattle.catalog.specs.Laws.{KeepsOnlyPlain, ListsOtherRows}
-use Rattle.catalog.specs.Listed.{plain_table, table_named}
+use Rattle.catalog.specs.Listed.{with_rows, table_named}
 use Rattle.catalog.specs.Named.{IsOfTables, KeepsNamed}
 use Rattle.catalog.specs.declared.tables.Table.{Table}
 use Rattle.query_names.specs.Bound.{IsFaultOf, looked_up, source_seen}
@@ -136,7 +136,7 @@ module _ (laws : Laws) (pages : PageMap) (size : ℕ) (tables : List Table) (db 
 
       -- the database whose table has these rows
       abbrev with_left : List TableRow → Database
-      with_left left = with_object db (folded d.table) (ATable (plain_table t left))
+      with_left left = with_object db (folded d.table) (ATable (with_rows t left))
 
       reaches : (made : Database) → change db (kind.Delete d) ≡ Ok made → Reaches (change_made (deleting d) db) made
       reaches made e = (not_refused, subst (λ (a : Answer Database). Reaches (of_answer a) made) (sym e) refl)
@@ -148,8 +148,8 @@ module _ (laws : Laws) (pages : PageMap) (size : ℕ) (tables : List Table) (db 
       of_tables left = record {
         lists = laws.lists held.rows_at tables db (folded d.table) t left held.of_tables.lists (named_folded tables d.table t named)
             (λ other u found here. own_pages pages size tables db held other (folded d.table) u t found (named_folded tables d.table t named) here);
-        only = laws.tables db (folded d.table) (ATable (plain_table t left)) held.of_tables.only refl;
-        named = laws.named db (folded d.table) (ATable (plain_table t left)) held.of_tables.named;
+        only = laws.tables db (folded d.table) (ATable (with_rows t left)) held.of_tables.only refl;
+        named = laws.named db (folded d.table) (ATable (with_rows t left)) held.of_tables.named;
         once = held.of_tables.once;
       }
 
@@ -163,7 +163,7 @@ module _ (laws : Laws) (pages : PageMap) (size : ℕ) (tables : List Table) (db 
       its_trees : AreAmong pages size (schema_tree held.schema held.schema_used) (all_trees owned.split.before) t (held.rows_at t.root) (all_trees owned.split.after)
       its_trees = among pages size held.rows_at tables held.schema trees t owned
 
-      listed : table_of db (folded d.table) ≡ Ok (plain_table t (held.rows_at t.root))
+      listed : table_of db (folded d.table) ≡ Ok (with_rows t (held.rows_at t.root))
       listed = listed_table held.rows_at tables db d.table t held.of_tables.lists named
 
     abbrev Makes : PageMap → Result ⊤ Fault → Type 0

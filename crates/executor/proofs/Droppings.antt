@@ -17,7 +17,7 @@ use Rattle.db_layout.specs.Layout.{ReplacesTrees, TreesStand}
 use Rattle.catalog.specs.Database as database
 use Rattle.catalog.specs.Database.{Database, Index, Name, Object, ATable, AnIndex, AView, ATrigger, object}
 use Rattle.catalog.specs.Laws.{FindsListed, IsNoTable, NamesListed}
-use Rattle.catalog.specs.Listed.{has_index, has_only_plain, is_name_of, is_table, plain_table, rowids_in, table_named, table_with_index, without_table}
+use Rattle.catalog.specs.Listed.{has_index, has_only_plain, is_name_of, is_table, with_rows, rowids_in, table_named, table_with_index, without_table}
 use Rattle.catalog.specs.Named.{ListsOthers, without_table_object}
 use Rattle.catalog.specs.declared.tables.Table.{Table}
 use Rattle.query_names.specs.Checked.{Checked, Meant, faults}
@@ -66,7 +66,7 @@ goes_alone n ((name, ATable t) ∷ es) only = by_test (is_same_name n name) (goe
         → cond (not b) ((name, ATable t) ∷ filter (λ x. not (goes_with n x)) es) (filter (λ x. not (goes_with n x)) es) ≡ cond (not b) ((name, ATable t) ∷ without_table_object n es) (without_table_object n es)
     by_test true rest = rest
     by_test false rest = ap (λ (xs : Database). (name, ATable t) ∷ xs) rest
-goes_alone n ((name, AnIndex i) ∷ es) only = by_test (is_same_name n name || is_same_name n i.table) (goes_alone n es (both_hold (not (i.is_unique || i.is_automatic)) (has_only_plain es) only).1)
+goes_alone n ((name, AnIndex i) ∷ es) only = by_test (is_same_name n name || is_same_name n i.table) (goes_alone n es (both_hold (not i.is_automatic) (has_only_plain es) only).1)
   where
     by_test : (b : Bool) → filter (λ x. not (goes_with n x)) es ≡ without_table_object n es
         → cond (not b) ((name, AnIndex i) ∷ filter (λ x. not (goes_with n x)) es) (filter (λ x. not (goes_with n x)) es) ≡ cond (not b) ((name, AnIndex i) ∷ without_table_object n es) (without_table_object n es)
@@ -82,12 +82,12 @@ abbrev refuses_kind : Database → ObjectKind → Name → Option Object → Typ
 refuses_kind db k n o = RefusesWith (of_known (dropped db k n o)) NoSuch
 
 module _ (finds : FindsListed) (old : PageMap) (size : ℕ) (tables : List Table) (db : Database) (held : Stores old size tables db) (n : Name) where
-  found_so : MatchOption (table_named n tables) (IsNoTable (object db n)) (λ t. object db n ≡ Some (ATable (plain_table t (held.rows_at t.root))))
+  found_so : MatchOption (table_named n tables) (IsNoTable (object db n)) (λ t. object db n ≡ Some (ATable (with_rows t (held.rows_at t.root))))
   found_so = finds held.rows_at tables db n held.of_tables.lists
 
   pub no_table : (f : Fault) → (f ≡ fault.Memory) ⊎ (refusal_of f ≡ NoSuch) × (table_named n tables ≡ None) → IsChangeRefusal (dropping kind.Table n) db f
   no_table f (inl memory) = inl (inl (inl memory))
-  no_table f (inr (is, none)) = inr (inl (subst (RefusesWith (change_made (dropping kind.Table n) db)) (sym is) (by (subst (λ (t : Option Table). MatchOption t (IsNoTable (object db n)) (λ t. object db n ≡ Some (ATable (plain_table t (held.rows_at t.root))))) none found_so))))
+  no_table f (inr (is, none)) = inr (inl (subst (RefusesWith (change_made (dropping kind.Table n) db)) (sym is) (by (subst (λ (t : Option Table). MatchOption t (IsNoTable (object db n)) (λ t. object db n ≡ Some (ATable (with_rows t (held.rows_at t.root))))) none found_so))))
     where
       by : IsNoTable (object db n) → refuses_kind db kind.Table n (object db n)
       by (inl nothing) = subst (refuses_kind db kind.Table n) (sym nothing) (0, omega arith, refl)
@@ -113,8 +113,8 @@ module _ (finds : FindsListed) (old : PageMap) (size : ℕ) (tables : List Table
       nothing : (k : ObjectKind) → refuses_kind db k n None
       nothing k = (0, omega arith, refl)
 
-      by : (t : Option Table) → MatchOption t (IsNoTable (object db n)) (λ t. object db n ≡ Some (ATable (plain_table t (held.rows_at t.root)))) → refuses_kind db k n (object db n)
-      by (Some t) e = subst (refuses_kind db k n) (sym e) (on_table k other (ATable (plain_table t (held.rows_at t.root))) (plain_table t (held.rows_at t.root)) refl)
+      by : (t : Option Table) → MatchOption t (IsNoTable (object db n)) (λ t. object db n ≡ Some (ATable (with_rows t (held.rows_at t.root)))) → refuses_kind db k n (object db n)
+      by (Some t) e = subst (refuses_kind db k n) (sym e) (on_table k other (ATable (with_rows t (held.rows_at t.root))) (with_rows t (held.rows_at t.root)) refl)
       by None (inl none) = subst (refuses_kind db k n) (sym none) (nothing k)
       by None (inr (i, is, unique)) = subst (refuses_kind db k n) (sym is) (on_index k and i)
 
@@ -139,7 +139,7 @@ module _ (finds : FindsListed) (old : PageMap) (size : ℕ) (tables : List Table
           some_named : true ≡ false → ⊥
           some_named h = false≢true (sym h)
 
-      by : (t : Option Table) → table_named n tables ≡ t → MatchOption t (IsNoTable (object db n)) (λ t. object db n ≡ Some (ATable (plain_table t (held.rows_at t.root)))) → refuses_kind db kind.Index n (object db n)
+      by : (t : Option Table) → table_named n tables ≡ t → MatchOption t (IsNoTable (object db n)) (λ t. object db n ≡ Some (ATable (with_rows t (held.rows_at t.root)))) → refuses_kind db kind.Index n (object db n)
       by (Some t) named e = subst (refuses_kind db kind.Index n) (sym e) (0, omega arith, refl)
       by None named (inl nothing) = subst (refuses_kind db kind.Index n) (sym nothing) (0, omega arith, refl)
       by None named (inr (i, e, unique)) = absurd (not_there named i e)

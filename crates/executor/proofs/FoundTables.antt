@@ -9,7 +9,7 @@ use Rattle.std.specs.Prelude.{flat_map, option_map, bytes_eq}
 use Rattle.sqlval.specs.Lists.{any_twice}
 use Rattle.sqlval.specs.Names.{folded, is_same_name}
 use Rattle.catalog.specs.Database.{AnIndex, ATable, Database, Name, Object, object}
-use Rattle.catalog.specs.Listed.{Lists, index_objects, named_among, names_of, objects_of, plain_index, plain_table, table_named, table_object}
+use Rattle.catalog.specs.Listed.{Lists, index_objects, named_among, names_of, objects_of, as_index, with_rows, table_named, table_object}
 use Rattle.catalog.specs.Named.{IsOfTables}
 use Rattle.catalog.specs.declared.tables.Index.{Index}
 use Rattle.catalog.specs.declared.tables.Table.{Table}
@@ -19,7 +19,7 @@ use Rattle.executor.specs.Changing.{IsIndexIn}
 
 -- the name of a listed table finds it
 pub table_found : (rows_at : ℕ → List TableRow) (tables : List Table) (db : Database) (name : Name) (t : Table) → Lists rows_at tables db → table_named name tables ≡ Some t
-    → object db name ≡ Some (ATable (plain_table t (rows_at t.root)))
+    → object db name ≡ Some (ATable (with_rows t (rows_at t.root)))
 table_found rows_at tables db name t lists named = lists name ∙ (listed_as rows_at name tables ∙ ap (as_object rows_at (index_found name tables)) named)
 
 -- ---- names that stand once
@@ -64,7 +64,7 @@ names_both : (xs ys : List (Name × Object)) → names (xs ++ ys) ≡ names xs +
 names_both [] ys = refl
 names_both (x ∷ xs) ys = ap (λ ns. x.0 ∷ ns) (names_both xs ys)
 
-index_names : (t : Table) (is : List Index) → names (map (λ (i : Index). (i.name, AnIndex (plain_index t i))) is) ≡ map (λ (i : Index). i.name) is
+index_names : (t : Table) (is : List Index) → names (map (λ (i : Index). (i.name, AnIndex (as_index t i))) is) ≡ map (λ (i : Index). i.name) is
 index_names t [] = refl
 index_names t (i ∷ is) = ap (λ ns. i.name ∷ ns) (index_names t is)
 
@@ -91,7 +91,7 @@ module _ (rows_at : ℕ → List TableRow) (tables : List Table) (db : Database)
   once = ap (any_twice is_same_name) (names_are rows_at tables) ∙ no_no (any_twice is_same_name (names_of tables)) is.once
 
   abbrev listed_index : Table → Index → Name × Object
-  listed_index t i = (i.name, AnIndex (plain_index t i))
+  listed_index t i = (i.name, AnIndex (as_index t i))
 
   each_found : (t : Table) (before : List (Name × Object)) (indexes : List Index) (after : List (Name × Object)) → all ≡ before ++ (map (listed_index t) indexes ++ after) → AllByRecursion (IsIndexIn db t) indexes
   each_found t before [] after parts = tt

@@ -17,7 +17,7 @@ use Rattle.tree_table.specs.Calls.{BecomesRows, Stands}
 use Rattle.tree_table.specs.Freeing.{IsNewTree}
 use Rattle.db_layout.specs.Layout.{AreShared, OfRows, Owner, ReplacesTrees, TreesStand, used_by}
 use Rattle.catalog.specs.Database.{Database, Name}
-use Rattle.catalog.specs.Listed.{is_table, plain_table, table_named}
+use Rattle.catalog.specs.Listed.{is_table, with_rows, table_named}
 use Rattle.catalog.specs.Named.{IsOfTables}
 use Rattle.catalog.specs.Rows.{are_rows}
 use Rattle.catalog.specs.declared.tables.Index.{Index}
@@ -68,7 +68,7 @@ kept_trees rows_at at rows (t ∷ tables) [] each none = absurd each
 kept_trees rows_at at rows (t ∷ tables) (os ∷ held) each none = (
   record {
     are = subst (λ (r : List TableRow). AreTreesOf t r os) (sym same) each.0.are;
-    fit = subst (λ (r : List TableRow). are_rows (plain_table t r) ≡ true) (sym same) each.0.fit;
+    fit = subst (λ (r : List TableRow). are_rows (with_rows t r) ≡ true) (sym same) each.0.fit;
   },
   kept_trees rows_at at rows tables held each.1 (omega (arith, none)),
 )
@@ -187,7 +187,7 @@ module _ (map : PageMap) (size : ℕ) (rows_at : ℕ → List TableRow) (tables 
     none_after = let sum = roots_append t.root o.front (t ∷ o.back) in let one = counted t.root (roots_of o.back) in omega (arith, once, sum, one)
 
     -- the table has other rows, or other indexes
-    abbrev pub changed : (new : PageMap) (u : Table) (rows : List TableRow) → u.root ≡ t.root → are_rows (plain_table u rows) ≡ true → HoldsNow map new size schema_owner before u rows after
+    abbrev pub changed : (new : PageMap) (u : Table) (rows : List TableRow) → u.root ≡ t.root → are_rows (with_rows u rows) ≡ true → HoldsNow map new size schema_owner before u rows after
         → HoldsTrees new size (rows_with rows_at t.root rows) (o.front ++ u ∷ o.back) schema
     changed new u rows root fit now =
         let header = now.header h.header h.header_is in
@@ -211,7 +211,7 @@ module _ (map : PageMap) (size : ℕ) (rows_at : ℕ → List TableRow) (tables 
         is : AreHeld (rows_with rows_at t.root rows) u now.among.mine
         is = record {
           are = subst (λ (rs : List TableRow). AreTreesOf u rs now.among.mine) (sym here) now.among.are;
-          fit = subst (λ (rs : List TableRow). are_rows (plain_table u rs) ≡ true) (sym here) fit;
+          fit = subst (λ (rs : List TableRow). are_rows (with_rows u rs) ≡ true) (sym here) fit;
         }
 
     -- the table's trees are given back
@@ -272,7 +272,7 @@ module _ (map : PageMap) (size : ℕ) (rows_at : ℕ → List TableRow) (tables 
             record { root_is = sym root_is; entries = []; content_is = refl; each = tt },
             subst (λ (is : List Index). Pairwise (IsEntriesTree []) is []) (sym bare) tt,
           );
-          fit = subst (λ (rs : List TableRow). are_rows (plain_table t rs) ≡ true) (sym here) refl;
+          fit = subst (λ (rs : List TableRow). are_rows (with_rows t rs) ≡ true) (sym here) refl;
         }
 
 -- ---- a listed table

@@ -1,9 +1,10 @@
 -- What a CREATE INDEX comes to on the database that pages hold.
-use Rattle.std.proofs.Common.{◌≡◌, ◌⊎◌, ◌<◌, ◌≤◌, ◌+◌, inl, inr, refl, sym, ap, subst, ◌∙◌, ℕ, zero, suc, ℤ, pos, Bool, true, false, not, ◌||◌, ◌&&◌, if◌then◌else◌, codes, map, List, [], ◌∷◌, ◌++◌, append_assoc, length, Option, None, Some, Ok, Err, arith}
+use Rattle.std.proofs.Common.{◌≡◌, ◌⊎◌, ◌<◌, ◌≤◌, ◌+◌, inl, inr, refl, sym, ap, subst, ◌∙◌, ℕ, zero, suc, ℤ, pos, Bool, true, false, if◌then◌else◌, codes, map, List, [], ◌∷◌, ◌++◌, append_assoc, length, None, Some, Ok, Err, arith}
 use Rattle.std.specs.Prelude.{Contains}
 use Rattle.std.proofs.lemmas.Bool.{cases_eq, cases_lt}
 use Rattle.std.proofs.lemmas.Grind.{common_steps}
-use Rattle.std.specs.List.{AllByRecursion, list_any}
+use Rattle.std.proofs.lemmas.List.{length-map}
+use Rattle.std.specs.List.{AllByRecursion}
 use Rattle.sqlval.specs.Names.{folded}
 use Rattle.sqlval.specs.Refusals.{Refusal, Unique, refusal_of}
 use Rattle.sqlval.specs.declared.collation.Collation.{Collation}
@@ -25,26 +26,25 @@ use Rattle.tree_index.specs.Tree.{IsIndexTree}
 use Rattle.db_layout.specs.Layout.{HoldsUnder, IsTree, Owner, ReplacesTrees, TreesStand, used_by}
 use Rattle.catalog.specs.Database as database
 use Rattle.catalog.specs.Database.{AnIndex, ATable, ATrigger, AView, Database, Name, with_object, object as object_in}
-use Rattle.catalog.specs.Listed.{is_name_of, is_table, plain_index, rowids_of, table_named, with_replaced}
+use Rattle.catalog.specs.Listed.{as_index, is_name_of, is_table, rowids_of, table_named, with_replaced, with_rows}
 use Rattle.catalog.specs.Named.{IsOfTables}
 use Rattle.catalog.specs.NewIndexes.{ListsNewIndex, with_index}
 use Rattle.catalog.specs.UnusedRowids.{is_among}
 use Rattle.catalog.specs.declared.tables.Index.{Index}
 use Rattle.catalog.specs.declared.tables.IndexColumn.{IndexColumn}
 use Rattle.catalog.specs.declared.tables.Table.{Table}
-use Rattle.query_names.specs.Checked.{Checked, Meant, faults, good}
-use Rattle.query_names.specs.Keys.{clash, has_clash}
-use Rattle.query_names.specs.Schema.{create}
-use Rattle.sqlval.specs.declared.value.Value.{Value}
+use Rattle.query_names.specs.Checked.{Checked, Meant, faults, good, meant}
+use Rattle.query_names.specs.Keys.{has_clash}
+use Rattle.query_names.specs.Schema.{create, resolve_index_column}
+use Rattle.query_names.proofs.ColumnNames.{folded_twice}
 use Rattle.query_bind.specs.Indexed.{IsIndexOn, IsIndexRefusal, MakesListedIndex, RefusesIndexAsDefined, key_of}
 use Rattle.row_scan.specs.Rows.{TableRow}
-use Rattle.db_layout.specs.Trees.{AreTreesOf, HoldsNow, IsEntriesTree, columns_of}
+use Rattle.db_layout.specs.Trees.{AreTreesOf, HoldsNow, IsEntriesTree}
 use Rattle.index_entries.specs.Keeping.{columns_in}
-use Rattle.db_write.specs.Changing.{AddsIndex, IsTooLongFor}
-use Rattle.db_write.specs.Turning.{CanBeIndexed}
+use Rattle.db_write.specs.Changing.{AddsIndex, IsIndexAdded, IsRefusedIndex, index_of, is_wide}
 use Rattle.db_pages.specs.Schema.{AreRowsOf, IndexTold, IsCreateOf, IsIndexRow, TableTold, Told, all_told, schema_row, told_by}
 use Rattle.db_pages.specs.Stored.{Stores, all_trees, schema_tree}
-use Rattle.executor.specs.Changing.{HasLongRow, IsChangeRefusal, IsIndexIn, IsMade}
+use Rattle.executor.specs.Changing.{IsChangeRefusal, IsIndexIn, IsMade}
 use Rattle.executor.specs.Listing.{AddsRow, AreTooLong, IsAdded}
 use Rattle.executor.specs.Works.{IsRefused, Makes, Reaches, RefusesWith, Work, change_made, clashes_in, clashes_on, index_clashes, made_index, of_known}
 use Rattle.executor.proofs.FoundTables.{indexes_listed, table_found}
@@ -52,6 +52,7 @@ use Rattle.executor.proofs.HeldTrees.{HoldsTrees, among, changed, named_as, page
 use Rattle.executor.proofs.Owners.{HasTable, one_of, splits, table_of_parts}
 use Rattle.executor.proofs.Roots.{all_apart, used_both, uses_root}
 use Rattle.executor.proofs.Replacing.{IsSplit, found_in_place, found_is, names_once, same_folded, split_at}
+use Rattle.executor.proofs.Wide.{known_long}
 use Rattle.executor.proofs.Telling.{AreToldBy, as_rows, as_told, free_at, many_retold, map_append, more_pages, one_more, same_indexes, same_table, told_around, told_as}
 
 -- what follows for every listed database, and for the trees of its file
@@ -70,21 +71,6 @@ creating sql d = statement.Create (record { sql = sql; object = object.Index d }
 refused_work : (n : Name) (k : Checked Database) (r : Refusal) → Contains (faults k) r → RefusesWith (made_index n (of_known k)) r
 refused_work n (Meant db []) r has = absurd (omega (arith, has.1))
 refused_work n (Meant db (s ∷ rs)) r has = has
-
--- an index that isn't UNIQUE is refused for no rows
-not_clash : (i : database.Index) (vs ws : List Value) → i.is_unique ≡ false → clash i vs ws ≡ false
-not_clash i vs ws plain = no_first i.is_unique _ _ plain
-  where
-    no_first : (x a b : Bool) → x ≡ false → ((x && a) && b) ≡ false
-    no_first x a b e = ap (λ y. (y && a) && b) e
-
-none_clashes : (i : database.Index) (row : TableRow) (rows : List TableRow) → i.is_unique ≡ false → list_any (λ (s : TableRow). clash i row.1 s.1) rows ≡ false
-none_clashes i row [] plain = refl
-none_clashes i row (s ∷ rows) plain = ap (λ b. b || list_any (λ (s : TableRow). clash i row.1 s.1) rows) (not_clash i row.1 s.1 plain) ∙ none_clashes i row rows plain
-
-no_clash : (i : database.Index) (rows : List TableRow) → i.is_unique ≡ false → has_clash i rows ≡ false
-no_clash i [] plain = refl
-no_clash i (row ∷ rows) plain = ap (λ b. b || has_clash i rows) (none_clashes i row rows plain) ∙ no_clash i rows plain
 
 -- what it makes of the listed tables
 abbrev pub index_made : Database → IndexDefinition → Table → List IndexColumn → Database
@@ -140,7 +126,7 @@ module _ (laws : Laws) (old : PageMap) (size : ℕ) (tables : List Table) (db : 
   abbrev trees : HoldsTrees old size held.rows_at tables held.schema
   trees = trees_held old size tables db held
 
-  module _ (t : Table) (columns : List IndexColumn) (is : IsIndexOn tables d t columns) (plain : d.is_unique ≡ false) where
+  module _ (t : Table) (columns : List IndexColumn) (is : IsIndexOn tables d t columns) where
     own_name : is_table d.table t ≡ true
     own_name = found_is (is_table d.table) tables t is.on
 
@@ -159,7 +145,7 @@ module _ (laws : Laws) (old : PageMap) (size : ℕ) (tables : List Table) (db : 
     abbrev rows : List TableRow
     rows = held.rows_at t.root
 
-    module _ (i : Index) (name_is : i.name ≡ d.name) (columns_are : i.columns ≡ columns) where
+    module _ (i : Index) (name_is : i.name ≡ d.name) (columns_are : i.columns ≡ columns) (unique_is : i.is_unique ≡ d.is_unique) where
       abbrev with_it : Table
       with_it = with_index i t
 
@@ -167,7 +153,7 @@ module _ (laws : Laws) (old : PageMap) (size : ℕ) (tables : List Table) (db : 
       listed = with_replaced with_it tables
 
       abbrev made : Database
-      made = with_object db i.name (AnIndex (plain_index t i))
+      made = with_object db i.name (AnIndex (as_index t i))
 
       of_made : IsOfTables held.rows_at listed made
       of_made = laws.lists held.rows_at tables db t i held.of_tables named (subst (λ (n : Name). is_name_of tables n ≡ false) (sym name_is) is.new)
@@ -178,45 +164,38 @@ module _ (laws : Laws) (old : PageMap) (size : ℕ) (tables : List Table) (db : 
       made_is : index_made db d t columns ≡ made
       made_is =
           ap (λ (n : Name). with_object db n (AnIndex (record { table = folded d.table; is_unique = d.is_unique; is_automatic = false; columns = map key_of columns }))) (sym name_is)
-          ∙ ap (λ (x : database.Index). with_object db i.name (AnIndex x)) (λ k. record { table = same_name k; is_unique = plain k; is_automatic = false; columns = map key_of (sym columns_are k) })
+          ∙ ap (λ (x : database.Index). with_object db i.name (AnIndex x))
+          (λ k. record { table = same_name k; is_unique = sym unique_is k; is_automatic = false; columns = map key_of (sym columns_are k) })
 
-      reaches_made : Reaches (made_index d.name (of_known (good (index_made db d t columns)))) made
-      reaches_made =
-          subst (λ (w : Work). Reaches w made) (sym (ap (λ (x : Database). made_index d.name (Makes x)) made_is ∙ ap (λ (b : Bool). if b then IsRefused (Unique ∷ []) else Makes made) not_clashing)) refl
-        where
-          found : object_in made d.name ≡ Some (AnIndex (plain_index t i))
-          found = ap (object_in made) (sym name_is) ∙ (last_of (IsIndexIn made with_it) t.indexes i (indexes_listed held.rows_at listed made of_made split.before with_it split.after listed_are))
+      -- the table in the new database, with its rows
+      table_there : object_in made (folded t.name) ≡ Some (ATable (with_rows with_it rows))
+      table_there = table_found held.rows_at listed made (folded t.name) with_it of_made.lists (named_as listed (folded t.name) t.name (folded_twice t.name) ∙ found_in_place t with_it refl tables named)
 
-          not_on : (x : Option database.Object) → clashes_on (plain_index t i) x ≡ false
-          not_on None = refl
-          not_on (Some (ATable u)) = no_clash (plain_index t i) u.rows refl
-          not_on (Some (AnIndex u)) = refl
-          not_on (Some (AView u)) = refl
-          not_on (Some (ATrigger u)) = refl
+      -- two rows clash there as they do for the index that is made
+      clash_is : index_clashes made d.name ≡ has_clash (index_of columns d.is_unique) rows
+      clash_is =
+          ap (clashes_in made) (ap (object_in made) (sym name_is) ∙ last_of (IsIndexIn made with_it) t.indexes i (indexes_listed held.rows_at listed made of_made split.before with_it split.after listed_are))
+          ∙ (ap (clashes_on (as_index t i)) table_there
+          ∙ (λ k. has_clash (record { table = []; is_unique = unique_is k; is_automatic = false; columns = columns_in (columns_are k) }) rows))
 
-          not_clashing : index_clashes made d.name ≡ false
-          not_clashing = ap (clashes_in made) found ∙ not_on (object_in made (folded t.name))
+      abbrev made_by : Bool → Work
+      made_by clash = if clash then IsRefused (Unique ∷ []) else Makes made
 
-      pub reached : Reaches (change_made (creating sql d) db) made
-      reached = subst (λ (k : Checked Database). Reaches (made_index d.name (of_known k)) made) (sym (laws.makes held.rows_at tables db d t columns held.of_tables.lists is)) reaches_made
+      work_is : (clash : Bool) → has_clash (index_of columns d.is_unique) rows ≡ clash → change_made (creating sql d) db ≡ made_by clash
+      work_is clash e =
+          ap (λ (k : Checked Database). made_index d.name (of_known k)) (laws.makes held.rows_at tables db d t columns held.of_tables.lists is)
+          ∙ (ap (λ (x : Database). made_index d.name (Makes x)) made_is ∙ ap made_by (clash_is ∙ e))
 
-      -- the database has the entry that is too long
-      pub long_entry : (CanBeIndexed (columns_in columns) rows → ⊥) → HasLongRow made
-      long_entry long = record {
-        name = t.name;
-        table = with_it;
-        rows = rows;
-        is = table_found held.rows_at listed made t.name with_it of_made.lists named_it;
-        indexed = indexes_listed held.rows_at listed made of_made split.before with_it split.after listed_are;
-        long = λ all. long (subst (λ (cs : List IndexColumn). CanBeIndexed (columns_in cs) rows) columns_are (last_of (λ (x : Index). CanBeIndexed (columns_of x) rows) t.indexes i all.1));
-      }
-        where
-          named_it : table_named t.name listed ≡ Some with_it
-          named_it = found_in_place t with_it refl tables named
+      pub reached : has_clash (index_of columns d.is_unique) rows ≡ false → Reaches (change_made (creating sql d) db) made
+      reached apart = subst (λ (w : Work). Reaches w made) (sym (work_is false apart)) refl
 
-      -- its tree is made
+      pub refused_clash : has_clash (index_of columns d.is_unique) rows ≡ true → RefusesWith (change_made (creating sql d) db) Unique
+      refused_clash clash = subst (λ (w : Work). RefusesWith w Unique) (sym (work_is true clash)) (0, omega arith, refl)
 
-      module _ (mid : PageMap) (now : HoldsNow old mid size (schema_tree held.schema held.schema_used) (all_trees o.split.before) with_it rows (all_trees o.split.after)) where
+      -- ---- its tree is made
+
+      module _ (mid : PageMap) (now : HoldsNow old mid size (schema_tree held.schema held.schema_used) (all_trees o.split.before) with_it rows (all_trees o.split.after))
+          (apart : has_clash (index_of columns d.is_unique) rows ≡ false) where
         abbrev in_order : List Table
         in_order = split.before ++ with_it ∷ split.after
 
@@ -229,7 +208,7 @@ module _ (laws : Laws) (old : PageMap) (size : ℕ) (tables : List Table) (db : 
         -- its row isn't added
         pub refused_row : (root : ℕ) (f : Fault) → IsOutsideOrFull f ⊎ AreTooLong (schema_row (codes "index") d.name t.name root sql) f → IsChangeRefusal (creating sql d) db f
         refused_row root f (inl full) = inl full
-        refused_row root f (inr (what, long)) = inr (inr (record { is = what; made = made; reaches = reached; why = inr (t.name, root, sym same_name, long) }))
+        refused_row root f (inr (what, long)) = inr (inr (record { is = what; why = inr (record { made = made; reaches = reached apart; long = (t.name, root, sym same_name, long) }) }))
 
         -- ---- its root
 
@@ -300,12 +279,13 @@ module _ (laws : Laws) (old : PageMap) (size : ℕ) (tables : List Table) (db : 
           new_row = record {
             sql = sql;
             definition = d;
-            creates = (text, ap not plain);
+            creates = (text, refl);
             makes = record {
               free = is.free;
               once = is.once;
               name_is = name_is;
               on = same_name;
+              unique = unique_is;
               columns = is.known ∙ ap (λ (cs : List IndexColumn). good (map key_of cs)) (sym columns_are);
             };
             rowid_is = added.rowid_is;
@@ -359,48 +339,55 @@ module _ (laws : Laws) (old : PageMap) (size : ℕ) (tables : List Table) (db : 
               (subst (λ (rs : ℕ → List TableRow). IsOfTables rs listed made) (sym (rows_same held.rows_at t.root)) of_made) told
 
           pub creates : (tables_now : List Table) → tables_now ≡ listed → IsMade (creating sql d) db new size tables_now
-          creates tables_now same = record { made = made; reaches = reached; stored = subst (λ ts. Stores new size ts made) (sym same) stores_more }
+          creates tables_now same = record { made = made; reaches = reached apart; stored = subst (λ ts. Stores new size ts made) (sym same) stores_more }
 
     -- ---- the call that makes its tree
 
     -- any index of these columns
     abbrev some_index : ℕ → ℤ → Index
-    some_index root rowid = record { name = d.name; columns = columns; root = root; rowid = rowid }
+    some_index root rowid = record { name = d.name; columns = columns; is_unique = d.is_unique; root = root; rowid = rowid }
 
-    pub refused_tree : (mid : PageMap) (f : Fault) → AddsIndex old mid size t columns (Err f) → IsChangeRefusal (creating sql d) db f
+    pub refused_tree : (mid : PageMap) (f : Fault) → AddsIndex old mid size t columns d.is_unique (Err f) → IsChangeRefusal (creating sql d) db f
     refused_tree mid f adds = by (adds (schema_tree held.schema held.schema_used) (all_trees o.split.before) (all_trees o.split.after) rows (page_size old size held.rows_at tables held.schema trees) refl (among old size held.rows_at tables held.schema trees t o) o.split.is.fit)
       where
-        by : IsOutsideOrFull f ⊎ IsTooLongFor columns rows f → IsChangeRefusal (creating sql d) db f
-        by (inl full) = inl full
-        by (inr (what, long)) = inr (inr (record {
-          is = what;
-          made = made (some_index 0 (pos 0)) refl refl;
-          reaches = reached (some_index 0 (pos 0)) refl refl;
-          why = inl (long_entry (some_index 0 (pos 0)) refl refl long);
-        }))
+        -- the definition names as many columns
+        columns_long : length columns ≡ length d.columns
+        columns_long =
+            sym (length-map columns key_of)
+            ∙ (sym (ap (λ (k : Checked (List (ℕ × Collation))). length (meant k)) is.known) ∙ (known_long (map (resolve_index_column d.table (with_rows t [])) d.columns) ∙ length-map d.columns (resolve_index_column d.table (with_rows t []))))
 
-    pub then_holds : (mid : PageMap) (root : ℕ) (i : Index) → i.columns ≡ columns → i.root ≡ root → AddsIndex old mid size t columns (Ok root)
-        → HoldsNow old mid size (schema_tree held.schema held.schema_used) (all_trees o.split.before) (with_index i t) rows (all_trees o.split.after)
-    then_holds mid root i columns_are root_is adds =
+        by : IsRefusedIndex columns d.is_unique rows f → IsChangeRefusal (creating sql d) db f
+        by (inl full) = inl full
+        by (inr (inl (what, clash))) =
+            inr (inl (subst (λ (g : Fault). RefusesWith (change_made (creating sql d) db) (refusal_of g)) (sym what) (refused_clash (some_index 0 (pos 0)) refl refl refl clash)))
+        by (inr (inr (what, wide))) = inr (inr (record { is = what; why = inl (ap is_wide (sym columns_long) ∙ wide) }))
+
+    -- it is made over rows that it keeps apart
+    pub then_added : (mid : PageMap) (root : ℕ) → AddsIndex old mid size t columns d.is_unique (Ok root)
+        → IsIndexAdded old mid size (schema_tree held.schema held.schema_used) (all_trees o.split.before) t columns d.is_unique rows (all_trees o.split.after) root
+    then_added mid root adds =
         adds (schema_tree held.schema held.schema_used) (all_trees o.split.before) (all_trees o.split.after) rows (page_size old size held.rows_at tables held.schema trees) refl
-        (among old size held.rows_at tables held.schema trees t o) o.split.is.fit i columns_are root_is
+        (among old size held.rows_at tables held.schema trees t o) o.split.is.fit
 
     -- the calls that make its tree and add its row, one after the other
-    module _ (i : Index) (name_is : i.name ≡ d.name) (columns_are : i.columns ≡ columns) (mid new : PageMap) (makes : AddsIndex old mid size t columns (Ok i.root))
+    module _ (i : Index) (name_is : i.name ≡ d.name) (columns_are : i.columns ≡ columns) (unique_is : i.is_unique ≡ d.is_unique) (mid new : PageMap) (makes : AddsIndex old mid size t columns d.is_unique (Ok i.root))
         (unused : is_among i.rowid (rowids_of tables) ≡ false) where
       then_now : HoldsNow old mid size (schema_tree held.schema held.schema_used) (all_trees o.split.before) (with_index i t) rows (all_trees o.split.after)
-      then_now = then_holds mid i.root i columns_are refl makes
+      then_now = (then_added mid i.root makes).has i columns_are refl
+
+      apart : has_clash (index_of columns d.is_unique) rows ≡ false
+      apart = (then_added mid i.root makes).apart
 
       row_unused : payload_at i.rowid held.schema ≡ None
       row_unused = free_at (length old) tables held.schema i.rowid held.tell unused
 
       pub row_refused : (f : Fault) → AddsRow mid new size i.rowid (schema_row (codes "index") d.name t.name i.root sql) (Err f) → IsChangeRefusal (creating sql d) db f
       row_refused f adds =
-          refused_row i name_is columns_are mid then_now i.root f
-          (adds held.schema held.schema_used then_now.among.free (schema_then i name_is columns_are mid then_now) row_unused)
+          refused_row i name_is columns_are unique_is mid then_now apart i.root f
+          (adds held.schema held.schema_used then_now.among.free (schema_then i name_is columns_are unique_is mid then_now apart) row_unused)
 
       pub row_added : IsCreateOf sql (object.Index d) → AddsRow mid new size i.rowid (schema_row (codes "index") d.name t.name i.root sql) (Ok tt) → (tables_now : List Table)
           → tables_now ≡ with_replaced (with_index i t) tables → IsMade (creating sql d) db new size tables_now
       row_added text adds tables_now same =
-          creates i name_is columns_are mid then_now text new unused
-          (adds held.schema held.schema_used then_now.among.free (schema_then i name_is columns_are mid then_now) row_unused) tables_now same
+          creates i name_is columns_are unique_is mid then_now apart text new unused
+          (adds held.schema held.schema_used then_now.among.free (schema_then i name_is columns_are unique_is mid then_now apart) row_unused) tables_now same

@@ -20,7 +20,7 @@ use Rattle.tree_table.specs.Calls.{BecomesRows, Stands}
 use Rattle.tree_table.specs.Rows.{payload_at, without_row}
 use Rattle.catalog.specs.Database as database
 use Rattle.catalog.specs.Database.{Database, Name, Object, ATable, AnIndex, AView, ATrigger, name_order, object}
-use Rattle.catalog.specs.Listed.{Lists, has_index, has_only_plain, index_objects, is_table, named_among, plain_index, table_named, table_with_index, with_replaced}
+use Rattle.catalog.specs.Listed.{Lists, has_index, has_only_plain, index_objects, is_table, named_among, as_index, table_named, table_with_index, with_replaced}
 use Rattle.catalog.specs.Named.{IsNamed, IsOfTables}
 use Rattle.catalog.specs.NewIndexes.{ListsOtherIndexes, without_index, without_object}
 use Rattle.catalog.specs.declared.tables.Index.{Index}
@@ -109,16 +109,16 @@ module _ (n : Name) where
   some_index i j e = cc
 
   among_indexes : (name : Name) (t : Table) (is : List Index) (os : List (Name × Object)) → (folded n ≡ folded t.name → ⊥) → ((j : database.Index) → named_among name os ≡ Some (AnIndex j) → folded n ≡ folded j.table → ⊥)
-      → (j : database.Index) → named_among name (map (λ (i : Index). (i.name, AnIndex (plain_index t i))) is ++ os) ≡ Some (AnIndex j) → folded n ≡ folded j.table → ⊥
+      → (j : database.Index) → named_among name (map (λ (i : Index). (i.name, AnIndex (as_index t i))) is ++ os) ≡ Some (AnIndex j) → folded n ≡ folded j.table → ⊥
   among_indexes name t [] os other rest j found same = rest j found same
   among_indexes name t (i ∷ is) os other rest j found same = by_test (is_same_name i.name name) (among_indexes name t is os other rest j) found same
     where
       more : List (Name × Object)
-      more = map (λ (i : Index). (i.name, AnIndex (plain_index t i))) is ++ os
+      more = map (λ (i : Index). (i.name, AnIndex (as_index t i))) is ++ os
 
       by_test : (b : Bool) → (named_among name more ≡ Some (AnIndex j) → folded n ≡ folded j.table → ⊥)
-          → option_map (λ (o : Name × Object). o.1) (cond b (Some (i.name, AnIndex (plain_index t i))) (list.find (λ (o : Name × Object). is_same_name o.0 name) more)) ≡ Some (AnIndex j) → folded n ≡ folded j.table → ⊥
-      by_test true later here same = other (same ∙ (sym (ap (λ (x : database.Index). folded x.table) (some_index (plain_index t i) j here)) ∙ folded_twice t.name))
+          → option_map (λ (o : Name × Object). o.1) (cond b (Some (i.name, AnIndex (as_index t i))) (list.find (λ (o : Name × Object). is_same_name o.0 name) more)) ≡ Some (AnIndex j) → folded n ≡ folded j.table → ⊥
+      by_test true later here same = other (same ∙ (sym (ap (λ (x : database.Index). folded x.table) (some_index (as_index t i) j here)) ∙ folded_twice t.name))
       by_test false later here same = later here same
 
   other_tables : (name : Name) (tables : List Table) → table_named n tables ≡ None → (j : database.Index) → index_found name tables ≡ Some (AnIndex j) → folded n ≡ folded j.table → ⊥
@@ -150,7 +150,7 @@ module _ (n : Name) where
         by_test true rest = rest
         by_test false rest = ap (λ (xs : Database). (name, ATable t) ∷ xs) rest
     goes_index ((name, AnIndex j) ∷ es) only each =
-        by_test (is_same_name n name) (is_same_name n j.table) refl (goes_index es (both_hold (not (j.is_unique || j.is_automatic)) (has_only_plain es) only).1 each.1)
+        by_test (is_same_name n name) (is_same_name n j.table) refl (goes_index es (both_hold (not j.is_automatic) (has_only_plain es) only).1 each.1)
       where
         by_test : (b c : Bool) → is_same_name n j.table ≡ c → filter (λ x. not (goes_with n x)) es ≡ without_object n es
             → cond (not (b || c)) ((name, AnIndex j) ∷ filter (λ x. not (goes_with n x)) es) (filter (λ x. not (goes_with n x)) es) ≡ cond (not b) ((name, AnIndex j) ∷ without_object n es) (without_object n es)
@@ -197,7 +197,7 @@ module _ (laws : Laws) (old : PageMap) (size : ℕ) (tables : List Table) (db : 
 
   -- ---- what it is in the database
 
-  found_as : object db n ≡ Some (AnIndex (plain_index t i))
+  found_as : object db n ≡ Some (AnIndex (as_index t i))
   found_as =
       ap (λ (k : Name). entries.find name_order k db) (sym (same_folded i.name n named_so))
       ∙ one_of (IsIndexIn db t) at.before i at.after (subst (AllByRecursion (IsIndexIn db t)) at.parts (indexes_listed held.rows_at tables db held.of_tables split.before t split.after split.parts))
@@ -205,7 +205,7 @@ module _ (laws : Laws) (old : PageMap) (size : ℕ) (tables : List Table) (db : 
   not_table : table_named n tables ≡ None
   not_table = by (table_named n tables) (sym (listed_as held.rows_at n tables) ∙ (sym (held.of_tables.lists n) ∙ found_as))
     where
-      by : (u : Option Table) → as_object held.rows_at (index_found n tables) u ≡ Some (AnIndex (plain_index t i)) → u ≡ None
+      by : (u : Option Table) → as_object held.rows_at (index_found n tables) u ≡ Some (AnIndex (as_index t i)) → u ≡ None
       by None e = refl
       by (Some u) e = absurd cc
 

@@ -1,16 +1,15 @@
 -- What an INSERT comes to on the database that pages hold.
-use Rattle.std.proofs.Common.{◌≡◌, ◌⊎◌, ◌≤◌, ◌+◌, inl, inr, refl, sym, ap, subst, ◌∙◌, ℕ, zero, suc, Bool, true, false, List, [], ◌∷◌, ◌++◌, length, map, slice_index_or, Option, Some, None, Result, Ok, Err, arith}
+use Rattle.std.proofs.Common.{◌≡◌, ◌⊎◌, ◌≤◌, inl, inr, refl, sym, ap, subst, ◌∙◌, ℕ, zero, suc, Bool, true, false, List, [], ◌∷◌, length, Option, Some, None, Result, Ok, Err, arith}
 use Rattle.std.specs.Prelude.{⊤, All, Contains, IsErrAnd, IsTrue, MatchResult}
 use Rattle.std.specs.List.{AllByRecursion, position_from, range_with_len}
 use Rattle.std.proofs.lemmas.Bool.{cases_eq}
-use Rattle.std.proofs.lemmas.List.{append-nil, get_or-append-add, get_or-map, length-append, length-map}
+use Rattle.std.proofs.lemmas.List.{length-map}
 use Rattle.std.proofs.lemmas.List.FromFn.{length-range_with_len}
 use Rattle.sqlval.specs.Names.{folded, is_same_name}
 use Rattle.sqlval.specs.Refusals.{Answer, ◌then◌, NoSuch, Refusal, refusal_of}
 use Rattle.sqlval.specs.declared.fault.Fault.{Fault}
 use Rattle.sqlval.specs.declared.fault.Fault.TheVariants as fault
 use Rattle.sqlval.specs.declared.value.Value.{Value}
-use Rattle.sqlval.specs.declared.value.Value.TheVariants.{Null}
 use Rattle.sql_syntax.specs.declared.change.Change.TheVariants as kind
 use Rattle.sql_syntax.specs.declared.change.Insert.{Insert}
 use Rattle.sql_syntax.specs.declared.statement.Statement.{Statement}
@@ -21,8 +20,8 @@ use Rattle.db_layout.specs.Trees.{AreAmong}
 use Rattle.catalog.specs.Database as database
 use Rattle.catalog.specs.Database.{ATable, Database, Name, Object, with_object}
 use Rattle.catalog.specs.Laws.{KeepsOnlyPlain, ListsOtherRows}
-use Rattle.catalog.specs.Listed.{Lists, has_only_plain, plain_table, table_named}
-use Rattle.catalog.specs.Named.{IsOfTables, KeepsNamed}
+use Rattle.catalog.specs.Listed.{Lists, has_only_plain, is_table, table_named, with_rows}
+use Rattle.catalog.specs.Named.{IsOfTables, KeepsNamed, ListsIndexes}
 use Rattle.catalog.specs.declared.tables.Column.{Column}
 use Rattle.catalog.specs.declared.tables.Table.{Table}
 use Rattle.query_names.specs.Bound.{columns_seen, count_wanted, is_twice_named, looked_up}
@@ -33,21 +32,15 @@ use Rattle.query_names.proofs.ColumnNames.{folded_twice}
 use Rattle.query_names.proofs.KnownTables.{known_listed}
 use Rattle.row_scan.specs.Rows.{TableRow}
 use Rattle.row_change.specs.Agreement.{IsSetFor}
-use Rattle.row_change.specs.Binding.{row_with}
 use Rattle.row_change.specs.Changes.{Given, Inserts, Resolved, no_outer, resolve_change, resolve_given}
 use Rattle.row_change.specs.Constraints.{table_of}
-use Rattle.row_change.specs.Inserting.{AllStorable, last_rowid, rows_added}
-use Rattle.record.specs.Writing.{AreStorable}
+use Rattle.row_change.specs.Inserting.{rows_inserted}
 use Rattle.db_write.specs.Changing.{InsertsInTrees, IsRefusedInsert}
-use Rattle.db_write.specs.Turning.{AreEntriesStorable}
-use Rattle.catalog.specs.declared.tables.Index.{Index}
-use Rattle.index_entries.specs.Entries.{indexed}
-use Rattle.db_layout.specs.Trees.{columns_of}
 use Rattle.row_change.proofs.GivenAsMeant.{columns_refused, row_placed, source_refused, source_stands, table_missing, value_places}
 use Rattle.trigger.specs.Binding.{IsFault}
 use Rattle.trigger.specs.Effects.{change, given_rows}
 use Rattle.trigger.specs.Laws.{BindsAlone, InsertAddsRows, InsertIsRefused, InsertOfNoneStays}
-use Rattle.executor.specs.Changing.{HasLongRow, IsChangeRefusal, IsMade}
+use Rattle.executor.specs.Changing.{IsChangeRefusal, IsMade}
 use Rattle.executor.specs.Reading.{AnswersRead}
 use Rattle.db_pages.specs.Stored.{Stores, all_trees, schema_tree}
 use Rattle.executor.specs.Works.{Reaches, RefusesWith, change_made, given_on, of_answer}
@@ -55,6 +48,8 @@ use Rattle.executor.proofs.Owners.{HasTable}
 use Rattle.executor.proofs.HeldTrees.{HoldsTrees, among, named_as, page_size, rows_elsewhere, rows_here, rows_with, stores_rows, held_table, trees_held}
 use Rattle.executor.proofs.Roots.{own_pages}
 use Rattle.executor.proofs.FoundTables.{indexes_listed, table_found}
+use Rattle.executor.proofs.Replacing.{found_is, same_folded}
+use Rattle.executor.proofs.Wide.{indexes_of_table, wide_in}
 
 -- what follows for every listed database, and for the trees of its file
 pub record Laws : Type 0 where
@@ -65,6 +60,7 @@ pub record Laws : Type 0 where
   pub refused : InsertIsRefused
   pub inserts : InsertAddsRows
   pub none : InsertOfNoneStays
+  pub indexes : ListsIndexes
 
 abbrev inserting : Insert → Statement
 inserting i = statement.Change (kind.Insert i)
@@ -77,7 +73,7 @@ named_folded tables name t named = named_as tables (folded name) name (folded_tw
 
 -- a listed table of the database
 pub listed_table : (rows_at : ℕ → List TableRow) (tables : List Table) (db : Database) (name : Name) (t : Table) → Lists rows_at tables db → table_named name tables ≡ Some t
-    → table_of db (folded name) ≡ Ok (plain_table t (rows_at t.root))
+    → table_of db (folded name) ≡ Ok (with_rows t (rows_at t.root))
 listed_table rows_at tables db name t lists named =
     ap table_in (table_found rows_at tables db (folded name) t lists (named_folded tables name t named))
 
@@ -206,36 +202,24 @@ all_of P [] each i d lt = absurd (omega (arith, lt))
 all_of P (x ∷ xs) each zero d lt = each.0
 all_of P (x ∷ xs) each (suc i) d lt = all_of P xs each.1 i d (omega (arith, lt))
 
-all_behind : {A : Type 0} (P : A → Type 0) (xs ys : List A) → All P (xs ++ ys) → All P ys
-all_behind P xs ys all i d lt = subst P (get_or-append-add xs ys i d) (all (length xs + i) d (let sum = length-append xs ys in omega (arith, lt, sum)))
-
-all_last : {A : Type 0} (P : A → Type 0) (xs ys : List A) → AllByRecursion P (xs ++ ys) → AllByRecursion P ys
-all_last P [] ys all = all
-all_last P (x ∷ xs) ys all = all_last P xs ys all.1
-
--- the entries of rows after others
-entries_behind : (rows added : List TableRow) (indexes : List Index) → AreEntriesStorable indexes (rows ++ added) → AreEntriesStorable indexes added
-entries_behind rows added [] all = tt
-entries_behind rows added (i ∷ is) all = (all_last (λ row. AreStorable (indexed (columns_of i) row)) rows added all.0, entries_behind rows added is all.1)
-
 some_or_none : {A : Type 0} (xs : List A) → (xs ≡ []) ⊎ (1 ≤ length xs)
 some_or_none [] = inl refl
 some_or_none (x ∷ xs) = inr (omega arith)
 
 -- the database that the rows make
-pub record IsMadeOf (rows_at : ℕ → List TableRow) (tables : List Table) (db : Database) (i : Insert) (t : Table) (added : List TableRow) : Type 0 where
+pub record IsMadeOf (rows_at : ℕ → List TableRow) (tables : List Table) (db : Database) (i : Insert) (t : Table) (now : List TableRow) : Type 0 where
   pub made : Database
   pub is : change db (kind.Insert i) ≡ Ok made
-  pub of_tables : IsOfTables (rows_with rows_at t.root (rows_at t.root ++ added)) tables made
+  pub of_tables : IsOfTables (rows_with rows_at t.root now) tables made
 
 abbrev rows_answer : List TableRow → Answer (List TableRow)
 rows_answer rows = Ok rows
 
-nothing_added : (added : List TableRow) → rows_answer [] ≡ rows_answer added → [] ≡ added
-nothing_added added e = cc
+same_answer : (rows now : List TableRow) → rows_answer rows ≡ rows_answer now → rows ≡ now
+same_answer rows now e = cc
 
-not_none : (r : Refusal) → rows_answer [] ≡ Err r → ⊥
-not_none r e = absurd cc
+not_none : (rows : List TableRow) (r : Refusal) → rows_answer rows ≡ Err r → ⊥
+not_none rows r e = absurd cc
 
 module _ (laws : Laws) (pages : PageMap) (size : ℕ) (tables : List Table) (db : Database) (held : Stores pages size tables db) (i : Insert) (t : Table) (places : List (Option ℕ)) (given : List (List Value)) (named : table_named i.table tables ≡ Some t)
     (is : IsGivenAs db i t places given) (long : length places ≡ length t.columns) where
@@ -245,44 +229,49 @@ module _ (laws : Laws) (pages : PageMap) (size : ℕ) (tables : List Table) (db 
   set_for : All (IsSetFor t places is.at) given
   set_for = all_of (IsSetFor t places is.at) given is.placed
 
+  -- the database with these rows in the table
+  abbrev with_now : List TableRow → Database
+  with_now now = with_object db (folded i.table) (ATable (with_rows t now))
+
   -- what the statement comes to on the database
   abbrev changed : List (List Value) → Answer Database
-  changed rows = rows_added t places (last_rowid (held.rows_at t.root)) rows then λ added. Ok (with_object db (folded i.table) (ATable (plain_table t (held.rows_at t.root ++ added))))
+  changed rows = rows_inserted t places (held.rows_at t.root) rows then λ now. Ok (with_now now)
 
   change_is : 1 ≤ length given → change db (kind.Insert i) ≡ changed given
   change_is some =
-      laws.inserts db i t (held.rows_at t.root) is.at is.source places given held.of_tables.only (listed_table held.rows_at tables db i.table t held.of_tables.lists named) owned.split.is.fit is.stands is.answered set_for some
+      laws.inserts db i t (held.rows_at t.root) is.at is.source places given held.of_tables.only (indexes_of_table laws.indexes held.rows_at tables db i.table t held.of_tables named)
+      (listed_table held.rows_at tables db i.table t held.of_tables.lists named) owned.split.is.fit is.stands is.answered set_for some
 
-  pub made : (added : List TableRow) → rows_added t places (last_rowid (held.rows_at t.root)) given ≡ Ok added → IsMadeOf held.rows_at tables db i t added
-  made added e = by (some_or_none given)
+  pub made : (now : List TableRow) → rows_inserted t places (held.rows_at t.root) given ≡ Ok now → IsMadeOf held.rows_at tables db i t now
+  made now e = by (some_or_none given)
     where
-      same : [] ≡ added → (root : ℕ) → held.rows_at root ≡ rows_with held.rows_at t.root (held.rows_at t.root ++ added) root
-      same nothing root = elim (cases_eq root t.root) [
-        | inl here ↦ ap held.rows_at here ∙ (sym (append-nil (held.rows_at t.root)) ∙ (ap (λ more. held.rows_at t.root ++ more) nothing ∙ sym (rows_here held.rows_at t.root root (held.rows_at t.root ++ added) here)))
-        | inr differ ↦ sym (rows_elsewhere held.rows_at t.root root (held.rows_at t.root ++ added) differ)
+      same : held.rows_at t.root ≡ now → (root : ℕ) → held.rows_at root ≡ rows_with held.rows_at t.root now root
+      same still root = elim (cases_eq root t.root) [
+        | inl here ↦ ap held.rows_at here ∙ (still ∙ sym (rows_here held.rows_at t.root root now here))
+        | inr differ ↦ sym (rows_elsewhere held.rows_at t.root root now differ)
       ]
 
-      by : (given ≡ []) ⊎ (1 ≤ length given) → IsMadeOf held.rows_at tables db i t added
+      by : (given ≡ []) ⊎ (1 ≤ length given) → IsMadeOf held.rows_at tables db i t now
       by (inl none) =
-          let nothing = nothing_added added (subst (λ rows. rows_added t places (last_rowid (held.rows_at t.root)) rows ≡ Ok added) none e) in
+          let still = same_answer (held.rows_at t.root) now (subst (λ rows. rows_inserted t places (held.rows_at t.root) rows ≡ Ok now) none e) in
           record {
             made = db;
             is = laws.none db i t (held.rows_at t.root) is.at is.source (listed_table held.rows_at tables db i.table t held.of_tables.lists named) is.stands (is.answered ∙ ap (λ (rows : List (List Value)). Ok rows) none);
             of_tables = record {
-              lists = subst (λ (rows_at : ℕ → List TableRow). Lists rows_at tables db) (λ k root. same nothing root k) held.of_tables.lists;
+              lists = subst (λ (rows_at : ℕ → List TableRow). Lists rows_at tables db) (λ k root. same still root k) held.of_tables.lists;
               only = held.of_tables.only;
               named = held.of_tables.named;
               once = held.of_tables.once;
             };
           }
       by (inr some) = record {
-        made = with_object db (folded i.table) (ATable (plain_table t (held.rows_at t.root ++ added)));
-        is = change_is some ∙ ap (λ (a : Answer (List TableRow)). a then λ added. Ok (with_object db (folded i.table) (ATable (plain_table t (held.rows_at t.root ++ added))))) e;
+        made = with_now now;
+        is = change_is some ∙ ap (λ (a : Answer (List TableRow)). a then λ now. Ok (with_now now)) e;
         of_tables = record {
-          lists = laws.lists held.rows_at tables db (folded i.table) t (held.rows_at t.root ++ added) held.of_tables.lists (named_folded tables i.table t named)
+          lists = laws.lists held.rows_at tables db (folded i.table) t now held.of_tables.lists (named_folded tables i.table t named)
               (λ other u found here. own_pages pages size tables db held other (folded i.table) u t found (named_folded tables i.table t named) here);
-          only = laws.tables db (folded i.table) (ATable (plain_table t (held.rows_at t.root ++ added))) held.of_tables.only refl;
-          named = laws.named db (folded i.table) (ATable (plain_table t (held.rows_at t.root ++ added))) held.of_tables.named;
+          only = laws.tables db (folded i.table) (ATable (with_rows t now)) held.of_tables.only refl;
+          named = laws.named db (folded i.table) (ATable (with_rows t now)) held.of_tables.named;
           once = held.of_tables.once;
         };
       }
@@ -290,36 +279,18 @@ module _ (laws : Laws) (pages : PageMap) (size : ℕ) (tables : List Table) (db 
   pub reaches : (made : Database) → change db (kind.Insert i) ≡ Ok made → Reaches (change_made (inserting i) db) made
   reaches made e = (not_refused laws db i _ held.of_tables.only is.stands, subst (λ (a : Answer Database). Reaches (of_answer a) made) (sym e) refl)
 
-  pub refused : (f : Fault) → rows_added t places (last_rowid (held.rows_at t.root)) given ≡ Err (refusal_of f) → work i db (refusal_of f)
+  pub refused : (f : Fault) → rows_inserted t places (held.rows_at t.root) given ≡ Err (refusal_of f) → work i db (refusal_of f)
   refused f e = inr (not_refused laws db i _ held.of_tables.only is.stands, subst (λ (a : Answer Database). RefusesWith (of_answer a) (refusal_of f)) (sym (by (some_or_none given))) (refused_so f))
     where
       by : (given ≡ []) ⊎ (1 ≤ length given) → change db (kind.Insert i) ≡ Err (refusal_of f)
-      by (inl none) = absurd (not_none (refusal_of f) (subst (λ rows. rows_added t places (last_rowid (held.rows_at t.root)) rows ≡ Err (refusal_of f)) none e))
-      by (inr some) = change_is some ∙ ap (λ (a : Answer (List TableRow)). a then λ added. Ok (with_object db (folded i.table) (ATable (plain_table t (held.rows_at t.root ++ added))))) e
-
-  -- the database has the rows that are too long
-  long_row : (added : List TableRow) (m : IsMadeOf held.rows_at tables db i t added) → (AllStorable added × AreEntriesStorable t.indexes added → ⊥) → HasLongRow m.made
-  long_row added m too_long = record {
-    name = i.table;
-    table = t;
-    rows = held.rows_at t.root ++ added;
-    is = table_found (rows_with held.rows_at t.root (held.rows_at t.root ++ added)) tables m.made i.table t m.of_tables.lists named
-        ∙ ap (λ rows. Some (ATable (plain_table t rows))) (rows_here held.rows_at t.root t.root (held.rows_at t.root ++ added) refl);
-    indexed = indexes_listed (rows_with held.rows_at t.root (held.rows_at t.root ++ added)) tables m.made m.of_tables owned.front t owned.back owned.tables_are;
-    long = λ all. too_long (all_behind (λ row. AreStorable row.1) (held.rows_at t.root) added all.0, entries_behind (held.rows_at t.root) added t.indexes all.1);
-  }
+      by (inl none) = absurd (not_none (held.rows_at t.root) (refusal_of f) (subst (λ rows. rows_inserted t places (held.rows_at t.root) rows ≡ Err (refusal_of f)) none e))
+      by (inr some) = change_is some ∙ ap (λ (a : Answer (List TableRow)). a then λ now. Ok (with_now now)) e
 
   put_refused : (f : Fault) → IsRefusedInsert t places given (held.rows_at t.root) f → IsChangeRefusal (inserting i) db f
   put_refused f (inl outside) = inl outside
   put_refused f (inr (inl as_rows)) = inr (inl (refused f as_rows))
-  put_refused f (inr (inr too_long)) =
-      let m = made too_long.added too_long.answer in
-      inr (inr (record {
-        is = too_long.is;
-        made = m.made;
-        reaches = reaches m.made m.is;
-        why = inl (long_row too_long.added m too_long.long);
-      }))
+  put_refused f (inr (inr (what, wide))) =
+      inr (inr (record { is = what; why = inl (wide_in db t i.table (same_folded t.name i.table (found_is (is_table i.table) tables t named)) (indexes_listed held.rows_at tables db held.of_tables owned.front t owned.back owned.tables_are) wide) }))
 
   abbrev trees : HoldsTrees pages size held.rows_at tables held.schema
   trees = trees_held pages size tables db held
@@ -332,11 +303,11 @@ module _ (laws : Laws) (pages : PageMap) (size : ℕ) (tables : List Table) (db 
       → MatchResult result (λ done. IsMade (inserting i) db new size tables) (IsChangeRefusal (inserting i) db)
   put_makes new (Ok done) puts =
       let put = puts (schema_tree held.schema held.schema_used) (all_trees owned.split.before) (all_trees owned.split.after) (held.rows_at t.root) (page_size pages size held.rows_at tables held.schema trees) refl its_trees owned.split.is.fit in
-      let m = made put.added put.answer in
+      let m = made put.now put.answer in
       record {
         made = m.made;
         reaches = reaches m.made m.is;
-        stored = stores_rows pages new size tables db m.made held t (held.rows_at t.root ++ put.added) owned put.hold m.of_tables;
+        stored = stores_rows pages new size tables db m.made held t put.now owned put.hold m.of_tables;
       }
   put_makes new (Err f) puts =
       put_refused f (puts (schema_tree held.schema held.schema_used) (all_trees owned.split.before) (all_trees owned.split.after) (held.rows_at t.root) (page_size pages size held.rows_at tables held.schema trees) refl its_trees owned.split.is.fit)

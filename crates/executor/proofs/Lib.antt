@@ -21,3 +21,4 @@ pub mod Telling
 pub mod Updates
 pub mod WrittenRows
 pub mod SchemaTaking
+mod Wide

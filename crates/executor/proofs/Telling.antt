@@ -279,7 +279,7 @@ same_table pages t others row is = record {
   sql = is.sql;
   definition = is.definition;
   creates = is.creates;
-  makes = record { free = is.makes.free; once = is.makes.once; name_is = is.makes.name_is; columns = is.makes.columns };
+  makes = record { free = is.makes.free; once = is.makes.once; name_is = is.makes.name_is; columns = is.makes.columns; checks = is.makes.checks };
   rowid_is = is.rowid_is;
   row_is = is.row_is;
 }
@@ -291,7 +291,7 @@ same_indexes pages t others (i ∷ is) = (
     sql = tells.sql;
     definition = tells.definition;
     creates = tells.creates;
-    makes = record { free = tells.makes.free; once = tells.makes.once; name_is = tells.makes.name_is; on = tells.makes.on; columns = tells.makes.columns };
+    makes = record { free = tells.makes.free; once = tells.makes.once; name_is = tells.makes.name_is; on = tells.makes.on; unique = tells.makes.unique; columns = tells.makes.columns };
     rowid_is = tells.rowid_is;
     row_is = tells.row_is;
   },

@@ -15,8 +15,8 @@ use Rattle.pages.specs.Map.{PageMap}
 use Rattle.db_layout.specs.Trees.{AreAmong}
 use Rattle.catalog.specs.Database.{ATable, Database, Name, with_object}
 use Rattle.catalog.specs.Laws.{KeepsOnlyPlain, ListsOtherRows}
-use Rattle.catalog.specs.Listed.{Lists, plain_table, table_named}
-use Rattle.catalog.specs.Named.{IsOfTables, KeepsNamed}
+use Rattle.catalog.specs.Listed.{Lists, is_table, table_named, with_rows}
+use Rattle.catalog.specs.Named.{IsOfTables, KeepsNamed, ListsIndexes}
 use Rattle.catalog.specs.declared.tables.Column.{Column}
 use Rattle.catalog.specs.declared.tables.Table.{Table}
 use Rattle.query_names.specs.Bound.{IsFaultOf, looked_up, source_seen}
@@ -32,24 +32,24 @@ use Rattle.query_terms.specs.Terms.{Term}
 use Rattle.row_scan.specs.Rows.{TableRow}
 use Rattle.query_bind.specs.Assigned.{columns_set, set_known, sets_known}
 use Rattle.row_change.specs.Changes.{Resolved, Updates, no_outer, resolve_change}
-use Rattle.row_change.specs.Inserting.{AllStorable}
 use Rattle.row_change.specs.Setting.{rows_set}
 use Rattle.db_write.specs.Changing.{IsRefusedUpdate, UpdatesInTrees}
-use Rattle.db_write.specs.Turning.{AreEntriesStorable}
 use Rattle.query_names.proofs.ColumnPlaces.{column_place}
 use Rattle.row_change.proofs.PlacesByName.{doubled_list, list_places, unknown_list}
 use Rattle.trigger.specs.Binding.{IsFault}
 use Rattle.trigger.specs.Effects.{change}
 use Rattle.trigger.specs.Laws.{BindsAlone, UpdateSetsRows}
-use Rattle.executor.specs.Changing.{HasLongRow, IsChangeRefusal, IsMade}
+use Rattle.executor.specs.Changing.{IsChangeRefusal, IsMade}
 use Rattle.db_pages.specs.Stored.{Stores, all_trees, schema_tree}
 use Rattle.executor.specs.Works.{Reaches, RefusesWith, change_made, of_answer}
 use Rattle.executor.proofs.Deletions.{as_refused}
 use Rattle.executor.proofs.Insertions.{listed_table, named_folded}
 use Rattle.executor.proofs.Owners.{HasTable}
-use Rattle.executor.proofs.HeldTrees.{HoldsTrees, among, page_size, rows_here, rows_with, stores_rows, held_table, trees_held}
+use Rattle.executor.proofs.HeldTrees.{HoldsTrees, among, page_size, rows_with, stores_rows, held_table, trees_held}
 use Rattle.executor.proofs.Roots.{own_pages}
-use Rattle.executor.proofs.FoundTables.{indexes_listed, table_found}
+use Rattle.executor.proofs.FoundTables.{indexes_listed}
+use Rattle.executor.proofs.Replacing.{found_is, same_folded}
+use Rattle.executor.proofs.Wide.{indexes_of_table, wide_in}
 
 -- what follows for every listed database, and for the trees of its file
 pub record Laws : Type 0 where
@@ -58,6 +58,7 @@ pub record Laws : Type 0 where
   pub named : KeepsNamed
   pub binds : BindsAlone
   pub updates : UpdateSetsRows
+  pub indexes : ListsIndexes
 
 abbrev updating : Update → Statement
 updating u = statement.Change (kind.Update u)
@@ -190,7 +191,7 @@ module _ (laws : Laws) (pages : PageMap) (size : ℕ) (tables : List Table) (db 
 
       -- the database whose table has these rows
       abbrev with_now : List TableRow → Database
-      with_now now = with_object db (folded u.table) (ATable (plain_table t now))
+      with_now now = with_object db (folded u.table) (ATable (with_rows t now))
 
       reaches : (made : Database) → change db (kind.Update u) ≡ Ok made → Reaches (change_made (updating u) db) made
       reaches made e = (not_refused, subst (λ (a : Answer Database). Reaches (of_answer a) made) (sym e) refl)
@@ -206,8 +207,8 @@ module _ (laws : Laws) (pages : PageMap) (size : ℕ) (tables : List Table) (db 
       of_tables : (now : List TableRow) → IsOfTables (rows_with held.rows_at t.root now) tables (with_now now)
       of_tables now = record {
         lists = lists_now now;
-        only = laws.tables db (folded u.table) (ATable (plain_table t now)) held.of_tables.only refl;
-        named = laws.named db (folded u.table) (ATable (plain_table t now)) held.of_tables.named;
+        only = laws.tables db (folded u.table) (ATable (with_rows t now)) held.of_tables.only refl;
+        named = laws.named db (folded u.table) (ATable (with_rows t now)) held.of_tables.named;
         once = held.of_tables.once;
       }
 
@@ -219,20 +220,8 @@ module _ (laws : Laws) (pages : PageMap) (size : ℕ) (tables : List Table) (db 
 
       change_is : (a : Answer (List TableRow)) → rows_set t sets condition (held.rows_at t.root) ≡ a → change db (kind.Update u) ≡ (a then λ now. Ok (with_now now))
       change_is a e =
-          laws.updates db u t (held.rows_at t.root) sets (named_sets u) condition held.of_tables.only held.of_tables.named (listed_table held.rows_at tables db u.table t held.of_tables.lists named) owned.split.is.fit bound
+          laws.updates db u t (held.rows_at t.root) sets (named_sets u) condition held.of_tables.only held.of_tables.named (indexes_of_table laws.indexes held.rows_at tables db u.table t held.of_tables named) (listed_table held.rows_at tables db u.table t held.of_tables.lists named) owned.split.is.fit bound
           ∙ ap (λ (x : Answer (List TableRow)). x then λ now. Ok (with_now now)) e
-
-      -- the database has the rows that are too long
-      long_row : (now : List TableRow) → (AllStorable now × AreEntriesStorable t.indexes now → ⊥) → HasLongRow (with_now now)
-      long_row now long = record {
-        name = u.table;
-        table = t;
-        rows = now;
-        is = table_found (rows_with held.rows_at t.root now) tables (with_now now) u.table t (lists_now now) named
-            ∙ ap (λ rows. Some (ATable (plain_table t rows))) (rows_here held.rows_at t.root t.root now refl);
-        indexed = indexes_listed (rows_with held.rows_at t.root now) tables (with_now now) (of_tables now) owned.front t owned.back owned.tables_are;
-        long = long;
-      }
 
       -- what the call that sets the rows comes to
       pub set_makes : (new : PageMap) (result : Result ⊤ Fault) → UpdatesInTrees pages new size t condition sets result
@@ -250,9 +239,5 @@ module _ (laws : Laws) (pages : PageMap) (size : ℕ) (tables : List Table) (db 
           by : IsRefusedUpdate t condition sets (held.rows_at t.root) f → IsChangeRefusal (updating u) db f
           by (inl outside) = inl outside
           by (inr (inl e)) = refuses f (change_is (Err (refusal_of f)) e)
-          by (inr (inr long)) = inr (inr (record {
-            is = long.is;
-            made = with_now long.now;
-            reaches = reaches (with_now long.now) (change_is (Ok long.now) long.answer);
-            why = inl (long_row long.now long.long);
-          }))
+          by (inr (inr (what, wide))) =
+              inr (inr (record { is = what; why = inl (wide_in db t u.table (same_folded t.name u.table (found_is (is_table u.table) tables t named)) (indexes_listed held.rows_at tables db held.of_tables owned.front t owned.back owned.tables_are) wide) }))

@@ -1,10 +1,11 @@
 -- What a statement's change makes of the pages that hold a database (SQL As Understood By SQLite, "CREATE TABLE", "CREATE INDEX", "INSERT").
-use Rattle.std.specs.Prelude.{◌≡◌, ◌⊎◌, codes, ℕ, List, Some, Result, MatchResult}
-use Rattle.std.specs.List.{AllByRecursion}
+use Rattle.std.specs.Prelude.{◌≡◌, ◌⊎◌, codes, ℕ, true, List, length, Some, Result, MatchResult}
 use Rattle.sqlval.specs.Names.{folded}
 use Rattle.sqlval.specs.Refusals.{refusal_of}
 use Rattle.sqlval.specs.declared.fault.Fault.{Fault}
 use Rattle.sqlval.specs.declared.fault.Fault.TheVariants as fault
+use Rattle.sql_syntax.specs.declared.change.Change.{Change}
+use Rattle.sql_syntax.specs.declared.change.Change.TheVariants as change
 use Rattle.sql_syntax.specs.declared.create.NewObject.{NewObject}
 use Rattle.sql_syntax.specs.declared.create.NewObject.TheVariants as new
 use Rattle.sql_syntax.specs.declared.statement.Statement.{Statement}
@@ -12,13 +13,12 @@ use Rattle.sql_syntax.specs.declared.statement.Statement.TheVariants as statemen
 use Rattle.record.specs.Writing.{AreStorable}
 use Rattle.pages.specs.Calls.{IsOutsideOrFull}
 use Rattle.pages.specs.Map.{PageMap}
-use Rattle.catalog.specs.Database.{AnIndex, ATable, Database, Name, object}
-use Rattle.catalog.specs.Listed.{plain_index, plain_table}
+use Rattle.catalog.specs.Database as database
+use Rattle.catalog.specs.Database.{AnIndex, Database, Name, object}
+use Rattle.catalog.specs.Listed.{as_index}
 use Rattle.catalog.specs.declared.tables.Index.{Index}
 use Rattle.catalog.specs.declared.tables.Table.{Table}
-use Rattle.row_scan.specs.Rows.{TableRow}
-use Rattle.row_change.specs.Inserting.{AllStorable}
-use Rattle.db_write.specs.Turning.{AreEntriesStorable}
+use Rattle.db_write.specs.Changing.{is_wide}
 use Rattle.db_pages.specs.Schema.{schema_row}
 use Rattle.db_pages.specs.Stored.{Stores}
 use Rattle.executor.specs.Works.{Reaches, RefusesWith, change_made}
@@ -33,16 +33,30 @@ pub record IsMade (s : Statement) (db : Database) (new : PageMap) (size : ℕ) (
 
 -- this index of a table is one of the database
 abbrev pub IsIndexIn : Database → Table → Index → Type 0
-IsIndexIn db table index = object db index.name ≡ Some (AnIndex (plain_index table index))
+IsIndexIn db table index = object db index.name ≡ Some (AnIndex (as_index table index))
 
--- a table of the database has a row that no record can hold, or one whose entry in an index no record can hold
-pub record HasLongRow (db : Database) : Type 0 where
+-- an index of the database on the table of this name has so many columns that no record can hold an entry
+pub record HasWideIndex (db : Database) (table : Name) : Type 0 where
   pub name : Name
-  pub table : Table
-  pub rows : List TableRow
-  pub is : object db name ≡ Some (ATable (plain_table table rows))
-  pub indexed : AllByRecursion (IsIndexIn db table) table.indexes
-  pub long : AllStorable rows × AreEntriesStorable table.indexes rows → ⊥
+  pub index : database.Index
+  pub is : object db name ≡ Some (AnIndex index)
+  pub on : index.table ≡ folded table
+  pub wide : is_wide (length index.columns) ≡ true
+
+abbrev PutsInWide : Change → Database → Type 0
+PutsInWide (change.Insert i) db = HasWideIndex db i.table
+PutsInWide (change.Update u) db = HasWideIndex db u.table
+PutsInWide (change.Delete d) db = ⊥
+
+abbrev MakesWide : NewObject → Type 0
+MakesWide (new.Index d) = is_wide (length d.columns) ≡ true
+MakesWide _ = ⊥
+
+-- the statement puts rows into a table with such an index, or makes one
+abbrev pub MeetsWideIndex : Statement → Database → Type 0
+MeetsWideIndex (statement.Change c) db = PutsInWide c db
+MeetsWideIndex (statement.Create c) db = MakesWide c.object
+MeetsWideIndex _ db = ⊥
 
 abbrev MakesLongText : List ℕ → NewObject → Type 0
 MakesLongText sql (new.Table d) = (root : ℕ) × (AreStorable (schema_row (codes "table") d.name d.name root sql) → ⊥)
@@ -55,14 +69,18 @@ abbrev pub HasLongText : Statement → Type 0
 HasLongText (statement.Create c) = MakesLongText c.sql c.object
 HasLongText _ = ⊥
 
--- the statement's database can't be stored: a row or an entry is too long for a record
-pub record IsTooMuch (s : Statement) (db : Database) (f : Fault) : Type 0 where
-  pub is : f ≡ fault.TooLong
+-- the statement makes a database whose schema table can't be stored
+pub record MakesLongRow (s : Statement) (db : Database) : Type 0 where
   pub made : Database
   pub reaches : Reaches (change_made s db) made
-  pub why : HasLongRow made ⊎ HasLongText s
+  pub long : HasLongText s
 
--- Why a statement makes nothing: out of memory or of pages, by a disk, as its work is refused, or because what it makes can't be stored.
+-- something is too long for a record, whatever rows there are
+pub record IsTooMuch (s : Statement) (db : Database) (f : Fault) : Type 0 where
+  pub is : f ≡ fault.TooLong
+  pub why : MeetsWideIndex s db ⊎ MakesLongRow s db
+
+-- Why a statement makes nothing: out of memory or of pages, by a disk, as its work is refused, or because something is too long for a record.
 abbrev pub IsChangeRefusal : Statement → Database → Fault → Type 0
 IsChangeRefusal s db f = IsOutsideOrFull f ⊎ (RefusesWith (change_made s db) (refusal_of f) ⊎ IsTooMuch s db f)
 

@@ -7,7 +7,7 @@ ghost use Rattle.pages.specs.Calls.{Causes};
 ghost use Rattle.sql_syntax.specs.declared.create.NewObject.TheVariants as object;
 ghost use Rattle.sql_syntax.specs.declared.statement.Statement.TheVariants as statement;
 ghost use Rattle.catalog.specs.Listed.{is_name_of, tables_of};
-ghost use Rattle.query_names.specs.Creating.{IsCreateRefusal, has_plain_rules};
+ghost use Rattle.query_names.specs.Creating.{IsCreateRefusal, has_no_keys};
 ghost use Rattle.db_pages.specs.Schema.{IsCreateOf, IsTableOf, schema_row};
 ghost use Rattle.executor.specs.Changing.{MakesChange};
 ghost use Rattle.executor.specs.Listing.{AddsRow, IsNewTable};
@@ -20,7 +20,7 @@ use db_layout::{table_trees_stand, trees_give_way};
 use db_write::add_index;
 use pages::WritePages;
 use query_bind::{bind_index, indexes_are_created_as_defined};
-use query_names::bind_columns;
+use query_names::{bind_checks, bind_columns};
 use record::encode_row;
 use sql_syntax::{IndexDefinition, TableDefinition};
 use sqlval::{Damage, Fault, Many, Misuse, Name, R, Text, Value};
@@ -55,7 +55,8 @@ fn schema_values(
     Ok(values)
 }
 
-/// The table of a definition, without a tree and a row in the schema table as yet. (`Misuse(ReservedName)`, `Exists`, and what `bind_columns` refuses.)
+/// The table of a definition, without a tree and a row in the schema table as yet. (`Misuse(ReservedName)`, `Exists`,
+/// and what `bind_columns` and `bind_checks` refuse.)
 fn table_of(alloc: Global, catalog: &Catalog, definition: &TableDefinition) -> R<Table>
     ensures made { IfOk result (λ table. IsNewTable (tables_of catalog.now) definition.now table) }
     ensures why { IfErr result (λ fault. (fault ≡ Fault.Memory)
@@ -69,9 +70,12 @@ fn table_of(alloc: Global, catalog: &Catalog, definition: &TableDefinition) -> R
     if catalog.has_name(name.as_str()) {
         return Err(Fault::Exists(name.copy(alloc)?));
     }
+    let columns = bind_columns(alloc, definition)?;
+    let checks = bind_checks(alloc, definition, columns.as_slice())?;
     Ok(Table {
-        columns: bind_columns(alloc, definition)?,
         name: name.copy(alloc)?,
+        columns,
+        checks,
         indexes: Many::new(alloc),
         root: NO_PAGE,
         rowid: 0,
@@ -96,7 +100,7 @@ fn add_row<P: WritePages>(alloc: Global, pages: &mut P, rowid: i64, values: &[Va
 }
 
 /// Makes a table: its row in the schema table, and a tree without rows. Answers the catalog with it. (`Misuse(ReservedName)`, `Exists`, and
-/// what `bind_columns` refuses; `TooLong` if no record can hold its row. Then some pages may have changed.)
+/// what `bind_columns` and `bind_checks` refuse; `TooLong` if no record can hold its row. Then some pages may have changed.)
 pub fn create_table<P: WritePages>(
     alloc: Global,
     pages: &mut P,
@@ -105,7 +109,7 @@ pub fn create_table<P: WritePages>(
     definition: &TableDefinition,
 ) -> R<Catalog>
     ensures made { IsTrue (P.Pages.tells (P.Pages.below pages.old))
-        → has_plain_rules definition.now ≡ true
+        → has_no_keys definition.now ≡ true
         → IsCreateOf sql.now (object.Table definition.now)
         → MakesChange tables_of (statement.Create
         (record { sql = sql.now; object = object.Table definition.now })) (P.Pages.map pages.old)
@@ -131,7 +135,8 @@ pub fn create_table<P: WritePages>(
 }
 
 /// Makes an index: its row in the schema table, and a tree with the entries of its table's rows. Answers the catalog with it. (What
-/// `bind_index` and `add_index` refuse; `TooLong` if no record can hold its row. Then some pages may have changed.)
+/// `bind_index` and `add_index` refuse, `Unique` for two rows of one key among it; `TooLong` if no record can hold its row. Then some pages
+/// may have changed.)
 pub fn create_index<P: WritePages>(
     alloc: Global,
     pages: &mut P,
@@ -140,7 +145,6 @@ pub fn create_index<P: WritePages>(
     definition: &IndexDefinition,
 ) -> R<Catalog>
     ensures made { IsTrue (P.Pages.tells (P.Pages.below pages.old))
-        → definition.now.is_unique ≡ false
         → IsCreateOf sql.now (object.Index definition.now)
         → MakesChange tables_of (statement.Create
         (record { sql = sql.now; object = object.Index definition.now })) (P.Pages.map pages.old)
@@ -155,13 +159,21 @@ pub fn create_index<P: WritePages>(
     table_trees_stand();
     let bound = bind_index(alloc, catalog, definition)?;
     let rowid = catalog.unused_rowid(alloc)?;
-    let root = add_index(alloc, pages, bound.table, bound.columns.as_slice())?;
+    let is_unique = definition.is_unique;
+    let root = add_index(
+        alloc,
+        pages,
+        bound.table,
+        bound.columns.as_slice(),
+        is_unique,
+    )?;
     let (name, table) = (&definition.name, bound.table);
     let values = schema_values(alloc, "index", name, &table.name, root, sql)?;
     add_row(alloc, pages, rowid, &values)?;
     let index = Index {
         name: name.copy(alloc)?,
         columns: bound.columns,
+        is_unique,
         root,
         rowid,
     };

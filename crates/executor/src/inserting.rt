@@ -8,7 +8,7 @@ ghost use Rattle.catalog.specs.Listed.{tables_of};
 ghost use Rattle.executor.specs.Changing.{MakesChange};
 
 use crate::giving::given_rows;
-use catalog::{Catalog, named_databases_are_one, other_rows_are_listed};
+use catalog::{Catalog, listed_indexes_are_found, named_databases_are_one, other_rows_are_listed};
 use db_write::insert_rows;
 use pages::WritePages;
 use query_names::{BoundInsert, bind_target};
@@ -35,6 +35,7 @@ pub fn insert<P: WritePages>(
 {
     other_rows_are_listed();
     named_databases_are_one();
+    listed_indexes_are_found();
     only_tables_set_nothing_off();
     let target = bind_target(alloc, insert, catalog)?;
     let rows = given_rows(alloc, pages, catalog, &insert.source, target.count)?;

@@ -8,7 +8,7 @@ ghost use Rattle.catalog.specs.Listed.{tables_of};
 ghost use Rattle.executor.specs.Changing.{MakesChange};
 
 use crate::deleting::listed_table;
-use catalog::{Catalog, named_databases_are_one, other_rows_are_listed};
+use catalog::{Catalog, listed_indexes_are_found, named_databases_are_one, other_rows_are_listed};
 use pages::WritePages;
 use query_bind::{bind_sets, bind_where};
 use sql_syntax::Update;
@@ -34,6 +34,7 @@ pub fn update_rows<P: WritePages>(
 {
     other_rows_are_listed();
     named_databases_are_one();
+    listed_indexes_are_found();
     only_tables_set_nothing_off();
     update_sets_off_nothing();
     let table = listed_table(alloc, catalog, &update.table)?;

@@ -88,6 +88,30 @@ fn replace_entry<P: WritePages>(
     add_entry(alloc, pages, root, columns, under, come)
 }
 
+/// Puts the entry of a row in place of that of another of its rowid, which it has in the tree of an index. Of an entry that stays as it is no page is
+/// read. (What `take_entries` and `add_row` refuse. Then the entry of the first may be out.)
+pub fn replace_row<P: WritePages>(
+    alloc: Global,
+    pages: &mut P,
+    root: u32,
+    columns: &[IndexColumn],
+    gone: &TableRow,
+    come: &TableRow,
+) -> R<()>
+    ensures replaced { IsTrue (P.Pages.tells (P.Pages.below pages.old))
+        → ReplacesEntry (P.Pages.map pages.old) (P.Pages.map pages.new)
+        (P.Pages.limits (P.Pages.below pages.old)).page
+        root (columns_in columns.now) (row_in gone.now) (row_in come.now) result }
+    ensures idle { has_same_key (columns_in columns.now) (row_in gone.now).1 (row_in come.now).1 ≡ true
+        → (pages.new ≡ pages.old) × IfErr result (λ fault. fault ≡ Fault.Memory) }
+    ensures kept { P.Pages.below pages.new ≡ P.Pages.below pages.old }
+    ensures causes { Causes result (P.Pages.failures pages.old) (P.Pages.failures pages.new)
+        (P.Pages.count pages.new ≡ (P.Pages.limits (P.Pages.below pages.new)).most) }
+{
+    let under = collations_of(alloc, columns)?;
+    replace_entry(alloc, pages, root, columns, &under, gone, come)
+}
+
 /// Puts the entries of rows in place of those of others, each of which has its row's rowid. Of an entry that stays as it is no page is read. (What
 /// `take_entries` and `add_entries` refuse. Then some entries may have changed.)
 pub fn replace_entries<P: WritePages>(

@@ -3,7 +3,7 @@ use Rattle.std.proofs.Common.{◌≡◌, refl, sym, ap, subst, ◌∙◌, ℕ, �
 use Rattle.std.proofs.lemmas.List.{append-nil, at_drop_more}
 use Rattle.sqlval.specs.declared.fault.Fault.{Fault}
 use Rattle.query_names.specs.Bound.{IsFaultOf}
-use Rattle.query_names.specs.Checked.{Checked, Meant, faults, both, known_all}
+use Rattle.query_names.specs.Checked.{Checked, Meant, faults, both, known_all, onto_list}
 use Rattle.query_names.specs.Queries.{is_own, resolve_item, resolve_items}
 use Rattle.query_names.proofs.ColumnNames.{folded_twice}
 use Rattle.catalog.specs.Database.{Name}
@@ -13,7 +13,7 @@ use Rattle.query_names.specs.declared.scope.ScopeColumn.{ScopeColumn}
 use Rattle.query_names.specs.declared.scope.ScopeSource.{ScopeSource}
 use Rattle.sql_syntax.specs.declared.query.ResultItem.{ResultItem}
 use Rattle.query_terms.specs.Terms.{Term}
-use Rattle.query_bind.specs.Named.{onto_list, orders_checked}
+use Rattle.query_bind.specs.Named.{orders_checked}
 use Rattle.query_bind.proofs.Chains.{in_front}
 
 pub begins : {A : Type 0} (k : Checked (List A)) → onto_list [] k ≡ k

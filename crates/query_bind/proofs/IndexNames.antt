@@ -17,12 +17,12 @@ use Rattle.sql_syntax.specs.declared.create.IndexDefinition.{IndexDefinition}
 use Rattle.sql_syntax.specs.declared.create.NewObject.TheVariants as new
 use Rattle.catalog.specs.Database.{Name, Database, Object, TableColumn, ATable, AnIndex, object, with_object}
 use Rattle.catalog.specs.Laws.{FindsListed, IsNoTable, NamesListed}
-use Rattle.catalog.specs.Listed.{Lists, is_reserved, place_named, as_column, plain_table, table_named}
+use Rattle.catalog.specs.Listed.{Lists, is_reserved, place_named, as_column, with_rows, table_named}
 use Rattle.catalog.specs.declared.tables.Column.{Column}
 use Rattle.catalog.specs.declared.tables.IndexColumn.{IndexColumn}
 use Rattle.catalog.specs.declared.tables.Table.{Table}
 use Rattle.query_names.specs.Bound.{IsFaultOf, is_twice_named, source_seen}
-use Rattle.query_names.specs.Checked.{Checked, Meant, good, bad, both, meant, faults, also, known_all, known_map, ◌and_then◌, unless}
+use Rattle.query_names.specs.Checked.{Checked, Meant, good, bad, both, meant, faults, also, known_all, known_map, ◌and_then◌, unless, onto_list}
 use Rattle.query_names.specs.Expressions.{resolve_collation}
 use Rattle.query_names.specs.Named.{Names}
 use Rattle.query_names.specs.Schema.{create, index_made, resolve_index_column}
@@ -30,7 +30,6 @@ use Rattle.query_names.specs.Scopes.{is_doubled, place_of}
 use Rattle.query_names.specs.Tables.{collation_at}
 use Rattle.query_names.proofs.ColumnPlaces.{no_place, one_place}
 use Rattle.query_bind.specs.Indexed.{IsIndexOn, IsIndexRefusal, MakesListedIndex, RefusesIndexAsDefined, collation_written, key_of, keys_known, names_in}
-use Rattle.query_bind.specs.Named.{onto_list}
 use Rattle.query_bind.proofs.Chains.{refused_first, refused_later, then_good}
 use Rattle.query_bind.proofs.Grown.{next_item}
 
@@ -73,7 +72,7 @@ found_key t i None = good (i, collation_at (map as_column t.columns) i)
 found_key t i (Some name) = known_map (λ k. (i, k)) (resolve_collation name)
 
 pub key_found : (as_name : Name) (t : Table) (written : Written) (place : ℕ) (collation : Collation) → place_of (source_seen as_name t) written.name ≡ good place
-    → collation_written t.columns place written.collation ≡ good collation → resolve_index_column as_name (plain_table t []) written ≡ good (place, collation)
+    → collation_written t.columns place written.collation ≡ good collation → resolve_index_column as_name (with_rows t []) written ≡ good (place, collation)
 key_found as_name t written place collation at named =
     then_good (place_of (source_seen as_name t) written.name) _ place at ∙ by_written written.collation named
   where
@@ -82,11 +81,11 @@ key_found as_name t written place collation at named =
     by_written (Some name) h = ap (known_map (λ k. (place, k))) h
 
 pub place_refused : (as_name : Name) (t : Table) (written : Written) (f : Fault) → IsFaultOf (faults (place_of (source_seen as_name t) written.name)) f
-    → IsFaultOf (faults (resolve_index_column as_name (plain_table t []) written)) f
+    → IsFaultOf (faults (resolve_index_column as_name (with_rows t []) written)) f
 place_refused as_name t written f h = refused_first (place_of (source_seen as_name t) written.name) _ f h
 
 pub collation_refused : (as_name : Name) (t : Table) (written : Written) (place : ℕ) (f : Fault) → IsFaultOf (faults (collation_written t.columns place written.collation)) f
-    → IsFaultOf (faults (resolve_index_column as_name (plain_table t []) written)) f
+    → IsFaultOf (faults (resolve_index_column as_name (with_rows t []) written)) f
 collation_refused as_name t written place f h =
     refused_later (place_of (source_seen as_name t) written.name) _ f (by_written written.collation h)
   where
@@ -118,11 +117,11 @@ module _ (finds : FindsListed) (names : NamesListed) (rows_at : ℕ → List (�
   placed o = unless (is_reserved d.name) Misuse (unless (is_some (object db d.name)) Exists (known_map (with_object db d.name) o))
 
   -- what stands after ON
-  on_table : (t : Table) → table_named d.table tables ≡ Some t → object db d.table ≡ Some (ATable (plain_table t (rows_at t.root)))
-  on_table t named = subst (λ (found : Option Table). MatchOption found (IsNoTable (object db d.table)) (λ t. object db d.table ≡ Some (ATable (plain_table t (rows_at t.root))))) named (finds rows_at tables db d.table lists)
+  on_table : (t : Table) → table_named d.table tables ≡ Some t → object db d.table ≡ Some (ATable (with_rows t (rows_at t.root)))
+  on_table t named = subst (λ (found : Option Table). MatchOption found (IsNoTable (object db d.table)) (λ t. object db d.table ≡ Some (ATable (with_rows t (rows_at t.root))))) named (finds rows_at tables db d.table lists)
 
   on_none : table_named d.table tables ≡ None → IsNoTable (object db d.table)
-  on_none none = subst (λ (found : Option Table). MatchOption found (IsNoTable (object db d.table)) (λ t. object db d.table ≡ Some (ATable (plain_table t (rows_at t.root))))) none (finds rows_at tables db d.table lists)
+  on_none none = subst (λ (found : Option Table). MatchOption found (IsNoTable (object db d.table)) (λ t. object db d.table ≡ Some (ATable (with_rows t (rows_at t.root))))) none (finds rows_at tables db d.table lists)
 
   made_on : (t : Table) → table_named d.table tables ≡ Some t → index_made (object db d.table) d ≡ known_map index_over (keys_known t d)
   made_on t named = ap (λ o. index_made o d) (on_table t named)

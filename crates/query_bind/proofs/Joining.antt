@@ -17,7 +17,7 @@ use Rattle.catalog.specs.Database.{Name}
 use Rattle.catalog.specs.Listed.{as_column, table_named}
 use Rattle.catalog.specs.declared.tables.Column.{Column}
 use Rattle.catalog.specs.declared.tables.Table.{Table}
-use Rattle.query_names.specs.Bound.{EachOf, IsFaultOf, columns_seen, looked_up, source_seen}
+use Rattle.query_names.specs.Bound.{EachOf, IsFaultOf, columns_seen, looked_up, source_seen, column_seen}
 use Rattle.query_names.specs.Checked.{Checked, Meant, meant, faults, noted, also, known_map, ◌and_then◌}
 use Rattle.query_names.specs.Queries.{Lookup, resolve_join, resolve_sources, source_name}
 use Rattle.query_names.specs.Scopes.{source_of}
@@ -25,7 +25,7 @@ use Rattle.query_names.specs.declared.queries.BoundSource.{BoundSource}
 use Rattle.query_names.specs.declared.reading.Condition.{Condition}
 use Rattle.query_names.specs.declared.scope.ScopeColumn.{ScopeColumn}
 use Rattle.query_names.specs.declared.scope.ScopeSource.{ScopeSource}
-use Rattle.query_bind.specs.Named.{AreTables, ArePlaced, IsPlaced, column_seen, look_among, onto_source, onto_sources, place_seen, resolve_source}
+use Rattle.query_bind.specs.Named.{AreTables, ArePlaced, IsPlaced, look_among, onto_source, onto_sources, place_seen, resolve_source}
 use Rattle.query_bind.proofs.Chains.{in_front}
 
 -- a table's columns, one by one

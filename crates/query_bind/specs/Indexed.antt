@@ -10,7 +10,7 @@ use Rattle.sql_syntax.specs.declared.create.IndexColumn.{IndexColumn as Written}
 use Rattle.sql_syntax.specs.declared.create.IndexDefinition.{IndexDefinition}
 use Rattle.sql_syntax.specs.declared.create.NewObject.TheVariants as new
 use Rattle.catalog.specs.Database.{Name, Database, AnIndex, with_object}
-use Rattle.catalog.specs.Listed.{Lists, as_column, is_name_of, is_reserved, plain_table, table_named}
+use Rattle.catalog.specs.Listed.{Lists, as_column, is_name_of, is_reserved, with_rows, table_named}
 use Rattle.catalog.specs.declared.tables.Column.{Column}
 use Rattle.catalog.specs.declared.tables.IndexColumn.{IndexColumn}
 use Rattle.catalog.specs.declared.tables.Table.{Table}
@@ -35,7 +35,7 @@ collation_written columns place (Some name) = resolve_collation name
 
 -- what the columns of a definition stand for on a listed table
 abbrev pub keys_known : Table → IndexDefinition → Checked (List (ℕ × Collation))
-keys_known t d = known_all (map (resolve_index_column d.table (plain_table t [])) d.columns)
+keys_known t d = known_all (map (resolve_index_column d.table (with_rows t [])) d.columns)
 
 -- The definition makes an index of these columns on this one of the tables: nothing is in its way.
 pub record IsIndexOn (tables : List Table) (d : IndexDefinition) (t : Table) (columns : List IndexColumn) : Type 0 where

@@ -37,10 +37,6 @@ use Rattle.query_bind.specs.declared.querying.Parts.{Parts}
 abbrev pub look_among : List Table → Lookup
 look_among tables name = looked_up (table_named name tables)
 
--- a table's column, as expressions see it
-abbrev pub column_seen : Column → ScopeColumn
-column_seen c = record { name = Some (folded c.name); affinity = Some c.affinity; collation = c.collation }
-
 -- each source is known, and none is NEW or OLD
 abbrev pub AreTables : List ScopeSource → Type 0
 AreTables scope = IsOutside scope × (list_any (λ s. not s.is_known) scope ≡ false)
@@ -81,10 +77,6 @@ abbrev pub ArePlaced : List Table → List (Name × Condition) → List BoundSou
 ArePlaced tables sources places = EachOf (IsPlaced tables) sources places
 
 -- ---- results
-
--- further items after those that were found before
-abbrev pub onto_list : {A : Type 0} → List A → Checked (List A) → Checked (List A)
-onto_list found k = known_map (λ xs. found ++ xs) k
 
 -- the name after AS, or a plain column's
 abbrev pub name_given : Tree → Option Name → Option Name

@@ -5,7 +5,7 @@ ghost use Rattle.std.specs.List.{list_any};
 ghost use Rattle.sqlval.specs.Faults.{IsNotDiskFault};
 ghost use Rattle.sqlval.specs.Names.{is_same_name};
 ghost use Rattle.sqlval.specs.Refusals.{refusal_of};
-ghost use Rattle.catalog.specs.Listed.{as_column, plain_table, tables_of};
+ghost use Rattle.catalog.specs.Listed.{as_column, with_rows, tables_of};
 ghost use Rattle.query_names.specs.Bound.{AreOnce, is_twice_named, source_seen};
 ghost use Rattle.query_names.specs.Checked.{known_all};
 ghost use Rattle.query_names.specs.Named.{Names, NamesBy};
@@ -63,7 +63,7 @@ fn collation_of(alloc: Global, table: &Table, place: usize, written: &Option<Nam
 /// A column of an index. (What `place_in` and `collation_of` refuse.)
 fn index_column(alloc: Global, as_name: &Name, table: &Table, written: &Written) -> R<IndexColumn>
     ensures column { is_twice_named table.now.columns ≡ false
-        → NamesBy key_of (resolve_index_column as_name.now (plain_table table.now []) written.now) result }
+        → NamesBy key_of (resolve_index_column as_name.now (with_rows table.now []) written.now) result }
     ensures not_disk { IfErr result (λ fault. IsNotDiskFault fault) }
 {
     let place = place_in(alloc, as_name, table, &written.name)?;
@@ -80,7 +80,7 @@ fn index_columns(
 ) -> R<Vec<IndexColumn>>
     ensures columns { is_twice_named table.now.columns ≡ false
         → NamesBy (λ columns. map key_of columns.items)
-        (known_all (map (resolve_index_column as_name.now (plain_table table.now [])) written.now)) result }
+        (known_all (map (resolve_index_column as_name.now (with_rows table.now [])) written.now)) result }
     ensures not_disk { IfErr result (λ fault. IsNotDiskFault fault) }
 {
     let mut columns = Vec::new(alloc);

@@ -1,5 +1,6 @@
 //! The results of a query.
 
+ghost use Rattle.query_names.specs.Checked.{onto_list};
 ghost use Rattle.std.specs.Prelude.{◌≡◌, ◌++◌, ◌∷◌, [], Some, None, true, not, ◌&&◌, map, IfErr, OnOk};
 ghost use Rattle.std.specs.List.{list_any};
 ghost use Rattle.sqlval.specs.Faults.{IsOrMemory};
@@ -10,10 +11,10 @@ ghost use Rattle.query_terms.specs.declared.tree.Place.TheVariants.{At};
 ghost use Rattle.query_names.specs.Named.{IsOutside, NamesBy};
 ghost use Rattle.query_names.specs.Queries as meant;
 ghost use Rattle.query_names.specs.Queries.{cells_from, is_own, resolve_item, resolve_items, result_column, stars_from};
-ghost use Rattle.query_bind.specs.Named.{name_given, onto_list};
+ghost use Rattle.query_bind.specs.Named.{name_given};
 
-use crate::copying::{column_copy, folded};
-use query_names::{ScopeColumn, ScopeSource, bind_term, missing};
+use crate::copying::column_copy;
+use query_names::{ScopeColumn, ScopeSource, bind_term, folded, missing};
 use query_terms::{Node, Place, Term, affinity, collation};
 use sql_syntax::{Expr, Node as Tree, ResultItem};
 use sqlval::{Fault, Misuse, Name, Object, R};

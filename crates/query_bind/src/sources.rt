@@ -4,16 +4,17 @@ ghost use Rattle.std.specs.Prelude.{◌≡◌, ◌++◌, ◌∷◌, [], map, IfE
 ghost use Rattle.sqlval.specs.Faults.{IsOrMemory};
 ghost use Rattle.sqlval.specs.Names as spelled;
 ghost use Rattle.catalog.specs.Listed.{tables_of};
-ghost use Rattle.query_names.specs.Bound.{source_seen};
+ghost use Rattle.query_names.specs.Bound.{source_seen, column_seen};
 ghost use Rattle.query_names.specs.Named.{IsOutside, Names, NamesBy};
 ghost use Rattle.query_names.specs.Queries as meant;
 ghost use Rattle.query_names.specs.Queries.{resolve_join, resolve_sources};
-ghost use Rattle.query_bind.specs.Named.{ArePlaced, AreTables, column_seen, look_among, onto_source, onto_sources};
+ghost use Rattle.query_bind.specs.Named.{ArePlaced, AreTables, look_among, onto_source, onto_sources};
 ghost use Rattle.query_bind.specs.Named.{place_seen, resolve_source, sources_from};
 
-use crate::copying::folded;
 use catalog::{Catalog, Column, Table};
-use query_names::{BoundSource, Condition, ScopeColumn, ScopeSource, bind_term, find_table};
+use query_names::{
+    BoundSource, Condition, ScopeColumn, ScopeSource, bind_term, find_table, folded, scope_column,
+};
 use sql_syntax::{Expr, FromClause, Join, JoinKind, Source};
 use sqlval::{Fault, Many, Name, R};
 use std::alloc::Global;
@@ -26,24 +27,13 @@ pub struct Sources {
     pub tables: Vec<BoundSource>,
 }
 
-/// A table's column, as expressions see it.
-fn column_of(alloc: Global, column: &Column) -> R<ScopeColumn>
-    ensures { IsOrMemory (λ seen. seen ≡ column_seen column.now) result }
-{
-    Ok(ScopeColumn {
-        name: Some(folded(alloc, &column.name)?),
-        affinity: Some(column.affinity),
-        collation: column.collation,
-    })
-}
-
 /// A table's columns, as expressions see them.
 fn columns_of(alloc: Global, columns: &[Column]) -> R<Many<ScopeColumn>>
     ensures { IsOrMemory (λ seen. seen ≡ map column_seen columns.now) result }
 {
     let mut seen = Vec::new(alloc);
     'columns: for column in columns {
-        seen.push(column_of(alloc, column)?)?;
+        seen.push(scope_column(alloc, column)?)?;
     }
     Ok(Many::from_vec(seen))
 }

@@ -1,48 +1,37 @@
--- What CREATE TABLE makes of a definition without keys and CHECKs, and what refuses it.
-use Rattle.std.proofs.Common.{◌≡◌, refl, sym, ap, subst, ◌∙◌, ◌⊎◌, inl, inr, ℕ, suc, Bool, true, false, ◌&&◌, ◌==◌, cond, List, [], ◌∷◌, ◌++◌, length, map, Option, Some, None, arith}
+-- What CREATE TABLE makes of a definition without keys, and what refuses it.
+use Rattle.std.proofs.Common.{◌≡◌, refl, sym, ap, subst, ◌∙◌, ◌⊎◌, inl, inr, ℕ, suc, Bool, true, false, ◌==◌, cond, List, [], ◌∷◌, ◌++◌, length, map, Option, Some, None, arith}
 use Rattle.std.proofs.lemmas.Bool.{false≢true}
 use Rattle.std.proofs.lemmas.Bool.Decides.{nat_tests}
 use Rattle.std.proofs.lemmas.List.Elements.{Contains-append_left, Contains-append_right}
-use Rattle.std.specs.Prelude.{flat_map, if◌then◌else◌, is_some}
-use Rattle.std.specs.List.{Contains, find, list_all}
+use Rattle.std.specs.Prelude.{if◌then◌else◌, is_some}
+use Rattle.std.specs.List.{Contains, find}
 use Rattle.std.specs.FinMap.Entries.{put}
 use Rattle.sqlval.specs.Lists.{any_twice}
 use Rattle.sqlval.specs.Names.{is_same_name}
 use Rattle.sqlval.specs.Refusals.{Refusal, Exists, Misuse}
 use Rattle.sql_syntax.specs.declared.create.ColumnDefinition.{ColumnDefinition}
-use Rattle.sql_syntax.specs.declared.create.ColumnRule.{ColumnRule}
-use Rattle.sql_syntax.specs.declared.create.ColumnRule.TheVariants as column
 use Rattle.sql_syntax.specs.declared.create.TableDefinition.{TableDefinition}
 use Rattle.catalog.specs.Database.{Database, Name, Object, ATable, TableColumn, name_order, object, with_object}
 use Rattle.catalog.proofs.Found.{names_listed}
 use Rattle.catalog.specs.Laws.{NamesListed}
-use Rattle.catalog.specs.Listed.{as_column, is_reserved, is_table, plain_table}
+use Rattle.catalog.specs.Listed.{as_column, is_reserved, is_table, with_rows}
 use Rattle.catalog.specs.declared.tables.Column.{Column}
 use Rattle.catalog.specs.declared.tables.Table.{Table}
 use Rattle.query_names.specs.Bound.{is_twice_named}
-use Rattle.query_names.specs.Creating.{HasColumnsOf, KeepsNamesOnce, MakesListedTable, RefusesTableAsDefined, defined, described, has_doubled, has_plain_rules, is_plain_rule}
+use Rattle.query_names.specs.Creating.{HasChecksOf, HasColumnsOf, IsCheckRefusal, KeepsNamesOnce, MakesListedTable, RefusesTableAsDefined, checks_known, defined, described, has_doubled, has_no_keys}
+use Rattle.query_names.specs.Expressions.{resolve}
 use Rattle.query_names.specs.Checked.{Checked, Meant, good, meant, faults, also, both, known_all, known_map, ◌and_then◌, unless}
 use Rattle.query_names.specs.Schema.{automatic, create_table}
-use Rattle.query_names.specs.Tables.{checks_of, column_check, column_key, column_of, keys_of, table_made, without_rows}
+use Rattle.query_names.specs.Tables.{checks_of, column_of, keys_of, new_source, table_made}
 
--- ---- tests
-
-both_true : (a b : Bool) → (a && b) ≡ true → (a ≡ true) × (b ≡ true)
-both_true true b h = (refl, h)
-both_true false b h = absurd (false≢true h)
-
-not_none : (n : ℕ) → (suc n == 0) ≡ true → ⊥
-not_none n h = absurd (false≢true (sym (none n) ∙ h))
-  where
-    none : (n : ℕ) → (suc n == 0) ≡ false
-    none n = grind (arith, nat_tests)
+-- ---- no keys
 
 no_items : {A : Type 0} (xs : List A) → (length xs == 0) ≡ true → xs ≡ []
 no_items [] h = refl
-no_items (x ∷ xs) h = absurd (not_none (length xs) h)
-
-no_join : {A : Type 0} (xs ys : List A) → xs ≡ [] → ys ≡ [] → xs ++ ys ≡ []
-no_join xs ys h k = ap (λ zs. zs ++ ys) h ∙ k
+no_items (x ∷ xs) h = absurd (false≢true (sym (none (length xs)) ∙ h))
+  where
+    none : (n : ℕ) → (suc n == 0) ≡ false
+    none n = grind (arith, nat_tests)
 
 -- ---- texts that aren't refused
 
@@ -65,9 +54,6 @@ none_known f xs h = ap (λ xs. known_all (map f xs)) h
 none_twice : {A : Type 0} (same : A → A → Bool) (xs : List A) → xs ≡ [] → any_twice same xs ≡ false
 none_twice same xs h = ap (any_twice same) h
 
-no_parts : {A B : Type 0} (f : A → List B) (xs : List A) → xs ≡ [] → flat_map f xs ≡ []
-no_parts f xs h = ap (flat_map f) h
-
 -- ---- the columns
 
 heads : {A B : Type 0} (f : A → B) (x : A) (y : B) (xs : List A) (ys : List B) → f x ∷ map f xs ≡ y ∷ ys → (f x ≡ y) × (map f xs ≡ ys)
@@ -82,59 +68,17 @@ known_columns (c ∷ cs) (column ∷ columns) same =
     both_good (λ (x : TableColumn) xs. x ∷ xs) (column_of c) (known_all (map column_of cs)) (as_column column) (map as_column columns)
     (sym (ap (λ x. x.1) parts.0)) (known_columns cs columns parts.1)
 
--- ---- neither keys nor CHECKs
+-- ---- the table
 
-nothing_of : {A : Type 0} (f : ColumnRule → List A) (rs : List ColumnRule) → ((r : ColumnRule) → is_plain_rule r ≡ true → f r ≡ []) → list_all is_plain_rule rs ≡ true → flat_map f rs ≡ []
-nothing_of f [] none plain = refl
-nothing_of f (r ∷ rs) none plain =
-    let each = both_true (is_plain_rule r) (list_all is_plain_rule rs) plain in
-    no_join (f r) (flat_map f rs) (none r each.0) (nothing_of f rs none each.1)
-
-nothing_among : {A : Type 0} (f : ColumnDefinition → ColumnRule → List A) (cs : List ColumnDefinition) → ((c : ColumnDefinition) (r : ColumnRule) → is_plain_rule r ≡ true → f c r ≡ [])
-    → list_all (λ c. list_all is_plain_rule c.rules) cs ≡ true → flat_map (λ c. flat_map (f c) c.rules) cs ≡ []
-nothing_among f [] none plain = refl
-nothing_among f (c ∷ cs) none plain =
-    let each = both_true (list_all is_plain_rule c.rules) (list_all (λ c. list_all is_plain_rule c.rules) cs) plain in
-    no_join (flat_map (f c) c.rules) (flat_map (λ c. flat_map (f c) c.rules) cs) (nothing_of (f c) c.rules (none c) each.0) (nothing_among f cs none each.1)
-
-no_key : (n : Name) (r : ColumnRule) → is_plain_rule r ≡ true → column_key n r ≡ []
-no_key n column.PrimaryKey h = absurd (false≢true h)
-no_key n column.Unique h = absurd (false≢true h)
-no_key n column.NotNull h = refl
-no_key n (column.Default v) h = refl
-no_key n (column.Collate k) h = refl
-no_key n (column.Check e) h = absurd (false≢true h)
-
-no_check : (r : ColumnRule) → is_plain_rule r ≡ true → column_check r ≡ []
-no_check column.PrimaryKey h = absurd (false≢true h)
-no_check column.Unique h = absurd (false≢true h)
-no_check column.NotNull h = refl
-no_check (column.Default v) h = refl
-no_check (column.Collate k) h = refl
-no_check (column.Check e) h = absurd (false≢true h)
-
-module _ (d : TableDefinition) (plain : has_plain_rules d ≡ true) where
-  no_table_rules : d.rules ≡ []
-  no_table_rules = no_items d.rules (both_true (length d.rules == 0) (list_all (λ c. list_all is_plain_rule c.rules) d.columns) plain).0
-
-  plain_columns : list_all (λ c. list_all is_plain_rule c.rules) d.columns ≡ true
-  plain_columns = (both_true (length d.rules == 0) (list_all (λ c. list_all is_plain_rule c.rules) d.columns) plain).1
-
-  no_keys : keys_of d ≡ []
-  no_keys = no_join _ _ (nothing_among (λ c. column_key c.name) d.columns (λ c. no_key c.name) plain_columns) (no_parts _ d.rules no_table_rules)
-
-  no_checks : checks_of d ≡ []
-  no_checks = no_join _ _ (nothing_among (λ c. column_check) d.columns (λ c. no_check) plain_columns) (no_parts _ d.rules no_table_rules)
-
-  pub listed_made : (t : Table) → has_doubled d.columns ≡ false → HasColumnsOf d t → table_made d ≡ good (plain_table t [], [])
-  listed_made t once same =
-      unless_false (has_doubled d.columns) Misuse _ once
-      ∙ unless_false _ Misuse _ (none_twice _ (keys_of d) no_keys)
-      ∙ unless_false _ Misuse _ (none_twice _ (keys_of d) no_keys)
-      ∙ then_good (known_all (map column_of d.columns)) (map as_column t.columns) _ (known_columns d.columns t.columns same)
-      ∙ then_good _ [] _ (none_known _ (checks_of d) no_checks)
-      ∙ then_good _ [] _ (none_known _ (keys_of d) no_keys)
-      ∙ ap (λ es. good (without_rows (map as_column t.columns) None es, [])) no_checks
+pub listed_made : (d : TableDefinition) → has_no_keys d ≡ true → (t : Table) → has_doubled d.columns ≡ false → HasColumnsOf d t → HasChecksOf d t → table_made d ≡ good (with_rows t [], [])
+listed_made d plain t once same checks =
+    let no_keys = no_items (keys_of d) plain in
+    unless_false (has_doubled d.columns) Misuse _ once
+    ∙ unless_false _ Misuse _ (none_twice _ (keys_of d) no_keys)
+    ∙ unless_false _ Misuse _ (none_twice _ (keys_of d) no_keys)
+    ∙ then_good (known_all (map column_of d.columns)) (map as_column t.columns) _ (known_columns d.columns t.columns same)
+    ∙ then_good (checks_known d t.columns) t.checks _ checks
+    ∙ then_good _ [] _ (none_known _ (keys_of d) no_keys)
 
 -- ---- the database
 
@@ -159,9 +103,9 @@ is_added f db n o reserved taken free fresh =
     ∙ ap (λ t. known_map f (unless false Misuse (unless (is_some t) Exists (known_map (with_object db n) (good o))))) fresh
 
 pub makes_by : NamesListed → MakesListedTable
-makes_by names rows_at tables db d t lists plain fresh same =
-    then_good (table_made d) (plain_table t [], []) _ (listed_made d plain t fresh.once same)
-    ∙ is_added (λ after. with_each after (automatic d.name 1 [])) db d.name (ATable (plain_table t [])) (is_reserved d.name) (object db d.name) fresh.free
+makes_by names rows_at tables db d t lists plain fresh same checks =
+    then_good (table_made d) (with_rows t [], []) _ (listed_made d plain t fresh.once same checks)
+    ∙ is_added (λ after. with_each after (automatic d.name 1 [])) db d.name (ATable (with_rows t [])) (is_reserved d.name) (object db d.name) fresh.free
     (nothing (object db d.name) (names rows_at tables db d.name lists ∙ fresh.new))
 
 -- ---- refusals
@@ -220,6 +164,15 @@ module _ (db : Database) (d : TableDefinition) where
       (unless_later (has_doubled d.columns) Misuse r _ (unless_later _ Misuse r _ (unless_later _ Misuse r _
       (then_has (known_all (map column_of d.columns)) _ r (record { among = h })))))
 
+  check_refused : (r : Refusal) → IsCheckRefusal d r → Has (create_table db d) r
+  check_refused r (columns, same, h) = then_has (table_made d) _ r
+      (unless_later (has_doubled d.columns) Misuse r _ (unless_later _ Misuse r _ (unless_later _ Misuse r _
+      (then_later (known_all (map column_of d.columns)) _ r
+      (then_has (known_all (map (resolve false (new_source d.name (meant (known_all (map column_of d.columns))) ∷ [])) (checks_of d))) _ r (record {
+        among = subst (λ (cs : List TableColumn). Contains (faults (known_all (map (resolve false (new_source d.name cs ∷ [])) (checks_of d)))) r)
+            (sym (ap meant (known_columns d.columns columns same))) h;
+      }))))))
+
   refused_so : (r s : Refusal) → r ≡ s → Has (create_table db d) s → Contains (faults (create_table db d)) r
   refused_so r s e h = subst (Contains (faults (create_table db d))) (sym e) h.among
 
@@ -228,7 +181,8 @@ refuses_by names rows_at tables db d r lists (inl (e, h)) = refused_so db d r Mi
 refuses_by names rows_at tables db d r lists (inr (inl (e, h))) =
     let (o, is) = something (object db d.name) (names rows_at tables db d.name lists ∙ h) in refused_so db d r Exists e (taken_refused db d o is)
 refuses_by names rows_at tables db d r lists (inr (inr (inl (e, h)))) = refused_so db d r Misuse e (doubled_refused db d h)
-refuses_by names rows_at tables db d r lists (inr (inr (inr h))) = (column_refused db d r h).among
+refuses_by names rows_at tables db d r lists (inr (inr (inr (inl h)))) = (column_refused db d r h).among
+refuses_by names rows_at tables db d r lists (inr (inr (inr (inr h)))) = (check_refused db d r h).among
 
 pub makes_table : MakesListedTable
 makes_table = makes_by names_listed
@@ -269,11 +223,12 @@ keeps_once tables d t each once same name u found = elim (at_end (is_table name)
 
 -- ---- definitions that aren't refused
 
--- the name may be given, no two columns have one name, and no column is refused
+-- the name may be given, no two columns have one name, and no column and no CHECK is refused
 pub record IsAccepted (d : TableDefinition) : Type 0 where
   pub free : is_reserved d.name ≡ false
   pub once : has_doubled d.columns ≡ false
   pub known : faults (known_all (map column_of d.columns)) ≡ []
+  pub checked : (columns : List Column) → map described columns ≡ map defined d.columns → faults (checks_known d columns) ≡ []
 
 -- a list without items, if there is no item in another that each of its own is in
 none_in : (rs : List Refusal) (k : Checked Database) → faults k ≡ [] → ((r : Refusal) → Contains rs r → Has k r) → rs ≡ []
@@ -289,4 +244,5 @@ accepted db d none = record {
   free = not_so (create_table db d) Misuse (is_reserved d.name) none (reserved_refused db d);
   once = not_so (create_table db d) Misuse (has_doubled d.columns) none (doubled_refused db d);
   known = none_in (faults (known_all (map column_of d.columns))) (create_table db d) none (column_refused db d);
+  checked = λ columns same. none_in (faults (checks_known d columns)) (create_table db d) none (λ r h. check_refused db d r (columns, same, h));
 }

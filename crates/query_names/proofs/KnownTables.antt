@@ -7,7 +7,7 @@ use Rattle.sqlval.specs.declared.value.Value.{Value}
 use Rattle.catalog.specs.Database.{Database, Name, Object, View, ATable, object}
 use Rattle.catalog.specs.Laws.{FindsListed, IsNoTable}
 use Rattle.catalog.proofs.Found.{finds_listed}
-use Rattle.catalog.specs.Listed.{plain_table, table_named}
+use Rattle.catalog.specs.Listed.{with_rows, table_named}
 use Rattle.catalog.specs.declared.tables.Table.{Table}
 use Rattle.query_names.specs.Bound.{looked_up}
 use Rattle.query_names.specs.Checked.{Checked, good, ◌and_then◌, unless}
@@ -26,7 +26,7 @@ no_table view found (inl none) = ap (columns_of_object view) none
 no_table view found (inr (i, is, plain)) = ap (columns_of_object view) is
 
 of_table : (rows_at : ℕ → List (ℤ × List Value)) (view : View → Checked (List ScopeColumn × Bool)) (found : Option Object) (t : Option Table)
-    → MatchOption t (IsNoTable found) (λ t. found ≡ Some (ATable (plain_table t (rows_at t.root)))) → columns_of_object view found ≡ looked_up t
+    → MatchOption t (IsNoTable found) (λ t. found ≡ Some (ATable (with_rows t (rows_at t.root)))) → columns_of_object view found ≡ looked_up t
 of_table rows_at view found None h = no_table view found h
 of_table rows_at view found (Some t) h = ap (columns_of_object view) h
 

@@ -1,15 +1,19 @@
 mod BindingRows
+mod BoundChecks
 pub mod BoundLists
 pub mod CalmConditions
 pub mod ColumnNames
 pub mod ColumnPlaces
 pub mod CreatedTables
+mod FirstColumns
 mod FormRows
 pub mod InsertNames
 pub mod KnownTables
+mod NoKeys
 pub mod PartRefusals
 pub mod PlainFlows
 mod QueryRows
+pub mod QuietNames
 mod ResultRows
 pub mod Trees
 mod ViewRows

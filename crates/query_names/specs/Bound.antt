@@ -7,7 +7,7 @@ use Rattle.sqlval.specs.Refusals.{Refusal, refusal_of, NoSuch}
 use Rattle.sqlval.specs.declared.fault.Fault.{Fault}
 use Rattle.sqlval.specs.declared.fault.Fault.TheVariants.{Memory}
 use Rattle.catalog.specs.Database.{Name}
-use Rattle.catalog.specs.Listed.{plain_table, table_named}
+use Rattle.catalog.specs.Listed.{with_rows, table_named}
 use Rattle.catalog.specs.declared.tables.Column.{Column}
 use Rattle.catalog.specs.declared.tables.Table.{Table}
 use Rattle.query_names.specs.Checked.{Checked, good, bad}
@@ -18,9 +18,13 @@ use Rattle.query_names.specs.declared.scope.ScopeSource.{ScopeSource}
 
 -- ---- tables
 
+-- a table's column, as expressions see it
+abbrev pub column_seen : Column → ScopeColumn
+column_seen c = record { name = Some (folded c.name); affinity = Some c.affinity; collation = c.collation }
+
 -- the columns of a listed table, which has a rowid
 abbrev pub columns_seen : Table → List ScopeColumn × Bool
-columns_seen t = (table_scope (plain_table t []), true)
+columns_seen t = (table_scope (with_rows t []), true)
 
 -- what a name stands for that this table has, or none
 abbrev pub looked_up : Option Table → Checked (List ScopeColumn × Bool)

@@ -47,6 +47,10 @@ abbrev pub known_all : {A : Type 0} → List (Checked A) → Checked (List A)
 known_all [] = good []
 known_all (k ∷ ks) = both (λ x xs. x ∷ xs) k (known_all ks)
 
+-- further items after those that were found before
+abbrev pub onto_list : {A : Type 0} → List A → Checked (List A) → Checked (List A)
+onto_list found k = known_map (λ xs. found ++ xs) k
+
 -- with these refusals in front
 abbrev pub also : {A : Type 0} → List Refusal → Checked A → Checked A
 also rs (Meant x ss) = Meant x (rs ++ ss)

@@ -21,6 +21,7 @@ use Rattle.sql_syntax.specs.declared.create.TableRule.{TableRule}
 use Rattle.sql_syntax.specs.declared.create.TableRule.TheVariants as rule
 use Rattle.catalog.specs.Database.{Name, Table, TableColumn}
 use Rattle.catalog.specs.Listed.{type_text}
+use Rattle.query_terms.specs.Terms.{Term}
 use Rattle.query_names.specs.Expressions.{resolve, resolve_collation}
 use Rattle.query_names.specs.Checked.{Checked, good, bad, both, known_map, known_all, ◌and_then◌, unless}
 use Rattle.query_names.specs.Scopes.{table_source, resolve_places, is_doubled}
@@ -70,7 +71,7 @@ column_key n column.PrimaryKey = (true, n ∷ []) ∷ []
 column_key n column.Unique = (false, n ∷ []) ∷ []
 column_key n _ = []
 
-abbrev table_key : TableRule → List WrittenKey
+abbrev pub table_key : TableRule → List WrittenKey
 table_key (rule.PrimaryKey ns) = (true, ns) ∷ []
 table_key (rule.Unique ns) = (false, ns) ∷ []
 table_key _ = []
@@ -83,7 +84,7 @@ abbrev pub column_check : ColumnRule → List Tree
 column_check (column.Check e) = e ∷ []
 column_check _ = []
 
-abbrev table_check : TableRule → List Tree
+abbrev pub table_check : TableRule → List Tree
 table_check (rule.Check e) = e ∷ []
 table_check _ = []
 
@@ -118,12 +119,16 @@ resolve_key s k = known_map (λ is. (k.0, is)) (resolve_places s k.1)
 -- ---- the table
 
 -- a table that holds no row
-abbrev pub without_rows : List TableColumn → Option ℕ → List Tree → Table
+abbrev pub without_rows : List TableColumn → Option ℕ → List Term → Table
 without_rows cs key checks = record { columns = cs; rowid_column = key; checks = checks; rows = [] }
 
+-- the first column of each name
+abbrev pub firsts : List TableColumn → List TableColumn
+firsts cs = distinct (λ x y. is_same_name x.name y.name) cs
+
 -- as the keys and CHECKs see the table; a name that two columns have means the first
-abbrev new_source : Name → List TableColumn → ScopeSource
-new_source n cs = table_source n (without_rows (distinct (λ x y. is_same_name x.name y.name) cs) None [])
+abbrev pub new_source : Name → List TableColumn → ScopeSource
+new_source n cs = table_source n (without_rows (firsts cs) None [])
 
 -- the table that its text makes, without rows, and the columns of each index that its keys make
 abbrev pub table_made : TableDefinition → Checked (Table × List (List (ℕ × Collation)))
@@ -132,9 +137,9 @@ table_made d =
     (unless (any_twice (λ k l. k.0 && l.0) (keys_of d)) Misuse
     (unless (any_twice (λ k l. pointwise is_same_name k.1 l.1) (keys_of d)) Misuse
     (known_all (map column_of d.columns) and_then λ columns.
-    known_all (map (resolve false (new_source d.name columns ∷ [])) (checks_of d)) and_then λ _.
+    known_all (map (resolve false (new_source d.name columns ∷ [])) (checks_of d)) and_then λ checks.
     known_all (map (resolve_key (new_source d.name columns)) (keys_of d)) and_then λ keys.
     good (
-      without_rows columns (first_some (rowid_key d.columns) keys) (checks_of d),
+      without_rows columns (first_some (rowid_key d.columns) keys) checks,
       map (λ k. map (λ i. (i, collation_at columns i)) k.1) (filter (has_no_rowid_key d.columns) keys),
     ))))

@@ -1,6 +1,6 @@
 //! The columns that a CREATE TABLE defines.
 
-ghost use Rattle.std.specs.Prelude.{◌≡◌, ◌⊎◌, ◌++◌, ◌∷◌, false, true, flat_map, map, IfErr, IfOk, OnOk, option_map, string_bytes};
+ghost use Rattle.std.specs.Prelude.{◌≡◌, ◌⊎◌, ◌++◌, ◌∷◌, ◌==◌, [], false, true, flat_map, length, map, IfErr, IfOk, OnOk, option_map, string_bytes};
 ghost use Rattle.std.specs.List.{Contains, join_with_byte, list_all, list_any};
 ghost use Rattle.sqlval.specs.Affinity.{declared_affinity};
 ghost use Rattle.sqlval.specs.Faults.{IsNotDiskFault};
@@ -13,11 +13,11 @@ ghost use Rattle.query_names.specs.Creating as plain;
 ghost use Rattle.query_names.specs.Creating.{defined, described, has_doubled};
 ghost use Rattle.query_names.specs.Named.{Names, NamesBy};
 ghost use Rattle.query_names.specs.Tables as meant;
-ghost use Rattle.query_names.specs.Tables.{affinity_known, default_of, is_not_null, last_of};
+ghost use Rattle.query_names.specs.Tables.{affinity_known, column_key, default_of, is_not_null, last_of, table_key};
 
 use crate::functions::collation_named;
 use catalog::Column;
-use sql_syntax::{ColumnDefinition, ColumnRule, TableDefinition};
+use sql_syntax::{ColumnDefinition, ColumnRule, TableDefinition, TableRule};
 use sqlval::{Affinity, Collation, Fault, Feature, Many, Misuse, Name, R, Value, affinity_of};
 use std::alloc::Global;
 
@@ -145,7 +145,7 @@ fn column_of(alloc: Global, definition: &ColumnDefinition) -> R<Column>
 }
 
 /// Whether one of the columns has this name.
-fn has_column(columns: &[Column], name: &str) -> bool
+pub fn has_column(columns: &[Column], name: &str) -> bool
     ensures { result ≡ list_any (is_column name.now) columns.now }
 {
     columns.iter().any(|column| column.name.is_same(name))
@@ -172,37 +172,45 @@ pub fn bind_columns(alloc: Global, definition: &TableDefinition) -> R<Many<Colum
     Ok(Many::from_vec(columns))
 }
 
-/// Whether a rule is NOT NULL, DEFAULT or COLLATE.
-fn is_plain_rule(rule: &ColumnRule) -> bool
-    ensures { result ≡ plain.is_plain_rule rule.now }
+/// Whether a rule of a column is neither UNIQUE nor PRIMARY KEY.
+fn is_no_key(rule: &ColumnRule) -> bool
+    ensures { result ≡ (length (column_key [] rule.now) == 0) }
 {
-    matches!(
-        rule,
-        ColumnRule::NotNull | ColumnRule::Default(_) | ColumnRule::Collate(_)
-    )
+    !matches!(rule, ColumnRule::PrimaryKey | ColumnRule::Unique)
 }
 
-/// Whether a column has such rules alone.
-fn is_plain_column(column: &ColumnDefinition) -> bool
-    ensures { result ≡ list_all plain.is_plain_rule column.now.rules }
+/// Whether a column is no key by itself.
+fn has_no_key(column: &ColumnDefinition) -> bool
+    ensures { result ≡ list_all (λ r. length (column_key [] r) == 0) column.now.rules }
 {
-    column
-        .rules
-        .as_slice()
-        .iter()
-        .all(|rule| is_plain_rule(rule))
+    column.rules.as_slice().iter().all(|rule| is_no_key(rule))
 }
 
-/// Whether the columns have such rules alone.
-fn are_plain_columns(columns: &[ColumnDefinition]) -> bool
-    ensures { result ≡ list_all (λ c. list_all plain.is_plain_rule c.rules) columns.now }
+/// Whether none of the columns is a key by itself.
+fn have_no_key(columns: &[ColumnDefinition]) -> bool
+    ensures { result ≡ list_all (λ c. list_all
+        (λ r. length (column_key [] r) == 0) c.rules) columns.now }
 {
-    columns.iter().all(|column| is_plain_column(column))
+    columns.iter().all(|column| has_no_key(column))
 }
 
-/// Whether neither the table nor one of its columns has a key or a CHECK.
-pub fn has_plain_rules(definition: &TableDefinition) -> bool
-    ensures { result ≡ plain.has_plain_rules definition.now }
+/// Whether a rule of a table is neither UNIQUE nor PRIMARY KEY.
+fn is_no_table_key(rule: &TableRule) -> bool
+    ensures { result ≡ (length (table_key rule.now) == 0) }
 {
-    definition.rules.len() == 0 && are_plain_columns(definition.columns.as_slice())
+    matches!(rule, TableRule::Check(_))
+}
+
+/// Whether none of a table's rules is UNIQUE or PRIMARY KEY.
+fn have_no_table_key(rules: &[TableRule]) -> bool
+    ensures { result ≡ list_all (λ r. length (table_key r) == 0) rules.now }
+{
+    rules.iter().all(|rule| is_no_table_key(rule))
+}
+
+/// Whether neither the table nor one of its columns has a UNIQUE or a PRIMARY KEY.
+pub fn has_no_keys(definition: &TableDefinition) -> bool
+    ensures { result ≡ plain.has_no_keys definition.now }
+{
+    have_no_key(definition.columns.as_slice()) && have_no_table_key(definition.rules.as_slice())
 }

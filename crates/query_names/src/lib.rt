@@ -2,6 +2,7 @@
 //! of the statements that are supported, looked up.
 #![tactic(auto)]
 
+mod checks;
 mod columns;
 mod definitions;
 mod expressions;
@@ -18,14 +19,15 @@ ghost use Rattle.query_names.specs.Creating.{KeepsNamesOnce, MakesListedTable, R
 ghost use Rattle.query_names.specs.Laws.{CalmIsNotRefused, KnowsListed};
 
 use catalog::listed_tables_are_found;
-pub use definitions::{bind_columns, has_plain_rules};
+pub use checks::bind_checks;
+pub use definitions::{bind_columns, has_no_keys};
 pub use expressions::bind_term;
 pub use functions::collation_named;
 pub use inserting::{BoundInsert, Target, bind_target};
 pub use names::{find_table, missing};
 pub use queries::BoundSource;
 pub use reading::{Condition, Reading};
-pub use scope::{ScopeColumn, ScopeSource};
+pub use scope::{ScopeColumn, ScopeSource, folded, scope_column};
 
 /// A calm condition isn't refused, so a plan may leave rows unread.
 pub fn calm_is_not_refused()
@@ -45,7 +47,7 @@ pub fn listed_tables_are_known()
     listed_tables_are_found();
 }
 
-/// A CREATE TABLE of a definition without keys and CHECKs, beside listed tables, makes the table of the definition's columns, or is
+/// A CREATE TABLE of a definition without keys, beside listed tables, makes the table of the definition's columns and CHECKs, or is
 /// refused for each cause that there is.
 pub fn tables_are_created_as_defined()
     ensures makes { MakesListedTable }

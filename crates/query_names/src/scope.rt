@@ -1,6 +1,13 @@
 //! What an expression sees: sources, and their columns.
 
-use sqlval::{Affinity, Collation, Many, Name};
+ghost use Rattle.std.specs.Prelude.{◌≡◌};
+ghost use Rattle.sqlval.specs.Faults.{IsOrMemory};
+ghost use Rattle.sqlval.specs.Names as spelled;
+ghost use Rattle.query_names.specs.Bound.{column_seen};
+
+use catalog::Column;
+use sqlval::{Affinity, Collation, Many, Name, R};
+use std::alloc::Global;
 
 /// A column that a name may mean.
 #[derive(Drop)]
@@ -22,4 +29,23 @@ pub struct ScopeSource {
     pub needs_name: bool,
     /// False where its table or view is refused: what hangs on it has no refusal of its own.
     pub is_known: bool,
+}
+
+/// The name in small letters. (`Memory` alone.)
+pub fn folded(alloc: Global, name: &Name) -> R<Name>
+    ensures { IsOrMemory (λ copy. copy ≡ spelled.folded name.now) result }
+{
+    let text = name.as_str().to_ascii_lowercase(alloc)?;
+    Ok(Name::from_str(alloc, text.as_str())?)
+}
+
+/// A table's column, as expressions see it. (`Memory` alone.)
+pub fn scope_column(alloc: Global, column: &Column) -> R<ScopeColumn>
+    ensures { IsOrMemory (λ seen. seen ≡ column_seen column.now) result }
+{
+    Ok(ScopeColumn {
+        name: Some(folded(alloc, &column.name)?),
+        affinity: Some(column.affinity),
+        collation: column.collation,
+    })
 }

@@ -14,7 +14,7 @@ use Rattle.sqlval.specs.Refusals.{RowidFull}
 use Rattle.sqlval.specs.declared.value.Value.{Value}
 use Rattle.tree_leaf.specs.Leaf.{Entry}
 use Rattle.tree_page.specs.Cells.{Pairwise}
-use Rattle.catalog.specs.Listed.{as_column, plain_table}
+use Rattle.catalog.specs.Listed.{as_column, with_rows}
 use Rattle.catalog.specs.Rows.{is_row, is_value}
 use Rattle.catalog.specs.declared.tables.Table.{Table}
 use Rattle.row_scan.specs.Rows.{TableRow}
@@ -55,10 +55,10 @@ values_first true b c e = refl
 values_first false b c e = absurd (false≢true e)
 
 -- the last rowid of rows that a table may hold
-last_word : (t : Table) (held rows : List TableRow) → list_all (is_row (plain_table t held)) rows ≡ true → IsWordOr (last_rowid rows)
+last_word : (t : Table) (held rows : List TableRow) → list_all (is_row (with_rows t held)) rows ≡ true → IsWordOr (last_rowid rows)
 last_word t held [] fit = tt
 last_word t held (row ∷ rows) fit =
-    let parts = both (is_row (plain_table t held) row) (list_all (is_row (plain_table t held)) rows) fit in
+    let parts = both (is_row (with_rows t held) row) (list_all (is_row (with_rows t held)) rows) fit in
     word_or row.0 (last_rowid rows) (values_first (is_word row.0) (length row.1 == length (map as_column t.columns)) (list_all is_value row.1) parts.0) (last_word t held rows parts.1)
   where
     word_or : (n : ℤ) (last : Option ℤ) → is_word n ≡ true → IsWordOr last → is_word (unwrap_or last n) ≡ true
@@ -73,8 +73,8 @@ all_behind f (row ∷ rows) more e k =
 
 module _ (t : Table) (held : List TableRow) (places : List (Option ℕ)) where
   added_fit : (given : List (List Value)) (last : Option ℤ) (added : List TableRow) (entries : List Entry) → IsWordOr last → rows_added t places last given ≡ Ok added → Pairwise IsWritten added entries
-      → list_all (is_row (plain_table t held)) added ≡ true
-  added_fit [] last added entries word e all = ap (list_all (is_row (plain_table t held))) (sym (no_rows added e))
+      → list_all (is_row (with_rows t held)) added ≡ true
+  added_fit [] last added entries word e all = ap (list_all (is_row (with_rows t held))) (sym (no_rows added e))
   added_fit (g ∷ given) last [] entries word e all = (let parts = rows_parts t places last g given [] e in let h = parts.are in absurd cc)
   added_fit (g ∷ given) last (row ∷ added) [] word e all = absurd all
   added_fit (g ∷ given) last (row ∷ added) (entry ∷ entries) word e all =
@@ -86,7 +86,7 @@ module _ (t : Table) (held : List TableRow) (places : List (Option ℕ)) where
       let made = row_parts t places last g row first in
       let here : is_word row.0 ≡ true = word_after last row.0 word made.1 in
       let long : length row.1 ≡ length t.columns = long_values t.columns places g row.1 made.0 in
-      both_true (is_row (plain_table t held) row) (list_all (is_row (plain_table t held)) added)
+      both_true (is_row (with_rows t held) row) (list_all (is_row (with_rows t held)) added)
       (both_true (is_word row.0 && length row.1 == length (map as_column t.columns) && list_all is_value row.1) true
       (both_true (is_word row.0 && length row.1 == length (map as_column t.columns)) (list_all is_value row.1)
       (both_true (is_word row.0) (length row.1 == length (map as_column t.columns)) here
@@ -116,7 +116,7 @@ rises_rising (row ∷ rows) rises = climb_rising row.0 rows rises
 pub fit_after : (t : Table) (places : List (Option ℕ)) (given : List (List Value)) (rows added : List TableRow) (entries : List Entry) → rows_added t places (last_rowid rows) given ≡ Ok added → Pairwise IsWritten added entries
     → FitAfter t rows added
 fit_after t places given rows added entries e all fit =
-    let parts = both (is_rising int_cmp (map (λ row. row.0) rows)) (list_all (is_row (plain_table t rows)) rows) fit in
-    both_true (is_rising int_cmp (map (λ row. row.0) (rows ++ added))) (list_all (is_row (plain_table t rows)) (rows ++ added))
-    (rises_rising (rows ++ added) (rise_on t places given rows added (last_rowid rows) refl (fit_rows_rise (plain_table t rows) fit) e))
-    (all_behind (is_row (plain_table t rows)) rows added parts.1 (added_fit t rows places given (last_rowid rows) added entries (last_word t rows rows parts.1) e all))
+    let parts = both (is_rising int_cmp (map (λ row. row.0) rows)) (list_all (is_row (with_rows t rows)) rows) fit in
+    both_true (is_rising int_cmp (map (λ row. row.0) (rows ++ added))) (list_all (is_row (with_rows t rows)) (rows ++ added))
+    (rises_rising (rows ++ added) (rise_on t places given rows added (last_rowid rows) refl (fit_rows_rise (with_rows t rows) fit) e))
+    (all_behind (is_row (with_rows t rows)) rows added parts.1 (added_fit t rows places given (last_rowid rows) added entries (last_word t rows rows parts.1) e all))

@@ -1,5 +1,5 @@
 -- An INSERT of rows into a listed table, row by row.
-use Rattle.std.proofs.Common.{◌≡◌, refl, sym, ap, ◌∙◌, ℕ, suc, ◌≤◌, ℤ, Bool, true, false, ◌&&◌, ◌||◌, if◌then◌else◌, not, cond, List, [], ◌∷◌, ◌++◌, Option, Some, None, Ok, Err, map, length, append_assoc, arith}
+use Rattle.std.proofs.Common.{◌≡◌, refl, sym, ap, ◌∙◌, ℕ, suc, ◌≤◌, ℤ, Bool, true, false, if◌then◌else◌, cond, List, [], ◌∷◌, ◌++◌, Option, Some, Ok, Err, map, length, append_assoc, arith}
 use Rattle.std.specs.Prelude.{zip, All}
 use Rattle.std.specs.Cmp.{tied_itself}
 use Rattle.std.specs.FinMap.Entries.{put, find-put, by_order}
@@ -7,59 +7,29 @@ use Rattle.std.specs.Ordering.{is_eq}
 use Rattle.std.specs.declared.cmp.Ordering.{Ordering}
 use Rattle.std.specs.declared.cmp.Ordering.TheVariants.{Less, Equal, Greater}
 use Rattle.std.proofs.lemmas.Cmp.{nat_list_cmp_total}
-use Rattle.std.proofs.lemmas.Bool.{false≢true}
-use Rattle.std.specs.List.{cons_option, list_any}
-use Rattle.sqlval.specs.Names.{folded, is_same_name}
+use Rattle.sqlval.specs.Names.{folded}
 use Rattle.std.proofs.lemmas.List.{append-nil}
-use Rattle.sqlval.specs.Refusals.{Answer, ◌then◌, NoSuch, fold_answer}
+use Rattle.sqlval.specs.Refusals.{Answer, ◌then◌, NoSuch, Unique, fold_answer}
 use Rattle.sqlval.specs.declared.value.Value.{Value}
 use Rattle.catalog.specs.Database as database
-use Rattle.query_names.specs.Keys.{clash}
-use Rattle.catalog.specs.Database.{Name, Database, Object, Index, TableColumn, ATable, AnIndex, AView, ATrigger, object, with_object, name_order, indexes_of}
+use Rattle.catalog.specs.Database.{Name, Database, Object, ATable, object, with_object, name_order}
 use Rattle.catalog.specs.Laws.{KeepsOnlyPlain}
-use Rattle.catalog.specs.Listed.{plain_table, as_column, has_only_plain}
+use Rattle.catalog.specs.Listed.{with_rows, as_column, has_only_plain}
 use Rattle.catalog.specs.declared.tables.Table.{Table}
 use Rattle.row_scan.specs.Rows.{TableRow}
-use Rattle.row_change.specs.Agreement.{IsStill, IsSetFor, InsertsRows}
-use Rattle.row_change.specs.Constraints.{is_unique_in, not_null_holds, table_of, with_affinity, default_values, set_values, stored, next_rowid}
-use Rattle.row_change.specs.Demands.{demanded}
-use Rattle.row_change.specs.Inserting.{row_stored, rowid_after, row_added, rows_added, last_rowid}
+use Rattle.row_change.specs.Agreement.{HasIndexesOf, InsertsAsAdded, InsertsRows, IsSetFor, IsStill}
+use Rattle.row_change.specs.Constraints.{can_be_stored, checks_hold, default_values, demand, next_rowid, not_null_holds, row_of, set_values, stored, table_of, with_affinity}
+use Rattle.row_change.specs.Demands.{admitted, demanded, is_alone}
+use Rattle.row_change.specs.Inserting.{row_stored, rowid_after, row_added, rows_added, rows_inserted, last_rowid}
 use Rattle.row_change.specs.RowChanges.{Fire, insert_row}
+use Rattle.row_change.proofs.Alone.{alone_is, free_alone, indexes_stay}
 use Rattle.row_change.proofs.Rising.{Rises, AreBelow, fit_rows_rise, greatest_is_last, next_for, next_is, rows_below, rises_on, last_of_more, not_found, put_behind}
 use Rattle.row_change.proofs.StoredRows.{row_parts}
 
--- ---- a table without keys
+-- ---- a table in a database
 
--- an index that isn't UNIQUE keeps no rows apart
-first_false : (a b c : Bool) → a ≡ false → (a && b && c) ≡ false
-first_false a b c e = ap (λ a. a && b && c) e
-
-both_false : (a b : Bool) → a ≡ false → b ≡ false → (a || b) ≡ false
-both_false a b e f = ap (λ a. a || b) e ∙ f
-
-never_clashes : (i : Index) (vs : List Value) (rows : List TableRow) → i.is_unique ≡ false → list_any (λ r. clash i vs r.1) rows ≡ false
-never_clashes i vs [] plain = refl
-never_clashes i vs (r ∷ rows) plain = both_false (clash i vs r.1) (list_any (λ r. clash i vs r.1) rows) (first_false i.is_unique _ _ plain) (never_clashes i vs rows plain)
-
-pub none_unique : (db : Database) (name : Name) (vs : List Value) (t : database.Table) → has_only_plain db ≡ true → is_unique_in (indexes_of db name) vs t ≡ true
-none_unique [] name vs t h = refl
-none_unique ((n, ATable u) ∷ db) name vs t h = none_unique db name vs t h
-none_unique ((n, AnIndex i) ∷ db) name vs t h = by_test (is_same_name i.table name) (plain i.is_unique i.is_automatic (has_only_plain db) h) (none_unique db name vs t (rest (i.is_unique || i.is_automatic) (has_only_plain db) h))
-  where
-    plain : (a b c : Bool) → (not (a || b) && c) ≡ true → a ≡ false
-    plain true b c h = absurd (false≢true h)
-    plain false b c h = refl
-
-    rest : (b c : Bool) → (not b && c) ≡ true → c ≡ true
-    rest true c h = absurd (false≢true h)
-    rest false c h = h
-
-    by_test : (b : Bool) → i.is_unique ≡ false → is_unique_in (indexes_of db name) vs t ≡ true
-        → is_unique_in (cons_option (if b then Some (n, i) else None) (indexes_of db name)) vs t ≡ true
-    by_test true e more = ap (λ b. not (b || list_any (λ j. list_any (λ r. clash j.1 vs r.1) t.rows) (indexes_of db name))) (never_clashes i vs t.rows e) ∙ more
-    by_test false e more = more
-none_unique ((n, AView v) ∷ db) name vs t h = absurd (false≢true h)
-none_unique ((n, ATrigger d) ∷ db) name vs t h = absurd (false≢true h)
+abbrev given_row : TableRow → Answer TableRow
+given_row row = Ok row
 
 -- a table in place of another keeps a database plain
 abbrev pub KeepsTables : Type 0
@@ -68,18 +38,27 @@ KeepsTables = (db : Database) (name : Name) (table : database.Table) → has_onl
 pub tables_kept : KeepsOnlyPlain → KeepsTables
 tables_kept keeps db name table only = keeps db name (ATable table) only refl
 
-next_of : (table : Table) (rows : List TableRow) → Rises rows → next_rowid (plain_table table rows) ≡ rowid_after (last_rowid rows)
+next_of : (table : Table) (rows : List TableRow) → Rises rows → next_rowid (with_rows table rows) ≡ rowid_after (last_rowid rows)
 next_of table rows rises = ap next_for (greatest_is_last rows rises) ∙ next_is (last_rowid rows)
 
--- where the table demands no other, the row is stored after the others
-stored_behind : (db : Database) (name : Name) (table : Table) (rows : List TableRow) (rowid : ℤ) (values : List Value) → has_only_plain db ≡ true → AreBelow rowid rows
-    → stored db name (plain_table table rows) rowid values ≡ (demanded table (rowid, values) then λ row. Ok (with_object db name (ATable (plain_table table (rows ++ row ∷ [])))))
-stored_behind db name table rows rowid values only below = by (not_null_holds (map as_column table.columns) values) refl
+-- a row that the table demands, and that is alone, is stored after the others
+pub stored_behind : (db : Database) (name : Name) (table : Table) (rows : List TableRow) (rowid : ℤ) (values : List Value) → HasIndexesOf db name table → AreBelow rowid rows
+    → stored db name (with_rows table rows) rowid values
+    ≡ (demanded table (rowid, values) then λ row. admitted table rows row then λ row. Ok (with_object db name (ATable (with_rows table (rows ++ row ∷ [])))))
+stored_behind db name table rows rowid values has below =
+    by (not_null_holds (map as_column table.columns) values) (can_be_stored values) (checks_hold (row_of rowid values) table.checks) (is_alone table (rowid, values) rows) refl refl refl refl
   where
-    by : (b : Bool) → not_null_holds (map as_column table.columns) values ≡ b
-        → stored db name (plain_table table rows) rowid values ≡ (demanded table (rowid, values) then λ row. Ok (with_object db name (ATable (plain_table table (rows ++ row ∷ [])))))
-    by true h = simp (h, not_found rowid rows below, none_unique db name values (plain_table table rows) only, put_behind rowid values rows below)
-    by false h = rw (h) refl
+    by : (b c : Bool) (d : Answer (Unit {0})) (e : Bool) → not_null_holds (map as_column table.columns) values ≡ b → can_be_stored values ≡ c → checks_hold (row_of rowid values) table.checks ≡ d
+        → is_alone table (rowid, values) rows ≡ e
+        → stored db name (with_rows table rows) rowid values
+        ≡ (demanded table (rowid, values) then λ row. admitted table rows row then λ row. Ok (with_object db name (ATable (with_rows table (rows ++ row ∷ [])))))
+    by true true (Ok u) true h k l m =
+        (let alone = alone_is db name table rowid values rows has ∙ m in simp (h, k, l, not_found rowid rows below, alone, m, put_behind rowid values rows below))
+    by true true (Ok u) false h k l m =
+        (let alone = alone_is db name table rowid values rows has ∙ m in simp (h, k, l, not_found rowid rows below, alone, m))
+    by true true (Err r) e h k l m = rw (h, k, l) refl
+    by true false d e h k l m = rw (h, k) refl
+    by false c d e h k l m = rw (h) refl
 
 -- ---- the database
 
@@ -103,92 +82,153 @@ put_again k x y (e ∷ es) = by_place (put_again k x y es) (name_order k e.0) re
 
 module _ (fire : Fire) (name : Name) (places : List ℕ) (table : Table) (by_column : List (Option ℕ)) (still : IsStill fire) (keeps : KeepsTables) where
   -- the table with these rows
-  abbrev with_rows : Database → List TableRow → Database
-  with_rows db rows = with_object db name (ATable (plain_table table rows))
+  abbrev having_rows : Database → List TableRow → Database
+  having_rows db rows = with_object db name (ATable (with_rows table rows))
 
   abbrev added_to : List TableRow → List Value → Answer TableRow
   added_to rows given = row_added table by_column (last_rowid rows) given
 
-  row_changes : (db : Database) (rows : List TableRow) (given : List Value) → has_only_plain db ≡ true → table_of db name ≡ Ok (plain_table table rows) → Rises rows → IsSetFor table by_column places given
-      → insert_row fire name places db given ≡ (added_to rows given then λ row. Ok (with_rows db (rows ++ row ∷ [])))
-  row_changes db rows given only is rises set = by_values (row_stored table.columns by_column given) refl
+  -- the row that is added, where it is alone
+  abbrev admitted_to : List TableRow → List Value → Answer TableRow
+  admitted_to rows given = added_to rows given then λ row. admitted table rows row
+
+  abbrev with_one : Database → List TableRow → Answer TableRow → Answer Database
+  with_one db rows row = row then λ row. Ok (having_rows db (rows ++ row ∷ []))
+
+  then_all : (a : Answer TableRow) (f : TableRow → Answer TableRow) (g : TableRow → Answer Database) → ((a then f) then g) ≡ (a then λ x. f x then g)
+  then_all (Ok x) f g = refl
+  then_all (Err r) f g = refl
+
+  row_changes : (db : Database) (rows : List TableRow) (given : List Value) → has_only_plain db ≡ true → HasIndexesOf db name table → table_of db name ≡ Ok (with_rows table rows) → Rises rows
+      → IsSetFor table by_column places given → insert_row fire name places db given ≡ with_one db rows (admitted_to rows given)
+  row_changes db rows given only has is rises set = by_values (row_stored table.columns by_column given) refl
     where
-      stored_is : with_affinity (map as_column table.columns) (set_values (default_values (plain_table table [])) (zip places given)) ≡ row_stored table.columns by_column given
+      stored_is : with_affinity (map as_column table.columns) (set_values (default_values (with_rows table [])) (zip places given)) ≡ row_stored table.columns by_column given
       stored_is = ap (with_affinity (map as_column table.columns)) set
 
-      by_demands : (values : List Value) (rowid : ℤ) → row_stored table.columns by_column given ≡ Ok values → rowid_after (last_rowid rows) ≡ Ok rowid → AreBelow rowid rows → (d : Answer TableRow) → demanded table (rowid, values) ≡ d
-          → insert_row fire name places db given ≡ (added_to rows given then λ row. Ok (with_rows db (rows ++ row ∷ [])))
-      by_demands values rowid e h below (Ok row) k =
-          let next : next_rowid (plain_table table rows) ≡ Ok rowid = next_of table rows rises ∙ h in
-          let put_is : stored db name (plain_table table rows) rowid values ≡ Ok (with_rows db (rows ++ row ∷ [])) =
-          stored_behind db name table rows rowid values only below ∙ ap (λ (d : Answer TableRow). d then λ row. Ok (with_rows db (rows ++ row ∷ []))) k in
-          let later : has_only_plain (with_rows db (rows ++ row ∷ [])) ≡ true = keeps db name (plain_table table (rows ++ row ∷ [])) only in
+      by_admitted : (values : List Value) (rowid : ℤ) → row_stored table.columns by_column given ≡ Ok values → rowid_after (last_rowid rows) ≡ Ok rowid → AreBelow rowid rows
+          → (d : Answer TableRow) → (demanded table (rowid, values) then λ row. admitted table rows row) ≡ d
+          → insert_row fire name places db given ≡ with_one db rows (admitted_to rows given)
+      by_admitted values rowid e h below (Ok row) k =
+          let next : next_rowid (with_rows table rows) ≡ Ok rowid = next_of table rows rises ∙ h in
+          let put_is : stored db name (with_rows table rows) rowid values ≡ Ok (having_rows db (rows ++ row ∷ [])) =
+          stored_behind db name table rows rowid values has below ∙ sym (then_all (demanded table (rowid, values)) (admitted table rows) (λ row. Ok (having_rows db (rows ++ row ∷ []))))
+          ∙ ap (with_one db rows) k in
+          let later : has_only_plain (having_rows db (rows ++ row ∷ [])) ≡ true = keeps db name (with_rows table (rows ++ row ∷ [])) only in
           rw (is, stored_is, e, still, is, next, put_is, still, h, k) refl
-      by_demands values rowid e h below (Err r) k =
-          let next : next_rowid (plain_table table rows) ≡ Ok rowid = next_of table rows rises ∙ h in
-          let put_is : stored db name (plain_table table rows) rowid values ≡ Err r =
-          stored_behind db name table rows rowid values only below ∙ ap (λ (d : Answer TableRow). d then λ row. Ok (with_rows db (rows ++ row ∷ []))) k in
+      by_admitted values rowid e h below (Err r) k =
+          let next : next_rowid (with_rows table rows) ≡ Ok rowid = next_of table rows rises ∙ h in
+          let put_is : stored db name (with_rows table rows) rowid values ≡ Err r =
+          stored_behind db name table rows rowid values has below ∙ sym (then_all (demanded table (rowid, values)) (admitted table rows) (λ row. Ok (having_rows db (rows ++ row ∷ []))))
+          ∙ ap (with_one db rows) k in
           rw (is, stored_is, e, still, is, next, put_is, h, k) refl
 
       by_rowid : (values : List Value) → row_stored table.columns by_column given ≡ Ok values → (r : Answer ℤ) → rowid_after (last_rowid rows) ≡ r
-          → insert_row fire name places db given ≡ (added_to rows given then λ row. Ok (with_rows db (rows ++ row ∷ [])))
-      by_rowid values e (Ok rowid) h = by_demands values rowid e h (rows_below rowid rows rises h) (demanded table (rowid, values)) refl
+          → insert_row fire name places db given ≡ with_one db rows (admitted_to rows given)
+      by_rowid values e (Ok rowid) h = by_admitted values rowid e h (rows_below rowid rows rises h) (demanded table (rowid, values) then λ row. admitted table rows row) refl
       by_rowid values e (Err r) h =
-          let next : next_rowid (plain_table table rows) ≡ Err r = next_of table rows rises ∙ h in
+          let next : next_rowid (with_rows table rows) ≡ Err r = next_of table rows rises ∙ h in
           rw (is, stored_is, e, still, is, next, h) refl
 
-      by_values : (s : Answer (List Value)) → row_stored table.columns by_column given ≡ s → insert_row fire name places db given ≡ (added_to rows given then λ row. Ok (with_rows db (rows ++ row ∷ [])))
+      by_values : (s : Answer (List Value)) → row_stored table.columns by_column given ≡ s → insert_row fire name places db given ≡ with_one db rows (admitted_to rows given)
       by_values (Ok values) e = by_rowid values e (rowid_after (last_rowid rows)) refl
       by_values (Err r) e = rw (is, stored_is, e) refl
 
-  row_rises : (rows : List TableRow) (given : List Value) (row : TableRow) → Rises rows → added_to rows given ≡ Ok row → Rises (rows ++ row ∷ [])
-  row_rises rows given row rises e = rises_on row.0 row.1 rows rises (rows_below row.0 rows rises (row_parts table by_column (last_rowid rows) given row e).1)
+  -- the row that is admitted is the one that is added
+  as_added : (rows : List TableRow) (given : List Value) (row : TableRow) → admitted_to rows given ≡ Ok row → added_to rows given ≡ Ok row
+  as_added rows given row e = by (added_to rows given) e
+    where
+      here : (new : TableRow) (b : Bool) → (demand b Unique then λ _. given_row new) ≡ Ok row → given_row new ≡ Ok row
+      here new true h = h
+      here new false h = absurd cc
+
+      by : (a : Answer TableRow) → (a then λ row. admitted table rows row) ≡ Ok row → a ≡ Ok row
+      by (Ok new) h = here new (is_alone table new rows) h
+      by (Err r) h = absurd cc
+
+  row_rises : (rows : List TableRow) (given : List Value) (row : TableRow) → Rises rows → admitted_to rows given ≡ Ok row → Rises (rows ++ row ∷ [])
+  row_rises rows given row rises e = rises_on row.0 row.1 rows rises (rows_below row.0 rows rises (row_parts table by_column (last_rowid rows) given row (as_added rows given row e)).1)
 
   -- what is left where the rows given are these
   abbrev changed : Database → List TableRow → List (List Value) → Answer Database
-  changed db rows given = rows_added table by_column (last_rowid rows) given then λ added. Ok (with_rows db (rows ++ added))
+  changed db rows given = rows_inserted table by_column rows given then λ now. Ok (having_rows db now)
 
-  joined : (db : Database) (rows : List TableRow) (row : TableRow) (answer : Answer (List TableRow))
-      → (answer then λ added. Ok (with_rows (with_rows db (rows ++ row ∷ [])) ((rows ++ row ∷ []) ++ added))) ≡ ((answer then λ added. Ok (row ∷ added)) then λ added. Ok (with_rows db (rows ++ added)))
-  joined db rows row (Ok added) =
-      ap (λ (d : Database). Ok d) (put_again (folded name) (ATable (plain_table table (rows ++ row ∷ []))) (ATable (plain_table table ((rows ++ row ∷ []) ++ added))) db)
-      ∙ ap (λ rs. Ok (with_rows db rs)) (append_assoc rows (row ∷ []) added)
-  joined db rows row (Err r) = refl
-
-  -- one row, and then the others
-  one_then : (db : Database) (rows : List TableRow) (given : List Value) (rest : List (List Value)) → insert_row fire name places db given ≡ (added_to rows given then λ row. Ok (with_rows db (rows ++ row ∷ [])))
-      → ((row : TableRow) → added_to rows given ≡ Ok row → fold_answer (insert_row fire name places) (with_rows db (rows ++ row ∷ [])) rest ≡ changed (with_rows db (rows ++ row ∷ [])) (rows ++ row ∷ []) rest)
-      → fold_answer (insert_row fire name places) db (given ∷ rest) ≡ changed db rows (given ∷ rest)
-  one_then db rows given rest first others = by (added_to rows given) refl
+  -- one row is inserted, and then the others
+  one_inserted : (rows : List TableRow) (given : List Value) (rest : List (List Value))
+      → rows_inserted table by_column rows (given ∷ rest) ≡ (admitted_to rows given then λ row. rows_inserted table by_column (rows ++ row ∷ []) rest)
+  one_inserted rows given rest = by (added_to rows given)
     where
-      by : (a : Answer TableRow) → added_to rows given ≡ a → fold_answer (insert_row fire name places) db (given ∷ rest) ≡ changed db rows (given ∷ rest)
+      by : (a : Answer TableRow) → (a then λ row. admitted table rows row then λ row. rows_inserted table by_column (rows ++ row ∷ []) rest)
+          ≡ ((a then λ row. admitted table rows row) then λ row. rows_inserted table by_column (rows ++ row ∷ []) rest)
+      by (Ok row) = refl
+      by (Err r) = refl
+
+  same_database : (db : Database) (rows : List TableRow) (row : TableRow) (answer : Answer (List TableRow))
+      → (answer then λ now. Ok (having_rows (having_rows db (rows ++ row ∷ [])) now)) ≡ (answer then λ now. Ok (having_rows db now))
+  same_database db rows row (Ok now) = ap (λ (d : Database). Ok d) (put_again (folded name) (ATable (with_rows table (rows ++ row ∷ []))) (ATable (with_rows table now)) db)
+  same_database db rows row (Err r) = refl
+
+  one_then : (db : Database) (rows : List TableRow) (given : List Value) (rest : List (List Value)) → insert_row fire name places db given ≡ with_one db rows (admitted_to rows given)
+      → ((row : TableRow) → admitted_to rows given ≡ Ok row → fold_answer (insert_row fire name places) (having_rows db (rows ++ row ∷ [])) rest ≡ changed (having_rows db (rows ++ row ∷ [])) (rows ++ row ∷ []) rest)
+      → fold_answer (insert_row fire name places) db (given ∷ rest) ≡ changed db rows (given ∷ rest)
+  one_then db rows given rest first others = by (admitted_to rows given) refl
+    where
+      on : Answer Database → Answer Database
+      on a = a then λ b. fold_answer (insert_row fire name places) b rest
+
+      by : (a : Answer TableRow) → admitted_to rows given ≡ a → fold_answer (insert_row fire name places) db (given ∷ rest) ≡ changed db rows (given ∷ rest)
       by (Ok row) e =
-          ap (λ (a : Answer Database). a then λ b. fold_answer (insert_row fire name places) b rest) (first ∙ ap (λ (a : Answer TableRow). a then λ row. Ok (with_rows db (rows ++ row ∷ []))) e)
+          ap (λ (a : Answer Database). a then λ b. fold_answer (insert_row fire name places) b rest) (first ∙ ap (with_one db rows) e)
           ∙ (others row e
-          ∙ (ap (λ last. rows_added table by_column last rest then λ added. Ok (with_rows (with_rows db (rows ++ row ∷ [])) ((rows ++ row ∷ []) ++ added))) (last_of_more rows row)
-          ∙ (joined db rows row (rows_added table by_column (Some row.0) rest)
-          ∙ sym (ap (λ (a : Answer TableRow). (a then λ row. rows_added table by_column (Some row.0) rest then λ added. Ok (row ∷ added)) then λ added. Ok (with_rows db (rows ++ added))) e))))
+          ∙ (same_database db rows row (rows_inserted table by_column (rows ++ row ∷ []) rest)
+          ∙ sym (ap (λ (a : Answer (List TableRow)). a then λ now. Ok (having_rows db now))
+          (one_inserted rows given rest ∙ ap (λ (a : Answer TableRow). a then λ row. rows_inserted table by_column (rows ++ row ∷ []) rest) e))))
       by (Err r) e =
-          ap (λ (a : Answer Database). a then λ b. fold_answer (insert_row fire name places) b rest) (first ∙ ap (λ (a : Answer TableRow). a then λ row. Ok (with_rows db (rows ++ row ∷ []))) e)
-          ∙ sym (ap (λ (a : Answer TableRow). (a then λ row. rows_added table by_column (Some row.0) rest then λ added. Ok (row ∷ added)) then λ added. Ok (with_rows db (rows ++ added))) e)
+          ap (λ (a : Answer Database). a then λ b. fold_answer (insert_row fire name places) b rest) (first ∙ ap (with_one db rows) e)
+          ∙ sym (ap (λ (a : Answer (List TableRow)). a then λ now. Ok (having_rows db now))
+          (one_inserted rows given rest ∙ ap (λ (a : Answer TableRow). a then λ row. rows_inserted table by_column (rows ++ row ∷ []) rest) e))
 
   -- row by row, where the table already is in the database
-  folds : (given : List (List Value)) (db : Database) (rows : List TableRow) → has_only_plain db ≡ true → table_of db name ≡ Ok (plain_table table rows) → Rises rows → All (IsSetFor table by_column places) given
-      → with_rows db rows ≡ db → fold_answer (insert_row fire name places) db given ≡ changed db rows given
-  folds [] db rows only is rises set there = ap (λ (d : Database). Ok d) (sym there ∙ ap (with_rows db) (sym (append-nil rows)))
-  folds (g ∷ given) db rows only is rises set there =
-      one_then db rows g given (row_changes db rows g only is rises (set 0 g (omega arith)))
-      (λ row e. folds given (with_rows db (rows ++ row ∷ [])) (rows ++ row ∷ []) (keeps db name (plain_table table (rows ++ row ∷ [])) only) (put_there db name (plain_table table (rows ++ row ∷ []))) (row_rises rows g row rises e)
-      (λ k d lt. set (suc k) d (omega (arith, lt))) (put_again (folded name) (ATable (plain_table table (rows ++ row ∷ []))) (ATable (plain_table table (rows ++ row ∷ []))) db))
+  folds : (given : List (List Value)) (db : Database) (rows : List TableRow) → has_only_plain db ≡ true → HasIndexesOf db name table → table_of db name ≡ Ok (with_rows table rows) → Rises rows
+      → All (IsSetFor table by_column places) given → having_rows db rows ≡ db → fold_answer (insert_row fire name places) db given ≡ changed db rows given
+  folds [] db rows only has is rises set there = ap (λ (d : Database). Ok d) (sym there)
+  folds (g ∷ given) db rows only has is rises set there =
+      one_then db rows g given (row_changes db rows g only has is rises (set 0 g (omega arith)))
+      (λ row e. folds given (having_rows db (rows ++ row ∷ [])) (rows ++ row ∷ []) (keeps db name (with_rows table (rows ++ row ∷ [])) only)
+      (indexes_stay db name table (with_rows table rows) (with_rows table (rows ++ row ∷ [])) is has) (put_there db name (with_rows table (rows ++ row ∷ []))) (row_rises rows g row rises e)
+      (λ k d lt. set (suc k) d (omega (arith, lt))) (put_again (folded name) (ATable (with_rows table (rows ++ row ∷ []))) (ATable (with_rows table (rows ++ row ∷ []))) db))
 
-  some_rows : (given : List (List Value)) (db : Database) (rows : List TableRow) → has_only_plain db ≡ true → table_of db name ≡ Ok (plain_table table rows) → Rises rows → All (IsSetFor table by_column places) given
-      → 1 ≤ length given → fold_answer (insert_row fire name places) db given ≡ changed db rows given
-  some_rows [] db rows only is rises set some = absurd (omega (arith, some))
-  some_rows (g ∷ given) db rows only is rises set some =
-      one_then db rows g given (row_changes db rows g only is rises (set 0 g (omega arith)))
-      (λ row e. folds given (with_rows db (rows ++ row ∷ [])) (rows ++ row ∷ []) (keeps db name (plain_table table (rows ++ row ∷ [])) only) (put_there db name (plain_table table (rows ++ row ∷ []))) (row_rises rows g row rises e)
-      (λ k d lt. set (suc k) d (omega (arith, lt))) (put_again (folded name) (ATable (plain_table table (rows ++ row ∷ []))) (ATable (plain_table table (rows ++ row ∷ []))) db))
+  some_rows : (given : List (List Value)) (db : Database) (rows : List TableRow) → has_only_plain db ≡ true → HasIndexesOf db name table → table_of db name ≡ Ok (with_rows table rows) → Rises rows
+      → All (IsSetFor table by_column places) given → 1 ≤ length given → fold_answer (insert_row fire name places) db given ≡ changed db rows given
+  some_rows [] db rows only has is rises set some = absurd (omega (arith, some))
+  some_rows (g ∷ given) db rows only has is rises set some =
+      one_then db rows g given (row_changes db rows g only has is rises (set 0 g (omega arith)))
+      (λ row e. folds given (having_rows db (rows ++ row ∷ [])) (rows ++ row ∷ []) (keeps db name (with_rows table (rows ++ row ∷ [])) only)
+      (indexes_stay db name table (with_rows table rows) (with_rows table (rows ++ row ∷ [])) is has) (put_there db name (with_rows table (rows ++ row ∷ []))) (row_rises rows g row rises e)
+      (λ k d lt. set (suc k) d (omega (arith, lt))) (put_again (folded name) (ATable (with_rows table (rows ++ row ∷ []))) (ATable (with_rows table (rows ++ row ∷ []))) db))
 
 pub inserts_rows : KeepsOnlyPlain → InsertsRows
-inserts_rows keeps fire name places db table by_column rows given still only is fit set some =
-    some_rows fire name places table by_column still (tables_kept keeps) given db rows only is (fit_rows_rise (plain_table table rows) fit) set some
+inserts_rows keeps fire name places db table by_column rows given still only has is fit set some =
+    some_rows fire name places table by_column still (tables_kept keeps) given db rows only has is (fit_rows_rise (with_rows table rows) fit) set some
+
+-- ---- without a UNIQUE index
+
+pub inserts_as_added : InsertsAsAdded
+inserts_as_added table places rows [] none = ap (λ (rs : List TableRow). Ok rs) (sym (append-nil rows))
+inserts_as_added table places rows (given ∷ more) none = by (row_added table places (last_rowid rows) given) (λ row. inserts_as_added table places (rows ++ row ∷ []) more none)
+  where
+    longer : (row : TableRow) (answer : Answer (List TableRow))
+        → (answer then λ added. Ok ((rows ++ row ∷ []) ++ added)) ≡ ((answer then λ added. Ok (row ∷ added)) then λ added. Ok (rows ++ added))
+    longer row (Ok added) = ap (λ (rs : List TableRow). Ok rs) (append_assoc rows (row ∷ []) added)
+    longer row (Err r) = refl
+
+    by : (a : Answer TableRow)
+        → ((row : TableRow) → rows_inserted table places (rows ++ row ∷ []) more ≡ (rows_added table places (last_rowid (rows ++ row ∷ [])) more then λ added. Ok ((rows ++ row ∷ []) ++ added)))
+        → (a then λ row. admitted table rows row then λ row. rows_inserted table places (rows ++ row ∷ []) more)
+        ≡ ((a then λ row. rows_added table places (Some row.0) more then λ added. Ok (row ∷ added)) then λ added. Ok (rows ++ added))
+    by (Ok row) on =
+        ap (λ b. (demand b Unique then λ _. given_row row) then λ row. rows_inserted table places (rows ++ row ∷ []) more) (free_alone table row rows none)
+        ∙ (on row
+        ∙ (ap (λ last. rows_added table places last more then λ added. Ok ((rows ++ row ∷ []) ++ added)) (last_of_more rows row)
+        ∙ longer row (rows_added table places (Some row.0) more)))
+    by (Err r) on = refl

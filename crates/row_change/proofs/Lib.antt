@@ -1,19 +1,21 @@
 mod Chosen
 mod Deletions
 mod Demanded
+mod Alone
+mod Checks
 mod FitRows
 mod Folding
 mod IntoTrees
 mod Added
 mod PutRows
-mod Rising
+pub mod Rising
 mod RowRows
 mod StoredRows
 mod StoredValues
 pub mod PlacesByName
 pub mod GivenAsMeant
 pub mod Taken
-mod Updates
+pub mod Updates
 mod SetRows
 pub mod Replaced
 pub mod SetTrees

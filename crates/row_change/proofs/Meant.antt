@@ -13,7 +13,8 @@ use Rattle.query_terms.specs.Terms.{Term}
 use Rattle.query_terms.specs.Values.{Row}
 use Rattle.row_scan.specs.Rows.{TableRow}
 use Rattle.row_scan.specs.Sources.{as_source}
-use Rattle.row_change.specs.Meaning.{AreEnough, as_row, chosen_or_all}
+use Rattle.row_change.specs.Choosing.{chosen_or_all}
+use Rattle.row_change.specs.Meaning.{AreEnough, as_row}
 use Rattle.row_change.specs.NewRows.{row_of}
 use Rattle.row_change.specs.Setting.{rows_meant}
 use Rattle.row_change.proofs.SetRows.{map_twice}
@@ -31,21 +32,15 @@ one_further h places i lt = sym (map_more h places i 0 lt)
 pub up_to_end : (h : ℕ → TableRow) (places : List ℕ) (i : ℕ) → length places ≤ i → map h (take i places) ≡ map h places
 up_to_end h places i le = ap (map h) (take_all i places le)
 
--- copies of the rows that are meant
-pub copied : (c : Option Term) (rows : List Row) (places : List ℕ) (seen : List ℕ) (result : Result (Vec stored.TableRow) Fault) → rows_meant c [] rows ≡ Ok (map (row_at rows) places) → seen ≡ places
-    → IfOk result (λ them. map row_of them.items ≡ map (λ place. as_row (row_at rows place)) seen) → IfErr result (λ fault. fault ≡ Memory)
-    → AnswersBy (λ them. map row_of them.items) (rows_meant c [] rows then λ them. Ok (map as_row them)) result
-copied c rows places seen (Ok them) meant_are same copies refused =
-    ap (λ (a : Answer (List Row)). a then as_table) meant_are
-    ∙ ap (λ (rs : List TableRow). Ok rs) (sym (copies ∙ (ap (map (λ place. as_row (row_at rows place))) same ∙ map_twice as_row (row_at rows) places)))
-copied c rows places seen (Err fault) meant_are same copies refused = inl refused
+-- copies of the rows at places
+pub copied : (a : Answer (List TableRow)) (rows : List Row) (places seen : List ℕ) (result : Result (Vec stored.TableRow) Fault) → a ≡ Ok (map (λ place. as_row (row_at rows place)) places) → seen ≡ places
+    → IfOk result (λ them. map row_of them.items ≡ map (λ place. as_row (row_at rows place)) seen) → IfErr result (λ fault. fault ≡ Memory) → AnswersBy (λ them. map row_of them.items) a result
+copied a rows places seen (Ok them) is same copies refused = is ∙ ap (λ (rs : List TableRow). Ok rs) (sym (copies ∙ ap (map (λ place. as_row (row_at rows place))) same))
+copied a rows places seen (Err fault) is same copies refused = inl refused
 
-pub not_copied : (result : Result (Vec stored.TableRow) Fault) (c : Option Term) (rows : List Row) (f : Fault) → IsErrAnd result (λ e. e ≡ f) → IsRefusedBy (rows_meant c [] rows) f
-    → AnswersBy (λ them. map row_of them.items) (rows_meant c [] rows then λ them. Ok (map as_row them)) result
-not_copied (Ok x) c rows f same why = absurd same
-not_copied (Err e) c rows f same (inl memory) = inl (same ∙ memory)
-not_copied (Err e) c rows f same (inr is) =
-    subst (λ (g : Fault). IsRefusedBy (rows_meant c [] rows then as_table) g) (sym same) (inr (ap (λ (a : Answer (List Row)). a then as_table) is))
+pub not_copied : {X : Type 0} (view : X → List TableRow) (a : Answer (List TableRow)) (result : Result X Fault) (f : Fault) → IsErrAnd result (λ e. e ≡ f) → IsRefusedBy a f → AnswersBy view a result
+not_copied view a (Ok x) f same why = absurd same
+not_copied view a (Err e) f same why = subst (λ (g : Fault). IsRefusedBy a g) (sym same) why
 
 -- ---- as the definition means
 
@@ -60,9 +55,15 @@ as_meant c rows = ap (λ (a : Answer (List Row)). a then as_table) (meant_as_cho
     by (Ok them) = ap (λ (rs : List TableRow). Ok rs) (back them)
     by (Err r) = refl
 
--- of rows that are enough
-pub as_chosen : (c : Option Term) (found : List Row) (all : List TableRow) (result : Result (Vec stored.TableRow) Fault) → AreEnough c found all
-    → AnswersBy (λ them. map row_of them.items) (rows_meant c [] found then λ them. Ok (map as_row them)) result → AnswersBy (λ them. map row_of them.items) (chosen_or_all c all) result
-as_chosen c found all result enough answers =
-    subst (λ (a : Answer (List TableRow)). AnswersBy (λ them. map row_of them.items) a result)
-    (ap (λ (them : List Row). rows_meant c [] them then as_table) enough.are ∙ (as_meant c enough.some ∙ enough.same)) answers
+-- the places of rows that are enough
+pub places_chosen : (c : Option Term) (found : List Row) (all : List TableRow) (result : Result (Vec ℕ) Fault) → AreEnough c found all → AnswersBy (λ places. map (row_at found) places.items) (rows_meant c [] found) result
+    → AnswersBy (λ places. map (λ place. as_row (row_at found place)) places.items) (chosen_or_all c all) result
+places_chosen c found all result enough answers = by result answers
+  where
+    same : (rows_meant c [] found then as_table) ≡ chosen_or_all c all
+    same = ap (λ (them : List Row). rows_meant c [] them then as_table) enough.are ∙ (as_meant c enough.some ∙ enough.same)
+
+    by : (r : Result (Vec ℕ) Fault) → AnswersBy (λ places. map (row_at found) places.items) (rows_meant c [] found) r → AnswersBy (λ places. map (λ place. as_row (row_at found place)) places.items) (chosen_or_all c all) r
+    by (Ok places) is = sym same ∙ (ap (λ (a : Answer (List Row)). a then as_table) is ∙ ap (λ (rs : List TableRow). Ok rs) (sym (map_twice as_row (row_at found) places.items)))
+    by (Err fault) (inl memory) = inl memory
+    by (Err fault) (inr why) = inr (sym same ∙ ap (λ (a : Answer (List Row)). a then as_table) why)

@@ -20,7 +20,7 @@ use Rattle.tree_table.specs.Rows.{payload_at, with_row, with_change, with_change
 use Rattle.tree_table.specs.declared.changing.RowChange.{RowChange}
 use Rattle.tree_table.proofs.Orders.{less_not, not_less, same_or_other, lt_le}
 use Rattle.catalog.specs.Database.{TableColumn}
-use Rattle.catalog.specs.Listed.{as_column, plain_table}
+use Rattle.catalog.specs.Listed.{as_column, with_rows}
 use Rattle.catalog.specs.Rows.{is_row, is_value}
 use Rattle.catalog.specs.declared.tables.Table.{Table}
 use Rattle.query_names.specs.Readings.{env_of, values}
@@ -34,7 +34,8 @@ use Rattle.row_change.specs.NewRows.{IsReplacement, IsWritten, entry_left}
 use Rattle.record.specs.Writing.{AreStorable}
 use Rattle.row_change.specs.Setting.{row_set, rows_meant_set, values_set}
 use Rattle.row_change.specs.Updating.{FitNow, ReplacesRows, with_all_replaced}
-use Rattle.row_change.proofs.Demanded.{is_demanded}
+use Rattle.row_change.proofs.Demanded.{demanded_fits, is_demanded}
+use Rattle.row_change.proofs.Deletions.{climbs_over}
 use Rattle.row_change.proofs.Rising.{Climbs, Rises, both, further}
 
 -- ---- the call
@@ -231,12 +232,11 @@ module _ (table : Table) (sets : List (ℕ × Term)) (is_meant : TableRow → Bo
     pub answer : rows_meant_set table sets is_meant rows ≡ Ok now
     pub each : Pairwise (IsRow (length table.columns)) (with_all_replaced more entries) now
     pub ids : map (λ row. row.0) now ≡ map (λ row. row.0) rows
-    pub fit : (held : List TableRow) → list_all (is_row (plain_table table held)) rows ≡ true → list_all (is_row (plain_table table held)) now ≡ true
-    pub storable : All CanStore now → All CanStore new
+    pub fit : (held : List TableRow) → list_all (is_row (with_rows table held)) rows ≡ true → list_all (is_row (with_rows table held)) now ≡ true
     pub over : (low : ℤ) → Climbs low rows → AreOver low more
 
   none_set : AreSet [] [] [] []
-  none_set = record { now = []; answer = refl; each = tt; ids = refl; fit = λ held all. refl; storable = λ all k d lt. absurd (omega (arith, lt)); over = λ low climb. tt }
+  none_set = record { now = []; answer = refl; each = tt; ids = refl; fit = λ held all. refl; over = λ low climb. tt }
 
   one_stays : (r : TableRow) (rows new : List TableRow) (entry : Entry) (entries more : List Entry) → is_meant r ≡ false → IsRow (length table.columns) entry r → Climbs r.0 rows → AreSet rows new entries more
       → AreSet (r ∷ rows) new (entry ∷ entries) more
@@ -246,15 +246,14 @@ module _ (table : Table) (sets : List (ℕ × Term)) (is_meant : TableRow → Bo
     each = subst (λ (all : List Entry). Pairwise (IsRow (length table.columns)) all (r ∷ set.now)) (sym (stay_before more entry entries (subst (λ (n : ℤ). AreOver n more) (sym is.rowid) (set.over r.0 climb)))) (is, set.each);
     ids = ap (λ (ids : List ℤ). r.0 ∷ ids) set.ids;
     fit = λ held all.
-        (let parts = both (is_row (plain_table table held) r) (list_all (is_row (plain_table table held)) rows) all in
-        both_true (is_row (plain_table table held) r) (list_all (is_row (plain_table table held)) set.now) parts.0 (set.fit held parts.1));
-    storable = λ all. set.storable (rest_of_all CanStore r set.now all);
+        (let parts = both (is_row (with_rows table held) r) (list_all (is_row (with_rows table held)) rows) all in
+        both_true (is_row (with_rows table held) r) (list_all (is_row (with_rows table held)) set.now) parts.0 (set.fit held parts.1));
     over = λ low climbs. set.over low (lower low r.0 rows climbs.0 climbs.1);
   }
 
   -- the row that it becomes fits as it did
-  still_fits : (held : List TableRow) (r x : TableRow) → is_row (plain_table table held) r ≡ true → x.0 ≡ r.0 → length x.1 ≡ length table.columns → list_all is_value x.1 ≡ true
-      → is_row (plain_table table held) x ≡ true
+  still_fits : (held : List TableRow) (r x : TableRow) → is_row (with_rows table held) r ≡ true → x.0 ≡ r.0 → length x.1 ≡ length table.columns → list_all is_value x.1 ≡ true
+      → is_row (with_rows table held) x ≡ true
   still_fits held r x was id long fit =
       both_true (is_word x.0 && length x.1 == length (map as_column table.columns) && list_all is_value x.1) true
       (both_true (is_word x.0 && length x.1 == length (map as_column table.columns)) (list_all is_value x.1)
@@ -276,9 +275,8 @@ module _ (table : Table) (sets : List (ℕ × Term)) (is_meant : TableRow → Bo
         (record { rowid = m_is; values = written.values; full = long }, set.each);
     ids = let h = parts.0 in let k = set.ids in cc;
     fit = λ held all.
-        (let halves = both (is_row (plain_table table held) r) (list_all (is_row (plain_table table held)) rows) all in
-        both_true (is_row (plain_table table held) x) (list_all (is_row (plain_table table held)) set.now) (still_fits held r x halves.0 parts.0 long written.fit) (set.fit held halves.1));
-    storable = λ all. all_with CanStore x new (first_of_all CanStore x set.now all) (set.storable (rest_of_all CanStore x set.now all));
+        (let halves = both (is_row (with_rows table held) r) (list_all (is_row (with_rows table held)) rows) all in
+        both_true (is_row (with_rows table held) x) (list_all (is_row (with_rows table held)) set.now) (still_fits held r x halves.0 parts.0 long written.fit) (set.fit held halves.1));
     over = λ low climbs. (subst (λ (n : ℤ). low <ℤ n) (sym at) climbs.0, set.over low (lower low r.0 rows climbs.0 climbs.1));
   }
     where
@@ -341,39 +339,62 @@ module _ (table : Table) (sets : List (ℕ × Term)) (is_meant : TableRow → Bo
       by on true it = set_one r rows it ∙ first_or_rest (row_set table sets r) (made rows) (rows_meant_set table sets is_meant rows) on (sym (made_one r rows it) ∙ e)
       by on false it = set_none r rows it ∙ ap (λ (d : Answer (List TableRow)). d then λ xs. Ok (r ∷ xs)) (on (sym (made_none r rows it) ∙ e))
 
-  -- where the rows become these, all rows become others that can be stored only if these can
-  pub record AreChanged (rows new : List TableRow) : Type 0 where
-    pub now : List TableRow
-    pub answer : rows_meant_set table sets is_meant rows ≡ Ok now
-    pub storable : All CanStore now → All CanStore new
-
-  pub are_changed : (rows new : List TableRow) → made rows ≡ Ok new → AreChanged rows new
-  are_changed [] [] e = record { now = []; answer = refl; storable = λ all k d lt. absurd (omega (arith, lt)) }
-  are_changed [] (x ∷ new) e = absurd cc
-  are_changed (r ∷ rows) new e = by (are_changed rows) (is_meant r) refl
+  -- what the rows become can be stored
+  pub set_fits : (row x : TableRow) → row_set table sets row ≡ Ok x → CanStore x
+  set_fits row x e = by (values_set table.columns sets (as_source row)) e
     where
-      with_one : (x : TableRow) (xs : List TableRow) → row_set table sets r ≡ Ok x → is_meant r ≡ true → AreChanged rows xs → AreChanged (r ∷ rows) (x ∷ xs)
-      with_one x xs is it rest = record {
-        now = x ∷ rest.now;
-        answer = set_one r rows it
-            ∙ (ap (λ (a : Answer TableRow). a then λ x. rows_meant_set table sets is_meant rows then λ xs. Ok (x ∷ xs)) is ∙ ap (λ (a : Answer (List TableRow)). a then λ xs. Ok (x ∷ xs)) rest.answer);
-        storable = λ all. all_with CanStore x xs (first_of_all CanStore x rest.now all) (rest.storable (rest_of_all CanStore x rest.now all));
-      }
+      by : (a : Answer (List Value)) → (a then λ values. demanded table (row.0, values)) ≡ Ok x → CanStore x
+      by (Ok values) h = demanded_fits table (row.0, values) x h
+      by (Err r) h = absurd cc
 
-      by : ((new : List TableRow) → made rows ≡ Ok new → AreChanged rows new) → (b : Bool) → is_meant r ≡ b → AreChanged (r ∷ rows) new
-      by on true it =
-          let parts = parts_of (row_set table sets r) (made rows) new (sym (made_one r rows it) ∙ e) in
-          subst (λ (all : List TableRow). AreChanged (r ∷ rows) all) parts.are (with_one parts.row parts.more parts.first_is it (on parts.more parts.more_is))
-      by on false it =
-          let rest = on new (sym (made_none r rows it) ∙ e) in
-          record {
-            now = r ∷ rest.now;
-            answer = set_none r rows it ∙ ap (λ (a : Answer (List TableRow)). a then λ xs. Ok (r ∷ xs)) rest.answer;
-            storable = λ all. rest.storable (rest_of_all CanStore r rest.now all);
-          }
+  pub all_fit : (olds new : List TableRow) → all_answers (map (row_set table sets) olds) ≡ Ok new → All CanStore new
+  all_fit [] [] e = λ k d lt. absurd (omega (arith, lt))
+  all_fit [] (x ∷ new) e = absurd cc
+  all_fit (r ∷ olds) new e =
+      let parts = parts_of (row_set table sets r) (all_answers (map (row_set table sets) olds)) new e in
+      subst (All CanStore) parts.are (all_with CanStore parts.row parts.more (set_fits r parts.row parts.first_is) (all_fit olds parts.more parts.more_is))
 
   -- where a table may hold the rows, it may hold what they become
   pub fit_now : (rows new : List TableRow) (entries more : List Entry) (set : AreSet rows new entries more) → FitNow table rows set.now
   fit_now rows new entries more set fit =
-      let parts = both (is_rising int_cmp (map (λ row. row.0) rows)) (list_all (is_row (plain_table table rows)) rows) fit in
-      both_true (is_rising int_cmp (map (λ row. row.0) set.now)) (list_all (is_row (plain_table table rows)) set.now) (ap (is_rising int_cmp) set.ids ∙ parts.0) (set.fit rows parts.1)
+      let parts = both (is_rising int_cmp (map (λ row. row.0) rows)) (list_all (is_row (with_rows table rows)) rows) fit in
+      both_true (is_rising int_cmp (map (λ row. row.0) set.now)) (list_all (is_row (with_rows table rows)) set.now) (ap (is_rising int_cmp) set.ids ∙ parts.0) (set.fit rows parts.1)
+
+-- ---- one row among others
+
+with_one_set : (p : TableRow → Bool) (before : List TableRow) (row x : TableRow) (after : List TableRow) → (p row ≡ true → p x ≡ true) → list_all p (before ++ row ∷ after) ≡ true → list_all p (before ++ x ∷ after) ≡ true
+with_one_set p [] row x after on all = (let parts = both (p row) (list_all p after) all in both_true (p x) (list_all p after) (on parts.0) parts.1)
+with_one_set p (k ∷ before) row x after on all =
+    let parts = both (p k) (list_all p (before ++ row ∷ after)) all in both_true (p k) (list_all p (before ++ x ∷ after)) parts.0 (with_one_set p before row x after on parts.1)
+
+same_rowids : (before : List TableRow) (row x : TableRow) (after : List TableRow) → x.0 ≡ row.0 → map (λ (r : TableRow). r.0) (before ++ x ∷ after) ≡ map (λ (r : TableRow). r.0) (before ++ row ∷ after)
+same_rowids [] row x after same = ap (λ (n : ℤ). n ∷ map (λ (r : TableRow). r.0) after) same
+same_rowids (k ∷ before) row x after same = ap (λ (ns : List ℤ). k.0 ∷ ns) (same_rowids before row x after same)
+
+module _ (table : Table) (sets : List (ℕ × Term)) (row x : TableRow) (is : row_set table sets row ≡ Ok x) (m : Entry) (written : IsWritten x m) where
+  parts : (x.0 ≡ row.0) × (values_set table.columns sets (as_source row) ≡ Ok x.1)
+  parts = set_parts table sets row x is
+
+  at : m.rowid ≡ row.0
+  at = ap (λ (n : Entry). n.rowid) written.is ∙ parts.0
+
+  pub set_in_place : (before after : List TableRow) (entries : List Entry) → Pairwise (IsRow (length table.columns)) entries (before ++ row ∷ after) → Rises (before ++ row ∷ after)
+      → Pairwise (IsRow (length table.columns)) (with_replaced m entries) (before ++ x ∷ after)
+  set_in_place [] after [] each rises = absurd each
+  set_in_place [] after (entry ∷ entries) each rises =
+      subst (λ (all : List Entry). Pairwise (IsRow (length table.columns)) all (x ∷ after)) (sym (in_place m entry entries (each.0.rowid ∙ sym at)))
+      (record { rowid = ap (λ (n : Entry). n.rowid) written.is; values = written.values; full = long_set table sets row x.1 each.0.full parts.1 }, each.1)
+  set_in_place (k ∷ before) after [] each rises = absurd each
+  set_in_place (k ∷ before) after (entry ∷ entries) each rises =
+      subst (λ (all : List Entry). Pairwise (IsRow (length table.columns)) all (k ∷ before ++ x ∷ after))
+      (sym (stays_before m entry entries (subst (λ (n : ℤ). n <ℤ m.rowid) (sym each.0.rowid) (subst (λ (n : ℤ). k.0 <ℤ n) (sym at) (climbs_over k.0 before row after rises)))))
+      (each.0, set_in_place before after entries each.1 (rest_rises k (before ++ row ∷ after) rises))
+
+  pub fit_in_place : (before after : List TableRow) → length row.1 ≡ length table.columns → FitNow table (before ++ row ∷ after) (before ++ x ∷ after)
+  fit_in_place before after full fit =
+      let rows = before ++ row ∷ after in
+      let now = before ++ x ∷ after in
+      let halves = both (is_rising int_cmp (map (λ (r : TableRow). r.0) rows)) (list_all (is_row (with_rows table rows)) rows) fit in
+      both_true (is_rising int_cmp (map (λ (r : TableRow). r.0) now)) (list_all (is_row (with_rows table rows)) now) (ap (is_rising int_cmp) (same_rowids before row x after parts.0) ∙ halves.0)
+      (with_one_set (is_row (with_rows table rows)) before row x after
+      (λ was. still_fits table sets (λ r. true) rows row x was parts.0 (long_set table sets row x.1 full parts.1) written.fit) halves.1)

@@ -6,14 +6,16 @@ use Rattle.sqlval.specs.declared.affinity.Affinity.TheVariants as kind
 use Rattle.sqlval.specs.declared.collation.Collation.TheVariants.{Binary}
 use Rattle.sqlval.specs.declared.value.Value.{Value}
 use Rattle.sqlval.specs.declared.value.Value.TheVariants.{Null, Text}
-use Rattle.sql_syntax.specs.Tree.{CallAll, Binary}
+use Rattle.sql_syntax.specs.Tree.{CallAll}
 use Rattle.sql_syntax.specs.declared.change.Change.TheVariants as change
 use Rattle.sql_syntax.specs.declared.change.InsertSource.TheVariants as source
-use Rattle.sql_syntax.specs.declared.expr.Operator.TheVariants as op
 use Rattle.catalog.specs.Database.{Name, Database, ATable, AnIndex, with_object}
 use Rattle.query_names.specs.Checked.{faults}
-use Rattle.query_terms.specs.Terms.{Digits}
-use Rattle.query_names.proofs.Written.{number, named, insert, col, table, int}
+use Rattle.query_terms.specs.Terms.{Cell, Const, Digits, Two}
+use Rattle.query_terms.specs.declared.tree.Comparison.TheVariants.{Greater}
+use Rattle.query_terms.specs.declared.tree.Place.TheVariants.{At}
+use Rattle.query_terms.specs.declared.tree.TwoSided.TheVariants.{Compare}
+use Rattle.query_names.proofs.Written.{number, insert, col, table, int}
 use Rattle.row_change.specs.Changes.{no_outer, resolve_change}
 use Rattle.row_change.specs.Constraints.{greatest}
 use Rattle.row_change.specs.RowChanges.{Fire, insert_row, update_row, delete_row}
@@ -51,7 +53,7 @@ gone_is_passed_over = refl
 
 -- t(a NOT NULL CHECK (a > 0))
 abbrev demanding : Database
-demanding = with_object [] t (ATable (record { columns = record (col a) { is_filled = true } ∷ []; rowid_column = None; checks = Binary op.Greater (named a) (number 0) ∷ []; rows = [] }))
+demanding = with_object [] t (ATable (record { columns = record (col a) { is_filled = true } ∷ []; rowid_column = None; checks = Two (Compare Greater) (Cell 0 (At 0) (Some kind.Blob) Binary) (Const (int 0)) ∷ []; rows = [] }))
 
 pub null_refused : insert_row still t (0 ∷ []) demanding (Null ∷ []) ≡ Err NotNull
 null_refused = refl

@@ -126,9 +126,21 @@ quietly : {A : Type 0} (a : Answer A) (f : Fault) → IsQuiet a → IsRefusedBy 
 quietly a f quiet (inl memory) = memory_is_quiet f memory
 quietly a f quiet (inr e) = quiet_fault f (subst IsQuiet e quiet)
 
-pub not_meant : {X : Type 0} (result : Result X Fault) (c : Option Term) (rows : List Row) (f : Fault) → IsErrAnd result (λ e. e ≡ f) → IsRefusedBy (rows_meant c [] rows) f → IfErr result (λ fault. IsNotDiskFault fault)
-not_meant (Ok x) c rows f same why = absurd same
-not_meant (Err e) c rows f same why = subst IsNotDiskFault (sym same) (quietly (rows_meant c [] rows) f (of_meant c [] rows) why)
+-- by no disk are places refused
+pub none_placed : (c : Option Term) (rows : List Row) (f : Fault) → IsRefusedBy (rows_meant c [] rows) f → IsNotDiskFault f
+none_placed c rows f why = quietly (rows_meant c [] rows) f (of_meant c [] rows) why
+
+pub not_placed : {X : Type 0} (view : X → List Row) (result : Result X Fault) (c : Option Term) (rows : List Row) → AnswersBy view (rows_meant c [] rows) result → IfErr result (λ fault. IsNotDiskFault fault)
+not_placed view (Ok x) c rows answers = tt
+not_placed view (Err e) c rows answers = none_placed c rows e answers
+
+pub passed_fault : {X : Type 0} (result : Result X Fault) (f : Fault) → IsErrAnd result (λ e. e ≡ f) → IsNotDiskFault f → IfErr result (λ fault. IsNotDiskFault fault)
+passed_fault (Ok x) f same why = absurd same
+passed_fault (Err e) f same why = subst IsNotDiskFault (sym same) why
+
+pub set_quietly : {X : Type 0} (view : X → TableRow) (result : Result X Fault) (table : Table) (sets : List (ℕ × Term)) (row : Row) → AnswersBy view (source_set table sets row) result → IfErr result (λ fault. IsNotDiskFault fault)
+set_quietly view (Ok x) table sets row answers = tt
+set_quietly view (Err e) table sets row answers = quietly (source_set table sets row) e (of_set table sets row) answers
 
 pub not_changed : {X : Type 0} (view : X → List TableRow) (result : Result X Fault) (table : Table) (sets : List (ℕ × Term)) (rows : List Row) (places : List ℕ)
     → AnswersBy view (all_answers (map (λ place. source_set table sets (row_at rows place)) places)) result → IfErr result (λ fault. IsNotDiskFault fault)

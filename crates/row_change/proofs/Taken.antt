@@ -16,7 +16,7 @@ use Rattle.tree_page.specs.Cells.{Pairwise}
 use Rattle.tree_table.specs.Calls.{BecomesRows, ChangesRows}
 use Rattle.tree_table.specs.Rows.{without_row, with_change, with_changes}
 use Rattle.tree_table.proofs.Orders.{less_not, same_or_other}
-use Rattle.catalog.specs.Listed.{plain_table}
+use Rattle.catalog.specs.Listed.{with_rows}
 use Rattle.catalog.specs.Rows.{are_rows, is_row}
 use Rattle.catalog.specs.declared.tables.Table.{Table}
 use Rattle.query_names.specs.declared.queries.BoundSource.{BoundSource}
@@ -122,11 +122,11 @@ module _ (p : TableRow → Bool) where
       by first rest false = rest
 
   -- where a table may hold rows, it may hold some of them
-  pub fit_still : (t : Table) (rows : List TableRow) → are_rows (plain_table t rows) ≡ true → are_rows (plain_table t (filter p rows)) ≡ true
+  pub fit_still : (t : Table) (rows : List TableRow) → are_rows (with_rows t rows) ≡ true → are_rows (with_rows t (filter p rows)) ≡ true
   fit_still t rows fit =
-      let parts = both (is_rising int_cmp (rowids_in rows)) (list_all (is_row (plain_table t rows)) rows) fit in
-      both_true (is_rising int_cmp (rowids_in (filter p rows))) (list_all (is_row (plain_table t rows)) (filter p rows))
-      (rises_rising (filter p rows) (rises_still rows (fit_rows_rise (plain_table t rows) fit))) (all_still (is_row (plain_table t rows)) rows parts.1)
+      let parts = both (is_rising int_cmp (rowids_in rows)) (list_all (is_row (with_rows t rows)) rows) fit in
+      both_true (is_rising int_cmp (rowids_in (filter p rows))) (list_all (is_row (with_rows t rows)) (filter p rows))
+      (rises_rising (filter p rows) (rises_still rows (fit_rows_rise (with_rows t rows) fit))) (all_still (is_row (with_rows t rows)) rows parts.1)
 
 -- greater rowids leave the first
 stays_first : (rowids : List ℤ) (first : Entry) (rows : List Entry) → AreOver first.rowid rowids → without_rows rowids (first ∷ rows) ≡ first ∷ without_rows rowids rows

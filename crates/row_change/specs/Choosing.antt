@@ -20,6 +20,11 @@ is_chosen condition row = elim (tested condition row) [ Ok (Some true) ↦ true 
 abbrev pub chosen : Term → List TableRow → Answer (List TableRow)
 chosen condition rows = all_answers (map (tested condition) rows) then λ tests. Ok (filter (is_chosen condition) rows)
 
+-- the rows for which the condition is true, or all where there is none; or the first refusal
+abbrev pub chosen_or_all : Option Term → List TableRow → Answer (List TableRow)
+chosen_or_all None rows = Ok rows
+chosen_or_all (Some condition) rows = chosen condition rows
+
 -- The rows that stay where those are taken out, or the first refusal.
 abbrev pub rows_left : Term → List TableRow → Answer (List TableRow)
 rows_left condition rows = all_answers (map (tested condition) rows) then λ tests. Ok (filter (λ row. not (is_chosen condition row)) rows)

@@ -1,17 +1,14 @@
--- What a row must be to stand in a table, and the rowid that it gets (SQL As Understood By SQLite, "CREATE TABLE", "Not Null Constraints" to "CHECK constraints", and "ROWIDs and the INTEGER PRIMARY KEY").
-use Rattle.std.specs.Prelude.{ℕ, ◌-◌, ◌^◌, Bool, true, false, not, ◌&&◌, List, [], ◌∷◌, map, ℤ, pos, ◌+ℤ◌, int_lt, Option, Some, None, is_none, unwrap_or, Ok, Err, if◌then◌else◌, slice_get, slice_set}
-use Rattle.std.specs.List.{list_any}
+-- What a row must be to stand in a table, and the rowid that it gets (SQL As Understood By SQLite, "CREATE TABLE", "Not Null Constraints" to "CHECK constraints", and "ROWIDs and the INTEGER PRIMARY KEY"; Implementation Limits For SQLite).
+use Rattle.std.specs.Prelude.{ℕ, ◌-◌, ◌^◌, Bool, true, false, not, ◌&&◌, List, [], ◌∷◌, map, ℤ, pos, ◌+ℤ◌, int_lt, Option, Some, None, is_none, unwrap_or, Ok, Err, if◌then◌else◌, length, nat_le, slice_get, slice_set}
+use Rattle.std.specs.List.{list_all, list_any}
 use Rattle.sqlval.specs.Conversion.{converted}
-use Rattle.sqlval.specs.Refusals.{Answer, ◌then◌, Refusal, NoSuch, RowidFull, RowidMismatch, NotNull, Check, Unique, fold_answer}
+use Rattle.sqlval.specs.Refusals.{Answer, ◌then◌, Refusal, NoSuch, RowidFull, RowidMismatch, NotNull, Check, TooLong, Unique, fold_answer}
 use Rattle.sqlval.specs.declared.value.Value.{Value}
-use Rattle.sqlval.specs.declared.value.Value.TheVariants.{Null, Int}
-use Rattle.sql_syntax.specs.Tree.{Tree}
+use Rattle.sqlval.specs.declared.value.Value.TheVariants.{Null, Int, Text, Blob}
 use Rattle.catalog.specs.Database.{Name, Database, object, with_object, ATable, Table, TableColumn, Index, row, with_row, indexes_of}
-use Rattle.query_names.specs.Expressions.{resolve}
 use Rattle.query_names.specs.Keys.{is_null, clash}
-use Rattle.query_names.specs.Checked.{known_then}
 use Rattle.query_names.specs.Readings.{holds}
-use Rattle.query_names.specs.Scopes.{table_source}
+use Rattle.query_terms.specs.Terms.{Term}
 use Rattle.query_terms.specs.Values.{Row}
 
 -- the table of a name
@@ -63,13 +60,23 @@ not_null_holds _ _ = true
 abbrev pub row_of : ℤ → List Value → Row
 row_of id vs = record { rowid = Int id; values = vs }
 
--- a CHECK is refused where it is 0
-abbrev check_holds : Name → Table → Row → Tree → Answer Bool
-check_holds n t r e =
-    known_then (resolve false (table_source n t ∷ []) e) λ c. holds c (r ∷ []) then elim [ Some false ↦ Ok false | _ ↦ Ok true ]
+-- a CHECK holds where it isn't 0, so also where it is NULL
+abbrev pub check_holds : Row → Term → Answer Bool
+check_holds r c = holds c (r ∷ []) then λ test. Ok (unwrap_or test true)
 
-abbrev checks_hold : Name → Table → Row → List Tree → Answer (Unit {0})
-checks_hold n t r es = fold_answer (λ _ e. check_holds n t r e then λ b. if b then Ok tt else Err Check) tt es
+-- each CHECK holds for the row, or the first refusal
+abbrev pub checks_hold : Row → List Term → Answer (Unit {0})
+checks_hold r cs = fold_answer (λ _ c. check_holds r c then λ b. if b then Ok tt else Err Check) tt cs
+
+-- a text or a blob of at most 1,000,000 bytes, or another value
+abbrev pub is_short : Value → Bool
+is_short (Text t) = nat_le (length t) 1000000
+is_short (Blob b) = nat_le (length b) 1000000
+is_short _ = true
+
+-- a record can hold them
+abbrev pub can_be_stored : List Value → Bool
+can_be_stored vs = nat_le (length vs) 1000 && list_all is_short vs
 
 -- no row of the table has its key in a UNIQUE index
 abbrev pub is_unique_in : List (Name × Index) → List Value → Table → Bool
@@ -84,7 +91,8 @@ demand false r = Err r
 abbrev pub stored : Database → Name → Table → ℤ → List Value → Answer Database
 stored db n t id vs =
     demand (not_null_holds t.columns vs) NotNull then λ _.
-    checks_hold n t (row_of id vs) t.checks then λ _.
+    demand (can_be_stored vs) TooLong then λ _.
+    checks_hold (row_of id vs) t.checks then λ _.
     demand (is_none (row t id)) Unique then λ _.
     demand (is_unique_in (indexes_of db n) vs t) Unique then λ _.
     Ok (with_object db n (ATable (with_row id vs t)))

@@ -1,5 +1,5 @@
 -- What INSERT adds to a table, as rows and as entries of its tree (SQL As Understood By SQLite, "INSERT", and SQLite Autoincrement).
-use Rattle.std.specs.Prelude.{◌+ℤ◌, ◌^◌, ◌-◌, ℕ, ℤ, pos, int_lt, List, [], ◌∷◌, map, slice_index_or, Option, Some, None, Ok, Err, unwrap_or, if◌then◌else◌, All}
+use Rattle.std.specs.Prelude.{◌+ℤ◌, ◌^◌, ◌-◌, ℕ, ℤ, pos, int_lt, List, [], ◌∷◌, ◌++◌, map, slice_index_or, Option, Some, None, Ok, Err, unwrap_or, if◌then◌else◌, All}
 use Rattle.sqlval.specs.Refusals.{Answer, ◌then◌, RowidFull}
 use Rattle.sqlval.specs.declared.value.Value.{Value}
 use Rattle.sqlval.specs.declared.value.Value.TheVariants.{Null}
@@ -10,7 +10,7 @@ use Rattle.catalog.specs.declared.tables.Column.{Column}
 use Rattle.catalog.specs.declared.tables.Table.{Table}
 use Rattle.row_scan.specs.Rows.{TableRow}
 use Rattle.row_change.specs.Constraints.{with_affinity}
-use Rattle.row_change.specs.Demands.{demanded}
+use Rattle.row_change.specs.Demands.{admitted, demanded}
 
 -- ---- the rows that are added
 
@@ -39,16 +39,25 @@ abbrev pub row_added : Table → List (Option ℕ) → Option ℤ → List Value
 row_added table places last given =
     row_stored table.columns places given then λ values. rowid_after last then λ rowid. demanded table (rowid, values)
 
--- the rows that the rows given become, one after another, up to the first refusal
+-- the rowid of the last row, where there is one: the greatest, since rowids rise
+abbrev pub last_rowid : List TableRow → Option ℤ
+last_rowid [] = None
+last_rowid (row ∷ rows) = Some (unwrap_or (last_rowid rows) row.0)
+
+-- the rows that the rows given become, one after another and whether or not they are alone, up to the first refusal
 abbrev pub rows_added : Table → List (Option ℕ) → Option ℤ → List (List Value) → Answer (List TableRow)
 rows_added table places last [] = Ok []
 rows_added table places last (given ∷ rows) =
     row_added table places last given then λ row. rows_added table places (Some row.0) rows then λ added. Ok (row ∷ added)
 
--- the rowid of the last row, where there is one: the greatest, since rowids rise
-abbrev pub last_rowid : List TableRow → Option ℤ
-last_rowid [] = None
-last_rowid (row ∷ rows) = Some (unwrap_or (last_rowid rows) row.0)
+-- The rows of the table, with those after them that the rows given become, one after another, each alone among the rows before it; or the
+-- first refusal.
+abbrev pub rows_inserted : Table → List (Option ℕ) → List TableRow → List (List Value) → Answer (List TableRow)
+rows_inserted table places rows [] = Ok rows
+rows_inserted table places rows (given ∷ more) =
+    row_added table places (last_rowid rows) given then λ row.
+    admitted table rows row then λ row.
+    rows_inserted table places (rows ++ row ∷ []) more
 
 -- ---- their entries
 

@@ -1,5 +1,7 @@
 -- What UPDATE makes of the rows of a table (SQL As Understood By SQLite, "UPDATE").
-use Rattle.std.specs.Prelude.{ℕ, ℤ, pos, Bool, true, false, List, [], ◌∷◌, ◌++◌, map, zip, Option, Some, None, Ok, if◌then◌else◌, unwrap_or}
+use Rattle.std.specs.Prelude.{ℕ, ℤ, pos, Bool, true, false, not, List, [], ◌∷◌, ◌++◌, map, zip, Option, Some, None, Ok, if◌then◌else◌, unwrap_or}
+use Rattle.std.specs.FinMap.Entries.{put, where_key}
+use Rattle.std.specs.Ordering.{eq_by_cmp, int_cmp}
 use Rattle.sqlval.specs.Refusals.{Answer, ◌then◌, all_answers}
 use Rattle.sqlval.specs.declared.value.Value.{Value}
 use Rattle.sqlval.specs.declared.value.Value.TheVariants.{Int}
@@ -11,9 +13,9 @@ use Rattle.query_terms.specs.Terms.{Term}
 use Rattle.query_terms.specs.Values.{Environment, Row}
 use Rattle.row_scan.specs.Rows.{TableRow}
 use Rattle.row_scan.specs.Sources.{as_source}
-use Rattle.row_change.specs.Choosing.{is_chosen, tested}
+use Rattle.row_change.specs.Choosing.{chosen_or_all, is_chosen, tested}
 use Rattle.row_change.specs.Constraints.{set_values, with_affinity}
-use Rattle.row_change.specs.Demands.{demanded}
+use Rattle.row_change.specs.Demands.{admitted, demanded}
 
 -- The values of a row with those of SET's expressions at their places, which are asked of the row as it was.
 abbrev pub set_over : List (ℕ × Term) → Environment → List Value → Answer (List Value)
@@ -31,12 +33,30 @@ row_set table sets row = values_set table.columns sets (as_source row) then λ v
 abbrev pub rows_meant_set : Table → List (ℕ × Term) → (TableRow → Bool) → List TableRow → Answer (List TableRow)
 rows_meant_set table sets is_meant rows = all_answers (map (λ row. if is_meant row then row_set table sets row else Ok row) rows)
 
+-- The rows for which the condition is true, or all where there is none, become what SET makes of them, whether or not they are alone. The
+-- condition is asked of all rows before the first is set.
+abbrev pub rows_set_each : Table → List (ℕ × Term) → Option Term → List TableRow → Answer (List TableRow)
+rows_set_each table sets None rows = rows_meant_set table sets (λ row. true) rows
+rows_set_each table sets (Some condition) rows =
+    all_answers (map (tested condition) rows) then λ tests. rows_meant_set table sets (is_chosen condition) rows
+
+-- the rows without that of a rowid
+abbrev pub rows_beside : ℤ → List TableRow → List TableRow
+rows_beside rowid rows = where_key int_cmp (λ other. not (eq_by_cmp int_cmp rowid other)) rows
+
+-- Of the table's rows these, one after another, become what SET makes of them, each alone among the others as they are then; or the first
+-- refusal.
+abbrev pub rows_turned : Table → List (ℕ × Term) → List TableRow → List TableRow → Answer (List TableRow)
+rows_turned table sets rows [] = Ok rows
+rows_turned table sets rows (old ∷ olds) =
+    row_set table sets old then λ new.
+    admitted table (rows_beside old.0 rows) new then λ new.
+    rows_turned table sets (put int_cmp new.0 new.1 (rows_beside old.0 rows)) olds
+
 -- The rows for which the condition is true, or all where there is none, become what SET makes of them. The condition is asked of all
 -- rows before the first is set.
 abbrev pub rows_set : Table → List (ℕ × Term) → Option Term → List TableRow → Answer (List TableRow)
-rows_set table sets None rows = rows_meant_set table sets (λ row. true) rows
-rows_set table sets (Some condition) rows =
-    all_answers (map (tested condition) rows) then λ tests. rows_meant_set table sets (is_chosen condition) rows
+rows_set table sets condition rows = chosen_or_all condition rows then λ olds. rows_turned table sets rows olds
 
 -- ---- of a source's rows
 

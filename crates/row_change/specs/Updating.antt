@@ -1,16 +1,15 @@
 -- What UPDATE does to the tree of a table (SQL As Understood By SQLite, "UPDATE").
-use Rattle.std.specs.Prelude.{◌≡◌, ◌⊎◌, ℕ, true, List, [], ◌∷◌, length, Option, Ok, Err, Result, IfOk, MatchResult, ⊤, map}
+use Rattle.std.specs.Prelude.{◌≡◌, ◌⊎◌, ℕ, true, List, [], ◌∷◌, ◌++◌, length, Option, Ok, Err, Result, IfOk, MatchResult, ⊤, map}
 use Rattle.std.specs.Global.{Vec}
 use Rattle.sqlval.specs.Refusals.{refusal_of}
 use Rattle.sqlval.specs.declared.fault.Fault.{Fault}
-use Rattle.sqlval.specs.declared.fault.Fault.TheVariants as fault
 use Rattle.tree_leaf.specs.Leaf.{Entry}
 use Rattle.pages.specs.Calls.{IsOutsideOrFull}
 use Rattle.pages.specs.Map.{PageMap}
 use Rattle.tree_page.specs.Cells.{Pairwise}
 use Rattle.tree_table.specs.Calls.{Stands, BecomesRows}
 use Rattle.tree_table.specs.Rows.{with_replaced}
-use Rattle.catalog.specs.Listed.{plain_table}
+use Rattle.catalog.specs.Listed.{with_rows}
 use Rattle.catalog.specs.Rows.{are_rows}
 use Rattle.catalog.specs.declared.tables.Table.{Table}
 use Rattle.catalog.specs.declared.tables.TableRow as stored
@@ -18,10 +17,9 @@ use Rattle.query_terms.specs.Terms.{Term}
 use Rattle.query_terms.specs.Values.{Row}
 use Rattle.row_scan.specs.Rows.{IsRow, TableRow}
 use Rattle.row_scan.specs.Sources.{as_source}
-use Rattle.row_change.specs.Inserting.{AllStorable}
 use Rattle.row_change.specs.Meaning.{AreEnough}
 use Rattle.row_change.specs.NewRows.{row_of}
-use Rattle.row_change.specs.Setting.{rows_changed, rows_set}
+use Rattle.row_change.specs.Setting.{row_set, rows_changed, rows_set_each}
 
 -- the rows with these in place of those of their rowids
 abbrev pub with_all_replaced : List Entry → List Entry → List Entry
@@ -36,29 +34,21 @@ ReplacesRows old new size root edit result = (rows : List Entry) (used free : Li
 
 -- where the table may hold the rows, it may hold what became of them
 abbrev pub FitNow : Table → List TableRow → List TableRow → Type 0
-FitNow table rows now = are_rows (plain_table table rows) ≡ true → are_rows (plain_table table now) ≡ true
+FitNow table rows now = are_rows (with_rows table rows) ≡ true → are_rows (with_rows table now) ≡ true
 
 -- The tree has the rows that SET leaves.
 pub record AreSetIn (old new : PageMap) (size root : ℕ) (table : Table) (sets : List (ℕ × Term)) (condition : Option Term) (rows : List TableRow) (used free : List ℕ) : Type 0 where
   pub now : List TableRow
-  pub answer : rows_set table sets condition rows ≡ Ok now
+  pub answer : rows_set_each table sets condition rows ≡ Ok now
   pub entries : List Entry
   pub becomes : BecomesRows old new size root entries used free
   pub each : Pairwise (IsRow (length table.columns)) entries now
   pub fit : FitNow table rows now
 
--- no record can hold one of the rows that SET leaves
-pub record SetTooLong (table : Table) (sets : List (ℕ × Term)) (condition : Option Term) (rows : List TableRow) (f : Fault) : Type 0 where
-  pub is : f ≡ fault.TooLong
-  pub now : List TableRow
-  pub answer : rows_set table sets condition rows ≡ Ok now
-  pub long : AllStorable now → ⊥
-
--- Why rows aren't set: memory was short, a disk's call failed, or there are as many pages as there may be; the condition or an
--- expression is refused for a row, or a value is; or no record can hold a row.
+-- Why rows aren't set: memory was short, a disk's call failed, or there are as many pages as there may be; or the condition, an
+-- expression or what a row becomes is refused.
 abbrev pub IsSetRefusal : Table → List (ℕ × Term) → Option Term → List TableRow → Fault → Type 0
-IsSetRefusal table sets condition rows f =
-    IsOutsideOrFull f ⊎ ((rows_set table sets condition rows ≡ Err (refusal_of f)) ⊎ SetTooLong table sets condition rows f)
+IsSetRefusal table sets condition rows f = IsOutsideOrFull f ⊎ (rows_set_each table sets condition rows ≡ Err (refusal_of f))
 
 -- Where a tree has rows of a table, of which these are enough for the condition, those for which it is true, or all, become what SET makes of
 -- them, or the call is refused.
@@ -71,3 +61,20 @@ SetsRows old new size root table sets condition given result = (rows : List Tabl
 abbrev pub TellsChanged : Table → List (ℕ × Term) → Option Term → List Row → Result (Vec stored.TableRow) Fault → Type 0
 TellsChanged table sets condition given result = (rows : List TableRow) → AreEnough condition given rows
     → IfOk result (λ new. rows_changed table sets condition (map as_source rows) ≡ Ok (map row_of new.items))
+
+-- ---- one row
+
+-- The tree has what SET makes of the row, in its place.
+pub record IsSetIn (old new : PageMap) (size root : ℕ) (table : Table) (sets : List (ℕ × Term)) (before : List TableRow) (row : TableRow) (after : List TableRow) (used free : List ℕ) (set : TableRow) : Type 0 where
+  pub answer : row_set table sets row ≡ Ok set
+  pub entries : List Entry
+  pub becomes : BecomesRows old new size root entries used free
+  pub each : Pairwise (IsRow (length table.columns)) entries (before ++ set ∷ after)
+  pub fit : FitNow table (before ++ row ∷ after) (before ++ set ∷ after)
+
+-- Where a tree has a row of a table among others, it becomes what SET makes of it, or the call is refused.
+abbrev pub SetsRow : PageMap → PageMap → ℕ → ℕ → Table → List (ℕ × Term) → Row → Result stored.TableRow Fault → Type 0
+SetsRow old new size root table sets source result = (before : List TableRow) (row : TableRow) (after : List TableRow) (entries : List Entry) (used free : List ℕ)
+    → Stands old size root entries used free → Pairwise (IsRow (length table.columns)) entries (before ++ row ∷ after) → source ≡ as_source row
+    → MatchResult result (λ set. IsSetIn old new size root table sets before row after used free (row_of set))
+    (λ f. IsOutsideOrFull f ⊎ (row_set table sets row ≡ Err (refusal_of f)))

@@ -1,16 +1,25 @@
 //! What a table demands of a row by itself.
 
-ghost use Rattle.std.specs.Prelude.{◌≡◌, ◌&&◌, IfErr, map, not};
+ghost use Rattle.std.specs.Prelude.{◌≡◌, ◌&&◌, ◌∷◌, [], IfErr, IfOk, map, nat_le, not};
+ghost use Rattle.std.specs.List.{list_all};
 ghost use Rattle.sqlval.specs.Faults.{IsNotDiskFault};
+ghost use Rattle.record.specs.Writing.{AreStorable};
 ghost use Rattle.catalog.specs.Listed.{as_column};
 ghost use Rattle.query_names.specs.Keys as key;
 ghost use Rattle.query_terms.specs.Outcome.{AnswersBy};
-ghost use Rattle.row_change.specs.Constraints.{not_null_holds};
+ghost use Rattle.query_terms.specs.Rows.{row_at};
+ghost use Rattle.row_scan.specs.Sources.{as_source};
+ghost use Rattle.row_change.specs.Constraints as wanted;
+ghost use Rattle.row_change.specs.Constraints.{check_holds, checks_hold, not_null_holds};
 ghost use Rattle.row_change.specs.Demands.{demanded};
 ghost use Rattle.row_change.specs.NewRows.{row_of};
 
+use crate::setting::env_at;
 use catalog::{Column, Table, TableRow};
-use sqlval::{Fault, R, Value};
+use query_terms::{SourceRow, Term, holds};
+use record::{encode, records_hold_their_values};
+use sqlval::{Fault, Many, R, Value};
+use std::alloc::Global;
 
 /// Whether it is NULL.
 fn is_null(value: &Value) -> bool
@@ -39,13 +48,81 @@ fn take_all(columns: &[Column], values: &[Value]) -> bool
     true
 }
 
-/// Refuses a row that isn't as its table demands. (`NotNull` for NULL in a column that refuses it.)
-pub(crate) fn check_row(table: &Table, row: &TableRow) -> R<()>
+/// Whether it has at most 1,000,000 bytes, if it is a text or a blob.
+fn is_short(value: &Value) -> bool
+    ensures { result ≡ wanted.is_short value.now }
+{
+    match value {
+        Value::Text(text) => text.as_str().len() <= 1_000_000,
+        Value::Blob(bytes) => bytes.as_slice().len() <= 1_000_000,
+        _ => true,
+    }
+}
+
+/// Whether each is so.
+fn are_short(values: &[Value]) -> bool
+    ensures { result ≡ list_all wanted.is_short values.now }
+{
+    values.iter().all(|value| is_short(value))
+}
+
+/// Whether a record can hold these values.
+fn can_be_stored(values: &[Value]) -> bool
+    ensures { result ≡ wanted.can_be_stored values.now }
+{
+    values.len() <= 1000 && are_short(values)
+}
+
+/// The row as the only one of a source. (`Memory`.)
+fn source_of(alloc: Global, row: &TableRow) -> R<Many<SourceRow>>
+    requires { AreStorable (row_of row.now).1 }
+    ensures row { IfOk result (λ rows. rows ≡ as_source (row_of row.now) ∷ []) }
+    ensures memory { IfErr result (λ fault. fault ≡ Fault.Memory) }
+{
+    records_hold_their_values();
+    let payload = encode(alloc, &row.values)?;
+    let mut rows = Vec::new(alloc);
+    rows.push(SourceRow::new(alloc, Some(row.rowid), &payload)?)?;
+    Ok(Many::from_vec(rows))
+}
+
+/// Whether the first row passes a CHECK. (What the CHECK refuses for it.)
+fn passes(alloc: Global, check: &Term, rows: &Many<SourceRow>) -> R<bool>
+    ensures { AnswersBy (λ b. b) (check_holds (row_at rows.now 0) check.now) result }
+{
+    let picked = [0];
+    let env = env_at(rows, picked.as_slice());
+    Ok(holds(alloc, check, env)?.unwrap_or(true))
+}
+
+/// Refuses the first row if it fails a CHECK. (`Check`, and what the CHECKs refuse for it, in their order.)
+fn check_first(alloc: Global, checks: &[Term], rows: &Many<SourceRow>) -> R<()>
+    ensures { AnswersBy (λ done. tt) (checks_hold (row_at rows.now 0) checks.now) result }
+{
+    'checks: for check in checks {
+        if !passes(alloc, check, rows)? {
+            return Err(Fault::Check);
+        }
+    }
+    Ok(())
+}
+
+/// Refuses a row that isn't as its table demands. (`NotNull` for NULL in a column that refuses it; `TooLong` if no record can hold the row;
+/// `Check`, and what the CHECKs refuse for it.)
+pub(crate) fn check_row(alloc: Global, table: &Table, row: &TableRow) -> R<()>
     ensures demanded { AnswersBy (λ done. row_of row.now) (demanded table.now (row_of row.now)) result }
     ensures not_disk { IfErr result (λ fault. IsNotDiskFault fault) }
 {
-    if take_all(table.columns.as_slice(), &row.values) {
+    if !take_all(table.columns.as_slice(), &row.values) {
+        return Err(Fault::NotNull);
+    }
+    if !can_be_stored(&row.values) {
+        return Err(Fault::TooLong);
+    }
+    let checks = table.checks.as_slice();
+    if checks.is_empty() {
         return Ok(());
     }
-    Err(Fault::NotNull)
+    let rows = source_of(alloc, row)?;
+    check_first(alloc, checks, &rows)
 }

@@ -85,7 +85,7 @@ fn stored_values(
 
 /// Builds the row to insert after `last`: converts each value to its column's affinity, takes the next rowid, and looks at what the table
 /// demands. (`RealRefused`, `RowidFull`, and what `check_row` refuses, in this order.)
-fn new_row(
+pub(crate) fn new_row(
     alloc: Global,
     table: &Table,
     places: &[Option<usize>],
@@ -98,7 +98,7 @@ fn new_row(
     let values = stored_values(alloc, table.columns.as_slice(), places, given)?;
     let rowid = next_rowid(last)?;
     let row = TableRow { rowid, values };
-    check_row(table, &row)?;
+    check_row(alloc, table, &row)?;
     Ok(row)
 }
 
@@ -162,7 +162,7 @@ fn payload_of(alloc: Global, values: &[Value]) -> R<Vec<u8>>
 }
 
 /// The record of a new row.
-fn record_for(alloc: Global, row: &TableRow) -> R<RowRecord>
+pub(crate) fn record_for(alloc: Global, row: &TableRow) -> R<RowRecord>
     ensures written { IfOk result (λ made. IsWritten (row_of row.now) (entry_in made)) }
     ensures refused { IfErr result (λ fault. (fault ≡ Fault.Memory)
         ⊎ ((fault ≡ Fault.TooLong) × (AreStorable (row_of row.now).1 → ⊥))) }
@@ -188,7 +188,7 @@ pub(crate) fn records_of(alloc: Global, rows: &[TableRow]) -> R<Vec<RowRecord>>
 }
 
 /// The change of the row of a rowid to this one, with its record.
-fn change_for(alloc: Global, row: &TableRow) -> R<RowChange>
+pub(crate) fn change_for(alloc: Global, row: &TableRow) -> R<RowChange>
     ensures made { IfOk result (λ made. IsWritten (row_of row.now) (entry_left made)) }
     ensures some { IfOk result IsReplacement }
     ensures refused { IfErr result (λ fault. (fault ≡ Fault.Memory)

@@ -4,13 +4,13 @@ ghost use Rattle.std.specs.Prelude.{◌≡◌, map, IsTrue};
 ghost use Rattle.pages.specs.Calls.{Causes};
 ghost use Rattle.row_change.specs.NewRows.{entry_in};
 ghost use Rattle.row_change.specs.Putting.{PutsAfter, PutsLast};
-ghost use Rattle.row_change.specs.Trees.{PutsRows, TellsAdded};
+ghost use Rattle.row_change.specs.Trees.{PutsRow, PutsRows, TellsAdded};
 
-use crate::inserting::{RowRecord, new_rows, records_of};
-use catalog::TableRow;
+use crate::inserting::{RowRecord, new_row, new_rows, record_for, records_of};
+use catalog::{Table, TableRow};
 use pages::WritePages;
 use query_names::BoundInsert;
-use sqlval::{Damage, Fault, R};
+use sqlval::{Damage, Fault, R, Value};
 use std::alloc::Global;
 use tree_table::{insert, last};
 
@@ -51,9 +51,8 @@ fn put_records<P: WritePages>(
     Ok(())
 }
 
-/// Puts the rows of an INSERT into the tree of their table, after its own, and answers them. Row by row, a real is `RealRefused`, a row
-/// after the greatest rowid of all is `RowidFull`, and NULL in a column that refuses it is `NotNull`; only then a row that no record can hold
-/// is `TooLong`. (`Memory`, `Io`, `Full`.)
+/// Puts the rows of an INSERT into the tree of their table, after its own, and answers them. Nothing is put before all are known. (What
+/// `new_row` refuses, row by row; `Memory`, `Io`, `Full`.)
 pub fn put_new_rows<P: WritePages>(
     alloc: Global,
     pages: &mut P,
@@ -82,4 +81,28 @@ pub fn put_new_rows<P: WritePages>(
     let records = records_of(alloc, &added)?;
     put_records(alloc, pages, table.root, &records)?;
     Ok(added)
+}
+
+/// Puts a row of an INSERT into the tree of its table, after its own, and answers it. `last` is the last rowid there. (What `new_row` refuses;
+/// `Memory`, `Io`, `Full`.)
+pub fn put_new_row<P: WritePages>(
+    alloc: Global,
+    pages: &mut P,
+    table: &Table,
+    places: &[Option<usize>],
+    given: &[Value],
+    last: Option<i64>,
+) -> R<TableRow>
+    ensures put { IsTrue (P.Pages.tells (P.Pages.below pages.old))
+        → PutsRow (P.Pages.map pages.old) (P.Pages.map pages.new)
+        (P.Pages.limits (P.Pages.below pages.old)).page
+        table.now.root table.now places.now given.now last result }
+    ensures kept { P.Pages.below pages.new ≡ P.Pages.below pages.old }
+    ensures causes { Causes result (P.Pages.failures pages.old) (P.Pages.failures pages.new)
+        (P.Pages.count pages.new ≡ (P.Pages.limits (P.Pages.below pages.new)).most) }
+{
+    let row = new_row(alloc, table, places, given, last)?;
+    let written = record_for(alloc, &row)?;
+    put_record(alloc, pages, table.root, &written)?;
+    Ok(row)
 }

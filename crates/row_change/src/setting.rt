@@ -20,7 +20,7 @@ use std::alloc::Global;
 use std::array::from_ref;
 
 /// What an expression is evaluated over where the row at a place is picked.
-fn env_at<'a>(rows: &'a Many<SourceRow>, picked: &'a [usize]) -> Env<'a>
+pub(crate) fn env_at<'a>(rows: &'a Many<SourceRow>, picked: &'a [usize]) -> Env<'a>
     ensures { seen result ≡ env_of (picked_rows (rows.now ∷ []) picked.now) }
 {
     Env {
@@ -158,8 +158,22 @@ fn changed_row(
     let values = stored(alloc, table.columns.as_slice(), &values)?;
     let rowid = rowid_at(rows, place);
     let row = TableRow { rowid, values };
-    check_row(table, &row)?;
+    check_row(alloc, table, &row)?;
     Ok(row)
+}
+
+/// The same, by itself: no disk refuses it. (What `changed_row` refuses.)
+pub(crate) fn row_set_at(
+    alloc: Global,
+    table: &Table,
+    sets: &[(usize, Term)],
+    rows: &Many<SourceRow>,
+    place: usize,
+) -> R<TableRow>
+    ensures set { AnswersBy row_of (source_set table.now sets.now (row_at rows.now place)) result }
+    ensures not_disk { IfErr result (λ fault. IsNotDiskFault fault) }
+{
+    changed_row(alloc, table, sets, rows, place)
 }
 
 /// What the rows at these places become by SET. (What `changed_row` refuses, in order.)

@@ -2,16 +2,18 @@
 
 ghost use Rattle.std.specs.Prelude.{◌≡◌, IsTrue};
 ghost use Rattle.pages.specs.Calls.{Causes};
+ghost use Rattle.query_terms.specs.Rows.{row_at};
 ghost use Rattle.row_change.specs.Agreement.{UpdatesSome};
-ghost use Rattle.row_change.specs.Updating.{SetsRows, TellsChanged};
+ghost use Rattle.row_change.specs.Updating.{SetsRow, SetsRows, TellsChanged};
 
-use crate::inserting::changes_of;
-use crate::setting::changed_rows;
+use crate::inserting::{change_for, changes_of};
+use crate::setting::{changed_rows, row_set_at};
 use catalog::{Table, TableRow, named_databases_are_one, other_rows_are_listed};
 use pages::WritePages;
 use query_terms::{SourceRow, Term};
 use sqlval::{Many, R};
 use std::alloc::Global;
+use std::array::from_ref;
 use tree_table::change_rows;
 
 /// An UPDATE that sets off no trigger leaves the table with what SET makes of its rows, or is refused as they are.
@@ -24,8 +26,7 @@ pub fn update_sets_its_rows()
 
 /// Sets values in the rows of a table's tree for which a condition is true, or in all where there is none, and answers what these rows have
 /// become. The rows given are enough of the table's for the condition. They are chosen before the first is set. (What the condition, SET's
-/// expressions and `change_rows` refuse, a real, `NotNull` for NULL in a column that refuses it, and `TooLong` for a row that no record can
-/// hold; only what `change_rows` refuses leaves rows that are set.)
+/// expressions, `check_row` and `change_rows` refuse, and a real; only what `change_rows` refuses leaves rows that are set.)
 pub fn set_new_rows<P: WritePages>(
     alloc: Global,
     pages: &mut P,
@@ -46,5 +47,29 @@ pub fn set_new_rows<P: WritePages>(
     let new = changed_rows(alloc, table, sets, rows, condition)?;
     let changes = changes_of(alloc, &new)?;
     change_rows(alloc, pages, table.root, &changes)?;
+    Ok(new)
+}
+
+/// Sets values in one row of a table's tree, which is the row at a place, and answers what it has become. (What SET's expressions, `check_row`
+/// and `change_rows` refuse, and a real; only what `change_rows` refuses leaves it set.)
+pub fn set_row<P: WritePages>(
+    alloc: Global,
+    pages: &mut P,
+    table: &Table,
+    sets: &[(usize, Term)],
+    rows: &Many<SourceRow>,
+    place: usize,
+) -> R<TableRow>
+    ensures set { IsTrue (P.Pages.tells (P.Pages.below pages.old))
+        → SetsRow (P.Pages.map pages.old) (P.Pages.map pages.new)
+        (P.Pages.limits (P.Pages.below pages.old)).page
+        table.now.root table.now sets.now (row_at rows.now place) result }
+    ensures kept { P.Pages.below pages.new ≡ P.Pages.below pages.old }
+    ensures causes { Causes result (P.Pages.failures pages.old) (P.Pages.failures pages.new)
+        (P.Pages.count pages.new ≡ (P.Pages.limits (P.Pages.below pages.new)).most) }
+{
+    let new = row_set_at(alloc, table, sets, rows, place)?;
+    let change = change_for(alloc, &new)?;
+    change_rows(alloc, pages, table.root, from_ref(&change).as_slice())?;
     Ok(new)
 }

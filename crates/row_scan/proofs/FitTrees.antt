@@ -28,7 +28,7 @@ use Rattle.tree_page.specs.Cells.{Pairwise}
 use Rattle.tree_table.specs.Rows.{rows_from}
 use Rattle.tree_table.specs.Scanning.{BeginsAll, GivesBatch}
 use Rattle.tree_table.specs.Tree.{IsTableTree}
-use Rattle.catalog.specs.Listed.{as_column, plain_table}
+use Rattle.catalog.specs.Listed.{as_column, with_rows}
 use Rattle.catalog.specs.Rows.{is_row, is_value}
 use Rattle.catalog.specs.declared.tables.Column.{Column}
 use Rattle.catalog.specs.declared.tables.Table.{Table}
@@ -122,12 +122,12 @@ plain_rows width [] (row ∷ rows) each = absurd each
 plain_rows width (entry ∷ entries) [] each = absurd each
 plain_rows width (entry ∷ entries) (row ∷ rows) each = (each.0.is, plain_rows width entries rows each.1)
 
-each_fit : (t : Table) (held : List TableRow) (width : ℕ) (entries : List Entry) (rows : List TableRow) → width ≡ length t.columns → Pairwise (IsFitRow width) entries rows → list_all (is_row (plain_table t held)) rows ≡ true
+each_fit : (t : Table) (held : List TableRow) (width : ℕ) (entries : List Entry) (rows : List TableRow) → width ≡ length t.columns → Pairwise (IsFitRow width) entries rows → list_all (is_row (with_rows t held)) rows ≡ true
 each_fit t held width [] [] same each = refl
 each_fit t held width [] (row ∷ rows) same each = absurd each
 each_fit t held width (entry ∷ entries) [] same each = absurd each
 each_fit t held width (entry ∷ entries) (row ∷ rows) same each =
-    both_true (is_row (plain_table t held) row) (list_all (is_row (plain_table t held)) rows)
+    both_true (is_row (with_rows t held) row) (list_all (is_row (with_rows t held)) rows)
     (both_true (is_word row.0 && length row.1 == length (map as_column t.columns) && list_all is_value row.1) true
     (both_true (is_word row.0 && length row.1 == length (map as_column t.columns)) (list_all is_value row.1)
     (both_true (is_word row.0) (length row.1 == length (map as_column t.columns)) each.0.word
@@ -141,7 +141,7 @@ holds_fit pages size root width entries used tree have =
     record {
       rows = have.0;
       each = each;
-      fit = λ t same. both_true (is_rising int_cmp (map (λ r. r.0) have.0)) (list_all (is_row (plain_table t have.0)) have.0)
+      fit = λ t same. both_true (is_rising int_cmp (map (λ r. r.0) have.0)) (list_all (is_row (with_rows t have.0)) have.0)
           (rowids_rise width entries have.0 (tree_rises pages size root entries used tree) each) (each_fit t have.0 width entries have.0 same have.1);
     }
 
@@ -150,7 +150,7 @@ column = record { name = []; affinity = to.Blob; collation = Binary; is_filled =
 
 -- a table of so many columns
 abbrev some_table : ℕ → Table
-some_table width = record { name = []; columns = replicate width column; indexes = []; root = 0; rowid = pos 0 }
+some_table width = record { name = []; columns = replicate width column; checks = []; indexes = []; root = 0; rowid = pos 0 }
 
 word_first : (a b c : Bool) → (a && b && c && true) ≡ true → a ≡ true
 word_first true b c e = refl
@@ -162,24 +162,24 @@ values_last true true false e = absurd (false≢true e)
 values_last true false c e = absurd (false≢true e)
 values_last false b c e = absurd (false≢true e)
 
-fit_each : (t : Table) (held : List TableRow) (width : ℕ) (entries : List Entry) (rows : List TableRow) → Pairwise (IsRow width) entries rows → list_all (is_row (plain_table t held)) rows ≡ true → Pairwise (IsFitRow width) entries rows
+fit_each : (t : Table) (held : List TableRow) (width : ℕ) (entries : List Entry) (rows : List TableRow) → Pairwise (IsRow width) entries rows → list_all (is_row (with_rows t held)) rows ≡ true → Pairwise (IsFitRow width) entries rows
 fit_each t held width [] [] each fit = tt
 fit_each t held width [] (row ∷ rows) each fit = absurd each
 fit_each t held width (entry ∷ entries) [] each fit = absurd each
 fit_each t held width (entry ∷ entries) (row ∷ rows) each fit =
-    let one = first_of (is_row (plain_table t held) row) (list_all (is_row (plain_table t held)) rows) fit in
+    let one = first_of (is_row (with_rows t held) row) (list_all (is_row (with_rows t held)) rows) fit in
     let a = is_word row.0 in
     let b = length row.1 == length (map as_column t.columns) in
     let c = list_all is_value row.1 in (
       record { is = each.0; word = word_first a b c one; values = values_last a b c one },
-      fit_each t held width entries rows each.1 (second_of (is_row (plain_table t held) row) (list_all (is_row (plain_table t held)) rows) fit),
+      fit_each t held width entries rows each.1 (second_of (is_row (with_rows t held) row) (list_all (is_row (with_rows t held)) rows) fit),
     )
 
 pub fit_rows : (width : ℕ) (entries : List Entry) (rows : List TableRow) → Pairwise (IsRow width) entries rows → AreFitRows width rows → Pairwise (IsFitRow width) entries rows
 fit_rows width entries rows each fit =
     let t = some_table width in
     let all = fit t (sym (length-replicate width column)) in
-    fit_each t rows width entries rows each (second_of (is_rising int_cmp (map (λ r. r.0) rows)) (list_all (is_row (plain_table t rows)) rows) all)
+    fit_each t rows width entries rows each (second_of (is_rising int_cmp (map (λ r. r.0) rows)) (list_all (is_row (with_rows t rows)) rows) all)
 
 -- ---- batch by batch
 

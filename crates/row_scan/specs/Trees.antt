@@ -9,7 +9,7 @@ use Rattle.tree_leaf.specs.Leaf.{Entry}
 use Rattle.pages.specs.Map.{PageMap, AreWhole}
 use Rattle.tree_page.specs.Cells.{Pairwise}
 use Rattle.tree_table.specs.Tree.{IsTableTree}
-use Rattle.catalog.specs.Listed.{plain_table}
+use Rattle.catalog.specs.Listed.{with_rows}
 use Rattle.catalog.specs.Rows.{are_rows, is_value}
 use Rattle.catalog.specs.declared.tables.Table.{Table}
 use Rattle.row_scan.specs.Rows.{IsRow, TableRow}
@@ -30,7 +30,7 @@ AnswersOrFails view answer (Err fault) = IsOutside fault ⊎ (answer ≡ Err (re
 
 -- the rows are such as a table of so many columns may hold
 abbrev pub AreFitRows : ℕ → List TableRow → Type 0
-AreFitRows width rows = (t : Table) → width ≡ length t.columns → are_rows (plain_table t rows) ≡ true
+AreFitRows width rows = (t : Table) → width ≡ length t.columns → are_rows (with_rows t rows) ≡ true
 
 -- The entries are rows of so many values, such as a table of so many columns may hold.
 pub record HoldsFit (entries : List Entry) (width : ℕ) : Type 0 where

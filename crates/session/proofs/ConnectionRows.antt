@@ -2,9 +2,10 @@
 use Rattle.std.specs.Prelude.{◌≡◌, Bool, true, false, refl, ℕ, zero, suc, pos, codes, None, Some, Err, List, [], ◌∷◌, ◌++◌}
 use Rattle.std.proofs.Common.{inl, inr, arith, sym, subst, ◌⊎◌}
 use mathlib.Core.Bool.{true≢false}
-use Rattle.sqlval.specs.Refusals.{Busy, Exists, StaleSnapshot, NoTransaction, NoSavepoint, InTransaction, Misuse, NoSuch, Raised, RaisedRollback, TooLong, Unsupported}
+use Rattle.sqlval.specs.Refusals.{Busy, Exists, StaleSnapshot, NoTransaction, NoSavepoint, InTransaction, Misuse, NoSuch, Raised, RaisedRollback, TooLong, Unique, Unsupported}
 use Rattle.sqlval.specs.declared.value.Value.{Value}
 use Rattle.sql_syntax.specs.Tree.{Binary, Raise}
+use Rattle.sql_syntax.specs.declared.create.ColumnRule.TheVariants as column
 use Rattle.sql_syntax.specs.declared.create.NewObject.TheVariants as new
 use Rattle.sql_syntax.specs.declared.create.TriggerEvent.TheVariants.{Insert, Delete}
 use Rattle.sql_syntax.specs.declared.create.TriggerStatement.TheVariants as program
@@ -69,6 +70,12 @@ pub indexed : replies (fresh []) ((1, create) ∷ (1, add 1) ∷ (2, indexing fa
     ≡ ok ∷ ok ∷ ok ∷ Refused Exists ∷ ok ∷ Rows (i 1 ∷ i 2 ∷ []) ∷ ok ∷ Refused NoSuch ∷ []
 unfolding outcome
 indexed = refl
+
+-- of two rows with one key the second is refused where the index is UNIQUE, and such an index isn't made over them
+pub unique_indexed : replies (fresh []) ((1, create) ∷ (1, add 1) ∷ (1, indexing true) ∷ (1, add 1) ∷ (1, add 2) ∷ (1, dropping) ∷ (1, add 1) ∷ (1, indexing true) ∷ [])
+    ≡ ok ∷ ok ∷ ok ∷ Refused Unique ∷ ok ∷ ok ∷ ok ∷ Refused Unique ∷ []
+unfolding outcome
+unique_indexed = refl
 
 pub snapshots : replies (fresh []) ((1, create) ∷ (1, add 1) ∷ (1, begin) ∷ (1, read) ∷ (2, add 2) ∷ (1, read) ∷ (1, add 3) ∷ (1, statement.Commit) ∷ (1, add 3) ∷ (1, read) ∷ [])
     ≡ ok ∷ ok ∷ ok ∷ Rows (i 1 ∷ []) ∷ ok ∷ Rows (i 1 ∷ []) ∷ Refused StaleSnapshot ∷ ok ∷ ok ∷ Rows (i 1 ∷ i 2 ∷ i 3 ∷ []) ∷ []
@@ -151,8 +158,8 @@ inserted = inr (inr (refl, refl, inl (inr (no_faults_behind one (insert t (numbe
 pub inserted_so_far : StepSoFar (fresh one) 1 (add 1) (Rows []) (after_commit (fresh one) 1 (with_object one t (table (col a ∷ []) ((pos 1, i 1) ∷ []))))
 inserted_so_far = inl (refl, inl inserted)
 
--- CREATE UNIQUE INDEX x ON t(a)
-pub unsupported_form : StepSoFar (fresh one) 1 (indexing true) (Refused Unsupported) (fresh one)
+-- CREATE TABLE x(a UNIQUE)
+pub unsupported_form : StepSoFar (fresh one) 1 (create_table x (column_with a [] (column.Unique ∷ []) ∷ [])) (Refused Unsupported) (fresh one)
 unsupported_form = inr (refl, refl, inr (inr (refl, refl, inl refl)))
 
 -- g AFTER DELETE ON t WHEN OLD.a = 99: DELETE FROM nosuch. DELETE FROM t, where t has no row

@@ -4,16 +4,16 @@ ghost use Rattle.std.specs.Prelude.{◌≡◌};
 ghost use Rattle.db_pages.specs.Forms as object_forms;
 ghost use Rattle.executor.specs.Forms as supported_forms;
 
-use query_names::has_plain_rules;
+use query_names::has_no_keys;
 use sql_syntax::{NewObject, Statement};
 
-/// Whether it is a table without keys and CHECKs, or an index that isn't UNIQUE.
+/// Whether it is a table without keys, or an index.
 fn is_object_supported(object: &NewObject) -> bool
     ensures { result ≡ object_forms.is_object_supported object.now }
 {
     match object {
-        NewObject::Table(table) => has_plain_rules(table),
-        NewObject::Index(index) => !index.is_unique,
+        NewObject::Table(table) => has_no_keys(table),
+        NewObject::Index(_) => true,
         _ => false,
     }
 }

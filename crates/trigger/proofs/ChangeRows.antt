@@ -1,8 +1,8 @@
 -- Worked examples of changes: places by name, defaults, rowids, constraints, and rows that BEFORE triggers change.
-use Rattle.std.specs.Prelude.{◌≡◌, refl, ℕ, ℤ, pos, negsuc, Ok, Err, codes, None, Some, List, [], ◌∷◌}
+use Rattle.std.specs.Prelude.{◌≡◌, refl, ℕ, negsuc, Ok, Err, codes, None, Some, List, [], ◌∷◌}
 use Rattle.sqlval.specs.Refusals.{Answer, ◌then◌, Ambiguous, NoSuch, NotNull, TypeRefused, ViewReadOnly}
 use Rattle.sqlval.specs.declared.value.Value.{Value}
-use Rattle.sqlval.specs.declared.value.Value.TheVariants.{Null, Int}
+use Rattle.sqlval.specs.declared.value.Value.TheVariants.{Int}
 use Rattle.sql_syntax.specs.Tree as tree
 use Rattle.sql_syntax.specs.Tree.{Tree}
 use Rattle.sql_syntax.specs.declared.change.Change.{Change}

@@ -1,5 +1,5 @@
--- A database that only has tables and indexes that aren't UNIQUE.
-use Rattle.std.proofs.Common.{◌≡◌, refl, sym, ap, subst, ◌∙◌, ℕ, zero, suc, ◌<◌, Bool, true, false, ◌&&◌, ◌||◌, List, [], ◌∷◌, ◌++◌, Option, Some, None, Ok, Err, map, length, ℤ, pos, arith}
+-- A database that only has tables and indexes.
+use Rattle.std.proofs.Common.{◌≡◌, refl, sym, ap, subst, ◌∙◌, ℕ, zero, suc, ◌<◌, Bool, true, false, ◌&&◌, List, [], ◌∷◌, ◌++◌, Option, Some, None, Ok, Err, map, length, ℤ, pos, arith}
 use Rattle.std.specs.Prelude.{filter, flat_map, not, Contains}
 use Rattle.std.proofs.lemmas.Bool.{false≢true}
 use Rattle.sqlval.specs.Names.{folded}
@@ -11,10 +11,10 @@ use Rattle.sql_syntax.specs.declared.change.Insert.{Insert}
 use Rattle.sql_syntax.specs.declared.change.Change.TheVariants as statement
 use Rattle.catalog.specs.Database as database
 use Rattle.catalog.specs.Database.{Name, Database, Object, ATable, AnIndex, AView, ATrigger, object, triggers_of, with_object}
-use Rattle.catalog.specs.Listed.{has_only_plain, plain_table}
+use Rattle.catalog.specs.Listed.{has_only_plain, with_rows}
 use Rattle.catalog.specs.declared.tables.Table.{Table}
 use Rattle.query_names.specs.Checked.{Checked, Meant, faults, known_then}
-use Rattle.query_names.specs.Readings.{env_of, holds, values}
+use Rattle.query_names.specs.Readings.{holds}
 use Rattle.query_terms.specs.Terms.{Term}
 use Rattle.query_terms.specs.Values.{Row}
 use Rattle.query_names.specs.Views.{table_rows}
@@ -37,7 +37,7 @@ rest false c h = h
 no_triggers : (db : Database) (name : Name) → has_only_plain db ≡ true → triggers_of db name ≡ []
 no_triggers [] name h = refl
 no_triggers ((n, ATable t) ∷ db) name h = no_triggers db name h
-no_triggers ((n, AnIndex i) ∷ db) name h = no_triggers db name (rest (i.is_unique || i.is_automatic) (has_only_plain db) h)
+no_triggers ((n, AnIndex i) ∷ db) name h = no_triggers db name (rest i.is_automatic (has_only_plain db) h)
 no_triggers ((n, AView v) ∷ db) name h = absurd (false≢true h)
 no_triggers ((n, ATrigger t) ∷ db) name h = absurd (false≢true h)
 
@@ -87,17 +87,17 @@ row_by_row run db i t places source is bound =
 
 pub insert_refused : InsertIsRefused
 insert_refused db i table rows places source r is bound e =
-    row_by_row (programs 64) db i (plain_table table rows) places source is bound ∙ ap (all_put (programs 64) db i places) e
+    row_by_row (programs 64) db i (with_rows table rows) places source is bound ∙ ap (all_put (programs 64) db i places) e
 
 pub none_stays : InsertOfNoneStays
 none_stays db i table rows places source is bound e =
-    row_by_row (programs 64) db i (plain_table table rows) places source is bound ∙ ap (all_put (programs 64) db i places) e
+    row_by_row (programs 64) db i (with_rows table rows) places source is bound ∙ ap (all_put (programs 64) db i places) e
 
 pub insert_adds : InsertsRows → InsertAddsRows
-insert_adds adds db i table rows places source by_column given only is fit bound e set some =
-    row_by_row (programs 64) db i (plain_table table rows) places source is bound
+insert_adds adds db i table rows places source by_column given only has is fit bound e set some =
+    row_by_row (programs 64) db i (with_rows table rows) places source is bound
     ∙ (ap (all_put (programs 64) db i places) e
-    ∙ adds (fired (programs 64) []) (folded i.table) places db table by_column rows given (sets_nothing_off (programs 64) []) only is fit set some)
+    ∙ adds (fired (programs 64) []) (folded i.table) places db table by_column rows given (sets_nothing_off (programs 64) []) only has is fit set some)
 
 -- ---- DELETE
 
@@ -140,7 +140,7 @@ all_rows_go run db d t is bound =
 
 pub delete_takes : DeletesRows → DeleteTakesRows
 delete_takes takes db d table rows only named is fit bound =
-    all_rows_go (programs 64) db d (plain_table table rows) is bound
+    all_rows_go (programs 64) db d (with_rows table rows) is bound
     ∙ takes (fired (programs 64) []) (folded d.table) db table rows (sets_nothing_off (programs 64) []) only named is fit
 
 -- ---- a DELETE with a condition
@@ -191,7 +191,7 @@ told_on : {A B C E : Type 0} (b : Answer A) (x : B) (f : B → Answer C) (g : E 
 told_on (Ok ts) x f g y e = e
 told_on (Err r) x f g y e = refl
 
-chosen_go : (run : Runner) (db : Database) (d : Delete) (table : Table) (rows : List TableRow) (w : Term) → table_of db (folded d.table) ≡ Ok (plain_table table rows)
+chosen_go : (run : Runner) (db : Database) (d : Delete) (table : Table) (rows : List TableRow) (w : Term) → table_of db (folded d.table) ≡ Ok (with_rows table rows)
     → resolve_change db no_outer (statement.Delete d) ≡ Meant (Deletes (folded d.table) (Some w)) []
     → change_with run [] no_outer db (statement.Delete d)
     ≡ ((all_answers (map (tested w) rows) then λ ts. told (map as_source (filter (is_chosen w) rows))) then λ rs. fold_answer (delete_row (fired run []) (folded d.table)) db (map id_of rs))
@@ -202,12 +202,12 @@ chosen_go run db d table rows w is bound =
   where
     in_table : run_resolved run [] no_outer db (Deletes (folded d.table) (Some w))
         ≡ ((all_answers (map (one_chosen w) (map as_source rows)) then chosen_of) then λ rs. fold_answer (delete_row (fired run []) (folded d.table)) db (map id_of rs))
-    in_table = rw (is_there (object db (folded d.table)) (plain_table table rows) is) refl
+    in_table = rw (is_there (object db (folded d.table)) (with_rows table rows) is) refl
 
 pub delete_takes_chosen : DeletesSome → DeleteTakesChosen
 delete_takes_chosen takes db d table rows w only named is fit bound =
     chosen_go (programs 64) db d table rows w is bound
     ∙ told_on (all_answers (map (tested w) rows)) (map as_source (filter (is_chosen w) rows)) (λ rs. fold_answer (delete_row (fired (programs 64) []) (folded d.table)) db (map id_of rs))
-    (λ left. with_object db (folded d.table) (ATable (plain_table table left))) (filter (λ row. not (is_chosen w row)) rows)
+    (λ left. with_object db (folded d.table) (ATable (with_rows table left))) (filter (λ row. not (is_chosen w row)) rows)
     (ap (fold_answer (delete_row (fired (programs 64) []) (folded d.table)) db) (source_ids (filter (is_chosen w) rows))
     ∙ takes (fired (programs 64) []) (folded d.table) db table rows (is_chosen w) (sets_nothing_off (programs 64) []) only named is fit)

@@ -2,7 +2,8 @@
 
 use disk_cache::CachedDisk;
 use disk_file::{FileDisk, sync_folder};
-use engine::{Engine, Refused, create, put_reply};
+use engine::{Engine, Refused, Rows, create, put_reply};
+use messages::put_message;
 use sqlval::{Fault, R};
 use std::alloc::Global;
 use std::fs::File;
@@ -83,14 +84,26 @@ fn start<F: Files<File = File>>(
     open_or_create(alloc, opened, options)
 }
 
-/// Writes a refusal as a line of output.
-fn show<O: Write>(alloc: Global, output: &mut O, fault: Fault) -> u8 {
+/// Writes a reply to a start, which was refused, as a line of output.
+fn show<O: Write>(alloc: Global, output: &mut O, reply: &R<Rows>) {
     let mut line = Vec::new(alloc);
-    if put_reply(alloc, &mut line, &Err(fault)).is_ok() {
+    if put_reply(alloc, &mut line, reply).is_ok() {
         let _ = output.write_all(&line);
         let _ = output.flush();
     }
-    REFUSED
+}
+
+/// Says to a person why a start is refused: the file, and the message of the refusal.
+fn report<E: Write>(alloc: Global, errors: &mut E, name: &str, reply: &R<Rows>) {
+    let Err(fault) = reply else {
+        return;
+    };
+    let mut message = Vec::new(alloc);
+    if put_message(&mut message, fault).is_ok() {
+        let _ = write!(errors, "walsql: {name}: ");
+        let _ = errors.write_all(&message);
+        let _ = errors.write_all(b"\n");
+    }
 }
 
 /// Writes why the arguments are refused, or the help if they ask for it.
@@ -115,8 +128,8 @@ fn explain<O: Write, E: Write>(output: &mut O, errors: &mut E, refused: &ArgsErr
 }
 
 /// Runs the input's lines on the database that the arguments name. Answers the exit status: 0 at the end of input or after
-/// help; 1 if the database can't be opened or created, which a line of output says, or if memory, input or output fails; 2 for
-/// bad arguments, which `errors` explains.
+/// help; 1 if the database can't be opened or created, which a line of output says and one of `errors` explains, or if memory, input
+/// or output fails; 2 for bad arguments, which `errors` explains.
 pub fn program<F: Files<File = File>, I: BufRead, O: Write, E: Write>(
     files: &F,
     alloc: Global,
@@ -131,7 +144,12 @@ pub fn program<F: Files<File = File>, I: BufRead, O: Write, E: Write>(
     };
     let mut engine = match start(files, alloc, &options) {
         Ok(engine) => engine,
-        Err(fault) => return show(alloc, output, fault),
+        Err(fault) => {
+            let refused = Err(fault);
+            show(alloc, output, &refused);
+            report(alloc, errors, options.name, &refused);
+            return REFUSED;
+        }
     };
     match engine.run(input, output) {
         Ok(()) => SUCCESS,

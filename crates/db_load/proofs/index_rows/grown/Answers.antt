@@ -1,5 +1,5 @@
 use Rattle.std.proofs.lemmas.Int.{to_z-of_z}
-use Rattle.std.proofs.Common.{◌≡◌, rules, SFits, w64, refl, sym, subst, not, ap}
+use Rattle.std.proofs.Common.{◌≡◌, rules, SFits, w64, refl, sym, subst}
 use Rattle.sql_syntax.specs.declared.create.IndexDefinition.{IndexDefinition}
 use Rattle.sql_syntax.specs.declared.create.NewObject.TheVariants as new
 use Rattle.catalog.specs.Listed.{tables_of}
@@ -23,7 +23,7 @@ returns-clause-tells c = λ table index tells made is of can.
     let fits : SFits w64 c.args.row.now.rowid = search rules in
     let d = c.in_ok-definition.definition.now in
     let same : d ≡ tells.definition = c.in_ok-definition.ensures.tells made tells.definition is of in
-    grown_as_told tables table c.in_ok-bound.bound.table.now index _ c.args.row.now d c.with_index.result can tells same (c.in_ok-bound.ensures.found (sound_once tables can.sound)) c.in_ok-name.ensures refl (to_z-of_z w64 c.args.row.now.rowid fits)
+    grown_as_told tables table c.in_ok-bound.bound.table.now index _ c.args.row.now d c.with_index.result can tells same (c.in_ok-bound.ensures.found (sound_once tables can.sound)) c.in_ok-name.ensures refl refl (to_z-of_z w64 c.args.row.now.rowid fits)
     c.with_index.ensures)
 
 pub returns-clause-found : goal.returns-clause-found
@@ -33,5 +33,5 @@ returns-clause-found c = λ is once.
     let names = c.in_ok-is_of_index_row.ensures.found in
     let d = c.in_ok-definition.definition.now in
     grown_found (tables_of c.args.catalog.now) c.in_ok-bound.bound.table.now _ c.args.row.now d c.with_index.result
-    (created c.args.row.now.sql.now c.args.statement.now found.0 (new.Index d) found.1 found.2 is.0 is.1 is.2, ap not names.plain) names
-    (c.in_ok-bound.ensures.found once) c.in_ok-name.ensures refl (to_z-of_z w64 c.args.row.now.rowid fits) c.with_index.ensures)
+    (created c.args.row.now.sql.now c.args.statement.now found.0 (new.Index d) found.1 found.2 is.0 is.1 is.2, refl) names
+    (c.in_ok-bound.ensures.found once) c.in_ok-name.ensures refl refl (to_z-of_z w64 c.args.row.now.rowid fits) c.with_index.ensures)

@@ -11,7 +11,7 @@ use Rattle.executor.proofs.IndexCreations.{Laws, refused_names, refused_tree, ro
 use Rattle.executor.proofs.creating.create_index.Goals as goal
 
 pub returns-in_err-bound-clause-made : goal.returns-in_err-bound-clause-made
-returns-in_err-bound-clause-made g c told plain text db held =
+returns-in_err-bound-clause-made g c told text db held =
     let laws : Laws = record {
       lists = c.indexes_come_and_go.ensures.new;
       makes = c.indexes_are_created_as_defined.ensures.makes;
@@ -23,7 +23,7 @@ returns-in_err-bound-clause-made g c told plain text db held =
     (refused_names laws _ _ (tables_of c.args.catalog.now) db held c.args.sql.now c.args.definition.now c.in_err-bound.field-0.0 (c.in_err-bound.ensures.refused held.once))
 
 pub returns-in_err-root-clause-made : goal.returns-in_err-root-clause-made
-returns-in_err-root-clause-made g c told plain text db held =
+returns-in_err-root-clause-made g c told text db held =
     let laws : Laws = record {
       lists = c.indexes_come_and_go.ensures.new;
       makes = c.indexes_are_created_as_defined.ensures.makes;
@@ -35,10 +35,10 @@ returns-in_err-root-clause-made g c told plain text db held =
     let f = c.in_err-root.field-0.0 in
     let adds = rw (c.as_slice.ensures) at (c.in_err-root.ensures.added told) in
     handed_on _ _ c.from_residual-in_err-root.result f c.from_residual-in_err-root.ensures.1
-    (refused_tree laws _ _ (tables_of c.args.catalog.now) db held c.args.sql.now c.args.definition.now bound.table.now bound.columns (c.in_ok-bound.ensures.made held.once) plain (g.P.Pages.map c.add_index.new.pages) f adds)
+    (refused_tree laws _ _ (tables_of c.args.catalog.now) db held c.args.sql.now c.args.definition.now bound.table.now bound.columns (c.in_ok-bound.ensures.made held.once) (g.P.Pages.map c.add_index.new.pages) f adds)
 
 pub returns-in_err-add_row-clause-made : goal.returns-in_err-add_row-clause-made
-returns-in_err-add_row-clause-made g c told plain text db held =
+returns-in_err-add_row-clause-made g c told text db held =
     let laws : Laws = record {
       lists = c.indexes_come_and_go.ensures.new;
       makes = c.indexes_are_created_as_defined.ensures.makes;
@@ -60,12 +60,12 @@ returns-in_err-add_row-clause-made g c told plain text db held =
     (subst (λ k. AddsRow mid new (pages.limits k).page rowid c.deref.result.now (Err c.in_err-add_row.field-0.0)) c.add_index.ensures.kept
     (subst (λ z. AddsRow mid new (pages.limits (pages.below c.add_index.new.pages)).page z c.deref.result.now (Err c.in_err-add_row.field-0.0)) (to_z-of_z w64 rowid fits) (c.in_err-add_row.ensures.added told_then))) in
     handed_on _ _ c.from_residual-in_err-add_row.result c.in_err-add_row.field-0.0 c.from_residual-in_err-add_row.ensures.1
-    (row_refused laws _ _ (tables_of c.args.catalog.now) db held c.args.sql.now d bound.table.now bound.columns (c.in_ok-bound.ensures.made held.once) plain
-    (record { name = d.name; columns = bound.columns; root = root; rowid = rowid }) refl refl mid new (rw (c.as_slice.ensures) at (c.in_ok-root.ensures.added told)) c.in_ok-rowid.ensures.free
+    (row_refused laws _ _ (tables_of c.args.catalog.now) db held c.args.sql.now d bound.table.now bound.columns (c.in_ok-bound.ensures.made held.once)
+    (record { name = d.name; columns = bound.columns; is_unique = d.is_unique; root = root; rowid = rowid }) refl refl refl mid new (rw (c.as_slice.ensures) at (c.in_ok-root.ensures.added told)) c.in_ok-rowid.ensures.free
     c.in_err-add_row.field-0.0 adds)
 
 pub returns-clause-made : goal.returns-clause-made
-returns-clause-made g c told plain text db held =
+returns-clause-made g c told text db held =
     let laws : Laws = record {
       lists = c.indexes_come_and_go.ensures.new;
       makes = c.indexes_are_created_as_defined.ensures.makes;
@@ -88,9 +88,9 @@ returns-clause-made g c told plain text db held =
     (subst (λ z. AddsRow mid new (pages.limits (pages.below c.add_index.new.pages)).page z c.deref.result.now (Ok tt)) (to_z-of_z w64 rowid fits) (c.in_ok-add_row.ensures.added told_then))) in
     taken _ _ _ c.replacing.result c.replacing.ensures.replaced c.replacing.ensures.refused
     (λ catalog listed.
-    row_added laws _ _ (tables_of c.args.catalog.now) db held c.args.sql.now d bound.table.now bound.columns (c.in_ok-bound.ensures.made held.once) plain
-    (record { name = c.in_ok-copy.field-0; columns = bound.columns; root = root; rowid = rowid }) c.in_ok-copy.ensures refl mid new (rw (c.as_slice.ensures) at (c.in_ok-root.ensures.added told))
+    row_added laws _ _ (tables_of c.args.catalog.now) db held c.args.sql.now d bound.table.now bound.columns (c.in_ok-bound.ensures.made held.once)
+    (record { name = c.in_ok-copy.field-0; columns = bound.columns; is_unique = d.is_unique; root = root; rowid = rowid }) c.in_ok-copy.ensures refl refl mid new (rw (c.as_slice.ensures) at (c.in_ok-root.ensures.added told))
     c.in_ok-rowid.ensures.free text adds (tables_of catalog)
     (listed ∙ (ap (λ (u : Table). with_replaced u (tables_of c.args.catalog.now)) c.in_ok-with_index.ensures
-    ∙ ap (λ z. with_replaced (with_index (record { name = c.in_ok-copy.field-0; columns = bound.columns; root = root; rowid = z }) bound.table.now) (tables_of c.args.catalog.now)) (to_z-of_z w64 rowid fits))))
+    ∙ ap (λ z. with_replaced (with_index (record { name = c.in_ok-copy.field-0; columns = bound.columns; is_unique = d.is_unique; root = root; rowid = z }) bound.table.now) (tables_of c.args.catalog.now)) (to_z-of_z w64 rowid fits))))
     (inl (inl (inl refl)))

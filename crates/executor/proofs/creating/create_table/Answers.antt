@@ -50,7 +50,7 @@ returns-in_err-add_row-clause-made g c told plain text db held =
     let t : Table = record c.in_ok-table.table { root = root; rowid = rowid } in
     let made : IsNewTable tables d c.in_ok-table.table = c.in_ok-table.ensures.made in
     let is : IsNewTable tables d t =
-    record { makes = record { free = made.makes.free; once = made.makes.once; name_is = made.makes.name_is; columns = made.makes.columns }; new = made.new; bare = made.bare } in
+    record { makes = record { free = made.makes.free; once = made.makes.once; name_is = made.makes.name_is; columns = made.makes.columns; checks = made.makes.checks }; new = made.new; bare = made.bare } in
     let pages = g.P.Pages in
     let old = pages.map c.args.pages.now in
     let mid = pages.map c.new_tree.new.pages in
@@ -85,7 +85,7 @@ returns-clause-made g c told plain text db held =
     let t : Table = record c.in_ok-table.table { root = root; rowid = rowid } in
     let made : IsNewTable tables d c.in_ok-table.table = c.in_ok-table.ensures.made in
     let is : IsNewTable tables d t =
-    record { makes = record { free = made.makes.free; once = made.makes.once; name_is = made.makes.name_is; columns = made.makes.columns }; new = made.new; bare = made.bare } in
+    record { makes = record { free = made.makes.free; once = made.makes.once; name_is = made.makes.name_is; columns = made.makes.columns; checks = made.makes.checks }; new = made.new; bare = made.bare } in
     let pages = g.P.Pages in
     let old = pages.map c.args.pages.now in
     let mid = pages.map c.new_tree.new.pages in

@@ -1,8 +1,7 @@
 -- what is left of the row decides
 use Rattle.std.proofs.Common.{◌≡◌, [], drop, false, map}
-use Rattle.query_names.specs.Checked.{known_all}
+use Rattle.query_names.specs.Checked.{known_all, onto_list}
 use Rattle.query_names.specs.Expressions.{resolve}
-use Rattle.query_bind.specs.Named.{onto_list}
 use Rattle.executor.proofs.giving.bind_row.Given as goal
 
 abbrev pub invariant-trees : goal.invariant-trees

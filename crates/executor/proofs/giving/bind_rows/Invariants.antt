@@ -1,7 +1,6 @@
 -- what is left of the rows decides
 use Rattle.std.proofs.Common.{◌≡◌, drop, map}
-use Rattle.query_names.specs.Checked.{known_all}
-use Rattle.query_bind.specs.Named.{onto_list}
+use Rattle.query_names.specs.Checked.{known_all, onto_list}
 use Rattle.executor.proofs.WrittenRows.{row_known}
 use Rattle.executor.proofs.giving.bind_rows.Given as goal
 

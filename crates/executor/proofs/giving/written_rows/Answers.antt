@@ -8,7 +8,8 @@ use Rattle.sqlval.specs.declared.value.Value.{Value}
 use Rattle.row_scan.specs.Rows.{values_of}
 use Rattle.query_names.specs.Readings.{env_of}
 use Rattle.query_names.specs.Checked.{Meant, known_all}
-use Rattle.query_bind.proofs.Quiet.{not_disk, of_rows}
+use Rattle.query_names.proofs.QuietNames.{not_disk}
+use Rattle.query_bind.proofs.Quiet.{of_rows}
 use Rattle.executor.proofs.WrittenRows.{evaluated_quietly, evaluated_wide, row_known}
 use Rattle.executor.proofs.giving.written_rows.Goals as goal
 

@@ -14,6 +14,7 @@ returns-in_err-target-clause-made g c told db held =
       refused = c.only_tables_set_nothing_off.ensures.refused;
       inserts = c.only_tables_set_nothing_off.ensures.inserts;
       none = c.only_tables_set_nothing_off.ensures.none;
+      indexes = c.listed_indexes_are_found.ensures;
     } in
     passed_on _ _ c.from_residual.result c.in_err-target.field-0.0 c.from_residual.ensures.1
     (target_refused laws _ _ (tables_of c.args.catalog.now) db held c.args.insert.now c.in_err-target.field-0.0 c.in_err-target.ensures.refused)
@@ -28,6 +29,7 @@ returns-in_err-rows-clause-made g c told db held =
       refused = c.only_tables_set_nothing_off.ensures.refused;
       inserts = c.only_tables_set_nothing_off.ensures.inserts;
       none = c.only_tables_set_nothing_off.ensures.none;
+      indexes = c.listed_indexes_are_found.ensures;
     } in
     let target = c.in_ok-target.target in
     passed_on _ _ c.from_residual-in_err-rows.result c.in_err-rows.field-0.0 c.from_residual-in_err-rows.ensures.1
@@ -49,6 +51,7 @@ returns-clause-made g c told db held =
       refused = c.only_tables_set_nothing_off.ensures.refused;
       inserts = c.only_tables_set_nothing_off.ensures.inserts;
       none = c.only_tables_set_nothing_off.ensures.none;
+      indexes = c.listed_indexes_are_found.ensures;
     } in
     let given = c.in_ok-rows.ensures.given db told held in
     let is = given_as laws _ _ tables db held i t target.count c.in_ok-target.ensures.table c.in_ok-target.ensures.listed c.in_ok-target.ensures.count rows target.places.items

@@ -11,6 +11,7 @@ returns-in_err-table-clause-made g c told db held =
       named = c.named_databases_are_one.ensures.named;
       binds = c.only_tables_set_nothing_off.ensures.binds;
       updates = c.update_sets_off_nothing.ensures;
+      indexes = c.listed_indexes_are_found.ensures;
     } in
     passed_on _ _ c.from_residual.result c.in_err-table.field-0.0 c.from_residual.ensures.1
     (name_refused laws _ _ (tables_of c.args.catalog.now) db held c.args.update.now c.in_err-table.field-0.0 c.in_err-table.ensures.refused)
@@ -23,6 +24,7 @@ returns-in_err-sets-clause-made g c told db held =
       named = c.named_databases_are_one.ensures.named;
       binds = c.only_tables_set_nothing_off.ensures.binds;
       updates = c.update_sets_off_nothing.ensures;
+      indexes = c.listed_indexes_are_found.ensures;
     } in
     passed_on _ _ c.from_residual-in_err-sets.result c.in_err-sets.field-0.0 c.from_residual-in_err-sets.ensures.1
     (sets_refused laws _ _ (tables_of c.args.catalog.now) db held c.args.update.now c.in_ok-table.table.now c.in_ok-table.ensures.found c.in_err-sets.field-0.0 (rw (c.as_slice.ensures) at c.in_err-sets.ensures.refused))
@@ -35,6 +37,7 @@ returns-in_err-condition-clause-made g c told db held =
       named = c.named_databases_are_one.ensures.named;
       binds = c.only_tables_set_nothing_off.ensures.binds;
       updates = c.update_sets_off_nothing.ensures;
+      indexes = c.listed_indexes_are_found.ensures;
     } in
     passed_on _ _ c.from_residual-in_err-condition.result c.in_err-condition.field-0.0 c.from_residual-in_err-condition.ensures.1
     (where_refused laws _ _ (tables_of c.args.catalog.now) db held c.args.update.now c.in_ok-table.table.now c.in_ok-table.ensures.found c.in_err-condition.field-0.0 c.in_err-condition.ensures.named)
@@ -47,6 +50,7 @@ returns-clause-made g c told db held =
       named = c.named_databases_are_one.ensures.named;
       binds = c.only_tables_set_nothing_off.ensures.binds;
       updates = c.update_sets_off_nothing.ensures;
+      indexes = c.listed_indexes_are_found.ensures;
     } in
     set_makes laws _ _ (tables_of c.args.catalog.now) db held c.args.update.now c.in_ok-table.table.now c.in_ok-table.ensures.found
     c.in_ok-sets.sets.items (rw (c.as_slice.ensures) at c.in_ok-sets.ensures.known) (rw (c.as_slice.ensures) at c.in_ok-sets.ensures.sets) c.in_ok-condition.condition c.in_ok-condition.ensures.named _ c.update_rows.result

@@ -1,8 +1,8 @@
 -- what is left of the list decides
+use Rattle.query_names.specs.Checked.{onto_list}
 use Rattle.std.proofs.Common.{◌≡◌, drop}
 use Rattle.query_names.specs.Named.{IsOutside}
 use Rattle.query_bind.specs.Assigned.{sets_known}
-use Rattle.query_bind.specs.Named.{onto_list}
 use Rattle.query_bind.proofs.assigning.bind_each.Given as goal
 
 abbrev pub invariant-assignments : goal.invariant-assignments

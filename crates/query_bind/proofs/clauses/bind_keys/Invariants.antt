@@ -1,9 +1,8 @@
 -- what is left of the list decides
 use Rattle.std.proofs.Common.{◌≡◌, drop, false, map}
-use Rattle.query_names.specs.Checked.{known_all}
+use Rattle.query_names.specs.Checked.{known_all, onto_list}
 use Rattle.query_names.specs.Expressions.{resolve}
 use Rattle.query_names.specs.Named.{IsOutside}
-use Rattle.query_bind.specs.Named.{onto_list}
 use Rattle.query_bind.proofs.clauses.bind_keys.Given as goal
 
 abbrev pub invariant-trees : goal.invariant-trees

@@ -1,6 +1,7 @@
 -- what is left of ORDER BY decides
+use Rattle.query_names.specs.Checked.{onto_list}
 use Rattle.std.proofs.Common.{◌≡◌, drop, map}
-use Rattle.query_bind.specs.Named.{AreTables, onto_list, order_given, orders_checked}
+use Rattle.query_bind.specs.Named.{AreTables, order_given, orders_checked}
 use Rattle.query_bind.proofs.clauses.bind_orders.Given as goal
 
 abbrev pub invariant-orders : goal.invariant-orders

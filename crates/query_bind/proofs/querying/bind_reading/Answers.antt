@@ -3,7 +3,8 @@ use Rattle.catalog.specs.Listed.{tables_of}
 use Rattle.query_names.specs.Checked.{Meant}
 use Rattle.query_names.specs.Queries.{resolve_query, resolve_sources, sources_of}
 use Rattle.query_bind.specs.Named.{AreTables, look_among}
-use Rattle.query_bind.proofs.Quiet.{not_disk, of_query}
+use Rattle.query_names.proofs.QuietNames.{not_disk}
+use Rattle.query_bind.proofs.Quiet.{of_query}
 use Rattle.query_bind.proofs.Whole.{clauses_refused, query_named, sources_refused}
 use Rattle.query_bind.proofs.querying.bind_reading.Goals as goal
 

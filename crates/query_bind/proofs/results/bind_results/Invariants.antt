@@ -1,8 +1,8 @@
 -- what is left of the results decides
+use Rattle.query_names.specs.Checked.{onto_list}
 use Rattle.std.proofs.Common.{◌≡◌, drop}
 use Rattle.query_names.specs.Named.{IsOutside}
 use Rattle.query_names.specs.Queries.{resolve_items}
-use Rattle.query_bind.specs.Named.{onto_list}
 use Rattle.query_bind.proofs.results.bind_results.Given as goal
 
 abbrev pub invariant-items : goal.invariant-items

@@ -1,6 +1,6 @@
 -- each column so far is seen
+use Rattle.query_names.specs.Bound.{column_seen}
 use Rattle.std.proofs.Common.{◌≡◌, map, take}
-use Rattle.query_bind.specs.Named.{column_seen}
 use Rattle.query_bind.proofs.sources.columns_of.Given as goal
 
 abbrev pub invariant-columns : goal.invariant-columns

@@ -9,9 +9,9 @@ use Rattle.row_change.proofs.meaning.copies_at.Goals as goal
 pub places-preserved : goal.places-preserved
 places-preserved c =
     rw (c.in_ok-push.ensures.items)
-    (map_push row_of c.places.them.items c.in_ok-copy_at.field-0
-    ∙ (ap (λ them. them ++ row_of c.in_ok-copy_at.field-0 ∷ []) c.places.invariant
-    ∙ (ap (λ row. map (λ place. as_row (row_at c.args.rows.now place)) (take c.places.place-index c.args.places.now) ++ row ∷ []) c.in_ok-copy_at.ensures.copied
+    (map_push row_of c.places.them.items c.in_ok-row_copy.field-0
+    ∙ (ap (λ them. them ++ row_of c.in_ok-row_copy.field-0 ∷ []) c.places.invariant
+    ∙ (ap (λ row. map (λ place. as_row (row_at c.args.rows.now place)) (take c.places.place-index c.args.places.now) ++ row ∷ []) c.in_ok-row_copy.ensures.copied
     ∙ one_further (λ place. as_row (row_at c.args.rows.now place)) c.args.places.now c.places.place-index c.places-test.true)))
 
 pub returns-clause-copied : goal.returns-clause-copied

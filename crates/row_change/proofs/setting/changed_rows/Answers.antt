@@ -1,10 +1,10 @@
 use Rattle.std.proofs.Common.{map}
 use Rattle.row_change.specs.NewRows.{row_of}
-use Rattle.row_change.proofs.SetRows.{all_changed, not_changed, not_meant}
+use Rattle.row_change.proofs.SetRows.{all_changed, none_placed, not_changed, passed_fault}
 use Rattle.row_change.proofs.setting.changed_rows.Goals as goal
 
 pub returns-in_err-places-clause-not_disk : goal.returns-in_err-places-clause-not_disk
-returns-in_err-places-clause-not_disk c = not_meant c.from_residual.result c.args.condition.now c.args.rows.now c.in_err-places.field-0.0 c.from_residual.ensures.1 c.in_err-places.ensures
+returns-in_err-places-clause-not_disk c = passed_fault c.from_residual.result c.in_err-places.field-0.0 c.from_residual.ensures.1 (none_placed c.args.condition.now c.args.rows.now c.in_err-places.field-0.0 c.in_err-places.ensures)
 
 pub returns-clause-changed : goal.returns-clause-changed
 returns-clause-changed c =

@@ -1,0 +1,9 @@
+CREATE TABLE t(a INTEGER, b)
+INSERT INTO t VALUES (1, 'it''s'), (-7, X'00FF'), (NULL, NULL), (9223372036854775807, ''), (0, X'')
+SELECT b, a FROM t
+SELECT a, typeof(b) FROM t WHERE a > 0 ORDER BY a DESC
+SELECT count(*), sum(a), min(a) FROM t WHERE a < 100
+UPDATE t SET b = 'new' WHERE a IS NULL
+SELECT * FROM t ORDER BY a
+DELETE FROM t WHERE a = 1
+SELECT count(*) FROM t

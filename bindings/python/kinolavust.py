@@ -1,0 +1,306 @@
+"""kinolavust for Python: the database interface of PEP 249, over the shared library of bindings/c.
+
+    import kinolavust
+    with kinolavust.connect("notes.db") as db:
+        db.execute("CREATE TABLE notes(subject TEXT, note TEXT)")
+        db.execute("INSERT INTO notes VALUES (?, ?)", ("home", "call Ann"))
+        for (note,) in db.execute("SELECT note FROM notes WHERE subject = ?", ("home",)):
+            print(note)
+
+A parameter is written into the statement as a literal. Each statement commits by itself, except between BEGIN and COMMIT.
+`Connection.other(2)` is another of the sixteen connections of the same file, with its own transaction and snapshot. The shared
+library is KINOLAVUST_LIB, or libkinolavust.so beside this file or in bindings/out.
+"""
+import ctypes
+import functools
+import os
+import re
+
+apilevel = "2.0"
+threadsafety = 0
+paramstyle = "qmark"
+
+
+class Warning(Exception):  # noqa: A001 (the name is PEP 249's)
+    """Never raised."""
+
+
+class Error(Exception):
+    """A refusal. `number` and `name` are those of docs/ERRORS.md, `place` is the byte of the statement where it leaves the grammar
+    or the damaged page, and `subject` the name or the text that it speaks of. Of an error of this module the number is 0."""
+
+    def __init__(self, message, number=0, place=0, subject=""):
+        super().__init__(message)
+        self.number, self.place, self.subject = number, place, subject
+        self.name = _name(number).decode() if number else ""
+
+
+class InterfaceError(Error):
+    """A use of this module that isn't allowed."""
+
+
+class DatabaseError(Error):
+    """A refusal of the engine."""
+
+
+class DataError(DatabaseError):
+    pass
+
+
+class OperationalError(DatabaseError):
+    pass
+
+
+class IntegrityError(DatabaseError):
+    pass
+
+
+class InternalError(DatabaseError):
+    pass
+
+
+class ProgrammingError(DatabaseError):
+    pass
+
+
+class NotSupportedError(DatabaseError):
+    pass
+
+
+CLASSES = {
+    **dict.fromkeys((1, 2, 6, 12, 13, 14, 15, 16, 23, 28, 29), OperationalError),
+    **dict.fromkeys((3, 5), DatabaseError),
+    **dict.fromkeys((7, 8, 9, 10, 11), ProgrammingError),
+    **dict.fromkeys((17, 18, 19, 20, 26), IntegrityError),
+    **dict.fromkeys((21, 22, 24, 25), DataError),
+    **dict.fromkeys((4, 27), NotSupportedError),
+}
+
+
+def _library():
+    here = os.path.dirname(os.path.realpath(__file__))
+    places = [f"{here}/libkinolavust.so", f"{here}/../out/libkinolavust.so"]
+    return os.environ.get("KINOLAVUST_LIB") or next(filter(os.path.exists, places), "libkinolavust.so")
+
+
+_lib = ctypes.CDLL(_library())
+_p, _size, _int = ctypes.c_void_p, ctypes.c_size_t, ctypes.c_int
+
+
+def _declare(name, gives, *takes):
+    function = getattr(_lib, f"kinolavust_{name}")
+    function.restype, function.argtypes = gives, takes
+    return function
+
+
+class _Options(ctypes.Structure):
+    _fields_ = [("page_size", ctypes.c_uint32), ("salts", ctypes.c_uint64)]
+
+
+_open = _declare("open", _int, ctypes.c_char_p, ctypes.POINTER(_Options), ctypes.POINTER(_p))
+_execute = _declare("execute", _int, _p, ctypes.c_uint, ctypes.c_char_p, _size, ctypes.POINTER(_p))
+_message = _declare("message", ctypes.c_char_p, _p)
+_place = _declare("place", ctypes.c_uint64, _p)
+_subject = _declare("subject", _p, _p, ctypes.POINTER(_size))
+_name = _declare("name", ctypes.c_char_p, _int)
+_row_count = _declare("row_count", _size, _p)
+_column_count = _declare("column_count", _size, _p, _size)
+_kind = _declare("kind", _int, _p, _size, _size)
+_integer = _declare("integer", ctypes.c_int64, _p, _size, _size)
+_bytes = _declare("bytes", _p, _p, _size, _size, ctypes.POINTER(_size))
+_free = _declare("free", None, _p)
+_close = _declare("close", None, _p)
+
+
+def _refusal(number, at):
+    """The exception for the last refusal of an open database."""
+    count = _size()
+    subject = ctypes.string_at(_subject(at, ctypes.byref(count)), count.value).decode(errors="replace")
+    message = _message(at).decode(errors="replace")
+    return CLASSES.get(number, DatabaseError)(message, number, _place(at), subject)
+
+
+def quote(value):
+    """A value as a literal: None, a bool or an int of 64 bits, a str, bytes."""
+    if value is None:
+        return "NULL"
+    if isinstance(value, int):
+        if not -(1 << 63) <= value < 1 << 63:
+            raise DataError(f"an integer outside 64 bits: {value}")
+        return str(int(value)) if value > -(1 << 63) else "(-9223372036854775807 - 1)"
+    if isinstance(value, str):
+        return "'" + value.replace("'", "''") + "'"
+    if isinstance(value, (bytes, bytearray, memoryview)):
+        return f"X'{bytes(value).hex()}'"
+    raise InterfaceError(f"a parameter of a type that isn't supported: {type(value).__name__}")
+
+
+# What a `?` isn't a parameter in, a quoted text or a comment, and then the `?` that is one.
+TOKEN = re.compile(r"""'[^']*'?|"[^"]*"?|`[^`]*`?|\[[^]]*]?|--[^\n]*|/\*.*?(?:\*/|\Z)|\?""", re.DOTALL)
+
+
+@functools.lru_cache(maxsize=128)
+def _pieces(sql):
+    """The texts before, between and after the parameters of a statement."""
+    pieces, begun = [], 0
+    for it in TOKEN.finditer(sql):
+        if it[0] == "?":
+            pieces.append(sql[begun : it.start()])
+            begun = it.end()
+    return (*pieces, sql[begun:])
+
+
+def bound(sql, parameters):
+    """The statement with the literal of a parameter in the place of each `?`."""
+    first, *others = _pieces(sql)
+    parameters = tuple(parameters)
+    if len(others) != len(parameters):
+        raise ProgrammingError(f"the statement has {len(others)} parameters, and {len(parameters)} were given")
+    return first + "".join(quote(value) + piece for value, piece in zip(parameters, others))
+
+
+def _value(rows, row, column):
+    kind, count = _kind(rows, row, column), _size()
+    if kind == 0:
+        return None
+    if kind == 1:
+        return _integer(rows, row, column)
+    at = _bytes(rows, row, column, ctypes.byref(count))
+    data = ctypes.string_at(at, count.value)
+    return data.decode() if kind == 2 else data
+
+
+class _File:
+    """An open file, which its connections share."""
+
+    def __init__(self, path, page_size, salts):
+        self.at = _p()
+        number = _open(os.fsencode(path), ctypes.byref(_Options(page_size, salts)), ctypes.byref(self.at))
+        if number:
+            refusal = _refusal(number, self.at)
+            self.close()
+            raise refusal
+
+    def rows(self, connection, sql):
+        """Executes a statement, and gives its rows as tuples."""
+        if not self.at:
+            raise ProgrammingError("the database is closed")
+        text, rows = sql.encode(), _p()
+        number = _execute(self.at, connection, text, len(text), ctypes.byref(rows))
+        if number:
+            raise _refusal(number, self.at)
+        try:
+            return [tuple(_value(rows, row, it) for it in range(_column_count(rows, row))) for row in range(_row_count(rows))]
+        finally:
+            _free(rows)
+
+    def close(self):
+        at, self.at = self.at, _p()
+        _close(at)
+
+    def __del__(self):
+        if getattr(self, "at", None):
+            self.close()
+
+
+class Connection:
+    """One of the sixteen connections of an open file. As a context it commits its transaction at the end, rolls it back if an
+    exception is raised, and then closes."""
+
+    Warning, Error, InterfaceError, DatabaseError, DataError = Warning, Error, InterfaceError, DatabaseError, DataError
+    OperationalError, IntegrityError, InternalError = OperationalError, IntegrityError, InternalError
+    ProgrammingError, NotSupportedError = ProgrammingError, NotSupportedError
+
+    def __init__(self, file, number):
+        self._file, self.number = file, number
+
+    def cursor(self):
+        return Cursor(self)
+
+    def execute(self, sql, parameters=()):
+        return self.cursor().execute(sql, parameters)
+
+    def executemany(self, sql, many):
+        return self.cursor().executemany(sql, many)
+
+    def other(self, number):
+        """Another connection of the same file, 1 to 16."""
+        return Connection(self._file, number)
+
+    def commit(self):
+        """Ends the transaction, if one is open."""
+        self._end("COMMIT")
+
+    def rollback(self):
+        """Undoes the transaction, if one is open."""
+        self._end("ROLLBACK")
+
+    def _end(self, word):
+        try:
+            self._file.rows(self.number, word)
+        except OperationalError as error:
+            if error.number != 14:
+                raise
+
+    def close(self):
+        """Closes the file, also for its other connections. Open transactions are rolled back."""
+        self._file.close()
+
+    def __enter__(self):
+        return self
+
+    def __exit__(self, kind, *_):
+        try:
+            if self._file.at:
+                self.rollback() if kind else self.commit()
+        finally:
+            self.close()
+
+
+class Cursor:
+    arraysize = 1
+    rowcount = -1
+    description = None
+    lastrowid = None
+
+    def __init__(self, connection):
+        self.connection, self._rows = connection, iter(())
+
+    def execute(self, sql, parameters=()):
+        text = bound(sql, parameters) if parameters else sql
+        self._rows = iter(self.connection._file.rows(self.connection.number, text))
+        return self
+
+    def executemany(self, sql, many):
+        for parameters in many:
+            self.execute(sql, parameters)
+        return self
+
+    def fetchone(self):
+        return next(self._rows, None)
+
+    def fetchmany(self, size=None):
+        return [row for _, row in zip(range(self.arraysize if size is None else size), self._rows)]
+
+    def fetchall(self):
+        return list(self._rows)
+
+    def __iter__(self):
+        return self
+
+    def __next__(self):
+        return next(self._rows)
+
+    def setinputsizes(self, sizes):
+        pass
+
+    def setoutputsize(self, size, column=None):
+        pass
+
+    def close(self):
+        self._rows = iter(())
+
+
+def connect(path, page_size=0, salts=0):
+    """Opens the database of a file, and creates it where the file doesn't exist or is blank."""
+    return Connection(_File(path, page_size, salts), 1)

@@ -1,0 +1,189 @@
+-- What inserting rows one after another comes to, each with its entries.
+use Rattle.std.proofs.Common.{◌≡◌, ◌⊎◌, inl, inr, refl, sym, ap, subst, ◌∙◌, ◌≤◌, ◌<◌, ◌-◌, ℕ, ℤ, true, List, [], ◌∷◌, ◌++◌, length, map, take, drop, slice_index_or, Option, Some, Ok, Err, arith}
+use Rattle.std.specs.Prelude.{Result, IsErrAnd, MatchResult, ⊤, unwrap_or}
+use Rattle.sqlval.specs.Faults.{IsOutside}
+use Rattle.sqlval.specs.PageSizes.{IsPageSize}
+use Rattle.sqlval.specs.Refusals.{Answer, Refusal, ◌then◌, refusal_of}
+use Rattle.sqlval.specs.declared.fault.Fault.{Fault}
+use Rattle.sqlval.specs.declared.value.Value.{Value}
+use Rattle.tree_leaf.specs.Leaf.{Entry}
+use Rattle.pages.specs.Calls.{IsOutsideOrFull}
+use Rattle.pages.specs.Map.{PageMap}
+use Rattle.tree_page.specs.Cells.{Pairwise}
+use Rattle.tree_table.specs.Calls.{FindsLast}
+use Rattle.tree_table.specs.Rows as tree
+use Rattle.db_layout.specs.Layout.{Owner}
+use Rattle.catalog.specs.Listed.{with_rows}
+use Rattle.catalog.specs.Rows.{are_rows}
+use Rattle.catalog.specs.declared.tables.Table.{Table}
+use Rattle.catalog.specs.declared.tables.TableRow as stored
+use Rattle.row_scan.specs.Rows.{IsRow, TableRow}
+use Rattle.row_change.specs.Demands.{admitted}
+use Rattle.row_change.specs.Inserting.{last_rowid, row_added, rows_inserted}
+use Rattle.row_change.specs.NewRows.{row_of}
+use Rattle.row_change.specs.Trees.{IsPutIn, PutsRow}
+use Rattle.index_entries.specs.Keeping.{row_in}
+use Rattle.db_write.specs.Changing.{AreInserted, HoldsFitRows, InsertsInTrees, IsRefusedInsert}
+use Rattle.db_write.specs.OneRow.{InsertsFrom, InsertsOne, IsOneInserted, IsRefusedAs, row_inserted}
+use Rattle.db_write.specs.Turning.{AddsRowToIndexes, HaveAlone, IsRowRefused}
+use Rattle.db_write.proofs.Among.{keeps_all, keeps_then, rows_tree}
+use Rattle.db_write.proofs.Clashing.{clash_refused, passes}
+use Rattle.db_write.proofs.Looping.{first_of, none_left}
+use Rattle.db_write.proofs.Owned.{RowsStand, fit_apart, indexes_stand, rows_among, table_holds}
+use Rattle.db_write.proofs.Widths.{one_storable, wide_among}
+
+-- ---- the last rowid
+
+last_same : (width : ℕ) (entries : List Entry) (rows : List TableRow) → Pairwise (IsRow width) entries rows → tree.last_rowid entries ≡ last_rowid rows
+last_same width [] [] each = refl
+last_same width [] (row ∷ rows) each = absurd each
+last_same width (entry ∷ entries) [] each = absurd each
+last_same width (entry ∷ []) (row ∷ []) each = ap (λ (n : ℤ). Some n) each.0.rowid
+last_same width (entry ∷ []) (row ∷ next ∷ rows) each = absurd each.1
+last_same width (entry ∷ other ∷ entries) (row ∷ []) each = absurd each.1
+last_same width (entry ∷ other ∷ entries) (row ∷ next ∷ rows) each = last_same width (other ∷ entries) (next ∷ rows) each.1
+
+last_of_more : (rows : List TableRow) (row : TableRow) → last_rowid (rows ++ row ∷ []) ≡ Some row.0
+last_of_more [] row = refl
+last_of_more (other ∷ rows) row = ap (λ (last : Option ℤ). Some (unwrap_or last other.0)) (last_of_more rows row)
+
+-- ---- one row
+
+abbrev not_given : Refusal → Answer TableRow
+not_given r = Err r
+
+module _ (old mid : PageMap) (size : ℕ) (table : Table) (places : List (Option ℕ)) (given : List Value) (last : Option ℤ) where
+  -- it isn't put
+  pub none_put : (fault : Fault) (result : Result (Option ℤ) Fault) → IsErrAnd result (λ e. e ≡ fault) → PutsRow old mid size table.root table places given last (Err fault) → InsertsOne old mid size table places given last result
+  none_put fault (Ok last) same puts = absurd same
+  none_put fault (Err e) same puts = λ schema before after rows sized is_root among fit at. (
+      let s = rows_among old size schema before table rows after among sized is_root in
+      subst (λ (f : Fault). IsRefusedAs (row_inserted table places rows given) table f) (sym same) (by rows at (puts rows s.entries s.used s.free s.stands s.each at)))
+    where
+      by : (rows : List TableRow) → last ≡ last_rowid rows → IsOutsideOrFull fault ⊎ (row_added table places last given ≡ Err (refusal_of fault)) → IsRefusedAs (row_inserted table places rows given) table fault
+      by rows at (inl outside) = inl outside
+      by rows at (inr is) = inr (inl (ap (λ (a : Answer TableRow). a then λ row. admitted table rows row) (ap (λ (l : Option ℤ). row_added table places l given) (sym at) ∙ is)))
+
+  -- it is put, and its entries are next
+  module _ (row : stored.TableRow) (puts : PutsRow old mid size table.root table places given last (Ok row)) (new : PageMap) where
+    module _ (schema : Owner) (before after : List Owner) (rows : List TableRow) (sized : IsPageSize size) (is_root : schema.root ≡ 1) (s : RowsStand old size schema before table rows after)
+        (fit : are_rows (with_rows table rows) ≡ true) (at : last ≡ last_rowid rows) where
+      put : IsPutIn old mid size table.root table places given rows s.used s.free (row_of row)
+      put = puts rows s.entries s.used s.free s.stands s.each at
+
+      fits : are_rows (with_rows table (rows ++ row_of row ∷ [])) ≡ true
+      fits = put.fit fit
+
+      abbrev front : List Owner
+      front = before ++ rows_tree table.root put.entries put.becomes.now_used ∷ []
+
+      added : (result : Result ⊤ Fault) → AddsRowToIndexes mid new size table.indexes (row_in row) result
+          → MatchResult result (λ done. HaveAlone mid new size schema front table.indexes (row_of row) rows (rows ++ row_of row ∷ []) after) (IsRowRefused table.indexes (row_of row) rows)
+      added result adds = adds rows (fit_apart table (rows ++ row_of row ∷ []) fits) schema front after sized is_root (indexes_stand old mid size schema before table rows after s put.entries put.becomes)
+
+      inserted : HaveAlone mid new size schema front table.indexes (row_of row) rows (rows ++ row_of row ∷ []) after → IsOneInserted old new size schema before table places given rows after (Some row.rowid)
+      inserted have = record {
+        row = row_of row;
+        answer = ap (λ (a : Answer TableRow). a then λ r. admitted table rows r) put.answer ∙ passes table (row_of row) rows have.alone;
+        is = refl;
+        hold = record { holds = table_holds old mid size schema before table rows after s put.entries put.becomes new (rows ++ row_of row ∷ []) put.each have.now; fit = fits };
+      }
+
+      refused : (fault : Fault) → IsRowRefused table.indexes (row_of row) rows fault → IsRefusedAs (row_inserted table places rows given) table fault
+      refused fault (inl outside) = inl outside
+      refused fault (inr (inl clash)) =
+          inr (inl (ap (λ (a : Answer TableRow). a then λ r. admitted table rows r) put.answer
+          ∙ (clash_refused table (row_of row) rows clash.1 ∙ ap (λ (f : Fault). not_given (refusal_of f)) (sym clash.0))))
+      refused fault (inr (inr long)) = inr (inr (long.0, wide_among table (rows ++ row_of row ∷ []) fits (λ all. long.1 (one_storable table.indexes rows (row_of row) [] all))))
+
+    pub row_stopped : (fault : Fault) (result : Result (Option ℤ) Fault) → IsErrAnd result (λ e. e ≡ fault) → AddsRowToIndexes mid new size table.indexes (row_in row) (Err fault) → InsertsOne old new size table places given last result
+    row_stopped fault (Ok last) same adds = absurd same
+    row_stopped fault (Err e) same adds = λ schema before after rows sized is_root among fit at. (
+        let s = rows_among old size schema before table rows after among sized is_root in
+        subst (λ (f : Fault). IsRefusedAs (row_inserted table places rows given) table f) (sym same)
+        (refused schema before after rows sized is_root s fit at fault (added schema before after rows sized is_root s fit at (Err fault) adds)))
+
+    pub row_come : AddsRowToIndexes mid new size table.indexes (row_in row) (Ok tt) → InsertsOne old new size table places given last (Ok (Some row.rowid))
+    row_come adds schema before after rows sized is_root among fit at =
+        let s = rows_among old size schema before table rows after among sized is_root in
+        inserted schema before after rows sized is_root s fit at (added schema before after rows sized is_root s fit at (Ok tt) adds)
+
+-- ---- rows one after another
+
+abbrev Rest : Table → List (Option ℕ) → List TableRow → List (List Value) → TableRow → Answer (List TableRow)
+Rest table places rows more row = rows_inserted table places (rows ++ row ∷ []) more
+
+one_and_more : (table : Table) (places : List (Option ℕ)) (rows : List TableRow) (given : List Value) (more : List (List Value))
+    → rows_inserted table places rows (given ∷ more) ≡ (row_inserted table places rows given then Rest table places rows more)
+one_and_more table places rows given more = by (row_added table places (last_rowid rows) given)
+  where
+    by : (a : Answer TableRow) → (a then λ row. admitted table rows row then Rest table places rows more) ≡ ((a then λ row. admitted table rows row) then Rest table places rows more)
+    by (Ok row) = refl
+    by (Err r) = refl
+
+pub inserts_none : (pages : PageMap) (size : ℕ) (table : Table) (places : List (Option ℕ)) (last : Option ℤ) → InsertsFrom pages pages size table places [] last (Ok tt)
+inserts_none pages size table places last schema before after rows sized is_root among fit at =
+    record { now = rows; answer = refl; hold = record { holds = record { among = among; header = keeps_all pages; longer = omega arith }; fit = fit } }
+
+-- what holds since then holds since before
+pub since_before : (old mid new : PageMap) (size : ℕ) (schema : Owner) (before : List Owner) (table : Table) (first rows : List TableRow) (after : List Owner)
+    → HoldsFitRows old mid size schema before table first after → HoldsFitRows mid new size schema before table rows after → HoldsFitRows old new size schema before table rows after
+since_before old mid new size schema before table first rows after one more = record {
+  holds = record {
+    among = more.holds.among;
+    header = keeps_then old mid new one.holds.header more.holds.header;
+    longer = (let a = one.holds.longer in let b = more.holds.longer in omega (arith, a, b));
+  };
+  fit = more.fit;
+}
+
+module _ (old mid : PageMap) (size : ℕ) (table : Table) (places : List (Option ℕ)) (given : List Value) (more : List (List Value)) (last : Option ℤ) where
+  pub inserts_more : (new : PageMap) (now : Option ℤ) (result : Result ⊤ Fault) → InsertsOne old mid size table places given last (Ok now) → InsertsFrom mid new size table places more now result
+      → InsertsFrom old new size table places (given ∷ more) last result
+  inserts_more new now result first next schema before after rows sized is_root among fit at =
+      by result (next schema before after (rows ++ one.row ∷ []) sized is_root one.hold.holds.among one.hold.fit (one.is ∙ sym (last_of_more rows one.row)))
+    where
+      one : IsOneInserted old mid size schema before table places given rows after now
+      one = first schema before after rows sized is_root among fit at
+
+      same : rows_inserted table places rows (given ∷ more) ≡ rows_inserted table places (rows ++ one.row ∷ []) more
+      same = one_and_more table places rows given more ∙ ap (λ (a : Answer TableRow). a then Rest table places rows more) one.answer
+
+      by : (r : Result ⊤ Fault) → MatchResult r (λ done. AreInserted mid new size schema before table places more (rows ++ one.row ∷ []) after) (IsRefusedInsert table places more (rows ++ one.row ∷ []))
+          → MatchResult r (λ done. AreInserted old new size schema before table places (given ∷ more) rows after) (IsRefusedInsert table places (given ∷ more) rows)
+      by (Ok done) are = record { now = are.now; answer = same ∙ are.answer; hold = since_before old mid new size schema before table (rows ++ one.row ∷ []) are.now after one.hold are.hold }
+      by (Err fault) (inl outside) = inl outside
+      by (Err fault) (inr (inl is)) = inr (inl (same ∙ is))
+      by (Err fault) (inr (inr wide)) = inr (inr wide)
+
+  pub inserts_stop : (fault : Fault) (result : Result ⊤ Fault) → IsErrAnd result (λ e. e ≡ fault) → InsertsOne old mid size table places given last (Err fault) → InsertsFrom old mid size table places (given ∷ more) last result
+  inserts_stop fault (Ok done) same first = absurd same
+  inserts_stop fault (Err e) same first = λ schema before after rows sized is_root among fit at.
+      subst (λ (f : Fault). IsRefusedInsert table places (given ∷ more) rows f) (sym same) (by rows (first schema before after rows sized is_root among fit at))
+    where
+      by : (rows : List TableRow) → IsRefusedAs (row_inserted table places rows given) table fault → IsRefusedInsert table places (given ∷ more) rows fault
+      by rows (inl outside) = inl outside
+      by rows (inr (inl is)) = inr (inl (one_and_more table places rows given more ∙ ap (λ (a : Answer TableRow). a then Rest table places rows more) is))
+      by rows (inr (inr wide)) = inr (inr wide)
+
+-- the first row given and the others
+pub first_given : {R : Type 0} (f : R → List Value) (left : List R) (given : R) → 1 ≤ length left → given ≡ slice_index_or left 0 given → f given ∷ map f (take (length left - 1) (drop 1 left)) ≡ map f left
+first_given f left given some is = ap (map f) (first_of left given some is)
+
+pub none_given : {R : Type 0} (f : R → List Value) (left : List R) → length left < 1 → [] ≡ map f left
+none_given f left few = ap (map f) (none_left left few)
+
+-- ---- all of a statement
+
+module _ (old : PageMap) (size : ℕ) (table : Table) (places : List (Option ℕ)) (given : List (List Value)) where
+  -- the last rowid isn't found
+  pub no_last : (new : PageMap) (fault : Fault) (result : Result ⊤ Fault) → IsErrAnd result (λ e. e ≡ fault) → FindsLast old size table.root (Err fault) → InsertsInTrees old new size table places given result
+  no_last new fault (Ok done) same finds = absurd same
+  no_last new fault (Err e) same finds = λ schema before after rows sized is_root among fit. (
+      let s = rows_among old size schema before table rows after among sized is_root in
+      inl (inl (subst IsOutside (sym same) (finds s.entries s.used s.stands.free_are.whole s.stands.tree))))
+
+  pub inserted_from : (new : PageMap) (last : Option ℤ) (result : Result ⊤ Fault) → FindsLast old size table.root (Ok last) → InsertsFrom old new size table places given last result → InsertsInTrees old new size table places given result
+  inserted_from new last result finds inserts schema before after rows sized is_root among fit =
+      let s = rows_among old size schema before table rows after among sized is_root in
+      inserts schema before after rows sized is_root among fit (finds s.entries s.used s.stands.free_are.whole s.stands.tree ∙ last_same (length table.columns) s.entries rows s.each)

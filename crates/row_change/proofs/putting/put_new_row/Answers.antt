@@ -1,0 +1,48 @@
+use Rattle.std.proofs.Common.{Ok}
+use Rattle.row_change.specs.NewRows.{entry_in, row_of}
+use Rattle.row_change.proofs.PutRows.{none_made, none_put, none_written, put_failed, row_put}
+use Rattle.row_change.proofs.putting.put_new_row.Goals as goal
+
+-- the row is refused
+pub returns-in_err-row-clause-put : goal.returns-in_err-row-clause-put
+returns-in_err-row-clause-put g c = λ told.
+    (let pages = g.P.Pages in
+    let old = pages.map c.args.pages.now in
+    let size = (pages.limits (pages.below c.args.pages.now)).page in
+    let table = c.args.table.now in
+    let fault = c.in_err-row.field-0.0 in
+    none_put old old size table.root table c.args.places.now c.args.given.now c.args.last fault c.from_residual.result c.from_residual.ensures.1
+    (none_made old old size table.root table c.args.places.now c.args.given.now c.args.last fault c.in_err-row.ensures.added))
+
+-- memory is short for its record
+pub returns-in_err-written-clause-put : goal.returns-in_err-written-clause-put
+returns-in_err-written-clause-put g c = λ told.
+    (let pages = g.P.Pages in
+    let old = pages.map c.args.pages.now in
+    let size = (pages.limits (pages.below c.args.pages.now)).page in
+    let table = c.args.table.now in
+    let fault = c.in_err-written.field-0.0 in
+    none_put old old size table.root table c.args.places.now c.args.given.now c.args.last fault c.from_residual-in_err-written.result c.from_residual-in_err-written.ensures.1
+    (none_written old old size table.root table c.args.places.now c.args.given.now c.args.last (row_of c.in_ok-row.row) c.in_ok-row.ensures.added fault c.in_err-written.ensures.refused))
+
+-- the tree doesn't take it
+pub returns-in_err-put_record-clause-put : goal.returns-in_err-put_record-clause-put
+returns-in_err-put_record-clause-put g c = λ told.
+    (let pages = g.P.Pages in
+    let old = pages.map c.args.pages.now in
+    let new = pages.map c.put_record.new.pages in
+    let size = (pages.limits (pages.below c.args.pages.now)).page in
+    let table = c.args.table.now in
+    put_failed old new size table.root table c.args.places.now c.args.given.now c.args.last (row_of c.in_ok-row.row) c.in_ok-row.ensures.added
+    (entry_in c.in_ok-written.written) c.in_ok-written.ensures.written c.in_err-put_record.field-0.0 c.from_residual-in_err-put_record.result c.from_residual-in_err-put_record.ensures.1
+    (c.in_err-put_record.ensures.put told))
+
+pub returns-clause-put : goal.returns-clause-put
+returns-clause-put g c = λ told.
+    (let pages = g.P.Pages in
+    let old = pages.map c.args.pages.now in
+    let new = pages.map c.put_record.new.pages in
+    let size = (pages.limits (pages.below c.args.pages.now)).page in
+    let table = c.args.table.now in
+    row_put old new size table.root table c.args.places.now c.args.given.now c.args.last (row_of c.in_ok-row.row) c.in_ok-row.ensures.added
+    (entry_in c.in_ok-written.written) c.in_ok-written.ensures.written (Ok tt) (c.in_ok-put_record.ensures.put told))
