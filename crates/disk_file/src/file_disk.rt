@@ -22,8 +22,8 @@ pub struct FileDisk {
     file: File,
     /// Number of failed calls.
     failures: u64,
-    /// The file is at least so long, in bytes.
-    known_len: u64,
+    /// The file's length in bytes, where it is known.
+    len: Option<u64>,
 }
 
 impl FileDisk {
@@ -38,36 +38,61 @@ impl FileDisk {
             Ok(file) => Ok(FileDisk {
                 file,
                 failures: 0,
-                known_len: 0,
+                len: None,
             }),
             Err(_) => Err(Fault::Io),
         }
     }
 
-    /// Writes bytes from an offset on, which is at most the length. The system is asked for it only where the offset isn't known to be.
+    /// The length. The system is asked for it only where it isn't known.
+    fn present_len(&mut self) -> io::Result<u64>
+        ensures { self.new.failures ≡ self.old.failures }
+    {
+        if let Some(len) = self.len {
+            return Ok(len);
+        }
+        let len = length(&self.file)?;
+        self.len = Some(len);
+        Ok(len)
+    }
+
+    /// Makes the length this one.
+    fn set_len(&mut self, len: u64) -> io::Result<()>
+        ensures { self.new.failures ≡ self.old.failures }
+    {
+        self.len = None;
+        self.file.set_len(len)?;
+        self.len = Some(len);
+        Ok(())
+    }
+
+    /// Writes bytes from an offset on, which is at most the length. Where that fails the file gets the length back that it had, since the
+    /// system may have written a part.
     fn write(&mut self, at: u64, bytes: &[u8]) -> io::Result<()>
         ensures { self.new.failures ≡ self.old.failures }
     {
-        if at > self.known_len {
-            self.known_len = length(&self.file)?;
-        }
-        if at > self.known_len {
+        let len = self.present_len()?;
+        if at > len {
             return Err(io::ErrorKind::InvalidInput.into());
         }
-        self.file.write_all_at(bytes, at)?;
-        self.known_len = self.known_len.max(at.saturating_add(bytes.len() as u64));
-        Ok(())
+        let end = len.max(at.saturating_add(bytes.len() as u64));
+        let written = self.file.write_all_at(bytes, at);
+        if written.is_ok() {
+            self.len = Some(end);
+        } else if end > len {
+            let _ = self.set_len(len);
+        }
+        written
     }
 
     /// Cuts the file to a length, which is at most the present one.
     fn cut_to(&mut self, len: u64) -> io::Result<()>
         ensures { self.new.failures ≡ self.old.failures }
     {
-        if len > length(&self.file)? {
+        if len > self.present_len()? {
             return Err(io::ErrorKind::InvalidInput.into());
         }
-        self.known_len = self.known_len.min(len);
-        self.file.set_len(len)
+        self.set_len(len)
     }
 
     /// The answer of a call, which is counted if it failed.
